@@ -15,9 +15,9 @@ use Rattle.refusal_lines.specs.declared.fault.Fault.{Fault}
 use Rattle.refusal_lines.specs.declared.fault.Fault.TheVariants.{Script, Station as Unfit}
 use Rattle.liq_cli.specs.declared.halt.Halt.{Halt}
 use Rattle.liq_cli.specs.declared.halt.Halt.TheVariants.{Memory, Refused as refused_for}
-use Rattle.liq_cli.specs.Answer.{clash_of}
+use Rattle.liq_cli.specs.Answer.{HasPlan, clash_of}
 use Rattle.liq_cli.specs.Prepared.{ClashEnds, EndsFor, IsOneOutcome, Lost, halt_of_check, halt_of_script}
-use Rattle.liq_cli.proofs.Found.{ScriptLaws, clash_has, plan_found, script_has}
+use Rattle.liq_cli.proofs.Found.{ScriptLaws, clash_has, plan_outcome, script_has}
 
 -- a step ends as its part did
 pub ends_as : {T U : Type 0} (told : Option Files) (file : List ℕ) (trace : Option (List ℕ)) (cues : Bool) (ticks before after : ℕ) (e : Halt)
@@ -68,14 +68,15 @@ module _ {T : Type 0} (laws : ScriptLaws) (told : Option Files) (file : List ℕ
     no_write = λ at. ends.no_write (cc);
   }
 
-  -- the plan of the script is not rendered
-  pub check_ends : (plan : Plan) → IsPlan text plan → clash_of plan trace cues ≡ None → (told_then : Option Files) (between after : ℕ) → told_then ≡ told → before ≤ between → (h : CheckHalt)
-      → HaltsFor told_then between after (λ files fault. IsFound files plan ticks (Fails fault)) h → EndsFor {T = T} told file trace cues ticks before after (Err (halt_of_check h))
-  check_ends plan is_plan apart told_then between after same le (check_refused fault) halts =
-      ends_refused told file trace cues ticks before after (Unfit fault) (λ files t. plan_found laws files file trace cues ticks text (there files t) plan is_plan apart (Fails fault) (halts files (same ∙ t)))
-  check_ends plan is_plan apart told_then between after same le check_read halts = record {
-    fault = λ other at. absurd (cc);
-    read = λ at. omega (arith, halts);
-    no_write = λ at. absurd (cc);
-  }
-  check_ends plan is_plan apart told_then between after same le check_memory halts = ends_starved told file trace cues ticks before after
+-- the plan of the script is not rendered
+pub check_ends : {T : Type 0} (laws : ScriptLaws) (told : Option Files) (file : List ℕ) (trace : Option (List ℕ)) (cues : Bool) (ticks before : ℕ) (plan : Plan)
+    → ForSome told (λ files. HasPlan files file plan) → clash_of plan trace cues ≡ None → (told_then : Option Files) (between after : ℕ) → told_then ≡ told → before ≤ between → (h : CheckHalt)
+    → HaltsFor told_then between after (λ files fault. IsFound files plan ticks (Fails fault)) h → EndsFor {T = T} told file trace cues ticks before after (Err (halt_of_check h))
+check_ends laws told file trace cues ticks before plan there apart told_then between after same le (check_refused fault) halts =
+    ends_refused told file trace cues ticks before after (Unfit fault) (λ files t. plan_outcome laws files file trace cues ticks plan (there files t) apart (Fails fault) (halts files (same ∙ t)))
+check_ends laws told file trace cues ticks before plan there apart told_then between after same le check_read halts = record {
+  fault = λ other at. absurd (cc);
+  read = λ at. omega (arith, halts);
+  no_write = λ at. absurd (cc);
+}
+check_ends laws told file trace cues ticks before plan there apart told_then between after same le check_memory halts = ends_starved told file trace cues ticks before after

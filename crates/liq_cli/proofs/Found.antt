@@ -107,11 +107,23 @@ module _ (laws : ScriptLaws) (files : Files) (file : List ℕ) (trace : Option (
       holds (Fits library clocks) is = record { has_plan = has_this; apart = apart; accepted = is }
       holds (Fails fault) is = record { plan = plan; has_plan = has_this; apart = apart; is_fault = is }
 
-      pub plan_found : (finding : Finding) → IsFound files plan ticks finding → IsOneOutcome files file trace cues ticks (outcome_by finding)
+      plan_found : (finding : Finding) → IsFound files plan ticks finding → IsOneOutcome files file trace cues ticks (outcome_by finding)
       plan_found finding found = record {
         holds = holds finding found.holds;
         only = λ other is. let b = by other is in b.same ∙ ap outcome_by (found.only b.finding b.is);
       }
+
+-- what is found of the plan of a script is the script's outcome
+abbrev pub outcome_with : Plan → Finding → Outcome
+outcome_with plan (Fits library clocks) = Found plan library clocks
+outcome_with plan (Fails fault) = Lost (Unfit fault)
+
+pub plan_outcome : (laws : ScriptLaws) (files : Files) (file : List ℕ) (trace : Option (List ℕ)) (cues : Bool) (ticks : ℕ) (plan : Plan) → HasPlan files file plan
+    → clash_of plan trace cues ≡ None → (finding : Finding) → IsFound files plan ticks finding → IsOneOutcome files file trace cues ticks (outcome_with plan finding)
+plan_outcome laws files file trace cues ticks plan has apart (Fits library clocks) found =
+    plan_found laws files file trace cues ticks has.script has.there plan has.is_plan apart (Fits library clocks) found
+plan_outcome laws files file trace cues ticks plan has apart (Fails fault) found =
+    plan_found laws files file trace cues ticks has.script has.there plan has.is_plan apart (Fails fault) found
 
 -- a script that is too long has this fault
 pub too_long : (laws : ScriptLaws) (files : Files) (file : List ℕ) (trace : Option (List ℕ)) (cues : Bool) (ticks most : ℕ) (fault : ScriptFault)

@@ -32,7 +32,7 @@ use Rattle.refusal_lines.specs.declared.fault.Fault.TheVariants.{Replay as Untol
 use Rattle.liq_cli.specs.Words.{Asked, Check, Replay, cues_of, file_of, start_of, ticks_of, trace_of}
 use Rattle.liq_cli.specs.Answer.{Answer, Usage, Refused, Checked, Accepted, Made, IsAnswerTo, files_for}
 use Rattle.liq_cli.specs.Call.{Broken, Left, Rendered, Starved}
-use Rattle.liq_cli.specs.Prepared.{Denied, EndsFor, ForOne, Found, Granted, IsOneOutcome, IsOneRuling, Lost, Stops, TraceEnds, answer_of, halt_of_render, station_for}
+use Rattle.liq_cli.specs.Prepared.{Denied, EndsFor, ForOne, Found, Granted, IsChecked, IsOneOutcome, IsOneRuling, Lost, Stops, TraceEnds, answer_of, halt_of_render, station_for}
 use Rattle.liq_cli.proofs.AsOne.{fit_setting}
 use Rattle.liq_cli.proofs.Judging.{TraceLaws, Untells, one_told}
 use Rattle.liq_cli.proofs.Outcomes.{check_plain, for_each, for_one, lost_ruled, plain_ruled, replay_ruled}
@@ -104,13 +104,15 @@ of_report (Ok t) s P Q is holds on = on t (subst (λ x. IfOk x P) is holds)
 of_report (Err e) s P Q is holds on = tt
 
 -- the report of a check
-pub checked : (file : List ℕ) (told left : Option Files) (plan : Plan) (library : Sounds) (clocks : ClockMap) (report : List ℕ)
-    → ForSome told (λ files. IsOneOutcome files file None false 0 (Found plan library clocks)) → left ≡ told
+pub checked : (file : List ℕ) (told left : Option Files) (plan : Plan) (clocks : ClockMap) (report : List ℕ)
+    → ForSome told (λ files. IsChecked files file plan clocks) → left ≡ told
     → (mark : ℕ → Bool) × IsMarking plan.nodes mark × ((station : Station) → station.plan ≡ plan → station.clocks ≡ clocks → report ≡ check_report_of station mark)
     → ForSome told (λ files. ForOne (Check file) files (λ a. Rendered a files left report))
-checked file told left plan library clocks report one same tells files t =
-    for_one (Check file) files (Granted plan library clocks InRounds) (λ a. Rendered a files left report) (plain_ruled (Check file) InRounds (check_plain file) files plan library clocks (one files t))
-    (record { kept = same ∙ t; mark = tells.0; marking = tells.1; report_is = tells.2 (station_for (Check file) plan library clocks InRounds) refl refl })
+checked file told left plan clocks report checks same tells files t =
+    let is = checks files t in
+    for_one (Check file) files (Granted plan is.library clocks InRounds) (λ a. Rendered a files left report)
+    (plain_ruled (Check file) InRounds (check_plain file) files plan is.library clocks is.one)
+    (record { kept = same ∙ t; mark = tells.0; marking = tells.1; report_is = tells.2 (station_for (Check file) plan is.library clocks InRounds) refl refl })
 
 -- the trace of a replay is not rendered again
 pub stopped_untold : {T U : Type 0} (laws : TraceLaws) (file : List ℕ) (start ticks : ℕ) (trace : List ℕ) (told left : Option Files) (plan : Plan) (library : Sounds) (clocks : ClockMap)

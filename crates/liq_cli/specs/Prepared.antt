@@ -1,5 +1,5 @@
 -- What is found of a script before anything is rendered. Only what is private cites this.
-use Rattle.std.specs.Prelude.{◌≡◌, ◌≤◌, ◌⊎◌, ℕ, Bool, List, Result, Ok, Err, Option, Some, String, IsErrOf}
+use Rattle.std.specs.Prelude.{◌≡◌, ◌≤◌, ◌⊎◌, ℕ, Bool, false, List, Result, Ok, Err, Option, Some, None, String, IsErrOf}
 use Rattle.std.specs.Option.{ForSome}
 use Rattle.std.specs.declared.alloc.Global.{Global}
 use Rattle.liq_base.specs.Counts.{Rose}
@@ -82,6 +82,11 @@ pub record IsOneOutcome (files : Files) (file : List ℕ) (trace : Option (List 
 
 abbrev pub outcome_of : Work → Outcome
 outcome_of work = Found work.plan work.ready.library work.ready.clocks
+
+-- for no tick the outcome is this plan with these clocks and some audio files, and there is no other
+pub record IsChecked (files : Files) (file : List ℕ) (plan : Plan) (clocks : ClockMap) : Type 0 where
+  pub library : Sounds
+  pub one : IsOneOutcome files file None false 0 (Found plan library clocks)
 
 -- the step only read: its shelf tells the files that it told, and no count fell
 pub record OnlyRead {S : Type 0} (files : S → Option Files) (reads writes : S → ℕ) (old new : S) : Type 0 where

@@ -10,7 +10,7 @@ ghost use Rattle.liq_cli.specs.Words.{Check, Render};
 
 use crate::form::Rendering;
 use crate::halt::Halt;
-use crate::prepare::prepare;
+use crate::prepare::{prepare, prepare_check};
 use crate::ticks::Ticks;
 use fixed_text::WeekSecond;
 use liq_base::{Gate, Memory, Shelf};
@@ -34,8 +34,8 @@ pub fn check_job<S: Shelf>(alloc: Global, file: &str, shelf: &mut S) -> Result<S
     ensures created { S.created shelf.new ≡ S.created shelf.old }
     ensures closed { S.closed shelf.new ≡ S.closed shelf.old }
 {
-    let work = prepare(alloc, file, None, false, 0, shelf)?;
-    report_or_halt(check_report(alloc, &work.plan, &work.ready))
+    let work = prepare_check(alloc, file, shelf)?;
+    report_or_halt(check_report(alloc, &work.plan, &work.clocks))
 }
 
 /// The report of a rendering on one thread, whose outputs, and then their cue files, if they are wanted, are written.

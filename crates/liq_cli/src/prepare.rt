@@ -1,13 +1,16 @@
 // What a script asks for: its plan, its audio files and its clocks.
-ghost use Rattle.std.specs.Prelude.{◌≡◌, ◌≤◌, ◌^◌, ℕ, Bool, List, Option, IfOk, Some};
+ghost use Rattle.std.specs.Prelude.{◌≡◌, ◌≤◌, ◌^◌, ℕ, Bool, false, List, Option, IfOk, None, Some};
 ghost use Rattle.std.specs.Option.{ForSome};
 ghost use Rattle.liq_base.specs.Files.{file_at};
+ghost use Rattle.plan_core.specs.Plans.{IsWellFormed};
 ghost use Rattle.stations.specs.Findings.{IsFit};
-ghost use Rattle.liq_cli.specs.Prepared.{EndsFor, IsOneOutcome, OnlyRead, outcome_of};
+ghost use Rattle.liq_cli.specs.Answer.{HasPlan, clash_of};
+ghost use Rattle.liq_cli.specs.Prepared.{EndsFor, IsChecked, IsOneOutcome, OnlyRead, outcome_of};
 ghost use Rattle.liq_cli.specs.Read.{named};
 
 use crate::clash::keep_apart;
 use crate::halt::Halt;
+use clock_infer::ClockMap;
 use liq_base::limits::MAX_SCRIPT_BYTES;
 use liq_base::{Fetched, Shelf, ShelfFault};
 use plan_core::Plan;
@@ -15,7 +18,7 @@ use refusal_lines::Fault;
 use script_lex::LexFault;
 use script_plan::laws::one_answer;
 use script_plan::{ScriptFault, plan_of};
-use station_check::check_plan;
+use station_check::{check_clocks, check_plan};
 use stations::Ready;
 use std::alloc::Global;
 
@@ -24,6 +27,13 @@ use std::alloc::Global;
 pub struct Work {
     pub plan: Plan,
     pub ready: Ready,
+}
+
+/// A plan with its clocks, which are all that a check tells.
+#[derive(Drop)]
+pub struct CheckedPlan {
+    pub plan: Plan,
+    pub clocks: ClockMap,
 }
 
 /// What the script of this name asks for, for so many ticks: the script is read, and then its audio files are. Its outputs, its
@@ -44,12 +54,53 @@ pub fn prepare<S: Shelf>(
     ensures created { S.created shelf.new ≡ S.created shelf.old }
     ensures closed { S.closed shelf.new ≡ S.closed shelf.old }
 {
+    let plan = read_plan(alloc, file, trace, cues, shelf)?;
+    one_answer();
+    let ready = check_plan(alloc, &plan, ticks, shelf)?;
+    Ok(Work { plan, ready })
+}
+
+/// The plan and the clocks of the script of this name, as `prepare` finds them for no tick. Its audio files are read and given
+/// back, and none is decoded.
+pub fn prepare_check<S: Shelf>(
+    alloc: Global,
+    file: &str,
+    shelf: &mut S,
+) -> Result<CheckedPlan, Halt>
+    ensures found { IfOk result (λ work. ForSome (S.files shelf.old) (λ files. IsChecked files file.now work.plan work.clocks)) }
+    ensures plan { IfOk result (λ work. IsWellFormed work.plan) }
+    ensures ends { EndsFor (S.files shelf.old) file.now None false 0 (S.read_count shelf.old) (S.read_count shelf.new) result }
+    ensures shelf { OnlyRead S.files S.read_count S.write_count shelf.old shelf.new }
+    ensures created { S.created shelf.new ≡ S.created shelf.old }
+    ensures closed { S.closed shelf.new ≡ S.closed shelf.old }
+{
+    let plan = read_plan(alloc, file, None, false, shelf)?;
+    one_answer();
+    let clocks = check_clocks(alloc, &plan, 0, shelf)?;
+    Ok(CheckedPlan { plan, clocks })
+}
+
+// The plan of the script, where its outputs, its cue files and the trace have names of their own.
+fn read_plan<S: Shelf>(
+    alloc: Global,
+    file: &str,
+    trace: Option<&str>,
+    cues: bool,
+    shelf: &mut S,
+) -> Result<Plan, Halt>
+    ensures plan { IfOk result (λ plan. ForSome (S.files shelf.old) (λ files. HasPlan files file.now plan)) }
+    ensures apart { IfOk result (λ plan. clash_of plan (named trace.entry) cues ≡ None) }
+    ensures formed { IfOk result (λ plan. IsWellFormed plan) }
+    ensures ends { (ticks : ℕ) → EndsFor (S.files shelf.old) file.now (named trace.entry) cues ticks (S.read_count shelf.old) (S.read_count shelf.new) result }
+    ensures shelf { OnlyRead S.files S.read_count S.write_count shelf.old shelf.new }
+    ensures created { S.created shelf.new ≡ S.created shelf.old }
+    ensures closed { S.closed shelf.new ≡ S.closed shelf.old }
+{
     let script = read_script(alloc, file, shelf)?;
     one_answer();
     let plan = plan_of(alloc, &script)?;
     keep_apart(alloc, &plan, trace, cues)?;
-    let ready = check_plan(alloc, &plan, ticks, shelf)?;
-    Ok(Work { plan, ready })
+    Ok(plan)
 }
 
 // The bytes of the script.

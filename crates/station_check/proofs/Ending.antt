@@ -1,8 +1,9 @@
 -- How a check ends, step by step.
 use Rattle.std.proofs.Common.{◌≡◌, ◌⊎◌, ℕ, List, Some, refl, ⊎_elim}
-use Rattle.std.specs.Prelude.{Ok, Err, Result, Option, ◌≢◌, IsErrOf}
+use Rattle.std.specs.Prelude.{Ok, Err, Result, Option, ◌≢◌, IfOk, IfErr, IsErrOf}
+use Rattle.std.specs.Option.{ForSome}
 use Rattle.liq_base.specs.Files.{Files}
-use Rattle.frame_core.specs.Library.{Sounds}
+use Rattle.frame_core.specs.Library.{IsLibrary, Sounds}
 use Rattle.plan_core.specs.declared.plan.Plan.{Plan}
 use Rattle.plan_core.specs.Plans.{IsWellFormed}
 use Rattle.clock_infer.specs.declared.clock_map.ClockMap.{ClockMap}
@@ -12,9 +13,9 @@ use Rattle.clock_infer.specs.Answers.{IsCause, IsClockMap}
 use Rattle.track_library.specs.Walk.{Ends, load_of}
 use Rattle.track_library.specs.declared.fault.LoadFault.{LoadFault}
 use Rattle.track_library.specs.declared.fault.LoadFault.TheVariants.{Missing, BadAudio, FileTooLarge, AllTooLarge, ReadFault, Memory as load_memory}
-use Rattle.stations.specs.Findings.{Fails, IsFound, IsLoaded, rules_of}
+use Rattle.stations.specs.Findings.{Fails, Fits, IsFound, IsLoaded, rules_of}
 use Rattle.station_check.specs.Halts.{HaltsFor, ClockHalts, GapHalts, LengthHalts, RestHalts, load_halt, clock_halt}
-use Rattle.station_check.specs.Steps.{IsUngapped, OnlyCause, OnlyClocks}
+use Rattle.station_check.specs.Steps.{FitsBy, IsUngapped, OnlyCause, OnlyClocks}
 use Rattle.station_check.specs.declared.halt.Halt.{Halt}
 use Rattle.station_check.specs.declared.halt.Halt.TheVariants.{Refused, Read, Memory}
 use Rattle.station_check.proofs.Findings.{found_cause, found_file, found_gap, found_long}
@@ -94,6 +95,21 @@ pub rest_ends : (told : Option Files) (before after : ℕ) (plan : Plan) (ticks 
 rest_ends told before after plan ticks library (Refused fault) loaded h = λ files t. h files library (loaded files t)
 rest_ends told before after plan ticks library Read loaded h = absurd h
 rest_ends told before after plan ticks library Memory loaded h = tt
+
+-- the clocks that the rest answers are those of a plan whose files were loaded
+pub rest_fits : (told : Option Files) (plan : Plan) (ticks : ℕ) (library : Sounds) (result : Result ClockMap Halt)
+    → ForSome told (λ files. IsLoaded files plan library) → IsLibrary library
+    → IfOk result (λ clocks. (files : Files) (library : Sounds) → IsLoaded files plan library → IsLibrary library → IsFound files plan ticks (Fits library clocks))
+    → IfOk result (λ clocks. ForSome told (λ files. FitsBy files plan ticks clocks))
+rest_fits told plan ticks library (Ok clocks) loaded sounds found = λ files t. record { library = library; found = found files library (loaded files t) sounds }
+rest_fits told plan ticks library (Err halt) loaded sounds found = tt
+
+-- and so is its fault
+pub rest_fails : (told : Option Files) (before after : ℕ) (plan : Plan) (ticks : ℕ) (library : Sounds) (result : Result ClockMap Halt)
+    → ForSome told (λ files. IsLoaded files plan library) → IfErr result (RestHalts plan ticks)
+    → IfErr result (HaltsFor told before after (λ files fault. IsFound files plan ticks (Fails fault)))
+rest_fails told before after plan ticks library (Ok clocks) loaded h = tt
+rest_fails told before after plan ticks library (Err halt) loaded h = rest_ends told before after plan ticks library halt loaded h
 
 -- the loading ends for these ticks
 pub load_ends : (told : Option Files) (before after : ℕ) (plan : Plan) (ticks : ℕ) (halt : Halt)

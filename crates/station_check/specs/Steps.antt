@@ -1,5 +1,7 @@
 -- What the steps of a check find.
 use Rattle.std.specs.Prelude.{◌≡◌, ◌≢◌, ℕ, Bool, List, [], None}
+use Rattle.liq_base.specs.Files.{Files}
+use Rattle.frame_core.specs.Library.{Sounds}
 use Rattle.plan_core.specs.declared.plan.Plan.{Plan}
 use Rattle.plan_core.specs.declared.sink.SinkPlan.{SinkPlan}
 use Rattle.plan_core.specs.declared.sink.SinkPlan.TheVariants.{Output, Feed}
@@ -8,7 +10,7 @@ use Rattle.clock_infer.specs.declared.clock_map.ClockFault.{ClockFault}
 use Rattle.clock_infer.specs.declared.clock_map.ClockFault.TheVariants.{Memory}
 use Rattle.clock_infer.specs.Answers.{IsClockMap, IsCause}
 use Rattle.fallible_infer.specs.Infallible.{IsMarking, refuses}
-use Rattle.stations.specs.Findings.{first_name}
+use Rattle.stations.specs.Findings.{Fits, IsFound, first_name}
 use Rattle.stations.specs.Reports.{checked_line}
 use Rattle.stations.specs.Stations.{Station}
 
@@ -30,6 +32,11 @@ pub record OnlyCause (plan : Plan) (fault : ClockFault) : Type 0 where
   pub cause : IsCause plan fault
   pub only : (other : ClockFault) → other ≢ Memory → IsCause plan other → other ≡ fault
   pub apart : (clocks : ClockMap) → IsClockMap plan clocks → ⊥
+
+-- what is found of a plan, for so many ticks, is these clocks with some audio files, and nothing else
+pub record FitsBy (files : Files) (plan : Plan) (ticks : ℕ) (clocks : ClockMap) : Type 0 where
+  pub library : Sounds
+  pub found : IsFound files plan ticks (Fits library clocks)
 
 -- the station is one of this plan and these clocks
 pub record IsOf (plan : Plan) (clocks : ClockMap) (station : Station) : Type 0 where

@@ -7,6 +7,7 @@ ghost use Rattle.liq_base.specs.Files.{Files};
 ghost use Rattle.clock_infer.specs.Answers.{IsClockMap};
 ghost use Rattle.stations.specs.Findings.{Fails, Fits, IsFit, IsFound, IsLoaded, first_name, is_too_long};
 ghost use Rattle.station_check.specs.Halts.{HaltsFor, RestHalts};
+ghost use Rattle.station_check.specs.Steps.{FitsBy};
 
 use crate::Halt;
 use crate::clocks::find_clocks;
@@ -46,6 +47,30 @@ pub fn check_plan<S: Shelf>(
     let clocks = check_rest(alloc, plan, ticks)?;
     let library = files.decode(alloc)?;
     Ok(Ready { library, clocks })
+}
+
+/// The clocks of a plan, as `check_plan` answers them for so many ticks, or the fault that it answers. The audio files are
+/// read, each once, and given back: no memory is taken for samples.
+pub fn check_clocks<S: Shelf>(
+    alloc: Global,
+    plan: &Plan,
+    ticks: u64,
+    shelf: &mut S,
+) -> Result<ClockMap, Halt>
+    requires plan { IsWellFormed plan.now }
+    requires few { ticks ≤ 1000000000 }
+    // The plan is found to be one with some audio files and these clocks, and nothing else is found.
+    ensures found { IfOk result (λ clocks. ForSome (S.files shelf.old) (λ files. FitsBy files plan.now ticks clocks)) }
+    ensures fault { IfErr result (HaltsFor (S.files shelf.old) (S.read_count shelf.old) (S.read_count shelf.new) (λ files fault. IsFound files plan.now ticks (Fails fault))) }
+    ensures files { S.files shelf.new ≡ S.files shelf.old }
+    ensures created { S.created shelf.new ≡ S.created shelf.old }
+    ensures closed { S.closed shelf.new ≡ S.closed shelf.old }
+    ensures reads { S.read_count shelf.old ≤ S.read_count shelf.new }
+    ensures writes { S.write_count shelf.old ≤ S.write_count shelf.new }
+{
+    let files = read_files(alloc, plan, shelf)?;
+    drop(files);
+    check_rest(alloc, plan, ticks)
 }
 
 // The clocks of a plan whose audio files are there, or its first fault.

@@ -10,6 +10,6 @@ mod halt;
 mod lengths;
 mod report;
 
-pub use check::check_plan;
+pub use check::{check_clocks, check_plan};
 pub use halt::Halt;
 pub use report::check_report;

@@ -11,23 +11,22 @@ use clock_infer::{ClockMap, NodeClock};
 use fallible_infer::infallible;
 use liq_base::Memory;
 use plan_core::{Plan, SinkPlan};
-use stations::Ready;
 use std::alloc::Global;
 
 /// The report of a check: a line for each output, with its clock and whether its source is infallible; and then a line for
 /// each buffer, with the main clocks in which its feed and its reader lie, the samples that it gathers before it plays, and
 /// the chunks that it may hold.
-pub fn check_report(alloc: Global, plan: &Plan, ready: &Ready) -> Result<String, Memory>
+pub fn check_report(alloc: Global, plan: &Plan, clocks: &ClockMap) -> Result<String, Memory>
     requires { IsWellFormed plan.now }
     ensures { IfOk result (λ text. (mark : ℕ → Bool) × IsMarking plan.now.nodes mark
-        × ((station : Station) → station.plan ≡ plan.now → station.clocks ≡ ready.now.clocks → string_bytes text ≡ check_report_of station mark)) }
+        × ((station : Station) → station.plan ≡ plan.now → station.clocks ≡ clocks.now → string_bytes text ≡ check_report_of station mark)) }
 {
     let marks = infallible(alloc, plan)?;
     let mut text = String::new(alloc);
     for sink in plan.sinks.as_slice() {
-        push_sink(alloc, &mut text, &ready.clocks, &marks, sink)?;
+        push_sink(alloc, &mut text, clocks, &marks, sink)?;
     }
-    push_buffers(alloc, &mut text, plan, &ready.clocks)?;
+    push_buffers(alloc, &mut text, plan, clocks)?;
     Ok(text)
 }
 

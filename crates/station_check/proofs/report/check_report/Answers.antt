@@ -13,7 +13,7 @@ use Rattle.station_check.proofs.report.check_report.Goals as goal
 pub returns : goal.returns
 returns c =
     let plan = c.args.plan.now in
-    let clocks = c.args.ready.now.clocks in
+    let clocks = c.args.clocks.now in
     let mark = mark_at c.in_ok-marks.marks.items in
     let all : take c.loop-sink.sink-index plan.sinks ≡ plan.sinks =
     take_all c.loop-sink.sink-index plan.sinks (omega (arith, c.loop-sink-test.false, ap length c.as_slice-sink-items.ensures)) in (
@@ -28,7 +28,7 @@ returns c =
 
 pub loop-sink-preserved : goal.loop-sink-preserved
 loop-sink-preserved c =
-    let clocks = c.args.ready.now.clocks in
+    let clocks = c.args.clocks.now in
     let mark = mark_at c.in_ok-marks.marks.items in
     let k = c.loop-sink.sink-index in
     let within : k < length c.args.plan.now.sinks = omega (arith, c.loop-sink-test.true, ap length c.as_slice-sink-items.ensures) in

@@ -6,4 +6,4 @@ use Rattle.station_check.proofs.report.check_report.Given as goal
 
 -- the lines of the sinks so far
 abbrev pub invariant-loop-sink : goal.invariant-loop-sink
-invariant-loop-sink l = string_bytes l.text ≡ checked_lines l.ready.clocks (mark_at l.marks.items) (take l.sink-index l.plan.sinks)
+invariant-loop-sink l = string_bytes l.text ≡ checked_lines l.clocks (mark_at l.marks.items) (take l.sink-index l.plan.sinks)
