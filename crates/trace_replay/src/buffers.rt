@@ -39,6 +39,7 @@ fn told_buffer(alloc: Global, capacity: u32, log: &BufferLog) -> Result<(ToldBuf
         got: 0,
         opened: 0,
         chunks: Vec::new(alloc),
+        spare: Vec::new(alloc),
     };
     Ok((
         buffer,

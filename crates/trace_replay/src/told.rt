@@ -6,6 +6,7 @@ use frame_core::Chunk;
 use liq_base::Memory;
 use std::alloc::Global;
 use std::marker::Model;
+use std::mem;
 
 /// What a take meets.
 #[derive(Drop)]
@@ -44,6 +45,8 @@ pub struct ToldBuffer {
     /// How many chunks were there when the run began.
     pub opened: usize,
     pub chunks: Vec<Chunk>,
+    // What was put in the run before, of which each put frees one: so the memory of the one run serves the next.
+    pub spare: Vec<Chunk>,
 }
 
 impl Model for ToldBuffer {
@@ -82,6 +85,7 @@ impl ToldBuffer {
         self.got = 0;
         self.opened = 0;
         if fed {
+            mem::swap(&mut self.chunks, &mut self.spare);
             self.chunks.clear();
             return;
         }
@@ -169,6 +173,7 @@ impl ToldBuffer {
         if self.is_list() && self.held() >= self.capacity as usize {
             return Ok(Put::Never);
         }
+        drop(self.spare.pop());
         match self.chunks.push(chunk) {
             Ok(()) => {
                 self.put_at += 1;
