@@ -21,7 +21,7 @@ def facts(story):
     inner = [s.end - s.start for s in output.silences if s.within]
     told.append(("silence", f"{clock.length(sum(bare))} in {places(len(bare))}" if bare else "none", bool(bare)))
     if inner:
-        told.append(("silence within files", f"{clock.length(sum(inner))} in {places(len(inner))}", False))
+        told.append(("silence within plays", f"{clock.length(sum(inner))} in {places(len(inner))}", False))
     if output.gaps is not None:
         told.append(("nothing to play (gaps)", clock.length(output.gaps) if output.gaps else "never", output.gaps > 0))
     told.append(("sound", f"{output.rate} Hz, {'stereo' if output.channels == 2 else 'mono'}", False))

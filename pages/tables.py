@@ -82,7 +82,7 @@ def within(story):
         while following is not None and following.start <= silence.start:
             play, following = following, next(plays, None)
         items.append(f"<li>{clock.text(silence.start)}, {clock.length(silence.end - silence.start)} in {isolated(play.name)}</li>")
-    return f"<h3>Silence within files</h3><ul>{''.join(items)}</ul>" if items else ""
+    return f"<h3>Silence within plays</h3><ul>{''.join(items)}</ul>" if items else ""
 
 
 def of_buffers(buffers):
