@@ -25,12 +25,12 @@ told_is_refused (Made made station) old new told = absurd told
 told_is_refused (Refused fault) old new told = inl refl
 told_is_refused Usage old new told = absurd told
 
-starved_is_free : (a : Answer) (count last : ℕ) (files : Files) (after : Option Files) → Starved a count last files after → Completes a 5
-starved_is_free (Accepted station) count last files after starved = inr refl
-starved_is_free (Checked station) count last files after starved = inr refl
-starved_is_free (Made made station) count last files after starved = inr refl
-starved_is_free (Refused fault) count last files after starved = inr refl
-starved_is_free Usage count last files after starved = absurd starved
+starved_is_free : (a : Answer) (count last : ℕ) (files : Files) (after : Option Files) (made_before made_after : Option (List (List ℕ))) → Starved a count last files after made_before made_after → Completes a 5
+starved_is_free (Accepted station) count last files after made_before made_after starved = inr refl
+starved_is_free (Checked station) count last files after made_before made_after starved = inr refl
+starved_is_free (Made made station) count last files after made_before made_after starved = inr refl
+starved_is_free (Refused fault) count last files after made_before made_after starved = inr refl
+starved_is_free Usage count last files after made_before made_after starved = absurd starved
 
 answer_there : (words : List (List ℕ)) (files : Files) (P : Answer → Type 0) → ForAnswer words files P → HasAnswer words files
 answer_there words files P one = (one.answer, one.is_answer)
@@ -48,5 +48,5 @@ completes words old new (suc (suc zero)) ends calm files told =
 completes words old new (suc (suc (suc zero))) ends calm files told = absurd (calm.reads (ends.read_fault refl).0)
 completes words old new (suc (suc (suc (suc zero)))) ends calm files told = absurd (no_write old new calm (ends.write_fault refl).1)
 completes words old new (suc (suc (suc (suc (suc zero))))) ends calm files told =
-    (inl refl, λ answer is. starved_is_free answer old.writes new.writes files new.files ((ends.memory refl).0 files told answer is))
+    (inl refl, λ answer is. starved_is_free answer old.writes new.writes files new.files old.created new.created ((ends.memory refl).0 files told answer is))
 completes words old new (suc (suc (suc (suc (suc (suc n)))))) ends calm files told = absurd (let le = ends.is_status in omega arith)

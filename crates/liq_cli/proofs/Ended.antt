@@ -112,14 +112,14 @@ module _ (words : List (List ℕ)) (old new : Moment) (asked : Asked) (asks : As
       (inr (inl rose))
 
   -- an output broke off
-  pub broken_output : ForSome old.files (λ files. ForOne asked files (λ a. Broken a old.writes new.writes files new.files))
+  pub broken_output : ForSome old.files (λ files. ForOne asked files (λ a. Broken a old.writes new.writes files new.files old.created new.created))
       → new.out ≡ old.out → Rose old.writes new.writes → new.err ≡ old.err → Ends words old new 4
   broken_output told out_same rose same = broken
-      (λ files f. one_more asked files (λ a. Broken a old.writes new.writes files new.files) (λ a. Broke a files old new)
+      (λ files f. one_more asked files (λ a. Broken a old.writes new.writes files new.files old.created new.created) (λ a. Broke a files old new)
       (λ a b. broke_output a files old new (record { broken = b; out_kept = out_same; cause = rose }) same) (told files f))
       (inr (inr rose))
 
-  pub ended_starved : ForSome old.files (λ files. ForEach asked files (λ a. Starved a old.writes new.writes files new.files)) → new.out ≡ old.out → new.err ≡ old.err → Ends words old new 5
+  pub ended_starved : ForSome old.files (λ files. ForEach asked files (λ a. Starved a old.writes new.writes files new.files old.created new.created)) → new.out ≡ old.out → new.err ≡ old.err → Ends words old new 5
   ended_starved told out_same err_same = record {
     is_status = lit≤ tt;
     done = λ at. absurd (omega arith);
@@ -127,16 +127,16 @@ module _ (words : List (List ℕ)) (old new : Moment) (asked : Asked) (asks : As
     usage = λ at. absurd (omega arith);
     read_fault = λ at. absurd (omega arith);
     write_fault = λ at. absurd (omega arith);
-    memory = λ at. ((λ files f. for_each_answer words asked files (λ a. Starved a old.writes new.writes files new.files) asks (told files f)), out_same, err_same);
+    memory = λ at. ((λ files f. for_each_answer words asked files (λ a. Starved a old.writes new.writes files new.files old.created new.created) asks (told files f)), out_same, err_same);
     no_form = λ none. form_there none;
   }
 
   -- memory was refused for the line
   pub ended_unsaid : (fault : Fault) → ForSome old.files (λ files. ForOne asked files (λ a. a ≡ Refused fault)) → new.files ≡ old.files → new.out ≡ old.out → new.err ≡ old.err → Ends words old new 5
   ended_unsaid fault told files_same out_same err_same =
-      ended_starved (λ files f. each_one asked files (λ a. Starved a old.writes new.writes files new.files)
-      (one_more asked files (λ a. a ≡ Refused fault) (λ a. Starved a old.writes new.writes files new.files)
-      (λ a is. subst (λ b. Starved b old.writes new.writes files new.files) (sym is) (files_same ∙ f)) (told files f))) out_same err_same
+      ended_starved (λ files f. each_one asked files (λ a. Starved a old.writes new.writes files new.files old.created new.created)
+      (one_more asked files (λ a. a ≡ Refused fault) (λ a. Starved a old.writes new.writes files new.files old.created new.created)
+      (λ a is. subst (λ b. Starved b old.writes new.writes files new.files old.created new.created) (sym is) (files_same ∙ f)) (told files f))) out_same err_same
 
 -- words of no form
 module _ (words : List (List ℕ)) (old new : Moment) (none : HasNoForm words) where

@@ -1,6 +1,6 @@
 -- What a job leaves, by the way that it ends.
 use Rattle.std.proofs.Common.{◌≡◌, ◌<◌, ◌≤◌, ℕ, Bool, false, List, refl, sym, ap, subst, ◌∙◌, inl, inr, arith}
-use Rattle.std.specs.Prelude.{Option, Some, None, Result, Ok, Err, IfOk, IfErr}
+use Rattle.std.specs.Prelude.{Option, Some, None, Result, Ok, Err, IfOk, IfErr, IsSomeAnd}
 use Rattle.std.specs.Option.{ForSome}
 use Rattle.liq_base.specs.Counts.{Rose}
 use Rattle.liq_base.specs.Files.{Files}
@@ -18,6 +18,7 @@ use Rattle.trace_replay.specs.Listings.{LeadOnward}
 use Rattle.trace_replay.specs.Turns.{base_of}
 use Rattle.stations.specs.Findings.{IsAccepted, IsFit}
 use Rattle.stations.specs.Renderings.{BeginsAsOneThread, HasOneRecord, IsDetermined, RendersAsOneThread, WrotePart}
+use Rattle.stations.specs.Outputs.{HoldsSome}
 use Rattle.stations.proofs.Parts.{some_within}
 use Rattle.stations.specs.Stations.{InRounds, IsBegun, IsLawful, Station, Way, bare}
 use Rattle.stations.specs.Streams.{HasNoGaps, parts_with}
@@ -39,20 +40,20 @@ use Rattle.liq_cli.proofs.Outcomes.{check_plain, for_each, for_one, lost_ruled, 
 use Rattle.liq_cli.proofs.Parts.{last_within}
 
 -- where nothing was created, each answer has what it may
-pub kept_starved : (asked : Asked) (files : Files) (answer : Answer) (count last : ℕ) (before after : Option Files) → IsAnswerTo asked files answer → before ≡ Some files → after ≡ before
-    → Starved answer count last files after
-kept_starved asked files Usage count last before after is told same = absurd is
-kept_starved asked files (Refused fault) count last before after is told same = same ∙ told
-kept_starved asked files (Checked station) count last before after is told same = same ∙ told
-kept_starved asked files (Made made station) count last before after is told same = same ∙ told
-kept_starved asked files (Accepted station) count last before after is told same = inl (same ∙ told)
+pub kept_starved : (asked : Asked) (files : Files) (answer : Answer) (count last : ℕ) (before after : Option Files) (made_before made_after : Option (List (List ℕ))) → IsAnswerTo asked files answer → before ≡ Some files → after ≡ before → made_after ≡ made_before
+    → Starved answer count last files after made_before made_after
+kept_starved asked files Usage count last before after made_before made_after is told same made = absurd is
+kept_starved asked files (Refused fault) count last before after made_before made_after is told same made = same ∙ told
+kept_starved asked files (Checked station) count last before after made_before made_after is told same made = same ∙ told
+kept_starved asked files (Made own station) count last before after made_before made_after is told same made = same ∙ told
+kept_starved asked files (Accepted station) count last before after made_before made_after is told same made = inl (same ∙ told, made)
 
 -- a job over the files of the shelf ends as the steps before the rendering do
 pub stopped_early : {T U : Type 0} (asked : Asked) → ((files : Files) → files_for asked files ≡ files)
-    → (told left : Option Files) (reads_before reads_after writes_before writes_after : ℕ) (e : Halt)
-    → EndsFor {T = T} told (file_of asked) (trace_of asked) (cues_of asked) (ticks_of asked) reads_before reads_after (Err e) → left ≡ told
-    → Stops {T = U} asked told left reads_before reads_after writes_before writes_after (Err e)
-stopped_early asked own told left reads_before reads_after writes_before writes_after e ends same = record {
+    → (told left : Option Files) (reads_before reads_after writes_before writes_after : ℕ) (made_before made_after : Option (List (List ℕ))) (e : Halt)
+    → EndsFor {T = T} told (file_of asked) (trace_of asked) (cues_of asked) (ticks_of asked) reads_before reads_after (Err e) → left ≡ told → made_after ≡ made_before
+    → Stops {T = U} asked told left reads_before reads_after writes_before writes_after made_before made_after (Err e)
+stopped_early asked own told left reads_before reads_after writes_before writes_after made_before made_after e ends same made = record {
   fault = λ fault at files t. for_one asked files (Denied fault) (λ a. a ≡ Refused fault)
       (lost_ruled asked files fault
       (subst (λ fs. IsOneOutcome fs (file_of asked) (trace_of asked) (cues_of asked) (ticks_of asked) (Lost fault)) (sym (own files)) (ends.fault fault (cc) files t))) refl;
@@ -61,26 +62,26 @@ stopped_early asked own told left reads_before reads_after writes_before writes_
   read_kept = λ at. same;
   write = λ at. absurd (ends.no_write (cc));
   broken = λ at. absurd (ends.no_write (cc));
-  memory = λ at files t answer is. kept_starved asked files answer writes_before writes_after told left is t same;
+  memory = λ at files t answer is. kept_starved asked files answer writes_before writes_after told left made_before made_after is t same made;
 }
 
 -- memory was refused where nothing was created
-pub stopped_for_memory : {U : Type 0} (asked : Asked) (told left : Option Files) (reads_before reads_after writes_before writes_after : ℕ) → left ≡ told
-    → Stops {T = U} asked told left reads_before reads_after writes_before writes_after (Err no_memory)
-stopped_for_memory asked told left reads_before reads_after writes_before writes_after same = record {
+pub stopped_for_memory : {U : Type 0} (asked : Asked) (told left : Option Files) (reads_before reads_after writes_before writes_after : ℕ) (made_before made_after : Option (List (List ℕ))) → left ≡ told → made_after ≡ made_before
+    → Stops {T = U} asked told left reads_before reads_after writes_before writes_after made_before made_after (Err no_memory)
+stopped_for_memory asked told left reads_before reads_after writes_before writes_after made_before made_after same made = record {
   fault = λ fault at. absurd (cc);
   fault_kept = λ fault at. absurd (cc);
   read = λ at. absurd (cc);
   read_kept = λ at. absurd (cc);
   write = λ at. absurd (cc);
   broken = λ at. absurd (cc);
-  memory = λ at files t answer is. kept_starved asked files answer writes_before writes_after told left is t same;
+  memory = λ at files t answer is. kept_starved asked files answer writes_before writes_after told left made_before made_after is t same made;
 }
 
 -- a job that has its report did not stop
-pub went_on : {U : Type 0} (asked : Asked) (told left : Option Files) (reads_before reads_after writes_before writes_after : ℕ) (v : U)
-    → Stops {T = U} asked told left reads_before reads_after writes_before writes_after (Ok v)
-went_on asked told left reads_before reads_after writes_before writes_after v = record {
+pub went_on : {U : Type 0} (asked : Asked) (told left : Option Files) (reads_before reads_after writes_before writes_after : ℕ) (made_before made_after : Option (List (List ℕ))) (v : U)
+    → Stops {T = U} asked told left reads_before reads_after writes_before writes_after made_before made_after (Ok v)
+went_on asked told left reads_before reads_after writes_before writes_after made_before made_after v = record {
   fault = λ fault at. absurd (cc);
   fault_kept = λ fault at. absurd (cc);
   read = λ at. absurd (cc);
@@ -91,12 +92,12 @@ went_on asked told left reads_before reads_after writes_before writes_after v = 
 }
 
 -- a job whose last step is its report, where nothing was created
-pub ended_kept : {U : Type 0} (r : Result U Halt) (asked : Asked) (told left : Option Files) (reads_before reads_after writes_before writes_after : ℕ)
-    → IfErr r (λ e. e ≡ no_memory) → left ≡ told → Stops {T = U} asked told left reads_before reads_after writes_before writes_after r
-ended_kept {U} (Ok v) asked told left reads_before reads_after writes_before writes_after starved same = went_on asked told left reads_before reads_after writes_before writes_after v
-ended_kept {U} (Err e) asked told left reads_before reads_after writes_before writes_after starved same =
-    subst (λ x. Stops {T = U} asked told left reads_before reads_after writes_before writes_after (Err x)) (sym starved)
-    (stopped_for_memory asked told left reads_before reads_after writes_before writes_after same)
+pub ended_kept : {U : Type 0} (r : Result U Halt) (asked : Asked) (told left : Option Files) (reads_before reads_after writes_before writes_after : ℕ) (made_before made_after : Option (List (List ℕ)))
+    → IfErr r (λ e. e ≡ no_memory) → left ≡ told → made_after ≡ made_before → Stops {T = U} asked told left reads_before reads_after writes_before writes_after made_before made_after r
+ended_kept {U} (Ok v) asked told left reads_before reads_after writes_before writes_after made_before made_after starved same made = went_on asked told left reads_before reads_after writes_before writes_after made_before made_after v
+ended_kept {U} (Err e) asked told left reads_before reads_after writes_before writes_after made_before made_after starved same made =
+    subst (λ x. Stops {T = U} asked told left reads_before reads_after writes_before writes_after made_before made_after (Err x)) (sym starved)
+    (stopped_for_memory asked told left reads_before reads_after writes_before writes_after made_before made_after same made)
 
 -- what holds of the report that was made
 pub of_report : {T E F : Type 0} (r : Result T E) (s : Result T F) (P Q : T → Type 0) → IfOk r (λ t. s ≡ Ok t) → IfOk s P → ((t : T) → P t → Q t) → IfOk r Q
@@ -117,10 +118,10 @@ checked file told left plan clocks report checks same tells files t =
 -- the trace of a replay is not rendered again
 pub stopped_untold : {T U : Type 0} (laws : TraceLaws) (file : List ℕ) (start ticks : ℕ) (trace : List ℕ) (told left : Option Files) (plan : Plan) (library : Sounds) (clocks : ClockMap)
     → ForSome told (λ files. IsOneOutcome files file None false ticks (Found plan library clocks)) → (told_then : Option Files) → told_then ≡ told
-    → (reads_before reads_between reads_after writes_before writes_after : ℕ) → reads_before ≤ reads_between → (e : Halt)
-    → TraceEnds {T = T} told_then trace (base_of plan library clocks start) clocks.running ticks reads_between reads_after (Err e) → left ≡ told
-    → Stops {T = U} (Replay file start ticks trace) told left reads_before reads_after writes_before writes_after (Err e)
-stopped_untold laws file start ticks trace told left plan library clocks one told_then kept reads_before reads_between reads_after writes_before writes_after le e ends same = record {
+    → (reads_before reads_between reads_after writes_before writes_after : ℕ) (made_before made_after : Option (List (List ℕ))) → reads_before ≤ reads_between → (e : Halt)
+    → TraceEnds {T = T} told_then trace (base_of plan library clocks start) clocks.running ticks reads_between reads_after (Err e) → left ≡ told → made_after ≡ made_before
+    → Stops {T = U} (Replay file start ticks trace) told left reads_before reads_after writes_before writes_after made_before made_after (Err e)
+stopped_untold laws file start ticks trace told left plan library clocks one told_then kept reads_before reads_between reads_after writes_before writes_after made_before made_after le e ends same made = record {
   fault = λ fault at files t.
       let is = ends.fault fault (cc) files (kept ∙ t) in
       for_one (Replay file start ticks trace) files (Denied (Untold is.untold)) (λ a. a ≡ Refused fault)
@@ -132,7 +133,7 @@ stopped_untold laws file start ticks trace told left plan library clocks one tol
   read_kept = λ at. same;
   write = λ at. absurd (ends.no_write (cc));
   broken = λ at. absurd (ends.no_write (cc));
-  memory = λ at files t answer is. kept_starved (Replay file start ticks trace) files answer writes_before writes_after told left is t same;
+  memory = λ at files t answer is. kept_starved (Replay file start ticks trace) files answer writes_before writes_after told left made_before made_after is t same made;
 }
 
 -- what is said of runs that may be relied on
@@ -156,17 +157,18 @@ module _ (asked : Asked) (told left : Option Files) (plan : Plan) (library : Sou
   station = station_for asked plan library clocks way
 
   -- a part that was written may be told from before
-  wrote_later : (writes_before writes_between writes_after : ℕ) → writes_before ≤ writes_between → (files : Files) → told ≡ Some files → WrotePart station writes_between writes_after files left
-      → Left station writes_before writes_after files left
-  wrote_later writes_before writes_between writes_after le files t (inl wrote) = inl (record {
+  wrote_later : (writes_before writes_between writes_after : ℕ) (made_before made_between made_after : Option (List (List ℕ))) → writes_before ≤ writes_between → made_between ≡ made_before
+      → (files : Files) → told ≡ Some files → WrotePart station writes_between writes_after files left made_between made_after → Left station writes_before writes_after files left made_before made_after
+  wrote_later writes_before writes_between writes_after made_before made_between made_after le made files t (inl wrote) = inl (record {
     wrote = record {
       run = wrote.run;
       begun = wrote.begun;
-      parts = λ rest. some_within writes_before writes_between writes_after writes_after le (omega arith) files (parts_with station wrote.run wrote.begun rest) left (wrote.parts rest);
+      parts = λ rest. subst (λ m. IsSomeAnd left (λ now. HoldsSome writes_before files (parts_with station wrote.run wrote.begun rest) now writes_after m made_after)) made
+          (some_within writes_before writes_between writes_after writes_after le (omega arith) files (parts_with station wrote.run wrote.begun rest) left made_between made_after (wrote.parts rest));
     };
     as_one_thread = laws.begins (files_for asked files) station wrote.run fit.plan_is (one files t).holds.prepared.accepted early wrote.begun;
   })
-  wrote_later writes_before writes_between writes_after le files t (inr wrote) = inr (record {
+  wrote_later writes_before writes_between writes_after made_before made_between made_after le made files t (inr wrote) = inr (record {
     wrote = record { run = wrote.run; lawful = wrote.lawful; part = last_within station writes_before writes_between writes_after le files wrote.run left wrote.part };
     one = laws.one (files_for asked files) station wrote.run fit.plan_is (one files t).holds.prepared.accepted early wrote.lawful;
     as_one_thread = laws.renders (files_for asked files) station wrote.run fit.plan_is (one files t).holds.prepared.accepted early wrote.lawful;
@@ -177,39 +179,39 @@ module _ (asked : Asked) (told left : Option Files) (plan : Plan) (library : Sou
   of_station P p = subst P (sym is_accepted) p
 
   -- a rendering broke off
-  pub broke_off : {U : Type 0} (reads_before reads_after writes_before writes_between writes_after : ℕ) (e : RenderFault) → writes_before ≤ writes_between
-      → ForSome told (λ files. WrotePart station writes_between writes_after files left)
+  pub broke_off : {U : Type 0} (reads_before reads_after writes_before writes_between writes_after : ℕ) (made_before made_between made_after : Option (List (List ℕ))) (e : RenderFault) → writes_before ≤ writes_between → made_between ≡ made_before
+      → ForSome told (λ files. WrotePart station writes_between writes_after files left made_between made_after)
       → (e ≡ render_write → Rose writes_between writes_after)
-      → Stops {T = U} asked told left reads_before reads_after writes_before writes_after (Err (halt_of_render e))
-  broke_off reads_before reads_after writes_before writes_between writes_after render_write le parts cause = record {
+      → Stops {T = U} asked told left reads_before reads_after writes_before writes_after made_before made_after (Err (halt_of_render e))
+  broke_off reads_before reads_after writes_before writes_between writes_after made_before made_between made_after render_write le made parts cause = record {
     fault = λ fault at. absurd (cc);
     fault_kept = λ fault at. absurd (cc);
     read = λ at. absurd (cc);
     read_kept = λ at. absurd (cc);
     write = λ at. let rose = cause refl in omega arith;
-    broken = λ at files t. for_one asked files (Granted plan library clocks way) (λ a. Broken a writes_before writes_after files left) (one files t)
-        (of_station (λ a. Broken a writes_before writes_after files left) (wrote_later writes_before writes_between writes_after le files t (parts files t)));
+    broken = λ at files t. for_one asked files (Granted plan library clocks way) (λ a. Broken a writes_before writes_after files left made_before made_after) (one files t)
+        (of_station (λ a. Broken a writes_before writes_after files left made_before made_after) (wrote_later writes_before writes_between writes_after made_before made_between made_after le made files t (parts files t)));
     memory = λ at. absurd (cc);
   }
-  broke_off reads_before reads_after writes_before writes_between writes_after render_memory le parts cause = record {
+  broke_off reads_before reads_after writes_before writes_between writes_after made_before made_between made_after render_memory le made parts cause = record {
     fault = λ fault at. absurd (cc);
     fault_kept = λ fault at. absurd (cc);
     read = λ at. absurd (cc);
     read_kept = λ at. absurd (cc);
     write = λ at. absurd (cc);
     broken = λ at. absurd (cc);
-    memory = λ at files t. for_each asked files (Granted plan library clocks way) (λ a. Starved a writes_before writes_after files left) (one files t)
-        (of_station (λ a. Starved a writes_before writes_after files left) (inr (wrote_later writes_before writes_between writes_after le files t (parts files t))));
+    memory = λ at files t. for_each asked files (Granted plan library clocks way) (λ a. Starved a writes_before writes_after files left made_before made_after) (one files t)
+        (of_station (λ a. Starved a writes_before writes_after files left made_before made_after) (inr (wrote_later writes_before writes_between writes_after made_before made_between made_after le made files t (parts files t))));
   }
 
   -- a rendering whose last step is its report: memory may be refused for that
-  pub ended_written : {U : Type 0} (r : Result U Halt) (reads_before reads_after writes_before writes_between writes_after : ℕ) → IfErr r (λ e. e ≡ no_memory) → writes_before ≤ writes_between
-      → ForSome told (λ files. WrotePart station writes_between writes_after files left)
-      → Stops {T = U} asked told left reads_before reads_after writes_before writes_after r
-  ended_written {U} (Ok v) reads_before reads_after writes_before writes_between writes_after starved le parts = went_on asked told left reads_before reads_after writes_before writes_after v
-  ended_written {U} (Err e) reads_before reads_after writes_before writes_between writes_after starved le parts =
-      subst (λ x. Stops {T = U} asked told left reads_before reads_after writes_before writes_after (Err x)) (sym starved)
-      (broke_off reads_before reads_after writes_before writes_between writes_after render_memory le parts (λ at. absurd (cc)))
+  pub ended_written : {U : Type 0} (r : Result U Halt) (reads_before reads_after writes_before writes_between writes_after : ℕ) (made_before made_between made_after : Option (List (List ℕ))) → IfErr r (λ e. e ≡ no_memory) → writes_before ≤ writes_between → made_between ≡ made_before
+      → ForSome told (λ files. WrotePart station writes_between writes_after files left made_between made_after)
+      → Stops {T = U} asked told left reads_before reads_after writes_before writes_after made_before made_after r
+  ended_written {U} (Ok v) reads_before reads_after writes_before writes_between writes_after made_before made_between made_after starved le made parts = went_on asked told left reads_before reads_after writes_before writes_after made_before made_after v
+  ended_written {U} (Err e) reads_before reads_after writes_before writes_between writes_after made_before made_between made_after starved le made parts =
+      subst (λ x. Stops {T = U} asked told left reads_before reads_after writes_before writes_after made_before made_after (Err x)) (sym starved)
+      (broke_off reads_before reads_after writes_before writes_between writes_after made_before made_between made_after render_memory le made parts (λ at. absurd (cc)))
 
   -- the report of a rendering
   pub rendered : (before : Option Files) (report : List ℕ) (value : Shown) → before ≡ told → IsRendered station before left value

@@ -131,14 +131,14 @@ module _ (asked : Asked) (none : CreatesNone asked) (before after : Sinks) (same
   front_of_none files P one = one_more asked files P (λ a. MadeSome (creations a) before after) (λ a p. none_of (creations a) before after same) one
 
   -- what is no rendering into the shelf created nothing there
-  pub created_none : (told left : Option Files) (reads_before reads_after writes_before writes_after : ℕ) (job : Result (String Global) Halt)
+  pub created_none : (told left : Option Files) (reads_before reads_after writes_before writes_after : ℕ) (made_before made_after : Option (List (List ℕ))) (job : Result (String Global) Halt)
       → IfOk job (λ report. ForSome told (λ files. ForOne asked files (λ a. Rendered a files left (string_bytes report))))
-      → Stops asked told left reads_before reads_after writes_before writes_after job → CreatedFor asked told before after job
-  created_none told left reads_before reads_after writes_before writes_after (Ok report) done stops = λ files t. whole_of_none files (λ a. Rendered a files left (string_bytes report)) (done files t)
-  created_none told left reads_before reads_after writes_before writes_after (Err (refused_for fault)) done stops = same
-  created_none told left reads_before reads_after writes_before writes_after (Err Read) done stops = same
-  created_none told left reads_before reads_after writes_before writes_after (Err Write) done stops = λ files t. front_of_none files _ (stops.broken refl files t)
-  created_none told left reads_before reads_after writes_before writes_after (Err Memory) done stops = λ files t answer is. none_of (creations answer) before after same
+      → Stops asked told left reads_before reads_after writes_before writes_after made_before made_after job → CreatedFor asked told before after job
+  created_none told left reads_before reads_after writes_before writes_after made_before made_after (Ok report) done stops = λ files t. whole_of_none files (λ a. Rendered a files left (string_bytes report)) (done files t)
+  created_none told left reads_before reads_after writes_before writes_after made_before made_after (Err (refused_for fault)) done stops = same
+  created_none told left reads_before reads_after writes_before writes_after made_before made_after (Err Read) done stops = same
+  created_none told left reads_before reads_after writes_before writes_after made_before made_after (Err Write) done stops = λ files t. front_of_none files _ (stops.broken refl files t)
+  created_none told left reads_before reads_after writes_before writes_after made_before made_after (Err Memory) done stops = λ files t answer is. none_of (creations answer) before after same
 
 module _ (words : List (List ℕ)) (told : Option Files) (before after : Sinks) where
   order_done : ForSome told (λ files. ForAnswer words files (λ a. MadeAll a before after)) → CreatesInOrder words told before after 0
@@ -218,18 +218,18 @@ module _ (words : List (List ℕ)) (told : Option Files) (before after : Sinks) 
 
     -- words of a form
     pub ordered : {O E : Type 0} (out_held : O → Option (List ℕ)) (out_faults : O → ℕ) (err_held : E → Option (List ℕ)) (err_faults : E → ℕ) (out out' : O) (err err' : E) (left : Option Files)
-        (reads_before reads_after writes_before writes_after : ℕ) (job : Result (String Global) Halt) (status : ℕ) → CreatedFor asked told before after job
-        → Stops asked told left reads_before reads_after writes_before writes_after job
+        (reads_before reads_after writes_before writes_after : ℕ) (made_before made_after : Option (List (List ℕ))) (job : Result (String Global) Halt) (status : ℕ) → CreatedFor asked told before after job
+        → Stops asked told left reads_before reads_after writes_before writes_after made_before made_after job
         → Finishes out_held out_faults err_held err_faults job out out' err err' status → CreatesInOrder words told before after status
-    ordered out_held out_faults err_held err_faults out out' err err' left reads_before reads_after writes_before writes_after (Ok report) status made stops ends =
+    ordered out_held out_faults err_held err_faults out out' err err' left reads_before reads_after writes_before writes_after made_before made_after (Ok report) status made stops ends =
         ⊎_elim (λ all. rw all.0 (order_done (λ files t. for_answer words asked files (λ a. MadeAll a before after) asks (made files t))))
         (λ part. rw part.0 (order_broken (front_of_all made))) ends.0
-    ordered out_held out_faults err_held err_faults out out' err err' left reads_before reads_after writes_before writes_after (Err (refused_for fault)) status made stops ends =
+    ordered out_held out_faults err_held err_faults out out' err err' left reads_before reads_after writes_before writes_after made_before made_after (Err (refused_for fault)) status made stops ends =
         ⊎_elim (λ unsaid. rw unsaid.0 (starved_of (λ files t answer is. none_of (creations answer) before after made)))
         (⊎_elim (λ all. rw all.0 (order_refused made))
         (λ part. rw part.0 (order_broken (λ files t. for_answer words asked files (λ a. MadeSome (creations a) before after) asks
         (one_more asked files (λ a. a ≡ Refused fault) (λ a. MadeSome (creations a) before after) (λ a is. none_of (creations a) before after made) (stops.fault fault refl files t)))))) ends.0
-    ordered out_held out_faults err_held err_faults out out' err err' left reads_before reads_after writes_before writes_after (Err Read) status made stops ends = rw ends.0 (order_unread made)
-    ordered out_held out_faults err_held err_faults out out' err err' left reads_before reads_after writes_before writes_after (Err Write) status made stops ends =
+    ordered out_held out_faults err_held err_faults out out' err err' left reads_before reads_after writes_before writes_after made_before made_after (Err Read) status made stops ends = rw ends.0 (order_unread made)
+    ordered out_held out_faults err_held err_faults out out' err err' left reads_before reads_after writes_before writes_after made_before made_after (Err Write) status made stops ends =
         rw ends.0 (order_broken (λ files t. for_answer words asked files (λ a. MadeSome (creations a) before after) asks (made files t)))
-    ordered out_held out_faults err_held err_faults out out' err err' left reads_before reads_after writes_before writes_after (Err Memory) status made stops ends = rw ends.0 (starved_of made)
+    ordered out_held out_faults err_held err_faults out out' err err' left reads_before reads_after writes_before writes_after made_before made_after (Err Memory) status made stops ends = rw ends.0 (starved_of made)

@@ -42,9 +42,9 @@ one_made seed size shelf file outcome shelf_is file_is found =
     subst (λ f. IsOneOutcome (files_made seed size) f None false 500 outcome) file_is (found (files_made seed size) (ap Some shelf_is))
 
 -- the steps before the rendering ended
-pub stopped_made : {T U : Type 0} (seed size : ℕ) (shelf : Files) (file : List ℕ) (told : Option Files) (reads writes : ℕ) (e : Halt) → shelf ≡ files_made seed size → file ≡ made_script
-    → EndsFor {T = T} (Some shelf) file None false 500 0 0 (Err e) → Stops {T = U} (Make seed size) told told reads reads writes writes (Err e)
-stopped_made seed size shelf file told reads writes e shelf_is file_is ends = record {
+pub stopped_made : {T U : Type 0} (seed size : ℕ) (shelf : Files) (file : List ℕ) (told : Option Files) (reads writes : ℕ) (made : Option (List (List ℕ))) (e : Halt) → shelf ≡ files_made seed size → file ≡ made_script
+    → EndsFor {T = T} (Some shelf) file None false 500 0 0 (Err e) → Stops {T = U} (Make seed size) told told reads reads writes writes made made (Err e)
+stopped_made seed size shelf file told reads writes made e shelf_is file_is ends = record {
   fault = λ fault at files t. for_one (Make seed size) files (Denied fault) (λ a. a ≡ Refused fault)
       (lost_ruled (Make seed size) files fault (one_made seed size shelf file (Lost fault) shelf_is file_is (ends.fault fault (cc)))) refl;
   fault_kept = λ fault at. refl;
@@ -52,14 +52,14 @@ stopped_made seed size shelf file told reads writes e shelf_is file_is ends = re
   read_kept = λ at. refl;
   write = λ at. absurd (ends.no_write (cc));
   broken = λ at. absurd (ends.no_write (cc));
-  memory = λ at files t answer is. kept_starved (Make seed size) files answer writes writes told told is t refl;
+  memory = λ at files t answer is. kept_starved (Make seed size) files answer writes writes told told made made is t refl refl;
 }
 
 -- the rendering ended: no write failed, so memory was refused
-pub broke_made : {U : Type 0} (seed size : ℕ) (told : Option Files) (reads writes : ℕ) (e : RenderFault) → (e ≡ render_write → Rose 0 0)
-    → Stops {T = U} (Make seed size) told told reads reads writes writes (Err (halt_of_render e))
-broke_made seed size told reads writes render_write cause = absurd (never_rose (cause refl))
-broke_made seed size told reads writes render_memory cause = stopped_for_memory (Make seed size) told told reads reads writes writes refl
+pub broke_made : {U : Type 0} (seed size : ℕ) (told : Option Files) (reads writes : ℕ) (made : Option (List (List ℕ))) (e : RenderFault) → (e ≡ render_write → Rose 0 0)
+    → Stops {T = U} (Make seed size) told told reads reads writes writes made made (Err (halt_of_render e))
+broke_made seed size told reads writes made render_write cause = absurd (never_rose (cause refl))
+broke_made seed size told reads writes made render_memory cause = stopped_for_memory (Make seed size) told told reads reads writes writes made made refl refl
 
 -- where there is no buffer, none joins two clocks
 none_joins : (station : Station) → station.plan.buffers ≡ [] → HasNoJoin (bare station) station.clocks.running

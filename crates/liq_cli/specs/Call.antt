@@ -20,9 +20,10 @@ use Rattle.liq_cli.specs.Summary.{SumsAsOneThread, summary_of}
 use Rattle.liq_cli.specs.Words.{HasNoForm}
 use Rattle.liq_cli.specs.Answer.{Answer, Usage, Refused, Checked, Accepted, Made, ForAnswer, ForEachAnswer, IsAnswer, usage_line}
 
--- what the shelf, `out` and `err` tell at one moment, and how often they failed
+-- what the shelf, `out` and `err` tell at one moment, which sinks the shelf made, and how often they failed
 pub record Moment : Type 0 where
   pub files : Option Files
+  pub created : Option (List (List ℕ))
   pub out : Option (List ℕ)
   pub err : Option (List ℕ)
   pub reads : ℕ
@@ -31,9 +32,9 @@ pub record Moment : Type 0 where
   pub err_faults : ℕ
 
 -- the moment at which a shelf, `out` and `err` are these
-abbrev pub moment_of : {S O E : Type 0} → (S → Option Files) → (S → ℕ) → (S → ℕ) → (O → Option (List ℕ)) → (O → ℕ) → (E → Option (List ℕ)) → (E → ℕ) → S → O → E → Moment
-moment_of files reads writes out_held out_faults err_held err_faults shelf out err =
-    record { files = files shelf; out = out_held out; err = err_held err; reads = reads shelf; writes = writes shelf; out_faults = out_faults out; err_faults = err_faults err }
+abbrev pub moment_of : {S O E : Type 0} → (S → Option Files) → (S → Option (List (List ℕ))) → (S → ℕ) → (S → ℕ) → (O → Option (List ℕ)) → (O → ℕ) → (E → Option (List ℕ)) → (E → ℕ) → S → O → E → Moment
+moment_of files created reads writes out_held out_faults err_held err_faults shelf out err =
+    record { files = files shelf; created = created shelf; out = out_held out; err = err_held err; reads = reads shelf; writes = writes shelf; out_faults = out_faults out; err_faults = err_faults err }
 
 -- the same moment, if the shelf held these files and never failed
 abbrev pub over : Files → Moment → Moment
@@ -88,10 +89,11 @@ Rendered (Checked station) files after report = Told station files after report
 Rendered (Refused fault) files after report = ⊥
 Rendered Usage files after report = ⊥
 
--- A rendering broke off, while the count of failed writes went from `count` to `last`. On one thread, and where no buffer joins two clocks,
+-- A rendering broke off, while the count of failed writes went from `count` to `last`; `made_before` and `made_after` are the sinks of which
+-- the shelf tells that it made them. On one thread, and where no buffer joins two clocks,
 -- its run begins that of one thread.
-pub record BrokeOff (station : Station) (count last : ℕ) (files : Files) (after : Option Files) : Type 0 where
-  pub wrote : WroteOutputsPart station count last files after
+pub record BrokeOff (station : Station) (count last : ℕ) (files : Files) (after : Option Files) (made_before made_after : Option (List (List ℕ))) : Type 0 where
+  pub wrote : WroteOutputsPart station count last files after made_before made_after
   pub as_one_thread : IsDetermined station → BeginsAsOneThread station wrote.run
 
 -- It broke off once its run had made all ticks: at the closing of an output, a cue file or the trace. On one thread there is no other run,
@@ -102,23 +104,23 @@ pub record BrokeLate (station : Station) (count last : ℕ) (files : Files) (aft
   pub as_one_thread : HasNoJoin (bare station) station.clocks.running → RendersAsOneThread station wrote.run
 
 -- what a rendering leaves that broke off
-abbrev pub Left : Station → (count last : ℕ) → Files → (after : Option Files) → Type 0
-Left station count last files after = BrokeOff station count last files after ⊎ BrokeLate station count last files after
+abbrev pub Left : Station → (count last : ℕ) → Files → (after : Option Files) → (made_before made_after : Option (List (List ℕ))) → Type 0
+Left station count last files after made_before made_after = BrokeOff station count last files after made_before made_after ⊎ BrokeLate station count last files after
 
-abbrev pub Broken : Answer → (count last : ℕ) → Files → Option Files → Type 0
-Broken (Made made station) count last files after = ⊥
-Broken (Accepted station) count last files after = Left station count last files after
-Broken (Checked station) count last files after = ⊥
-Broken (Refused fault) count last files after = ⊥
-Broken Usage count last files after = ⊥
+abbrev pub Broken : Answer → (count last : ℕ) → Files → Option Files → (made_before made_after : Option (List (List ℕ))) → Type 0
+Broken (Made made station) count last files after made_before made_after = ⊥
+Broken (Accepted station) count last files after made_before made_after = Left station count last files after made_before made_after
+Broken (Checked station) count last files after made_before made_after = ⊥
+Broken (Refused fault) count last files after made_before made_after = ⊥
+Broken Usage count last files after made_before made_after = ⊥
 
 -- memory was refused, before anything was created, or while a rendering went on
-abbrev pub Starved : Answer → (count last : ℕ) → Files → Option Files → Type 0
-Starved (Made made station) count last files after = after ≡ Some files
-Starved (Accepted station) count last files after = (after ≡ Some files) ⊎ Left station count last files after
-Starved (Checked station) count last files after = after ≡ Some files
-Starved (Refused fault) count last files after = after ≡ Some files
-Starved Usage count last files after = ⊥
+abbrev pub Starved : Answer → (count last : ℕ) → Files → Option Files → (made_before made_after : Option (List (List ℕ))) → Type 0
+Starved (Made made station) count last files after made_before made_after = after ≡ Some files
+Starved (Accepted station) count last files after made_before made_after = (after ≡ Some files) × (made_after ≡ made_before) ⊎ Left station count last files after made_before made_after
+Starved (Checked station) count last files after made_before made_after = after ≡ Some files
+Starved (Refused fault) count last files after made_before made_after = after ≡ Some files
+Starved Usage count last files after made_before made_after = ⊥
 
 -- the files were written, and the report too or a part of it
 pub record IsDone (answer : Answer) (files : Files) (old new : Moment) : Type 0 where
@@ -134,7 +136,7 @@ pub record ReportBroke (answer : Answer) (files : Files) (old new : Moment) : Ty
 
 -- a creation, an output, a cue file, the trace or a closing failed
 pub record OutputBroke (answer : Answer) (files : Files) (old new : Moment) : Type 0 where
-  pub broken : Broken answer old.writes new.writes files new.files
+  pub broken : Broken answer old.writes new.writes files new.files old.created new.created
   pub out_kept : new.out ≡ old.out
   pub cause : Rose old.writes new.writes
 
@@ -171,7 +173,7 @@ pub record Ends (words : List (List ℕ)) (old new : Moment) (status : ℕ) : Ty
   pub usage : status ≡ 2 → HasNoForm words × (new.err ≡ grown usage_line old.err) × (new.files ≡ old.files) × (new.out ≡ old.out)
   pub read_fault : status ≡ 3 → Rose old.reads new.reads × (new.files ≡ old.files) × (new.out ≡ old.out) × (new.err ≡ old.err)
   pub write_fault : status ≡ 4 → ForSome old.files (λ files. ForAnswer words files (λ answer. Broke answer files old new)) × WriteFailed old new
-  pub memory : status ≡ 5 → ForSome old.files (λ files. ForEachAnswer words files (λ answer. Starved answer old.writes new.writes files new.files)) × (new.out ≡ old.out) × (new.err ≡ old.err)
+  pub memory : status ≡ 5 → ForSome old.files (λ files. ForEachAnswer words files (λ answer. Starved answer old.writes new.writes files new.files old.created new.created)) × (new.out ≡ old.out) × (new.err ≡ old.err)
   pub no_form : HasNoForm words → (status ≡ 2) ⊎ ((status ≡ 4) × LineBroke usage_line old new)
 
 -- no count rose

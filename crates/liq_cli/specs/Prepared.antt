@@ -135,14 +135,14 @@ ForEach asked files P = (answer : Answer) → IsAnswerTo asked files answer → 
 
 -- why a job ended without a report, and what it left: a fault is the answer, and then and after a read that failed nothing
 -- changed; after a write that failed, and where memory was refused, each output holds what it may
-pub record Stops {T : Type 0} (asked : Asked) (told left : Option Files) (reads_before reads_after writes_before writes_after : ℕ) (result : Result T Halt) : Type 0 where
+pub record Stops {T : Type 0} (asked : Asked) (told left : Option Files) (reads_before reads_after writes_before writes_after : ℕ) (made_before made_after : Option (List (List ℕ))) (result : Result T Halt) : Type 0 where
   pub fault : (fault : Fault) → result ≡ Err (refused_for fault) → ForSome told (λ files. ForOne asked files (λ answer. answer ≡ Refused fault))
   pub fault_kept : (fault : Fault) → result ≡ Err (refused_for fault) → left ≡ told
   pub read : IsErrOf result Read → Rose reads_before reads_after
   pub read_kept : IsErrOf result Read → left ≡ told
   pub write : IsErrOf result Write → Rose writes_before writes_after
-  pub broken : IsErrOf result Write → ForSome told (λ files. ForOne asked files (λ answer. Broken answer writes_before writes_after files left))
-  pub memory : IsErrOf result Memory → ForSome told (λ files. ForEach asked files (λ answer. Starved answer writes_before writes_after files left))
+  pub broken : IsErrOf result Write → ForSome told (λ files. ForOne asked files (λ answer. Broken answer writes_before writes_after files left made_before made_after))
+  pub memory : IsErrOf result Memory → ForSome told (λ files. ForEach asked files (λ answer. Starved answer writes_before writes_after files left made_before made_after))
 
 -- what a job created and closed, by the way that it ended: with its report all that is to be created for the answer, in order; with a fault,
 -- and after a read that failed, nothing; else a front of it

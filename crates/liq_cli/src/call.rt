@@ -55,18 +55,18 @@ pub fn liq<S: Shelf, O: Sink, E: Sink, G: Gate + Sync, R: Threads + Wait + Sync>
     requires out_room { O.room out.old ≡ None }
     requires err_room { E.room err.old ≡ None }
     ensures ends { Ends (texts words.now)
-        (moment_of S.files S.read_count S.write_count O.held O.faults E.held E.faults shelf.old out.old err.old)
-        (moment_of S.files S.read_count S.write_count O.held O.faults E.held E.faults shelf.new out.new err.new)
+        (moment_of S.files S.created S.read_count S.write_count O.held O.faults E.held E.faults shelf.old out.old err.old)
+        (moment_of S.files S.created S.read_count S.write_count O.held O.faults E.held E.faults shelf.new out.new err.new)
         result }
     ensures complete { IsComplete (texts words.now)
-        (moment_of S.files S.read_count S.write_count O.held O.faults E.held E.faults shelf.old out.old err.old)
-        (moment_of S.files S.read_count S.write_count O.held O.faults E.held E.faults shelf.new out.new err.new)
+        (moment_of S.files S.created S.read_count S.write_count O.held O.faults E.held E.faults shelf.old out.old err.old)
+        (moment_of S.files S.created S.read_count S.write_count O.held O.faults E.held E.faults shelf.new out.new err.new)
         result }
     ensures order { CreatesInOrder (texts words.now) (S.files shelf.old) (sinks_of S.created S.closed shelf.old) (sinks_of S.created S.closed shelf.new) result }
     // A workload rests on no file and no device of the shelf.
     ensures made { AsksToMake (texts words.now) → EndsApart (texts words.now)
-        (moment_of S.files S.read_count S.write_count O.held O.faults E.held E.faults shelf.old out.old err.old)
-        (moment_of S.files S.read_count S.write_count O.held O.faults E.held E.faults shelf.new out.new err.new)
+        (moment_of S.files S.created S.read_count S.write_count O.held O.faults E.held E.faults shelf.old out.old err.old)
+        (moment_of S.files S.created S.read_count S.write_count O.held O.faults E.held E.faults shelf.new out.new err.new)
         result }
     ensures untouched { AsksToMake (texts words.now) → shelf.new ≡ shelf.old }
 {
@@ -90,11 +90,11 @@ pub fn liq_alone<S: Shelf, O: Sink, E: Sink>(
     ensures none { IsNone result ↔ NeedsThreads (texts words.now) }
     ensures kept { IsNone result → (shelf.new ≡ shelf.old) × (out.new ≡ out.old) × (err.new ≡ err.old) }
     ensures ends { IfSome result (Ends (texts words.now)
-        (moment_of S.files S.read_count S.write_count O.held O.faults E.held E.faults shelf.old out.old err.old)
-        (moment_of S.files S.read_count S.write_count O.held O.faults E.held E.faults shelf.new out.new err.new)) }
+        (moment_of S.files S.created S.read_count S.write_count O.held O.faults E.held E.faults shelf.old out.old err.old)
+        (moment_of S.files S.created S.read_count S.write_count O.held O.faults E.held E.faults shelf.new out.new err.new)) }
     ensures complete { IfSome result (IsComplete (texts words.now)
-        (moment_of S.files S.read_count S.write_count O.held O.faults E.held E.faults shelf.old out.old err.old)
-        (moment_of S.files S.read_count S.write_count O.held O.faults E.held E.faults shelf.new out.new err.new)) }
+        (moment_of S.files S.created S.read_count S.write_count O.held O.faults E.held E.faults shelf.old out.old err.old)
+        (moment_of S.files S.created S.read_count S.write_count O.held O.faults E.held E.faults shelf.new out.new err.new)) }
     ensures order { IfSome result (CreatesInOrder (texts words.now) (S.files shelf.old) (sinks_of S.created S.closed shelf.old) (sinks_of S.created S.closed shelf.new)) }
 {
     let Some(form) = read_words(words) else {
@@ -133,13 +133,13 @@ fn by_threads<S: Shelf, O: Sink, E: Sink, G: Gate + Sync, R: Threads + Wait + Sy
     requires err_room { E.room err.old ≡ None }
     requires threads { NeedsThreads (texts words.now) }
     ensures ends { Ends (texts words.now)
-        (moment_of S.files S.read_count S.write_count O.held O.faults E.held E.faults shelf.old out.old err.old)
-        (moment_of S.files S.read_count S.write_count O.held O.faults E.held E.faults shelf.new out.new err.new)
+        (moment_of S.files S.created S.read_count S.write_count O.held O.faults E.held E.faults shelf.old out.old err.old)
+        (moment_of S.files S.created S.read_count S.write_count O.held O.faults E.held E.faults shelf.new out.new err.new)
         result }
     ensures order { CreatesInOrder (texts words.now) (S.files shelf.old) (sinks_of S.created S.closed shelf.old) (sinks_of S.created S.closed shelf.new) result }
     ensures made { AsksToMake (texts words.now) → EndsApart (texts words.now)
-        (moment_of S.files S.read_count S.write_count O.held O.faults E.held E.faults shelf.old out.old err.old)
-        (moment_of S.files S.read_count S.write_count O.held O.faults E.held E.faults shelf.new out.new err.new)
+        (moment_of S.files S.created S.read_count S.write_count O.held O.faults E.held E.faults shelf.old out.old err.old)
+        (moment_of S.files S.created S.read_count S.write_count O.held O.faults E.held E.faults shelf.new out.new err.new)
         result }
     ensures untouched { AsksToMake (texts words.now) → shelf.new ≡ shelf.old }
 {

@@ -30,7 +30,7 @@ pub fn check_job<S: Shelf>(alloc: Global, file: &str, shelf: &mut S) -> Result<S
     ensures done { IfOk result (λ report. ForSome (S.files shelf.old) (λ files.
         ForOne (Check file.now) files (λ answer. Rendered answer files (S.files shelf.new) (string_bytes report)))) }
     ensures stops { Stops (Check file.now) (S.files shelf.old) (S.files shelf.new) (S.read_count shelf.old) (S.read_count shelf.new)
-        (S.write_count shelf.old) (S.write_count shelf.new) result }
+        (S.write_count shelf.old) (S.write_count shelf.new) (S.created shelf.old) (S.created shelf.new) result }
     ensures created { S.created shelf.new ≡ S.created shelf.old }
     ensures closed { S.closed shelf.new ≡ S.closed shelf.old }
 {
@@ -50,7 +50,7 @@ pub fn alone_job<S: Shelf>(
     ensures done { IfOk result (λ report. ForSome (S.files shelf.old) (λ files.
         ForOne (Render file.now start.second ticks.count None None cues) files (λ answer. Rendered answer files (S.files shelf.new) (string_bytes report)))) }
     ensures stops { Stops (Render file.now start.second ticks.count None None cues) (S.files shelf.old) (S.files shelf.new) (S.read_count shelf.old) (S.read_count shelf.new)
-        (S.write_count shelf.old) (S.write_count shelf.new) result }
+        (S.write_count shelf.old) (S.write_count shelf.new) (S.created shelf.old) (S.created shelf.new) result }
     ensures order { CreatedFor (Render file.now start.second ticks.count None None cues) (S.files shelf.old) (sinks_of S.created S.closed shelf.old) (sinks_of S.created S.closed shelf.new) result }
 {
     let work = prepare(alloc, file, None, cues, ticks.count, shelf)?;
@@ -81,7 +81,7 @@ pub fn threads_job<S: Shelf, G: Gate + Sync, R: Threads + Wait + Sync>(
     ensures done { IfOk result (λ report. ForSome (S.files shelf.old) (λ files.
         ForOne (asked_to_render asked.now) files (λ answer. Rendered answer files (S.files shelf.new) (string_bytes report)))) }
     ensures stops { Stops (asked_to_render asked.now) (S.files shelf.old) (S.files shelf.new) (S.read_count shelf.old) (S.read_count shelf.new)
-        (S.write_count shelf.old) (S.write_count shelf.new) result }
+        (S.write_count shelf.old) (S.write_count shelf.new) (S.created shelf.old) (S.created shelf.new) result }
     ensures order { CreatedFor (asked_to_render asked.now) (S.files shelf.old) (sinks_of S.created S.closed shelf.old) (sinks_of S.created S.closed shelf.new) result }
 {
     let ticks = asked.ticks.count;

@@ -1,5 +1,5 @@
 // A workload is made, rendered and told.
-ghost use Rattle.std.specs.Prelude.{◌≡◌, ℕ, [], Option, Some, true, IfOk, string_bytes};
+ghost use Rattle.std.specs.Prelude.{◌≡◌, ℕ, List, [], Option, Some, true, IfOk, string_bytes};
 ghost use Rattle.liq_base.specs.Files.{Files};
 ghost use Rattle.liq_cli.specs.Answer.{files_made};
 ghost use Rattle.liq_cli.specs.Call.{Rendered};
@@ -37,7 +37,7 @@ pub fn make_job<G: Gate + Sync, R: Threads + Wait + Sync>(
     gate: &G,
 ) -> Result<String, Halt>
     ensures done { IfOk result (λ report. (files : Files) → ForOne (Make seed size.files) files (λ answer. Rendered answer files (Some files) (string_bytes report))) }
-    ensures stops { (told : Option Files) (reads writes : ℕ) → Stops (Make seed size.files) told told reads reads writes writes result }
+    ensures stops { (told : Option Files) (reads writes : ℕ) (made : Option (List (List ℕ))) → Stops (Make seed size.files) told told reads reads writes writes made made result }
 {
     let mut shelf = workload_shelf(alloc, seed, size)?;
     sum_workload(rt, alloc, seed, size, &mut shelf, gate)
@@ -54,7 +54,7 @@ fn sum_workload<G: Gate + Sync, R: Threads + Wait + Sync>(
 ) -> Result<String, Halt>
     requires { shelf.old ≡ files_made seed size.files }
     ensures done { IfOk result (λ report. (files : Files) → ForOne (Make seed size.files) files (λ answer. Rendered answer files (Some files) (string_bytes report))) }
-    ensures stops { (told : Option Files) (reads writes : ℕ) → Stops (Make seed size.files) told told reads reads writes writes result }
+    ensures stops { (told : Option Files) (reads writes : ℕ) (made : Option (List (List ℕ))) → Stops (Make seed size.files) told told reads reads writes writes made made result }
 {
     let work = prepare(alloc, script_name(), None, false, TICKS, shelf)?;
     // The script of a workload has no buffer. Through one its clocks could meet in one way or another, and what is told rests on the

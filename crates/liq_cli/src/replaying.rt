@@ -35,7 +35,7 @@ pub fn replay_job<S: Shelf>(
     ensures done { IfOk result (λ report. ForSome (S.files shelf.old) (λ files.
         ForOne (Replay file.now start.second ticks.count trace.now) files (λ answer. Rendered answer files (S.files shelf.new) (string_bytes report)))) }
     ensures stops { Stops (Replay file.now start.second ticks.count trace.now) (S.files shelf.old) (S.files shelf.new) (S.read_count shelf.old) (S.read_count shelf.new)
-        (S.write_count shelf.old) (S.write_count shelf.new) result }
+        (S.write_count shelf.old) (S.write_count shelf.new) (S.created shelf.old) (S.created shelf.new) result }
     ensures order { CreatedFor (Replay file.now start.second ticks.count trace.now) (S.files shelf.old) (sinks_of S.created S.closed shelf.old) (sinks_of S.created S.closed shelf.new) result }
 {
     let ticks = ticks.count;

@@ -4,7 +4,7 @@ use Rattle.std.specs.Prelude.{Option, Some, None, IsSome, is_some}
 use Rattle.std.specs.Option.{ForSome}
 use Rattle.std.specs.List.{AllZip}
 use Rattle.std.proofs.Math.Nat.{mod-lt}
-use Rattle.std.proofs.lemmas.List.{map-append, append-nil}
+use Rattle.std.proofs.lemmas.List.{map-append, append-nil, length-append}
 use Rattle.liq_base.specs.Created.{is_told}
 use Rattle.liq_base.specs.Counts.{Rose}
 use Rattle.liq_base.specs.Files.{Files}
@@ -16,6 +16,8 @@ use Rattle.op_leaf.specs.Readers.{Answer}
 use Rattle.stream_meaning.specs.Instants.{Setting, answered, clock_of}
 use Rattle.stream_meaning.specs.Sinks.{ticks_bytes}
 use Rattle.run_records.specs.Buffers.{main_of as main_clock}
+use Rattle.stations.specs.Creations.{after_making, names_in}
+use Rattle.stations.proofs.Making.{names_both, then_made}
 use Rattle.stations.specs.Streams.{body_size, ends_in, file_bytes, front_bytes, header_for, outputs_in, parts_in}
 use Rattle.station_render.specs.OutputSinks.{but_one, but_one_if, owed, owed_by, spared, told}
 use Rattle.station_render.specs.declared.output_sink.OutputSink.{OutputSink}
@@ -68,6 +70,19 @@ pub ends_are : (setting : Setting) (ticks : ℕ) (sinks : List SinkPlan) → end
 ends_are setting ticks [] = refl
 ends_are setting ticks (Output name node fallible wide ∷ sinks) = ap (λ zs. end_of setting ticks (record { name = name; node = node; wide = wide }) ∷ zs) (ends_are setting ticks sinks)
 ends_are setting ticks (Feed buffer node ∷ sinks) = ends_are setting ticks sinks
+
+-- the names of outputs
+pub names_written : (sinks : List SinkPlan) → names_in sinks ≡ map (λ (output : Written). output.name) (written sinks)
+names_written [] = refl
+names_written (Output name node fallible wide ∷ sinks) = ap (λ ns. name ∷ ns) (names_written sinks)
+names_written (Feed buffer node ∷ sinks) = names_written sinks
+
+-- no sink was made, or one of this name and clock
+abbrev pub MayHaveMade : (clock : ℕ) (title : List ℕ) (order order_new : List ℕ) (before after : Option (List (List ℕ))) → Type 0
+MayHaveMade clock title order order_new before after = ((order_new ≡ order) × (after ≡ before)) ⊎ ((order_new ≡ order ++ clock ∷ []) × (after ≡ after_making (title ∷ []) before))
+
+not_longer : (order : List ℕ) (clock : ℕ) → order ≡ order ++ clock ∷ [] → ⊥
+not_longer order clock same = let long = ap length same in let more = length-append order (clock ∷ []) in omega (arith, long, more)
 
 zip_as : {Y S : Type 0} (So Other : Y → S → Type 0) → ((y : Y) (x : S) → So y x → Other y x) → (ys : List Y) (xs : List S) → AllZip So ys xs → AllZip Other ys xs
 zip_as So Other f [] [] z = tt
@@ -212,23 +227,27 @@ module _ {S : Type 0} (name held : S → Option (List ℕ)) (left : S → Option
 
     -- what is begun, where the first sinks were gone through
     module _ (answers : (ℕ → List Answer) → ℕ → List Answer) (made tried : ℕ → ℕ) (none : (k : ℕ) → made k ≡ 0) where
-      pub begun_here : (k : ℕ) (order : List ℕ) (groups : List (List S)) → AreCreated (IsReady name held left debt files setting ticks) (written (take k setting.plan.sinks)) order groups
-          → AreBegun name held faults files setting answers ticks made tried order groups
-      begun_here k order groups are = record {
+      pub begun_here : (k : ℕ) (order : List ℕ) (groups : List (List S)) (made_before made_after : Option (List (List ℕ))) → made_after ≡ after_making (names_in (take k setting.plan.sinks)) made_before → AreCreated (IsReady name held left debt files setting ticks) (written (take k setting.plan.sinks)) order groups
+          → AreBegun name held faults files setting answers ticks made tried order groups made_before made_after
+      begun_here k order groups made_before made_after is are = record {
         created = written (take k setting.plan.sinks);
         others = written (drop k setting.plan.sinks);
         all = ap written (taken_and_left setting.plan.sinks k) ∙ written_both (take k setting.plan.sinks) (drop k setting.plan.sinks);
+        told = is ∙ ap (λ ns. after_making ns made_before) (names_written (take k setting.plan.sinks));
         parts = λ rest. created_as (IsReady name held left debt files setting ticks) (IsPart name held faults files (answered setting (answers rest)) ticks made tried) (part_of_ready made tried none (answers rest))
             (written (take k setting.plan.sinks)) order groups are;
       }
 
-      pub begun_next : (k : ℕ) (title : List ℕ) (node : ℕ) (fallible wide : Bool) (order : List ℕ) (groups : List (List S)) → slice_get setting.plan.sinks k ≡ Some (Output title node fallible wide)
+      pub begun_next : (k : ℕ) (title : List ℕ) (node : ℕ) (fallible wide : Bool) (order : List ℕ) (groups : List (List S)) (made_before made_after : Option (List (List ℕ))) → made_after ≡ after_making (names_in (take k setting.plan.sinks) ++ title ∷ []) made_before
+          → slice_get setting.plan.sinks k ≡ Some (Output title node fallible wide)
           → ((rest : ℕ → List Answer) → AreCreated (IsPart name held faults files (answered setting (answers rest)) ticks made tried) (written (take k setting.plan.sinks) ++ (record { name = title; node = node; wide = wide }) ∷ []) order groups)
-          → AreBegun name held faults files setting answers ticks made tried order groups
-      begun_next k title node fallible wide order groups at are = record {
+          → AreBegun name held faults files setting answers ticks made tried order groups made_before made_after
+      begun_next k title node fallible wide order groups made_before made_after is at are = record {
         created = written (take (suc k) setting.plan.sinks);
         others = written (drop (suc k) setting.plan.sinks);
         all = ap written (taken_and_left setting.plan.sinks (suc k)) ∙ written_both (take (suc k) setting.plan.sinks) (drop (suc k) setting.plan.sinks);
+        told = is ∙ ap (λ ns. after_making ns made_before) (sym (ap names_in (take_more setting.plan.sinks k (Output title node fallible wide) at) ∙ names_both (take k setting.plan.sinks) (Output title node fallible wide ∷ []))
+            ∙ names_written (take (suc k) setting.plan.sinks));
         parts = λ rest. subst (λ ys. AreCreated (IsPart name held faults files (answered setting (answers rest)) ticks made tried) ys order groups) (sym (written_more setting.plan.sinks k title node fallible wide at)) (are rest);
       }
 
@@ -236,12 +255,16 @@ module _ {S : Type 0} (name held : S → Option (List ℕ)) (left : S → Option
       pub begun_broken : (k : ℕ) (title : List ℕ) (node : ℕ) (fallible wide : Bool) (clock : ℕ) (header : List ℕ) (order order_new : List ℕ) (old new : List (List S)) → clock < length old
           → slice_get setting.plan.sinks k ≡ Some (Output title node fallible wide) → header ≡ header_for setting wide ticks node
           → AreCreated (IsReady name held left debt files setting ticks) (written (take k setting.plan.sinks)) order old
-          → NoneCreated order order_new old new ⊎ WasBroken name held faults files clock title header order order_new old new
-          → AreBegun name held faults files setting answers ticks made tried order_new new
-      begun_broken k title node fallible wide clock header order order_new old new low at header_is are (inl same) =
-          subst (λ o. AreBegun name held faults files setting answers ticks made tried o new) (sym same.order_is) (subst (λ gs. AreBegun name held faults files setting answers ticks made tried order gs) (sym same.same) (begun_here k order old are))
-      begun_broken k title node fallible wide clock header order order_new old new low at header_is are (inr broken) =
-          begun_next k title node fallible wide order_new new at
+          → (made_before between made_after : Option (List (List ℕ))) → between ≡ after_making (names_in (take k setting.plan.sinks)) made_before
+          → NoneCreated order order_new old new ⊎ WasBroken name held faults files clock title header order order_new old new → MayHaveMade clock title order order_new between made_after
+          → AreBegun name held faults files setting answers ticks made tried order_new new made_before made_after
+      begun_broken k title node fallible wide clock header order order_new old new low at header_is are made_before between made_after so_far (inl same) (inl none) =
+          subst (λ o. AreBegun name held faults files setting answers ticks made tried o new made_before made_after) (sym same.order_is)
+          (subst (λ gs. AreBegun name held faults files setting answers ticks made tried order gs made_before made_after) (sym same.same) (begun_here k order old made_before made_after (none.1 ∙ so_far) are))
+      begun_broken k title node fallible wide clock header order order_new old new low at header_is are made_before between made_after so_far (inl same) (inr one) = absurd (not_longer order clock (sym same.order_is ∙ one.0))
+      begun_broken k title node fallible wide clock header order order_new old new low at header_is are made_before between made_after so_far (inr broken) (inl none) = absurd (not_longer order clock (sym none.0 ∙ broken.order_is))
+      begun_broken k title node fallible wide clock header order order_new old new low at header_is are made_before between made_after so_far (inr broken) (inr one) =
+          begun_next k title node fallible wide order_new new made_before made_after (then_made (names_in (take k setting.plan.sinks)) (title ∷ []) made_before between made_after so_far one.1) at
           (λ rest. part_more made tried none (answers rest) (written (take k setting.plan.sinks)) (record { name = title; node = node; wide = wide }) clock header order order_new old new low header_is are broken)
 
 pub written_next : (sinks : List SinkPlan) (k : ℕ) (name : List ℕ) (node : ℕ) (fallible wide : Bool) → slice_get sinks k ≡ Some (Output name node fallible wide)
@@ -267,12 +290,15 @@ module _ {S : Type 0} (name held : S → Option (List ℕ)) (left : S → Option
       (subst (λ f. WasCreated name held left debt f clock title header body order order_new old new) same (subst (λ t. WasCreated name held left debt before clock t header body order order_new old new) said_is was)))
 
   -- after one that broke off
-  pub broken_off : (answers : (ℕ → List Answer) → ℕ → List Answer) (made tried : ℕ → ℕ) → ((k : ℕ) → made k ≡ 0) → NoneCreated order order_new old new ⊎ WasBroken name held faults before clock said header order order_new old new
-      → AreBegun name held faults files setting answers ticks made tried order_new new
-  broken_off answers made tried none was =
-      begun_broken name held left debt faults files setting ticks answers made tried none k title node fallible wide clock header order order_new old new low at header_is are
+  pub broken_off : (answers : (ℕ → List Answer) → ℕ → List Answer) (made tried : ℕ → ℕ) → ((k : ℕ) → made k ≡ 0) → (made_before between made_after : Option (List (List ℕ)))
+      → between ≡ after_making (names_in (take k setting.plan.sinks)) made_before → MayHaveMade clock said order order_new between made_after
+      → NoneCreated order order_new old new ⊎ WasBroken name held faults before clock said header order order_new old new
+      → AreBegun name held faults files setting answers ticks made tried order_new new made_before made_after
+  broken_off answers made tried none made_before between made_after so_far made_one was =
+      begun_broken name held left debt faults files setting ticks answers made tried none k title node fallible wide clock header order order_new old new low at header_is are made_before between made_after so_far
       (subst (λ f. NoneCreated order order_new old new ⊎ WasBroken name held faults f clock title header order order_new old new) same
       (subst (λ t. NoneCreated order order_new old new ⊎ WasBroken name held faults before clock t header order order_new old new) said_is was))
+      (subst (λ t. MayHaveMade clock t order order_new between made_after) said_is made_one)
 
 pub added_many : {S : Type 0} (clock : ℕ) (sink : S) (old new : List (List S)) → WasAdded clock sink old new → length new ≡ length old
 added_many clock sink old new added = ap length added.is ∙ set_many old clock (added.before ++ sink ∷ [])

@@ -23,7 +23,8 @@ use Rattle.station_render.specs.declared.output_sink.OutputSink.{OutputSink}
 use Rattle.station_render.specs.Renders.{AreBegun, IsPart, IsWhole, Written, debt_of, end_of, file_of, front_file, written}
 use Rattle.station_render.specs.Runs.{RanPart, RanWhole, WroteOutputs}
 use Rattle.station_render.specs.declared.rendered.Rendered.{Rendered}
-use Rattle.station_render.proofs.Creating.{created_as, created_mapped, ends_are, files_are, fronts_are}
+use Rattle.station_render.proofs.Creating.{created_as, created_mapped, ends_are, files_are, fronts_are, names_written}
+use Rattle.stations.specs.Creations.{after_making, names_in}
 use Rattle.station_render.proofs.Lists.{within}
 use Rattle.station_render.proofs.Dealing.{zip_at, zip_size}
 use Rattle.station_render.proofs.Closing.{in_list}
@@ -89,6 +90,11 @@ pub rooms_if : {T E O : Type 0} (room : O → Option ℕ) (groups : List (List (
 rooms_if room groups (Ok x) is rooms = rooms
 rooms_if room groups (Err e) is rooms = absurd (true≢false (sym is))
 
+-- the names of outputs, and of what was written of them
+fronts_named : (setting : Setting) (ticks : ℕ) (made tried : ℕ → ℕ) (outputs : List Written) → map (λ (output : Written). output.name) outputs ≡ map (λ (output : OutputPart). output.name) (map (front_file setting ticks made tried) outputs)
+fronts_named setting ticks made tried [] = refl
+fronts_named setting ticks made tried (output ∷ outputs) = ap (λ ns. output.name ∷ ns) (fronts_named setting ticks made tried outputs)
+
 module _ (station : Station) where
   -- the sinks have room for what they owe
   pub rooms_of : {O : Type 0} (name held : O → Option (List ℕ)) (room : O → Option ℕ) (before : Option Files) (order : List ℕ) (groups : List (List (OutputSink O))) {E : Type 0} (wrote : Result Rendered E)
@@ -136,10 +142,10 @@ module _ (station : Station) where
         }
 
     -- some were created, and all of them closed
-    pub some_written : (faults : O → ℕ) (w0 w1 w2 : ℕ) → w0 ≤ w1 → RanPart (told name) (told held) (told faults) before station order groups
+    pub some_written : (faults : O → ℕ) (w0 w1 w2 : ℕ) → w0 ≤ w1 → (made_before made_mid made_after : Option (List (List ℕ))) → made_after ≡ made_mid → RanPart (told name) (told held) (told faults) before station order groups made_before made_mid
         → ForSome mid (λ files. (outputs : List OutputPart) → AreCreated (HoldsFrontIf false name held faults) outputs order groups → IsSomeAnd after (λ now. HoldsParts w1 files outputs now w2))
-        → ForSome before (λ files. WroteOutputsPart station w0 w2 files after)
-    some_written faults w0 w1 w2 low ran closed files at = record {
+        → ForSome before (λ files. WroteOutputsPart station w0 w2 files after made_before made_after)
+    some_written faults w0 w1 w2 low made_before made_mid made_after kept ran closed files at = record {
       run = ran.run;
       begun = ran.begun;
       parts = λ rest.
@@ -151,29 +157,36 @@ module _ (station : Station) where
           created_as (IsPart (told name) (told held) (told faults) before world station.ticks made tried) (λ output sink. HoldsFrontIf false name held faults (front_file world station.ticks made tried output) sink)
           (λ output sink is. record { front = is files at; more = λ well odd. absurd (true≢false (sym well)) }) created order groups (ran.parts.parts rest) in
           let parts = closed files (same ∙ at) (map (front_file world station.ticks made tried) created) (created_mapped (front_file world station.ticks made tried) (HoldsFrontIf false name held faults) created order groups are) in
-          some_and after (λ now. HoldsParts w1 files (map (front_file world station.ticks made tried) created) now w2) (λ now. HoldsSome w0 files (parts_with station ran.run ran.begun rest) now w2)
+          some_and after (λ now. HoldsParts w1 files (map (front_file world station.ticks made tried) created) now w2) (λ now. HoldsSome w0 files (parts_with station ran.run ran.begun rest) now w2 made_before made_after)
           (λ now found. record {
             created = map (front_file world station.ticks made tried) created;
             others = map (front_file world station.ticks made tried) ran.parts.others;
+            told = kept ∙ ran.parts.told ∙ ap (λ ns. after_making ns made_before) (fronts_named world station.ticks made tried created);
             outputs_are = fronts_are world station.ticks made tried station.plan.sinks ∙ ap (map (front_file world station.ticks made tried)) ran.parts.all ∙ map-append (front_file world station.ticks made tried) created ran.parts.others;
             parts = parts_within w0 w1 w2 w2 low (omega arith) files (map (front_file world station.ticks made tried) created) now found;
           }) parts;
     }
 
     -- whatever was written
-    pub part_written : {E : Type 0} (faults : O → ℕ) (w0 w1 w2 : ℕ) → w0 ≤ w1 → (wrote : Result Rendered E) (well : Bool) → well ≡ is_ok wrote → RanPart (told name) (told held) (told faults) before station order groups
+    pub part_written : {E : Type 0} (faults : O → ℕ) (w0 w1 w2 : ℕ) → w0 ≤ w1 → (made_before made_mid made_after : Option (List (List ℕ))) → made_after ≡ made_mid → (wrote : Result Rendered E) (well : Bool) → well ≡ is_ok wrote → RanPart (told name) (told held) (told faults) before station order groups made_before made_mid
         → IfOk wrote (RanWhole (told name) (told held) (owed room) before station order groups)
         → ForSome mid (λ files. (outputs : List OutputPart) → AreCreated (HoldsFrontIf well name held faults) outputs order groups → IsSomeAnd after (λ now. HoldsParts w1 files outputs now w2))
-        → ForSome before (λ files. WrotePart station w0 w2 files after)
-    part_written faults w0 w1 w2 low (Ok rendered) well is ran whole closed files at =
+        → ForSome before (λ files. WrotePart station w0 w2 files after made_before made_after)
+    part_written faults w0 w1 w2 low made_before made_mid made_after kept (Ok rendered) well is ran whole closed files at =
         inr (ends_written faults w0 w1 w2 low rendered whole (subst (λ b. ForSome mid (λ files. (outputs : List OutputPart) → AreCreated (HoldsFrontIf b name held faults) outputs order groups → IsSomeAnd after (λ now. HoldsParts w1 files outputs now w2))) is closed) files at)
-    part_written faults w0 w1 w2 low (Err fault) well is ran whole closed files at =
-        inl (some_written faults w0 w1 w2 low ran (subst (λ b. ForSome mid (λ files. (outputs : List OutputPart) → AreCreated (HoldsFrontIf b name held faults) outputs order groups → IsSomeAnd after (λ now. HoldsParts w1 files outputs now w2))) is closed) files at)
+    part_written faults w0 w1 w2 low made_before made_mid made_after kept (Err fault) well is ran whole closed files at =
+        inl (some_written faults w0 w1 w2 low made_before made_mid made_after kept ran (subst (λ b. ForSome mid (λ files. (outputs : List OutputPart) → AreCreated (HoldsFrontIf b name held faults) outputs order groups → IsSomeAnd after (λ now. HoldsParts w1 files outputs now w2))) is closed) files at)
 
 -- all outputs of a plan are begun, where each holds a part of its bytes
-pub begun_all : {S : Type 0} (name held : S → Option (List ℕ)) (faults : S → ℕ) (files : Option Files) (setting : Setting) (answers : (ℕ → List Answer) → ℕ → List Answer) (ticks : ℕ) (made tried : ℕ → ℕ) (order : List ℕ) (groups : List (List S))
-    → ((rest : ℕ → List Answer) → AreCreated (IsPart name held faults files (answered setting (answers rest)) ticks made tried) (written setting.plan.sinks) order groups) → AreBegun name held faults files setting answers ticks made tried order groups
-begun_all name held faults files setting answers ticks made tried order groups are = record { created = written setting.plan.sinks; others = []; all = sym (append-nil (written setting.plan.sinks)); parts = are }
+pub begun_all : {S : Type 0} (name held : S → Option (List ℕ)) (faults : S → ℕ) (files : Option Files) (setting : Setting) (answers : (ℕ → List Answer) → ℕ → List Answer) (ticks : ℕ) (made tried : ℕ → ℕ) (order : List ℕ) (groups : List (List S)) (made_before made_after : Option (List (List ℕ)))
+    → made_after ≡ after_making (names_in setting.plan.sinks) made_before → ((rest : ℕ → List Answer) → AreCreated (IsPart name held faults files (answered setting (answers rest)) ticks made tried) (written setting.plan.sinks) order groups) → AreBegun name held faults files setting answers ticks made tried order groups made_before made_after
+begun_all name held faults files setting answers ticks made tried order groups made_before made_after is are = record {
+  created = written setting.plan.sinks;
+  others = [];
+  all = sym (append-nil (written setting.plan.sinks));
+  told = is ∙ ap (λ ns. after_making ns made_before) (names_written setting.plan.sinks);
+  parts = are;
+}
 
 -- a fault of a sink that failed is one of the shelf, once the sink is closed
 pub cause_later : (w0 w1 w2 : ℕ) (failed : Type 0) → w0 ≤ w1 → w1 ≤ w2 → Rose w0 w1 ⊎ failed → (failed → Rose w1 w2) → Rose w0 w2

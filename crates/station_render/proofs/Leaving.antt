@@ -69,9 +69,9 @@ one_part before after name bytes part files at =
 
 -- the outputs were written, and then the files behind them
 module _ (station : Station) (before mid : Option Files) (rendered : Rendered) (wrote : WroteOutputs station before mid rendered) where
-  pub later_part : (count last : ℕ) (later : List OutputFile) (after : Option Files) → later_files station wrote.run ≡ later → ForSome mid (λ files. IsSomeAnd after (HoldsUpto files later))
-      → ForSome before (λ files. WrotePart station count last files after)
-  later_part count last later after is part files at =
+  pub later_part : (count last : ℕ) (made_before made_after : Option (List (List ℕ))) (later : List OutputFile) (after : Option Files) → later_files station wrote.run ≡ later → ForSome mid (λ files. IsSomeAnd after (HoldsUpto files later))
+      → ForSome before (λ files. WrotePart station count last files after made_before made_after)
+  later_part count last made_before made_after later after is part files at =
       let outputs = output_files station wrote.run in
       inr (record {
         run = wrote.run;

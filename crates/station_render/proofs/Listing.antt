@@ -23,7 +23,7 @@ use Rattle.station_render.specs.Runs.{RanWhole}
 use Rattle.station_render.specs.declared.rendered.Rendered.{Rendered}
 use Rattle.station_render.specs.declared.output_sink.OutputSink.{OutputSink}
 use Rattle.station_render.specs.Sinks.{AreCreated, WasAdded, WasTaken, of_clock}
-use Rattle.station_render.proofs.Creating.{created_as, created_mapped, dealt_mapped}
+use Rattle.station_render.proofs.Creating.{MayHaveMade, created_as, created_mapped, dealt_mapped, names_written}
 use Rattle.station_render.proofs.Dealing.{first_so, one_added, others_so}
 use Rattle.station_render.proofs.Naming.{names_next, names_split}
 
@@ -131,6 +131,12 @@ module _ {S : Type 0} (name : S → Option (List ℕ)) (appends : S → Option �
     telling = are_telling 1 (names_in (take k sinks) ++ title ∷ []) order_new new (counted_more (names_in (take k sinks)) clock title said between after order order_new old new low said_is counts one);
   }
 
+-- a sink was made, or none
+pub may_have_made : {S : Type 0} {name : S → Option (List ℕ)} {appends : S → Option ℕ} {closed : Option (List Closing)} {clock : ℕ} {title : List ℕ} {before after : Option (List (List ℕ))} {order order_new : List ℕ} {old new : List (List S)}
+    → NoneListed before after order order_new old new ⊎ WasListed name appends closed clock title before after order order_new old new → MayHaveMade clock title order order_new before after
+may_have_made (inl none) = inl (none.order_is, none.told)
+may_have_made (inr one) = inr (one.order_is, one.told)
+
 -- they were closed, in their order
 module _ {S : Type 0} (name : S → Option (List ℕ)) (appends : S → Option ℕ) (names : List (List ℕ)) (made_before made_between made_after : Option (List (List ℕ))) (before between after : Option (List Closing))
     (order order_now : List ℕ) (groups : List (List S)) (same : between ≡ before) (order_is : order_now ≡ order)
@@ -227,12 +233,6 @@ closings_are : (setting : Setting) (ticks : ℕ) (sinks : List SinkPlan) → clo
 closings_are setting ticks [] = refl
 closings_are setting ticks (Output name node fallible wide ∷ sinks) = ap (λ cs. closing_of setting ticks (record { name = name; node = node; wide = wide }) ∷ cs) (closings_are setting ticks sinks)
 closings_are setting ticks (Feed buffer node ∷ sinks) = closings_are setting ticks sinks
-
--- the names of outputs
-names_written : (sinks : List SinkPlan) → names_in sinks ≡ map (λ (output : Written). output.name) (written sinks)
-names_written [] = refl
-names_written (Output name node fallible wide ∷ sinks) = ap (λ ns. name ∷ ns) (names_written sinks)
-names_written (Feed buffer node ∷ sinks) = names_written sinks
 
 -- two things that stand so of the same sinks
 zip_both : {Y Z S : Type 0} (f : Y → Z) (One : Y → S → Type 0) (Two : Z → S → Type 0) (ys : List Y) (xs : List S) → AllZip One ys xs → AllZip Two (map f ys) xs → AllZip (λ y x. One y x × Two (f y) x) ys xs

@@ -20,6 +20,7 @@ use Rattle.buffer_ends.specs.declared.run_end.End.{End}
 use Rattle.buffer_ends.specs.declared.run_end.End.TheVariants.{Write}
 use Rattle.rounds_run.specs.Runs.{AreOver, counts_of_windows}
 use Rattle.clock_threads.specs.Runs as threads
+use Rattle.stations.specs.Creations.{after_making, names_in}
 use Rattle.stations.specs.Findings.{IsFit}
 use Rattle.stations.specs.Stations.{Station, Way, answers_with, made_in, setting_after, tried_in}
 use Rattle.stations.specs.Cues.{marks_if}
@@ -62,15 +63,15 @@ module _ (plan : Plan) (library : Sounds) (clocks : ClockMap) (start ticks : ℕ
 
   -- no engine was made, and the sinks are as they were
   pub starved : {S : Type 0} (name held : S → Option (List ℕ)) (left : S → Option ℕ) (debt faults : S → ℕ) (groups : List (List S)) (files : Option Files) (way : Way) (trace : Option (List ℕ)) (cues : Bool)
-      → HasRecord setting clocks.running ticks way → AreCreated (IsReady name held left debt files setting ticks) (written plan.sinks) (order_of setting (written plan.sinks)) groups
-      → RanPart name held faults files (station way trace cues) (order_of setting (written plan.sinks)) groups
-  starved name held left debt faults groups files way trace cues may ready =
+      → HasRecord setting clocks.running ticks way → (made_before made_after : Option (List (List ℕ))) → made_after ≡ after_making (names_in plan.sinks) made_before → AreCreated (IsReady name held left debt files setting ticks) (written plan.sinks) (order_of setting (written plan.sinks)) groups
+      → RanPart name held faults files (station way trace cues) (order_of setting (written plan.sinks)) groups made_before made_after
+  starved name held left debt faults groups files way trace cues may made_before made_after is ready =
       let none = not_begun setting clocks.running ticks way may in
       let made = made_in setting clocks.running ticks way none.run none.begun in let tried = tried_in setting clocks.running ticks way none.run none.begun in
       record {
         run = none.run;
         begun = none.begun;
-        parts = begun_all name held faults files setting (answers_with way none.run) ticks made tried (order_of setting (written plan.sinks)) groups
+        parts = begun_all name held faults files setting (answers_with way none.run) ticks made tried (order_of setting (written plan.sinks)) groups made_before made_after is
             (λ rest. created_as (IsReady name held left debt files setting ticks) (IsPart name held faults files (answered setting (answers_with way none.run rest)) ticks made tried)
             (part_of_ready name held left debt faults files setting ticks made tried none.none (answers_with way none.run rest))
             (written plan.sinks) (order_of setting (written plan.sinks)) groups ready);
@@ -156,11 +157,11 @@ module _ {plan : Plan} {library : Sounds} {clocks : ClockMap} {start ticks : ℕ
       keep_so wanted keep ran = subst (AreKeeping wanted) (sym last_is) (keep_after held name faults appends (setting_in world ran.run) ticks wanted old new keep ran.engines)
 
       module _ {groups_new : List (List S)} (back : groups_new ≡ outs_of last) where
-        pub part_back : {trace : Option (List ℕ)} {cues : Bool} {end : End} → RanSome held name faults appends world clocks.running ticks way old new end → RanPart title held faults files (record { plan = plan; library = library; clocks = clocks; start = start; ticks = ticks; way = way; trace = trace; cues = cues }) order groups_new
-        part_back some = record {
+        pub part_back : {trace : Option (List ℕ)} {cues : Bool} {end : End} (made_before made_after : Option (List (List ℕ))) → made_after ≡ after_making (names_in plan.sinks) made_before → RanSome held name faults appends world clocks.running ticks way old new end → RanPart title held faults files (record { plan = plan; library = library; clocks = clocks; start = start; ticks = ticks; way = way; trace = trace; cues = cues }) order groups_new made_before made_after
+        part_back made_before made_after is some = record {
           run = some.run;
           begun = some.begun;
-          parts = begun_all title held faults files world (answers_with way some.run) ticks (made_in world clocks.running ticks way some.run some.begun) (tried_in world clocks.running ticks way some.run some.begun) order groups_new
+          parts = begun_all title held faults files world (answers_with way some.run) ticks (made_in world clocks.running ticks way some.run some.begun) (tried_in world clocks.running ticks way some.run some.begun) order groups_new made_before made_after is
               (λ rest. subst (λ (z : List ℕ × List (List S)). AreCreated (IsPart title held faults files (answered world (answers_with way some.run rest)) ticks (made_in world clocks.running ticks way some.run some.begun) (tried_in world clocks.running ticks way some.run some.begun)) (written plan.sinks) z.0 z.1)
               (λ i. (sym opened.order_is i, sym (groups_are groups_new back) i))
               (all_part world ticks mains name title held left debt faults appends alike files old new opened.at opened.ready (answers_with way some.run) (made_in world clocks.running ticks way some.run some.begun) (tried_in world clocks.running ticks way some.run some.begun) some.part rest));

@@ -13,7 +13,7 @@ use Rattle.frame_core.specs.Library.{Sounds}
 use Rattle.op_leaf.specs.Readers.{Answer}
 use Rattle.stream_meaning.specs.Instants.{Setting, answered, clock_of}
 use Rattle.run_records.specs.Buffers.{main_of as main_clock}
-use Rattle.stations.specs.Outputs.{OutputFile, OutputPart}
+use Rattle.stations.specs.Outputs.{OutputFile, OutputPart, after_making}
 use Rattle.stations.specs.Streams.{body_size, file_bytes, front_bytes, header_for, output_bytes}
 use Rattle.station_render.specs.Sinks.{AreCreated, HoldsFront, HoldsPart, HoldsWhole, WasAdded}
 
@@ -85,11 +85,14 @@ abbrev pub IsPart : {S : Type 0} → (name held : S → Option (List ℕ)) → (
 IsPart name held faults files setting ticks made tried output sink = ForSome files (λ all. HoldsFront name held faults (front_file setting ticks made tried output) sink)
 
 -- the first outputs of a plan were created, and each sink holds its bytes of the ticks that its clock made in a run, and a front of those of
--- the ones that it tried, whatever answers follow: `answers` are then all those of the run; or it failed
-pub record AreBegun {S : Type 0} (name held : S → Option (List ℕ)) (faults : S → ℕ) (files : Option Files) (setting : Setting) (answers : (ℕ → List Answer) → ℕ → List Answer) (ticks : ℕ) (made tried : ℕ → ℕ) (order : List ℕ) (groups : List (List S)) : Type 0 where
+-- the ones that it tried, whatever answers follow: `answers` are then all those of the run; or it failed. The shelf tells of these sinks
+-- that it made them
+pub record AreBegun {S : Type 0} (name held : S → Option (List ℕ)) (faults : S → ℕ) (files : Option Files) (setting : Setting) (answers : (ℕ → List Answer) → ℕ → List Answer) (ticks : ℕ) (made tried : ℕ → ℕ) (order : List ℕ) (groups : List (List S))
+    (made_before made_after : Option (List (List ℕ))) : Type 0 where
   pub created : List Written
   pub others : List Written
   pub all : written setting.plan.sinks ≡ created ++ others
+  pub told : made_after ≡ after_making (map (λ output. output.name) created) made_before
   pub parts : (rest : ℕ → List Answer) → AreCreated (IsPart name held faults files (answered setting (answers rest)) ticks made tried) created order groups
 
 -- a sink of this clock was created, and holds these bytes; it has room for so many more, and for the byte that it owes then

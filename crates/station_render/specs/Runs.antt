@@ -95,10 +95,11 @@ pub record RanWhole {S : Type 0} (name held : S → Option (List ℕ)) (debt : S
   pub whole : AreCreated (IsWhole name held debt files (setting_of_run station run) station.ticks) (written station.plan.sinks) order groups
 
 -- a run of the station came so far, and each sink holds as much of its bytes
-pub record RanPart {S : Type 0} (name held : S → Option (List ℕ)) (faults : S → ℕ) (files : Option Files) (station : Station) (order : List ℕ) (groups : List (List S)) : Type 0 where
+pub record RanPart {S : Type 0} (name held : S → Option (List ℕ)) (faults : S → ℕ) (files : Option Files) (station : Station) (order : List ℕ) (groups : List (List S))
+    (made_before made_after : Option (List (List ℕ))) : Type 0 where
   pub run : Run
   pub begun : IsBegun station run
-  pub parts : AreBegun name held faults files (bare station) (answers_with station.way run) station.ticks (made_of station run begun) (tried_of station run begun) order groups
+  pub parts : AreBegun name held faults files (bare station) (answers_with station.way run) station.ticks (made_of station run begun) (tried_of station run begun) order groups made_before made_after
 
 -- the lines of these counts, of which the first is that of this buffer
 abbrev pub counted_lines : (buffer : ℕ) → List Counts → List ℕ

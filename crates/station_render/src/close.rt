@@ -28,10 +28,10 @@ pub(crate) fn close_all<S: Shelf>(
     ensures done { (station : Station) (before : Option Files) → S.files shelf.old ≡ before
         → IfOk wrote (RanWhole (told S.Out.name) (told S.Out.held) (owed S.Out.room) before station order.now (lists_of groups.items))
         → IfOk result (WroteOutputs station before (S.files shelf.new)) }
-    ensures part { (station : Station) (before : Option Files) (count : ℕ) → S.files shelf.old ≡ before → count ≤ S.write_count shelf.old
-        → RanPart (told S.Out.name) (told S.Out.held) (told S.Out.faults) before station order.now (lists_of groups.items)
+    ensures part { (station : Station) (before : Option Files) (count : ℕ) (made_before : Option (List (List ℕ))) → S.files shelf.old ≡ before → count ≤ S.write_count shelf.old
+        → RanPart (told S.Out.name) (told S.Out.held) (told S.Out.faults) before station order.now (lists_of groups.items) made_before (S.created shelf.old)
         → IfOk wrote (RanWhole (told S.Out.name) (told S.Out.held) (owed S.Out.room) before station order.now (lists_of groups.items))
-        → ForSome before (λ files. WrotePart station count (S.write_count shelf.new) files (S.files shelf.new)) }
+        → ForSome before (λ files. WrotePart station count (S.write_count shelf.new) files (S.files shelf.new) made_before (S.created shelf.new)) }
     ensures cause { IsErrOf result RenderFault.Write → IsErrOf wrote RenderFault.Write ⊎ Rose (S.write_count shelf.old) (S.write_count shelf.new) }
     ensures failed { HasFailed (told S.Out.faults) (lists_of groups.items) → Rose (S.write_count shelf.old) (S.write_count shelf.new) }
     ensures well { OnOk result (is_ok wrote ≡ true) }

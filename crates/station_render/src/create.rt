@@ -37,7 +37,7 @@ pub(crate) fn create_each<S: Shelf>(
         (written plan.now.sinks) order.new.items (lists_of groups.new.items)) }
     ensures order { OnOk result ((library : Sounds) → (start : ℕ) → order.new.items ≡ order_of (setting_for plan.now library clocks.now start) (written plan.now.sinks)) }
     ensures begun { (library : Sounds) → (start : ℕ) → (answers : (ℕ → List Answer) → ℕ → List Answer) → (made tried : ℕ → ℕ) → ((k : ℕ) → made k ≡ 0)
-        → AreBegun (told S.Out.name) (told S.Out.held) (told S.Out.faults) (S.files shelf.old) (setting_for plan.now library clocks.now start) answers ticks made tried order.new.items (lists_of groups.new.items) }
+        → AreBegun (told S.Out.name) (told S.Out.held) (told S.Out.faults) (S.files shelf.old) (setting_for plan.now library clocks.now start) answers ticks made tried order.new.items (lists_of groups.new.items) (S.created shelf.old) (S.created shelf.new) }
     ensures size { length (lists_of groups.new.items) ≡ clocks.now.running }
     ensures cause { IsErrOf result RenderFault.Write → Rose (S.write_count shelf.old) (S.write_count shelf.new) ⊎ HasFailed (told S.Out.faults) (lists_of groups.new.items) }
     ensures files { S.files shelf.new ≡ S.files shelf.old }

@@ -34,7 +34,7 @@ pub(crate) fn open_all<'a, S: Shelf>(
         order.new.items engines.items (lists_of groups.new.items)) }
     ensures keeping { IfOk result (λ engines. AreKeeping job.now.cues engines.items) }
     ensures part { OnErr result ((way : Way) (trace : Option (List ℕ)) → HasRecord (setting_by job.now) job.now.ready.now.clocks.running job.now.ticks way
-        → RanPart (told S.Out.name) (told S.Out.held) (told S.Out.faults) (S.files shelf.old) (station_in job.now way trace) order.new.items (lists_of groups.new.items)) }
+        → RanPart (told S.Out.name) (told S.Out.held) (told S.Out.faults) (S.files shelf.old) (station_in job.now way trace) order.new.items (lists_of groups.new.items) (S.created shelf.old) (S.created shelf.new)) }
     ensures cause { IsErrOf result RenderFault.Write → Rose (S.write_count shelf.old) (S.write_count shelf.new) ⊎ HasFailed (told S.Out.faults) (lists_of groups.new.items) }
     ensures files { S.files shelf.new ≡ S.files shelf.old }
     ensures made { OnOk result (S.created shelf.new ≡ after_making (names_in job.now.plan.now.sinks) (S.created shelf.old)) }

@@ -46,7 +46,7 @@ pub fn render<S: Shelf, G: Gate + Sync, R: Threads + Wait + Sync>(
     requires fit { IsFitting job.now }
     ensures done { IfOk result (IsRendered (station_by job.now threading.entry) (S.files shelf.old) (S.files shelf.new)) }
     ensures part { ForSome (S.files shelf.old) (λ files. WrotePart (station_by job.now threading.entry)
-        (S.write_count shelf.old) (S.write_count shelf.new) files (S.files shelf.new)) }
+        (S.write_count shelf.old) (S.write_count shelf.new) files (S.files shelf.new) (S.created shelf.old) (S.created shelf.new)) }
     ensures cause { IsErrOf result RenderFault.Write → Rose (S.write_count shelf.old) (S.write_count shelf.new) }
     ensures made { OnOk result (S.created shelf.new ≡ after_making (names_of (station_by job.now threading.entry)) (S.created shelf.old)) }
     ensures closed { OnOk result (HaveClosed (names_of (station_by job.now threading.entry)) (S.closed shelf.old) (S.closed shelf.new)) }
@@ -69,7 +69,7 @@ pub fn render_alone<S: Shelf>(
     requires fit { IsFitting job.now }
     ensures done { IfOk result (IsRendered (station_alone job.now) (S.files shelf.old) (S.files shelf.new)) }
     ensures part { ForSome (S.files shelf.old) (λ files. WrotePart (station_alone job.now)
-        (S.write_count shelf.old) (S.write_count shelf.new) files (S.files shelf.new)) }
+        (S.write_count shelf.old) (S.write_count shelf.new) files (S.files shelf.new) (S.created shelf.old) (S.created shelf.new)) }
     ensures cause { IsErrOf result RenderFault.Write → Rose (S.write_count shelf.old) (S.write_count shelf.new) }
     ensures made { OnOk result (S.created shelf.new ≡ after_making (names_of (station_alone job.now)) (S.created shelf.old)) }
     ensures closed { OnOk result (HaveClosed (names_of (station_alone job.now)) (S.closed shelf.old) (S.closed shelf.new)) }
@@ -97,7 +97,7 @@ pub fn render_again<S: Shelf>(
     requires accepted { IsAccepted (setting_by job.now) job.now.ready.now.clocks.running job.now.ticks trace.now }
     ensures done { IfOk result (IsRendered (station_again job.now trace.now) (S.files shelf.old) (S.files shelf.new)) }
     ensures part { ForSome (S.files shelf.old) (λ files. WrotePart (station_again job.now trace.now)
-        (S.write_count shelf.old) (S.write_count shelf.new) files (S.files shelf.new)) }
+        (S.write_count shelf.old) (S.write_count shelf.new) files (S.files shelf.new) (S.created shelf.old) (S.created shelf.new)) }
     ensures cause { IsErrOf result RenderFault.Write → Rose (S.write_count shelf.old) (S.write_count shelf.new) }
     ensures made { OnOk result (S.created shelf.new ≡ after_making (names_of (station_again job.now trace.now)) (S.created shelf.old)) }
     ensures closed { OnOk result (HaveClosed (names_of (station_again job.now trace.now)) (S.closed shelf.old) (S.closed shelf.new)) }
@@ -123,7 +123,7 @@ fn render_outputs<S: Shelf, G: Gate + Sync, R: Threads + Wait + Sync>(
     requires fit { IsFitting job.now }
     ensures done { IfOk result (WroteOutputs (station_by job.now threading.entry) (S.files shelf.old) (S.files shelf.new)) }
     ensures part { ForSome (S.files shelf.old) (λ files. WrotePart (station_by job.now threading.entry)
-        (S.write_count shelf.old) (S.write_count shelf.new) files (S.files shelf.new)) }
+        (S.write_count shelf.old) (S.write_count shelf.new) files (S.files shelf.new) (S.created shelf.old) (S.created shelf.new)) }
     ensures cause { IsErrOf result RenderFault.Write → Rose (S.write_count shelf.old) (S.write_count shelf.new) }
     ensures made { OnOk result (S.created shelf.new ≡ after_making (names_in job.now.plan.now.sinks) (S.created shelf.old)) }
     ensures closed { OnOk result (HaveClosed (names_in job.now.plan.now.sinks) (S.closed shelf.old) (S.closed shelf.new)) }
@@ -156,7 +156,7 @@ fn render_outputs_alone<S: Shelf>(
     requires fit { IsFitting job.now }
     ensures done { IfOk result (WroteOutputs (station_alone job.now) (S.files shelf.old) (S.files shelf.new)) }
     ensures part { ForSome (S.files shelf.old) (λ files. WrotePart (station_alone job.now)
-        (S.write_count shelf.old) (S.write_count shelf.new) files (S.files shelf.new)) }
+        (S.write_count shelf.old) (S.write_count shelf.new) files (S.files shelf.new) (S.created shelf.old) (S.created shelf.new)) }
     ensures cause { IsErrOf result RenderFault.Write → Rose (S.write_count shelf.old) (S.write_count shelf.new) }
     ensures made { OnOk result (S.created shelf.new ≡ after_making (names_in job.now.plan.now.sinks) (S.created shelf.old)) }
     ensures closed { OnOk result (HaveClosed (names_in job.now.plan.now.sinks) (S.closed shelf.old) (S.closed shelf.new)) }
@@ -183,7 +183,7 @@ fn render_outputs_again<S: Shelf>(
     requires accepted { IsAccepted (setting_by job.now) job.now.ready.now.clocks.running job.now.ticks trace.now }
     ensures done { IfOk result (WroteOutputs (station_again job.now trace.now) (S.files shelf.old) (S.files shelf.new)) }
     ensures part { ForSome (S.files shelf.old) (λ files. WrotePart (station_again job.now trace.now)
-        (S.write_count shelf.old) (S.write_count shelf.new) files (S.files shelf.new)) }
+        (S.write_count shelf.old) (S.write_count shelf.new) files (S.files shelf.new) (S.created shelf.old) (S.created shelf.new)) }
     ensures cause { IsErrOf result RenderFault.Write → Rose (S.write_count shelf.old) (S.write_count shelf.new) }
     ensures made { OnOk result (S.created shelf.new ≡ after_making (names_in job.now.plan.now.sinks) (S.created shelf.old)) }
     ensures closed { OnOk result (HaveClosed (names_in job.now.plan.now.sinks) (S.closed shelf.old) (S.closed shelf.new)) }
@@ -214,7 +214,7 @@ fn write_by_threads<S: Shelf, G: Gate + Sync, R: Threads + Wait + Sync>(
     requires none { order.old.items ≡ [] }
     requires empty { AreEmpty job.now.ready.now.clocks.running (lists_of groups.old.items) }
     ensures done { IfOk result (RanWhole (told S.Out.name) (told S.Out.held) (owed S.Out.room) (S.files shelf.old) (station_by job.now threading.entry) order.new.items (lists_of groups.new.items)) }
-    ensures part { RanPart (told S.Out.name) (told S.Out.held) (told S.Out.faults) (S.files shelf.old) (station_by job.now threading.entry) order.new.items (lists_of groups.new.items) }
+    ensures part { RanPart (told S.Out.name) (told S.Out.held) (told S.Out.faults) (S.files shelf.old) (station_by job.now threading.entry) order.new.items (lists_of groups.new.items) (S.created shelf.old) (S.created shelf.new) }
     ensures cause { IsErrOf result RenderFault.Write → Rose (S.write_count shelf.old) (S.write_count shelf.new) ⊎ HasFailed (told S.Out.faults) (lists_of groups.new.items) }
     ensures files { S.files shelf.new ≡ S.files shelf.old }
     ensures made { OnOk result (S.created shelf.new ≡ after_making (names_in job.now.plan.now.sinks) (S.created shelf.old)) }
@@ -250,7 +250,7 @@ fn write_alone<S: Shelf>(
     requires none { order.old.items ≡ [] }
     requires empty { AreEmpty job.now.ready.now.clocks.running (lists_of groups.old.items) }
     ensures done { IfOk result (RanWhole (told S.Out.name) (told S.Out.held) (owed S.Out.room) (S.files shelf.old) (station_alone job.now) order.new.items (lists_of groups.new.items)) }
-    ensures part { RanPart (told S.Out.name) (told S.Out.held) (told S.Out.faults) (S.files shelf.old) (station_alone job.now) order.new.items (lists_of groups.new.items) }
+    ensures part { RanPart (told S.Out.name) (told S.Out.held) (told S.Out.faults) (S.files shelf.old) (station_alone job.now) order.new.items (lists_of groups.new.items) (S.created shelf.old) (S.created shelf.new) }
     ensures cause { IsErrOf result RenderFault.Write → Rose (S.write_count shelf.old) (S.write_count shelf.new) ⊎ HasFailed (told S.Out.faults) (lists_of groups.new.items) }
     ensures files { S.files shelf.new ≡ S.files shelf.old }
     ensures made { OnOk result (S.created shelf.new ≡ after_making (names_in job.now.plan.now.sinks) (S.created shelf.old)) }
@@ -280,7 +280,7 @@ fn write_again<S: Shelf>(
     requires none { order.old.items ≡ [] }
     requires empty { AreEmpty job.now.ready.now.clocks.running (lists_of groups.old.items) }
     ensures done { IfOk result (RanWhole (told S.Out.name) (told S.Out.held) (owed S.Out.room) (S.files shelf.old) (station_again job.now trace.now) order.new.items (lists_of groups.new.items)) }
-    ensures part { RanPart (told S.Out.name) (told S.Out.held) (told S.Out.faults) (S.files shelf.old) (station_again job.now trace.now) order.new.items (lists_of groups.new.items) }
+    ensures part { RanPart (told S.Out.name) (told S.Out.held) (told S.Out.faults) (S.files shelf.old) (station_again job.now trace.now) order.new.items (lists_of groups.new.items) (S.created shelf.old) (S.created shelf.new) }
     ensures cause { IsErrOf result RenderFault.Write → Rose (S.write_count shelf.old) (S.write_count shelf.new) ⊎ HasFailed (told S.Out.faults) (lists_of groups.new.items) }
     ensures files { S.files shelf.new ≡ S.files shelf.old }
     ensures made { OnOk result (S.created shelf.new ≡ after_making (names_in job.now.plan.now.sinks) (S.created shelf.old)) }

@@ -10,6 +10,7 @@ use Rattle.stations.specs.Renderings.{WroteLastPart, WroteOutputsPart, WrotePart
 use Rattle.stations.specs.Stations.{IsBegun, Station}
 use Rattle.stations.specs.Streams.{ends_of, output_files, parts_with}
 use Rattle.stations.specs.Traces.{later_files}
+use Rattle.stations.proofs.Making.{none_more}
 use Rattle.run_records.specs.Records.{Run}
 
 between_from : (low count next : ℕ) → low ≤ count → (files : Files) (output : OutputPart) (after : Files) → HoldsBetween (Rose count next) files output after → HoldsBetween (Rose low next) files output after
@@ -27,21 +28,23 @@ parts_within low count last high below above files (output ∷ outputs) after pa
   parts_within parts.1 parts.1 last high (omega arith) above parts.0 outputs after parts.4,
 )
 
-pub some_within : (low count last high : ℕ) → low ≤ count → last ≤ high → (files : Files) (outputs : List OutputPart) (after : Option Files)
-    → IsSomeAnd after (λ now. HoldsSome count files outputs now last) → IsSomeAnd after (λ now. HoldsSome low files outputs now high)
-some_within low count last high below above files outputs after some = some_and after (λ now. HoldsSome count files outputs now last) (λ now. HoldsSome low files outputs now high)
+pub some_within : (low count last high : ℕ) → low ≤ count → last ≤ high → (files : Files) (outputs : List OutputPart) (after : Option Files) (made_before made_after : Option (List (List ℕ)))
+    → IsSomeAnd after (λ now. HoldsSome count files outputs now last made_before made_after) → IsSomeAnd after (λ now. HoldsSome low files outputs now high made_before made_after)
+some_within low count last high below above files outputs after made_before made_after some =
+    some_and after (λ now. HoldsSome count files outputs now last made_before made_after) (λ now. HoldsSome low files outputs now high made_before made_after)
     (λ now parts. record {
       created = parts.created;
       others = parts.others;
       outputs_are = parts.outputs_are;
+      told = parts.told;
       parts = parts_within low count last high below above files parts.created now parts.parts;
     }) some
 
-pub outputs_within : (station : Station) (low count last high : ℕ) → low ≤ count → last ≤ high → (files : Files) (after : Option Files) → WroteOutputsPart station count last files after → WroteOutputsPart station low high files after
-outputs_within station low count last high below above files after wrote = record {
+pub outputs_within : (station : Station) (low count last high : ℕ) → low ≤ count → last ≤ high → (files : Files) (after : Option Files) (made_before made_after : Option (List (List ℕ))) → WroteOutputsPart station count last files after made_before made_after → WroteOutputsPart station low high files after made_before made_after
+outputs_within station low count last high below above files after made_before made_after wrote = record {
   run = wrote.run;
   begun = wrote.begun;
-  parts = λ rest. some_within low count last high below above files (parts_with station wrote.run wrote.begun rest) after (wrote.parts rest);
+  parts = λ rest. some_within low count last high below above files (parts_with station wrote.run wrote.begun rest) after made_before made_after (wrote.parts rest);
 }
 
 last_or : (low count last high : ℕ) → low ≤ count → last ≤ high → (files : Files) (outputs : List OutputPart) (later : Files → Type 0) (now : Files)
@@ -59,9 +62,9 @@ last_within station low count last high below above files after wrote =
           (last_or low count last high below above files (ends_of station wrote.run) later) wrote.part;
     }
 
-pub part_within : (station : Station) (low count last high : ℕ) → low ≤ count → last ≤ high → (files : Files) (after : Option Files) → WrotePart station count last files after → WrotePart station low high files after
-part_within station low count last high below above files after (inl outputs) = inl (outputs_within station low count last high below above files after outputs)
-part_within station low count last high below above files after (inr rest) = inr (last_within station low count last high below above files after rest)
+pub part_within : (station : Station) (low count last high : ℕ) → low ≤ count → last ≤ high → (files : Files) (after : Option Files) (made_before made_after : Option (List (List ℕ))) → WrotePart station count last files after made_before made_after → WrotePart station low high files after made_before made_after
+part_within station low count last high below above files after made_before made_after (inl outputs) = inl (outputs_within station low count last high below above files after made_before made_after outputs)
+part_within station low count last high below above files after made_before made_after (inr rest) = inr (last_within station low count last high below above files after rest)
 
 -- files after some outputs and then others
 pub both_outputs : (files : Files) (xs ys : List OutputFile) → with_outputs files (xs ++ ys) ≡ with_outputs (with_outputs files xs) ys
@@ -100,10 +103,11 @@ pub upto_all : (files : Files) (outputs : List OutputFile) → HoldsUpto files o
 upto_all files outputs = record { whole = outputs; others = []; outputs_are = sym (append-nil outputs); part = refl }
 
 -- nothing was created
-pub none_written : (station : Station) (run : Run) → IsBegun station run → (count last : ℕ) → count ≤ last → (before after : Option Files) → after ≡ before → ForSome before (λ files. WroteOutputsPart station count last files after)
-none_written station run begun count last low before after same files told = record {
+pub none_written : (station : Station) (run : Run) → IsBegun station run → (count last : ℕ) → count ≤ last → (before after : Option Files) → after ≡ before → (made_before made_after : Option (List (List ℕ))) → made_after ≡ made_before
+    → ForSome before (λ files. WroteOutputsPart station count last files after made_before made_after)
+none_written station run begun count last low before after same made_before made_after kept files told = record {
   run = run;
   begun = begun;
-  parts = λ rest. subst (λ a. IsSomeAnd a (λ now. HoldsSome count files (parts_with station run begun rest) now last)) (sym (same ∙ told))
-      (record { created = []; others = parts_with station run begun rest; outputs_are = refl; parts = (refl, low) });
+  parts = λ rest. subst (λ a. IsSomeAnd a (λ now. HoldsSome count files (parts_with station run begun rest) now last made_before made_after)) (sym (same ∙ told))
+      (record { created = []; others = parts_with station run begun rest; outputs_are = refl; told = kept ∙ none_more made_before; parts = (refl, low) });
 }

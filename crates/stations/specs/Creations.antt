@@ -5,6 +5,7 @@ use Rattle.liq_base.specs.Files.{Closing}
 use Rattle.plan_core.specs.declared.sink.SinkPlan.{SinkPlan}
 use Rattle.plan_core.specs.declared.sink.SinkPlan.TheVariants.{Output, Feed}
 use Rattle.run_records.specs.Records.{Run}
+pub use Rattle.stations.specs.Outputs.{after_making}
 use Rattle.stream_meaning.specs.Instants.{Setting}
 use Rattle.stations.specs.Stations.{Station, Way, InRounds, InWindows, Again, bare}
 use Rattle.stations.specs.Streams.{body_size}
@@ -35,11 +36,6 @@ names_of station = names_in station.plan.sinks ++ (cue_names_if station.cues sta
 -- they are the names of the files that each run writes, in their order
 abbrev pub AreNamesOfFiles : Station → Run → Type 0
 AreNamesOfFiles station run = map (λ file. file.name) (files_of station run) ≡ names_of station
-
--- what a shelf tells of the sinks that it made, or of those that were closed, after these, one after another
-abbrev pub after_making : {A : Type 0} → List A → Option (List A) → Option (List A)
-after_making more None = None
-after_making more (Some before) = Some (before ++ more)
 
 -- sinks of these names were closed, one after another, and no other; `before` and `after` is what the shelf tells of its closings
 pub record AreClosed (names : List (List ℕ)) (before : List Closing) (after : Option (List Closing)) : Type 0 where

@@ -1,5 +1,5 @@
 -- What a rendering writes, and what a shelf holds after it.
-use Rattle.std.specs.Prelude.{◌≡◌, ◌⊎◌, ◌≤◌, ℕ, List, [], ◌∷◌, ◌++◌}
+use Rattle.std.specs.Prelude.{◌≡◌, ◌⊎◌, ◌≤◌, ℕ, List, [], ◌∷◌, ◌++◌, Option, Some, None, map}
 use Rattle.liq_base.specs.Counts.{Rose}
 use Rattle.liq_base.specs.Files.{Files, HoldsPart, with_file}
 use Rattle.liq_base.specs.Pieces.{IsPrefix}
@@ -31,11 +31,18 @@ HoldsParts count files [] after last = (after ≡ files) × (count ≤ last)
 HoldsParts count files (output ∷ outputs) after last =
     (midway : Files) × (next : ℕ) × (count ≤ next) × HoldsBetween (Rose count next) files output midway × HoldsParts next midway outputs after last
 
--- So it is for the first of the outputs, which were created; the others were not. Files do not tell which were created.
-pub record HoldsSome (count : ℕ) (files : Files) (outputs : List OutputPart) (after : Files) (last : ℕ) : Type 0 where
+-- what a shelf tells of the sinks that it made, or of those that were closed, after these, one after another
+abbrev pub after_making : {A : Type 0} → List A → Option (List A) → Option (List A)
+after_making more None = None
+after_making more (Some before) = Some (before ++ more)
+
+-- So it is for the first of the outputs, which were created, as the shelf tells of the sinks that it made; the others were not. Files do
+-- not tell which were created.
+pub record HoldsSome (count : ℕ) (files : Files) (outputs : List OutputPart) (after : Files) (last : ℕ) (made_before made_after : Option (List (List ℕ))) : Type 0 where
   pub created : List OutputPart
   pub others : List OutputPart
   pub outputs_are : outputs ≡ created ++ others
+  pub told : made_after ≡ after_making (map (λ output. output.name) created) made_before
   pub parts : HoldsParts count files created after last
 
 -- the name of the first of these files, if there is one, holds a prefix of its bytes, or what it held; nothing else changed

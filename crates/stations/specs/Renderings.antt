@@ -14,11 +14,12 @@ use Rattle.stations.specs.Traces.{later_files}
 
 -- A run was broken off: whatever answers had followed those that it got, each output that was created holds its
 -- bytes of the ticks that its clock made, and then a front of those of the tick in which it stopped; or, where the count of failed writes
--- rose at its closing, a prefix of them or what it held. Over the outputs that count rose from `count` to `last`.
-pub record WroteOutputsPart (station : Station) (count last : ℕ) (files : Files) (after : Option Files) : Type 0 where
+-- rose at its closing, a prefix of them or what it held. Over the outputs that count rose from `count` to `last`. `made_before` and
+-- `made_after` are what the shelf tells of the sinks that it made.
+pub record WroteOutputsPart (station : Station) (count last : ℕ) (files : Files) (after : Option Files) (made_before made_after : Option (List (List ℕ))) : Type 0 where
   pub run : Run
   pub begun : IsBegun station run
-  pub parts : (rest : ℕ → List Answer) → IsSomeAnd after (λ now. HoldsSome count files (parts_with station run begun rest) now last)
+  pub parts : (rest : ℕ → List Answer) → IsSomeAnd after (λ now. HoldsSome count files (parts_with station run begun rest) now last made_before made_after)
 
 -- A run made all its ticks, and what came behind them broke off: a last zero byte or a closing of the outputs, each of which holds its
 -- bytes, maybe without that byte, or, where the count of failed writes rose at its closing, a prefix of them or what it held; or, once all
@@ -29,8 +30,8 @@ pub record WroteLastPart (station : Station) (count last : ℕ) (files : Files) 
   pub part : IsSomeAnd after (λ now. HoldsParts count files (ends_of station run) now last ⊎ HoldsUpto (with_outputs files (output_files station run)) (later_files station run) now)
 
 -- what a rendering leaves, whatever it ended with
-abbrev pub WrotePart : Station → (count last : ℕ) → Files → (after : Option Files) → Type 0
-WrotePart station count last files after = WroteOutputsPart station count last files after ⊎ WroteLastPart station count last files after
+abbrev pub WrotePart : Station → (count last : ℕ) → Files → (after : Option Files) → (made_before made_after : Option (List (List ℕ))) → Type 0
+WrotePart station count last files after made_before made_after = WroteOutputsPart station count last files after made_before made_after ⊎ WroteLastPart station count last files after
 
 -- A run renders what one thread renders: rounds of the station have one record, and the outputs, the cue files
 -- and the report are those of it.

@@ -20,7 +20,7 @@ returns-in-Some-clause-untouched g c = λ asks.
 
 pub returns-in-None-clause-ends : goal.returns-in-None-clause-ends
 returns-in-None-clause-ends g c =
-    ended_from g.S.Shelf.files g.S.Shelf.read_count g.S.Shelf.write_count g.O.Sink.held g.O.Sink.faults g.E.Sink.held g.E.Sink.faults _ c.args.shelf.now c.liq_alone.new.shelf c.args.out.now c.liq_alone.new.out
+    ended_from g.S.Shelf.files g.S.Shelf.created g.S.Shelf.read_count g.S.Shelf.write_count g.O.Sink.held g.O.Sink.faults g.E.Sink.held g.E.Sink.faults _ c.args.shelf.now c.liq_alone.new.shelf c.args.out.now c.liq_alone.new.out
     c.args.err.now c.liq_alone.new.err _ _ (c.in-None.ensures.kept refl) c.by_threads.ensures.ends
 
 pub returns-in-None-clause-complete : goal.returns-in-None-clause-complete
@@ -28,7 +28,7 @@ returns-in-None-clause-complete g c = completes _ _ _ _ (returns-in-None-clause-
 
 pub returns-in-None-clause-made : goal.returns-in-None-clause-made
 returns-in-None-clause-made g c = λ asks.
-    apart_from g.S.Shelf.files g.S.Shelf.read_count g.S.Shelf.write_count g.O.Sink.held g.O.Sink.faults g.E.Sink.held g.E.Sink.faults _ c.args.shelf.now c.liq_alone.new.shelf c.args.out.now c.liq_alone.new.out
+    apart_from g.S.Shelf.files g.S.Shelf.created g.S.Shelf.read_count g.S.Shelf.write_count g.O.Sink.held g.O.Sink.faults g.E.Sink.held g.E.Sink.faults _ c.args.shelf.now c.liq_alone.new.shelf c.args.out.now c.liq_alone.new.out
     c.args.err.now c.liq_alone.new.err _ _ (c.in-None.ensures.kept refl) (c.by_threads.ensures.made asks)
 
 pub returns-in-None-clause-untouched : goal.returns-in-None-clause-untouched

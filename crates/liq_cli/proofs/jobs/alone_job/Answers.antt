@@ -12,7 +12,7 @@ use Rattle.liq_cli.proofs.jobs.alone_job.Goals as goal
 pub returns-in_err-work-clause-stops : goal.returns-in_err-work-clause-stops
 returns-in_err-work-clause-stops g c =
     let p = err_from_is_err_and c.from_residual.result c.from_residual.ensures.1 in rw (p.1, p.2)
-    (stopped_early (Render c.args.file.now c.args.start.second c.args.ticks.count None None c.args.cues) (λ files. refl) _ _ _ _ _ _ _ c.in_err-work.ensures.ends c.prepare.ensures.shelf.files_kept)
+    (stopped_early (Render c.args.file.now c.args.start.second c.args.ticks.count None None c.args.cues) (λ files. refl) _ _ _ _ _ _ _ _ _ c.in_err-work.ensures.ends c.prepare.ensures.shelf.files_kept c.prepare.ensures.created)
 
 pub returns-in_err-rendered-clause-stops : goal.returns-in_err-rendered-clause-stops
 returns-in_err-rendered-clause-stops g c =
@@ -27,7 +27,7 @@ returns-in_err-rendered-clause-stops g c =
     } in
     broke_off (Render c.args.file.now c.args.start.second c.args.ticks.count None None c.args.cues) _ _ _ _ _ (InRounds) refl
     (λ files t. plain_ruled (Render c.args.file.now c.args.start.second c.args.ticks.count None None c.args.cues) (InRounds) (render_plain c.args.file.now c.args.start.second c.args.ticks.count None None c.args.cues) files _ _ _ (c.in_ok-work.ensures.found files t)) laws c.in_ok-work.ensures.fit c.args.start.in_week
-    _ _ _ _ _ _ c.prepare.ensures.shelf.writes_grew
+    _ _ _ _ _ _ _ _ _ c.prepare.ensures.shelf.writes_grew c.prepare.ensures.created
     (λ files t. c.render_alone.ensures.part files (c.prepare.ensures.shelf.files_kept ∙ t)) (λ at. c.in_err-rendered.ensures.cause (ap Err at)))
 
 pub returns-clause-stops : goal.returns-clause-stops
@@ -41,7 +41,7 @@ returns-clause-stops g c =
     } in
     ended_written (Render c.args.file.now c.args.start.second c.args.ticks.count None None c.args.cues) _ _ _ _ _ (InRounds) refl
     (λ files t. plain_ruled (Render c.args.file.now c.args.start.second c.args.ticks.count None None c.args.cues) (InRounds) (render_plain c.args.file.now c.args.start.second c.args.ticks.count None None c.args.cues) files _ _ _ (c.in_ok-work.ensures.found files t)) laws c.in_ok-work.ensures.fit c.args.start.in_week
-    c.report_or_halt.result _ _ _ _ _ c.report_or_halt.ensures.starved c.prepare.ensures.shelf.writes_grew
+    c.report_or_halt.result _ _ _ _ _ _ _ _ c.report_or_halt.ensures.starved c.prepare.ensures.shelf.writes_grew c.prepare.ensures.created
     (λ files t. c.render_alone.ensures.part files (c.prepare.ensures.shelf.files_kept ∙ t))
 
 pub returns-clause-done : goal.returns-clause-done

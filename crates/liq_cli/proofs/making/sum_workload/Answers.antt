@@ -11,22 +11,22 @@ use Rattle.liq_cli.proofs.Workloads.{broke_made, one_made, stopped_made, summed}
 use Rattle.liq_cli.proofs.making.sum_workload.Goals as goal
 
 pub returns-in_err-work-clause-stops : goal.returns-in_err-work-clause-stops
-returns-in_err-work-clause-stops g c = λ told reads writes.
+returns-in_err-work-clause-stops g c = λ told reads writes made.
     let p = err_from_is_err_and c.from_residual.result c.from_residual.ensures.1 in rw (p.1, p.2)
-    (stopped_made c.args.seed c.args.size.files c.args.shelf.now c.script_name.result.now told reads writes _ c.requires c.script_name.ensures c.in_err-work.ensures.ends)
+    (stopped_made c.args.seed c.args.size.files c.args.shelf.now c.script_name.result.now told reads writes made _ c.requires c.script_name.ensures c.in_err-work.ensures.ends)
 
 pub returns-then-not-is_unbuffered-clause-stops : goal.returns-then-not-is_unbuffered-clause-stops
-returns-then-not-is_unbuffered-clause-stops g c = λ told reads writes.
-    stopped_for_memory (Make c.args.seed c.args.size.files) told told reads reads writes writes refl
+returns-then-not-is_unbuffered-clause-stops g c = λ told reads writes made.
+    stopped_for_memory (Make c.args.seed c.args.size.files) told told reads reads writes writes made made refl refl
 
 pub returns-in_err-rendered-clause-stops : goal.returns-in_err-rendered-clause-stops
-returns-in_err-rendered-clause-stops g c = λ told reads writes.
+returns-in_err-rendered-clause-stops g c = λ told reads writes made.
     let p = err_from_is_err_and c.from_residual-in_err-rendered.result c.from_residual-in_err-rendered.ensures.1 in rw (p.1, p.2)
-    (broke_made c.args.seed c.args.size.files told reads writes _ (λ at. c.in_err-rendered.ensures.cause (ap Err at)))
+    (broke_made c.args.seed c.args.size.files told reads writes made _ (λ at. c.in_err-rendered.ensures.cause (ap Err at)))
 
 pub returns-clause-stops : goal.returns-clause-stops
-returns-clause-stops g c = λ told reads writes.
-    ended_kept c.report_or_halt.result (Make c.args.seed c.args.size.files) told told reads reads writes writes c.report_or_halt.ensures.starved refl
+returns-clause-stops g c = λ told reads writes made.
+    ended_kept c.report_or_halt.result (Make c.args.seed c.args.size.files) told told reads reads writes writes made made c.report_or_halt.ensures.starved refl refl
 
 pub returns-clause-done : goal.returns-clause-done
 returns-clause-done g c =

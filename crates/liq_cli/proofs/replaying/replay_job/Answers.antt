@@ -13,7 +13,7 @@ use Rattle.liq_cli.proofs.replaying.replay_job.Goals as goal
 pub returns-in_err-work-clause-stops : goal.returns-in_err-work-clause-stops
 returns-in_err-work-clause-stops g c =
     let p = err_from_is_err_and c.from_residual.result c.from_residual.ensures.1 in rw (p.1, p.2)
-    (stopped_early (Replay c.args.file.now c.args.start.second c.args.ticks.count c.args.trace.now) (λ files. refl) _ _ _ _ _ _ _ c.in_err-work.ensures.ends c.prepare.ensures.shelf.files_kept)
+    (stopped_early (Replay c.args.file.now c.args.start.second c.args.ticks.count c.args.trace.now) (λ files. refl) _ _ _ _ _ _ _ _ _ c.in_err-work.ensures.ends c.prepare.ensures.shelf.files_kept c.prepare.ensures.created)
 
 pub returns-in_err-work-clause-order : goal.returns-in_err-work-clause-order
 returns-in_err-work-clause-order g c =
@@ -30,7 +30,7 @@ returns-in_err-told-clause-stops g c =
       never_both = c.texts_have_one_meaning.ensures.never_both;
     } in
     stopped_untold tells_one c.args.file.now c.args.start.second c.args.ticks.count c.args.trace.now _ _ _ _ _ c.in_ok-work.ensures.found _ c.prepare.ensures.shelf.files_kept
-    _ _ _ _ _ c.prepare.ensures.shelf.reads_grew _ c.in_err-told.ensures.ends (c.find_trace.ensures.shelf.files_kept ∙ c.prepare.ensures.shelf.files_kept))
+    _ _ _ _ _ _ _ c.prepare.ensures.shelf.reads_grew _ c.in_err-told.ensures.ends (c.find_trace.ensures.shelf.files_kept ∙ c.prepare.ensures.shelf.files_kept) (c.find_trace.ensures.created ∙ c.prepare.ensures.created))
 
 pub returns-in_err-told-clause-order : goal.returns-in_err-told-clause-order
 returns-in_err-told-clause-order g c =
@@ -56,7 +56,7 @@ returns-in_err-rendered-clause-stops g c =
     broke_off (Replay c.args.file.now c.args.start.second c.args.ticks.count c.args.trace.now) _ _ _ _ _ (Again c.in_ok-told.told) refl
     (λ files t. replay_ruled c.args.file.now c.args.start.second c.args.ticks.count c.args.trace.now files _ _ _ (c.in_ok-work.ensures.found files t) (Tells c.in_ok-told.told)
     (one_told tells_one files c.args.trace.now _ _ _ (Tells c.in_ok-told.told) (record { has = c.in_ok-told.ensures.found files (c.prepare.ensures.shelf.files_kept ∙ t); fits = c.in_ok-told.ensures.fits }))) laws c.in_ok-work.ensures.fit c.args.start.in_week
-    _ _ _ _ _ _ (omega (arith, c.prepare.ensures.shelf.writes_grew, c.find_trace.ensures.shelf.writes_grew))
+    _ _ _ _ _ _ _ _ _ (omega (arith, c.prepare.ensures.shelf.writes_grew, c.find_trace.ensures.shelf.writes_grew)) (c.find_trace.ensures.created ∙ c.prepare.ensures.created)
     (λ files t. c.render_again.ensures.part files ((c.find_trace.ensures.shelf.files_kept ∙ c.prepare.ensures.shelf.files_kept) ∙ t)) (λ at. c.in_err-rendered.ensures.cause (ap Err at)))
 
 pub returns-in_err-rendered-clause-order : goal.returns-in_err-rendered-clause-order
@@ -89,7 +89,7 @@ returns-clause-stops g c =
     ended_written (Replay c.args.file.now c.args.start.second c.args.ticks.count c.args.trace.now) _ _ _ _ _ (Again c.in_ok-told.told) refl
     (λ files t. replay_ruled c.args.file.now c.args.start.second c.args.ticks.count c.args.trace.now files _ _ _ (c.in_ok-work.ensures.found files t) (Tells c.in_ok-told.told)
     (one_told tells_one files c.args.trace.now _ _ _ (Tells c.in_ok-told.told) (record { has = c.in_ok-told.ensures.found files (c.prepare.ensures.shelf.files_kept ∙ t); fits = c.in_ok-told.ensures.fits }))) laws c.in_ok-work.ensures.fit c.args.start.in_week
-    c.report_or_halt.result _ _ _ _ _ c.report_or_halt.ensures.starved (omega (arith, c.prepare.ensures.shelf.writes_grew, c.find_trace.ensures.shelf.writes_grew))
+    c.report_or_halt.result _ _ _ _ _ _ _ _ c.report_or_halt.ensures.starved (omega (arith, c.prepare.ensures.shelf.writes_grew, c.find_trace.ensures.shelf.writes_grew)) (c.find_trace.ensures.created ∙ c.prepare.ensures.created)
     (λ files t. c.render_again.ensures.part files ((c.find_trace.ensures.shelf.files_kept ∙ c.prepare.ensures.shelf.files_kept) ∙ t))
 
 pub returns-clause-done : goal.returns-clause-done

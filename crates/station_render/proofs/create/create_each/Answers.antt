@@ -11,7 +11,7 @@ use Rattle.station_render.proofs.Creating.{added_many, begun_here, broken_off, c
 use Rattle.station_render.proofs.Naming.{made_next, made_still, made_whole, names_next, names_still}
 use Rattle.stations.specs.Creations.{names_in}
 use Rattle.station_render.specs.Listed.{NoneListed, WasListed}
-use Rattle.station_render.proofs.Listing.{all_created, are_telling, counted_more, counted_of, some_created}
+use Rattle.station_render.proofs.Listing.{all_created, are_telling, may_have_made, counted_more, counted_of, some_created}
 use Rattle.station_render.proofs.create.create_each.Goals as goal
 
 pub loop-sink-preserved-in_default : goal.loop-sink-preserved-in_default
@@ -72,7 +72,7 @@ returns-in_err-create_one-clause-begun g c =
     λ library start answers made tried none. broken_off (told g.S.Out.Sink.name) (told g.S.Out.Sink.held) (spared g.S.Out.Sink.room) (owed g.S.Out.Sink.room) (told g.S.Out.Sink.faults) (g.S.Shelf.files c.args.shelf.now) (g.S.Shelf.files c.loop-sink.shelf) c.loop-sink.invariant.files
     (setting_for c.args.plan.now library c.args.clocks.now start) c.args.ticks c.loop-sink.sink-index c.in-Output.name c.as_str.result.now c.in-Output.node c.in-Output.fallible c.in-Output.wide at c.as_str.ensures.same
     c.opening_of-opening.result.clock c.opening_of-opening.result.header c.opening_of-opening.result.body c.loop-sink.order.items c.create_one.new.order.items
-    (lists_of c.loop-sink.groups.items) (lists_of c.create_one.new.groups.items) below c.opening_of-opening.ensures.header (c.loop-sink.invariant.created library start) answers made tried none c.in_err-create_one.ensures.broken
+    (lists_of c.loop-sink.groups.items) (lists_of c.create_one.new.groups.items) below c.opening_of-opening.ensures.header (c.loop-sink.invariant.created library start) answers made tried none _ _ _ c.loop-sink.invariant.made (may_have_made c.in_err-create_one.ensures.unlisted) c.in_err-create_one.ensures.broken
 
 pub loop-sink-preserved : goal.loop-sink-preserved
 loop-sink-preserved g c =
@@ -118,8 +118,10 @@ returns-clause-order g c =
     λ library start. c.loop-sink.invariant.order library start ∙ ap (λ sinks. order_of (setting_for c.args.plan.now library c.args.clocks.now start) (written sinks)) (take_whole c.args.plan.now.sinks c.loop-sink.sink-index all)
 
 pub returns-clause-begun : goal.returns-clause-begun
-returns-clause-begun g c = λ library start answers made tried none. begun_here (told g.S.Out.Sink.name) (told g.S.Out.Sink.held) (spared g.S.Out.Sink.room) (owed g.S.Out.Sink.room) (told g.S.Out.Sink.faults) (g.S.Shelf.files c.args.shelf.now)
-    (setting_for c.args.plan.now library c.args.clocks.now start) c.args.ticks answers made tried none c.loop-sink.sink-index c.loop-sink.order.items (lists_of c.loop-sink.groups.items) (c.loop-sink.invariant.created library start)
+returns-clause-begun g c =
+    let all : length c.args.plan.now.sinks ≤ c.loop-sink.sink-index = subst (λ (xs : List SinkPlan). length xs ≤ c.loop-sink.sink-index) c.as_slice-sink-items.ensures c.loop-sink-test.false in
+    λ library start answers made tried none. begun_here (told g.S.Out.Sink.name) (told g.S.Out.Sink.held) (spared g.S.Out.Sink.room) (owed g.S.Out.Sink.room) (told g.S.Out.Sink.faults) (g.S.Shelf.files c.args.shelf.now)
+    (setting_for c.args.plan.now library c.args.clocks.now start) c.args.ticks answers made tried none c.loop-sink.sink-index c.loop-sink.order.items (lists_of c.loop-sink.groups.items) _ _ c.loop-sink.invariant.made (c.loop-sink.invariant.created library start)
 
 pub returns-in_err-create_one-clause-front : goal.returns-in_err-create_one-clause-front
 returns-in_err-create_one-clause-front g c =

@@ -48,10 +48,10 @@ returns-in_err-make_engines-clause-part g c =
     subst (λ o. AreCreated (IsReady (told g.S.Out.Sink.name) (told g.S.Out.Sink.held) (spared g.S.Out.Sink.room) (owed g.S.Out.Sink.room) (g.S.Shelf.files c.args.shelf.now) setting c.args.job.now.ticks) (written c.args.job.now.plan.now.sinks) o (lists_of c.create_each.new.groups.items))
     order_is (c.in_ok-create_each.ensures.ready c.args.job.now.ready.now.library c.args.job.now.start.second) in
     rw p.1 (λ way trace may.
-    subst (λ (z : List ℕ × List (List (OutputSink g.row.S-Out.Denot))). RanPart (told g.S.Out.Sink.name) (told g.S.Out.Sink.held) (told g.S.Out.Sink.faults) (g.S.Shelf.files c.args.shelf.now) (station_in c.args.job.now way trace) z.0 z.1)
+    subst (λ (z : List ℕ × List (List (OutputSink g.row.S-Out.Denot))). RanPart (told g.S.Out.Sink.name) (told g.S.Out.Sink.held) (told g.S.Out.Sink.faults) (g.S.Shelf.files c.args.shelf.now) (station_in c.args.job.now way trace) z.0 z.1 (g.S.Shelf.created c.args.shelf.now) (g.S.Shelf.created c.create_each.new.shelf))
     (λ i. (sym order_is i, sym c.in_err-make_engines.ensures.back i))
     (starved c.args.job.now.plan.now c.args.job.now.ready.now.library c.args.job.now.ready.now.clocks c.args.job.now.start.second c.args.job.now.ticks (told g.S.Out.Sink.name) (told g.S.Out.Sink.held) (spared g.S.Out.Sink.room) (owed g.S.Out.Sink.room) (told g.S.Out.Sink.faults)
-    (lists_of c.create_each.new.groups.items) (g.S.Shelf.files c.args.shelf.now) way trace c.args.job.now.cues may ready))
+    (lists_of c.create_each.new.groups.items) (g.S.Shelf.files c.args.shelf.now) way trace c.args.job.now.cues may _ _ c.in_ok-create_each.ensures.made ready))
 
 pub returns-clause-opened : goal.returns-clause-opened
 returns-clause-opened g c =

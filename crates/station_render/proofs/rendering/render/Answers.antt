@@ -31,7 +31,7 @@ pub returns-in_err-leave_wanted-clause-part : goal.returns-in_err-leave_wanted-c
 returns-in_err-leave_wanted-clause-part g c =
     let station = station_by c.args.job.now c.args.threading in
     let wrote = c.in_ok-rendered.ensures.done in
-    later_part station _ _ c.in_ok-rendered.rendered wrote _ _ _ _ (later_by station _ _ c.in_ok-rendered.rendered wrote c.args.threading.window refl)
+    later_part station _ _ c.in_ok-rendered.rendered wrote _ _ _ _ _ _ (later_by station _ _ c.in_ok-rendered.rendered wrote c.args.threading.window refl)
     (part_first _ (g.S.Shelf.files c.leave_wanted.new.shelf) _ _ _
     (subst (λ marks. ForSome (g.S.Shelf.files c.render_outputs.new.shelf) (λ files. IsSomeAnd (g.S.Shelf.files c.leave_wanted.new.shelf) (HoldsUpto files (cue_files_by c.args.job.now (cues_of marks))))) c.deref.ensures.value c.leave_wanted.ensures.part))
 
@@ -39,7 +39,7 @@ pub returns-clause-part : goal.returns-clause-part
 returns-clause-part g c =
     let station = station_by c.args.job.now c.args.threading in
     let wrote = c.in_ok-rendered.ensures.done in
-    later_part station _ _ c.in_ok-rendered.rendered wrote _ _ _ _ (later_by station _ _ c.in_ok-rendered.rendered wrote c.args.threading.window refl)
+    later_part station _ _ c.in_ok-rendered.rendered wrote _ _ _ _ _ _ (later_by station _ _ c.in_ok-rendered.rendered wrote c.args.threading.window refl)
     (part_behind _ _ _ _ _
     (subst (λ marks. ForSome (g.S.Shelf.files c.render_outputs.new.shelf) (λ files. g.S.Shelf.files c.leave_wanted.new.shelf ≡ Some (with_outputs files (cue_files_by c.args.job.now (cues_of marks))))) c.deref.ensures.value c.in_ok-leave_wanted.ensures.written)
     c.leave_trace.ensures.part)

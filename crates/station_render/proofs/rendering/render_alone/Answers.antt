@@ -23,14 +23,14 @@ pub returns-in_err-leave_wanted-clause-part : goal.returns-in_err-leave_wanted-c
 returns-in_err-leave_wanted-clause-part g c =
     let station = station_alone c.args.job.now in
     let wrote = c.in_ok-rendered.ensures.done in
-    later_part station _ _ c.in_ok-rendered.rendered wrote _ _ _ _ (later_alone station _ _ c.in_ok-rendered.rendered wrote refl)
+    later_part station _ _ c.in_ok-rendered.rendered wrote _ _ _ _ _ _ (later_alone station _ _ c.in_ok-rendered.rendered wrote refl)
     (subst (λ marks. ForSome (g.S.Shelf.files c.render_outputs_alone.new.shelf) (λ files. IsSomeAnd (g.S.Shelf.files c.leave_wanted.new.shelf) (HoldsUpto files (cue_files_by c.args.job.now (cues_of marks))))) c.deref.ensures.value c.leave_wanted.ensures.part)
 
 pub returns-clause-part : goal.returns-clause-part
 returns-clause-part g c =
     let station = station_alone c.args.job.now in
     let wrote = c.in_ok-rendered.ensures.done in
-    later_part station _ _ c.in_ok-rendered.rendered wrote _ _ _ _ (later_alone station _ _ c.in_ok-rendered.rendered wrote refl)
+    later_part station _ _ c.in_ok-rendered.rendered wrote _ _ _ _ _ _ (later_alone station _ _ c.in_ok-rendered.rendered wrote refl)
     (subst (λ marks. ForSome (g.S.Shelf.files c.render_outputs_alone.new.shelf) (λ files. IsSomeAnd (g.S.Shelf.files c.leave_wanted.new.shelf) (HoldsUpto files (cue_files_by c.args.job.now (cues_of marks))))) c.deref.ensures.value c.leave_wanted.ensures.part)
 
 pub returns-clause-done : goal.returns-clause-done

@@ -18,7 +18,7 @@ use Rattle.station_render.proofs.rendering.render_outputs_again.Goals as goal
 pub returns-in_err-groups-clause-part : goal.returns-in_err-groups-clause-part
 returns-in_err-groups-clause-part g c =
     let none = not_begun (setting_by c.args.job.now) c.args.job.now.ready.now.clocks.running c.args.job.now.ticks (Again c.args.trace.now) c.requires.accepted in
-    λ files at. inl (none_written (station_again c.args.job.now c.args.trace.now) none.run none.begun _ _ (omega arith) _ _ refl files at)
+    λ files at. inl (none_written (station_again c.args.job.now c.args.trace.now) none.run none.begun _ _ (omega arith) _ _ refl _ _ refl files at)
 
 pub close_all-requires-clause-sizes : goal.close_all-requires-clause-sizes
 close_all-requires-clause-sizes g c κs lives =
@@ -36,8 +36,8 @@ close_all-requires-clause-rooms g c κs lives =
 pub returns-clause-part : goal.returns-clause-part
 returns-clause-part g c =
     let station = station_again c.args.job.now c.args.trace.now in
-    c.close_all.ensures.part station (g.S.Shelf.files c.args.shelf.now) _ c.write_again-wrote.ensures.files c.write_again-wrote.ensures.writes
-    (subst (λ o. RanPart (told g.S.Out.Sink.name) (told g.S.Out.Sink.held) (told g.S.Out.Sink.faults) (g.S.Shelf.files c.args.shelf.now) station o (lists_of c.write_again-wrote.new.groups.items)) (sym c.deref.ensures.value) c.write_again-wrote.ensures.part)
+    c.close_all.ensures.part station (g.S.Shelf.files c.args.shelf.now) _ (g.S.Shelf.created c.args.shelf.now) c.write_again-wrote.ensures.files c.write_again-wrote.ensures.writes
+    (subst (λ o. RanPart (told g.S.Out.Sink.name) (told g.S.Out.Sink.held) (told g.S.Out.Sink.faults) (g.S.Shelf.files c.args.shelf.now) station o (lists_of c.write_again-wrote.new.groups.items) (g.S.Shelf.created c.args.shelf.now) (g.S.Shelf.created c.write_again-wrote.new.shelf)) (sym c.deref.ensures.value) c.write_again-wrote.ensures.part)
     (subst (λ o. IfOk c.write_again-wrote.result (RanWhole (told g.S.Out.Sink.name) (told g.S.Out.Sink.held) (owed g.S.Out.Sink.room) (g.S.Shelf.files c.args.shelf.now) station o (lists_of c.write_again-wrote.new.groups.items))) (sym c.deref.ensures.value) c.write_again-wrote.ensures.done)
 
 pub returns-clause-done : goal.returns-clause-done

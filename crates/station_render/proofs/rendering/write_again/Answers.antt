@@ -97,7 +97,7 @@ returns-clause-part g c =
     let some = replay_some c.args.trace.now c.requires.accepted.ticks c.replay-run.ensures.part in
     let len : vec_len c.in_ok-engines.engines ≡ length c.replay-run.new.engines = c.in_ok-engines.engines.ok.0 ∙ ap length (sym c.deref_mut.ensures.value) ∙ sym some.part.size in
     let last = written_back _ c.replay-run.new.engines _ len in
-    part_back (known_alike g.S.Out.Sink.name g.S.Out.Sink.room) c.requires.fit opened last c.take_back.ensures.back some
+    part_back (known_alike g.S.Out.Sink.name g.S.Out.Sink.room) c.requires.fit opened last c.take_back.ensures.back _ _ c.in_ok-engines.ensures.made some
 
 pub returns-clause-cause : goal.returns-clause-cause
 returns-clause-cause g c =

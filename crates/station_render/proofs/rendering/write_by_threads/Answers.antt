@@ -73,7 +73,7 @@ returns-clause-part g c =
     let opened = c.in_ok-engines.ensures.opened in
     let are = engines_are (known_alike g.S.Out.Sink.name g.S.Out.Sink.room) c.requires.fit opened c.args.job.now.start.in_week in
     let some = threads_some opened.at (c.run_threads-engines.ensures.part _ are) in
-    part_back (known_alike g.S.Out.Sink.name g.S.Out.Sink.room) c.requires.fit opened refl c.take_back.ensures.back some
+    part_back (known_alike g.S.Out.Sink.name g.S.Out.Sink.room) c.requires.fit opened refl c.take_back.ensures.back _ _ c.in_ok-engines.ensures.made some
 
 pub returns-clause-cause : goal.returns-clause-cause
 returns-clause-cause g c =
