@@ -42,6 +42,7 @@ pub fn replay_job<S: Shelf>(
     let work = prepare(alloc, file, None, false, ticks, shelf)?;
     texts_have_one_meaning();
     let told = find_trace(alloc, &work.plan, &work.ready, start, ticks, trace, shelf)?;
+    let chunks = told.chunks;
     infallible_outputs_have_no_gaps();
     threads_render_as_one_thread();
     one_thread_has_one_record();
@@ -54,6 +55,6 @@ pub fn replay_job<S: Shelf>(
         ticks,
         cues: false,
     };
-    let rendered = render_again(alloc, &job, &told, shelf)?;
+    let rendered = render_again(alloc, &job, &told.trace, chunks, shelf)?;
     report_or_halt(report(alloc, &work.plan, ticks, &rendered))
 }

@@ -2,6 +2,7 @@
 ghost use Rattle.std.specs.Prelude.{◌≡◌, ℕ, IfOk};
 ghost use Rattle.std.specs.Option.{ForSome};
 ghost use Rattle.trace_log.specs.Texts.{IsTrace};
+ghost use Rattle.trace_replay.specs.Chunks.{AreAllChunks};
 ghost use Rattle.trace_replay.specs.Traces.{IsAccepted};
 ghost use Rattle.trace_replay.specs.Turns.{base_of};
 ghost use Rattle.stream_meaning.specs.Instants.{Setting};
@@ -18,14 +19,21 @@ use refusal_lines::{Fault, ReplayFault};
 use stations::Ready;
 use std::alloc::Global;
 use trace_log::{Trace, TraceFault, read};
-use trace_replay::accepts;
+use trace_replay::{RecordChunks, find_record};
 
 /// Bytes of a trace, at most.
 const MAX_TRACE_BYTES: u64 = 268_435_456;
 
-/// The trace in the file of this name, where it is that of a lawful record of so many ticks of the plan from this second of the week on,
-/// whose ticks can be ordered. `docs/faults.md` has the faults, which are looked for in this order: no file, too many bytes, another
-/// form, no such record.
+/// A trace by which a script is rendered again, and all the chunks of its record.
+#[derive(Drop)]
+pub struct FoundTrace {
+    pub trace: Trace,
+    pub chunks: RecordChunks,
+}
+
+/// The trace in the file of this name, with all the chunks of its record, where it is that of a lawful record of so many ticks of the plan
+/// from this second of the week on, whose ticks can be ordered. `docs/faults.md` has the faults, which are looked for in this order: no
+/// file, too many bytes, another form, no such record.
 pub fn find_trace<S: Shelf>(
     alloc: Global,
     plan: &Plan,
@@ -34,11 +42,12 @@ pub fn find_trace<S: Shelf>(
     ticks: u64,
     name: &str,
     shelf: &mut S,
-) -> Result<Trace, Halt>
+) -> Result<FoundTrace, Halt>
     requires { IsFit plan.now ready.now.library ready.now.clocks ticks }
-    ensures form { IfOk result (λ trace. IsTrace trace) }
-    ensures found { IfOk result (λ trace. ForSome (S.files shelf.old) (λ files. HasTrace files name.now trace)) }
-    ensures fits { IfOk result (λ trace. IsAccepted (base_of plan.now ready.now.library ready.now.clocks start.second) ready.now.clocks.running ticks trace) }
+    ensures form { IfOk result (λ found. IsTrace found.trace) }
+    ensures found { IfOk result (λ found. ForSome (S.files shelf.old) (λ files. HasTrace files name.now found.trace)) }
+    ensures fits { IfOk result (λ found. IsAccepted (base_of plan.now ready.now.library ready.now.clocks start.second) ready.now.clocks.running ticks found.trace) }
+    ensures chunks { IfOk result (λ found. AreAllChunks (base_of plan.now ready.now.library ready.now.clocks start.second) ready.now.clocks found.trace found.chunks) }
     ensures ends { TraceEnds (S.files shelf.old) name.now (base_of plan.now ready.now.library ready.now.clocks start.second) ready.now.clocks.running ticks
         (S.read_count shelf.old) (S.read_count shelf.new) result }
     ensures shelf { OnlyRead S.files S.read_count S.write_count shelf.old shelf.new }
@@ -46,7 +55,7 @@ pub fn find_trace<S: Shelf>(
     ensures closed { S.closed shelf.new ≡ S.closed shelf.old }
 {
     let trace = read_trace(alloc, name, shelf)?;
-    let fits = accepts(
+    let found = find_record(
         alloc,
         plan,
         &ready.clocks,
@@ -55,10 +64,10 @@ pub fn find_trace<S: Shelf>(
         ticks,
         &trace,
     )?;
-    if !fits {
+    let Some(chunks) = found else {
         return Err(Halt::Refused(Fault::Replay(ReplayFault::DoesNotFit)));
-    }
-    Ok(trace)
+    };
+    Ok(FoundTrace { trace, chunks })
 }
 
 // The trace in the file of this name.

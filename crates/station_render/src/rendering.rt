@@ -9,6 +9,7 @@ ghost use Rattle.station_render.specs.OutputSinks.{owed, told};
 ghost use Rattle.station_render.specs.Sinks.{AreEmpty, HasFailed, lists_of};
 ghost use Rattle.station_render.specs.Runs.{IsFitting, IsRendered, RanPart, RanWhole, WroteOutputs, setting_by, station_again, station_alone, station_by};
 ghost use Rattle.trace_log.specs.Texts.{IsTrace};
+ghost use Rattle.trace_replay.specs.Chunks.{AreAllChunks};
 ghost use Rattle.trace_replay.specs.Traces.{IsAccepted};
 
 use crate::close::close_all;
@@ -26,7 +27,7 @@ use std::alloc::Global;
 use std::sync::Wait;
 use std::thread::Threads;
 use trace_log::Trace;
-use trace_replay::replay;
+use trace_replay::{RecordChunks, replay};
 
 /// Renders a job into the files of its outputs, and answers what is told of it. The outputs are created in sink order, each
 /// with room for exactly its bytes and with its header as one piece; then each clock makes its ticks on a thread of its own,
@@ -84,17 +85,19 @@ pub fn render_alone<S: Shelf>(
 }
 
 /// The same again, as an accepted trace of this job tells, on one thread: between the creations and the closings one clock after another
-/// makes all its ticks, and its buffers answer as they did in the run that left the trace. It leaves no trace. The rules stand in
-/// `docs/buffers.md`.
+/// makes all its ticks, and its buffers answer as they did in the run that left the trace. The chunks are all those of the trace's record.
+/// It leaves no trace. The rules stand in `docs/buffers.md`.
 pub fn render_again<S: Shelf>(
     alloc: Global,
     job: &Job<'_>,
     trace: &Trace,
+    chunks: RecordChunks,
     shelf: &mut S,
 ) -> Result<Rendered, RenderFault>
     requires fit { IsFitting job.now }
     requires trace { IsTrace trace.now }
     requires accepted { IsAccepted (setting_by job.now) job.now.ready.now.clocks.running job.now.ticks trace.now }
+    requires chunks { AreAllChunks (setting_by job.now) job.now.ready.now.clocks trace.now chunks }
     ensures done { IfOk result (IsRendered (station_again job.now trace.now) (S.files shelf.old) (S.files shelf.new)) }
     ensures part { ForSome (S.files shelf.old) (λ files. WrotePart (station_again job.now trace.now)
         (S.write_count shelf.old) (S.write_count shelf.new) files (S.files shelf.new) (S.created shelf.old) (S.created shelf.new)) }
@@ -106,7 +109,7 @@ pub fn render_again<S: Shelf>(
     ensures reads { S.read_count shelf.old ≤ S.read_count shelf.new }
     ensures writes { S.write_count shelf.old ≤ S.write_count shelf.new }
 {
-    let rendered = render_outputs_again(alloc, job, trace, shelf)?;
+    let rendered = render_outputs_again(alloc, job, trace, chunks, shelf)?;
     leave_wanted(alloc, job, &rendered.cues, shelf)?;
     Ok(rendered)
 }
@@ -176,11 +179,13 @@ fn render_outputs_again<S: Shelf>(
     alloc: Global,
     job: &Job<'_>,
     trace: &Trace,
+    chunks: RecordChunks,
     shelf: &mut S,
 ) -> Result<Rendered, RenderFault>
     requires fit { IsFitting job.now }
     requires trace { IsTrace trace.now }
     requires accepted { IsAccepted (setting_by job.now) job.now.ready.now.clocks.running job.now.ticks trace.now }
+    requires chunks { AreAllChunks (setting_by job.now) job.now.ready.now.clocks trace.now chunks }
     ensures done { IfOk result (WroteOutputs (station_again job.now trace.now) (S.files shelf.old) (S.files shelf.new)) }
     ensures part { ForSome (S.files shelf.old) (λ files. WrotePart (station_again job.now trace.now)
         (S.write_count shelf.old) (S.write_count shelf.new) files (S.files shelf.new) (S.created shelf.old) (S.created shelf.new)) }
@@ -194,7 +199,7 @@ fn render_outputs_again<S: Shelf>(
 {
     let mut order = Vec::new(alloc);
     let mut groups = no_sinks(alloc, job.ready.clocks.running)?;
-    let wrote = write_again(alloc, job, trace, shelf, &mut order, &mut groups);
+    let wrote = write_again(alloc, job, trace, chunks, shelf, &mut order, &mut groups);
     close_all(shelf, &order, groups, wrote)
 }
 
@@ -270,6 +275,7 @@ fn write_again<S: Shelf>(
     alloc: Global,
     job: &Job<'_>,
     trace: &Trace,
+    chunks: RecordChunks,
     shelf: &mut S,
     order: &mut Vec<u32>,
     groups: &mut Vec<Vec<OutputSink<S::Out>>>,
@@ -277,6 +283,7 @@ fn write_again<S: Shelf>(
     requires fit { IsFitting job.now }
     requires trace { IsTrace trace.now }
     requires accepted { IsAccepted (setting_by job.now) job.now.ready.now.clocks.running job.now.ticks trace.now }
+    requires chunks { AreAllChunks (setting_by job.now) job.now.ready.now.clocks trace.now chunks }
     requires none { order.old.items ≡ [] }
     requires empty { AreEmpty job.now.ready.now.clocks.running (lists_of groups.old.items) }
     ensures done { IfOk result (RanWhole (told S.Out.name) (told S.Out.held) (owed S.Out.room) (S.files shelf.old) (station_again job.now trace.now) order.new.items (lists_of groups.new.items)) }
@@ -299,6 +306,7 @@ fn write_again<S: Shelf>(
         job.start,
         &mut engines,
         trace,
+        chunks,
     );
     take_back(alloc, job, engines, run, groups)
 }

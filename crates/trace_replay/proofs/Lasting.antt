@@ -175,26 +175,6 @@ module _ {S : Type 0} (held name : S → Option (List ℕ)) (faults : S → ℕ)
     write = λ failed sink e. absurd (no_write_here end is failed sink e);
   }
 
-  -- none of them
-  pub none_to : (first : List (ClockEngine S)) (end : End) → end ≡ NoMemory → HasReplayedTo held name faults appends setting N first first end
-  none_to first end is = record {
-    clock = 0;
-    made = 0;
-    tried = 0;
-    no_fewer = omega arith;
-    one_more = omega arith;
-    most = omega arith;
-    part = record {
-      size = refl;
-      each = λ j before after was at.
-          let both : Some before ≡ Some after = sym was ∙ at in
-          let same : before ≡ after = cc in
-          let none : ticks_to N 0 0 j ≡ 0 = elim (same_or_other j 0) [ inl e ↦ to_here N 0 0 j e | inr other ↦ to_above N 0 0 j (omega (arith, other)) ] in
-          subst (λ n. Part n (ticks_to N 0 0 j) before after) (sym none) (subst (λ n. Part 0 n before after) (sym none) (subst (λ x. Part 0 0 before x) same (part_none before)));
-    };
-    write = λ failed sink e. absurd (no_write_here end (λ done. is) failed sink e);
-  }
-
   -- the same end, told again
   pub ended_so : (first now : List (ClockEngine S)) (end told : End) → told ≡ end → HasReplayedTo held name faults appends setting N first now end → HasReplayedTo held name faults appends setting N first now told
   ended_so first now end told is to = subst (HasReplayedTo held name faults appends setting N first now) (sym is) to

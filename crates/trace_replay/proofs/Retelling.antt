@@ -97,7 +97,3 @@ pub run_told : (base : Setting) (clocks : ClockMap) → IsSetting base clocks �
 run_told base clocks is trace run other of lawful e =
     text_is_whole base clocks is trace.window trace.ticks run other of.lawful lawful
     (λ b low. told_by base clocks.running trace run of b low ∙ ap (λ (t : TraceValue). text_of t.buffers b) e ∙ ap (map pair_of) (log_at other.buffers b) ∙ same_text (windows_of other b)) of.ordered
-
--- a trace by what stands in it
-pub trace_is : (trace : TraceValue) (ticks window : ℕ) (logs : List (List Answers)) → ticks ≡ trace.ticks → window ≡ trace.window → logs ≡ trace.buffers → trace ≡ record { ticks = ticks; window = window; buffers = logs }
-trace_is trace ticks window logs ticks_are window_is logs_are = λ i. record { ticks = sym ticks_are i; window = sym window_is i; buffers = sym logs_are i }

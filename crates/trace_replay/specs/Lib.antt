@@ -5,6 +5,7 @@ pub mod Answering
 pub mod Turns
 pub mod Finds
 pub mod Traces
+pub mod Chunks
 pub mod Listings
 pub mod Replaying
 pub mod Replays

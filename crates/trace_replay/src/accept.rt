@@ -7,12 +7,12 @@ ghost use Rattle.trace_replay.specs.Passes.{IsOrderedText};
 ghost use Rattle.trace_replay.specs.Traces.{AreNew, IsAccepted, text_of};
 ghost use Rattle.trace_replay.specs.Turns.{AreSides, AreTold, base_of};
 
-use crate::buffers::{all_legal, sides_of, told_buffers, unread_stay};
-use crate::course::Course;
+use crate::buffers::{all_legal, unread_stay};
 use crate::ends::Ends;
 use crate::find::find_chunks;
 use crate::station::{Sides, Station};
 use crate::taps::ToldTaps;
+use crate::whole::find_record;
 use buffer_ends::BufferLog;
 use clock_infer::ClockMap;
 use fixed_text::WeekSecond;
@@ -71,30 +71,5 @@ pub fn accepts(
     ensures yes { IfOk result (λ accepted. accepted ≡ true → IsAccepted (base_of plan.now library.now clocks.now start.second) clocks.now.running ticks trace.now) }
     ensures no { IfOk result (λ accepted. accepted ≡ false → IsAccepted (base_of plan.now library.now clocks.now start.second) clocks.now.running ticks trace.now → ⊥) }
 {
-    if trace.ticks != ticks || trace.buffers.len() != plan.buffers.len() {
-        return Ok(false);
-    }
-    let station = Station {
-        plan,
-        clocks,
-        library,
-        start,
-    };
-    let sides = sides_of(alloc, plan, clocks)?;
-    let (buffers, ends) = told_buffers(alloc, plan.buffers.as_slice(), &trace.buffers)?;
-    let mut taps = ToldTaps {
-        buffers,
-        course: Course::Goes,
-        alloc,
-    };
-    judge(
-        alloc,
-        &station,
-        &mut taps,
-        &sides,
-        &ends,
-        trace.window,
-        trace.ticks,
-        &trace.buffers,
-    )
+    Ok(find_record(alloc, plan, clocks, library, start, ticks, trace)?.is_some())
 }

@@ -25,5 +25,5 @@ pub use laws::{
     onward_traces_are_accepted, ordered_traces_are_accepted, replays_are_of_the_run,
     told_windows_are_legal,
 };
-pub use whole::replay;
+pub use whole::{RecordChunks, find_record, replay};
 pub use windows::is_legal;

@@ -11,13 +11,6 @@ pub fn ticks_of(trace: &Trace) -> u64
     trace.ticks
 }
 
-/// The ticks of its windows.
-pub fn window_of(trace: &Trace) -> u64
-    ensures { result ≡ trace.now.window }
-{
-    trace.window
-}
-
 /// The answers of each buffer.
 pub fn logs_of(trace: &Trace) -> &[BufferLog]
     ensures { result.now ≡ trace.now.buffers }

@@ -1,20 +1,21 @@
-// The replay of the record that a trace tells.
-ghost use Rattle.std.specs.Prelude.{◌≡◌, IfOk, length, map};
+// The record that a trace tells is found, and rendered again.
+ghost use Rattle.std.specs.Prelude.{◌≡◌, IfOk, None, length, map};
+ghost use Rattle.std.specs.Option.{ForSome};
 ghost use Rattle.buffer_ends.specs.declared.run_end.End.TheVariants.{Done, Memory as NoMemory};
 ghost use Rattle.stream_meaning.specs.Settings.{IsSetting};
 ghost use Rattle.rounds_run.specs.Rounds.{AreEngines};
 ghost use Rattle.trace_log.specs.Texts.{IsTrace};
-ghost use Rattle.trace_replay.specs.Finds.{HaveFound, base_at};
+ghost use Rattle.trace_replay.specs.Chunks.{AreAllChunks};
 ghost use Rattle.trace_replay.specs.Replays.{HasReplayedAll, HasReplayedSome};
-ghost use Rattle.trace_replay.specs.Traces.{IsAccepted, counts_in, text_of};
-ghost use Rattle.trace_replay.specs.Turns.{AreSides, AreTold, base_of};
+ghost use Rattle.trace_replay.specs.Traces.{IsAccepted, counts_in};
+ghost use Rattle.trace_replay.specs.Turns.{base_of};
 
 use crate::accept::judge;
 use crate::buffers::{sides_of, told_buffers};
 use crate::course::Course;
 use crate::engines::replay_engines;
 use crate::logs::told_run;
-use crate::parts::{logs_of, ticks_of, window_of};
+use crate::parts::logs_of;
 use crate::station::{Sides, Station};
 use crate::taps::ToldTaps;
 use buffer_ends::{BufferLog, End, RunEnd};
@@ -25,37 +26,75 @@ use frame_core::Library;
 use liq_base::{Memory, Sink};
 use plan_core::Plan;
 use std::alloc::Global;
+use std::marker::Model;
 use trace_log::Trace;
 
-// The buffers of a plan with all the chunks of the record that a text tells, and the clocks of their ends. The text of a
-// trace that is accepted tells them all, so memory alone is missing where there is no answer.
-fn all_chunks(
+/// All the chunks of the record that an accepted trace tells: what the feeds of its buffers put, buffer by buffer. `docs/buffers.md`, "A
+/// record from its text", says what they take of memory.
+#[derive(Drop)]
+pub struct RecordChunks {
+    taps: ToldTaps,
+    sides: Sides,
+}
+
+impl Model for RecordChunks {
+    ghost use Rattle.trace_replay.specs.Chunks.{HeldChunks, held_coded};
+
+    ghost Value = { HeldChunks };
+
+    ghost coded = { held_coded };
+
+    ghost view = { λ chunks. record { buffers = chunks.taps.buffers.items; feeders = chunks.sides.feeders.items; readers = chunks.sides.readers.items } };
+}
+
+/// All the chunks of the record that a trace tells, where the trace, which was read, is that of a lawful record of so many ticks of a
+/// plan, with its clocks, its files and its start second, whose ticks can be ordered; and nothing where it is not. Only want of memory
+/// comes in place of an answer.
+pub fn find_record(
     alloc: Global,
-    station: &Station<'_>,
-    window: u64,
+    plan: &Plan,
+    clocks: &ClockMap,
+    library: &Library,
+    start: WeekSecond,
     ticks: u64,
-    logs: &[BufferLog],
-) -> Result<(ToldTaps, Sides), Memory>
-    requires setting { IsSetting (base_at station.now) station.now.clocks.now }
-    requires trace { IsTrace (record { ticks = ticks; window = window; buffers = logs.now }) }
-    requires buffers { length logs.now ≡ length station.now.plan.now.buffers }
-    ensures told { IfOk result (λ r. AreTold (base_at station.now) (text_of logs.now) r.0.buffers.items) }
-    ensures found { IfOk result (λ r. HaveFound (base_at station.now) station.now.clocks.now window ticks (text_of logs.now) r.0.buffers.items) }
-    ensures sides { IfOk result (λ r. AreSides (base_at station.now) r.1.feeders.items r.1.readers.items) }
+    trace: &Trace,
+) -> Result<Option<RecordChunks>, Memory>
+    requires setting { IsSetting (base_of plan.now library.now clocks.now start.second) clocks.now }
+    requires trace { IsTrace trace.now }
+    ensures yes { IfOk result (λ found. ForSome found (λ chunks. IsAccepted (base_of plan.now library.now clocks.now start.second) clocks.now.running ticks trace.now)) }
+    ensures chunks { IfOk result (λ found. ForSome found (λ chunks. AreAllChunks (base_of plan.now library.now clocks.now start.second) clocks.now trace.now chunks)) }
+    ensures no { IfOk result (λ found. found ≡ None → IsAccepted (base_of plan.now library.now clocks.now start.second) clocks.now.running ticks trace.now → ⊥) }
 {
-    let sides = sides_of(alloc, station.plan, station.clocks)?;
-    let (buffers, ends) = told_buffers(alloc, station.plan.buffers.as_slice(), logs)?;
+    if trace.ticks != ticks || trace.buffers.len() != plan.buffers.len() {
+        return Ok(None);
+    }
+    let station = Station {
+        plan,
+        clocks,
+        library,
+        start,
+    };
+    let sides = sides_of(alloc, plan, clocks)?;
+    let (buffers, ends) = told_buffers(alloc, plan.buffers.as_slice(), &trace.buffers)?;
     let mut taps = ToldTaps {
         buffers,
         course: Course::Goes,
         alloc,
     };
-    if judge(
-        alloc, station, &mut taps, &sides, &ends, window, ticks, logs,
-    )? {
-        return Ok((taps, sides));
+    let fits = judge(
+        alloc,
+        &station,
+        &mut taps,
+        &sides,
+        &ends,
+        trace.window,
+        trace.ticks,
+        &trace.buffers,
+    )?;
+    if !fits {
+        return Ok(None);
     }
-    Err(Memory)
+    Ok(Some(RecordChunks { taps, sides }))
 }
 
 // The answers of a whole run, or want of memory.
@@ -83,7 +122,7 @@ fn ended(alloc: Global, end: End) -> RunEnd
 
 /// Renders the ticks of an accepted trace again, on one thread: each output gets the bytes of the record that the trace
 /// tells. The engines stand in clock order, one for each clock that runs, made no tick, and are over this plan, with these
-/// clocks, files and start second. Done answers the trace's logs and their numbers. The first fault ends the run: the engines
+/// clocks, files and start second; the chunks are those of this trace. Done answers the trace's logs and their numbers. The first fault ends the run: the engines
 /// before the one that it stopped have made all their ticks, and those behind it none.
 pub fn replay<O: Sink>(
     alloc: Global,
@@ -93,12 +132,14 @@ pub fn replay<O: Sink>(
     start: WeekSecond,
     engines: &mut [ClockEngine<'_, O>],
     trace: &Trace,
+    chunks: RecordChunks,
 ) -> RunEnd
     requires setting { IsSetting (base_of plan.now library.now clocks.now start.second) clocks.now }
     requires trace { IsTrace trace.now }
     requires accepted { IsAccepted (base_of plan.now library.now clocks.now start.second) clocks.now.running trace.now.ticks trace.now }
     requires engines { AreEngines O.room trace.now.ticks (base_of plan.now library.now clocks.now start.second) engines.old }
     requires all { length engines.old ≡ clocks.now.running }
+    requires chunks { AreAllChunks (base_of plan.now library.now clocks.now start.second) clocks.now trace.now chunks }
     ensures done { result.end ≡ Done
         → HasReplayedAll O.held O.name O.faults O.appends (base_of plan.now library.now clocks.now start.second) clocks.now.running trace.now engines.old engines.new result.counts.items result.logs.items }
     ensures part { HasReplayedSome O.held O.name O.faults O.appends (base_of plan.now library.now clocks.now start.second) clocks.now.running trace.now engines.old engines.new result.end }
@@ -110,10 +151,7 @@ pub fn replay<O: Sink>(
         start,
     };
     let logs = logs_of(trace);
-    let Ok((mut taps, sides)) = all_chunks(alloc, &station, window_of(trace), ticks_of(trace), logs)
-    else {
-        return ended(alloc, End::Memory);
-    };
+    let RecordChunks { mut taps, sides } = chunks;
     match replay_engines(alloc, &station, engines, &mut taps, &sides, trace) {
         Ok(()) => told_or_ended(alloc, logs),
         Err(end) => ended(alloc, end),

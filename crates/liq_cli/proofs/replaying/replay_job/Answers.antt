@@ -53,9 +53,9 @@ returns-in_err-rendered-clause-stops g c =
       one_stop = c.texts_have_one_meaning.ensures.one_stop;
       never_both = c.texts_have_one_meaning.ensures.never_both;
     } in
-    broke_off (Replay c.args.file.now c.args.start.second c.args.ticks.count c.args.trace.now) _ _ _ _ _ (Again c.in_ok-told.told) refl
-    (λ files t. replay_ruled c.args.file.now c.args.start.second c.args.ticks.count c.args.trace.now files _ _ _ (c.in_ok-work.ensures.found files t) (Tells c.in_ok-told.told)
-    (one_told tells_one files c.args.trace.now _ _ _ (Tells c.in_ok-told.told) (record { has = c.in_ok-told.ensures.found files (c.prepare.ensures.shelf.files_kept ∙ t); fits = c.in_ok-told.ensures.fits }))) laws c.in_ok-work.ensures.fit c.args.start.in_week
+    broke_off (Replay c.args.file.now c.args.start.second c.args.ticks.count c.args.trace.now) _ _ _ _ _ (Again c.in_ok-told.told.trace) refl
+    (λ files t. replay_ruled c.args.file.now c.args.start.second c.args.ticks.count c.args.trace.now files _ _ _ (c.in_ok-work.ensures.found files t) (Tells c.in_ok-told.told.trace)
+    (one_told tells_one files c.args.trace.now _ _ _ (Tells c.in_ok-told.told.trace) (record { has = c.in_ok-told.ensures.found files (c.prepare.ensures.shelf.files_kept ∙ t); fits = c.in_ok-told.ensures.fits }))) laws c.in_ok-work.ensures.fit c.args.start.in_week
     _ _ _ _ _ _ _ _ _ (omega (arith, c.prepare.ensures.shelf.writes_grew, c.find_trace.ensures.shelf.writes_grew)) (c.find_trace.ensures.created ∙ c.prepare.ensures.created)
     (λ files t. c.render_again.ensures.part files ((c.find_trace.ensures.shelf.files_kept ∙ c.prepare.ensures.shelf.files_kept) ∙ t)) (λ at. c.in_err-rendered.ensures.cause (ap Err at)))
 
@@ -68,9 +68,9 @@ returns-in_err-rendered-clause-order g c =
       one_stop = c.texts_have_one_meaning.ensures.one_stop;
       never_both = c.texts_have_one_meaning.ensures.never_both;
     } in
-    created_broken (Replay c.args.file.now c.args.start.second c.args.ticks.count c.args.trace.now) _ _ _ _ (Again c.in_ok-told.told) refl
-    (λ files t. replay_ruled c.args.file.now c.args.start.second c.args.ticks.count c.args.trace.now files _ _ _ (c.in_ok-work.ensures.found files t) (Tells c.in_ok-told.told)
-    (one_told tells_one files c.args.trace.now _ _ _ (Tells c.in_ok-told.told) (record { has = c.in_ok-told.ensures.found files (c.prepare.ensures.shelf.files_kept ∙ t); fits = c.in_ok-told.ensures.fits }))) _ _ _ (same_sinks g.S.Shelf.created g.S.Shelf.closed _ _ (c.find_trace.ensures.created ∙ c.prepare.ensures.created) (c.find_trace.ensures.closed ∙ c.prepare.ensures.closed)) _ c.render_again.ensures.front)
+    created_broken (Replay c.args.file.now c.args.start.second c.args.ticks.count c.args.trace.now) _ _ _ _ (Again c.in_ok-told.told.trace) refl
+    (λ files t. replay_ruled c.args.file.now c.args.start.second c.args.ticks.count c.args.trace.now files _ _ _ (c.in_ok-work.ensures.found files t) (Tells c.in_ok-told.told.trace)
+    (one_told tells_one files c.args.trace.now _ _ _ (Tells c.in_ok-told.told.trace) (record { has = c.in_ok-told.ensures.found files (c.prepare.ensures.shelf.files_kept ∙ t); fits = c.in_ok-told.ensures.fits }))) _ _ _ (same_sinks g.S.Shelf.created g.S.Shelf.closed _ _ (c.find_trace.ensures.created ∙ c.prepare.ensures.created) (c.find_trace.ensures.closed ∙ c.prepare.ensures.closed)) _ c.render_again.ensures.front)
 
 pub returns-clause-stops : goal.returns-clause-stops
 returns-clause-stops g c =
@@ -86,9 +86,9 @@ returns-clause-stops g c =
       one_stop = c.texts_have_one_meaning.ensures.one_stop;
       never_both = c.texts_have_one_meaning.ensures.never_both;
     } in
-    ended_written (Replay c.args.file.now c.args.start.second c.args.ticks.count c.args.trace.now) _ _ _ _ _ (Again c.in_ok-told.told) refl
-    (λ files t. replay_ruled c.args.file.now c.args.start.second c.args.ticks.count c.args.trace.now files _ _ _ (c.in_ok-work.ensures.found files t) (Tells c.in_ok-told.told)
-    (one_told tells_one files c.args.trace.now _ _ _ (Tells c.in_ok-told.told) (record { has = c.in_ok-told.ensures.found files (c.prepare.ensures.shelf.files_kept ∙ t); fits = c.in_ok-told.ensures.fits }))) laws c.in_ok-work.ensures.fit c.args.start.in_week
+    ended_written (Replay c.args.file.now c.args.start.second c.args.ticks.count c.args.trace.now) _ _ _ _ _ (Again c.in_ok-told.told.trace) refl
+    (λ files t. replay_ruled c.args.file.now c.args.start.second c.args.ticks.count c.args.trace.now files _ _ _ (c.in_ok-work.ensures.found files t) (Tells c.in_ok-told.told.trace)
+    (one_told tells_one files c.args.trace.now _ _ _ (Tells c.in_ok-told.told.trace) (record { has = c.in_ok-told.ensures.found files (c.prepare.ensures.shelf.files_kept ∙ t); fits = c.in_ok-told.ensures.fits }))) laws c.in_ok-work.ensures.fit c.args.start.in_week
     c.report_or_halt.result _ _ _ _ _ _ _ _ c.report_or_halt.ensures.starved (omega (arith, c.prepare.ensures.shelf.writes_grew, c.find_trace.ensures.shelf.writes_grew)) (c.find_trace.ensures.created ∙ c.prepare.ensures.created)
     (λ files t. c.render_again.ensures.part files ((c.find_trace.ensures.shelf.files_kept ∙ c.prepare.ensures.shelf.files_kept) ∙ t))
 
@@ -106,17 +106,17 @@ returns-clause-done g c =
       one_stop = c.texts_have_one_meaning.ensures.one_stop;
       never_both = c.texts_have_one_meaning.ensures.never_both;
     } in
-    let station = station_of c.in_ok-work.work.plan c.in_ok-work.work.ready c.args.start.second c.args.ticks.count (Again c.in_ok-told.told) None false in
+    let station = station_of c.in_ok-work.work.plan c.in_ok-work.work.ready c.args.start.second c.args.ticks.count (Again c.in_ok-told.told.trace) None false in
     of_report c.report_or_halt.result c.report.result _ _ c.report_or_halt.ensures.told c.report.ensures
-    (λ text tells. rendered (Replay c.args.file.now c.args.start.second c.args.ticks.count c.args.trace.now) _ _ _ _ _ (Again c.in_ok-told.told) refl
-    (λ files t. replay_ruled c.args.file.now c.args.start.second c.args.ticks.count c.args.trace.now files _ _ _ (c.in_ok-work.ensures.found files t) (Tells c.in_ok-told.told)
-    (one_told tells_one files c.args.trace.now _ _ _ (Tells c.in_ok-told.told) (record { has = c.in_ok-told.ensures.found files (c.prepare.ensures.shelf.files_kept ∙ t); fits = c.in_ok-told.ensures.fits }))) laws c.in_ok-work.ensures.fit c.args.start.in_week
+    (λ text tells. rendered (Replay c.args.file.now c.args.start.second c.args.ticks.count c.args.trace.now) _ _ _ _ _ (Again c.in_ok-told.told.trace) refl
+    (λ files t. replay_ruled c.args.file.now c.args.start.second c.args.ticks.count c.args.trace.now files _ _ _ (c.in_ok-work.ensures.found files t) (Tells c.in_ok-told.told.trace)
+    (one_told tells_one files c.args.trace.now _ _ _ (Tells c.in_ok-told.told.trace) (record { has = c.in_ok-told.ensures.found files (c.prepare.ensures.shelf.files_kept ∙ t); fits = c.in_ok-told.ensures.fits }))) laws c.in_ok-work.ensures.fit c.args.start.in_week
     _ _ c.in_ok-rendered.rendered (c.find_trace.ensures.shelf.files_kept ∙ c.prepare.ensures.shelf.files_kept) c.in_ok-rendered.ensures.done (λ run is. tells station run refl refl is))
 
 pub report-requires-clause-many : goal.report-requires-clause-many
 report-requires-clause-many g c =
     let is = c.in_ok-rendered.ensures.done in
-    as_many (station_of c.in_ok-work.work.plan c.in_ok-work.work.ready c.args.start.second c.args.ticks.count (Again c.in_ok-told.told) None false) is.run _ is.told.gaps_are
+    as_many (station_of c.in_ok-work.work.plan c.in_ok-work.work.ready c.args.start.second c.args.ticks.count (Again c.in_ok-told.told.trace) None false) is.run _ is.told.gaps_are
 
 pub returns-clause-order : goal.returns-clause-order
 returns-clause-order g c =
@@ -125,7 +125,7 @@ returns-clause-order g c =
       one_stop = c.texts_have_one_meaning.ensures.one_stop;
       never_both = c.texts_have_one_meaning.ensures.never_both;
     } in
-    created_all (Replay c.args.file.now c.args.start.second c.args.ticks.count c.args.trace.now) _ _ _ _ (Again c.in_ok-told.told) refl
-    (λ files t. replay_ruled c.args.file.now c.args.start.second c.args.ticks.count c.args.trace.now files _ _ _ (c.in_ok-work.ensures.found files t) (Tells c.in_ok-told.told)
-    (one_told tells_one files c.args.trace.now _ _ _ (Tells c.in_ok-told.told) (record { has = c.in_ok-told.ensures.found files (c.prepare.ensures.shelf.files_kept ∙ t); fits = c.in_ok-told.ensures.fits }))) _ _ _ (same_sinks g.S.Shelf.created g.S.Shelf.closed _ _ (c.find_trace.ensures.created ∙ c.prepare.ensures.created) (c.find_trace.ensures.closed ∙ c.prepare.ensures.closed))
+    created_all (Replay c.args.file.now c.args.start.second c.args.ticks.count c.args.trace.now) _ _ _ _ (Again c.in_ok-told.told.trace) refl
+    (λ files t. replay_ruled c.args.file.now c.args.start.second c.args.ticks.count c.args.trace.now files _ _ _ (c.in_ok-work.ensures.found files t) (Tells c.in_ok-told.told.trace)
+    (one_told tells_one files c.args.trace.now _ _ _ (Tells c.in_ok-told.told.trace) (record { has = c.in_ok-told.ensures.found files (c.prepare.ensures.shelf.files_kept ∙ t); fits = c.in_ok-told.ensures.fits }))) _ _ _ (same_sinks g.S.Shelf.created g.S.Shelf.closed _ _ (c.find_trace.ensures.created ∙ c.prepare.ensures.created) (c.find_trace.ensures.closed ∙ c.prepare.ensures.closed))
     c.report_or_halt.result c.report_or_halt.ensures.starved (record { created = c.in_ok-rendered.ensures.made; closed = c.in_ok-rendered.ensures.closed; pieces = c.in_ok-rendered.ensures.pieces })

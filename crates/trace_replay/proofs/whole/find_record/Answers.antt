@@ -1,0 +1,25 @@
+use Rattle.std.proofs.Common.{◌∙◌, List, length, refl, rules, sym, subst}
+use Rattle.plan_core.specs.declared.sink.BufferPlan.{BufferPlan}
+use Rattle.buffer_ends.specs.Local.{Answers}
+use Rattle.trace_replay.specs.declared.ends.Ends.{Ends}
+use Rattle.clock_infer.proofs.Exact.{some_inj}
+use Rattle.trace_replay.specs.Chunks.{AreAllChunks}
+use Rattle.trace_replay.specs.Finds.{HaveFound}
+use Rattle.trace_replay.specs.Traces.{AreNew, text_of}
+use Rattle.trace_replay.specs.Turns.{AreSides, AreTold, base_of}
+use Rattle.trace_replay.proofs.whole.find_record.Goals as goal
+
+pub judge-requires-clause-new : goal.judge-requires-clause-new
+judge-requires-clause-new c =
+    subst (λ (l : List Ends). AreNew c.args.plan.now.buffers c.deref-3.result.now (length c.args.plan.now.buffers) c.in_ok-buffers.buffers.items l) (sym c.deref-2.ensures.value)
+    (subst (λ (l : List (List Answers)). AreNew c.args.plan.now.buffers l (length c.args.plan.now.buffers) c.in_ok-buffers.buffers.items c.in_ok-buffers.ends.items) (c.deref.ensures.value ∙ sym c.deref-3.ensures.value)
+    (subst (λ (l : List BufferPlan). AreNew l c.deref.result.now (length l) c.in_ok-buffers.buffers.items c.in_ok-buffers.ends.items) c.as_slice.ensures c.in_ok-buffers.ensures.new))
+
+pub returns-clause-chunks : goal.returns-clause-chunks
+returns-clause-chunks c = λ held e.
+    let base = base_of c.args.plan.now c.args.library.now c.args.clocks.now c.args.start.second in
+    let trace = c.args.trace.now in
+    let told : AreTold base (text_of trace.buffers) c.judge.new.taps.buffers.items = search rules in
+    let found : HaveFound base c.args.clocks.now trace.window trace.ticks (text_of trace.buffers) c.judge.new.taps.buffers.items = search rules in
+    let sides : AreSides base c.in_ok-sides.sides.feeders.items c.in_ok-sides.sides.readers.items = c.in_ok-sides.ensures base refl refl in
+    subst (AreAllChunks base c.args.clocks.now trace) (some_inj e) (record { told = told; found = found; sides = sides })
