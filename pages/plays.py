@@ -137,8 +137,13 @@ class Listener:
     def close(self, play, k, length):
         """How the k-th play ends."""
         left = length - (play.at + play.end - play.start)
-        if left < 0 or left > 0 and not self.ends_alike(play):
-            return             # the file is not the one that was played, or broke off for less time than is looked at
+        if left < 0:
+            return             # the file is not the one that was played
+        if left > 0 and not self.ends_alike(play):
+            # another file, or a break of less time than is looked at, or a track that was left in the midst of its own fade: it may
+            # go on here, which its sound tells then
+            self.paused.setdefault(play.name, []).append(length - left)
+            return
         play.left = left
         if left == 0:
             play.ending = "whole"
