@@ -6,6 +6,7 @@ import subprocess
 import sys
 import tempfile
 
+import contracts
 from common import TOP, left_samples, sound
 
 SECONDS = 60
@@ -104,12 +105,87 @@ def rows_of_tables(text):
             yield list(zip(heads, cells_of(line)))
 
 
+def tables_of(text):
+    """The tables of a page, each as its rows."""
+    lines = text.split("\n")
+    begins = [at for at, line in enumerate(lines) if line.startswith("|") and not lines[at - 1].startswith("|")]
+    for at in begins:
+        length = next((more for more, line in enumerate(lines[at:]) if not line.startswith("|")), len(lines) - at)
+        yield list(rows_of_tables("\n".join(lines[at:at + length])))
+
+
 def clauses_that_are_missing(_program):
     """Each name in a column of clauses stands in the code or in the definitions."""
     there = {word for path in sources() for word in re.findall(r"\w+", text_of(path))}
     cells = [(page, cell) for page in documents() for row in rows_of_tables(text_of(page)) for head, cell in row if "clause" in head]
     return [f"{page} names the clause {word}" for page, cell in cells for name in re.findall(r"`([^`]+)`", cell)
             for word in re.findall(r"[A-Za-z_]\w*", name) if word not in there]
+
+
+def called_by(words, crate, uses):
+    """The functions that these words name, each as all of its name, in the crate that the first word names; and a fault for each that is not there."""
+    found, faults = [], []
+    for word in words:
+        first, _, path = word.partition("::")
+        crate, path = (first, path) if path and first in uses else (crate, word)
+        here = contracts.functions(crate, path)
+        found += [here] if here else []
+        faults += [] if here else [f"{crate} has no function {path}"]
+    return crate, found, faults
+
+
+def known_at(functions):
+    return set().union(*map(contracts.named_by, functions))
+
+
+def wrong_promises(cell, uses):
+    """A cell of contracts has functions, and behind a colon their clauses, and then others behind a semicolon. Each clause stands at one
+    of these functions, and at each of them one of the clauses."""
+    crate, faults = None, []
+    for part in re.sub(r"\([^)]*\)", "", cell).split("; "):
+        head, colon, tail = part.partition("`: ")
+        clauses = set(re.findall(r"`(\w+)`", tail))
+        crate, called, missing = called_by(re.findall(r"`([^`]+)`", head + "`" if colon else head), crate, uses)
+        known = [known_at(functions) for functions in called]
+        faults += missing + [f"{part} has no clause {clause}" for clause in sorted(clauses - set().union(*known))]
+        faults += [f"{part} names no clause of {functions[0].name}" for functions, names in zip(called, known) if clauses and not names & clauses]
+    return faults
+
+
+def wrong_calls(rows, crate, uses):
+    """Each clause of a row stands at its call, or at one that is named behind it, as `clause` of `call`; an empty call is that above."""
+    above, faults = [], []
+    for row in rows:
+        above = re.findall(r"`([^`]+)`", row[0][1]) or above
+        told = " ".join(cell for head, cell in row[1:] if head.startswith(("clause", "after", "cause")))
+        _, called, missing = called_by(above, crate, uses)
+        faults += missing
+        for functions in called[:1]:
+            others = re.findall(r"of `(\w+)`", told)
+            clauses = set(re.findall(r"`([a-z]\w*)`", told)) - set(others)
+            beside = [one for name in others for one in contracts.functions(functions[0].crate, name)]
+            known = known_at(beside + [one for same in called for one in same])
+            faults += [f"{above[0]} has no clause {clause}" for clause in sorted(clauses - known)]
+            faults += [f"{above[0]} has not one clause"] if "the clause" in told and not functions[0].has_one_clause() else []
+    return faults
+
+
+def contracts_that_differ(_program):
+    """Each clause that docs/promises.md and the pages of the crates name beside a function stands at that function, or is a field of
+    what its clauses cite."""
+    found, uses = [], crates_and_their_uses()
+    for page in ["docs/promises.md"] + [page for page in documents() if page.startswith("crates/")]:
+        crate = page.split("/")[1] if page.startswith("crates/") else None
+        for _, *rows in tables_of(text_of(page)):
+            heads = [head for head, _ in rows[0]] if rows else [""]
+            if heads[0].startswith("clause of `"):
+                named = [[("call", heads[0]), ("clause", row[0][1])] for row in rows]
+                found += [f"{page}: {fault}" for fault in wrong_calls(named, crate, uses)]
+            elif heads[0] in ("call", "function", "law") and heads[1] in ("clause", "after a refusal"):
+                found += [f"{page}: {fault}" for fault in wrong_calls(rows, crate, uses)]
+            elif heads == ["promise", "contract"]:
+                found += [f"{page}: {fault}" for row in rows for fault in wrong_promises(row[1][1], uses)]
+    return found
 
 
 def crates_and_their_uses():
@@ -382,6 +458,7 @@ checks = {
     "documents/paths": paths_that_are_missing,
     "documents/sections": sections_that_are_missing,
     "documents/clauses": clauses_that_are_missing,
+    "documents/contracts": contracts_that_differ,
     "documents/rooms": rooms_that_differ,
     "documents/tests": tests_that_are_missing,
     "documents/builtins": builtins_that_differ,
