@@ -194,14 +194,32 @@ def crates_and_their_uses():
     return {head.split()[0]: used.split() for head, colon, used in rows if colon}
 
 
+def rooms_of_crates():
+    """The rooms of crates.txt, each a comment up to its colon, with the crates below it."""
+    rooms = re.split(r"^# ", text_of("crates.txt"), flags=re.M)[1:]
+    return [(room.partition(":")[0], re.findall(r"^(\w+)[^:\n]*:", room.partition("\n")[2], flags=re.M)) for room in rooms]
+
+
+def rooms_of_architecture():
+    """The rooms of the table of crates, each with its crates."""
+    found = []
+    for cells in map(cells_of, section(text_of("docs/architecture.md"), "Crates")):
+        names = re.findall(r"`(\w+)`", cells[1]) if len(cells) == 5 else []
+        if names and cells[0]:
+            found.append((cells[0], []))
+        if names:
+            found[-1][1].extend(names)
+    return found
+
+
 def rooms_that_differ(_program):
-    """The table of crates has those of crates.txt in their order, but for the test crates; each stands below those that it uses."""
-    uses = crates_and_their_uses()
-    rows = map(cells_of, section(text_of("docs/architecture.md"), "Crates"))
-    told = [name for cells in rows if len(cells) == 5 for name in re.findall(r"`(\w+)`", cells[1])]
-    wanted = [name for name in uses if not name.endswith("_tests") and name != "plan_samples"]
-    found = [f"{name} stands above {used}" for name in told for used in uses.get(name, []) if used in told[told.index(name):]]
-    return found if told == wanted else found + [f"the table of crates has {told}, crates.txt {wanted}"]
+    """The table of crates has the rooms of crates.txt in their order, but for the tests; each crate stands below those that it uses."""
+    uses, told = crates_and_their_uses(), rooms_of_architecture()
+    wanted = [(room, names) for room, names in rooms_of_crates() if room != "tests"]
+    below = [name for _, names in rooms_of_crates() for name in names]
+    found = [f"{name} stands above {used}" for name in below for used in uses[name] if used in below[below.index(name):]]
+    found += [f"the table of crates has {have}, crates.txt {want}" for have, want in zip(told, wanted) if have != want]
+    return found if len(told) == len(wanted) else found + [f"the table of crates has {len(told)} rooms, crates.txt {len(wanted)}"]
 
 
 def tests_that_are_missing(_program):
