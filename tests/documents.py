@@ -188,6 +188,14 @@ def contracts_that_differ(_program):
     return found
 
 
+def functions_that_are_missing(_program):
+    """Each function in a column of who finds something stands in the file beside it."""
+    rows = [(page, dict(row)) for page in documents() for row in rows_of_tables(text_of(page))]
+    told = [(page, name, path) for page, row in rows if "found by" in row for path in re.findall(r"`(crates/[^`]*)`", row["in"])
+            for name in re.findall(r"`(\w+)`", row["found by"])]
+    return [f"{page} names {name} in {path}" for page, name, path in told if not re.search(r"\bfn %s\b" % name, text_of(path))]
+
+
 def crates_and_their_uses():
     """The crates of crates.txt in their order, each with those that its text names."""
     rows = [line.partition("#")[0].partition(":") for line in text_of("crates.txt").splitlines()]
@@ -477,6 +485,7 @@ checks = {
     "documents/sections": sections_that_are_missing,
     "documents/clauses": clauses_that_are_missing,
     "documents/contracts": contracts_that_differ,
+    "documents/functions": functions_that_are_missing,
     "documents/rooms": rooms_that_differ,
     "documents/tests": tests_that_are_missing,
     "documents/builtins": builtins_that_differ,
