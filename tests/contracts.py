@@ -1,14 +1,16 @@
 """The contracts and definitions of the crates, as their texts have them: which clauses stand at a function, and which fields have the
 records that they cite."""
+import glob
 import os
 import re
 from functools import lru_cache
 
 from common import TOP
 
-CLAUSE = re.compile(r"^ *(requires|ensures)\b *(\w*) *\{(.*)$")
+CLAUSE = re.compile(r"^ *(requires|ensures)\b *(\w*) *\{")
 FUNCTION = re.compile(r"^( *)(?:pub(?:\([^)]*\))? )?(?:const )?(?:unsafe )?fn (\w+)")
 OWNER = re.compile(r"^(?:pub )?(?:impl|trait)\b(.*)\{\s*$")
+DEFINITION = re.compile(r"^(?:abbrev |unfoldable |opaque )?(?:pub )?(?:record |data )?([\w']+)", re.M)
 IMPORT = re.compile(r"^ *(?:ghost |pub )?use Rattle\.(\w+)\.specs\.(\w+)\.\{([^}]*)\}", re.M)
 
 
@@ -24,14 +26,6 @@ class Contract:
 
     def has_one_clause(self):
         return [name for kind, name in self.clauses if kind == "ensures"] == [""]
-
-
-def files_below(crate, folder, ending):
-    for base, _, names in os.walk(os.path.join(TOP, "crates", crate, folder)):
-        for name in sorted(names):
-            if name.endswith(ending):
-                with open(os.path.join(base, name), encoding="utf-8") as file:
-                    yield os.path.join(base, name), file.read()
 
 
 def owner_of(head):
@@ -55,8 +49,8 @@ def contract_at(lines, at, indent):
 def contracts_of(crate):
     """The functions of a crate: by name, and those of a type or a trait."""
     found = []
-    for path, text in files_below(crate, "src", ".rt"):
-        lines, owner = text.split("\n"), None
+    for path in sorted(glob.glob(os.path.join(TOP, "crates", crate, "src", "**", "*.rt"), recursive=True)):
+        lines, owner = text_of(path).split("\n"), None
         for at, line in enumerate(lines):
             head = OWNER.match(line)
             if head:
@@ -80,18 +74,26 @@ def functions(crate, path):
 
 
 @lru_cache(maxsize=None)
+def text_of(path):
+    """The text of a file, and nothing where there is none, as for a definition of std."""
+    if not os.path.exists(path):
+        return ""
+    with open(path, encoding="utf-8") as file:
+        return file.read()
+
+
+def specs_of(crate, name):
+    return text_of(os.path.join(TOP, "crates", crate, "specs", name + ".antt"))
+
+
+@lru_cache(maxsize=None)
 def definitions(crate, name):
     """The definitions of a file of specs/, each with its text."""
-    path = os.path.join(TOP, "crates", crate, "specs", name + ".antt")
-    if not os.path.exists(path):
-        return {}
-    with open(path, encoding="utf-8") as file:
-        text = file.read()
     found = {}
-    for part in re.split(r"\n\n", text):
-        match = re.search(r"^(?:abbrev |unfoldable |opaque )?(?:pub )?(?:record |data )?([\w']+)", re.sub(r"^--.*\n", "", part, flags=re.M), flags=re.M)
-        if match:
-            found[match[1]] = part
+    for part in specs_of(crate, name).split("\n\n"):
+        head = re.search(DEFINITION, re.sub(r"^--.*\n", "", part, flags=re.M))
+        if head:
+            found[head[1]] = part
     return found
 
 
@@ -106,35 +108,28 @@ def imports_of(text):
     return found
 
 
-def fields_of(part):
+@lru_cache(maxsize=None)
+def cited_by(place):
+    """The places of the definitions that the one at this place cites."""
+    crate, name, word = place
+    known = {own: (crate, name, own) for own in definitions(crate, name)} | imports_of(specs_of(crate, name))
+    words = set(re.findall(r"\w+", definitions(crate, name).get(word, "")))
+    return {known[other] for other in words - {word} if other in known}
+
+
+@lru_cache(maxsize=None)
+def fields_of(place):
+    """The fields of a record."""
+    part = definitions(*place[:2]).get(place[2], "")
     return set(re.findall(r"^ +(?:pub )?(\w+) :", part, flags=re.M)) if re.search(r"\brecord\b", part) else set()
 
 
 def named_by(contract, depth=2):
     """The names of a function's clauses, of its parameters, and of the fields of what its clauses cite, so many definitions deep."""
-    with open(contract.path, encoding="utf-8") as file:
-        imports = imports_of(file.read())
-    names = {name for _, name in contract.clauses if name} | contract.parameters
-    ahead, seen = [imports[word] for word in set(re.findall(r"\w+", contract.text)) if word in imports], set()
+    imports = imports_of(text_of(contract.path))
+    places = {imports[word] for word in re.findall(r"\w+", contract.text) if word in imports}
+    cited = set()
     for _ in range(depth):
-        following = []
-        for place in ahead:
-            if place in seen:
-                continue
-            seen.add(place)
-            crate, name, word = place
-            part = definitions(crate, name).get(word, "")
-            names |= fields_of(part) | {word}
-            path = os.path.join(TOP, "crates", crate, "specs", name + ".antt")
-            if not os.path.exists(path):
-                continue
-            with open(path, encoding="utf-8") as file:
-                known = imports_of(file.read())
-            own = definitions(crate, name)
-            for cited in set(re.findall(r"\w+", part)):
-                if cited in known:
-                    following.append(known[cited])
-                elif cited in own and cited != word:
-                    following.append((crate, name, cited))
-        ahead = following
-    return names
+        cited |= places
+        places = set().union(*map(cited_by, places))
+    return {name for _, name in contract.clauses if name} | contract.parameters | set().union(*map(fields_of, cited))

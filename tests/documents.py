@@ -123,12 +123,13 @@ def clauses_that_are_missing(_program):
 
 
 def called_by(words, crate, uses):
-    """The functions that these words name, each as all of its name, in the crate that the first word names; and a fault for each that is not there."""
+    """The functions that these words name, all of a name together, in the crate that the first word names; a fault for each that is
+    not there."""
     found, faults = [], []
     for word in words:
         first, _, path = word.partition("::")
         crate, path = (first, path) if path and first in uses else (crate, word)
-        here = contracts.functions(crate, path)
+        here = contracts.functions(crate, path) if crate else []
         found += [here] if here else []
         faults += [] if here else [f"{crate} has no function {path}"]
     return crate, found, faults
@@ -193,7 +194,8 @@ def functions_that_are_missing(_program):
     rows = [(page, dict(row)) for page in documents() for row in rows_of_tables(text_of(page))]
     told = [(page, name, path) for page, row in rows if "found by" in row for path in re.findall(r"`(crates/[^`]*)`", row["in"])
             for name in re.findall(r"`(\w+)`", row["found by"])]
-    return [f"{page} names {name} in {path}" for page, name, path in told if not re.search(r"\bfn %s\b" % name, text_of(path))]
+    return [f"{page} names {name} in {path}" for page, name, path in told
+            if is_there(path, [""]) and not re.search(r"\bfn %s\b" % name, text_of(path))]
 
 
 def crates_and_their_uses():
