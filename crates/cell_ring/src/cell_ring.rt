@@ -1,9 +1,10 @@
 // A ring of cells.
 ghost use Rattle.std.specs.Prelude.{◌≡◌, ◌+◌, ◌<◌, ◌≤◌, ◌^◌, [], ◌∷◌, ◌++◌, ℕ, true, false, length, map, take, drop, slice_get, IfOk};
-ghost use Rattle.cell_ring.specs.Rings.{Ring, Runs, goes_on, has_title, inner_cells};
+ghost use Rattle.frame_core.specs.Slots.{goes_on};
+ghost use Rattle.cell_ring.specs.Rings.{Ring, Runs, has_title, inner_cells};
 
 use circular_buffer::HeapCircularBuffer;
-use frame_core::Cell;
+use frame_core::{Cell, goes_on};
 use liq_base::Memory;
 use std::alloc::Global;
 use std::marker::Model;
@@ -210,16 +211,6 @@ fn titled_of(title: u32, cells: &[Cell], most: usize) -> usize
         count += 1;
     }
     count
-}
-
-// A cell of this title that begins no track.
-fn goes_on(title: u32, slot: Option<Cell>) -> bool
-    ensures { result ≡ goes_on title slot }
-{
-    match slot {
-        Some(cell) => !cell.first && cell.title == title,
-        None => false,
-    }
 }
 
 // A cell of this title.

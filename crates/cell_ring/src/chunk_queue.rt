@@ -1,6 +1,7 @@
 // Cells that come in chunks.
 ghost use Rattle.std.specs.Prelude.{◌≡◌, ◌+◌, ◌<◌, ◌≤◌, [], ◌++◌, ℕ, true, false, length, map, max, take, drop, slice_get, IfOk};
-ghost use Rattle.cell_ring.specs.Rings.{Ring, goes_on, spare_cells};
+ghost use Rattle.frame_core.specs.Slots.{goes_on};
+ghost use Rattle.cell_ring.specs.Rings.{Ring, spare_cells};
 ghost use Rattle.liq_base.specs.declared.limits.TheConstants.{MAX_FRAME};
 
 use crate::cell_ring::{CellRing, inner_of, lay};

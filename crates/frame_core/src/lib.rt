@@ -13,6 +13,6 @@ pub use cell::Cell;
 pub use chunk::{Chunk, Gave};
 pub use frame::Frame;
 pub use library::Library;
-pub use slot::title_of;
+pub use slot::{goes_on, title_of};
 pub use taps::Taps;
 pub use track::Track;

@@ -1,6 +1,6 @@
 // Slots.
 ghost use Rattle.std.specs.Prelude.{◌≡◌};
-ghost use Rattle.frame_core.specs.Slots.{title_of};
+ghost use Rattle.frame_core.specs.Slots.{goes_on, title_of};
 
 use crate::Cell;
 
@@ -11,5 +11,15 @@ pub fn title_of(slot: Option<Cell>) -> u32
     match slot {
         Some(cell) => cell.title,
         None => 0,
+    }
+}
+
+/// Whether this is a cell of the title that begins no track.
+pub fn goes_on(title: u32, slot: Option<Cell>) -> bool
+    ensures { result ≡ goes_on title slot }
+{
+    match slot {
+        Some(cell) => !cell.first && cell.title == title,
+        None => false,
     }
 }

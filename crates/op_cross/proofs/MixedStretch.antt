@@ -2,10 +2,9 @@
 use Rattle.std.proofs.Common.{◌≡◌, ◌≤◌, ◌+◌, ◌-◌, ◌∙◌, ◌++◌, ℕ, ℤ, zero, suc, Some, List, [], ◌∷◌, length, take, drop, map, arith, refl, ap, sym, subst, append_assoc, take-add}
 use Rattle.std.proofs.lemmas.List.{length-append, length-drop, length-map, length-take, drop_at, drop-drop, take_at, map-append, take-take}
 use Rattle.frame_core.specs.declared.cell.Cell.{Cell}
-use Rattle.frame_core.specs.Slots.{Slot}
+use Rattle.frame_core.specs.Slots.{Slot, slot_left, slot_right}
 use Rattle.sample_kernels.specs.Mixing.{faded, mixed}
 use Rattle.op_cross.specs.Crossfade.{mixed_cell, mixed_cells, cross}
-use Rattle.op_cross.specs.Stretches.{left_of, right_of}
 use Rattle.op_cross.specs.States.{Crossing, StandsFor, IsCrossing, gap_of, mixed_on, mixed_side, ready_items}
 use Rattle.op_cross.proofs.Standing.{mixed_gone, settled_now}
 
@@ -52,12 +51,12 @@ take_mixed (suc n) (a ∷ from) (b ∷ to) at whole more there also =
     ap (λ l. Some (mixed_cell a b at whole) ∷ l) (take_mixed n from to (suc at) whole more (omega (arith, there)) (omega (arith, also)))
 
 -- the samples of mixed cells
-mixed_left : (from to : List Cell) (at whole : ℕ) → map left_of (mixed_cells from to at whole) ≡ mixed (map (λ (cell : Cell). cell.left) from) (map (λ (cell : Cell). cell.left) to) at whole
+mixed_left : (from to : List Cell) (at whole : ℕ) → map slot_left (mixed_cells from to at whole) ≡ mixed (map (λ (cell : Cell). cell.left) from) (map (λ (cell : Cell). cell.left) to) at whole
 mixed_left [] to at whole = refl
 mixed_left (a ∷ from) [] at whole = refl
 mixed_left (a ∷ from) (b ∷ to) at whole = ap (λ l. faded a.left b.left at whole ∷ l) (mixed_left from to (suc at) whole)
 
-mixed_right : (from to : List Cell) (at whole : ℕ) → map right_of (mixed_cells from to at whole) ≡ mixed (map (λ (cell : Cell). cell.right) from) (map (λ (cell : Cell). cell.right) to) at whole
+mixed_right : (from to : List Cell) (at whole : ℕ) → map slot_right (mixed_cells from to at whole) ≡ mixed (map (λ (cell : Cell). cell.right) from) (map (λ (cell : Cell). cell.right) to) at whole
 mixed_right [] to at whole = refl
 mixed_right (a ∷ from) [] at whole = refl
 mixed_right (a ∷ from) (b ∷ to) at whole = ap (λ l. faded a.right b.right at whole ∷ l) (mixed_right from to (suc at) whole)
@@ -86,20 +85,20 @@ mixed_given s slots p zero is stands most few =
 mixed_given s slots p (suc n) is stands most few = mixed_stands s slots p (suc n) is stands (all_mixed s n is most few) few
 
 pub mixed_lefts : (s : Crossing) (slots : List Slot) (p n : ℕ) → IsCrossing s → StandsFor s slots p → s.ready ≤ length s.next → n ≤ s.ready
-    → mixed_side (λ cell. cell.left) n s ≡ map left_of (take n (drop p (cross s.overlap slots)))
+    → mixed_side (λ cell. cell.left) n s ≡ map slot_left (take n (drop p (cross s.overlap slots)))
 mixed_lefts s slots p zero is stands most few = refl
 mixed_lefts s slots p (suc m) is stands most few =
     let n = suc m in
     let all = all_mixed s m is most few in
-    sym (ap (map left_of) (mixed_items s slots p n is stands all few) ∙ mixed_left (take n s.cells) (take n s.next) (s.whole - length s.next) s.whole)
+    sym (ap (map slot_left) (mixed_items s slots p n is stands all few) ∙ mixed_left (take n s.cells) (take n s.next) (s.whole - length s.next) s.whole)
 
 pub mixed_rights : (s : Crossing) (slots : List Slot) (p n : ℕ) → IsCrossing s → StandsFor s slots p → s.ready ≤ length s.next → n ≤ s.ready
-    → mixed_side (λ cell. cell.right) n s ≡ map right_of (take n (drop p (cross s.overlap slots)))
+    → mixed_side (λ cell. cell.right) n s ≡ map slot_right (take n (drop p (cross s.overlap slots)))
 mixed_rights s slots p zero is stands most few = refl
 mixed_rights s slots p (suc m) is stands most few =
     let n = suc m in
     let all = all_mixed s m is most few in
-    sym (ap (map right_of) (mixed_items s slots p n is stands all few) ∙ mixed_right (take n s.cells) (take n s.next) (s.whole - length s.next) s.whole)
+    sym (ap (map slot_right) (mixed_items s slots p n is stands all few) ∙ mixed_right (take n s.cells) (take n s.next) (s.whole - length s.next) s.whole)
 
 mixed-append : (from to us vs : List ℤ) (at whole : ℕ) → length from ≡ length to → mixed (from ++ us) (to ++ vs) at whole ≡ mixed from to at whole ++ mixed us vs (at + length from) whole
 mixed-append [] [] us vs at whole same = let here : at ≡ at + 0 = omega arith in ap (λ n. mixed us vs n whole) here

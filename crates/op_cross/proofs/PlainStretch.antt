@@ -2,9 +2,8 @@
 use Rattle.std.proofs.Common.{◌≡◌, ◌<◌, ◌≤◌, ◌+◌, ◌-◌, ◌∙◌, ◌++◌, ℕ, zero, suc, Some, List, [], ◌∷◌, length, take, drop, map, arith, refl, ap, sym, subst, append_assoc}
 use Rattle.std.proofs.lemmas.List.{length-append, length-map, length-take, drop_at, take_at, drop-drop, drop-take}
 use Rattle.frame_core.specs.declared.cell.Cell.{Cell}
-use Rattle.frame_core.specs.Slots.{Slot}
+use Rattle.frame_core.specs.Slots.{Slot, slot_left, slot_right}
 use Rattle.op_cross.specs.Crossfade.{cross}
-use Rattle.op_cross.specs.Stretches.{left_of, right_of}
 use Rattle.op_cross.specs.States.{Crossing, StandsFor, IsCrossing, AllInner, IsTrack, BeginsTrack, held, growing, gap_of, ready_items, unsettled}
 use Rattle.op_cross.proofs.Standing.{ready_of, plain_front, some_ready, growing_one, settled_now}
 
@@ -76,11 +75,11 @@ plain_copied s t slots p k is stands plain few same cells next ready whole gap =
     }
 
 -- the samples that were laid are the items'
-pub lefts : (cells : List Cell) → map left_of (map Some cells) ≡ map (λ cell. cell.left) cells
+pub lefts : (cells : List Cell) → map slot_left (map Some cells) ≡ map (λ cell. cell.left) cells
 lefts [] = refl
 lefts (a ∷ cells) = ap (λ l. a.left ∷ l) (lefts cells)
 
-pub rights : (cells : List Cell) → map right_of (map Some cells) ≡ map (λ cell. cell.right) cells
+pub rights : (cells : List Cell) → map slot_right (map Some cells) ≡ map (λ cell. cell.right) cells
 rights [] = refl
 rights (a ∷ cells) = ap (λ l. a.right ∷ l) (rights cells)
 
@@ -94,9 +93,9 @@ plain_front_items s slots p k is stands few =
     ∙ take_at (map Some (take k s.cells)) (ready_of (s.ready - k) s.whole (drop k s.cells) s.next ++ gap_of s.gap) k (omega (arith, taken, mapped, few, is.ready))
 
 pub plain_lefts : (s : Crossing) (slots : List Slot) (p k : ℕ) → IsCrossing s → StandsFor s slots p → k ≤ s.ready - length s.next →
-    map (λ (cell : Cell). cell.left) (take k s.cells) ≡ map left_of (take k (drop p (cross s.overlap slots)))
-plain_lefts s slots p k is stands few = sym (ap (map left_of) (plain_front_items s slots p k is stands few) ∙ lefts (take k s.cells))
+    map (λ (cell : Cell). cell.left) (take k s.cells) ≡ map slot_left (take k (drop p (cross s.overlap slots)))
+plain_lefts s slots p k is stands few = sym (ap (map slot_left) (plain_front_items s slots p k is stands few) ∙ lefts (take k s.cells))
 
 pub plain_rights : (s : Crossing) (slots : List Slot) (p k : ℕ) → IsCrossing s → StandsFor s slots p → k ≤ s.ready - length s.next →
-    map (λ (cell : Cell). cell.right) (take k s.cells) ≡ map right_of (take k (drop p (cross s.overlap slots)))
-plain_rights s slots p k is stands few = sym (ap (map right_of) (plain_front_items s slots p k is stands few) ∙ rights (take k s.cells))
+    map (λ (cell : Cell). cell.right) (take k s.cells) ≡ map slot_right (take k (drop p (cross s.overlap slots)))
+plain_rights s slots p k is stands few = sym (ap (map slot_right) (plain_front_items s slots p k is stands few) ∙ rights (take k s.cells))

@@ -4,9 +4,9 @@ use Rattle.std.specs.Prelude.{not, slice_get}
 use Rattle.std.proofs.lemmas.Bool.{false≢true}
 use Rattle.std.proofs.lemmas.List.{get_or-drop}
 use Rattle.frame_core.specs.declared.cell.Cell.{Cell}
-use Rattle.frame_core.specs.Slots.{Slot, slot_at}
+use Rattle.frame_core.specs.Slots.{Slot, slot_at, is_inner}
 use Rattle.op_cross.specs.States.{AllInner, IsTrack}
-use Rattle.op_cross.specs.Stretches.{inner_run, is_inner, stretch}
+use Rattle.op_cross.specs.Stretches.{inner_run, stretch}
 
 run_by : (cell : Cell) (slots : List Slot) → ((j : ℕ) → j < inner_run slots → is_inner (slot_at slots j) ≡ true) → (first : Bool) → cell.first ≡ first → (j : ℕ)
     → j < cond first 0 (suc (inner_run slots)) → is_inner (slot_at (Some cell ∷ slots) j) ≡ true

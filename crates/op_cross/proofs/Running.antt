@@ -5,10 +5,9 @@ use Rattle.std.proofs.lemmas.Bool.{false≢true}
 use Rattle.std.proofs.lemmas.Bool.Decides.{nat_tests}
 use Rattle.std.proofs.lemmas.List.{length-append, length-drop, length-take, length-map, append-nil, drop_at, drop_all, take_all}
 use Rattle.frame_core.specs.declared.cell.Cell.{Cell}
-use Rattle.frame_core.specs.Slots.{Slot}
+use Rattle.frame_core.specs.Slots.{Slot, slot_left, slot_right}
 use Rattle.cell_ring.specs.Rings.{inner_cells}
 use Rattle.op_cross.specs.Crossfade.{mixed_cells, cross}
-use Rattle.op_cross.specs.Stretches.{left_of, right_of}
 use Rattle.op_cross.specs.States.{Crossing, StandsFor, IsCrossing, AllInner, IsTrack, BeginsTrack, held, growing, growing_at, gap_of, passes, ready_items, track_room, unsettled, wants}
 use Rattle.op_cross.proofs.Feeding.{mixed_end, nothing_settled, one_settled}
 use Rattle.op_cross.proofs.Standing.{ready_of, none_ready_items, is_settled}
@@ -316,9 +315,9 @@ passed_front s slots p run is stands pass inner =
     ∙ take_all (length run) (map Some (take (length run) (s.cells ++ run))) (omega (arith, long, taken, mapped))
 
 pub passed_lefts : (s : Crossing) (slots : List Slot) (p : ℕ) (run : List Cell) → IsCrossing s → StandsFor s slots p → Passing s → AllInner run →
-    map (λ (cell : Cell). cell.left) (take (length run) (s.cells ++ run)) ≡ map left_of (take (length run) (drop p (cross s.overlap (slots ++ map Some run))))
-passed_lefts s slots p run is stands pass inner = sym (ap (map left_of) (passed_front s slots p run is stands pass inner) ∙ lefts (take (length run) (s.cells ++ run)))
+    map (λ (cell : Cell). cell.left) (take (length run) (s.cells ++ run)) ≡ map slot_left (take (length run) (drop p (cross s.overlap (slots ++ map Some run))))
+passed_lefts s slots p run is stands pass inner = sym (ap (map slot_left) (passed_front s slots p run is stands pass inner) ∙ lefts (take (length run) (s.cells ++ run)))
 
 pub passed_rights : (s : Crossing) (slots : List Slot) (p : ℕ) (run : List Cell) → IsCrossing s → StandsFor s slots p → Passing s → AllInner run →
-    map (λ (cell : Cell). cell.right) (take (length run) (s.cells ++ run)) ≡ map right_of (take (length run) (drop p (cross s.overlap (slots ++ map Some run))))
-passed_rights s slots p run is stands pass inner = sym (ap (map right_of) (passed_front s slots p run is stands pass inner) ∙ rights (take (length run) (s.cells ++ run)))
+    map (λ (cell : Cell). cell.right) (take (length run) (s.cells ++ run)) ≡ map slot_right (take (length run) (drop p (cross s.overlap (slots ++ map Some run))))
+passed_rights s slots p run is stands pass inner = sym (ap (map slot_right) (passed_front s slots p run is stands pass inner) ∙ rights (take (length run) (s.cells ++ run)))

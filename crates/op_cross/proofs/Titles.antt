@@ -5,10 +5,10 @@ use Rattle.std.proofs.lemmas.Bool.{eq-eqb, false≢true}
 use Rattle.std.proofs.lemmas.Bool.Decides.{nat_tests}
 use Rattle.std.proofs.lemmas.List.{drop_at, get_or-drop, length-take}
 use Rattle.frame_core.specs.declared.cell.Cell.{Cell}
-use Rattle.frame_core.specs.Slots.{Slot, slot_at, title_of}
-use Rattle.cell_ring.specs.Rings.{goes_on, has_title}
+use Rattle.frame_core.specs.Slots.{Slot, slot_at, title_of, goes_on, is_inner}
+use Rattle.cell_ring.specs.Rings.{has_title}
 use Rattle.op_cross.specs.Crossfade.{mixed_cells, cross}
-use Rattle.op_cross.specs.Stretches.{inner_run, is_inner, stretch, titled_run, titled_stretch}
+use Rattle.op_cross.specs.Stretches.{inner_run, stretch, titled_run, titled_stretch}
 use Rattle.op_cross.specs.States.{Crossing, StandsFor, IsCrossing, gap_of, ready_items, ready_stretch}
 use Rattle.op_cross.proofs.Standing.{settled_now, take_none}
 use Rattle.op_cross.proofs.Stretching.{long_run, short_run, stretch_is}

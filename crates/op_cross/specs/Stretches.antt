@@ -1,10 +1,7 @@
 -- Items that are cells of one track.
-use Rattle.std.specs.Prelude.{Bool, is_some, not, ◌&&◌, ◌||◌, nat_eq, Some, None, List, [], ◌∷◌, ℕ, ℤ, pos, suc, if◌then◌else◌}
-use Rattle.frame_core.specs.Slots.{Slot, is_first}
-
--- a cell that begins no track
-abbrev pub is_inner : Slot → Bool
-is_inner slot = is_some slot && not (is_first slot)
+use Rattle.std.specs.Prelude.{not, ◌||◌, nat_eq, Some, None, List, [], ◌∷◌, ℕ, suc, if◌then◌else◌}
+use Rattle.frame_core.specs.Slots.{Slot}
+pub use Rattle.frame_core.specs.Slots.{slot_left as left_of, slot_right as right_of}
 
 -- how many items, from the first on, are cells that begin no track
 abbrev pub inner_run : List Slot → ℕ
@@ -29,11 +26,3 @@ abbrev pub titled_stretch : List Slot → ℕ
 titled_stretch [] = 0
 titled_stretch (None ∷ slots) = 0
 titled_stretch (Some cell ∷ slots) = suc (titled_run cell.title slots)
-
-abbrev pub left_of : Slot → ℤ
-left_of None = pos 0
-left_of (Some cell) = cell.left
-
-abbrev pub right_of : Slot → ℤ
-right_of None = pos 0
-right_of (Some cell) = cell.right

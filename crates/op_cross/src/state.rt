@@ -1,13 +1,13 @@
 // A crossfade's state.
 ghost use Rattle.std.specs.Prelude.{◌≡◌, ◌+◌, ◌-◌, ◌*◌, ◌<◌, ◌≤◌, ◌↔◌, true, false, IsTrue, min, [], ◌∷◌, ◌++◌, ℕ, List, map, slice_get, take, drop, length, IfOk};
-ghost use Rattle.frame_core.specs.Slots.{Slot, slot_at, title_of};
+ghost use Rattle.frame_core.specs.Slots.{Slot, slot_at, title_of, goes_on, is_inner, slot_left, slot_right};
 ghost use Rattle.op_cross.specs.Crossfade.{mixed_cell, cross};
-ghost use Rattle.cell_ring.specs.Rings.{goes_on, has_title, inner_cells};
+ghost use Rattle.cell_ring.specs.Rings.{has_title, inner_cells};
 ghost use Rattle.op_cross.specs.States.{AllInner, Crossing, IsCrossing, StandsFor, mixed_on, mixed_side, passes, wants, left, position_after, ready_stretch, track_room};
-ghost use Rattle.op_cross.specs.Stretches.{is_inner, left_of, right_of, titled_stretch};
+ghost use Rattle.op_cross.specs.Stretches.{titled_stretch};
 
 use cell_ring::CellRing;
-use frame_core::{Cell, title_of};
+use frame_core::{Cell, goes_on, title_of};
 use liq_base::limits::MAX_OVERLAP;
 use liq_base::{Kind, Memory};
 use sample_kernels::{mix, mixed_sample};
@@ -173,9 +173,9 @@ impl CrossState {
         ensures least { (slots : List Slot) (p m : ℕ) → StandsFor self.old slots p → m ≤ length from_left.now
             → length (cross self.old.overlap (slots ++ map Some (take m (inner_cells title from_left.now from_right.now)))) ≡ p + m }
         ensures left { (slots : List Slot) (p : ℕ) → StandsFor self.old slots p
-            → left.new ≡ map left_of (take (length left.old) (drop p (cross self.old.overlap (slots ++ map Some (inner_cells title from_left.now from_right.now))))) }
+            → left.new ≡ map slot_left (take (length left.old) (drop p (cross self.old.overlap (slots ++ map Some (inner_cells title from_left.now from_right.now))))) }
         ensures right { (slots : List Slot) (p : ℕ) → StandsFor self.old slots p
-            → right.new ≡ map right_of (take (length left.old) (drop p (cross self.old.overlap (slots ++ map Some (inner_cells title from_left.now from_right.now))))) }
+            → right.new ≡ map slot_right (take (length left.old) (drop p (cross self.old.overlap (slots ++ map Some (inner_cells title from_left.now from_right.now))))) }
     {
         self.cells.push_run(title, from_left, from_right);
         self.cells.take_into(left, right);
@@ -220,8 +220,8 @@ impl CrossState {
         ensures overlap { self.new.overlap ≡ self.old.overlap }
         ensures settled { (slots : List Slot) (p : ℕ) → StandsFor self.old slots p → p + length left.old ≤ length (cross self.old.overlap slots) }
         ensures stands { (slots : List Slot) (p : ℕ) → StandsFor self.old slots p → StandsFor self.new slots (p + length left.old) }
-        ensures left { (slots : List Slot) (p : ℕ) → StandsFor self.old slots p → left.new ≡ map left_of (take (length left.old) (drop p (cross self.old.overlap slots))) }
-        ensures right { (slots : List Slot) (p : ℕ) → StandsFor self.old slots p → right.new ≡ map right_of (take (length left.old) (drop p (cross self.old.overlap slots))) }
+        ensures left { (slots : List Slot) (p : ℕ) → StandsFor self.old slots p → left.new ≡ map slot_left (take (length left.old) (drop p (cross self.old.overlap slots))) }
+        ensures right { (slots : List Slot) (p : ℕ) → StandsFor self.old slots p → right.new ≡ map slot_right (take (length left.old) (drop p (cross self.old.overlap slots))) }
     {
         if self.next.len() < self.ready {
             self.copy_plain(left, right);
@@ -237,8 +237,8 @@ impl CrossState {
         requires ready { length left.old ≤ self.old.ready - length self.old.next }
         ensures overlap { self.new.overlap ≡ self.old.overlap }
         ensures stands { (slots : List Slot) (p : ℕ) → StandsFor self.old slots p → StandsFor self.new slots (p + length left.old) }
-        ensures left { (slots : List Slot) (p : ℕ) → StandsFor self.old slots p → left.new ≡ map left_of (take (length left.old) (drop p (cross self.old.overlap slots))) }
-        ensures right { (slots : List Slot) (p : ℕ) → StandsFor self.old slots p → right.new ≡ map right_of (take (length left.old) (drop p (cross self.old.overlap slots))) }
+        ensures left { (slots : List Slot) (p : ℕ) → StandsFor self.old slots p → left.new ≡ map slot_left (take (length left.old) (drop p (cross self.old.overlap slots))) }
+        ensures right { (slots : List Slot) (p : ℕ) → StandsFor self.old slots p → right.new ≡ map slot_right (take (length left.old) (drop p (cross self.old.overlap slots))) }
     {
         self.cells.take_into(left, right);
         self.ready -= left.len() as u32;
@@ -251,8 +251,8 @@ impl CrossState {
         requires ready { length left.old ≤ self.old.ready }
         ensures overlap { self.new.overlap ≡ self.old.overlap }
         ensures stands { (slots : List Slot) (p : ℕ) → StandsFor self.old slots p → StandsFor self.new slots (p + length left.old) }
-        ensures left { (slots : List Slot) (p : ℕ) → StandsFor self.old slots p → left.new ≡ map left_of (take (length left.old) (drop p (cross self.old.overlap slots))) }
-        ensures right { (slots : List Slot) (p : ℕ) → StandsFor self.old slots p → right.new ≡ map right_of (take (length left.old) (drop p (cross self.old.overlap slots))) }
+        ensures left { (slots : List Slot) (p : ℕ) → StandsFor self.old slots p → left.new ≡ map slot_left (take (length left.old) (drop p (cross self.old.overlap slots))) }
+        ensures right { (slots : List Slot) (p : ℕ) → StandsFor self.old slots p → right.new ≡ map slot_right (take (length left.old) (drop p (cross self.old.overlap slots))) }
     {
         let _ = &self.ready;
         let mut done = 0;
@@ -366,16 +366,6 @@ fn of_one_title(ring: &CellRing, most: u32) -> u32
         return 0;
     }
     1 + ring.titled(title_of(ring.front()), 1, most - 1)
-}
-
-// A cell of this title that begins no track.
-fn goes_on(title: u32, slot: Option<Cell>) -> bool
-    ensures { result ≡ goes_on title slot }
-{
-    match slot {
-        Some(cell) => !cell.first && cell.title == title,
-        None => false,
-    }
 }
 
 // Cell `at` of a mix over `whole` cells; the first alone is flagged, and it has the title of the next track's cell.

@@ -3,9 +3,9 @@ use Rattle.std.proofs.Common.{◌≡◌, ◌<◌, ◌+◌, ◌-◌, ◌∙◌, �
 use Rattle.std.specs.List.{range_with_len}
 use Rattle.frame_core.specs.Sounds.{Sound, cell_of, lefts_from, length_of, rights_from}
 use Rattle.frame_core.specs.Library.{IsLibrary, Sounds, no_sound, sound_at, title_at, tracks_of}
-use Rattle.frame_core.specs.Slots.{title_of}
+use Rattle.frame_core.specs.Slots.{title_of, slot_left, slot_right}
 use Rattle.op_leaf.specs.declared.files.Files.{Files}
-use Rattle.op_leaf.specs.Inner.{LieInFile, lefts_of, rights_of, slot_left, slot_right}
+use Rattle.op_leaf.specs.Inner.{LieInFile, lefts_of, rights_of}
 use Rattle.op_leaf.specs.Leaves.{files_slot, place_in_round, sounds_of, total_of}
 use Rattle.op_leaf.specs.Standing.{FilesStandAt}
 use Rattle.op_leaf.proofs.Cursors.{later-next, length-sounds, some_samples, sounds-at}

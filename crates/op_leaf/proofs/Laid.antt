@@ -2,9 +2,9 @@
 use Rattle.std.proofs.Common.{◌≡◌, ◌<◌, ◌+◌, ◌∙◌, ℕ, ℤ, zero, suc, Bool, true, false, not, Some, None, List, ◌∷◌, map, arith, refl, ap, sym}
 use Rattle.std.specs.List.{range_with_len}
 use Rattle.std.proofs.lemmas.Bool.{false≢true}
-use Rattle.frame_core.specs.Slots.{Slot, title_of}
+use Rattle.frame_core.specs.Slots.{Slot, title_of, is_inner, slot_left, slot_right}
 use Rattle.cell_ring.specs.Rings.{inner_cell, inner_cells}
-use Rattle.op_leaf.specs.Inner.{is_inner, lefts_of, rights_of, slot_left, slot_right}
+use Rattle.op_leaf.specs.Inner.{lefts_of, rights_of}
 use Rattle.op_leaf.specs.Lanes.{AreTitled, IsLane, IsOneTrack}
 use Rattle.op_leaf.proofs.Stretching.{inner_some}
 

@@ -3,9 +3,8 @@ use Rattle.std.proofs.Common.{◌≡◌, ◌<◌, ◌≤◌, ◌+◌, ◌-◌, �
 use Rattle.std.specs.List.{range_with_len}
 use Rattle.std.proofs.lemmas.Bool.{false≢true}
 use Rattle.frame_core.specs.declared.cell.Cell.{Cell}
-use Rattle.cell_ring.specs.Rings.{goes_on}
-use Rattle.frame_core.specs.Slots.{Slot, title_of}
-use Rattle.op_leaf.specs.Inner.{is_inner, lefts_of, rights_of, slot_left, slot_right, titled_stretch}
+use Rattle.frame_core.specs.Slots.{Slot, title_of, goes_on, is_inner, slot_left, slot_right}
+use Rattle.op_leaf.specs.Inner.{lefts_of, rights_of, titled_stretch}
 use Rattle.op_leaf.specs.Lanes.{IsLane, IsOneTrack}
 use Rattle.op_leaf.specs.Readers.{Reader, read_by, reader_slot}
 use Rattle.op_leaf.specs.Stores.{shown}

@@ -3,13 +3,12 @@ use Rattle.std.proofs.Common.{◌≡◌, ◌<◌, ◌≤◌, ◌+◌, ◌%◌, �
 use Rattle.std.proofs.lemmas.Bool.{false≢true}
 use Rattle.std.proofs.lemmas.Bool.Decides.{nat_tests}
 use Rattle.std.proofs.lemmas.Nat.{mod_below}
-use Rattle.cell_ring.specs.Rings.{goes_on}
-use Rattle.frame_core.specs.Slots.{Slot, title_of}
+use Rattle.frame_core.specs.Slots.{Slot, title_of, goes_on, is_inner}
 use Rattle.frame_core.specs.Sounds.{Sound, length_of}
 use Rattle.frame_core.specs.Library.{IsLibrary, Sounds, no_sound, sound_at, tracks_of}
 use Rattle.op_leaf.specs.declared.blank.Blank.{Blank}
 use Rattle.op_leaf.specs.declared.files.Files.{Files}
-use Rattle.op_leaf.specs.Inner.{going_from, inner_from, is_inner, stretch_from, titled_stretch}
+use Rattle.op_leaf.specs.Inner.{going_from, inner_from, stretch_from, titled_stretch}
 use Rattle.op_leaf.specs.Leaves.{blank_cell, files_slot, place_in_round, sounds_of, total_of}
 use Rattle.op_leaf.specs.Standing.{BlankStandsAt, FilesArePlacedIn, FilesStandAt}
 use Rattle.op_leaf.proofs.Cursors.{files-over, later-here, later-next, length-sounds, some_samples, sounds-at}

@@ -1,19 +1,15 @@
 -- How long a leaf goes on with its track.
-use Rattle.std.specs.Prelude.{◌<◌, ◌≤◌, ◌+◌, Bool, ℕ, ℤ, pos, Some, None, List, length, map, zero, suc, is_some, not, ◌&&◌, if◌then◌else◌}
+use Rattle.std.specs.Prelude.{◌<◌, ◌≤◌, ◌+◌, ℕ, ℤ, List, length, map, zero, suc, if◌then◌else◌}
 use Rattle.std.specs.List.{range_with_len}
 use Rattle.frame_core.specs.Library.{Sounds, sound_at, tracks_of}
-use Rattle.frame_core.specs.Slots.{Slot, is_first, title_of}
-use Rattle.cell_ring.specs.Rings.{goes_on}
+use Rattle.frame_core.specs.Slots.{Slot, title_of, goes_on}
+pub use Rattle.frame_core.specs.Slots.{is_inner, slot_left, slot_right}
 use Rattle.frame_core.specs.Sounds.{length_of}
 use Rattle.op_leaf.specs.declared.blank.Blank.{Blank}
 use Rattle.op_leaf.specs.declared.files.Files.{Files}
 use Rattle.op_leaf.specs.declared.leaf.Cursor.{Cursor}
 use Rattle.op_leaf.specs.declared.leaf.Cursor.TheVariants.{Track, Silence, Wave, Nothing}
 use Rattle.op_leaf.specs.declared.leaf.LeafState.{LeafState}
-
--- a cell that begins no track
-abbrev pub is_inner : Slot → Bool
-is_inner slot = is_some slot && not (is_first slot)
 
 -- how many positions, from this one on and at most so many, have cells that begin no track
 abbrev pub inner_from : (slots : ℕ → Slot) → (position most : ℕ) → ℕ
@@ -33,14 +29,6 @@ going_from slots title position (suc most) = if goes_on title (slots position) t
 abbrev pub titled_stretch : (slots : ℕ → Slot) → (position most : ℕ) → ℕ
 titled_stretch slots position zero = zero
 titled_stretch slots position (suc most) = suc (going_from slots (title_of (slots position)) (suc position) most)
-
-abbrev pub slot_left : Slot → ℤ
-slot_left None = pos 0
-slot_left (Some cell) = cell.left
-
-abbrev pub slot_right : Slot → ℤ
-slot_right None = pos 0
-slot_right (Some cell) = cell.right
 
 -- the samples of so many slots from a position on
 abbrev pub lefts_of : (slots : ℕ → Slot) → (position count : ℕ) → List ℤ

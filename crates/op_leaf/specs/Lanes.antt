@@ -1,7 +1,7 @@
 -- A run of cells of one track; and a lane: the samples of a run of cells that begin no track.
 use Rattle.std.specs.Prelude.{◌≡◌, ◌<◌, true, ℕ, ℤ, List, IsSome}
-use Rattle.frame_core.specs.Slots.{Slot, title_of}
-use Rattle.op_leaf.specs.Inner.{is_inner, lefts_of, rights_of}
+use Rattle.frame_core.specs.Slots.{Slot, title_of, is_inner}
+use Rattle.op_leaf.specs.Inner.{lefts_of, rights_of}
 
 -- the first so many slots are cells that begin no track, and these are their samples
 pub record IsLane (slots : ℕ → Slot) (count : ℕ) (left right : List ℤ) : Type 0 where

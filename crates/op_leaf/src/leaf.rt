@@ -1,10 +1,9 @@
 // What a leaf plays, and where it stands.
 ghost use Rattle.std.specs.Prelude.{◌≡◌, ◌<◌, ◌≤◌, ◌+◌, ℕ, suc, true, pos, None, IsSome, length, map};
 ghost use Rattle.std.specs.List.{range_with_len};
-ghost use Rattle.op_leaf.specs.Inner.{LiesAhead, is_inner, lefts_of, rights_of, stretch_from};
-ghost use Rattle.cell_ring.specs.Rings.{goes_on};
+ghost use Rattle.op_leaf.specs.Inner.{LiesAhead, lefts_of, rights_of, stretch_from};
 ghost use Rattle.frame_core.specs.Library.{IsLibrary, Sounds};
-ghost use Rattle.frame_core.specs.Slots.{title_of};
+ghost use Rattle.frame_core.specs.Slots.{title_of, goes_on, is_inner};
 ghost use Rattle.op_leaf.specs.Leaves.{leaf_slot, HasRate, HasTracksOf};
 ghost use Rattle.op_leaf.specs.Standing.{leaf_of, IsPlacedIn, StandsAt};
 
@@ -12,7 +11,7 @@ use crate::blank::Blank;
 use crate::files::Files;
 use crate::square::Square;
 use fixed_text::Decimal;
-use frame_core::{Cell, Library};
+use frame_core::{Cell, Library, goes_on};
 use liq_base::Kind;
 
 /// What a node without children plays. `docs/streams.md` has the rules.
@@ -167,15 +166,5 @@ fn silence(into: &mut [i16])
 {
     for at in 0..into.len() {
         into[at] = 0;
-    }
-}
-
-// A cell of this title that begins no track.
-fn goes_on(title: u32, slot: Option<Cell>) -> bool
-    ensures { result ≡ goes_on title slot }
-{
-    match slot {
-        Some(cell) => !cell.first && cell.title == title,
-        None => false,
     }
 }

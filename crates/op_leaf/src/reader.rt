@@ -1,7 +1,7 @@
 // The reader of a buffer.
 ghost use Rattle.std.specs.Prelude.{◌≡◌, ◌<◌, ◌≤◌, ◌+◌, ◌++◌, [], ℕ, true, false, length, max, IfOk, IsSome};
-ghost use Rattle.frame_core.specs.Slots.{title_of};
-ghost use Rattle.op_leaf.specs.Inner.{is_inner, lefts_of, rights_of, titled_stretch};
+ghost use Rattle.frame_core.specs.Slots.{title_of, is_inner};
+ghost use Rattle.op_leaf.specs.Inner.{lefts_of, rights_of, titled_stretch};
 ghost use Rattle.op_leaf.specs.Lanes.{IsLane, IsOneTrack};
 ghost use Rattle.op_leaf.specs.Readers.{after_cell, begun, missing, read_by, Reader, reader_slot, wants};
 

@@ -2,7 +2,7 @@
 -- that it used when it last gave. A child is a place of the list of children, so that a node at two places is two.
 use Rattle.std.specs.Prelude.{Bool, true, false, not, ◌&&◌, ◌||◌, Option, Some, None, List, [], ◌∷◌, ℕ, suc, nat_eq, is_some, length, drop, if◌then◌else◌}
 use Rattle.frame_core.specs.declared.cell.Cell.{Cell}
-use Rattle.frame_core.specs.Slots.{Slot, slot_at, is_first}
+use Rattle.frame_core.specs.Slots.{Slot, slot_at, is_inner}
 use Rattle.op_select.specs.declared.rule.Rule.{Rule}
 use Rattle.op_select.specs.declared.rule.Rule.TheVariants.{First, Turns}
 use Rattle.op_select.specs.declared.rule.Picked.{Picked}
@@ -24,7 +24,12 @@ offers slots child = is_some (slot_at slots child)
 
 -- the child offers a cell that does not begin a track
 abbrev pub goes_on : List Slot → ℕ → Bool
-goes_on slots child = offers slots child && not (is_first (slot_at slots child))
+goes_on slots child = is_inner (slot_at slots child)
+
+-- the child used last, if there is one, goes on with its track
+abbrev pub plays_on : List Slot → (last : Option ℕ) → Bool
+plays_on slots None = false
+plays_on slots (Some last) = goes_on slots last
 
 -- the least eligible child that offers, where the first of these slots is that of child `from`
 abbrev pub first_ready : List Slot → List Bool → ℕ → Option ℕ

@@ -5,5 +5,6 @@ mod pick;
 mod rule;
 mod state;
 
+pub use pick::plays_on;
 pub use rule::{Picked, Rule};
 pub use state::SelectState;

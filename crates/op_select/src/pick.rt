@@ -1,6 +1,6 @@
 // The child that a selection uses, from the child that it used last.
 ghost use Rattle.std.specs.Prelude.{◌≡◌, ◌<◌, ◌≤◌, ◌^◌, length, drop};
-ghost use Rattle.op_select.specs.Selection.{first_offering, first_pick, first_ready, goes_on, turn_pick};
+ghost use Rattle.op_select.specs.Selection.{first_offering, first_pick, first_ready, plays_on, turn_pick};
 
 use frame_core::Cell;
 
@@ -15,10 +15,10 @@ pub fn pick_first(
     requires children { length offers.now < 2 ^ 32 }
     ensures { result ≡ first_pick sensitive offers.now eligible.now last }
 {
-    match last {
-        Some(child) if sensitive && plays_on(offers, child) => last,
-        _ => find_ready(offers, eligible),
+    if sensitive && plays_on(offers, last) {
+        return last;
     }
+    find_ready(offers, eligible)
 }
 
 /// The child of a sequence.
@@ -32,17 +32,20 @@ pub fn pick_turn(offers: &[Option<Cell>], last: Option<u32>) -> Option<u32>
     let at = child as usize;
     if at + 1 == offers.len() {
         if offers[at].is_some() { last } else { None }
-    } else if plays_on(offers, child) {
+    } else if plays_on(offers, last) {
         last
     } else {
         find_offering(offers, at + 1)
     }
 }
 
-// Whether the child is in the middle of a track.
-fn plays_on(offers: &[Option<Cell>], child: u32) -> bool
-    ensures { result ≡ goes_on offers.now child }
+/// Whether the child that was used last is in the middle of a track.
+pub fn plays_on(offers: &[Option<Cell>], last: Option<u32>) -> bool
+    ensures { result ≡ plays_on offers.now last }
 {
+    let Some(child) = last else {
+        return false;
+    };
     match offers.get(child as usize) {
         Some(Some(cell)) => !cell.first,
         _ => false,

@@ -7,10 +7,10 @@ use Rattle.std.proofs.lemmas.Option.{same_Some, slice_get-get_or}
 use Rattle.frame_core.specs.declared.cell.Cell.{Cell}
 use Rattle.frame_core.specs.Slots.{Slot, is_first, slot_at}
 use Rattle.op_select.specs.declared.rule.Picked.{Picked}
-use Rattle.op_select.specs.Selection.{goes_on, is_last, picked, picked_cell}
+use Rattle.op_select.specs.Selection.{goes_on, is_last, picked, picked_cell, plays_on}
 use Rattle.seed_words.specs.Words.{Unread}
 use Rattle.random_ops.specs.Choices.{chosen_by, used_by}
-use Rattle.random_ops.specs.Turns.{offering, plays_on, rotated}
+use Rattle.random_ops.specs.Turns.{offering, rotated}
 
 -- the child offers a cell
 abbrev pub Offers : List Slot → ℕ → Type 0

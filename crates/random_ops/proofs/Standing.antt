@@ -3,11 +3,11 @@ use Rattle.std.proofs.Common.{◌≡◌, ◌∙◌, ℕ, suc, Bool, true, false,
 use Rattle.std.specs.List.{list_any}
 use Rattle.frame_core.specs.Slots.{Slot}
 use Rattle.op_select.specs.declared.rule.Picked.{Picked}
-use Rattle.op_select.specs.Selection.{picked}
+use Rattle.op_select.specs.Selection.{picked, plays_on}
 use Rattle.random_ops.specs.declared.turn.Turn.{Turn}
 use Rattle.random_ops.specs.declared.turn.Turn.TheVariants.{Random, Rotate}
 use Rattle.random_ops.specs.Choices.{used_by}
-use Rattle.random_ops.specs.Turns.{Past, offered, past_behind, past_given, plays_on, used_child, words_left}
+use Rattle.random_ops.specs.Turns.{Past, offered, past_behind, past_given, used_child, words_left}
 use Rattle.random_ops.proofs.Offering.{picked_some, picked_tells}
 
 -- the words that are left tell the child that the past tells

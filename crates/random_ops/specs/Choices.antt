@@ -2,7 +2,8 @@
 use Rattle.std.specs.Prelude.{Option, Some, None, List, ℕ, if◌then◌else◌}
 use Rattle.frame_core.specs.Slots.{Slot}
 use Rattle.seed_words.specs.Words.{Unread}
-use Rattle.random_ops.specs.Turns.{drawn, plays_on, rotated}
+use Rattle.op_select.specs.Selection.{plays_on}
+use Rattle.random_ops.specs.Turns.{drawn, rotated}
 
 -- the child that a choice finds: without words a rotate's
 abbrev pub chosen_by : Option Unread → (last : Option ℕ) → List Slot → Option ℕ

@@ -1,17 +1,12 @@
 -- Turns: which child a rotate or a random uses, from what its children offer and from the instants at which it gave.
 -- A child is a place of the list of children, so that a node at two places is two.
-use Rattle.std.specs.Prelude.{Bool, false, ◌≡◌, ◌++◌, ◌%◌, Option, Some, None, List, [], ◌∷◌, ℕ, suc, is_some, length, take, drop, slice_get, if◌then◌else◌}
+use Rattle.std.specs.Prelude.{◌≡◌, ◌++◌, ◌%◌, Option, Some, None, List, [], ◌∷◌, ℕ, suc, is_some, length, take, drop, slice_get, if◌then◌else◌}
 use Rattle.frame_core.specs.Slots.{Slot}
 use Rattle.op_select.specs.declared.rule.Picked.{Picked}
-use Rattle.op_select.specs.Selection.{goes_on, picked}
+use Rattle.op_select.specs.Selection.{picked, plays_on}
 use Rattle.seed_words.specs.Words.{Unread, word, words_from}
 use Rattle.random_ops.specs.declared.turn.Turn.{Turn}
 use Rattle.random_ops.specs.declared.turn.Turn.TheVariants.{Random, Rotate}
-
--- the child used last, if there is one, offers a cell that does not begin a track
-abbrev pub plays_on : List Slot → (last : Option ℕ) → Bool
-plays_on slots None = false
-plays_on slots (Some last) = goes_on slots last
 
 -- the children that offer, in their order, where the first of these slots is that of child `from`
 abbrev pub offering : List Slot → (from : ℕ) → List ℕ

@@ -2,7 +2,7 @@
 ghost use Rattle.std.specs.Prelude.{◌≡◌, ◌<◌, ◌+◌, ◌^◌, ℕ, suc, length, slice_get, IfSome};
 ghost use Rattle.random_ops.specs.declared.turn.Turn.{Turn as TheTurn};
 ghost use Rattle.op_select.specs.Selection.{picked};
-ghost use Rattle.random_ops.specs.Turns.{drawn, offering, plays_on, rotated, words_left};
+ghost use Rattle.random_ops.specs.Turns.{drawn, offering, rotated, words_left};
 
 use crate::{Pick, Turn};
 use frame_core::Cell;
@@ -24,19 +24,6 @@ pub fn use_word(words: &mut Option<SeedWords>)
 {
     if let Some(words) = words {
         words.next_word();
-    }
-}
-
-/// Whether the child that was used last is in the middle of a track.
-pub fn plays_on(offers: &[Option<Cell>], last: Option<u32>) -> bool
-    ensures { result ≡ plays_on offers.now last }
-{
-    let Some(child) = last else {
-        return false;
-    };
-    match offers.get(child as usize) {
-        Some(Some(cell)) => !cell.first,
-        _ => false,
     }
 }
 

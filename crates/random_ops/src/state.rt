@@ -6,9 +6,10 @@ ghost use Rattle.random_ops.specs.declared.turn.Turn.{Turn as TheTurn};
 ghost use Rattle.random_ops.specs.Choices.{used_by};
 ghost use Rattle.random_ops.specs.Turns.{offered, Past, past_given, past_of, StandsFor};
 
-use crate::choice::{drawn, picked, plays_on, rotated, use_word, words_of};
+use crate::choice::{drawn, picked, rotated, use_word, words_of};
 use crate::{Pick, Turn};
 use frame_core::Cell;
+use op_select::plays_on;
 use seed_words::SeedWords;
 use std::marker::Model;
 

@@ -8,10 +8,9 @@ use Rattle.clock_infer.specs.declared.clock_map.NodeClock.{NodeClock}
 use Rattle.clock_infer.specs.declared.clock_map.NodeClock.TheVariants.{Sub}
 use Rattle.frame_core.specs.declared.cell.Cell.{Cell}
 use Rattle.std.proofs.lemmas.List.Elements.{All-push}
-use Rattle.frame_core.specs.Slots.{Slot, title_of}
+use Rattle.frame_core.specs.Slots.{Slot, title_of, is_inner}
 use Rattle.op_cross.proofs.Running.{inner_more}
 use Rattle.stream_meaning.specs.Instants.{Setting, IsMeaning, crossfaded, gives, history, moment_after, offer}
-use Rattle.segment_laws.specs.Steady.{is_inner}
 use Rattle.segment_laws.specs.Stretches.{AreFed, IsStretch, going_on, lane}
 use Rattle.segment_laws.proofs.Stretching.{alike_all}
 use Rattle.segment_laws.proofs.Titling.{keeps_title}

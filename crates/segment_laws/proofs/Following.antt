@@ -12,7 +12,7 @@ use Rattle.plan_core.specs.Plans.{AreNodes}
 use Rattle.plan_core.proofs.Paths.{child_below}
 use Rattle.clock_infer.specs.declared.clock_map.NodeClock.{NodeClock}
 use Rattle.clock_infer.proofs.Exact.{there_more}
-use Rattle.frame_core.specs.Slots.{Slot, slot_at, is_first}
+use Rattle.frame_core.specs.Slots.{Slot, slot_at, is_first, is_inner}
 use Rattle.op_cross.specs.Runs.{item_of}
 use Rattle.op_leaf.specs.Leaves.{leaf_slot}
 use Rattle.op_leaf.specs.Readers.{Answer, reader_slot}
@@ -20,7 +20,7 @@ use Rattle.op_select.specs.Selection.{goes_on, picked}
 use Rattle.stream_meaning.specs.declared.part.Part.{Part}
 use Rattle.stream_meaning.specs.Operators.{Work, Plays, Picks, Mixes, Fades, Reads, child_used, marks_at}
 use Rattle.stream_meaning.specs.Instants.{Setting, Moment, Reading, child_at, choices, count, demanded, gives, is_root, last_pick, lies_in, moment_after, offer, offering, part_at, part_by, parts_upto, picked_part, position, reading_after, reading_at, second_at, silent, slots_at, started, uses_by, uses_from, work_at}
-use Rattle.segment_laws.specs.Steady.{Follows, AllFollow, is_inner}
+use Rattle.segment_laws.specs.Steady.{Follows, AllFollow}
 use Rattle.segment_laws.specs.Stretches.{IsLike, IsNode, IsOn, IsStretch}
 use Rattle.segment_laws.proofs.Staying.{follow_length, none_follows}
 use Rattle.segment_laws.proofs.Demanding.{demands_same, used_demanded}

@@ -4,14 +4,13 @@ use Rattle.std.specs.Prelude.{All, not, slice_get}
 use Rattle.std.proofs.lemmas.Bool.{cases_lt}
 use Rattle.std.proofs.lemmas.List.{length-append, length-take, get_or-append-add}
 use Rattle.frame_core.specs.declared.cell.Cell.{Cell}
-use Rattle.frame_core.specs.Slots.{Slot, slot_at, title_of}
+use Rattle.frame_core.specs.Slots.{Slot, slot_at, title_of, is_inner}
 use Rattle.op_cross.specs.Crossfade.{cross}
 use Rattle.op_cross.specs.Runs.{item_of, run_of}
 use Rattle.op_cross.specs.States.{AllInner, Crossing, IsCrossing, StandsFor}
 use Rattle.op_cross.proofs.LeastRuns.{run_of-is, item_of-is}
 use Rattle.op_cross.proofs.Running.{Passing, inner_more, inner_part, passed_count, passed_now}
 use Rattle.stream_meaning.specs.Instants.{Setting}
-use Rattle.segment_laws.specs.Steady.{is_inner}
 use Rattle.segment_laws.specs.Stretches.{AreFed}
 
 slot_inner : (cells : List Cell) (j : ℕ) → AllInner cells → j < length cells → is_inner (slot_at (map Some cells) j) ≡ true

@@ -3,13 +3,13 @@ use Rattle.std.proofs.Common.{◌≡◌, ◌+◌, ◌∙◌, ◌⊎◌, ℕ, zer
 use Rattle.std.specs.Prelude.{is_some, ◌&&◌, ◌||◌, not}
 use Rattle.std.proofs.lemmas.Bool.{false≢true, true≢false, eq-eqb, eqb-true}
 use Rattle.frame_core.specs.declared.cell.Cell.{Cell}
-use Rattle.frame_core.specs.Slots.{Slot, slot_at, is_first}
+use Rattle.frame_core.specs.Slots.{Slot, slot_at, is_first, is_inner}
 use Rattle.op_select.specs.declared.rule.Rule.{Rule}
 use Rattle.op_select.specs.declared.rule.Rule.TheVariants.{First, Turns}
 use Rattle.op_select.specs.Selection.{first_ready, first_offering, goes_on, offers, first_pick, turn_pick, pick_of, is_last, picked_cell, picked}
 use Rattle.stream_meaning.specs.Operators.{Selects}
 use Rattle.stream_meaning.specs.Instants.{picked_part}
-use Rattle.segment_laws.specs.Steady.{Follows, AllFollow, IsFree, is_inner}
+use Rattle.segment_laws.specs.Steady.{Follows, AllFollow, IsFree}
 
 pub none_follows : Follows None None
 none_follows = record { there = refl; first = λ e. e }

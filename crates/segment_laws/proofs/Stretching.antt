@@ -5,11 +5,10 @@ use Rattle.std.proofs.lemmas.Bool.{false≢true, true≢false}
 use Rattle.plan_core.specs.declared.node.Node.{Node}
 use Rattle.plan_core.specs.Plans.{AreNodes}
 use Rattle.clock_infer.specs.declared.clock_map.NodeClock.{NodeClock}
-use Rattle.frame_core.specs.Slots.{Slot, is_first}
+use Rattle.frame_core.specs.Slots.{Slot, is_first, is_inner}
 use Rattle.op_leaf.specs.Readers.{after_cell, read_by}
 use Rattle.stream_meaning.specs.Operators.{Reads}
 use Rattle.stream_meaning.specs.Instants.{Setting, Moment, Reading, choices, count, demanded, gives, last_pick, moment_after, offer, part_at, position, read_on, reading_after, reading_at, work_at}
-use Rattle.segment_laws.specs.Steady.{is_inner}
 use Rattle.segment_laws.specs.Stretches.{IsLike, IsNode, IsOn, IsStretch, going_on}
 use Rattle.segment_laws.proofs.Works.{inner_first}
 use Rattle.segment_laws.proofs.Following.{is_like, no_tick}

@@ -3,17 +3,17 @@ use Rattle.std.proofs.Common.{◌≡◌, ◌∙◌, ℕ, Some, None, Option, Lis
 use Rattle.std.specs.Prelude.{is_some, ◌||◌, not}
 use Rattle.std.specs.List.{list_any}
 use Rattle.std.proofs.lemmas.Bool.{false≢true, true≢false}
-use Rattle.frame_core.specs.Slots.{Slot, slot_at, is_first}
+use Rattle.frame_core.specs.Slots.{Slot, slot_at, is_first, is_inner}
 use Rattle.op_select.specs.declared.rule.Picked.{Picked}
-use Rattle.op_select.specs.Selection.{goes_on}
+use Rattle.op_select.specs.Selection.{goes_on, plays_on}
 use Rattle.random_ops.specs.declared.turn.Turn.{Turn}
 use Rattle.random_ops.specs.declared.turn.Turn.TheVariants.{Random, Rotate}
-use Rattle.random_ops.specs.Turns.{Past, chosen, offered, plays_on, used_child, words_left}
+use Rattle.random_ops.specs.Turns.{Past, chosen, offered, used_child, words_left}
 use Rattle.random_ops.proofs.Offering.{picked_tells}
 use Rattle.random_ops.proofs.Standing.{some_offered}
 use Rattle.stream_meaning.specs.Operators.{Choice, Selects, TakesTurns, child_used}
 use Rattle.stream_meaning.specs.Instants.{picked_part}
-use Rattle.segment_laws.specs.Steady.{Follows, AllFollow, IsFree, is_inner}
+use Rattle.segment_laws.specs.Steady.{Follows, AllFollow, IsFree}
 use Rattle.segment_laws.proofs.Staying.{follow_at, pick_kept, picked_slot, selection_follows}
 
 -- some child offers as before

@@ -3,14 +3,14 @@ use Rattle.std.proofs.Common.{◌≡◌, ◌∙◌, ℕ, Some, None, Option, Lis
 use Rattle.std.specs.Prelude.{is_some, ◌&&◌, not}
 use Rattle.std.proofs.lemmas.Bool.{false≢true, true≢false}
 use Rattle.frame_core.specs.declared.cell.Cell.{Cell}
-use Rattle.frame_core.specs.Slots.{Slot, slot_at, is_first}
+use Rattle.frame_core.specs.Slots.{Slot, slot_at, is_first, is_inner}
 use Rattle.op_select.specs.declared.rule.Picked.{Picked}
 use Rattle.op_select.specs.Selection.{goes_on, picked}
 use Rattle.stream_meaning.specs.declared.part.Part.{Part}
 use Rattle.stream_meaning.specs.Arithmetic.{Mixing, Adds, Scales, Halves, Doubles, Passes, cells_of, changed, summed_slot, changed_slot, mix_slot}
 use Rattle.stream_meaning.specs.Operators.{Choice, child_used}
 use Rattle.stream_meaning.specs.Instants.{picked_part, unpicked}
-use Rattle.segment_laws.specs.Steady.{Follows, AllFollow, IsFree, is_inner}
+use Rattle.segment_laws.specs.Steady.{Follows, AllFollow, IsFree}
 use Rattle.std.proofs.lemmas.Option.{none-some}
 use Rattle.segment_laws.proofs.Staying.{none_follows, kept_inner, picked-none, picked-some}
 use Rattle.segment_laws.proofs.Turning.{choice_follows, choice_kept}

@@ -3,7 +3,7 @@ use Rattle.std.specs.Prelude.{[], All, ◌≡◌, ◌<◌, ◌+◌, ◌%◌, Boo
 use Rattle.plan_core.specs.declared.node.Node.{Node}
 use Rattle.clock_infer.specs.declared.clock_map.NodeClock.{NodeClock}
 use Rattle.clock_infer.specs.declared.clock_map.NodeClock.TheVariants.{Sub}
-use Rattle.frame_core.specs.Slots.{Slot, is_first, title_of}
+use Rattle.frame_core.specs.Slots.{Slot, is_first, title_of, is_inner}
 use Rattle.frame_core.specs.declared.cell.Cell.{Cell}
 use Rattle.op_cross.specs.Runs.{item_of, run_of}
 use Rattle.op_cross.specs.States.{AllInner}
@@ -13,7 +13,7 @@ use Rattle.op_leaf.specs.Readers.{read_by, reader_slot}
 use Rattle.stream_meaning.specs.Operators.{Work, Choice, Selects, TakesTurns, Eligible, Plays, Picks, Mixes, Fades, Reads, marks_at}
 use Rattle.stream_meaning.specs.Instants.{Setting, Moment, choices, count, demanded, gives, history, last_pick, lies_in, moment_after, offer, part_at, parts_upto, position, reading_after, reading_at, second_at, slots_at, work_at}
 use Rattle.stream_meaning.specs.Calls.{calls_of}
-use Rattle.segment_laws.specs.Steady.{Follows, IsFree, is_inner}
+use Rattle.segment_laws.specs.Steady.{Follows, IsFree}
 
 -- the next j instants of a clock, on top of these
 abbrev pub going_on : Setting → (sub : ℕ → ℕ → List Slot) → NodeClock → ℕ → List Moment → List Moment

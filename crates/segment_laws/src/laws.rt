@@ -2,7 +2,7 @@
 ghost use Rattle.std.specs.Prelude.{◌≡◌, ◌<◌, ◌≤◌, ◌+◌, ℕ, suc, true, Some, List, [], length, map, slice_get};
 ghost use Rattle.clock_infer.specs.declared.clock_map.NodeClock.{NodeClock as Clock};
 ghost use Rattle.clock_infer.specs.declared.clock_map.NodeClock.TheVariants.{Sub as InSub};
-ghost use Rattle.frame_core.specs.Slots.{Slot as TheSlot, title_of};
+ghost use Rattle.frame_core.specs.Slots.{Slot as TheSlot, title_of, is_inner};
 ghost use Rattle.op_cross.specs.Crossfade.{cross};
 ghost use Rattle.op_cross.specs.Runs.{item_of, run_of};
 ghost use Rattle.op_cross.specs.States.{AllInner, Crossing, IsCrossing, StandsFor, passes};
@@ -15,7 +15,6 @@ ghost use Rattle.stream_meaning.specs.Arithmetic.{Mixing, mix_slot};
 ghost use Rattle.stream_meaning.specs.Calls.{GoDown, calls_of, takes_at};
 ghost use Rattle.stream_meaning.specs.Operators.{Choice, Eligible, Fades, Mixes, Picks, Plays, Reads};
 ghost use Rattle.stream_meaning.specs.Instants.{Setting, Moment, IsMeaning, count, crossfaded, gives, history, moment_after, offer, part_at, position, reading_after, reading_at, work_at};
-ghost use Rattle.segment_laws.specs.Steady.{is_inner};
 ghost use Rattle.segment_laws.specs.Stretches.{AreFed, AreQuiet, IsLike, IsNode, IsOn, IsStretch, going_on, lane};
 
 /// Over a stretch demands, picks of demanded nodes and who offers are those of its first instant, and none that gives begins

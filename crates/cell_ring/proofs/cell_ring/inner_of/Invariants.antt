@@ -1,5 +1,5 @@
 use Rattle.std.proofs.Common.{◌≡◌, ◌<◌, ◌≤◌, ◌-◌, ℕ, true, slice_get}
-use Rattle.cell_ring.specs.Rings.{goes_on}
+use Rattle.frame_core.specs.Slots.{goes_on}
 use Rattle.cell_ring.proofs.cell_ring.inner_of.Given as goal
 
 abbrev pub invariant-loop-count : goal.invariant-loop-count

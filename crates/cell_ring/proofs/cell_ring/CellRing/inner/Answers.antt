@@ -1,5 +1,5 @@
 use Rattle.std.proofs.Common.{◌+◌, ◌++◌, refl}
-use Rattle.cell_ring.specs.Rings.{goes_on}
+use Rattle.frame_core.specs.Slots.{goes_on}
 use Rattle.cell_ring.proofs.Parts.{ends_behind, ends_from, passes_from}
 use Rattle.cell_ring.proofs.cell_ring.CellRing.inner.Goals as goal
 

@@ -1,5 +1,6 @@
 use Rattle.std.proofs.Common.{◌≡◌, ◌≤◌, ◌+◌, ◌-◌, ◌∙◌, length, drop, slice_get, arith, ap, refl, subst, sym}
-use Rattle.cell_ring.specs.Rings.{Ring, Runs, goes_on, spare_cells}
+use Rattle.frame_core.specs.Slots.{goes_on}
+use Rattle.cell_ring.specs.Rings.{Ring, Runs, spare_cells}
 use Rattle.cell_ring.proofs.Parts.{rest_behind}
 use Rattle.cell_ring.proofs.Queues.{both_end, both_pass}
 use Rattle.cell_ring.proofs.chunk_queue.ChunkQueue.inner.Goals as goal

@@ -3,7 +3,7 @@ use Rattle.std.proofs.lemmas.List.{length-take}
 use Rattle.cell_ring.specs.Rings.{Ring, inner_cells}
 use Rattle.cell_ring.proofs.Runs.{long_run}
 use Rattle.op_cross.specs.Crossfade.{cross}
-use Rattle.op_cross.specs.Stretches.{left_of, right_of}
+use Rattle.frame_core.specs.Slots.{slot_left, slot_right}
 use Rattle.op_cross.specs.States.{StandsFor, passes}
 use Rattle.op_cross.proofs.Running.{Passing, inner_part, passed_count, passed_lefts, passed_rights, passing, runs_inner}
 use Rattle.op_cross.proofs.Passing.{long_now, passed_by, passes_still, rest_is, rest_long}
@@ -65,8 +65,8 @@ returns-clause-left c = λ slots p stands.
     ∙ ap (λ (r : Ring). map (λ cell. cell.left) (take (length c.args.left.now) r.cells)) c.push_run.ensures
     ∙ ap (λ n. map (λ cell. cell.left) (take n (c.self.inside.cells.cells ++ run))) same
     ∙ passed_lefts (the_view c.self.inside) slots p run c.self.invariant.0 before pass (runs_inner c.args.title c.args.from_left.now c.args.from_right.now)
-    ∙ ap (λ n. map left_of (take n (drop p (cross c.self.inside.overlap (slots ++ map Some run))))) (sym same)
-    ∙ ap (λ s. map left_of (take (length c.args.left.now) (drop p (cross s.overlap (slots ++ map Some run))))) c.self.view_is
+    ∙ ap (λ n. map slot_left (take n (drop p (cross c.self.inside.overlap (slots ++ map Some run))))) (sym same)
+    ∙ ap (λ s. map slot_left (take (length c.args.left.now) (drop p (cross s.overlap (slots ++ map Some run))))) c.self.view_is
 
 pub returns-clause-right : goal.returns-clause-right
 returns-clause-right c = λ slots p stands.
@@ -78,5 +78,5 @@ returns-clause-right c = λ slots p stands.
     ∙ ap (λ (r : Ring). map (λ cell. cell.right) (take (length c.args.left.now) r.cells)) c.push_run.ensures
     ∙ ap (λ n. map (λ cell. cell.right) (take n (c.self.inside.cells.cells ++ run))) same
     ∙ passed_rights (the_view c.self.inside) slots p run c.self.invariant.0 before pass (runs_inner c.args.title c.args.from_left.now c.args.from_right.now)
-    ∙ ap (λ n. map right_of (take n (drop p (cross c.self.inside.overlap (slots ++ map Some run))))) (sym same)
-    ∙ ap (λ s. map right_of (take (length c.args.left.now) (drop p (cross s.overlap (slots ++ map Some run))))) c.self.view_is
+    ∙ ap (λ n. map slot_right (take n (drop p (cross c.self.inside.overlap (slots ++ map Some run))))) (sym same)
+    ∙ ap (λ s. map slot_right (take (length c.args.left.now) (drop p (cross s.overlap (slots ++ map Some run))))) c.self.view_is

@@ -1,8 +1,6 @@
 use Rattle.std.proofs.Common.{◌≡◌, ◌∙◌, true, drop, rules, arith, ap, sym}
-use Rattle.frame_core.specs.Slots.{slot_at}
-use Rattle.cell_ring.specs.Rings.{goes_on}
+use Rattle.frame_core.specs.Slots.{slot_at, goes_on, is_inner}
 use Rattle.op_cross.specs.Crossfade.{cross}
-use Rattle.op_cross.specs.Stretches.{is_inner}
 use Rattle.op_cross.proofs.Resting.{items_inner}
 use Rattle.op_cross.proofs.Titles.{going_inner, going_title, items_titled, titled_whole}
 use Rattle.op_cross.proofs.state.CrossState.rest.Goals as goal

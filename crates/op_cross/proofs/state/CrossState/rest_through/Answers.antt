@@ -1,5 +1,5 @@
 use Rattle.std.proofs.Common.{◌≡◌, ◌+◌, ◌∙◌, true, length, slice_get, arith, ap, sym, subst}
-use Rattle.cell_ring.specs.Rings.{goes_on}
+use Rattle.frame_core.specs.Slots.{goes_on}
 use Rattle.op_cross.specs.States.{Crossing, passes}
 use Rattle.op_cross.proofs.Running.{Passing, passing}
 use Rattle.op_cross.specs.contracts.state.CrossState.{the_view}

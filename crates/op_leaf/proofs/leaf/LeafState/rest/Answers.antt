@@ -1,6 +1,5 @@
 use Rattle.std.proofs.Common.{◌≡◌, ◌<◌, ◌∙◌, true, rules, ap, sym, subst}
-use Rattle.cell_ring.specs.Rings.{goes_on}
-use Rattle.op_leaf.specs.Inner.{is_inner}
+use Rattle.frame_core.specs.Slots.{goes_on, is_inner}
 use Rattle.op_leaf.specs.Leaves.{leaf_slot}
 use Rattle.op_leaf.specs.Standing.{leaf_of}
 use Rattle.op_leaf.proofs.Stretching.{going_inner, going_title, inner_some, stretch_inner}

@@ -1,6 +1,5 @@
 use Rattle.std.proofs.Common.{◌≡◌, ◌+◌, ◌∙◌, slice_get, arith, ap, sym}
-use Rattle.frame_core.specs.Slots.{title_of}
-use Rattle.op_leaf.specs.Inner.{is_inner}
+use Rattle.frame_core.specs.Slots.{title_of, is_inner}
 use Rattle.op_leaf.proofs.Onward.{holds_on}
 use Rattle.op_leaf.proofs.Stretching.{going_inner, going_title}
 use Rattle.op_leaf.proofs.reader.ReaderState.rest.Goals as goal
