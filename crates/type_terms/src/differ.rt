@@ -4,7 +4,8 @@ ghost use Rattle.std.specs.Bool.{OnTrue, OnFalse};
 ghost use Rattle.type_terms.specs.Differ.{Settles, is_number_base};
 ghost use Rattle.type_terms.specs.Ground.{Assignment};
 ghost use Rattle.type_terms.specs.Nested.{AreMarked};
-ghost use Rattle.type_terms.specs.Agenda.{AllEqualBelow, EqualBelow, TakesUp, agenda, pairs_of, variable_pairs};
+ghost use Rattle.type_terms.specs.Agenda.{AllEqualBelow, EqualBelow, TakesUp, agenda_of, pairs_of, variable_pairs};
+ghost use Rattle.type_terms.specs.Narrowed.{AreComparable};
 ghost use Rattle.type_terms.specs.Pairs.{IsSplit, pairs, parts_of, zipped};
 ghost use Rattle.type_terms.specs.Table.{table, IsOver, IsSound, IsTriangular, bound_at, kind_at, number_at, extra, FallsByNumber, MeetsKinds};
 ghost use Rattle.type_terms.specs.Term.{InTerm, InKind, base_of, term_of, terms_of, variable, kind_meaning, source_term};
@@ -12,6 +13,7 @@ ghost use Rattle.type_terms.specs.Variables.{Variable};
 ghost use Rattle.type_terms.specs.declared.ty.KindTerm.{KindTerm};
 ghost use Rattle.type_terms.specs.declared.ty.KindTerm.TheVariants.{Var};
 
+use crate::agenda::Agenda;
 use crate::naming::copy;
 use crate::occurs::{occurs_in, resolve};
 use crate::ty::{Base, KindTerm, Ty};
@@ -104,28 +106,24 @@ pub fn differ<'a>(
     types: &'a [TypeVariable],
     kinds: &[Option<KindTerm>],
     nested: &[bool],
-    work: &mut Vec<(Ty, Ty)>,
-    seen: &mut IndexSet<(u64, u64)>,
+    agenda: &mut Agenda,
     left: &'a Ty,
     right: &'a Ty,
 ) -> Result<Difference<'a>, Memory>
-    requires sound { IsSound (table types.now kinds.now) }
-    requires marked { AreMarked types.now nested.now }
-    requires left { IsOver (table types.now kinds.now) (term_of left.now) }
-    requires right { IsOver (table types.now kinds.now) (term_of right.now) }
-    ensures { IfOk result (λ d. TakesUp (table types.now kinds.now) (agenda work.old.items seen.old.keys) (agenda work.new.items seen.new.keys) (term_of left.now) (term_of right.now) d) }
+    requires { AreComparable (table types.now kinds.now) nested.now (term_of left.now) (term_of right.now) }
+    ensures { IfOk result (λ d. TakesUp (table types.now kinds.now) (agenda_of agenda.old) (agenda_of agenda.new) (term_of left.now) (term_of right.now) d) }
 {
     if are_one_variable(left, right) {
         return Ok(Difference::Same);
     }
-    if is_known(seen, left, right) {
+    if is_known(&agenda.seen, left, right) {
         return Ok(Difference::Same);
     }
     let s = resolve(types, left);
     let t = resolve(types, right);
     if is_split(s, t) {
-        push_copies(alloc, work, s, t)?;
-        note(seen, left, right)?;
+        push_copies(alloc, &mut agenda.work, s, t)?;
+        note(&mut agenda.seen, left, right)?;
         return Ok(Difference::Same);
     }
     let difference = differ_resolved(alloc, types, kinds, nested, s, t)?;

@@ -1,6 +1,7 @@
 //! Types over variables, and a most general unifier.
 #![tactic(auto)]
 
+mod agenda;
 mod differ;
 mod free_counts;
 mod naming;

@@ -3,23 +3,43 @@ ghost use Rattle.std.specs.Prelude.{◌≡◌, ◌<◌, ℕ, None, Option, List,
 ghost use Rattle.std.specs.Bool.{OnFalse};
 ghost use Rattle.type_terms.specs.Counting.{free_count};
 ghost use Rattle.type_terms.specs.Nested.{AreMarked, mark_at};
-ghost use Rattle.type_terms.specs.Table.{table, Binds, BindsKind, IsOver, IsSound, bound_at, kind_at};
+ghost use Rattle.type_terms.specs.Table.{Table, table, Binds, BindsKind, bound_at, kind_at};
 ghost use Rattle.type_terms.specs.Term.{InTerm, term_of};
-ghost use Rattle.type_terms.specs.Agenda.{IsTaken, agenda};
+ghost use Rattle.type_terms.specs.Agenda.{IsTaken, agenda_of, empty_agenda};
 ghost use Rattle.type_terms.specs.Direct.{IsDirect};
-ghost use Rattle.type_terms.specs.Narrowed.{AreTrailed, IsAnswer, IsNarrowed};
+ghost use Rattle.type_terms.specs.Narrowed.{AreComparable, IsAnswer, IsNarrowed, IsTrailed, Tells};
 ghost use Rattle.type_terms.specs.Undo.{Frees, FreesKind, IsKindTrail, IsTrail};
 ghost use Rattle.type_terms.specs.Variables.{Variable};
 ghost use Rattle.type_terms.specs.declared.ty.KindTerm.{KindTerm};
 
+use crate::agenda::Agenda;
 use crate::differ::{Difference, differ, differ_resolved, is_split, push_copies, push_split};
 use crate::naming::copy;
 use crate::occurs::{MOST_STEPS, mark, resolve};
 use crate::ty::{KindTerm, Ty};
 use crate::type_variable::TypeVariable;
-use indexmap::IndexSet;
 use liq_base::Memory;
 use std::alloc::Global;
+
+/// Which variables were bound, each once.
+#[derive(Drop)]
+struct Trail {
+    types: Vec<u64>,
+    kinds: Vec<u64>,
+}
+
+impl Trail {
+    /// None.
+    fn new(alloc: Global) -> Trail
+        ensures types { result.types.items ≡ [] }
+        ensures kinds { result.kinds.items ≡ [] }
+    {
+        Trail {
+            types: Vec::new(alloc),
+            kinds: Vec::new(alloc),
+        }
+    }
+}
 
 /// What became of two types that were to be the same: they are, they cannot be, or they are to be taken apart.
 #[derive(Drop)]
@@ -42,11 +62,8 @@ pub fn unify_in(
     left: &Ty,
     right: &Ty,
 ) -> Result<bool, Memory>
-    requires sound { IsSound (table types.old kinds.old) }
+    requires comparable { AreComparable (table types.old kinds.old) nested.old (term_of left.now) (term_of right.now) }
     requires counted { free.old ≡ free_count (table types.old kinds.old) }
-    requires marked { AreMarked types.old nested.old }
-    requires left { IsOver (table types.old kinds.old) (term_of left.now) }
-    requires right { IsOver (table types.old kinds.old) (term_of right.now) }
     ensures narrowed { IsNarrowed (term_of left.now) (term_of right.now) (table types.old kinds.old) (table types.new kinds.new) nested.old nested.new }
     ensures answer { IfOk result (IsAnswer (table types.new kinds.new) (term_of left.now) (term_of right.now)) }
     ensures unchanged { IfOk result (λ yes. OnFalse yes (table types.new kinds.new ≡ table types.old kinds.old)) }
@@ -70,11 +87,8 @@ fn unify_directly(
     left: &Ty,
     right: &Ty,
 ) -> Result<Direct, Memory>
-    requires sound { IsSound (table types.old kinds.old) }
+    requires comparable { AreComparable (table types.old kinds.old) nested.old (term_of left.now) (term_of right.now) }
     requires counted { free.old ≡ free_count (table types.old kinds.old) }
-    requires marked { AreMarked types.old nested.old }
-    requires left { IsOver (table types.old kinds.old) (term_of left.now) }
-    requires right { IsOver (table types.old kinds.old) (term_of right.now) }
     ensures narrowed { IsNarrowed (term_of left.now) (term_of right.now) (table types.old kinds.old) (table types.new kinds.new) nested.old nested.new }
     ensures direct { IfOk result (IsDirect (table types.old kinds.old) (table types.new kinds.new) (term_of left.now) (term_of right.now)) }
     ensures counted { free.new ≡ free_count (table types.new kinds.new) }
@@ -112,42 +126,27 @@ fn unify_deeply(
     left: &Ty,
     right: &Ty,
 ) -> Result<bool, Memory>
-    requires sound { IsSound (table types.old kinds.old) }
+    requires comparable { AreComparable (table types.old kinds.old) nested.old (term_of left.now) (term_of right.now) }
     requires counted { free.old ≡ free_count (table types.old kinds.old) }
-    requires marked { AreMarked types.old nested.old }
-    requires left { IsOver (table types.old kinds.old) (term_of left.now) }
-    requires right { IsOver (table types.old kinds.old) (term_of right.now) }
     ensures narrowed { IsNarrowed (term_of left.now) (term_of right.now) (table types.old kinds.old) (table types.new kinds.new) nested.old nested.new }
     ensures answer { IfOk result (IsAnswer (table types.new kinds.new) (term_of left.now) (term_of right.now)) }
     ensures unchanged { IfOk result (λ yes. OnFalse yes (table types.new kinds.new ≡ table types.old kinds.old)) }
     ensures counted { free.new ≡ free_count (table types.new kinds.new) }
     ensures err { OnErr result (table types.new kinds.new ≡ table types.old kinds.old) }
 {
-    let mut type_trail = Vec::new(alloc);
-    let mut kind_trail = Vec::new(alloc);
-    match solve(
-        alloc,
-        types,
-        kinds,
-        nested,
-        &mut type_trail,
-        &mut kind_trail,
-        left,
-        right,
-    ) {
+    let mut trail = Trail::new(alloc);
+    match solve(alloc, types, kinds, nested, &mut trail, left, right) {
         Ok(true) => {
-            *free -= type_trail.len();
-            *free -= kind_trail.len();
+            *free -= trail.types.len();
+            *free -= trail.kinds.len();
             Ok(true)
         }
         Ok(false) => {
-            free_types(types, &type_trail);
-            free_kinds(kinds, &kind_trail);
+            undo(types, kinds, &trail);
             Ok(false)
         }
         Err(e) => {
-            free_types(types, &type_trail);
-            free_kinds(kinds, &kind_trail);
+            undo(types, kinds, &trail);
             Err(e)
         }
     }
@@ -223,38 +222,42 @@ fn free_kinds(kinds: &mut [Option<KindTerm>], trail: &[u64])
     }
 }
 
-/// Takes up one pair: binds the variable that it forces, or puts what the two are bound to on the stack; `false` where they differ in shape.
+/// Frees again the variables that a trail tells of.
+fn undo(types: &mut [TypeVariable], kinds: &mut [Option<KindTerm>], trail: &Trail)
+    requires { (s : Table) × Tells trail.now s (table types.old kinds.old) }
+    ensures { (s : Table) → Tells trail.now s (table types.old kinds.old) → table types.new kinds.new ≡ s }
+{
+    free_types(types, &trail.types);
+    free_kinds(kinds, &trail.kinds);
+}
+
+/// Takes up one pair: binds the variable that it forces, or puts what the two are bound to on the agenda; `false` where they differ in shape.
 fn take_up(
     alloc: Global,
     types: &mut [TypeVariable],
     kinds: &mut [Option<KindTerm>],
     nested: &mut [bool],
-    type_trail: &mut Vec<u64>,
-    kind_trail: &mut Vec<u64>,
-    work: &mut Vec<(Ty, Ty)>,
-    seen: &mut IndexSet<(u64, u64)>,
+    trail: &mut Trail,
+    agenda: &mut Agenda,
     left: &Ty,
     right: &Ty,
 ) -> Result<bool, Memory>
-    requires sound { IsSound (table types.old kinds.old) }
-    requires marked { AreMarked types.old nested.old }
-    requires left { IsOver (table types.old kinds.old) (term_of left.now) }
-    requires right { IsOver (table types.old kinds.old) (term_of right.now) }
+    requires { AreComparable (table types.old kinds.old) nested.old (term_of left.now) (term_of right.now) }
     ensures narrowed { IsNarrowed (term_of left.now) (term_of right.now) (table types.old kinds.old) (table types.new kinds.new) nested.old nested.new }
-    ensures trailed { AreTrailed (table types.old kinds.old) (table types.new kinds.new) type_trail.old.items type_trail.new.items kind_trail.old.items kind_trail.new.items }
-    ensures taken { IfOk result (IsTaken (table types.new kinds.new) (agenda work.old.items seen.old.keys) (agenda work.new.items seen.new.keys) (term_of left.now) (term_of right.now)) }
+    ensures trailed { IsTrailed (table types.old kinds.old) (table types.new kinds.new) trail.old trail.new }
+    ensures taken { IfOk result (IsTaken (table types.new kinds.new) (agenda_of agenda.old) (agenda_of agenda.new) (term_of left.now) (term_of right.now)) }
 {
-    match differ(alloc, types, kinds, nested, work, seen, left, right)? {
+    match differ(alloc, types, kinds, nested, agenda, left, right)? {
         Difference::Same => Ok(true),
         Difference::Clash => Ok(false),
         Difference::Bind(x, t) => {
             let t = copy(alloc, t)?;
-            type_trail.push(x)?;
+            trail.types.push(x)?;
             bind_marked(types, nested, x, t);
             Ok(true)
         }
         Difference::BindKind(x, k) => {
-            kind_trail.push(x)?;
+            trail.kinds.push(x)?;
             bind_kind(kinds, x, k);
             Ok(true)
         }
@@ -267,20 +270,15 @@ fn take_apart(
     types: &mut [TypeVariable],
     kinds: &mut [Option<KindTerm>],
     nested: &mut [bool],
-    type_trail: &mut Vec<u64>,
-    kind_trail: &mut Vec<u64>,
-    work: &mut Vec<(Ty, Ty)>,
-    seen: &mut IndexSet<(u64, u64)>,
+    trail: &mut Trail,
+    agenda: &mut Agenda,
     left: &Ty,
     right: &Ty,
 ) -> Result<bool, Memory>
-    requires sound { IsSound (table types.old kinds.old) }
-    requires marked { AreMarked types.old nested.old }
-    requires left { IsOver (table types.old kinds.old) (term_of left.now) }
-    requires right { IsOver (table types.old kinds.old) (term_of right.now) }
+    requires { AreComparable (table types.old kinds.old) nested.old (term_of left.now) (term_of right.now) }
     ensures narrowed { IsNarrowed (term_of left.now) (term_of right.now) (table types.old kinds.old) (table types.new kinds.new) nested.old nested.new }
-    ensures trailed { AreTrailed (table types.old kinds.old) (table types.new kinds.new) type_trail.old.items type_trail.new.items kind_trail.old.items kind_trail.new.items }
-    ensures taken { IfOk result (IsTaken (table types.new kinds.new) (agenda work.old.items seen.old.keys) (agenda work.new.items seen.new.keys) (term_of left.now) (term_of right.now)) }
+    ensures trailed { IsTrailed (table types.old kinds.old) (table types.new kinds.new) trail.old trail.new }
+    ensures taken { IfOk result (IsTaken (table types.new kinds.new) (agenda_of agenda.old) (agenda_of agenda.new) (term_of left.now) (term_of right.now)) }
 {
     let mut parts: Vec<(&Ty, &Ty)> = Vec::new(alloc);
     parts.push((left, right))?;
@@ -291,74 +289,57 @@ fn take_apart(
         if push_split(&mut parts, next.0, next.1)? {
             continue;
         }
-        if !take_up(
-            alloc, types, kinds, nested, type_trail, kind_trail, work, seen, next.0, next.1,
-        )? {
+        if !take_up(alloc, types, kinds, nested, trail, agenda, next.0, next.1)? {
             return Ok(false);
         }
     }
     Err(Memory)
 }
 
-/// Binds variables until the two types are the same, or differ in shape. The trails tell which were bound.
+/// Binds variables until the two types are the same, or differ in shape. The trail tells which were bound.
 ///
-/// What variables are bound to and is still to be compared stands on a stack of pairs, as copies, so that variables can be bound meanwhile. Two variables are taken apart once.
+/// What variables are bound to and is still to be compared stands on the agenda. Two variables are taken apart once.
 fn solve(
     alloc: Global,
     types: &mut [TypeVariable],
     kinds: &mut [Option<KindTerm>],
     nested: &mut [bool],
-    type_trail: &mut Vec<u64>,
-    kind_trail: &mut Vec<u64>,
+    trail: &mut Trail,
     left: &Ty,
     right: &Ty,
 ) -> Result<bool, Memory>
-    requires sound { IsSound (table types.old kinds.old) }
-    requires marked { AreMarked types.old nested.old }
-    requires left { IsOver (table types.old kinds.old) (term_of left.now) }
-    requires right { IsOver (table types.old kinds.old) (term_of right.now) }
+    requires { AreComparable (table types.old kinds.old) nested.old (term_of left.now) (term_of right.now) }
     ensures narrowed { IsNarrowed (term_of left.now) (term_of right.now) (table types.old kinds.old) (table types.new kinds.new) nested.old nested.new }
-    ensures trailed { AreTrailed (table types.old kinds.old) (table types.new kinds.new) type_trail.old.items type_trail.new.items kind_trail.old.items kind_trail.new.items }
+    ensures trailed { IsTrailed (table types.old kinds.old) (table types.new kinds.new) trail.old trail.new }
     ensures answer { IfOk result (IsAnswer (table types.new kinds.new) (term_of left.now) (term_of right.now)) }
 {
-    let mut work: Vec<(Ty, Ty)> = Vec::new(alloc);
-    let mut seen: IndexSet<(u64, u64)> = IndexSet::new(alloc);
-    compare(
-        alloc, types, kinds, nested, type_trail, kind_trail, &mut work, &mut seen, left, right,
-    )
+    let mut agenda = Agenda::new(alloc);
+    compare(alloc, types, kinds, nested, trail, &mut agenda, left, right)
 }
 
-/// The same with the stack of what is still to be compared, and the variables that were taken apart, none at first.
+/// The same with an agenda, on which nothing stands at first.
 fn compare(
     alloc: Global,
     types: &mut [TypeVariable],
     kinds: &mut [Option<KindTerm>],
     nested: &mut [bool],
-    type_trail: &mut Vec<u64>,
-    kind_trail: &mut Vec<u64>,
-    work: &mut Vec<(Ty, Ty)>,
-    seen: &mut IndexSet<(u64, u64)>,
+    trail: &mut Trail,
+    agenda: &mut Agenda,
     left: &Ty,
     right: &Ty,
 ) -> Result<bool, Memory>
-    requires sound { IsSound (table types.old kinds.old) }
-    requires marked { AreMarked types.old nested.old }
-    requires left { IsOver (table types.old kinds.old) (term_of left.now) }
-    requires right { IsOver (table types.old kinds.old) (term_of right.now) }
-    requires work { work.old.items ≡ [] }
-    requires seen { seen.old.keys ≡ [] }
+    requires comparable { AreComparable (table types.old kinds.old) nested.old (term_of left.now) (term_of right.now) }
+    requires empty { agenda_of agenda.old ≡ empty_agenda }
     ensures narrowed { IsNarrowed (term_of left.now) (term_of right.now) (table types.old kinds.old) (table types.new kinds.new) nested.old nested.new }
-    ensures trailed { AreTrailed (table types.old kinds.old) (table types.new kinds.new) type_trail.old.items type_trail.new.items kind_trail.old.items kind_trail.new.items }
+    ensures trailed { IsTrailed (table types.old kinds.old) (table types.new kinds.new) trail.old trail.new }
     ensures answer { IfOk result (IsAnswer (table types.new kinds.new) (term_of left.now) (term_of right.now)) }
 {
-    push_copies(alloc, work, left, right)?;
+    push_copies(alloc, &mut agenda.work, left, right)?;
     for _step in 0..MOST_STEPS {
-        let Some(next) = work.pop() else {
+        let Some(next) = agenda.work.pop() else {
             return Ok(true);
         };
-        if !take_apart(
-            alloc, types, kinds, nested, type_trail, kind_trail, work, seen, &next.0, &next.1,
-        )? {
+        if !take_apart(alloc, types, kinds, nested, trail, agenda, &next.0, &next.1)? {
             return Ok(false);
         }
     }

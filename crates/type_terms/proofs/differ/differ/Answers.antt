@@ -1,5 +1,5 @@
 use Rattle.std.proofs.Common.{ap, refl}
-use Rattle.type_terms.specs.Agenda.{agenda}
+use Rattle.type_terms.specs.Agenda.{agenda, agenda_of}
 use Rattle.type_terms.specs.Table.{table}
 use Rattle.type_terms.specs.Term.{meaning, term_of}
 use Rattle.type_terms.proofs.Agendas.{taken_down, taken_equal, taken_resolved}
@@ -30,7 +30,7 @@ returns-then-is_known c =
 pub returns-then-is_split : goal.returns-then-is_split
 returns-then-is_split c =
     let s = table c.args.types.now c.args.kinds.now in
-    taken_down s (agenda c.args.work.now.items c.args.seen.now.keys) (agenda c.push_copies.new.work.items c.note.new.seen.keys) (term_of c.args.left.now) (term_of c.args.right.now) (term_of c.resolve-s.result.now) (term_of c.resolve-t.result.now)
+    taken_down s (agenda_of c.args.agenda.now) (agenda c.push_copies.new.work.items c.note.new.seen.keys) (term_of c.args.left.now) (term_of c.args.right.now) (term_of c.resolve-s.result.now) (term_of c.resolve-t.result.now)
     (c.resolve-s.ensures.kept s refl c.requires.sound c.requires.left) (c.resolve-t.ensures.kept s refl c.requires.sound c.requires.right) c.resolve-s.ensures.value c.resolve-t.ensures.value
     (on_true _ c.if-is_split.ensures.yes) c.in_ok-push_copies.ensures c.in_ok-note.ensures.known c.in_ok-note.ensures.learnt
 
@@ -42,6 +42,6 @@ differ_resolved-requires-clause-right c = c.resolve-t.ensures.kept (table c.args
 
 pub returns : goal.returns
 returns c =
-    taken_resolved (table c.args.types.now c.args.kinds.now) (agenda c.args.work.now.items c.args.seen.now.keys) (agenda c.args.work.now.items c.args.seen.now.keys) refl
+    taken_resolved (table c.args.types.now c.args.kinds.now) (agenda_of c.args.agenda.now) (agenda_of c.args.agenda.now) refl
     (term_of c.args.left.now) (term_of c.args.right.now) (term_of c.resolve-s.result.now) (term_of c.resolve-t.result.now)
     c.resolve-s.ensures.value c.resolve-t.ensures.value c.in_ok-difference.difference c.in_ok-difference.ensures

@@ -8,11 +8,13 @@ use Rattle.type_terms.proofs.subst.unify.Goals as goal
 pub unify_in-requires : goal.unify_in-requires
 unify_in-requires c =
     rw (c.deref_mut.ensures.value, c.deref_mut-2.ensures.value, c.deref_mut-3.ensures.value) (record {
-      sound = c.subst.invariant.whole.sound;
-      marked = c.subst.invariant.whole.marked;
+      comparable = record {
+        sound = c.subst.invariant.whole.sound;
+        marked = c.subst.invariant.whole.marked;
+        left = subst (λ s. IsOver s (term_of c.args.left.now)) (sym c.subst.view_is) c.requires.left;
+        right = subst (λ s. IsOver s (term_of c.args.right.now)) (sym c.subst.view_is) c.requires.right;
+      };
       counted = c.subst.invariant.counted;
-      left = subst (λ s. IsOver s (term_of c.args.left.now)) (sym c.subst.view_is) c.requires.left;
-      right = subst (λ s. IsOver s (term_of c.args.right.now)) (sym c.subst.view_is) c.requires.right;
     })
 
 pub invariant_of-subst : goal.invariant_of-subst

@@ -1,5 +1,5 @@
 use Rattle.std.proofs.Common.{sym, subst, refl, ◌<◌, length}
-use Rattle.type_terms.specs.Agenda.{agenda}
+use Rattle.type_terms.specs.Agenda.{agenda_of}
 use Rattle.type_terms.specs.Table.{Binds, table}
 use Rattle.type_terms.specs.Term.{InTerm, term_of}
 use Rattle.type_terms.proofs.Agendas.{taken_same}
@@ -25,8 +25,8 @@ returns-in_ok-push-in-Bind c =
     let s' = table c.bind_marked.new.types c.args.kinds.now in
     record {
       narrowed = narrowed_type _ _ s s' _ _ f.0 b refl _ _ c.requires.sound c.bind_marked.ensures.marked c.bind_marked.ensures.marks_kept;
-      trailed = trailed_type _ _ s s' _ _ f.0 b refl _ _ _ c.in_ok-push-in-Bind.ensures.items;
-      taken = taken_same s' (agenda c.args.work.now.items c.args.seen.now.keys) (agenda c.differ.new.work.items c.differ.new.seen.keys) (term_of c.args.left.now) (term_of c.args.right.now) f.1 (same_type _ _ s s' _ _ f.0 b refl);
+      trailed = trailed_type _ _ s s' _ _ f.0 b refl _ _ c.in_ok-push-in-Bind.ensures.items refl;
+      taken = taken_same s' (agenda_of c.args.agenda.now) (agenda_of c.differ.new.agenda) (term_of c.args.left.now) (term_of c.args.right.now) f.1 (same_type _ _ s s' _ _ f.0 b refl);
     }
 
 pub returns-in_ok-push-in-BindKind : goal.returns-in_ok-push-in-BindKind
@@ -37,33 +37,33 @@ returns-in_ok-push-in-BindKind c =
     let s' = table c.args.types.now c.bind_kind.new.kinds in
     record {
       narrowed = narrowed_kind _ _ s s' _ _ f.0 b refl _ c.requires.sound c.requires.marked;
-      trailed = trailed_kind _ _ s s' _ _ f.0 b refl _ _ _ c.in_ok-push-in-BindKind.ensures.items;
-      taken = taken_same s' (agenda c.args.work.now.items c.args.seen.now.keys) (agenda c.differ.new.work.items c.differ.new.seen.keys) (term_of c.args.left.now) (term_of c.args.right.now) f.1 (same_kind _ _ s s' _ _ f.0 b refl);
+      trailed = trailed_kind _ _ s s' _ _ f.0 b refl _ _ c.in_ok-push-in-BindKind.ensures.items refl;
+      taken = taken_same s' (agenda_of c.args.agenda.now) (agenda_of c.differ.new.agenda) (term_of c.args.left.now) (term_of c.args.right.now) f.1 (same_kind _ _ s s' _ _ f.0 b refl);
     }
 
 pub returns-in_err-differ-clause-narrowed : goal.returns-in_err-differ-clause-narrowed
 returns-in_err-differ-clause-narrowed c = unchanged _ _ (table c.args.types.now c.args.kinds.now) _ c.requires.sound c.requires.marked
 
 pub returns-in_err-differ-clause-trailed : goal.returns-in_err-differ-clause-trailed
-returns-in_err-differ-clause-trailed c = trailed_none (table c.args.types.now c.args.kinds.now) _ _
+returns-in_err-differ-clause-trailed c = trailed_none (table c.args.types.now c.args.kinds.now) _
 
 pub returns-in-Same-clause-narrowed : goal.returns-in-Same-clause-narrowed
 returns-in-Same-clause-narrowed c = unchanged _ _ (table c.args.types.now c.args.kinds.now) _ c.requires.sound c.requires.marked
 
 pub returns-in-Same-clause-trailed : goal.returns-in-Same-clause-trailed
-returns-in-Same-clause-trailed c = trailed_none (table c.args.types.now c.args.kinds.now) _ _
+returns-in-Same-clause-trailed c = trailed_none (table c.args.types.now c.args.kinds.now) _
 
 pub returns-in-Clash-clause-narrowed : goal.returns-in-Clash-clause-narrowed
 returns-in-Clash-clause-narrowed c = unchanged _ _ (table c.args.types.now c.args.kinds.now) _ c.requires.sound c.requires.marked
 
 pub returns-in-Clash-clause-trailed : goal.returns-in-Clash-clause-trailed
-returns-in-Clash-clause-trailed c = trailed_none (table c.args.types.now c.args.kinds.now) _ _
+returns-in-Clash-clause-trailed c = trailed_none (table c.args.types.now c.args.kinds.now) _
 
 pub returns-in_err-t-in-Bind-clause-narrowed : goal.returns-in_err-t-in-Bind-clause-narrowed
 returns-in_err-t-in-Bind-clause-narrowed c = unchanged _ _ (table c.args.types.now c.args.kinds.now) _ c.requires.sound c.requires.marked
 
 pub returns-in_err-t-in-Bind-clause-trailed : goal.returns-in_err-t-in-Bind-clause-trailed
-returns-in_err-t-in-Bind-clause-trailed c = trailed_none (table c.args.types.now c.args.kinds.now) _ _
+returns-in_err-t-in-Bind-clause-trailed c = trailed_none (table c.args.types.now c.args.kinds.now) _
 
 pub returns-in_err-push-in-Bind-clause-narrowed : goal.returns-in_err-push-in-Bind-clause-narrowed
 returns-in_err-push-in-Bind-clause-narrowed c = unchanged _ _ (table c.args.types.now c.args.kinds.now) _ c.requires.sound c.requires.marked

@@ -18,11 +18,13 @@ unify_deeply-requires c =
     let same : table c.unify_directly.new.types c.unify_directly.new.kinds ≡ table c.args.types.now c.args.kinds.now = rw c.in-Apart.is at c.in_ok-unify_directly.ensures.direct in
     let h = c.unify_directly.ensures.narrowed in
     record {
-      sound = h.sound;
-      marked = h.marked;
+      comparable = record {
+        sound = h.sound;
+        marked = h.marked;
+        left = subst (λ s. IsOver s (term_of c.args.left.now)) (sym same) c.requires.comparable.left;
+        right = subst (λ s. IsOver s (term_of c.args.right.now)) (sym same) c.requires.comparable.right;
+      };
       counted = c.unify_directly.ensures.counted;
-      left = subst (λ s. IsOver s (term_of c.args.left.now)) (sym same) c.requires.left;
-      right = subst (λ s. IsOver s (term_of c.args.right.now)) (sym same) c.requires.right;
     }
 
 pub returns-in-Apart-clause-narrowed : goal.returns-in-Apart-clause-narrowed
