@@ -1,5 +1,5 @@
 -- Substitutions in which variables were bound so that two types become the same.
-use Rattle.std.proofs.Common.{◌≡◌, ◌∙◌, sym, ap, subst, refl, ℕ, Bool, true, false, IfOk, Result, Ok, Err, ◌↔◌, ◌≢◌, List, [], ◌++◌, ◌∷◌, length, length-append, ◌+◌, arith}
+use Rattle.std.proofs.Common.{◌≡◌, ◌∙◌, sym, ap, subst, refl, ℕ, Bool, true, false, IfOk, Result, Ok, Err, ◌↔◌, ◌≢◌, List, [], ◌++◌, ◌∷◌, length, length-append, ◌+◌, ◌≤◌, arith}
 use Rattle.std.specs.Bool.{OnFalse, OnTrue}
 use Rattle.liq_base.specs.declared.memory.Memory.{Memory}
 use Rattle.type_terms.specs.Agrees.{SameVariables}
@@ -17,7 +17,7 @@ use Rattle.type_terms.proofs.Solutions.{solvable}
 use Rattle.type_terms.proofs.Trails.{kind_trail_none, kind_trail_push, trail_none, trail_push}
 
 -- nothing is bound, and marks have grown
-pub narrowed_none : (left right : Term) (s : Table) (m m' : List Bool) → IsSound s → AreMarked s.types m → length m' ≡ length m → ((k : ℕ) → mark_at m k ≡ true → mark_at m' k ≡ true) → IsNarrowed left right s s m m'
+pub narrowed_none : (left right : Term) (s : Table) (m m' : List Bool) → IsSound s → AreMarked s.types m → length s.types ≤ length m' → ((k : ℕ) → mark_at m k ≡ true → mark_at m' k ≡ true) → IsNarrowed left right s s m m'
 narrowed_none left right s m m' h marked l kept = record {
   sound = h;
   marked = marked_more s.types m m' l kept marked;
@@ -29,7 +29,7 @@ narrowed_none left right s m m' h marked l kept = record {
 
 -- nothing is bound or marked
 pub unchanged : (left right : Term) (s : Table) (m : List Bool) → IsSound s → AreMarked s.types m → IsNarrowed left right s s m m
-unchanged left right s m h marked = narrowed_none left right s m m h marked refl (λ k i. i)
+unchanged left right s m h marked = narrowed_none left right s m m h marked marked.enough (λ k i. i)
 
 pub trailed_none : (s : Table) (trail : Trail) → IsTrailed s s trail trail
 trailed_none s trail = record { told = λ o i. i; free = refl }

@@ -36,6 +36,7 @@ pub record Agenda : Type 0 where
 abbrev pub agenda : List (Ty × Ty) → List (ℕ × ℕ) → Agenda
 agenda work seen = record { todo = pairs_of work; seen = variable_pairs seen }
 
+-- the plain data of the lists that hold one
 abbrev pub agenda_of : AgendaLists → Agenda
 agenda_of lists = agenda lists.work.items lists.seen.keys
 

@@ -6,16 +6,18 @@ use Rattle.type_terms.specs.Table.{Table, IsOver, IsSound, Solves}
 use Rattle.type_terms.specs.Nested.{AreMarked, mark_at}
 use Rattle.type_terms.specs.Differ.{AreSame, AreNeverSame}
 use Rattle.type_terms.specs.Agrees.{SameVariables}
+use Rattle.type_terms.specs.Bound.{table_of}
 use Rattle.type_terms.specs.Counting.{free_count}
 use Rattle.type_terms.specs.Undo.{IsTrail, IsKindTrail}
+use Rattle.type_terms.specs.declared.table.Bindings.{Bindings}
 use Rattle.type_terms.specs.declared.unifier.Trail.{Trail}
 
 -- the substitution and its marks are sound, and the two are over its variables
-pub record AreComparable (s : Table) (marks : List Bool) (t u : Term) : Type 0 where
-  pub sound : IsSound s
-  pub marked : AreMarked s.types marks
-  pub left : IsOver s t
-  pub right : IsOver s u
+pub record AreComparable (b : Bindings) (t u : Term) : Type 0 where
+  pub sound : IsSound (table_of b)
+  pub marked : AreMarked b.types.items b.nested.items
+  pub left : IsOver (table_of b) t
+  pub right : IsOver (table_of b) u
 
 -- the new substitution and marks are sound, and solutions were lost only where the two differ
 pub record IsNarrowed (left right : Term) (old new : Table) (marks marks' : List Bool) : Type 0 where
@@ -25,6 +27,10 @@ pub record IsNarrowed (left right : Term) (old new : Table) (marks marks' : List
   pub narrower : (a : Assignment) → Solves a new → Solves a old
   pub kept : (a : Assignment) → Solves a old → meaning a left ≡ meaning a right → Solves a new
   pub same_variables : SameVariables old new
+
+-- the same of all that variables are bound to, with its marks
+abbrev pub Narrows : Term → Term → Bindings → Bindings → Type 0
+Narrows left right old new = IsNarrowed left right (table_of old) (table_of new) old.nested.items new.nested.items
 
 -- the trail tells which variables were bound
 pub record Tells (trail : Trail) (old new : Table) : Type 0 where

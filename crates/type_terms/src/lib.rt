@@ -8,6 +8,7 @@ mod naming;
 mod occurs;
 mod resolving;
 mod subst;
+mod table;
 mod ty;
 mod type_variable;
 mod unifier;
