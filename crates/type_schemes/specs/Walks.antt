@@ -5,11 +5,16 @@ use Rattle.type_terms.specs.Resolved.{IsFreeType, IsFreeKind}
 use Rattle.type_terms.specs.Table.{Table, Solves, IsOver, extra}
 use Rattle.type_terms.specs.Term.{Term, source_term, meaning, kind_meaning}
 use Rattle.type_terms.specs.declared.ty.KindTerm.{KindTerm}
+use Rattle.type_schemes.specs.declared.walking.Reached.{Reached}
 use Rattle.type_schemes.specs.Holding.{HeldVariables, AgreeBelow, AgreeOnPassed, is_held}
 
 -- with nothing counted
 abbrev pub held : List ℕ → List ℕ → List ℕ → HeldVariables
 held types kinds passed = record { types = types; kinds = kinds; passed = passed; type_count = 0; kind_count = 0; free_count = 0 }
+
+-- what walks have reached
+abbrev pub held_of : Reached → HeldVariables
+held_of r = held r.types.keys r.kinds.keys r.passed.keys
 
 -- P holds of each term
 abbrev pub Every : (Term → Type 0) → List Term → Type 0

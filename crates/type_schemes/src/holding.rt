@@ -5,10 +5,10 @@ ghost use Rattle.type_terms.specs.Table.{Table, IsOver};
 ghost use Rattle.type_terms.specs.Term.{Term, term_of};
 ghost use Rattle.type_schemes.specs.Holding.{AreThere, IsHeldBy, is_held};
 ghost use Rattle.type_schemes.specs.Renewing.{AreHeldBy, counted_in};
-ghost use Rattle.type_schemes.specs.Walks.{held};
+ghost use Rattle.type_schemes.specs.Walks.{held, held_of};
 
 use crate::renewing::{push_bound_kinds, push_bound_types, renew_both};
-use crate::walking::walk;
+use crate::walking::{Reached, walk};
 use indexmap::IndexSet;
 use liq_base::Memory;
 use std::alloc::Global;
@@ -16,29 +16,19 @@ use std::marker::Model;
 use type_terms::{Subst, Ty};
 
 /// Adds the variables that a name's type holds.
-fn add_name(
-    alloc: Global,
-    subst: &Subst,
-    types: &mut IndexSet<u64>,
-    kinds: &mut IndexSet<u64>,
-    passed: &mut IndexSet<u64>,
-    name: &Ty,
-) -> Result<(), Memory>
+fn add_name(alloc: Global, subst: &Subst, reached: &mut Reached, name: &Ty) -> Result<(), Memory>
     requires over { IsOver subst.now (term_of name.now) }
-    ensures { OnOk result ((names : List Term) → AreHeldBy subst.now names (held types.old.keys kinds.old.keys passed.old.keys) → AreHeldBy subst.now (term_of name.now ∷ names) (held types.new.keys kinds.new.keys passed.new.keys)) }
+    ensures { OnOk result ((names : List Term) → AreHeldBy subst.now names (held_of reached.old) → AreHeldBy subst.now (term_of name.now ∷ names) (held_of reached.new)) }
 {
     let mut work = Vec::new(alloc);
     work.push(name)?;
-    walk(&mut work, subst, types, kinds, passed)
+    walk(&mut work, subst, reached)
 }
 
 /// The variables that the types of names hold: those in which a def that follows is not general.
 #[derive(Drop)]
 pub struct Held {
-    types: IndexSet<u64>,
-    kinds: IndexSet<u64>,
-    // The bound variables behind which all was added.
-    passed: IndexSet<u64>,
+    reached: Reached,
     // So many variables there were, and so many of them were bound to nothing, when it was looked at last.
     type_count: usize,
     kind_count: usize,
@@ -52,7 +42,7 @@ impl Model for Held {
 
     ghost coded = { held_code };
 
-    ghost view = { λ s. record { types = s.types.keys; kinds = s.kinds.keys; passed = s.passed.keys; type_count = s.type_count; kind_count = s.kind_count; free_count = s.free_count } };
+    ghost view = { λ s. record { types = s.reached.types.keys; kinds = s.reached.kinds.keys; passed = s.reached.passed.keys; type_count = s.type_count; kind_count = s.kind_count; free_count = s.free_count } };
 }
 
 impl Held {
@@ -61,9 +51,11 @@ impl Held {
         ensures none { (s : Table) → IsHeldBy s [] result }
     {
         Held {
-            types: IndexSet::new(alloc),
-            kinds: IndexSet::new(alloc),
-            passed: IndexSet::new(alloc),
+            reached: Reached {
+                types: IndexSet::new(alloc),
+                kinds: IndexSet::new(alloc),
+                passed: IndexSet::new(alloc),
+            },
             type_count: 0,
             kind_count: 0,
             free_count: 0,
@@ -74,14 +66,14 @@ impl Held {
     pub fn holds_type(&self, number: u64) -> bool
         ensures { result ≡ is_held self.now.types number }
     {
-        self.types.contains(&number)
+        self.reached.types.contains(&number)
     }
 
     /// Whether it has this kind variable.
     pub fn holds_kind(&self, number: u64) -> bool
         ensures { result ≡ is_held self.now.kinds number }
     {
-        self.kinds.contains(&number)
+        self.reached.kinds.contains(&number)
     }
 
     /// Adds what a further name's type holds. It takes time that grows with the type, and goes behind each bound variable once
@@ -92,14 +84,7 @@ impl Held {
         requires over { IsOver subst.now (term_of name.now) }
         ensures held { OnOk result ((names : List Term) → IsHeldBy subst.now names self.old → IsHeldBy subst.now (term_of name.now ∷ names) self.new) }
     {
-        add_name(
-            alloc,
-            subst,
-            &mut self.types,
-            &mut self.kinds,
-            &mut self.passed,
-            name,
-        )?;
+        add_name(alloc, subst, &mut self.reached, name)?;
         self.count(subst);
         Ok(())
     }
@@ -137,16 +122,8 @@ impl Held {
     {
         let mut types = Vec::new(alloc);
         let mut kinds = Vec::new(alloc);
-        push_bound_types(subst, self.types.as_slice(), &mut types)?;
-        push_bound_kinds(subst, self.kinds.as_slice(), &mut kinds)?;
-        renew_both(
-            alloc,
-            subst,
-            &mut self.types,
-            &mut self.kinds,
-            &mut self.passed,
-            &types,
-            &kinds,
-        )
+        push_bound_types(subst, self.reached.types.as_slice(), &mut types)?;
+        push_bound_kinds(subst, self.reached.kinds.as_slice(), &mut kinds)?;
+        renew_both(alloc, subst, &mut self.reached, &types, &kinds)
     }
 }

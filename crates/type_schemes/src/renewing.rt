@@ -1,12 +1,11 @@
 // Held variables that were bound since, and what stands in their places.
-ghost use Rattle.std.specs.Prelude.{◌≡◌, ◌<◌, ◌∷◌, ℕ, None, [], true, length, List, OnOk};
+ghost use Rattle.std.specs.Prelude.{◌≡◌, ◌<◌, ◌∷◌, ℕ, None, [], true, length, OnOk};
 ghost use Rattle.type_terms.specs.Table.{bound_at, kind_at};
 ghost use Rattle.type_schemes.specs.Holding.{is_held};
 ghost use Rattle.type_schemes.specs.Renewing.{FindsBut, Renews};
-ghost use Rattle.type_schemes.specs.Walks.{held};
+ghost use Rattle.type_schemes.specs.Walks.{held_of};
 
-use crate::walking::{add_kind, visit_variable, walk};
-use indexmap::IndexSet;
+use crate::walking::{Reached, add_kind, visit_variable, walk};
 use liq_base::Memory;
 use std::alloc::Global;
 use type_terms::{KindTerm, Subst};
@@ -43,58 +42,54 @@ pub fn push_bound_kinds(subst: &Subst, numbers: &[u64], found: &mut Vec<u64>) ->
 fn renew_type(
     alloc: Global,
     subst: &Subst,
-    types: &mut IndexSet<u64>,
-    kinds: &mut IndexSet<u64>,
-    passed: &mut IndexSet<u64>,
+    reached: &mut Reached,
     number: u64,
 ) -> Result<(), Memory>
     requires inside { number < length subst.now.types }
-    ensures { OnOk result (Renews subst.now (number ∷ []) [] (held types.old.keys kinds.old.keys passed.old.keys) (held types.new.keys kinds.new.keys passed.new.keys)) }
+    ensures { OnOk result (Renews subst.now (number ∷ []) [] (held_of reached.old) (held_of reached.new)) }
 {
-    if !types.swap_remove(&number) {
+    if !reached.types.swap_remove(&number) {
         return Ok(());
     }
     let mut work = Vec::new(alloc);
-    visit_variable(&mut work, subst, types, passed, number)?;
-    walk(&mut work, subst, types, kinds, passed)
+    visit_variable(&mut work, subst, reached, number)?;
+    walk(&mut work, subst, reached)
 }
 
 /// Puts what type variables hold in their places.
 fn renew_types(
     alloc: Global,
     subst: &Subst,
-    types: &mut IndexSet<u64>,
-    kinds: &mut IndexSet<u64>,
-    passed: &mut IndexSet<u64>,
+    reached: &mut Reached,
     numbers: &[u64],
 ) -> Result<(), Memory>
     requires there { (k : ℕ) → is_held numbers.now k ≡ true → k < length subst.now.types }
-    ensures { OnOk result (Renews subst.now numbers.now [] (held types.old.keys kinds.old.keys passed.old.keys) (held types.new.keys kinds.new.keys passed.new.keys)) }
+    ensures { OnOk result (Renews subst.now numbers.now [] (held_of reached.old) (held_of reached.new)) }
 {
     for number in numbers {
-        renew_type(alloc, subst, types, kinds, passed, *number)?;
+        renew_type(alloc, subst, reached, *number)?;
     }
     Ok(())
 }
 
 /// Puts what a kind variable is in its place.
-fn renew_kind(subst: &Subst, kinds: &mut IndexSet<u64>, number: u64) -> Result<(), Memory>
+fn renew_kind(subst: &Subst, reached: &mut Reached, number: u64) -> Result<(), Memory>
     requires inside { number < length subst.now.kinds }
-    ensures { OnOk result ((types passed : List ℕ) → Renews subst.now [] (number ∷ []) (held types kinds.old.keys passed) (held types kinds.new.keys passed)) }
+    ensures { OnOk result (Renews subst.now [] (number ∷ []) (held_of reached.old) (held_of reached.new)) }
 {
-    if !kinds.swap_remove(&number) {
+    if !reached.kinds.swap_remove(&number) {
         return Ok(());
     }
-    add_kind(subst, kinds, KindTerm::Var(number))
+    add_kind(subst, &mut reached.kinds, KindTerm::Var(number))
 }
 
 /// Puts what kind variables are in their places.
-fn renew_kinds(subst: &Subst, kinds: &mut IndexSet<u64>, numbers: &[u64]) -> Result<(), Memory>
+fn renew_kinds(subst: &Subst, reached: &mut Reached, numbers: &[u64]) -> Result<(), Memory>
     requires there { (k : ℕ) → is_held numbers.now k ≡ true → k < length subst.now.kinds }
-    ensures { OnOk result ((types passed : List ℕ) → Renews subst.now [] numbers.now (held types kinds.old.keys passed) (held types kinds.new.keys passed)) }
+    ensures { OnOk result (Renews subst.now [] numbers.now (held_of reached.old) (held_of reached.new)) }
 {
     for number in numbers {
-        renew_kind(subst, kinds, *number)?;
+        renew_kind(subst, reached, *number)?;
     }
     Ok(())
 }
@@ -103,17 +98,15 @@ fn renew_kinds(subst: &Subst, kinds: &mut IndexSet<u64>, numbers: &[u64]) -> Res
 pub fn renew_both(
     alloc: Global,
     subst: &Subst,
-    types: &mut IndexSet<u64>,
-    kinds: &mut IndexSet<u64>,
-    passed: &mut IndexSet<u64>,
+    reached: &mut Reached,
     type_numbers: &[u64],
     kind_numbers: &[u64],
 ) -> Result<(), Memory>
     requires types { (k : ℕ) → is_held type_numbers.now k ≡ true → k < length subst.now.types }
     requires kinds { (k : ℕ) → is_held kind_numbers.now k ≡ true → k < length subst.now.kinds }
-    ensures { OnOk result (Renews subst.now type_numbers.now kind_numbers.now (held types.old.keys kinds.old.keys passed.old.keys) (held types.new.keys kinds.new.keys passed.new.keys)) }
+    ensures { OnOk result (Renews subst.now type_numbers.now kind_numbers.now (held_of reached.old) (held_of reached.new)) }
 {
-    renew_types(alloc, subst, types, kinds, passed, type_numbers)?;
-    renew_kinds(subst, kinds, kind_numbers)?;
+    renew_types(alloc, subst, reached, type_numbers)?;
+    renew_kinds(subst, reached, kind_numbers)?;
     Ok(())
 }

@@ -1,9 +1,9 @@
 // A walk through types that finds the variables in them, behind each bound variable once.
-ghost use Rattle.std.specs.Prelude.{◌≡◌, ◌<◌, ◌++◌, ◌∷◌, ℕ, Some, [], length, map, List, OnOk};
+ghost use Rattle.std.specs.Prelude.{◌≡◌, ◌<◌, ◌++◌, ◌∷◌, Some, [], length, map, OnOk};
 ghost use Rattle.type_terms.specs.Nested.{terms};
 ghost use Rattle.type_terms.specs.Table.{Table, IsOver, bound_at};
 ghost use Rattle.type_terms.specs.Term.{source_term, term_of, variable};
-ghost use Rattle.type_schemes.specs.Walks.{AddsKind, Every, Leads, held};
+ghost use Rattle.type_schemes.specs.Walks.{AddsKind, Every, Leads, held_of};
 
 use indexmap::IndexSet;
 use liq_base::Memory;
@@ -11,6 +11,14 @@ use type_terms::{KindTerm, Subst, Ty, resolved_kind};
 
 /// How many steps a walk may take. One that takes more is given up as if memory had run out.
 const MOST_STEPS: u64 = 4_194_304;
+
+/// The variables that walks have come to: those that are bound to nothing, and the bound ones behind which they went.
+#[derive(Drop)]
+pub struct Reached {
+    pub types: IndexSet<u64>,
+    pub kinds: IndexSet<u64>,
+    pub passed: IndexSet<u64>,
+}
 
 /// Adds the variable that a kind is, if it is one that is bound to nothing in the end.
 pub fn add_kind(subst: &Subst, kinds: &mut IndexSet<u64>, kind: KindTerm) -> Result<(), Memory>
@@ -31,11 +39,11 @@ pub fn add_kind(subst: &Subst, kinds: &mut IndexSet<u64>, kind: KindTerm) -> Res
 /// A variable that is bound to a variable is not noted: what that leads to is.
 fn push_bound<'a>(
     work: &mut Vec<&'a Ty>,
-    passed: &mut IndexSet<u64>,
+    reached: &mut Reached,
     number: u64,
     bound: &'a Ty,
 ) -> Result<(), Memory>
-    ensures { OnOk result ((s : Table) (types kinds : List ℕ) → IsOver s (term_of bound.now) → bound_at s.types number ≡ Some (term_of bound.now) → Leads s (terms work.old.items ++ variable number ∷ []) (terms work.new.items) (held types kinds passed.old.keys) (held types kinds passed.new.keys)) }
+    ensures { OnOk result ((s : Table) → IsOver s (term_of bound.now) → bound_at s.types number ≡ Some (term_of bound.now) → Leads s (terms work.old.items ++ variable number ∷ []) (terms work.new.items) (held_of reached.old) (held_of reached.new)) }
 {
     match bound {
         Ty::Var(_) => {
@@ -43,7 +51,7 @@ fn push_bound<'a>(
             Ok(())
         }
         _ => {
-            if !passed.insert(number)? {
+            if !reached.passed.insert(number)? {
                 return Ok(());
             }
             work.push(bound)?;
@@ -56,20 +64,19 @@ fn push_bound<'a>(
 pub fn visit_variable<'a>(
     work: &mut Vec<&'a Ty>,
     subst: &'a Subst,
-    types: &mut IndexSet<u64>,
-    passed: &mut IndexSet<u64>,
+    reached: &mut Reached,
     number: u64,
 ) -> Result<(), Memory>
     requires inside { number < length subst.now.types }
-    ensures { OnOk result ((kinds : List ℕ) → Leads subst.now (terms work.old.items ++ variable number ∷ []) (terms work.new.items) (held types.old.keys kinds passed.old.keys) (held types.new.keys kinds passed.new.keys)) }
+    ensures { OnOk result (Leads subst.now (terms work.old.items ++ variable number ∷ []) (terms work.new.items) (held_of reached.old) (held_of reached.new)) }
 {
     subst.is_sound();
     match subst.bound(number) {
         None => {
-            types.insert(number)?;
+            reached.types.insert(number)?;
             Ok(())
         }
-        Some(bound) => push_bound(work, passed, number, bound),
+        Some(bound) => push_bound(work, reached, number, bound),
     }
 }
 
@@ -87,17 +94,15 @@ fn push_parts<'a>(work: &mut Vec<&'a Ty>, parts: &'a [Ty]) -> Result<(), Memory>
 fn visit<'a>(
     work: &mut Vec<&'a Ty>,
     subst: &'a Subst,
-    types: &mut IndexSet<u64>,
-    kinds: &mut IndexSet<u64>,
-    passed: &mut IndexSet<u64>,
+    reached: &mut Reached,
     ty: &'a Ty,
 ) -> Result<(), Memory>
     requires over { IsOver subst.now (term_of ty.now) }
-    ensures { OnOk result (Leads subst.now (terms work.old.items ++ term_of ty.now ∷ []) (terms work.new.items) (held types.old.keys kinds.old.keys passed.old.keys) (held types.new.keys kinds.new.keys passed.new.keys)) }
+    ensures { OnOk result (Leads subst.now (terms work.old.items ++ term_of ty.now ∷ []) (terms work.new.items) (held_of reached.old) (held_of reached.new)) }
 {
     match ty {
-        Ty::Var(number) => visit_variable(work, subst, types, passed, *number),
-        Ty::Source(kind) => add_kind(subst, kinds, *kind),
+        Ty::Var(number) => visit_variable(work, subst, reached, *number),
+        Ty::Source(kind) => add_kind(subst, &mut reached.kinds, *kind),
         Ty::List(item) => {
             work.push(item)?;
             Ok(())
@@ -111,18 +116,16 @@ fn visit<'a>(
 pub fn walk<'a>(
     work: &mut Vec<&'a Ty>,
     subst: &'a Subst,
-    types: &mut IndexSet<u64>,
-    kinds: &mut IndexSet<u64>,
-    passed: &mut IndexSet<u64>,
+    reached: &mut Reached,
 ) -> Result<(), Memory>
     requires over { Every (IsOver subst.now) (terms work.old.items) }
-    ensures { OnOk result (Leads subst.now (terms work.old.items) [] (held types.old.keys kinds.old.keys passed.old.keys) (held types.new.keys kinds.new.keys passed.new.keys)) }
+    ensures { OnOk result (Leads subst.now (terms work.old.items) [] (held_of reached.old) (held_of reached.new)) }
 {
     for _step in 0..MOST_STEPS {
         let Some(next) = work.pop() else {
             return Ok(());
         };
-        visit(work, subst, types, kinds, passed, next)?;
+        visit(work, subst, reached, next)?;
     }
     Err(Memory)
 }

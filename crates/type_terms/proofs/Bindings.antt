@@ -135,9 +135,9 @@ solves_after_kind s s' x t b ts a h q = record {
     kind_of_at k u (inr e) = h.kinds k u e
 
 -- marks that grow still serve
-pub marked_more : (vs : List Variable) (marks marks' : List Bool) → length marks' ≡ length marks → ((k : ℕ) → mark_at marks k ≡ true → mark_at marks' k ≡ true) → AreMarked vs marks → AreMarked vs marks'
+pub marked_more : (vs : List Variable) (marks marks' : List Bool) → length vs ≤ length marks' → ((k : ℕ) → mark_at marks k ≡ true → mark_at marks' k ≡ true) → AreMarked vs marks → AreMarked vs marks'
 marked_more vs marks marks' l kept h = record {
-  enough = let e = h.enough in omega arith;
+  enough = l;
   marked = λ k t e. InTerm-map kept (λ _ _. tt) t (h.marked k t e);
 }
 

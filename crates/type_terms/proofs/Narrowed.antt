@@ -1,5 +1,5 @@
 -- Substitutions in which variables were bound so that two types become the same.
-use Rattle.std.proofs.Common.{◌≡◌, ◌∙◌, sym, ap, subst, refl, ℕ, Bool, true, false, IfOk, Result, Ok, Err, ◌↔◌, ◌≢◌, List, [], ◌++◌, ◌∷◌, length, length-append, ◌+◌, arith}
+use Rattle.std.proofs.Common.{◌≡◌, ◌∙◌, sym, ap, subst, refl, ℕ, Bool, true, false, IfOk, Result, Ok, Err, ◌↔◌, ◌≢◌, List, [], ◌++◌, ◌∷◌, length, length-append, ◌+◌, ◌≤◌, arith}
 use Rattle.std.specs.Bool.{OnFalse, OnTrue}
 use Rattle.liq_base.specs.declared.memory.Memory.{Memory}
 use Rattle.type_terms.specs.Agrees.{SameVariables}
@@ -8,16 +8,16 @@ use Rattle.type_terms.specs.Term.{Term, meaning}
 use Rattle.type_terms.specs.Nested.{AreMarked, mark_at}
 use Rattle.type_terms.specs.Table.{Table, Binds, BindsKind, IsSound, Solves, number_at}
 use Rattle.type_terms.specs.Differ.{AreNeverSame, AreSame, IsForced, IsKindForced}
-use Rattle.type_terms.specs.Narrowed.{AreTrailed, IsAnswer, IsNarrowed}
-use Rattle.type_terms.specs.Undo.{IsKindTrail, IsTrail}
+use Rattle.type_terms.specs.Narrowed.{IsAnswer, IsNarrowed, IsTrailed, Tells}
 use Rattle.type_terms.specs.declared.ty.KindTerm.{KindTerm}
+use Rattle.type_terms.specs.declared.unifier.Trail.{Trail}
 use Rattle.type_terms.proofs.Bindings.{marked_more, sound_bind, sound_bind_kind, solves_after, solves_after_kind, solves_before, solves_before_kind}
 use Rattle.type_terms.proofs.Counting.{count_kind, count_type, keeps_both, keeps_itself, keeps_kind, keeps_type}
 use Rattle.type_terms.proofs.Solutions.{solvable}
 use Rattle.type_terms.proofs.Trails.{kind_trail_none, kind_trail_push, trail_none, trail_push}
 
 -- nothing is bound, and marks have grown
-pub narrowed_none : (left right : Term) (s : Table) (m m' : List Bool) → IsSound s → AreMarked s.types m → length m' ≡ length m → ((k : ℕ) → mark_at m k ≡ true → mark_at m' k ≡ true) → IsNarrowed left right s s m m'
+pub narrowed_none : (left right : Term) (s : Table) (m m' : List Bool) → IsSound s → AreMarked s.types m → length s.types ≤ length m' → ((k : ℕ) → mark_at m k ≡ true → mark_at m' k ≡ true) → IsNarrowed left right s s m m'
 narrowed_none left right s m m' h marked l kept = record {
   sound = h;
   marked = marked_more s.types m m' l kept marked;
@@ -29,10 +29,10 @@ narrowed_none left right s m m' h marked l kept = record {
 
 -- nothing is bound or marked
 pub unchanged : (left right : Term) (s : Table) (m : List Bool) → IsSound s → AreMarked s.types m → IsNarrowed left right s s m m
-unchanged left right s m h marked = narrowed_none left right s m m h marked refl (λ k i. i)
+unchanged left right s m h marked = narrowed_none left right s m m h marked marked.enough (λ k i. i)
 
-pub trailed_none : (s : Table) (ts ks : List ℕ) → AreTrailed s s ts ts ks ks
-trailed_none s ts ks = record { types = λ vs i. i; kinds = λ ls i. i; free = refl }
+pub trailed_none : (s : Table) (trail : Trail) → IsTrailed s s trail trail
+trailed_none s trail = record { told = λ o i. i; free = refl }
 
 -- what is bound for one pair, which is equal where the two are, is bound after what was bound before
 pub narrowed_both : (left right l r : Term) (s s' s'' : Table) (m m' m'' : List Bool) → IsNarrowed left right s s' m m' → IsNarrowed l r s' s'' m' m'' → ((a : Assignment) → Solves a s' → meaning a left ≡ meaning a right → meaning a l ≡ meaning a r) → IsNarrowed left right s s'' m m''
@@ -50,11 +50,10 @@ narrowed_both left right l r s s' s'' m m' m'' f g e = record {
   };
 }
 
-pub trailed_both : (s s' s'' : Table) (ts ts' ts'' ks ks' ks'' : List ℕ) → AreTrailed s s' ts ts' ks ks' → AreTrailed s' s'' ts' ts'' ks' ks'' → AreTrailed s s'' ts ts'' ks ks''
-trailed_both s s' s'' ts ts' ts'' ks ks' ks'' f g = record {
-  types = λ vs i. g.types vs (f.types vs i);
-  kinds = λ ls i. g.kinds ls (f.kinds ls i);
-  free = let p = f.free in let q = g.free in omega (arith, p, q);
+pub trailed_both : (s s' s'' : Table) (p p' p'' : Trail) → IsTrailed s s' p p' → IsTrailed s' s'' p' p'' → IsTrailed s s'' p p''
+trailed_both s s' s'' p p' p'' f g = record {
+  told = λ o i. g.told o (f.told o i);
+  free = let a = f.free in let b = g.free in omega (arith, a, b);
 }
 
 -- the type variable that makes the two equal is bound
@@ -72,11 +71,10 @@ module _ (left right : Term) (s s' : Table) (x : ℕ) (t : Term) (f : IsForced s
   pub same_type : AreSame s' left right
   same_type a n = f.enough a (solves_before s s' x t b ks a n) (n.types x t b.here)
 
-  pub trailed_type : (ts ts' us : List ℕ) → ts' ≡ ts ++ (x ∷ []) → AreTrailed s s' ts ts' us us
-  trailed_type ts ts' us is = record {
-    types = λ vs i. rw is (trail_push x t ts vs s.types s'.types f.inside i b);
-    kinds = λ ls i. rw ks i;
-    free = let c = count_type s s' x t f.inside b ks in let l : length ts' ≡ length ts + 1 = ap length is ∙ length-append ts (x ∷ []) in omega (arith, c, l);
+  pub trailed_type : (p p' : Trail) → p'.types.items ≡ p.types.items ++ (x ∷ []) → p'.kinds.items ≡ p.kinds.items → IsTrailed s s' p p'
+  trailed_type p p' is same = record {
+    told = λ o i. record { types = rw is (trail_push x t p.types.items o.types s.types s'.types f.inside i.types b); kinds = rw (same, ks) i.kinds };
+    free = let c = count_type s s' x t f.inside b ks in let l : length p'.types.items ≡ length p.types.items + 1 = ap length is ∙ length-append p.types.items (x ∷ []) in let k = ap length same in omega (arith, c, l, k);
   }
 
 -- the same of a kind variable
@@ -94,19 +92,15 @@ module _ (left right : Term) (s s' : Table) (x : ℕ) (t : KindTerm) (f : IsKind
   pub same_kind : AreSame s' left right
   same_kind a n = f.enough a (solves_before_kind s s' x t b vs a n) (n.kinds x t b.here)
 
-  pub trailed_kind : (ts us us' : List ℕ) → us' ≡ us ++ (x ∷ []) → AreTrailed s s' ts ts us us'
-  trailed_kind ts us us' is = record {
-    types = λ ls i. rw vs i;
-    kinds = λ ls i. rw is (kind_trail_push x t us ls s.kinds s'.kinds f.inside i b);
-    free = let c = count_kind s s' x t f.inside b vs in let l : length us' ≡ length us + 1 = ap length is ∙ length-append us (x ∷ []) in omega (arith, c, l);
+  pub trailed_kind : (p p' : Trail) → p'.kinds.items ≡ p.kinds.items ++ (x ∷ []) → p'.types.items ≡ p.types.items → IsTrailed s s' p p'
+  trailed_kind p p' is same = record {
+    told = λ o i. record { types = rw (same, vs) i.types; kinds = rw is (kind_trail_push x t p.kinds.items o.kinds s.kinds s'.kinds f.inside i.kinds b) };
+    free = let c = count_kind s s' x t f.inside b vs in let l : length p'.kinds.items ≡ length p.kinds.items + 1 = ap length is ∙ length-append p.kinds.items (x ∷ []) in let k = ap length same in omega (arith, c, l, k);
   }
 
--- trails that began empty tell all that was bound
-pub all_types : (s s' : Table) (ts ts' ks ks' : List ℕ) → AreTrailed s s' ts ts' ks ks' → ts ≡ [] → IsTrail ts' s.types s'.types
-all_types s s' ts ts' ks ks' f is = f.types s.types (rw is (trail_none s.types))
-
-pub all_kinds : (s s' : Table) (ts ts' ks ks' : List ℕ) → AreTrailed s s' ts ts' ks ks' → ks ≡ [] → IsKindTrail ks' s.kinds s'.kinds
-all_kinds s s' ts ts' ks ks' f is = f.kinds s.kinds (rw is (kind_trail_none s.kinds))
+-- a trail that began empty tells all that was bound
+pub all_told : (s s' : Table) (p p' : Trail) → IsTrailed s s' p p' → p.types.items ≡ [] → p.kinds.items ≡ [] → Tells p' s s'
+all_told s s' p p' f types kinds = f.told s (record { types = rw types (trail_none s.types); kinds = rw kinds (kind_trail_none s.kinds) })
 
 -- what is said of the solutions, by what has come out
 module _ (left right : Term) (s s' : Table) (m m' : List Bool) (f : IsNarrowed left right s s' m m') where

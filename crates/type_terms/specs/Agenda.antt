@@ -5,6 +5,7 @@ use Rattle.type_terms.specs.Term.{Term, term_of, variable, meaning}
 use Rattle.type_terms.specs.Table.{Table, Solves, extra}
 use Rattle.type_terms.specs.Pairs.{AllEqual, AllOver}
 use Rattle.type_terms.specs.Differ.{AreNeverSame, IsForced, IsKindForced}
+use Rattle.type_terms.specs.declared.agenda.Agenda.{Agenda as AgendaLists}
 use Rattle.type_terms.specs.declared.differ.Difference.{Difference}
 use Rattle.type_terms.specs.declared.differ.Difference.TheVariants.{Same, Clash, Bind, BindKind}
 use Rattle.type_terms.specs.declared.ty.Ty.{Ty}
@@ -34,6 +35,14 @@ pub record Agenda : Type 0 where
 
 abbrev pub agenda : List (Ty × Ty) → List (ℕ × ℕ) → Agenda
 agenda work seen = record { todo = pairs_of work; seen = variable_pairs seen }
+
+-- the plain data of the lists that hold one
+abbrev pub agenda_of : AgendaLists → Agenda
+agenda_of lists = agenda lists.work.items lists.seen.keys
+
+-- nothing is to be compared, and nothing was
+abbrev pub empty_agenda : Agenda
+empty_agenda = record { todo = []; seen = [] }
 
 -- at each solution the two are equal where the agenda says so, which asks for no more than that and what it asked for before
 pub record IsTakenUp (s : Table) (old new : Agenda) (left right : Term) : Type 0 where

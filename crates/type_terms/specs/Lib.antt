@@ -1,5 +1,6 @@
 pub mod Agenda
 pub mod Agrees
+pub mod Bound
 pub mod Codes
 pub mod Counting
 pub mod Differ

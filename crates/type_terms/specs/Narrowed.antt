@@ -1,15 +1,23 @@
 -- What is known of a substitution in which variables were bound so that two types become the same.
-use Rattle.std.specs.Prelude.{◌≡◌, ℕ, ◌+◌, Bool, true, false, List, length, Option}
+use Rattle.std.specs.Prelude.{◌≡◌, ℕ, ◌+◌, Bool, true, false, List, length}
 use Rattle.type_terms.specs.Ground.{Assignment}
 use Rattle.type_terms.specs.Term.{Term, meaning}
-use Rattle.type_terms.specs.Variables.{Variable}
-use Rattle.type_terms.specs.Table.{Table, IsSound, Solves}
+use Rattle.type_terms.specs.Table.{Table, IsOver, IsSound, Solves}
 use Rattle.type_terms.specs.Nested.{AreMarked, mark_at}
 use Rattle.type_terms.specs.Differ.{AreSame, AreNeverSame}
 use Rattle.type_terms.specs.Agrees.{SameVariables}
+use Rattle.type_terms.specs.Bound.{table_of}
 use Rattle.type_terms.specs.Counting.{free_count}
 use Rattle.type_terms.specs.Undo.{IsTrail, IsKindTrail}
-use Rattle.type_terms.specs.declared.ty.KindTerm.{KindTerm}
+use Rattle.type_terms.specs.declared.table.Bindings.{Bindings}
+use Rattle.type_terms.specs.declared.unifier.Trail.{Trail}
+
+-- the substitution and its marks are sound, and the two are over its variables
+pub record AreComparable (b : Bindings) (t u : Term) : Type 0 where
+  pub sound : IsSound (table_of b)
+  pub marked : AreMarked b.types.items b.nested.items
+  pub left : IsOver (table_of b) t
+  pub right : IsOver (table_of b) u
 
 -- the new substitution and marks are sound, and solutions were lost only where the two differ
 pub record IsNarrowed (left right : Term) (old new : Table) (marks marks' : List Bool) : Type 0 where
@@ -20,11 +28,23 @@ pub record IsNarrowed (left right : Term) (old new : Table) (marks marks' : List
   pub kept : (a : Assignment) → Solves a old → meaning a left ≡ meaning a right → Solves a new
   pub same_variables : SameVariables old new
 
--- trails that told which variables were bound tell it still, each once
-pub record AreTrailed (old new : Table) (ts ts' ks ks' : List ℕ) : Type 0 where
-  pub types : (vs : List Variable) → IsTrail ts vs old.types → IsTrail ts' vs new.types
-  pub kinds : (ls : List (Option KindTerm)) → IsKindTrail ks ls old.kinds → IsKindTrail ks' ls new.kinds
-  pub free : free_count new + (length ts' + length ks') ≡ free_count old + (length ts + length ks)
+-- the same of all that variables are bound to, with its marks
+abbrev pub Narrows : Term → Term → Bindings → Bindings → Type 0
+Narrows left right old new = IsNarrowed left right (table_of old) (table_of new) old.nested.items new.nested.items
+
+-- the trail tells which variables were bound
+pub record Tells (trail : Trail) (old new : Table) : Type 0 where
+  pub types : IsTrail trail.types.items old.types new.types
+  pub kinds : IsKindTrail trail.kinds.items old.kinds new.kinds
+
+-- how many variables a trail tells of
+abbrev pub trail_len : Trail → ℕ
+trail_len trail = length trail.types.items + length trail.kinds.items
+
+-- a trail that told which variables were bound tells it still, each once
+pub record IsTrailed (old new : Table) (trail trail' : Trail) : Type 0 where
+  pub told : (s : Table) → Tells trail s old → Tells trail' s new
+  pub free : free_count new + trail_len trail' ≡ free_count old + trail_len trail
 
 -- whether the two are the same now
 abbrev pub IsAnswer : Table → Term → Term → Bool → Type 0

@@ -1,10 +1,12 @@
 // The difference of two types under a substitution, and the parts that are left to compare.
-ghost use Rattle.std.specs.Prelude.{◌≡◌, ◌+◌, ◌<◌, ◌≤◌, ◌++◌, ◌∷◌, [], ℕ, Bool, None, Option, List, length, map, true, IfOk, OnOk};
+ghost use Rattle.std.specs.Prelude.{◌≡◌, ◌+◌, ◌<◌, ◌≤◌, ◌++◌, ◌∷◌, [], ℕ, Bool, None, Option, List, length, map, true, IfOk, IfSome, OnOk};
 ghost use Rattle.std.specs.Bool.{OnTrue, OnFalse};
+ghost use Rattle.type_terms.specs.Bound.{table_of};
 ghost use Rattle.type_terms.specs.Differ.{Settles, is_number_base};
 ghost use Rattle.type_terms.specs.Ground.{Assignment};
 ghost use Rattle.type_terms.specs.Nested.{AreMarked};
-ghost use Rattle.type_terms.specs.Agenda.{AllEqualBelow, EqualBelow, TakesUp, agenda, pairs_of, variable_pairs};
+ghost use Rattle.type_terms.specs.Agenda.{AllEqualBelow, EqualBelow, TakesUp, agenda_of, pairs_of, variable_pairs};
+ghost use Rattle.type_terms.specs.Narrowed.{AreComparable};
 ghost use Rattle.type_terms.specs.Pairs.{IsSplit, pairs, parts_of, zipped};
 ghost use Rattle.type_terms.specs.Table.{table, IsOver, IsSound, IsTriangular, bound_at, kind_at, number_at, extra, FallsByNumber, MeetsKinds};
 ghost use Rattle.type_terms.specs.Term.{InTerm, InKind, base_of, term_of, terms_of, variable, kind_meaning, source_term};
@@ -12,8 +14,10 @@ ghost use Rattle.type_terms.specs.Variables.{Variable};
 ghost use Rattle.type_terms.specs.declared.ty.KindTerm.{KindTerm};
 ghost use Rattle.type_terms.specs.declared.ty.KindTerm.TheVariants.{Var};
 
+use crate::agenda::Agenda;
 use crate::naming::copy;
-use crate::occurs::{occurs_in, resolve};
+use crate::occurs::occurs_in;
+use crate::table::Bindings;
 use crate::ty::{Base, KindTerm, Ty};
 use crate::type_variable::TypeVariable;
 use indexmap::IndexSet;
@@ -101,34 +105,35 @@ pub fn push_split<'a>(
 /// Two variables for which that was done before are the same where those are: it is not done again.
 pub fn differ<'a>(
     alloc: Global,
-    types: &'a [TypeVariable],
-    kinds: &[Option<KindTerm>],
-    nested: &[bool],
-    work: &mut Vec<(Ty, Ty)>,
-    seen: &mut IndexSet<(u64, u64)>,
+    bindings: &'a Bindings,
+    agenda: &mut Agenda,
     left: &'a Ty,
     right: &'a Ty,
 ) -> Result<Difference<'a>, Memory>
-    requires sound { IsSound (table types.now kinds.now) }
-    requires marked { AreMarked types.now nested.now }
-    requires left { IsOver (table types.now kinds.now) (term_of left.now) }
-    requires right { IsOver (table types.now kinds.now) (term_of right.now) }
-    ensures { IfOk result (λ d. TakesUp (table types.now kinds.now) (agenda work.old.items seen.old.keys) (agenda work.new.items seen.new.keys) (term_of left.now) (term_of right.now) d) }
+    requires { AreComparable bindings.now (term_of left.now) (term_of right.now) }
+    ensures { IfOk result (λ d. TakesUp (table_of bindings.now) (agenda_of agenda.old) (agenda_of agenda.new) (term_of left.now) (term_of right.now) d) }
 {
     if are_one_variable(left, right) {
         return Ok(Difference::Same);
     }
-    if is_known(seen, left, right) {
+    if is_known(&agenda.seen, left, right) {
         return Ok(Difference::Same);
     }
-    let s = resolve(types, left);
-    let t = resolve(types, right);
+    let s = bindings.resolve(left);
+    let t = bindings.resolve(right);
     if is_split(s, t) {
-        push_copies(alloc, work, s, t)?;
-        note(seen, left, right)?;
+        push_copies(alloc, &mut agenda.work, s, t)?;
+        note(&mut agenda.seen, left, right)?;
         return Ok(Difference::Same);
     }
-    let difference = differ_resolved(alloc, types, kinds, nested, s, t)?;
+    let difference = differ_resolved(
+        alloc,
+        &bindings.types,
+        &bindings.kinds,
+        &bindings.nested,
+        s,
+        t,
+    )?;
     Ok(difference)
 }
 
@@ -281,7 +286,7 @@ fn differ_shapes<'a>(kinds: &[Option<KindTerm>], left: &'a Ty, right: &'a Ty) ->
 }
 
 /// The difference of two resolved types that are neither two lists nor two tuples of one length.
-pub fn differ_resolved<'a>(
+fn differ_resolved<'a>(
     alloc: Global,
     types: &[TypeVariable],
     kinds: &[Option<KindTerm>],
@@ -308,6 +313,32 @@ pub fn differ_resolved<'a>(
             _ => Ok(differ_shapes(kinds, left, right)),
         },
     }
+}
+
+/// The difference of two types; `None` where what they are bound to is to be taken apart.
+pub fn differ_directly<'a>(
+    alloc: Global,
+    bindings: &'a Bindings,
+    left: &'a Ty,
+    right: &'a Ty,
+) -> Result<Option<Difference<'a>>, Memory>
+    requires { AreComparable bindings.now (term_of left.now) (term_of right.now) }
+    ensures { IfOk result (λ o. IfSome o (λ d. Settles (table_of bindings.now) (term_of left.now) (term_of right.now) d)) }
+{
+    let s = bindings.resolve(left);
+    let t = bindings.resolve(right);
+    if is_split(s, t) {
+        return Ok(None);
+    }
+    let difference = differ_resolved(
+        alloc,
+        &bindings.types,
+        &bindings.kinds,
+        &bindings.nested,
+        s,
+        t,
+    )?;
+    Ok(Some(difference))
 }
 
 /// Whether both types are one and the same variable.
@@ -369,7 +400,7 @@ fn push_parts<'a>(
 }
 
 /// Whether both types are lists, or tuples of one length.
-pub fn is_split(s: &Ty, t: &Ty) -> bool
+fn is_split(s: &Ty, t: &Ty) -> bool
     ensures yes { OnTrue result (IsSplit (term_of s.now) (term_of t.now)) }
     ensures unsplit { OnFalse result (IsSplit (term_of s.now) (term_of t.now) → ⊥) }
 {

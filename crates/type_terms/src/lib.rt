@@ -1,12 +1,14 @@
 //! Types over variables, and a most general unifier.
 #![tactic(auto)]
 
+mod agenda;
 mod differ;
 mod free_counts;
 mod naming;
 mod occurs;
 mod resolving;
 mod subst;
+mod table;
 mod ty;
 mod type_variable;
 mod unifier;

@@ -15,6 +15,7 @@ use crate::free_counts::{free_kinds_behind, free_types_behind};
 use crate::naming::MOST_LEVELS;
 use crate::occurs::{are_among, mark};
 use crate::resolving::{MOST_NODES, settle};
+use crate::table::Bindings;
 use crate::ty::{KindTerm, Ty};
 use crate::type_variable::TypeVariable;
 use crate::unifier::unify_in;
@@ -28,15 +29,13 @@ use std::marker::Model;
 /// A number variable can only be int or decimal in the end.
 #[derive(Drop)]
 pub struct Subst {
-    types: Vec<TypeVariable>,
-    kinds: Vec<Option<KindTerm>>,
-    // Whether a type variable may stand in what another is bound to.
-    nested: Vec<bool>,
+    bindings: Bindings,
     // How many variables are bound to nothing.
     free: usize,
 }
 
 impl Model for Subst {
+    ghost use Rattle.type_terms.specs.Bound.{table_of};
     ghost use Rattle.type_terms.specs.Table.{Table};
     ghost use Rattle.type_terms.specs.Codes.{table_code};
     ghost use Rattle.type_terms.specs.Nested.{IsKept};
@@ -45,9 +44,9 @@ impl Model for Subst {
 
     ghost coded = { table_code };
 
-    ghost view = { λ s. record { types = s.types.items; kinds = s.kinds.items } };
+    ghost view = { λ s. table_of s.bindings };
 
-    ghost invariant = { λ s. IsKept (record { types = s.types.items; kinds = s.kinds.items }) s.nested.items s.free };
+    ghost invariant = { λ s. IsKept (table_of s.bindings) s.bindings.nested.items s.free };
 }
 
 impl Subst {
@@ -56,9 +55,11 @@ impl Subst {
         ensures { IfOk result (λ s. s ≡ table [] []) }
     {
         Ok(Subst {
-            types: Vec::new(alloc),
-            kinds: Vec::new(alloc),
-            nested: Vec::new(alloc),
+            bindings: Bindings {
+                types: Vec::new(alloc),
+                kinds: Vec::new(alloc),
+                nested: Vec::new(alloc),
+            },
             free: 0,
         })
     }
@@ -67,9 +68,9 @@ impl Subst {
     pub fn reserve(&mut self, types: usize, kinds: usize) -> Result<(), Memory>
         ensures same { self.new ≡ self.old }
     {
-        self.types.reserve(types)?;
-        self.nested.reserve(types)?;
-        self.kinds.reserve(kinds)?;
+        self.bindings.types.reserve(types)?;
+        self.bindings.nested.reserve(types)?;
+        self.bindings.kinds.reserve(kinds)?;
         Ok(())
     }
 
@@ -82,9 +83,9 @@ impl Subst {
         ensures free { OnOk result (HasNewType self.old self.new (IsTrue number) (length self.old.types)) }
         ensures err { OnErr result (self.new ≡ self.old) }
     {
-        let next = self.types.len() as u64;
-        self.nested.push(false)?;
-        self.types.push(TypeVariable::new(number))?;
+        let next = self.bindings.types.len() as u64;
+        self.bindings.nested.push(false)?;
+        self.bindings.types.push(TypeVariable::new(number))?;
         self.free += 1;
         Ok(Ty::Var(next))
     }
@@ -100,11 +101,13 @@ impl Subst {
         ensures bound { IfOk result (λ n. HasBoundType self.old self.new n (term_of ty)) }
         ensures err { OnErr result (self.new ≡ self.old) }
     {
-        let next = self.types.len() as u64;
-        self.types.reserve(1)?;
-        self.nested.push(false)?;
-        mark(&mut self.nested, &ty);
-        self.types.push_reserved(TypeVariable::bound_to(ty));
+        let next = self.bindings.types.len() as u64;
+        self.bindings.types.reserve(1)?;
+        self.bindings.nested.push(false)?;
+        mark(&mut self.bindings.nested, &ty);
+        self.bindings
+            .types
+            .push_reserved(TypeVariable::bound_to(ty));
         Ok(next)
     }
 
@@ -117,8 +120,8 @@ impl Subst {
         ensures free { OnOk result (HasNewKind self.old self.new (length self.old.kinds)) }
         ensures err { OnErr result (self.new ≡ self.old) }
     {
-        let next = self.kinds.len() as u64;
-        self.kinds.push(None)?;
+        let next = self.bindings.kinds.len() as u64;
+        self.bindings.kinds.push(None)?;
         self.free += 1;
         Ok(KindTerm::Var(next))
     }
@@ -128,7 +131,7 @@ impl Subst {
         ensures none { IsNone result ↔ (bound_at self.now.types var ≡ None) }
         ensures some { IfSome result (λ t. bound_at self.now.types var ≡ Some (term_of t.now)) }
     {
-        let variable = self.types.get(var as usize)?;
+        let variable = self.bindings.types.get(var as usize)?;
         variable.bound()
     }
 
@@ -136,7 +139,7 @@ impl Subst {
     pub fn bound_kind(&self, var: u64) -> Option<KindTerm>
         ensures { result ≡ kind_at self.now.kinds var }
     {
-        let bound = self.kinds.get(var as usize)?;
+        let bound = self.bindings.kinds.get(var as usize)?;
         *bound
     }
 
@@ -144,7 +147,7 @@ impl Subst {
     pub fn is_number(&self, var: u64) -> bool
         ensures { result ≡ number_at self.now.types var }
     {
-        match self.types.get(var as usize) {
+        match self.bindings.types.get(var as usize) {
             Some(variable) => variable.is_number(),
             None => false,
         }
@@ -154,22 +157,22 @@ impl Subst {
     pub fn type_count(&self) -> usize
         ensures { result ≡ length self.now.types }
     {
-        self.types.len()
+        self.bindings.types.len()
     }
 
     /// How many kind variables there are.
     pub fn kind_count(&self) -> usize
         ensures { result ≡ length self.now.kinds }
     {
-        self.kinds.len()
+        self.bindings.kinds.len()
     }
 
     /// How many of the first so many type variables and kind variables are bound to nothing. It looks only at those behind them.
     pub fn free_among(&self, types: usize, kinds: usize) -> usize
         ensures { result ≡ the_free_among self.now types kinds }
     {
-        let later_types = free_types_behind(&self.types, types);
-        let later_kinds = free_kinds_behind(&self.kinds, kinds);
+        let later_types = free_types_behind(&self.bindings.types, types);
+        let later_kinds = free_kinds_behind(&self.bindings.kinds, kinds);
         self.free - later_types - later_kinds
     }
 
@@ -177,28 +180,28 @@ impl Subst {
     pub fn covers(&self, alloc: Global, ty: &Ty) -> Result<bool, Memory>
         ensures { IfOk result (λ yes. IsTrue yes ↔ IsOver self.now (term_of ty.now)) }
     {
-        are_among(alloc, &self.types, &self.kinds, ty)
+        are_among(alloc, &self.bindings.types, &self.bindings.kinds, ty)
     }
 
     /// Each assignment to the variables that are bound to nothing, with int or decimal for each number variable, is that of a solution.
     pub fn extends_each_assignment(&self)
         ensures { (p : Assignment) → ((k : ℕ) → number_at self.now.types k ≡ true → IsNumber (p.type_of k)) → (a : Assignment) × Extends self.now p a }
     {
-        let _ = &self.types;
+        let _ = &self.bindings.types;
     }
 
     /// One solution has stereo for each kind variable, and int for each type variable, that is bound to nothing.
     pub fn has_defaults(&self)
         ensures { HasDefaults self.now }
     {
-        let _ = &self.types;
+        let _ = &self.bindings.types;
     }
 
     /// What variables are bound to is over variables that are there, and no variable stands in what it is bound to.
     pub fn is_sound(&self)
         ensures { IsSound self.now }
     {
-        let _ = &self.types;
+        let _ = &self.bindings.types;
     }
 }
 
@@ -216,15 +219,7 @@ pub fn unify(alloc: Global, subst: &mut Subst, left: &Ty, right: &Ty) -> Result<
     ensures same_variables { IfOk result (λ yes. OnTrue yes (SameVariables subst.old subst.new)) }
     ensures err { OnErr result (subst.new ≡ subst.old) }
 {
-    unify_in(
-        alloc,
-        &mut subst.types,
-        &mut subst.kinds,
-        &mut subst.nested,
-        &mut subst.free,
-        left,
-        right,
-    )
+    unify_in(alloc, &mut subst.bindings, &mut subst.free, left, right)
 }
 
 /// The kind with all that is bound put in: a channel count, or a variable that is bound to nothing.
@@ -233,7 +228,7 @@ pub fn resolved_kind(subst: &Subst, kind: KindTerm) -> KindTerm
     ensures unbound { IsUnbound subst.now (source_term result) }
     ensures same { (a : Assignment) → Solves a subst.now → kind_meaning a result ≡ kind_meaning a kind }
 {
-    resolve_kind(&subst.kinds, kind)
+    resolve_kind(&subst.bindings.kinds, kind)
 }
 
 /// The type with all that is bound put in.
@@ -247,8 +242,8 @@ pub fn resolved(alloc: Global, subst: &Subst, ty: &Ty) -> Result<Ty, Memory>
     let mut nodes = MOST_NODES;
     settle(
         alloc,
-        &subst.types,
-        &subst.kinds,
+        &subst.bindings.types,
+        &subst.bindings.kinds,
         ty,
         MOST_LEVELS,
         &mut nodes,

@@ -1,25 +1,42 @@
 // The bindings that make two types equal, and their undoing.
-ghost use Rattle.std.specs.Prelude.{◌≡◌, ◌<◌, ℕ, None, Option, List, [], length, true, IfOk, OnErr};
+ghost use Rattle.std.specs.Prelude.{◌≡◌, [], IfOk, OnErr};
 ghost use Rattle.std.specs.Bool.{OnFalse};
+ghost use Rattle.type_terms.specs.Agenda.{IsTaken, agenda_of, empty_agenda};
+ghost use Rattle.type_terms.specs.Bound.{table_of};
 ghost use Rattle.type_terms.specs.Counting.{free_count};
-ghost use Rattle.type_terms.specs.Nested.{AreMarked, mark_at};
-ghost use Rattle.type_terms.specs.Table.{table, Binds, BindsKind, IsOver, IsSound, bound_at, kind_at};
-ghost use Rattle.type_terms.specs.Term.{InTerm, term_of};
-ghost use Rattle.type_terms.specs.Agenda.{IsTaken, agenda};
 ghost use Rattle.type_terms.specs.Direct.{IsDirect};
-ghost use Rattle.type_terms.specs.Narrowed.{AreTrailed, IsAnswer, IsNarrowed};
-ghost use Rattle.type_terms.specs.Undo.{Frees, FreesKind, IsKindTrail, IsTrail};
-ghost use Rattle.type_terms.specs.Variables.{Variable};
-ghost use Rattle.type_terms.specs.declared.ty.KindTerm.{KindTerm};
+ghost use Rattle.type_terms.specs.Narrowed.{AreComparable, IsAnswer, IsTrailed, Narrows, Tells};
+ghost use Rattle.type_terms.specs.Table.{Table};
+ghost use Rattle.type_terms.specs.Term.{term_of};
 
-use crate::differ::{Difference, differ, differ_resolved, is_split, push_copies, push_split};
+use crate::agenda::Agenda;
+use crate::differ::{Difference, differ, differ_directly, push_copies, push_split};
 use crate::naming::copy;
-use crate::occurs::{MOST_STEPS, mark, resolve};
-use crate::ty::{KindTerm, Ty};
-use crate::type_variable::TypeVariable;
-use indexmap::IndexSet;
+use crate::occurs::MOST_STEPS;
+use crate::table::{Bindings, free_kinds, free_types};
+use crate::ty::Ty;
 use liq_base::Memory;
 use std::alloc::Global;
+
+/// Which variables were bound, each once.
+#[derive(Drop)]
+struct Trail {
+    types: Vec<u64>,
+    kinds: Vec<u64>,
+}
+
+impl Trail {
+    /// None.
+    fn new(alloc: Global) -> Trail
+        ensures types { result.types.items ≡ [] }
+        ensures kinds { result.kinds.items ≡ [] }
+    {
+        Trail {
+            types: Vec::new(alloc),
+            kinds: Vec::new(alloc),
+        }
+    }
+}
 
 /// What became of two types that were to be the same: they are, they cannot be, or they are to be taken apart.
 #[derive(Drop)]
@@ -35,67 +52,55 @@ pub enum Direct {
 /// What one binding settles takes no memory but that of a copy of what is bound.
 pub fn unify_in(
     alloc: Global,
-    types: &mut [TypeVariable],
-    kinds: &mut [Option<KindTerm>],
-    nested: &mut [bool],
+    bindings: &mut Bindings,
     free: &mut usize,
     left: &Ty,
     right: &Ty,
 ) -> Result<bool, Memory>
-    requires sound { IsSound (table types.old kinds.old) }
-    requires counted { free.old ≡ free_count (table types.old kinds.old) }
-    requires marked { AreMarked types.old nested.old }
-    requires left { IsOver (table types.old kinds.old) (term_of left.now) }
-    requires right { IsOver (table types.old kinds.old) (term_of right.now) }
-    ensures narrowed { IsNarrowed (term_of left.now) (term_of right.now) (table types.old kinds.old) (table types.new kinds.new) nested.old nested.new }
-    ensures answer { IfOk result (IsAnswer (table types.new kinds.new) (term_of left.now) (term_of right.now)) }
-    ensures unchanged { IfOk result (λ yes. OnFalse yes (table types.new kinds.new ≡ table types.old kinds.old)) }
-    ensures counted { free.new ≡ free_count (table types.new kinds.new) }
-    ensures err { OnErr result (table types.new kinds.new ≡ table types.old kinds.old) }
+    requires comparable { AreComparable bindings.old (term_of left.now) (term_of right.now) }
+    requires counted { free.old ≡ free_count (table_of bindings.old) }
+    ensures narrowed { Narrows (term_of left.now) (term_of right.now) bindings.old bindings.new }
+    ensures answer { IfOk result (IsAnswer (table_of bindings.new) (term_of left.now) (term_of right.now)) }
+    ensures unchanged { IfOk result (λ yes. OnFalse yes (table_of bindings.new ≡ table_of bindings.old)) }
+    ensures counted { free.new ≡ free_count (table_of bindings.new) }
+    ensures err { OnErr result (table_of bindings.new ≡ table_of bindings.old) }
 {
-    match unify_directly(alloc, types, kinds, nested, free, left, right)? {
+    match unify_directly(alloc, bindings, free, left, right)? {
         Direct::Same => Ok(true),
         Direct::Clash => Ok(false),
-        Direct::Apart => unify_deeply(alloc, types, kinds, nested, free, left, right),
+        Direct::Apart => unify_deeply(alloc, bindings, free, left, right),
     }
 }
 
 /// Makes two types the same where neither is to be taken apart: with one binding, or none.
 fn unify_directly(
     alloc: Global,
-    types: &mut [TypeVariable],
-    kinds: &mut [Option<KindTerm>],
-    nested: &mut [bool],
+    bindings: &mut Bindings,
     free: &mut usize,
     left: &Ty,
     right: &Ty,
 ) -> Result<Direct, Memory>
-    requires sound { IsSound (table types.old kinds.old) }
-    requires counted { free.old ≡ free_count (table types.old kinds.old) }
-    requires marked { AreMarked types.old nested.old }
-    requires left { IsOver (table types.old kinds.old) (term_of left.now) }
-    requires right { IsOver (table types.old kinds.old) (term_of right.now) }
-    ensures narrowed { IsNarrowed (term_of left.now) (term_of right.now) (table types.old kinds.old) (table types.new kinds.new) nested.old nested.new }
-    ensures direct { IfOk result (IsDirect (table types.old kinds.old) (table types.new kinds.new) (term_of left.now) (term_of right.now)) }
-    ensures counted { free.new ≡ free_count (table types.new kinds.new) }
-    ensures err { OnErr result (table types.new kinds.new ≡ table types.old kinds.old) }
+    requires comparable { AreComparable bindings.old (term_of left.now) (term_of right.now) }
+    requires counted { free.old ≡ free_count (table_of bindings.old) }
+    ensures narrowed { Narrows (term_of left.now) (term_of right.now) bindings.old bindings.new }
+    ensures direct { IfOk result (IsDirect (table_of bindings.old) (table_of bindings.new) (term_of left.now) (term_of right.now)) }
+    ensures counted { free.new ≡ free_count (table_of bindings.new) }
+    ensures err { OnErr result (table_of bindings.new ≡ table_of bindings.old) }
 {
-    let s = resolve(types, left);
-    let t = resolve(types, right);
-    if is_split(s, t) {
+    let Some(found) = differ_directly(alloc, bindings, left, right)? else {
         return Ok(Direct::Apart);
-    }
-    match differ_resolved(alloc, types, kinds, nested, s, t)? {
+    };
+    match found {
         Difference::Same => Ok(Direct::Same),
         Difference::Clash => Ok(Direct::Clash),
         Difference::Bind(x, t) => {
             let t = copy(alloc, t)?;
-            bind_marked(types, nested, x, t);
+            bindings.bind_type(x, t);
             *free -= 1;
             Ok(Direct::Same)
         }
         Difference::BindKind(x, k) => {
-            bind_kind(kinds, x, k);
+            bindings.bind_kind(x, k);
             *free -= 1;
             Ok(Direct::Same)
         }
@@ -105,157 +110,73 @@ fn unify_directly(
 /// Binds as `solve` does, and frees again what was bound where the types differ in shape or memory runs out.
 fn unify_deeply(
     alloc: Global,
-    types: &mut [TypeVariable],
-    kinds: &mut [Option<KindTerm>],
-    nested: &mut [bool],
+    bindings: &mut Bindings,
     free: &mut usize,
     left: &Ty,
     right: &Ty,
 ) -> Result<bool, Memory>
-    requires sound { IsSound (table types.old kinds.old) }
-    requires counted { free.old ≡ free_count (table types.old kinds.old) }
-    requires marked { AreMarked types.old nested.old }
-    requires left { IsOver (table types.old kinds.old) (term_of left.now) }
-    requires right { IsOver (table types.old kinds.old) (term_of right.now) }
-    ensures narrowed { IsNarrowed (term_of left.now) (term_of right.now) (table types.old kinds.old) (table types.new kinds.new) nested.old nested.new }
-    ensures answer { IfOk result (IsAnswer (table types.new kinds.new) (term_of left.now) (term_of right.now)) }
-    ensures unchanged { IfOk result (λ yes. OnFalse yes (table types.new kinds.new ≡ table types.old kinds.old)) }
-    ensures counted { free.new ≡ free_count (table types.new kinds.new) }
-    ensures err { OnErr result (table types.new kinds.new ≡ table types.old kinds.old) }
+    requires comparable { AreComparable bindings.old (term_of left.now) (term_of right.now) }
+    requires counted { free.old ≡ free_count (table_of bindings.old) }
+    ensures narrowed { Narrows (term_of left.now) (term_of right.now) bindings.old bindings.new }
+    ensures answer { IfOk result (IsAnswer (table_of bindings.new) (term_of left.now) (term_of right.now)) }
+    ensures unchanged { IfOk result (λ yes. OnFalse yes (table_of bindings.new ≡ table_of bindings.old)) }
+    ensures counted { free.new ≡ free_count (table_of bindings.new) }
+    ensures err { OnErr result (table_of bindings.new ≡ table_of bindings.old) }
 {
-    let mut type_trail = Vec::new(alloc);
-    let mut kind_trail = Vec::new(alloc);
-    match solve(
-        alloc,
-        types,
-        kinds,
-        nested,
-        &mut type_trail,
-        &mut kind_trail,
-        left,
-        right,
-    ) {
+    let mut trail = Trail::new(alloc);
+    match solve(alloc, bindings, &mut trail, left, right) {
         Ok(true) => {
-            *free -= type_trail.len();
-            *free -= kind_trail.len();
+            *free -= trail.types.len();
+            *free -= trail.kinds.len();
             Ok(true)
         }
         Ok(false) => {
-            free_types(types, &type_trail);
-            free_kinds(kinds, &kind_trail);
+            undo(bindings, &trail);
             Ok(false)
         }
         Err(e) => {
-            free_types(types, &type_trail);
-            free_kinds(kinds, &kind_trail);
+            undo(bindings, &trail);
             Err(e)
         }
     }
 }
 
-/// Binds a free type variable.
-fn bind_type(types: &mut [TypeVariable], x: u64, ty: Ty)
-    requires inside { x < length types.old }
-    requires free { bound_at types.old x ≡ None }
-    ensures { Binds x (term_of ty) types.old types.new }
+/// Frees again the variables that a trail tells of.
+fn undo(bindings: &mut Bindings, trail: &Trail)
+    requires { (s : Table) × Tells trail.now s (table_of bindings.old) }
+    ensures undone { (s : Table) → Tells trail.now s (table_of bindings.old) → table_of bindings.new ≡ s }
+    ensures same_marks { bindings.new.nested.items ≡ bindings.old.nested.items }
 {
-    let variable = &mut types[x as usize];
-    variable.bind(ty);
+    free_types(&mut bindings.types, &trail.types);
+    free_kinds(&mut bindings.kinds, &trail.kinds);
 }
 
-/// Binds a free type variable, and marks the variables that stand in what it is bound to.
-fn bind_marked(types: &mut [TypeVariable], nested: &mut [bool], x: u64, ty: Ty)
-    requires marked { AreMarked types.old nested.old }
-    requires inside { x < length types.old }
-    requires free { bound_at types.old x ≡ None }
-    requires over { InTerm (λ n. n < length types.old) (λ _. Unit {0}) (term_of ty) }
-    ensures binds { Binds x (term_of ty) types.old types.new }
-    ensures marked { AreMarked types.new nested.new }
-    ensures marks_kept { (k : ℕ) → mark_at nested.old k ≡ true → mark_at nested.new k ≡ true }
-{
-    mark(nested, &ty);
-    bind_type(types, x, ty);
-}
-
-/// Binds a free kind variable.
-fn bind_kind(kinds: &mut [Option<KindTerm>], x: u64, k: KindTerm)
-    requires inside { x < length kinds.old }
-    requires free { kind_at kinds.old x ≡ None }
-    ensures { BindsKind x k kinds.old kinds.new }
-{
-    kinds[x as usize] = Some(k);
-}
-
-/// Frees a type variable.
-fn free_type(types: &mut [TypeVariable], x: u64)
-    requires { x < length types.old }
-    ensures { Frees x types.old types.new }
-{
-    let variable = &mut types[x as usize];
-    variable.free();
-}
-
-/// Frees a kind variable.
-fn free_kind(kinds: &mut [Option<KindTerm>], x: u64)
-    requires { x < length kinds.old }
-    ensures { FreesKind x kinds.old kinds.new }
-{
-    kinds[x as usize] = None;
-}
-
-/// Frees the type variables of a trail.
-fn free_types(types: &mut [TypeVariable], trail: &[u64])
-    requires { (vs : List Variable) × IsTrail trail.now vs types.old }
-    ensures { (vs : List Variable) → IsTrail trail.now vs types.old → types.new ≡ vs }
-{
-    for x in trail {
-        free_type(types, *x);
-    }
-}
-
-/// Frees the kind variables of a trail.
-fn free_kinds(kinds: &mut [Option<KindTerm>], trail: &[u64])
-    requires { (ks : List (Option KindTerm)) × IsKindTrail trail.now ks kinds.old }
-    ensures { (ks : List (Option KindTerm)) → IsKindTrail trail.now ks kinds.old → kinds.new ≡ ks }
-{
-    for x in trail {
-        free_kind(kinds, *x);
-    }
-}
-
-/// Takes up one pair: binds the variable that it forces, or puts what the two are bound to on the stack; `false` where they differ in shape.
+/// Takes up one pair: binds the variable that it forces, or puts what the two are bound to on the agenda; `false` where they differ in shape.
 fn take_up(
     alloc: Global,
-    types: &mut [TypeVariable],
-    kinds: &mut [Option<KindTerm>],
-    nested: &mut [bool],
-    type_trail: &mut Vec<u64>,
-    kind_trail: &mut Vec<u64>,
-    work: &mut Vec<(Ty, Ty)>,
-    seen: &mut IndexSet<(u64, u64)>,
+    bindings: &mut Bindings,
+    trail: &mut Trail,
+    agenda: &mut Agenda,
     left: &Ty,
     right: &Ty,
 ) -> Result<bool, Memory>
-    requires sound { IsSound (table types.old kinds.old) }
-    requires marked { AreMarked types.old nested.old }
-    requires left { IsOver (table types.old kinds.old) (term_of left.now) }
-    requires right { IsOver (table types.old kinds.old) (term_of right.now) }
-    ensures narrowed { IsNarrowed (term_of left.now) (term_of right.now) (table types.old kinds.old) (table types.new kinds.new) nested.old nested.new }
-    ensures trailed { AreTrailed (table types.old kinds.old) (table types.new kinds.new) type_trail.old.items type_trail.new.items kind_trail.old.items kind_trail.new.items }
-    ensures taken { IfOk result (IsTaken (table types.new kinds.new) (agenda work.old.items seen.old.keys) (agenda work.new.items seen.new.keys) (term_of left.now) (term_of right.now)) }
+    requires { AreComparable bindings.old (term_of left.now) (term_of right.now) }
+    ensures narrowed { Narrows (term_of left.now) (term_of right.now) bindings.old bindings.new }
+    ensures trailed { IsTrailed (table_of bindings.old) (table_of bindings.new) trail.old trail.new }
+    ensures taken { IfOk result (IsTaken (table_of bindings.new) (agenda_of agenda.old) (agenda_of agenda.new) (term_of left.now) (term_of right.now)) }
 {
-    match differ(alloc, types, kinds, nested, work, seen, left, right)? {
+    match differ(alloc, bindings, agenda, left, right)? {
         Difference::Same => Ok(true),
         Difference::Clash => Ok(false),
         Difference::Bind(x, t) => {
             let t = copy(alloc, t)?;
-            type_trail.push(x)?;
-            bind_marked(types, nested, x, t);
+            trail.types.push(x)?;
+            bindings.bind_type(x, t);
             Ok(true)
         }
         Difference::BindKind(x, k) => {
-            kind_trail.push(x)?;
-            bind_kind(kinds, x, k);
+            trail.kinds.push(x)?;
+            bindings.bind_kind(x, k);
             Ok(true)
         }
     }
@@ -264,23 +185,16 @@ fn take_up(
 /// Takes up two types: they are taken apart with a stack of references, and the pairs of parts that are not both lists or both tuples are taken up.
 fn take_apart(
     alloc: Global,
-    types: &mut [TypeVariable],
-    kinds: &mut [Option<KindTerm>],
-    nested: &mut [bool],
-    type_trail: &mut Vec<u64>,
-    kind_trail: &mut Vec<u64>,
-    work: &mut Vec<(Ty, Ty)>,
-    seen: &mut IndexSet<(u64, u64)>,
+    bindings: &mut Bindings,
+    trail: &mut Trail,
+    agenda: &mut Agenda,
     left: &Ty,
     right: &Ty,
 ) -> Result<bool, Memory>
-    requires sound { IsSound (table types.old kinds.old) }
-    requires marked { AreMarked types.old nested.old }
-    requires left { IsOver (table types.old kinds.old) (term_of left.now) }
-    requires right { IsOver (table types.old kinds.old) (term_of right.now) }
-    ensures narrowed { IsNarrowed (term_of left.now) (term_of right.now) (table types.old kinds.old) (table types.new kinds.new) nested.old nested.new }
-    ensures trailed { AreTrailed (table types.old kinds.old) (table types.new kinds.new) type_trail.old.items type_trail.new.items kind_trail.old.items kind_trail.new.items }
-    ensures taken { IfOk result (IsTaken (table types.new kinds.new) (agenda work.old.items seen.old.keys) (agenda work.new.items seen.new.keys) (term_of left.now) (term_of right.now)) }
+    requires { AreComparable bindings.old (term_of left.now) (term_of right.now) }
+    ensures narrowed { Narrows (term_of left.now) (term_of right.now) bindings.old bindings.new }
+    ensures trailed { IsTrailed (table_of bindings.old) (table_of bindings.new) trail.old trail.new }
+    ensures taken { IfOk result (IsTaken (table_of bindings.new) (agenda_of agenda.old) (agenda_of agenda.new) (term_of left.now) (term_of right.now)) }
 {
     let mut parts: Vec<(&Ty, &Ty)> = Vec::new(alloc);
     parts.push((left, right))?;
@@ -291,74 +205,53 @@ fn take_apart(
         if push_split(&mut parts, next.0, next.1)? {
             continue;
         }
-        if !take_up(
-            alloc, types, kinds, nested, type_trail, kind_trail, work, seen, next.0, next.1,
-        )? {
+        if !take_up(alloc, bindings, trail, agenda, next.0, next.1)? {
             return Ok(false);
         }
     }
     Err(Memory)
 }
 
-/// Binds variables until the two types are the same, or differ in shape. The trails tell which were bound.
+/// Binds variables until the two types are the same, or differ in shape. The trail tells which were bound.
 ///
-/// What variables are bound to and is still to be compared stands on a stack of pairs, as copies, so that variables can be bound meanwhile. Two variables are taken apart once.
+/// What variables are bound to and is still to be compared stands on the agenda. Two variables are taken apart once.
 fn solve(
     alloc: Global,
-    types: &mut [TypeVariable],
-    kinds: &mut [Option<KindTerm>],
-    nested: &mut [bool],
-    type_trail: &mut Vec<u64>,
-    kind_trail: &mut Vec<u64>,
+    bindings: &mut Bindings,
+    trail: &mut Trail,
     left: &Ty,
     right: &Ty,
 ) -> Result<bool, Memory>
-    requires sound { IsSound (table types.old kinds.old) }
-    requires marked { AreMarked types.old nested.old }
-    requires left { IsOver (table types.old kinds.old) (term_of left.now) }
-    requires right { IsOver (table types.old kinds.old) (term_of right.now) }
-    ensures narrowed { IsNarrowed (term_of left.now) (term_of right.now) (table types.old kinds.old) (table types.new kinds.new) nested.old nested.new }
-    ensures trailed { AreTrailed (table types.old kinds.old) (table types.new kinds.new) type_trail.old.items type_trail.new.items kind_trail.old.items kind_trail.new.items }
-    ensures answer { IfOk result (IsAnswer (table types.new kinds.new) (term_of left.now) (term_of right.now)) }
+    requires { AreComparable bindings.old (term_of left.now) (term_of right.now) }
+    ensures narrowed { Narrows (term_of left.now) (term_of right.now) bindings.old bindings.new }
+    ensures trailed { IsTrailed (table_of bindings.old) (table_of bindings.new) trail.old trail.new }
+    ensures answer { IfOk result (IsAnswer (table_of bindings.new) (term_of left.now) (term_of right.now)) }
 {
-    let mut work: Vec<(Ty, Ty)> = Vec::new(alloc);
-    let mut seen: IndexSet<(u64, u64)> = IndexSet::new(alloc);
-    compare(
-        alloc, types, kinds, nested, type_trail, kind_trail, &mut work, &mut seen, left, right,
-    )
+    let mut agenda = Agenda::new(alloc);
+    compare(alloc, bindings, trail, &mut agenda, left, right)
 }
 
-/// The same with the stack of what is still to be compared, and the variables that were taken apart, none at first.
+/// The same with an agenda, on which nothing stands at first.
 fn compare(
     alloc: Global,
-    types: &mut [TypeVariable],
-    kinds: &mut [Option<KindTerm>],
-    nested: &mut [bool],
-    type_trail: &mut Vec<u64>,
-    kind_trail: &mut Vec<u64>,
-    work: &mut Vec<(Ty, Ty)>,
-    seen: &mut IndexSet<(u64, u64)>,
+    bindings: &mut Bindings,
+    trail: &mut Trail,
+    agenda: &mut Agenda,
     left: &Ty,
     right: &Ty,
 ) -> Result<bool, Memory>
-    requires sound { IsSound (table types.old kinds.old) }
-    requires marked { AreMarked types.old nested.old }
-    requires left { IsOver (table types.old kinds.old) (term_of left.now) }
-    requires right { IsOver (table types.old kinds.old) (term_of right.now) }
-    requires work { work.old.items ≡ [] }
-    requires seen { seen.old.keys ≡ [] }
-    ensures narrowed { IsNarrowed (term_of left.now) (term_of right.now) (table types.old kinds.old) (table types.new kinds.new) nested.old nested.new }
-    ensures trailed { AreTrailed (table types.old kinds.old) (table types.new kinds.new) type_trail.old.items type_trail.new.items kind_trail.old.items kind_trail.new.items }
-    ensures answer { IfOk result (IsAnswer (table types.new kinds.new) (term_of left.now) (term_of right.now)) }
+    requires comparable { AreComparable bindings.old (term_of left.now) (term_of right.now) }
+    requires empty { agenda_of agenda.old ≡ empty_agenda }
+    ensures narrowed { Narrows (term_of left.now) (term_of right.now) bindings.old bindings.new }
+    ensures trailed { IsTrailed (table_of bindings.old) (table_of bindings.new) trail.old trail.new }
+    ensures answer { IfOk result (IsAnswer (table_of bindings.new) (term_of left.now) (term_of right.now)) }
 {
-    push_copies(alloc, work, left, right)?;
+    push_copies(alloc, &mut agenda.work, left, right)?;
     for _step in 0..MOST_STEPS {
-        let Some(next) = work.pop() else {
+        let Some(next) = agenda.work.pop() else {
             return Ok(true);
         };
-        if !take_apart(
-            alloc, types, kinds, nested, type_trail, kind_trail, work, seen, &next.0, &next.1,
-        )? {
+        if !take_apart(alloc, bindings, trail, agenda, &next.0, &next.1)? {
             return Ok(false);
         }
     }

@@ -2,7 +2,7 @@ use Rattle.std.proofs.Common.{◌≡◌, ◌∷◌, [], ap, subst, sym, List}
 use Rattle.type_terms.specs.Nested.{terms}
 use Rattle.type_terms.specs.Table.{IsOver}
 use Rattle.type_terms.specs.Term.{Term, term_of}
-use Rattle.type_schemes.specs.Walks.{Every, Leads, held}
+use Rattle.type_schemes.specs.Walks.{Every, Leads, held_of}
 use Rattle.type_schemes.proofs.Leads.{ok_then}
 use Rattle.type_schemes.proofs.Names.{held_more}
 use Rattle.type_schemes.proofs.holding.add_name.Goals as goal
@@ -16,8 +16,8 @@ pub returns : goal.returns
 returns c =
     let one : terms c.push.new.self.items ≡ term_of c.args.name.now ∷ [] = ap terms (rw c.new-work.ensures.items at c.in_ok-push.ensures.items) in
     let s = c.args.subst.now in
-    let h = held c.args.types.now.keys c.args.kinds.now.keys c.args.passed.now.keys in
-    let h1 = held c.walk.new.types.keys c.walk.new.kinds.keys c.walk.new.passed.keys in
+    let h = held_of c.args.reached.now in
+    let h1 = held_of c.walk.new.reached in
     ok_then c.walk.result
     (λ w names old. held_more s names (term_of c.args.name.now) h h1 (subst (λ (ts : List Term). Leads s ts [] h h1) one w) old)
     c.walk.ensures

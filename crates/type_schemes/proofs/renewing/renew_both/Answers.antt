@@ -1,4 +1,4 @@
-use Rattle.type_schemes.specs.Walks.{held}
+use Rattle.type_schemes.specs.Walks.{held_of}
 use Rattle.type_schemes.proofs.Names.{renews_all}
 use Rattle.type_schemes.proofs.renewing.renew_both.Goals as goal
 
@@ -11,5 +11,5 @@ renew_kinds-requires c = record { there = c.requires.kinds }
 pub returns : goal.returns
 returns c =
     renews_all c.args.subst.now c.args.type_numbers.now c.args.kind_numbers.now
-    (held c.args.types.now.keys c.args.kinds.now.keys c.args.passed.now.keys) (held c.renew_types.new.types.keys c.renew_types.new.kinds.keys c.renew_types.new.passed.keys) (held c.renew_types.new.types.keys c.renew_kinds.new.kinds.keys c.renew_types.new.passed.keys)
-    c.in_ok-renew_types.ensures (c.in_ok-renew_kinds.ensures c.renew_types.new.types.keys c.renew_types.new.passed.keys)
+    (held_of c.args.reached.now) (held_of c.renew_types.new.reached) (held_of c.renew_kinds.new.reached)
+    c.in_ok-renew_types.ensures c.in_ok-renew_kinds.ensures

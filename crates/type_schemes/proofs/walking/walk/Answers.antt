@@ -3,12 +3,12 @@ use Rattle.type_terms.specs.Nested.{terms}
 use Rattle.type_terms.specs.Table.{IsOver}
 use Rattle.type_terms.specs.Term.{term_of}
 use Rattle.type_terms.proofs.Walks.{popped}
-use Rattle.type_schemes.specs.Walks.{Every, Leads, held}
+use Rattle.type_schemes.specs.Walks.{Every, Leads, held_of}
 use Rattle.type_schemes.proofs.Leads.{every_right, leads_on, leads_same}
 use Rattle.type_schemes.proofs.walking.walk.Goals as goal
 
 pub loop-step-init : goal.loop-step-init
-loop-step-init c = leads_same c.args.subst.now (terms c.args.work.now.items) (held c.args.types.now.keys c.args.kinds.now.keys c.args.passed.now.keys)
+loop-step-init c = leads_same c.args.subst.now (terms c.args.work.now.items) (held_of c.args.reached.now)
 
 pub visit-requires : goal.visit-requires
 visit-requires c = record {
@@ -18,10 +18,10 @@ visit-requires c = record {
 pub loop-step-preserved : goal.loop-step-preserved
 loop-step-preserved c =
     leads_on c.args.subst.now (terms c.args.work.now.items) (terms c.loop-step.work.items) (terms c.visit.new.work.items)
-    (held c.args.types.now.keys c.args.kinds.now.keys c.args.passed.now.keys) (held c.loop-step.types.keys c.loop-step.kinds.keys c.loop-step.passed.keys) (held c.visit.new.types.keys c.visit.new.kinds.keys c.visit.new.passed.keys)
+    (held_of c.args.reached.now) (held_of c.loop-step.reached) (held_of c.visit.new.reached)
     c.loop-step.invariant (rw (popped _ _ _ c.in-Some.ensures.items) c.in_ok-visit.ensures)
 
 pub returns-in_default : goal.returns-in_default
 returns-in_default c =
     let none : c.loop-step.work.items ≡ [] = search rules in
-    subst (λ ts. Leads c.args.subst.now (terms c.args.work.now.items) ts (held c.args.types.now.keys c.args.kinds.now.keys c.args.passed.now.keys) (held c.loop-step.types.keys c.loop-step.kinds.keys c.loop-step.passed.keys)) (ap terms none) c.loop-step.invariant
+    subst (λ ts. Leads c.args.subst.now (terms c.args.work.now.items) ts (held_of c.args.reached.now) (held_of c.loop-step.reached)) (ap terms none) c.loop-step.invariant

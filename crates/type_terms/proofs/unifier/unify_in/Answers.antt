@@ -1,5 +1,6 @@
 use Rattle.std.proofs.Common.{◌≡◌, subst, sym}
-use Rattle.type_terms.specs.Table.{IsOver, table}
+use Rattle.type_terms.specs.Bound.{table_of}
+use Rattle.type_terms.specs.Table.{IsOver}
 use Rattle.type_terms.specs.Term.{term_of}
 use Rattle.type_terms.proofs.Narrowed.{narrowed_both}
 use Rattle.type_terms.proofs.unifier.unify_in.Goals as goal
@@ -15,14 +16,16 @@ returns-in-Clash-clause-unchanged c = (rw c.in-Clash.is at c.in_ok-unify_directl
 
 pub unify_deeply-requires : goal.unify_deeply-requires
 unify_deeply-requires c =
-    let same : table c.unify_directly.new.types c.unify_directly.new.kinds ≡ table c.args.types.now c.args.kinds.now = rw c.in-Apart.is at c.in_ok-unify_directly.ensures.direct in
+    let same : table_of c.unify_directly.new.bindings ≡ table_of c.args.bindings.now = rw c.in-Apart.is at c.in_ok-unify_directly.ensures.direct in
     let h = c.unify_directly.ensures.narrowed in
     record {
-      sound = h.sound;
-      marked = h.marked;
+      comparable = record {
+        sound = h.sound;
+        marked = h.marked;
+        left = subst (λ s. IsOver s (term_of c.args.left.now)) (sym same) c.requires.comparable.left;
+        right = subst (λ s. IsOver s (term_of c.args.right.now)) (sym same) c.requires.comparable.right;
+      };
       counted = c.unify_directly.ensures.counted;
-      left = subst (λ s. IsOver s (term_of c.args.left.now)) (sym same) c.requires.left;
-      right = subst (λ s. IsOver s (term_of c.args.right.now)) (sym same) c.requires.right;
     }
 
 pub returns-in-Apart-clause-narrowed : goal.returns-in-Apart-clause-narrowed
@@ -33,10 +36,10 @@ returns-in-Apart-clause-answer c = c.unify_deeply.ensures.answer
 
 pub returns-in-Apart-clause-unchanged : goal.returns-in-Apart-clause-unchanged
 returns-in-Apart-clause-unchanged c =
-    let same : table c.unify_directly.new.types c.unify_directly.new.kinds ≡ table c.args.types.now c.args.kinds.now = rw c.in-Apart.is at c.in_ok-unify_directly.ensures.direct in
+    let same : table_of c.unify_directly.new.bindings ≡ table_of c.args.bindings.now = rw c.in-Apart.is at c.in_ok-unify_directly.ensures.direct in
     rw (← same) c.unify_deeply.ensures.unchanged
 
 pub returns-in-Apart-clause-err : goal.returns-in-Apart-clause-err
 returns-in-Apart-clause-err c =
-    let same : table c.unify_directly.new.types c.unify_directly.new.kinds ≡ table c.args.types.now c.args.kinds.now = rw c.in-Apart.is at c.in_ok-unify_directly.ensures.direct in
+    let same : table_of c.unify_directly.new.bindings ≡ table_of c.args.bindings.now = rw c.in-Apart.is at c.in_ok-unify_directly.ensures.direct in
     rw (← same) c.unify_deeply.ensures.err

@@ -2,7 +2,7 @@ use Rattle.std.proofs.Common.{◌≡◌, sym, subst, length, true, ℕ, List, No
 use Rattle.type_terms.specs.Table.{bound_at, kind_at}
 use Rattle.type_schemes.specs.Holding.{AreThere, HeldVariables, is_held}
 use Rattle.type_schemes.specs.Renewing.{AreHeldBy, FindsBut}
-use Rattle.type_schemes.specs.Walks.{held}
+use Rattle.type_schemes.specs.Walks.{held, held_of}
 use Rattle.type_schemes.proofs.Leads.{ok_then}
 use Rattle.type_schemes.proofs.Names.{found_there, held_later}
 use Rattle.type_schemes.proofs.holding.Held.renew_bound.Goals as goal
@@ -11,7 +11,7 @@ pub renew_both-requires : goal.renew_both-requires
 renew_both-requires c =
     let s = c.args.subst.now in
     let seen = subst (AreThere s) (sym c.self.view_is) c.requires.there in
-    let there : AreThere s (held c.self.inside.types.keys c.self.inside.kinds.keys c.self.inside.passed.keys) = record { types = seen.types; kinds = seen.kinds } in
+    let there : AreThere s (held_of c.self.inside.reached) = record { types = seen.types; kinds = seen.kinds } in
     record {
       types = λ k e. found_there (length s.types) c.as_slice.result.now c.push_bound_types.new.found.items (λ j. bound_at s.types j ≡ None) c.in_ok-push_bound_types.ensures
           (λ j f. there.types j (subst (λ (xs : List ℕ). is_held xs j ≡ true) c.as_slice.ensures.keys f)) k (subst (λ (xs : List ℕ). is_held xs k ≡ true) c.deref.ensures.value e);
@@ -22,14 +22,14 @@ renew_both-requires c =
 pub returns : goal.returns
 returns c =
     let t = c.args.subst.now in
-    let h = held c.self.inside.types.keys c.self.inside.kinds.keys c.self.inside.passed.keys in
-    let h1 = held c.renew_both.new.types.keys c.renew_both.new.kinds.keys c.renew_both.new.passed.keys in
+    let h = held_of c.self.inside.reached in
+    let h1 = held_of c.renew_both.new.reached in
     let seen = subst (AreThere t) (sym c.self.view_is) c.requires.there in
     let there : AreThere t h = record { types = seen.types; kinds = seen.kinds } in
-    let types : FindsBut (λ j. bound_at t.types j ≡ None) c.self.inside.types.keys c.deref.result.now =
+    let types : FindsBut (λ j. bound_at t.types j ≡ None) c.self.inside.reached.types.keys c.deref.result.now =
     subst (λ (xs : List ℕ). FindsBut (λ j. bound_at t.types j ≡ None) xs c.deref.result.now) c.as_slice.ensures.keys
     (subst (λ (ys : List ℕ). FindsBut (λ j. bound_at t.types j ≡ None) c.as_slice.result.now ys) (sym c.deref.ensures.value) c.in_ok-push_bound_types.ensures) in
-    let kinds : FindsBut (λ j. kind_at t.kinds j ≡ None) c.self.inside.kinds.keys c.deref-2.result.now =
+    let kinds : FindsBut (λ j. kind_at t.kinds j ≡ None) c.self.inside.reached.kinds.keys c.deref-2.result.now =
     subst (λ (xs : List ℕ). FindsBut (λ j. kind_at t.kinds j ≡ None) xs c.deref-2.result.now) c.as_slice-2.ensures.keys
     (subst (λ (ys : List ℕ). FindsBut (λ j. kind_at t.kinds j ≡ None) c.as_slice-2.result.now ys) (sym c.deref-2.ensures.value) c.in_ok-push_bound_kinds.ensures) in
     record {

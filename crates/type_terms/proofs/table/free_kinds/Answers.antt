@@ -1,5 +1,5 @@
 use Rattle.type_terms.proofs.Trails.{kind_trail_pop, kind_trail_inside, kind_trail_done}
-use Rattle.type_terms.proofs.unifier.free_kinds.Goals as goal
+use Rattle.type_terms.proofs.table.free_kinds.Goals as goal
 
 pub free_kind-requires : goal.free_kind-requires
 free_kind-requires c = kind_trail_inside c.args.trail.now c.loop-x.x-index c.requires.0 c.loop-x.kinds c.loop-x-test.true (c.loop-x.invariant c.requires.0 c.requires.1)

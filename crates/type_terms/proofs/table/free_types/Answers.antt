@@ -1,5 +1,5 @@
 use Rattle.type_terms.proofs.Trails.{trail_pop, trail_inside, trail_done}
-use Rattle.type_terms.proofs.unifier.free_types.Goals as goal
+use Rattle.type_terms.proofs.table.free_types.Goals as goal
 
 pub free_type-requires : goal.free_type-requires
 free_type-requires c = trail_inside c.args.trail.now c.loop-x.x-index c.requires.0 c.loop-x.types c.loop-x-test.true (c.loop-x.invariant c.requires.0 c.requires.1)
