@@ -23,6 +23,8 @@ mod random_ops_tests;
 #[cfg(test)]
 mod seed_words_tests;
 #[cfg(test)]
+mod segments_tests;
+#[cfg(test)]
 mod small_engines;
 #[cfg(test)]
 mod small_plans;

@@ -55,7 +55,7 @@ pub(crate) fn one_file(alloc: Global) -> Result<Library, AllocError>
 pub(crate) fn one_sink(alloc: Global, fails: Vec<(u64, u64)>) -> Result<Vec<MemSink>, Fail>
     ensures { IfOk result (λ outs. length outs.items ≡ 1) }
 {
-    let out = MemSink::new(alloc, 64, fails)?;
+    let out = MemSink::new(alloc, 20_000, fails)?;
     let outs = vec![in alloc; out]?;
     Ok(outs)
 }

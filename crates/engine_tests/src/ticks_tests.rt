@@ -66,8 +66,8 @@ fn turns(alloc: Global, seed: u64, node: u32) -> Result<Plan, AllocError>
     })
 }
 
-// The file, which the first of three nodes plays.
-fn one_of_three(alloc: Global) -> Result<Library, AllocError>
+/// The file, which the first of three nodes plays.
+pub(crate) fn one_of_three(alloc: Global) -> Result<Library, AllocError>
     ensures library { IfOk result (λ library. IsLibrary library) }
     ensures leaves { IfOk result (λ library. length library.leaves ≡ 3) }
 {
@@ -215,8 +215,8 @@ fn check_segments(
     }
 }
 
-// The same over the clocks that the plan has.
-fn check_tick(
+/// A tick of the clock 0 of a plan has so many segments, and writes these bytes.
+pub(crate) fn check_tick(
     rt: &impl Abort,
     alloc: Global,
     plan: &Plan,

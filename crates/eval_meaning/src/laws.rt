@@ -10,8 +10,6 @@ ghost use Rattle.script_grammar.specs.Tree.{Script};
 ghost use Rattle.typing_rules.specs.Answers.{IsTyped, IsTypedScript};
 ghost use Rattle.typing_rules.specs.declared.uses.Use.{Use};
 
-use script_grammar::laws::ats_are_within;
-
 /// A call of a builtin with arguments of the types of its row, and with its open kinds, gives a value of the type of its
 /// row or a fault that is told, and keeps the nodes that are there.
 pub fn builtins_are_safe()
@@ -32,6 +30,5 @@ pub fn typed_scripts_are_not_stuck()
 pub fn one_plan()
     ensures one { (script : Script) (uses others : List Use) → IsPlaced 0 script → IsTyped script uses → IsTyped script others → evaluation script uses ≡ evaluation script others }
 {
-    // a law of the grammar, which the proof rests on: this call does nothing
-    ats_are_within();
+    script_grammar::laws::ats_are_within();
 }

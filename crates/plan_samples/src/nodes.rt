@@ -6,10 +6,7 @@ ghost use Rattle.plan_samples.specs.Stereos.{blank, stereo_node, IsStereo};
 
 use fixed_text::Decimal;
 use liq_base::{Kind, Memory, Text};
-use plan_core::{
-    Draft, Items, Node, Op, PlanFault, crossfades_rest_on_nodes_below,
-    only_crossfades_add_crossfades,
-};
+use plan_core::{Draft, Items, Node, Op, PlanFault, laws};
 use std::alloc::Global;
 
 // Adds a blank, and answers its number.
@@ -62,7 +59,7 @@ pub(crate) fn push_crossfade(alloc: Global, draft: &mut Draft, child: u32) -> Re
     ensures number { IfOk result (λ number. number ≡ length draft.old.nodes) }
     ensures size { OnOk result (length draft.new.nodes ≡ length draft.old.nodes + 1) }
 {
-    crossfades_rest_on_nodes_below();
+    laws::crossfades_rest_on_nodes_below();
     let number = push_stereo(draft, Op::Crossfade { overlap: 22 }, one(alloc, child)?)?;
     Ok(number)
 }
@@ -124,7 +121,7 @@ fn push_plain(draft: &mut Draft, op: Op, children: Vec<u32>) -> Result<u32, Plan
     ensures added { OnOk result (draft.new ≡ with_node draft.old (stereo_node op children.items)) }
     ensures number { IfOk result (λ number. number ≡ length draft.old.nodes) }
 {
-    only_crossfades_add_crossfades();
+    laws::only_crossfades_add_crossfades();
     let number = push_stereo(draft, op, children)?;
     Ok(number)
 }

@@ -6,7 +6,7 @@ ghost use Rattle.plan_samples.specs.Stereos.{IsStereo};
 
 use crate::nodes::{push_amplified, push_blank, push_clock, push_crossfade, push_sum};
 use liq_base::{Memory, Text};
-use plan_core::{Draft, Plan, PlanFault, an_empty_plan_is_well_formed};
+use plan_core::{Draft, Plan, PlanFault, laws};
 use std::alloc::Global;
 
 /// A stereo plan of so many nodes: a blank, and nodes that amplify it by 1. With `chained` each stands over the one
@@ -61,7 +61,7 @@ pub(crate) fn begun(alloc: Global) -> Draft
     ensures nodes { result.nodes ≡ [] }
     ensures sinks { result.sinks ≡ [] }
 {
-    an_empty_plan_is_well_formed();
+    laws::an_empty_plan_is_well_formed();
     Draft::new(alloc, 44_100, 1764)
 }
 

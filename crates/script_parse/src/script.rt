@@ -13,7 +13,7 @@ ghost use Rattle.script_parse.specs.Answer.{Whole, IsShallow, IsFault};
 use crate::fault::{ParseFault, Refusal};
 use liq_base::limits::MAX_NESTING;
 use parse_base::Fault;
-use script_grammar::laws::{faults_are_steady, one_placed_script, reads_again, reads_spellings};
+use script_grammar::laws;
 use script_grammar::tree::Script;
 use script_lex::{Keyword, Symbol, Token, TokenKind};
 use statement_parse::statements;
@@ -40,8 +40,7 @@ pub fn parse(alloc: Global, _text: &[u8], tokens: &[Token]) -> Result<Script, Pa
     ensures only_fault { (e : FaultOfTokens) → IsFault (kinds tokens.now) e
         → (result ≡ Err e) ⊎ (result ≡ Err ParseFault.Memory) }
 {
-    // a law of the grammar, which the proof rests on: this call does nothing
-    one_placed_script();
+    laws::one_placed_script();
     answer(alloc, tokens)
 }
 
@@ -89,10 +88,9 @@ fn whole(alloc: Global, tokens: &[Token]) -> Result<Script, Refusal>
     requires { length tokens.now < 2 ^ 32 }
     ensures { Whole (kinds tokens.now) result }
 {
-    // laws of the crates below, which the proof rests on: these calls do nothing
-    reads_again();
-    reads_spellings();
-    faults_are_steady();
+    laws::reads_again();
+    laws::reads_spellings();
+    laws::faults_are_steady();
     match statements(alloc, tokens.len(), tokens) {
         Ok((statements, _end)) => Ok(Script { statements }),
         Err(Fault::Syntax(left)) => Err(Refusal::At(tokens.len() - left)),

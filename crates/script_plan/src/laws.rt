@@ -4,16 +4,12 @@ ghost use Rattle.plan_core.specs.declared.plan.Plan.{Plan};
 ghost use Rattle.script_plan.specs.declared.fault.ScriptFault.{ScriptFault};
 ghost use Rattle.script_plan.specs.Plans.{IsPlan, IsPlanFault};
 
-use eval_meaning::laws::one_plan;
-use script_parse::laws::one_fault;
-
 /// A text has one plan or one fault at most, and never both.
 pub fn one_answer()
     ensures plan { (text : List ℕ) (p q : Plan) → IsPlan text p → IsPlan text q → p ≡ q }
     ensures apart { (text : List ℕ) (p : Plan) (f : ScriptFault) → IsPlan text p → IsPlanFault text f → ⊥ }
     ensures fault { (text : List ℕ) (f g : ScriptFault) → IsPlanFault text f → IsPlanFault text g → f ≡ g }
 {
-    // laws of parsing and of evaluation, which the proof rests on: these calls do nothing
-    one_fault();
-    one_plan();
+    script_parse::laws::one_fault();
+    eval_meaning::laws::one_plan();
 }

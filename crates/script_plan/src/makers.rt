@@ -13,7 +13,7 @@ ghost use Rattle.typing_rules.specs.Answers.{IsTyped};
 
 use crate::fault::ScriptFault;
 use crate::plan::{script_of, uses_of};
-use eval_meaning::laws::one_plan;
+use eval_meaning::laws;
 use script_eval::maker;
 use script_grammar::tree::Script;
 use std::alloc::Global;
@@ -38,8 +38,7 @@ fn maker_in_script(alloc: Global, script: &Script, source: u64) -> Result<Option
     ensures none { IfOk result (λ number. number ≡ None → (p : Plan) → HasPlan (view_script script.now) p → length p.nodes ≤ source) }
     ensures fault { IfErr result (IsOfScript (view_script script.now)) }
 {
-    // a law of evaluation, which the proof rests on: this call does nothing
-    one_plan();
+    laws::one_plan();
     let uses = uses_of(alloc, script)?;
     found(alloc, script, &uses, source)
 }

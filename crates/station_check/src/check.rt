@@ -1,13 +1,12 @@
 // Whether a plan is rendered.
-ghost use Rattle.std.specs.Prelude.{◌≡◌, ◌≤◌, ℕ, None, IfOk, IfErr};
+ghost use Rattle.std.specs.Prelude.{◌≡◌, ◌≤◌, None, IfOk, IfErr, OnOk};
 ghost use Rattle.std.specs.Option.{ForSome};
 ghost use Rattle.plan_core.specs.Plans.{IsWellFormed};
 ghost use Rattle.frame_core.specs.Library.{Sounds, IsLibrary};
 ghost use Rattle.liq_base.specs.Files.{Files};
-ghost use Rattle.clock_infer.specs.Answers.{IsClockMap};
 ghost use Rattle.stations.specs.Findings.{Fails, Fits, IsFit, IsFound, IsLoaded, first_name, is_too_long};
 ghost use Rattle.station_check.specs.Halts.{HaltsFor, RestHalts};
-ghost use Rattle.station_check.specs.Steps.{FitsBy};
+ghost use Rattle.station_check.specs.Steps.{FitsBy, IsUngapped, OnlyClocks};
 
 use crate::Halt;
 use crate::clocks::find_clocks;
@@ -35,8 +34,9 @@ pub fn check_plan<S: Shelf>(
     ensures found { IfOk result (λ ready. ForSome (S.files shelf.old) (λ files. IsFound files plan.now ticks (Fits ready.library ready.clocks))) }
     // What is refused is refused for the fault that is found, and nothing else is; `Read` comes only where a read failed.
     ensures fault { IfErr result (HaltsFor (S.files shelf.old) (S.read_count shelf.old) (S.read_count shelf.new) (λ files fault. IsFound files plan.now ticks (Fails fault))) }
-    // Whatever the shelf tells, what is answered can be rendered.
+    // Whatever the shelf tells, what is answered can be rendered, and no output that needs an infallible source lacks one.
     ensures fit { IfOk result (λ ready. IsFit plan.now ready.library ready.clocks ticks) }
+    ensures safe { OnOk result (IsUngapped plan.now) }
     ensures files { S.files shelf.new ≡ S.files shelf.old }
     ensures created { S.created shelf.new ≡ S.created shelf.old }
     ensures closed { S.closed shelf.new ≡ S.closed shelf.old }
@@ -61,6 +61,10 @@ pub fn check_clocks<S: Shelf>(
     requires few { ticks ≤ 1000000000 }
     // The plan is found to be one with some audio files and these clocks, and nothing else is found.
     ensures found { IfOk result (λ clocks. ForSome (S.files shelf.old) (λ files. FitsBy files plan.now ticks clocks)) }
+    // Whatever the shelf tells, they are the clocks of the plan, which has no others, and the plan has no other fault than one of files.
+    ensures map { IfOk result (λ clocks. OnlyClocks plan.now clocks) }
+    ensures safe { OnOk result (IsUngapped plan.now) }
+    ensures short { OnOk result (first_name (is_too_long plan.now ticks) plan.now.sinks ≡ None) }
     ensures fault { IfErr result (HaltsFor (S.files shelf.old) (S.read_count shelf.old) (S.read_count shelf.new) (λ files fault. IsFound files plan.now ticks (Fails fault))) }
     ensures files { S.files shelf.new ≡ S.files shelf.old }
     ensures created { S.created shelf.new ≡ S.created shelf.old }
@@ -78,8 +82,9 @@ fn check_rest(alloc: Global, plan: &Plan, ticks: u64) -> Result<ClockMap, Halt>
     requires plan { IsWellFormed plan.now }
     requires few { ticks ≤ 1000000000 }
     ensures found { IfOk result (λ clocks. (files : Files) (library : Sounds) → IsLoaded files plan.now library → IsLibrary library → IsFound files plan.now ticks (Fits library clocks)) }
-    ensures map { IfOk result (λ clocks. IsClockMap plan.now clocks) }
-    ensures short { IfOk result (λ clocks. first_name (is_too_long plan.now ticks) plan.now.sinks ≡ None) }
+    ensures map { IfOk result (λ clocks. OnlyClocks plan.now clocks) }
+    ensures safe { OnOk result (IsUngapped plan.now) }
+    ensures short { OnOk result (first_name (is_too_long plan.now ticks) plan.now.sinks ≡ None) }
     ensures fault { IfErr result (RestHalts plan.now ticks) }
 {
     check_gaps(alloc, plan)?;

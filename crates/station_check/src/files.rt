@@ -1,11 +1,9 @@
 // The audio files of a plan.
-ghost use Rattle.std.specs.Prelude.{◌≡◌, ◌≤◌, ℕ, length, IfOk, IfErr};
-ghost use Rattle.std.specs.Option.{ForSome};
+ghost use Rattle.std.specs.Prelude.{◌≡◌, ◌≤◌, ℕ, IfOk, IfErr};
 ghost use Rattle.plan_core.specs.Plans.{IsWellFormed};
-ghost use Rattle.frame_core.specs.Library.{IsLibrary};
-ghost use Rattle.stations.specs.Findings.{Fails, IsFound, IsLoaded};
+ghost use Rattle.stations.specs.Findings.{Fails, IsFound, rules_of};
 ghost use Rattle.station_check.specs.Halts.{HaltsFor, load_halt};
-ghost use Rattle.track_library.specs.Singles.{HaveSingles};
+ghost use Rattle.track_library.specs.Loads.{AreLoaded};
 
 use crate::Halt;
 use liq_base::Shelf;
@@ -18,10 +16,7 @@ use track_library::{LoadFault, PlanFiles, Sizes, find_files};
 /// The audio files of a plan, each read once and none decoded; or the first fault of their loading.
 pub fn read_files<S: Shelf>(alloc: Global, plan: &Plan, shelf: &mut S) -> Result<PlanFiles, Halt>
     requires { IsWellFormed plan.now }
-    ensures loaded { IfOk result (λ library. ForSome (S.files shelf.old) (λ files. IsLoaded files plan.now library)) }
-    ensures library { IfOk result (λ library. IsLibrary library) }
-    ensures leaves { IfOk result (λ library. length library.leaves ≡ length plan.now.nodes) }
-    ensures singles { IfOk result (λ library. HaveSingles plan.now.nodes library.leaves) }
+    ensures loaded { IfOk result (AreLoaded (S.files shelf.old) (rules_of plan.now) plan.now.nodes) }
     ensures fault { IfErr result (HaltsFor (S.files shelf.old) (S.read_count shelf.old) (S.read_count shelf.new)
         (λ files fault. (ticks : ℕ) → IsFound files plan.now ticks (Fails fault))) }
     ensures files { S.files shelf.new ≡ S.files shelf.old }

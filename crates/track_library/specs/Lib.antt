@@ -4,3 +4,4 @@ pub mod Reads
 pub mod States
 pub mod Singles
 pub mod Files
+pub mod Loads

@@ -3,9 +3,10 @@ ghost use Rattle.std.specs.Prelude.{◌≡◌, ◌≤◌, ◌<◌, ◌^◌, [], 
 ghost use Rattle.std.specs.List.{All};
 ghost use Rattle.std.specs.Option.{ForSome};
 ghost use Rattle.frame_core.specs.Library.{IsLibrary};
-ghost use Rattle.track_library.specs.Walk.{Ends, entries_played, leaf_of, load_of, nothing_met, single_leaf, use_audio};
-ghost use Rattle.track_library.specs.Reads.{EntriesRead, FirstRead, LeafReads, LoadReads};
-ghost use Rattle.track_library.specs.Singles.{HasOne, HaveSingles};
+ghost use Rattle.track_library.specs.Walk.{Ends, entries_played, leaf_of, nothing_met, single_leaf, use_audio};
+ghost use Rattle.track_library.specs.Loads.{AreLoaded, LoadEnds, rules_for};
+ghost use Rattle.track_library.specs.Reads.{EntriesRead, FirstRead, LeafReads};
+ghost use Rattle.track_library.specs.Singles.{HasOne};
 ghost use Rattle.track_library.specs.States.{heard_of, AreRules, IsHeard, Plays, walked_of, with_found};
 
 use crate::audio::AudioFiles;
@@ -102,16 +103,9 @@ pub fn load<S: Shelf>(
     shelf: &mut S,
     sizes: Sizes,
 ) -> Result<Library, LoadFault>
-    requires least { 8000 ≤ plan.now.rate }
-    requires most { plan.now.rate ≤ 192000 }
-    requires file { sizes.file ≤ 268435456 }
-    ensures loaded { IfOk result (λ library. ForSome (S.files shelf.old) (λ files. load_of (record { rate = plan.now.rate; file = sizes.file; all = sizes.all }) files plan.now.nodes ≡ Ok library)) }
-    ensures leaves { IfOk result (λ library. length library.leaves ≡ length plan.now.nodes) }
-    ensures singles { IfOk result (λ library. HaveSingles plan.now.nodes library.leaves) }
-    ensures library { IfOk result IsLibrary }
-    ensures fault { IfErr result (Ends (S.files shelf.old) (S.read_count shelf.old) (S.read_count shelf.new)
-        (λ files. LoadReads (record { rate = plan.now.rate; file = sizes.file; all = sizes.all }) files plan.now.nodes)
-        (λ files. load_of (record { rate = plan.now.rate; file = sizes.file; all = sizes.all }) files plan.now.nodes)) }
+    requires { AreRules (rules_for plan.now sizes) }
+    ensures loaded { IfOk result (AreLoaded (S.files shelf.old) (rules_for plan.now sizes) plan.now.nodes) }
+    ensures fault { IfErr result (LoadEnds (S.files shelf.old) (S.read_count shelf.old) (S.read_count shelf.new) (rules_for plan.now sizes) plan.now.nodes) }
     ensures files { S.files shelf.new ≡ S.files shelf.old }
     ensures created { S.created shelf.new ≡ S.created shelf.old }
     ensures closed { S.closed shelf.new ≡ S.closed shelf.old }
@@ -129,16 +123,9 @@ pub fn find_files<S: Shelf>(
     shelf: &mut S,
     sizes: Sizes,
 ) -> Result<PlanFiles, LoadFault>
-    requires least { 8000 ≤ plan.now.rate }
-    requires most { plan.now.rate ≤ 192000 }
-    requires file { sizes.file ≤ 268435456 }
-    ensures loaded { IfOk result (λ library. ForSome (S.files shelf.old) (λ files. load_of (record { rate = plan.now.rate; file = sizes.file; all = sizes.all }) files plan.now.nodes ≡ Ok library)) }
-    ensures leaves { IfOk result (λ library. length library.leaves ≡ length plan.now.nodes) }
-    ensures singles { IfOk result (λ library. HaveSingles plan.now.nodes library.leaves) }
-    ensures library { IfOk result IsLibrary }
-    ensures fault { IfErr result (Ends (S.files shelf.old) (S.read_count shelf.old) (S.read_count shelf.new)
-        (λ files. LoadReads (record { rate = plan.now.rate; file = sizes.file; all = sizes.all }) files plan.now.nodes)
-        (λ files. load_of (record { rate = plan.now.rate; file = sizes.file; all = sizes.all }) files plan.now.nodes)) }
+    requires { AreRules (rules_for plan.now sizes) }
+    ensures loaded { IfOk result (AreLoaded (S.files shelf.old) (rules_for plan.now sizes) plan.now.nodes) }
+    ensures fault { IfErr result (LoadEnds (S.files shelf.old) (S.read_count shelf.old) (S.read_count shelf.new) (rules_for plan.now sizes) plan.now.nodes) }
     ensures files { S.files shelf.new ≡ S.files shelf.old }
     ensures created { S.created shelf.new ≡ S.created shelf.old }
     ensures closed { S.closed shelf.new ≡ S.closed shelf.old }

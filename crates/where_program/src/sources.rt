@@ -17,8 +17,7 @@ use script_grammar::tree::Script;
 use script_lex::{Token, lex};
 use script_parse::parse;
 use script_places::first_token;
-use script_plan::laws::one_answer;
-use script_plan::{ScriptFault, maker_of};
+use script_plan::{ScriptFault, laws, maker_of};
 use std::alloc::Global;
 
 /// The byte at which the call begins that makes the source of this number: where a call of a def makes it, that call; where
@@ -27,8 +26,7 @@ pub fn source_place(alloc: Global, text: &[u8], source: u64) -> Result<Option<us
     ensures place { IfOk result (λ at. IfSome at (IsSourceAt text.now source)) }
     ensures none { IfOk result (λ at. at ≡ None → (plan : Plan) → IsPlan text.now plan → length plan.nodes ≤ source) }
 {
-    // a law of plans, which the proof rests on: this call does nothing
-    one_answer();
+    laws::one_answer();
     match maker_of(alloc, text, source) {
         Ok(Some(number)) => {
             // the statement is there, so nothing is want of memory

@@ -8,7 +8,7 @@ returns-in_err-files-clause-fault g c =
     (load_ends _ _ _ _ c.args.ticks _ c.in_err-files.ensures.fault)
 
 pub returns-clause-found : goal.returns-clause-found
-returns-clause-found g c = rest_fits _ _ _ _ _ c.in_ok-files.ensures.loaded c.in_ok-files.ensures.library c.check_rest.ensures.found
+returns-clause-found g c = rest_fits _ _ _ _ _ c.in_ok-files.ensures.loaded.loaded c.in_ok-files.ensures.loaded.sounds c.check_rest.ensures.found
 
 pub returns-clause-fault : goal.returns-clause-fault
-returns-clause-fault g c = rest_fails _ _ _ _ _ _ _ c.in_ok-files.ensures.loaded c.check_rest.ensures.fault
+returns-clause-fault g c = rest_fails _ _ _ _ _ _ _ c.in_ok-files.ensures.loaded.loaded c.check_rest.ensures.fault

@@ -13,23 +13,23 @@ returns-in_err-files-clause-fault g c =
 pub returns-in_err-clocks-clause-fault : goal.returns-in_err-clocks-clause-fault
 returns-in_err-clocks-clause-fault g c =
     let p = err_from_is_err_and c.from_residual-in_err-clocks.result c.from_residual-in_err-clocks.ensures.1 in rw (p.1, p.2)
-    (rest_ends _ _ _ c.args.plan.now c.args.ticks c.in_ok-files.files _ c.in_ok-files.ensures.loaded c.in_err-clocks.ensures.fault)
+    (rest_ends _ _ _ c.args.plan.now c.args.ticks c.in_ok-files.files _ c.in_ok-files.ensures.loaded.loaded c.in_err-clocks.ensures.fault)
 
 pub returns-clause-found : goal.returns-clause-found
 returns-clause-found g c = λ files told.
     let same : c.in_ok-library.library ≡ c.in_ok-files.files = c.in_ok-library.ensures.library in
     subst (λ (l : Sounds). IsFound files c.args.plan.now c.args.ticks (Fits l c.in_ok-clocks.clocks)) (sym same)
-    (c.in_ok-clocks.ensures.found files c.in_ok-files.files (c.in_ok-files.ensures.loaded files told) c.in_ok-files.ensures.library)
+    (c.in_ok-clocks.ensures.found files c.in_ok-files.files (c.in_ok-files.ensures.loaded.loaded files told) c.in_ok-files.ensures.loaded.sounds)
 
 pub returns-clause-fit : goal.returns-clause-fit
 returns-clause-fit g c =
     let same : c.in_ok-library.library ≡ c.in_ok-files.files = c.in_ok-library.ensures.library in
     subst (λ (l : Sounds). IsFit c.args.plan.now l c.in_ok-clocks.clocks c.args.ticks) (sym same) (record {
       plan_is = c.requires.plan;
-      sounds = c.in_ok-files.ensures.library;
-      leaves = c.in_ok-files.ensures.leaves;
-      singles = c.in_ok-files.ensures.singles;
-      map = c.in_ok-clocks.ensures.map;
+      sounds = c.in_ok-files.ensures.loaded.sounds;
+      leaves = c.in_ok-files.ensures.loaded.leaves;
+      singles = c.in_ok-files.ensures.loaded.singles;
+      map = c.in_ok-clocks.ensures.map.map;
       few = c.requires.few;
       none = c.in_ok-clocks.ensures.short;
     })

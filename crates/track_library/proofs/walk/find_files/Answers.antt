@@ -1,11 +1,14 @@
-use Rattle.std.proofs.Common.{rules, arith, length, length-append, ◌≡◌, ◌∙◌, ◌+◌, ◌∷◌, ◌++◌, [], List, ℕ, ap, sym, subst, drop}
-use Rattle.std.specs.Prelude.{Ok}
+use Rattle.std.proofs.Common.{rules, arith, length, length-append, ◌≡◌, ◌≤◌, ◌∙◌, ◌+◌, ◌∷◌, ◌++◌, [], List, ℕ, ap, sym, subst, drop}
+use Rattle.std.specs.Prelude.{Ok, Result}
+use Rattle.std.proofs.lemmas.List.{at_drop_all}
+use Rattle.plan_core.specs.declared.node.Node.{Node}
 use Rattle.track_library.specs.Walk.{Ends, load_of, leaf_of, leaf_added, nodes_walked, sounds_of}
 use Rattle.frame_core.specs.Library.{Sounds}
 use Rattle.track_library.specs.Reads.{LeafReads, LoadReads}
 use Rattle.track_library.specs.Singles.{HaveSingles}
 use Rattle.track_library.specs.States.{heard_of, walked_of}
 use Rattle.track_library.specs.declared.rules.Rules.{Rules}
+use Rattle.track_library.specs.declared.fault.LoadFault.{LoadFault}
 use Rattle.track_library.proofs.Ending.{ends_through}
 use Rattle.track_library.proofs.Leaves.{LeavesSoFar, one_leaf_more}
 use Rattle.track_library.proofs.OneFile.{SinglesSoFar, all_singles, one_single_more}
@@ -70,8 +73,24 @@ loop-node-preserved g c =
       c.in_ok-leaf.ensures.closed ∙ c.loop-node.invariant.9,
     )
 
-pub returns-clause-singles : goal.returns-clause-singles
-returns-clause-singles g c =
+pub returns-clause-loaded : goal.returns-clause-loaded
+returns-clause-loaded g c =
+    let by : Rules = record { rate = c.args.plan.now.rate; file = c.args.sizes.file; all = c.args.sizes.all } in
     let leaves = c.loop-node.leaves in
-    subst (λ (ls : List (List ℕ)). HaveSingles c.args.plan.now.nodes ls) (sym (ap (λ (s : Sounds). s.leaves) c.into_files.ensures.same))
-    (all_singles c.as_slice-node-items.result.now c.args.plan.now.nodes c.loop-node.node-index leaves c.as_slice-node-items.ensures (λ low. omega (arith, low, c.loop-node-test.false)) c.loop-node.invariant.7)
+    let long : length c.as_slice-node-items.result.now ≡ length c.args.plan.now.nodes = ap length c.as_slice-node-items.ensures in
+    let low : length c.args.plan.now.nodes ≤ c.loop-node.node-index = omega (arith, long, c.loop-node-test.false) in
+    let high : c.loop-node.node-index ≤ length c.args.plan.now.nodes = omega (arith, long, c.loop-node.auto.node-index-end) in
+    let many : length c.into_files.result.leaves ≡ length leaves = ap (λ (s : Sounds). length s.leaves) c.into_files.ensures.same in
+    let same : ◌≡◌ {A = Result Sounds LoadFault} (Ok (record { files = c.loop-node.walk.audio.files.items; names = c.loop-node.walk.audio.titles.items; leaves = leaves })) (Ok c.into_files.result) =
+    ap Ok (sym c.into_files.ensures.same) in
+    record {
+      loaded = λ files t.
+          ap sounds_of
+          (c.loop-node.invariant.4 files t
+          ∙ at_drop_all (λ (nodes : List Node). nodes_walked by files nodes (Ok (walked_of c.loop-node.walk, leaves))) c.args.plan.now.nodes c.loop-node.node-index low)
+          ∙ same;
+      leaves = omega (arith, many, low, high, c.loop-node.invariant.6);
+      singles = subst (λ (ls : List (List ℕ)). HaveSingles c.args.plan.now.nodes ls) (sym (ap (λ (s : Sounds). s.leaves) c.into_files.ensures.same))
+          (all_singles c.as_slice-node-items.result.now c.args.plan.now.nodes c.loop-node.node-index leaves c.as_slice-node-items.ensures (λ below. omega (arith, below, c.loop-node-test.false)) c.loop-node.invariant.7);
+      sounds = c.into_files.ensures.library;
+    }
