@@ -7,6 +7,7 @@ ghost use Rattle.stream_meaning.specs.Arithmetic.{mix_slot};
 ghost use Rattle.node_mixing.specs.Mixings.{mixing_of};
 ghost use Rattle.node_mixing.specs.Runs.{AreHeard, changed_left, changed_right, first_that_gives, levels_of, many_give, offers_in, samples_of, summed_lanes};
 
+use crate::before::Before;
 use crate::mixer::Mixer;
 use crate::room::Sums;
 use crate::walk::{first_that_offers, offers, samples_of};
@@ -14,14 +15,12 @@ use sample_kernels::{add_into, clamp_all, divide, halves, scale};
 use stream_meaning::Part;
 
 impl Mixer {
-    /// The samples of a node in a run, over the lanes of the nodes before it, on both sides. A child is heard
-    /// where it offers by these parts. Where none does nothing is written. It takes no memory.
+    /// The samples of a node in a stretch, on both sides, over what the nodes before it gave. A child is heard where it
+    /// offers by its part there. Where none does nothing is written. It takes no memory.
     pub fn run(
         &self,
         children: &[u32],
-        parts: &[Part],
-        before_left: &[Vec<i16>],
-        before_right: &[Vec<i16>],
+        before: &Before<'_>,
         sums: &mut Sums,
         left: &mut [i16],
         right: &mut [i16],
@@ -30,16 +29,16 @@ impl Mixer {
         requires same { length right.old ≡ length left.old }
         requires short { length left.old ≤ 1024 }
         ensures lane { (slots : ℕ → ℕ → Slot)
-            → AreHeard slots (offers_in parts.now) (λ child. samples_of before_left.now child (length left.old)) (λ child. samples_of before_right.now child (length left.old)) (length left.old) children.now
-            → 0 < many_give (offers_in parts.now) children.now
+            → AreHeard slots (offers_in before.now.parts.now) (λ child. samples_of before.now.left.now child (length left.old)) (λ child. samples_of before.now.right.now child (length left.old)) (length left.old) children.now
+            → 0 < many_give (offers_in before.now.parts.now) children.now
             → IsLane (λ j. mix_slot (mixing_of self.now) (map (slots j) children.now)) (length left.old) left.new right.new }
     {
         match self {
             Mixer::Adds { normalize } => {
-                sums.sum(children, parts, before_left, *normalize, left);
-                sums.sum(children, parts, before_right, *normalize, right);
+                sums.sum(children, before.parts, before.left, *normalize, left);
+                sums.sum(children, before.parts, before.right, *normalize, right);
             }
-            _ => self.change_first(children, parts, before_left, before_right, left, right),
+            _ => self.change_first(children, before, left, right),
         }
     }
 
@@ -47,25 +46,23 @@ impl Mixer {
     fn change_first(
         &self,
         children: &[u32],
-        parts: &[Part],
-        before_left: &[Vec<i16>],
-        before_right: &[Vec<i16>],
+        before: &Before<'_>,
         left: &mut [i16],
         right: &mut [i16],
     )
         requires same { length right.old ≡ length left.old }
         requires short { length left.old ≤ 1024 }
-        ensures left { (first : ℕ) → first_that_gives (offers_in parts.now) children.now ≡ Some first
-            → left.new ≡ changed_left (mixing_of self.now) (samples_of before_left.now first (length left.old)) (samples_of before_right.now first (length left.old)) }
-        ensures right { (first : ℕ) → first_that_gives (offers_in parts.now) children.now ≡ Some first
-            → right.new ≡ changed_right (mixing_of self.now) (samples_of before_left.now first (length left.old)) (samples_of before_right.now first (length left.old)) }
+        ensures left { (first : ℕ) → first_that_gives (offers_in before.now.parts.now) children.now ≡ Some first
+            → left.new ≡ changed_left (mixing_of self.now) (samples_of before.now.left.now first (length left.old)) (samples_of before.now.right.now first (length left.old)) }
+        ensures right { (first : ℕ) → first_that_gives (offers_in before.now.parts.now) children.now ≡ Some first
+            → right.new ≡ changed_right (mixing_of self.now) (samples_of before.now.left.now first (length left.old)) (samples_of before.now.right.now first (length left.old)) }
     {
-        let Some(first) = first_that_offers(children, parts) else {
+        let Some(first) = first_that_offers(children, before.parts) else {
             return;
         };
         let count = left.len();
-        let from_left = samples_of(before_left, first, count);
-        let from_right = samples_of(before_right, first, count);
+        let from_left = samples_of(before.left, first, count);
+        let from_right = samples_of(before.right, first, count);
         self.change(from_left, from_right, left, right);
     }
 
@@ -102,7 +99,7 @@ impl Mixer {
 pub fn sum_lane(
     children: &[u32],
     parts: &[Part],
-    before: &[Vec<i16>],
+    lanes: &[Vec<i16>],
     normalize: bool,
     sums: &mut [i32],
     counts: &mut [u16],
@@ -114,22 +111,22 @@ pub fn sum_lane(
     requires counts { length into.old ≤ length counts.old }
     ensures sum { 0 < many_give (offers_in parts.now) children.now
         → into.new ≡ levels_of normalize (many_give (offers_in parts.now) children.now)
-        (summed_lanes (offers_in parts.now) (λ child. samples_of before.now child (length into.old)) (replicate (length into.old) (pos 0)) children.now) }
+        (summed_lanes (offers_in parts.now) (λ child. samples_of lanes.now child (length into.old)) (replicate (length into.old) (pos 0)) children.now) }
 {
     let (sums, _) = sums.split_at_mut(into.len());
     let (counts, _) = counts.split_at_mut(into.len());
-    let count = add_all(children, parts, before, sums);
+    let count = add_all(children, parts, lanes, sums);
     if count > 0 {
         level_all(sums, count, normalize, counts, into);
     }
 }
 
 // Adds the samples of the children that offer, at each instant, and answers how many they are.
-fn add_all(children: &[u32], parts: &[Part], before: &[Vec<i16>], sums: &mut [i32]) -> u16
+fn add_all(children: &[u32], parts: &[Part], lanes: &[Vec<i16>], sums: &mut [i32]) -> u16
     requires few { length children.now ≤ 65535 }
     requires short { length sums.old ≤ 1024 }
     ensures count { result ≡ many_give (offers_in parts.now) children.now }
-    ensures sums { sums.new ≡ summed_lanes (offers_in parts.now) (λ child. samples_of before.now child (length sums.old)) (replicate (length sums.old) (pos 0)) children.now }
+    ensures sums { sums.new ≡ summed_lanes (offers_in parts.now) (λ child. samples_of lanes.now child (length sums.old)) (replicate (length sums.old) (pos 0)) children.now }
     ensures fit { All (IsSumOf result) sums.new }
 {
     sums.fill(0);
@@ -138,7 +135,7 @@ fn add_all(children: &[u32], parts: &[Part], before: &[Vec<i16>], sums: &mut [i3
         if !offers(parts, *child) {
             continue;
         }
-        let lane = samples_of(before, *child, sums.len());
+        let lane = samples_of(lanes, *child, sums.len());
         add_into(sums, lane);
         count += 1;
     }

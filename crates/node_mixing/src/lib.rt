@@ -2,6 +2,7 @@
 //! or one side on both. `docs/streams.md`, "Arithmetic", has the rules.
 #![tactic(auto)]
 
+mod before;
 mod change;
 mod lane;
 mod mixer;
@@ -9,6 +10,7 @@ mod room;
 mod sum;
 mod walk;
 
+pub use before::Before;
 pub use mixer::Mixer;
 pub use room::{MAX_RUN, Sums};
 pub use walk::samples_of;

@@ -42,7 +42,7 @@ impl Sums {
         &mut self,
         children: &[u32],
         parts: &[Part],
-        before: &[Vec<i16>],
+        lanes: &[Vec<i16>],
         normalize: bool,
         into: &mut [i16],
     )
@@ -50,12 +50,12 @@ impl Sums {
         requires short { length into.old ≤ 1024 }
         ensures sum { 0 < many_give (offers_in parts.now) children.now
             → into.new ≡ levels_of normalize (many_give (offers_in parts.now) children.now)
-            (summed_lanes (offers_in parts.now) (λ child. samples_of before.now child (length into.old)) (replicate (length into.old) (pos 0)) children.now) }
+            (summed_lanes (offers_in parts.now) (λ child. samples_of lanes.now child (length into.old)) (replicate (length into.old) (pos 0)) children.now) }
     {
         sum_lane(
             children,
             parts,
-            before,
+            lanes,
             normalize,
             &mut self.sums,
             &mut self.counts,

@@ -1,6 +1,5 @@
 -- A node behind a run: what its state stands for, and what lies in its samples.
-use Rattle.std.proofs.Common.{◌≡◌, ◌<◌, ◌≤◌, ◌+◌, ◌∙◌, ℕ, ℤ, suc, Bool, true, Some, Option, List, ◌∷◌, length, map, take, drop, slice_get, nat_eq, arith, refl, ap, sym, subst}
-use Rattle.std.specs.List.{list_any}
+use Rattle.std.proofs.Common.{◌≡◌, ◌<◌, ◌≤◌, ◌+◌, ◌∙◌, ℕ, ℤ, suc, Bool, true, Some, Option, List, ◌∷◌, length, map, take, drop, slice_get, arith, refl, ap, sym, subst}
 use Rattle.plan_core.specs.declared.node.Node.{Node}
 use Rattle.clock_infer.specs.declared.clock_map.NodeClock.{NodeClock}
 use Rattle.frame_core.specs.Library.{Sounds}
@@ -18,17 +17,16 @@ use Rattle.op_cross.specs.Stretches.{left_of, right_of}
 use Rattle.op_cross.proofs.LeastRuns.{item_of-is}
 use Rattle.op_select.specs.Selection.{Selection}
 use Rattle.random_ops.specs.Turns.{Turning}
+use Rattle.node_mixing.specs.declared.before.Before.{Before}
 use Rattle.node_mixing.specs.declared.mixer.Mixer.{Mixer}
 use Rattle.node_mixing.specs.Mixings.{mixing_of}
-use Rattle.node_mixing.specs.Runs.{AreHeard, Lanes, many_give, offers_in, samples_of}
-use Rattle.stream_meaning.specs.declared.part.Part.{Part}
+use Rattle.node_mixing.specs.Runs.{AreHeard, many_give, offers_in, samples_of}
 use Rattle.stream_meaning.specs.Arithmetic.{mix_slot}
 use Rattle.stream_meaning.specs.Operators.{Choice, Eligible, Work, Plays, Picks, Mixes, Fades, Reads}
-use Rattle.stream_meaning.specs.Instants.{Setting, Moment, Reading, choices, count, gives, last_pick, moment_after, part_at, position, read_on, reading_after, reading_at, work_at}
+use Rattle.stream_meaning.specs.Instants.{Setting, Moment, Reading, choices, count, last_pick, moment_after, position, read_on, reading_after, reading_at, work_at}
 use Rattle.segment_laws.specs.Stretches.{going_on, lane}
 use Rattle.node_states.specs.declared.state.NodeState.TheVariants.{Leaf, Select, Turn, Mix, Cross, Read, Idle}
-use Rattle.node_states.specs.Passing.{given_part}
-use Rattle.node_states.specs.Runs.{GoesOn, fed_on}
+use Rattle.node_states.specs.Runs.{ChildrenGive, GoesOn, fed_on}
 use Rattle.node_states.specs.States.{HasSelected, HasTurned, StateStands, reading_by, reads}
 use Rattle.node_states.proofs.Chunks.{reading_closed}
 use Rattle.node_states.proofs.Hearing.{are_heard, fade_run, given_child, heard_same, leaf_run, many_same, mix_run, pick_run, read_run, some_offer, the_child}
@@ -47,11 +45,6 @@ module _ (setting : Setting) (sub : ℕ → ℕ → List Slot) (clock : NodeCloc
 
   abbrev Lane : ℕ → ℕ → Slot
   Lane j c = lane setting sub clock past (suc j) c
-
-  -- what the samples of the nodes before it hold
-  abbrev pub Before : Lanes → Lanes → Type 0
-  Before lefts rights = (c : ℕ) → list_any (nat_eq c) node.children ≡ true → gives First c ≡ true
-      → IsLane (λ j. Lane j c) many (samples_of lefts c many) (samples_of rights c many)
 
   e : 1 + many ≡ suc many
   e = omega arith
@@ -120,15 +113,14 @@ module _ (setting : Setting) (sub : ℕ → ℕ → List Slot) (clock : NodeCloc
   turn_stands some state (Reads buffer) s = absurd s
 
   -- the samples of the child that was picked were laid
-  module _ (pick : Option ℕ) (lefts rights : Lanes) (left right : List ℤ) (pick_is : pick ≡ (part_at First.parts i).pick)
-      (left_is : (place child : ℕ) → pick ≡ Some place → slice_get node.children place ≡ Some child → left ≡ samples_of lefts child many)
-      (right_is : (place child : ℕ) → pick ≡ Some place → slice_get node.children place ≡ Some child → right ≡ samples_of rights child many)
-      (before : Before lefts rights) where
+  module _ (pick : Option ℕ) (before : Before) (children : ChildrenGive setting sub clock past many i node pick before) (left right : List ℤ)
+      (left_is : (place child : ℕ) → pick ≡ Some place → slice_get node.children place ≡ Some child → left ≡ samples_of before.left.now child many)
+      (right_is : (place child : ℕ) → pick ≡ Some place → slice_get node.children place ≡ Some child → right ≡ samples_of before.right.now child many) where
     laid : (choice : Choice) (eligible : Eligible) → work_at setting i node ≡ Picks choice eligible → IsLane (λ j. Lane j i) many left right
     laid choice eligible at =
         let one = the_child setting sub clock past many i node goes choice eligible at in
-        let picks : pick ≡ Some one.place = pick_is ∙ one.pick_is in
-        let own = before one.child one.among one.gave in
+        let picks : pick ≡ Some one.place = children.used ∙ one.pick_is in
+        let own = children.lanes one.child one.among one.gave in
         pick_run setting sub clock past many i node goes choice eligible at left right
         (record {
           left_is = left_is one.place one.child picks one.there ∙ own.left_is;
@@ -160,24 +152,24 @@ module _ (setting : Setting) (sub : ℕ → ℕ → List Slot) (clock : NodeCloc
   mix_stands mixer (Fades overlap) s = absurd s
   mix_stands mixer (Reads buffer) s = absurd s
 
-  pub mix_lane : (mixer : Mixer) (parts : List Part) (lefts rights : Lanes) (left right : List ℤ)
-      → ((c : ℕ) → list_any (nat_eq c) node.children ≡ true → part_at parts c ≡ given_part First c)
-      → ((slots : ℕ → ℕ → Slot) → AreHeard slots (offers_in parts) (λ child. samples_of lefts child many) (λ child. samples_of rights child many) many node.children
-      → 0 < many_give (offers_in parts) node.children → IsLane (λ j. mix_slot (mixing_of mixer) (map (slots j) node.children)) many left right)
-      → Before lefts rights → (work : Work) → work_at setting i node ≡ work → StateStands setting sub Past fed i work (Mix mixer) → IsLane (λ j. Lane j i) many left right
-  mix_lane mixer parts lefts rights left right same made before (Plays leaf) at s = absurd s
-  mix_lane mixer parts lefts rights left right same made before (Picks rule eligible) at s = absurd s
-  mix_lane mixer parts lefts rights left right same made before (Mixes mixing) at s =
-      mix_run setting sub clock past many i node goes mixing at left right
-      (subst (λ m. IsLane (λ j. mix_slot m (map (Lane j) node.children)) many left right) s
-      (made Lane
-      (heard_same Lane (offers_in First.parts) (offers_in parts) (λ child. samples_of lefts child many) (λ child. samples_of rights child many) many node.children
-      (given_child setting sub clock past many i node goes mixing at parts same)
-      (are_heard setting sub clock past many i node goes mixing at (λ child. samples_of lefts child many) (λ child. samples_of rights child many) before))
-      (subst (λ n. 0 < n) (sym (many_same (offers_in First.parts) (offers_in parts) node.children (given_child setting sub clock past many i node goes mixing at parts same)))
-      (some_offer setting sub clock past many i node goes mixing at))))
-  mix_lane mixer parts lefts rights left right same made before (Fades overlap) at s = absurd s
-  mix_lane mixer parts lefts rights left right same made before (Reads buffer) at s = absurd s
+  module _ (pick : Option ℕ) (before : Before) (children : ChildrenGive setting sub clock past many i node pick before) where
+    pub mix_lane : (mixer : Mixer) (left right : List ℤ)
+        → ((slots : ℕ → ℕ → Slot) → AreHeard slots (offers_in before.parts.now) (λ child. samples_of before.left.now child many) (λ child. samples_of before.right.now child many) many node.children
+        → 0 < many_give (offers_in before.parts.now) node.children → IsLane (λ j. mix_slot (mixing_of mixer) (map (slots j) node.children)) many left right)
+        → (work : Work) → work_at setting i node ≡ work → StateStands setting sub Past fed i work (Mix mixer) → IsLane (λ j. Lane j i) many left right
+    mix_lane mixer left right made (Plays leaf) at s = absurd s
+    mix_lane mixer left right made (Picks rule eligible) at s = absurd s
+    mix_lane mixer left right made (Mixes mixing) at s =
+        let same = given_child setting sub clock past many i node goes mixing at before.parts.now children.given in
+        mix_run setting sub clock past many i node goes mixing at left right
+        (subst (λ m. IsLane (λ j. mix_slot m (map (Lane j) node.children)) many left right) s
+        (made Lane
+        (heard_same Lane (offers_in First.parts) (offers_in before.parts.now) (λ child. samples_of before.left.now child many) (λ child. samples_of before.right.now child many) many node.children same
+        (are_heard setting sub clock past many i node goes mixing at (λ child. samples_of before.left.now child many) (λ child. samples_of before.right.now child many) children.lanes))
+        (subst (λ n. 0 < n) (sym (many_same (offers_in First.parts) (offers_in before.parts.now) node.children same))
+        (some_offer setting sub clock past many i node goes mixing at))))
+    mix_lane mixer left right made (Fades overlap) at s = absurd s
+    mix_lane mixer left right made (Reads buffer) at s = absurd s
 
   -- ---- a crossfade
 

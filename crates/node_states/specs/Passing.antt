@@ -1,10 +1,13 @@
 -- Crossfades through which cells of their child pass, one by one.
 use Rattle.std.specs.Prelude.{◌≡◌, ◌<◌, ◌+◌, ◌++◌, ◌∷◌, Bool, true, false, Some, List, [], ℕ, suc, ℤ, slice_get, if◌then◌else◌}
+use Rattle.frame_core.specs.declared.cell.Cell.{Cell}
 use Rattle.frame_core.specs.Slots.{Slot}
+use Rattle.cell_ring.specs.Rings.{inner_cells}
 use Rattle.op_cross.specs.States.{passes as crossing_passes}
 use Rattle.op_leaf.specs.Lanes.{AreTitled, IsLane}
 use Rattle.stream_meaning.specs.declared.part.Part.{Part}
 use Rattle.stream_meaning.specs.Instants.{Moment, gives, part_at, silent}
+use Rattle.node_mixing.specs.declared.before.Before.{Before}
 use Rattle.node_mixing.specs.Runs.{Lanes, samples_of}
 use Rattle.node_states.specs.declared.state.NodeState.{NodeState}
 use Rattle.node_states.specs.declared.state.NodeState.TheVariants.{Leaf, Select, Turn, Mix, Cross, Read, Idle}
@@ -40,3 +43,7 @@ pub record ChildFeeds (slots_of : ℕ → List Slot) (n count title : ℕ) (chil
   pub child : ℕ
   pub there : slice_get children 0 ≡ Some child
   pub feeds : LaneFeeds slots_of n count title (samples_of lefts child count) (samples_of rights child count)
+
+-- the samples of node i over so many instants, as cells of this title that begin no track
+abbrev pub cells_before : (title : ℕ) → Before → (i count : ℕ) → List Cell
+cells_before title before i count = inner_cells title (samples_of before.left.now i count) (samples_of before.right.now i count)

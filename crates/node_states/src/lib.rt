@@ -16,4 +16,5 @@ mod time;
 
 pub use desk::Desk;
 pub use state::NodeState;
+pub use steps::gives;
 pub use time::WeekTime;

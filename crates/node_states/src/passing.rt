@@ -1,13 +1,12 @@
 // A run of a crossfade through which the cells of its child pass.
 ghost use Rattle.std.specs.Prelude.{◌≡◌, ◌≤◌, ◌+◌, ◌++◌, ℕ, List, Some, true, map, take, drop, length, slice_get};
-ghost use Rattle.cell_ring.specs.Rings.{inner_cells};
 ghost use Rattle.frame_core.specs.Slots.{Slot};
 ghost use Rattle.op_cross.specs.Crossfade.{cross};
 ghost use Rattle.op_cross.specs.States.{StandsFor, passes};
 ghost use Rattle.op_cross.specs.Stretches.{left_of, right_of};
-ghost use Rattle.node_mixing.specs.Runs.{samples_of};
+ghost use Rattle.node_states.specs.Passing.{cells_before};
 
-use node_mixing::samples_of;
+use node_mixing::{Before, samples_of};
 use op_cross::CrossState;
 
 /// Takes as many cells of the crossfade's child as the slices are long, which have this title and go on with the track that it
@@ -16,8 +15,7 @@ pub fn pass_child(
     state: &mut CrossState,
     title: u32,
     children: &[u32],
-    before_left: &[Vec<i16>],
-    before_right: &[Vec<i16>],
+    before: &Before<'_>,
     left: &mut [i16],
     right: &mut [i16],
 )
@@ -26,13 +24,13 @@ pub fn pass_child(
     requires short { length left.old ≤ 1024 }
     ensures overlap { (child : ℕ) → slice_get children.now 0 ≡ Some child → state.new.overlap ≡ state.old.overlap }
     ensures stands { (child p : ℕ) (slots : List Slot) → slice_get children.now 0 ≡ Some child → StandsFor state.old slots p
-        → StandsFor state.new (slots ++ map Some (inner_cells title (samples_of before_left.now child (length left.old)) (samples_of before_right.now child (length left.old)))) (p + length left.old) }
+        → StandsFor state.new (slots ++ map Some (cells_before title before.now child (length left.old))) (p + length left.old) }
     ensures least { (child p m : ℕ) (slots : List Slot) → slice_get children.now 0 ≡ Some child → StandsFor state.old slots p → m ≤ length left.old
-        → length (cross state.old.overlap (slots ++ map Some (take m (inner_cells title (samples_of before_left.now child (length left.old)) (samples_of before_right.now child (length left.old)))))) ≡ p + m }
+        → length (cross state.old.overlap (slots ++ map Some (take m (cells_before title before.now child (length left.old))))) ≡ p + m }
     ensures left { (child p : ℕ) (slots : List Slot) → slice_get children.now 0 ≡ Some child → StandsFor state.old slots p
-        → left.new ≡ map left_of (take (length left.old) (drop p (cross state.old.overlap (slots ++ map Some (inner_cells title (samples_of before_left.now child (length left.old)) (samples_of before_right.now child (length left.old))))))) }
+        → left.new ≡ map left_of (take (length left.old) (drop p (cross state.old.overlap (slots ++ map Some (cells_before title before.now child (length left.old)))))) }
     ensures right { (child p : ℕ) (slots : List Slot) → slice_get children.now 0 ≡ Some child → StandsFor state.old slots p
-        → right.new ≡ map right_of (take (length left.old) (drop p (cross state.old.overlap (slots ++ map Some (inner_cells title (samples_of before_left.now child (length left.old)) (samples_of before_right.now child (length left.old))))))) }
+        → right.new ≡ map right_of (take (length left.old) (drop p (cross state.old.overlap (slots ++ map Some (cells_before title before.now child (length left.old)))))) }
 {
     let Some(child) = children.get(0) else {
         return;
@@ -40,8 +38,8 @@ pub fn pass_child(
     let count = left.len();
     state.pass(
         title,
-        samples_of(before_left, *child, count),
-        samples_of(before_right, *child, count),
+        samples_of(before.left, *child, count),
+        samples_of(before.right, *child, count),
         left,
         right,
     );

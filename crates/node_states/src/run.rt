@@ -1,38 +1,34 @@
 // A run of a node.
-ghost use Rattle.std.specs.Prelude.{◌≡◌, ◌<◌, ◌≤◌, ◌∷◌, ◌||◌, ℕ, List, Some, true, length, slice_get, suc, nat_eq};
-ghost use Rattle.std.specs.List.{list_any};
+ghost use Rattle.std.specs.Prelude.{◌≡◌, ◌<◌, ◌≤◌, ◌||◌, ℕ, List, Some, length, slice_get, suc};
 ghost use Rattle.liq_base.specs.declared.limits.TheConstants.{MAX_CHILDREN};
 ghost use Rattle.clock_infer.specs.declared.clock_map.NodeClock.{NodeClock as Clock};
 ghost use Rattle.frame_core.specs.Slots.{Slot as TheSlot};
 ghost use Rattle.op_leaf.specs.Lanes.{IsLane};
-ghost use Rattle.stream_meaning.specs.Instants.{Setting, Moment, gives, moment_after, part_at, work_at};
+ghost use Rattle.stream_meaning.specs.Instants.{Setting, Moment, work_at};
 ghost use Rattle.segment_laws.specs.Stretches.{going_on, lane};
 ghost use Rattle.node_mixing.specs.Runs.{samples_of};
-ghost use Rattle.node_states.specs.Passing.{ChildFeeds, given_part, passes};
-ghost use Rattle.node_states.specs.Runs.{GoesOn, LiesAhead, fed_on};
+ghost use Rattle.node_states.specs.Passing.{passes};
+ghost use Rattle.node_states.specs.Runs.{ChildrenGive, GivesOn, LiesAhead, fed_on};
 ghost use Rattle.node_states.specs.States.{Fits, StateStands, reads};
 
 use crate::NodeState;
 use crate::passing::pass_child;
 use frame_core::Library;
-use node_mixing::{Sums, samples_of};
+use node_mixing::{Before, Sums, samples_of};
 use plan_core::Node;
-use stream_meaning::Part;
 
 impl NodeState {
     /// Makes as many instants as the slices are long of a node that gave at the latest one, with which they go on: its samples
-    /// are laid, over the lanes of the nodes before it, and its state goes on behind them. `pick` is the child that it used at the
-    /// latest instant, and `parts` are what its children gave there; through a crossfade that passes go the samples of its child,
-    /// whose cells have the title `below`. It takes no memory.
+    /// are laid, over what the nodes before it gave, and its state goes on behind them. `pick` is the child that it used at the
+    /// latest instant; through a crossfade that passes go the samples of its child, whose cells have the title `below`. It takes
+    /// no memory.
     pub fn run(
         &mut self,
         node: &Node,
         pick: Option<u32>,
-        parts: &[Part],
+        before: &Before<'_>,
         below: u32,
         library: &Library,
-        before_left: &[Vec<i16>],
-        before_right: &[Vec<i16>],
         sums: &mut Sums,
         left: &mut [i16],
         right: &mut [i16],
@@ -45,53 +41,28 @@ impl NodeState {
         requires ahead { LiesAhead library.now self.old (length left.old) }
         ensures fits { Fits library.now (length node.now.children) self.new }
         ensures stands { (setting : Setting) (sub : ℕ → ℕ → List TheSlot) (clock : Clock) (past : List Moment) (fed i : ℕ)
-            → setting.library ≡ library.now → GoesOn setting sub clock past (length left.old) i node.now
-            → (reads (work_at setting i node.now) ≡ true → fed ≡ suc (length past))
-            → (passes self.old ≡ true → ChildFeeds (sub i) fed (length left.old) below node.now.children before_left.now before_right.now)
-            → StateStands setting sub (moment_after setting sub clock past ∷ past) fed i (work_at setting i node.now) self.old
+            → GivesOn setting sub clock past (length left.old) fed i node.now library.now below before.now self.old
             → StateStands setting sub (going_on setting sub clock (suc (length left.old)) past) (fed_on (passes self.old || reads (work_at setting i node.now)) (length left.old) fed) i (work_at setting i node.now) self.new }
         ensures lane { (setting : Setting) (sub : ℕ → ℕ → List TheSlot) (clock : Clock) (past : List Moment) (fed i : ℕ)
-            → setting.library ≡ library.now → GoesOn setting sub clock past (length left.old) i node.now
-            → ((c : ℕ) → list_any (nat_eq c) node.now.children ≡ true → part_at parts.now c ≡ given_part (moment_after setting sub clock past) c)
-            → pick ≡ (part_at (moment_after setting sub clock past).parts i).pick
-            → (reads (work_at setting i node.now) ≡ true → fed ≡ suc (length past))
-            → (passes self.old ≡ true → ChildFeeds (sub i) fed (length left.old) below node.now.children before_left.now before_right.now)
-            → StateStands setting sub (moment_after setting sub clock past ∷ past) fed i (work_at setting i node.now) self.old
-            → ((c : ℕ) → list_any (nat_eq c) node.now.children ≡ true → gives (moment_after setting sub clock past) c ≡ true
-            → IsLane (λ j. lane setting sub clock past (suc j) c) (length left.old) (samples_of before_left.now c (length left.old)) (samples_of before_right.now c (length left.old)))
+            → GivesOn setting sub clock past (length left.old) fed i node.now library.now below before.now self.old
+            → ChildrenGive setting sub clock past (length left.old) i node.now pick before.now
             → IsLane (λ j. lane setting sub clock past (suc j) i) (length left.old) left.new right.new }
     {
         let children = node.children.as_slice();
         match self {
             NodeState::Leaf(state) => state.run(library, left, right),
             NodeState::Select(_) => {
-                copy_picked(children, pick, before_left, before_right, left, right);
+                copy_picked(children, pick, before, left, right);
             }
             NodeState::Turn(_) => {
-                copy_picked(children, pick, before_left, before_right, left, right);
+                copy_picked(children, pick, before, left, right);
             }
             NodeState::Mix(mixer) => {
-                mixer.run(
-                    children,
-                    parts,
-                    before_left,
-                    before_right,
-                    sums,
-                    left,
-                    right,
-                );
+                mixer.run(children, before, sums, left, right);
             }
             NodeState::Cross(state) => {
                 if state.passes() {
-                    pass_child(
-                        state,
-                        below,
-                        children,
-                        before_left,
-                        before_right,
-                        left,
-                        right,
-                    );
+                    pass_child(state, below, children, before, left, right);
                 } else {
                     state.copy(left, right);
                 }
@@ -106,15 +77,14 @@ impl NodeState {
 fn copy_picked(
     children: &[u32],
     pick: Option<u32>,
-    before_left: &[Vec<i16>],
-    before_right: &[Vec<i16>],
+    before: &Before<'_>,
     left: &mut [i16],
     right: &mut [i16],
 )
     requires same { length right.old ≡ length left.old }
     requires short { length left.old ≤ 1024 }
-    ensures left { (place child : ℕ) → pick ≡ Some place → slice_get children.now place ≡ Some child → left.new ≡ samples_of before_left.now child (length left.old) }
-    ensures right { (place child : ℕ) → pick ≡ Some place → slice_get children.now place ≡ Some child → right.new ≡ samples_of before_right.now child (length left.old) }
+    ensures left { (place child : ℕ) → pick ≡ Some place → slice_get children.now place ≡ Some child → left.new ≡ samples_of before.now.left.now child (length left.old) }
+    ensures right { (place child : ℕ) → pick ≡ Some place → slice_get children.now place ≡ Some child → right.new ≡ samples_of before.now.right.now child (length left.old) }
 {
     let Some(place) = pick else {
         return;
@@ -122,6 +92,6 @@ fn copy_picked(
     let Some(child) = children.get(place as usize) else {
         return;
     };
-    left.copy_from_slice(samples_of(before_left, *child, left.len()));
-    right.copy_from_slice(samples_of(before_right, *child, right.len()));
+    left.copy_from_slice(samples_of(before.left, *child, left.len()));
+    right.copy_from_slice(samples_of(before.right, *child, right.len()));
 }

@@ -13,8 +13,8 @@ loop-child-preserved-then-not-offers c =
     let silent : offers_in c.args.parts.now child ≡ false = sym c.offers.ensures ∙ quiet in
     record {
       long = c.loop-child.invariant.long;
-      added = subst (λ xs. Added (offers_in c.args.parts.now) (λ child. samples_of c.args.before.now child (length c.args.sums.now)) (length c.args.sums.now) xs c.loop-child.count c.loop-child.sums) (sym more)
-          (passed_over (offers_in c.args.parts.now) (λ child. samples_of c.args.before.now child (length c.args.sums.now)) (length c.args.sums.now)
+      added = subst (λ xs. Added (offers_in c.args.parts.now) (λ child. samples_of c.args.lanes.now child (length c.args.sums.now)) (length c.args.sums.now) xs c.loop-child.count c.loop-child.sums) (sym more)
+          (passed_over (offers_in c.args.parts.now) (λ child. samples_of c.args.lanes.now child (length c.args.sums.now)) (length c.args.sums.now)
           (take c.loop-child.child-index c.args.children.now) child c.loop-child.count c.loop-child.sums c.loop-child.invariant.added silent);
     }
 
@@ -33,13 +33,13 @@ loop-child-preserved c =
     take_more c.args.children.now c.loop-child.child-index 0 within in
     let loud : c.offers.result ≡ true = search rules in
     let heard : offers_in c.args.parts.now child ≡ true = sym c.offers.ensures ∙ loud in
-    let lane_is : c.samples_of-lane.result.now ≡ samples_of c.args.before.now child (length c.args.sums.now) =
-    c.samples_of-lane.ensures.is ∙ ap (samples_of c.args.before.now child) c.loop-child.invariant.long in
+    let lane_is : c.samples_of-lane.result.now ≡ samples_of c.args.lanes.now child (length c.args.sums.now) =
+    c.samples_of-lane.ensures.is ∙ ap (samples_of c.args.lanes.now child) c.loop-child.invariant.long in
     let long : length c.add_into.new.sum ≡ length c.loop-child.sums = omega arith in
     record {
       long = long ∙ c.loop-child.invariant.long;
-      added = subst (λ xs. Added (offers_in c.args.parts.now) (λ child. samples_of c.args.before.now child (length c.args.sums.now)) (length c.args.sums.now) xs (c.loop-child.count + 1) c.add_into.new.sum) (sym more)
-          (one_added (offers_in c.args.parts.now) (λ child. samples_of c.args.before.now child (length c.args.sums.now)) (length c.args.sums.now)
+      added = subst (λ xs. Added (offers_in c.args.parts.now) (λ child. samples_of c.args.lanes.now child (length c.args.sums.now)) (length c.args.sums.now) xs (c.loop-child.count + 1) c.add_into.new.sum) (sym more)
+          (one_added (offers_in c.args.parts.now) (λ child. samples_of c.args.lanes.now child (length c.args.sums.now)) (length c.args.sums.now)
           (take c.loop-child.child-index c.args.children.now) child c.loop-child.count c.loop-child.sums c.samples_of-lane.result.now c.add_into.new.sum
           c.loop-child.invariant.added heard lane_is c.add_into.ensures.added (c.add_into.ensures.counted c.loop-child.count c.loop-child.invariant.added.fit));
     }

@@ -6,5 +6,5 @@ use Rattle.node_mixing.proofs.lane.add_all.Given as goal
 abbrev pub invariant-loop-child : goal.invariant-loop-child
 invariant-loop-child l = record {
   long : length l.sums ≡ length l.fn.sums;
-  added : Added (offers_in l.parts) (λ child. samples_of l.before child (length l.fn.sums)) (length l.fn.sums) (take l.child-index l.children) l.count l.sums;
+  added : Added (offers_in l.parts) (λ child. samples_of l.lanes child (length l.fn.sums)) (length l.fn.sums) (take l.child-index l.children) l.count l.sums;
 }
