@@ -12,8 +12,8 @@ ghost use Rattle.engine_instants.specs.Shapes.{AllFitOver, IsShape};
 use crate::held::title_below;
 use crate::{ClockNodes, Runs, Shape, Spare};
 use clock_infer::NodeClock;
-use node_mixing::{MAX_RUN, Sums};
-use node_states::NodeState;
+use node_mixing::{Before, MAX_RUN, Sums};
+use node_states::{NodeState, gives};
 use std::mem;
 use stream_meaning::Part;
 
@@ -134,7 +134,7 @@ fn run_node(
     ensures run { NodeRun shape.now i count held.now parts.now state.old left.old right.old left.new right.new state.new }
 {
     let part = parts[i];
-    if !gave(part) {
+    if !gives(part, true) {
         return;
     }
     if !has_lane(left, i) {
@@ -191,11 +191,9 @@ fn make_samples(
     state.run(
         node,
         parts[i].pick,
-        parts,
+        &Before { parts, left, right },
         below,
         shape.library,
-        left,
-        right,
         sums,
         &mut own_left[..count],
         &mut own_right[..count],
@@ -209,13 +207,6 @@ fn has_lane(lanes: &[Vec<i16>], i: usize) -> bool
     ensures gone { result ≡ false → HasLane lanes.now i → ⊥ }
 {
     lanes[i].len() >= MAX_RUN as usize
-}
-
-// Whether this was given.
-fn gave(part: Part) -> bool
-    ensures { result ≡ is_some part.slot }
-{
-    part.slot.is_some()
 }
 
 // Takes back the parts of a clock's nodes, where no other node has any.

@@ -1,5 +1,5 @@
 // How many instants go on as the latest one of a clock did.
-ghost use Rattle.std.specs.Prelude.{◌≡◌, ◌<◌, ◌≤◌, ◌&&◌, is_some, ℕ, true, Some, length, slice_get};
+ghost use Rattle.std.specs.Prelude.{◌≡◌, ◌<◌, ◌≤◌, is_some, ℕ, true, Some, length, slice_get};
 ghost use Rattle.liq_base.specs.declared.memory.Kind.{Kind as TheKind};
 ghost use Rattle.plan_core.specs.declared.node.Node.{Node as PlanNode};
 ghost use Rattle.stream_meaning.specs.Operators.{Choice, Eligible, Every, Picks, Reads, work_of};
@@ -106,13 +106,6 @@ fn node_rest(
         below_title,
         bound,
     )
-}
-
-// Whether a node with this part gives.
-pub fn gives(part: Part, marked: bool) -> bool
-    ensures { result ≡ (marked && is_some part.slot) }
-{
-    marked && part.slot.is_some()
 }
 
 // How many instants behind this one a node goes on without a new second or a new tick, where it has to do with one.

@@ -10,26 +10,26 @@ use Rattle.engine_instants.proofs.Kept.{gives_now}
 use Rattle.engine_instants.proofs.Samples.{samples_own}
 use Rattle.engine_instants.proofs.onward.run_node.Goals as goal
 
-pub returns-then-not-gave-clause-run : goal.returns-then-not-gave-clause-run
-returns-then-not-gave-clause-run c = record {
+pub returns-then-not-gives-clause-run : goal.returns-then-not-gives-clause-run
+returns-then-not-gives-clause-run c = record {
   run = λ other sub clock past fed node before.
       let S = over c.args.shape.now.plan.now c.args.shape.now.library.now c.args.shape.now.clocks.now other in
       let in_parts : c.args.i < length c.args.parts.now = omega (arith, c.requires.in_parts, c.requires.within) in
       kept_run S sub clock past c.args.count fed c.args.i node c.args.state.now c.args.left.now c.args.right.now c.requires.shape.nodes c.requires.count.some before.stretch before.is
       (gives_now (moment_after S sub clock past) c.args.parts.now c.args.i (before.given c.args.i (omega arith))
-      ∙ ap (λ (p : Part). is_some p.slot) (get_or_default _ _ silent _ in_parts) ∙ sym c.gave.ensures ∙ (search rules))
+      ∙ ap (λ (p : Part). is_some p.slot) (get_or_default _ _ silent _ in_parts) ∙ sym c.gives.ensures ∙ (search rules))
       before.begun before.stands;
 }
 
 pub make_samples-requires-clause-gave : goal.make_samples-requires-clause-gave
 make_samples-requires-clause-gave c =
     let in_parts : c.args.i < length c.args.parts.now = omega (arith, c.requires.in_parts, c.requires.within) in
-    ap (λ (p : Part). is_some p.slot) (get_or_default _ _ silent _ in_parts) ∙ sym c.gave.ensures ∙ (search rules)
+    ap (λ (p : Part). is_some p.slot) (get_or_default _ _ silent _ in_parts) ∙ sym c.gives.ensures ∙ (search rules)
 
 pub make_samples-requires-clause-ahead : goal.make_samples-requires-clause-ahead
 make_samples-requires-clause-ahead c =
     let in_parts : c.args.i < length c.args.parts.now = omega (arith, c.requires.in_parts, c.requires.within) in
-    c.requires.ahead (ap (λ (p : Part). is_some p.slot) (get_or_default _ _ silent _ in_parts) ∙ sym c.gave.ensures ∙ (search rules))
+    c.requires.ahead (ap (λ (p : Part). is_some p.slot) (get_or_default _ _ silent _ in_parts) ∙ sym c.gives.ensures ∙ (search rules))
 
 pub returns-clause-run : goal.returns-clause-run
 returns-clause-run c = record {
