@@ -1,5 +1,5 @@
 -- What changes from instant to instant, and what it stands for.
-use Rattle.std.specs.Prelude.{◌≡◌, ℕ, List}
+use Rattle.std.specs.Prelude.{◌≡◌, ℕ, Bool, List, length}
 use Rattle.plan_core.specs.declared.plan.Plan.{Plan}
 use Rattle.clock_infer.specs.declared.clock_map.NodeClock.{NodeClock}
 use Rattle.clock_infer.specs.declared.clock_map.NodeClock.TheVariants.{Sub}
@@ -8,7 +8,9 @@ use Rattle.frame_core.specs.Library.{Sounds}
 use Rattle.op_leaf.specs.Readers.{Answer}
 use Rattle.stream_meaning.specs.Instants.{Setting}
 use Rattle.node_states.specs.Times.{TimeStands}
-use Rattle.sub_clocks.specs.Clocks.{AreClockLanes, HasRanks, RanAsNeeded, Stand}
+use Rattle.engine_instants.specs.declared.shape.Shape.{Shape}
+use Rattle.engine_instants.specs.Shapes.{IsShape}
+use Rattle.sub_clocks.specs.Clocks.{AreClockLanes, HasLevels, HasRanks, RanAsNeeded, Stand}
 use Rattle.clock_engine.specs.declared.clock_state.ClockState.{ClockState}
 
 -- it is no sub-clock
@@ -20,6 +22,19 @@ pub record IsClockState (plan : Plan) (library : Sounds) (clocks : List NodeCloc
   pub below : AreClockLanes plan library clocks lanes.clocks
   pub rate : lanes.time.rate ≡ plan.rate
   pub frame : lanes.time.frame ≡ plan.frame
+
+-- the same over a shape
+abbrev pub IsClockStateOver : Shape → ClockState → Type 0
+IsClockStateOver shape lanes = IsClockState shape.plan.now shape.library.now shape.clocks.now lanes
+
+-- a clock can make instants: these are the lanes of the nodes, it is no sub-clock, sub-clocks nest no deeper than there are nodes, and each
+-- node has a mark for whether its own clock demands it of itself
+pub record CanMake (shape : Shape) (clock : NodeClock) (own : List Bool) (lanes : ClockState) : Type 0 where
+  pub shape_is : IsShape shape
+  pub in_own : length own ≡ length shape.plan.now.nodes
+  pub main : IsMain clock
+  pub levels : HasLevels shape.clocks.now clock (length shape.plan.now.nodes)
+  pub lanes_are : IsClockStateOver shape lanes
 
 -- they stand for the first n instants of a clock, and for as many of the sub-clocks below it as its crossfades asked for; all readers
 -- have taken these answers by them

@@ -1,5 +1,5 @@
 -- What the outputs and feeds of a clock hear in a tick.
-use Rattle.std.specs.Prelude.{◌≡◌, ℕ, suc, ◌+◌, Bool, true, false, Some, List, ◌++◌, drop, length, map, slice_get, slice_index_or}
+use Rattle.std.specs.Prelude.{◌≡◌, ◌<◌, ◌^◌, ℕ, suc, ◌+◌, All, Bool, true, false, Some, List, ◌++◌, drop, length, map, slice_get, slice_index_or}
 use Rattle.std.specs.List.{range_with_len}
 use Rattle.plan_core.specs.declared.plan.Plan.{Plan}
 use Rattle.clock_infer.specs.declared.clock_map.NodeClock.{NodeClock}
@@ -11,8 +11,9 @@ use Rattle.stream_meaning.specs.Instants.{Setting, IsMeaning, history, moment_af
 use Rattle.stream_meaning.specs.Calls.{GoDown, HasAnswers, IsBegin, after_calls, calls_of, joined_upto}
 use Rattle.clock_outputs.specs.declared.port.Port.{Port}
 use Rattle.clock_outputs.specs.declared.feed.FeedPort.{FeedPort}
-use Rattle.clock_outputs.specs.Ports.{after_slots, emptied}
+use Rattle.clock_outputs.specs.Ports.{AllHaveRoomLeft, after_slots, emptied}
 use Rattle.clock_outputs.specs.Segments.{segment_slots}
+use Rattle.engine_instants.specs.declared.shape.Shape.{Shape}
 use Rattle.engine_instants.specs.States.{over}
 use Rattle.engine_instants.specs.Takes.{HasOwnReaders}
 use Rattle.node_mixing.specs.Runs.{samples_of}
@@ -64,6 +65,19 @@ pub record Scene (T : Type 0) : Type 0 where
   pub start : ℕ
   pub taps : T
 
+-- such a scene
+abbrev pub scene : {T : Type 0} → ClockState → List Port → List FeedPort → Cues → (start : ℕ) → T → Scene T
+scene lanes ports feeds cues start taps = record { lanes = lanes; ports = ports; feeds = feeds; cues = cues; start = start; taps = taps }
+
+-- the outputs and feeds of a clock have room for a tick that begins at this instant, are of nodes of the plan, and each output has its marks
+pub record CanHear (shape : Shape) (ports : List Port) (feeds : List FeedPort) (cues : Cues) (start : ℕ) : Type 0 where
+  pub heard : All (λ port. port.node < length shape.plan.now.nodes) ports
+  pub fed : All (λ feed. feed.node < length shape.plan.now.nodes) feeds
+  pub room : AllHaveRoomLeft shape.plan.now.frame (map emptied ports)
+  pub frames : All (λ feed. length feed.frame ≡ shape.plan.now.frame) feeds
+  pub marks : length cues.lists.items ≡ length ports
+  pub late : start + shape.plan.now.frame < 2 ^ 64
+
 -- so many instants of a tick were made, by these calls, and the outputs, feeds and marks have heard the slots of their nodes; whatever instants the
 -- lanes stood for, these are the next ones
 pub record Heard {T : Type 0} (stands : T → List Call → Type 0) (plan : Plan) (library : Sounds) (clocks : List NodeClock) (clock : NodeClock) (own : List Bool) (count : ℕ)
@@ -82,6 +96,10 @@ pub record Heard {T : Type 0} (stands : T → List Call → Type 0) (plan : Plan
       → HasAnswers (over plan library clocks other) (after_calls front more) → ClockStateStands (over plan library clocks other) sub clock n front before.lanes
       → HasRunInstants (over plan library clocks other) sub own clock n count slots front more after.lanes
 
+-- the same over a shape
+abbrev pub HeardOver : {T : Type 0} → (T → List Call → Type 0) → Shape → NodeClock → List Bool → (count : ℕ) → (before after : Scene T) → Type 0
+HeardOver stands shape clock own count before after = Heard stands shape.plan.now shape.library.now shape.clocks.now clock own count before after
+
 -- memory was refused within a tick of so many instants: these are its first calls
 pub record HeardSome {T : Type 0} (stands : T → List Call → Type 0) (plan : Plan) (library : Sounds) (clocks : List NodeClock) (clock : NodeClock) (own : List Bool) (total : ℕ)
     (before after : Scene T) : Type 0 where
@@ -95,6 +113,10 @@ pub record HeardSome {T : Type 0} (stands : T → List Call → Type 0) (plan : 
   pub begins : (other : Setting) (sub : ℕ → ℕ → List Slot) (n : ℕ) (front : ℕ → List Answer) → IsMeant (over plan library clocks other) sub own
       → HasAnswers (over plan library clocks other) (after_calls front made) → ClockStateStands (over plan library clocks other) sub clock n front before.lanes
       → IsBegin made (calls_from (over plan library clocks other) sub clock n total)
+
+-- the same over a shape
+abbrev pub HeardSomeOver : {T : Type 0} → (T → List Call → Type 0) → Shape → NodeClock → List Bool → (total : ℕ) → (before after : Scene T) → Type 0
+HeardSomeOver stands shape clock own total before after = HeardSome stands shape.plan.now shape.library.now shape.clocks.now clock own total before after
 
 -- the slots of node i in the latest segment, which had so many instants behind its first one
 abbrev pub segment_of : ClockLanes → (many i : ℕ) → List Slot
@@ -110,6 +132,10 @@ pub record SegmentRun {T : Type 0} (stands : T → List Call → Type 0) (plan :
       → HasAnswers (over plan library clocks other) (after_calls front more) → ClockStateStands (over plan library clocks other) sub clock n front old
       → HasRunInstants (over plan library clocks other) sub own clock n (suc many) (segment_of new.clocks many) front more new
 
+-- the same over a shape
+abbrev pub SegmentRunOver : {T : Type 0} → (T → List Call → Type 0) → Shape → NodeClock → List Bool → (many : ℕ) → (old new : ClockState) → (taps_old taps_new : T) → Type 0
+SegmentRunOver stands shape clock own many old new taps_old taps_new = SegmentRun stands shape.plan.now shape.library.now shape.clocks.now clock own many old new taps_old taps_new
+
 -- memory was refused in its first instant
 pub record SegmentBroken {T : Type 0} (stands : T → List Call → Type 0) (plan : Plan) (library : Sounds) (clocks : List NodeClock) (clock : NodeClock) (own : List Bool)
     (old : ClockState) (taps_old taps_new : T) : Type 0 where
@@ -118,3 +144,7 @@ pub record SegmentBroken {T : Type 0} (stands : T → List Call → Type 0) (pla
   pub begins : (other : Setting) (sub : ℕ → ℕ → List Slot) (n : ℕ) (front : ℕ → List Answer) → IsMeant (over plan library clocks other) sub own
       → HasAnswers (over plan library clocks other) (after_calls front made) → ClockStateStands (over plan library clocks other) sub clock n front old
       → IsBegin made (calls_of (over plan library clocks other) sub clock (history (over plan library clocks other) sub clock n))
+
+-- the same over a shape
+abbrev pub SegmentBrokenOver : {T : Type 0} → (T → List Call → Type 0) → Shape → NodeClock → List Bool → ClockState → (taps_old taps_new : T) → Type 0
+SegmentBrokenOver stands shape clock own old taps_old taps_new = SegmentBroken stands shape.plan.now shape.library.now shape.clocks.now clock own old taps_old taps_new

@@ -1,11 +1,8 @@
 // What changes from instant to instant in a clock, and a segment of it.
-ghost use Rattle.std.specs.Prelude.{◌≡◌, ◌≤◌, length, IfOk, OnErr};
-ghost use Rattle.liq_base.specs.declared.limits.TheConstants.{MAX_NODES};
-ghost use Rattle.plan_core.specs.Plans.{AreNodes};
+ghost use Rattle.std.specs.Prelude.{◌≡◌, ◌≤◌, IfOk, OnErr};
 ghost use Rattle.engine_instants.specs.Takes.{HasReader, ReadersAreIn};
-ghost use Rattle.sub_clocks.specs.Clocks.{HasLevels};
-ghost use Rattle.clock_engine.specs.ClockStates.{IsClockState, IsMain};
-ghost use Rattle.clock_engine.specs.Runs.{SegmentBroken, SegmentRun};
+ghost use Rattle.clock_engine.specs.ClockStates.{CanMake, IsClockStateOver};
+ghost use Rattle.clock_engine.specs.Runs.{SegmentBrokenOver, SegmentRunOver};
 
 use clock_infer::NodeClock;
 use engine_instants::Shape;
@@ -36,21 +33,15 @@ pub fn make_segment<T: Taps>(
     most: u32,
     taps: &mut T,
 ) -> Result<u32, Memory>
-    requires nodes { AreNodes shape.now.plan.now.nodes }
-    requires few { length shape.now.plan.now.nodes ≤ MAX_NODES }
-    requires in_clocks { length shape.now.clocks.now ≡ length shape.now.plan.now.nodes }
-    requires in_own { length own.now ≡ length shape.now.plan.now.nodes }
-    requires main { IsMain clock }
-    requires levels { HasLevels shape.now.clocks.now clock (length shape.now.plan.now.nodes) }
-    requires lanes { IsClockState shape.now.plan.now shape.now.library.now shape.now.clocks.now lanes.old }
+    requires makes { CanMake shape.now clock own.now lanes.old }
     requires short { most ≤ 1024 }
     requires readers { ReadersAreIn shape.now.plan.now (T.buffers taps.old) }
-    ensures lanes { IsClockState shape.now.plan.now shape.now.library.now shape.now.clocks.now lanes.new }
+    ensures lanes { IsClockStateOver shape.now lanes.new }
     ensures buffers { T.buffers taps.new ≡ T.buffers taps.old }
     ensures same { T.same taps.old taps.new }
     ensures within { IfOk result (λ many. many ≤ most) }
-    ensures run { IfOk result (λ many. SegmentRun T.stands shape.now.plan.now shape.now.library.now shape.now.clocks.now clock own.now many lanes.old lanes.new taps.old taps.new) }
-    ensures broken { OnErr result (SegmentBroken T.stands shape.now.plan.now shape.now.library.now shape.now.clocks.now clock own.now lanes.old taps.old taps.new) }
+    ensures run { IfOk result (λ many. SegmentRunOver T.stands shape.now clock own.now many lanes.old lanes.new taps.old taps.new) }
+    ensures broken { OnErr result (SegmentBrokenOver T.stands shape.now clock own.now lanes.old taps.old taps.new) }
     ensures reads { OnErr result (HasReader shape.now.plan.now shape.now.clocks.now clock) }
 {
     let time = lanes.time;

@@ -7,8 +7,8 @@ ghost use Rattle.std.specs.Prelude.{◌≡◌, ◌<◌, ◌+◌, ◌⊎◌, ℕ,
 ghost use Rattle.plan_core.specs.Plans.{IsWellFormed};
 ghost use Rattle.clock_infer.specs.Answers.{IsClockMap};
 ghost use Rattle.frame_core.specs.Library.{IsLibrary};
-ghost use Rattle.clock_engine.specs.ClockStates.{IsClockState};
-ghost use Rattle.clock_engine.specs.Runs.{Heard, HeardSome};
+ghost use Rattle.clock_engine.specs.ClockStates.{IsClockStateOver};
+ghost use Rattle.clock_engine.specs.Runs.{HeardOver, HeardSomeOver};
 ghost use Rattle.clock_infer.specs.declared.clock_map.NodeClock.TheVariants.{Main as InMain};
 ghost use Rattle.op_leaf.specs.Readers.{Answer};
 ghost use Rattle.clock_engine.specs.Engines.{AreClocksOf, AreParts, EngineStands, EngineStopped, IsWhole, after_tick, feed_of, outputs_of, scene_of, setting_of};
@@ -17,7 +17,7 @@ ghost use Rattle.stream_meaning.specs.Sinks.{cues, gaps};
 ghost use Rattle.clock_engine.specs.Cues.{mark_of};
 ghost use Rattle.node_states.specs.Ticks.{IsOutput, with_rest};
 ghost use Rattle.engine_instants.specs.Takes.{HasReader};
-ghost use Rattle.clock_engine.specs.Ticks.{GotSomePieces, HasEnds, HasFailed, HasMade, HaveTickRoom, IsWriteFault, RoomsFell, HaveTicksRoom};
+ghost use Rattle.clock_engine.specs.Ticks.{GotSomePieces, HasEnds, HasFailed, HasMade, HaveTickRoom, HaveTicksRoom, IsWriteFault, RoomsFell};
 
 use crate::TickFault;
 use crate::clock_state::ClockState;
@@ -154,14 +154,14 @@ fn run_parts<T: Taps>(parts: &mut EngineParts<'_>, taps: &mut T) -> Result<(), M
     requires few { parts.old.ticks < 1000000000 }
     requires buffers { T.buffers taps.old ≡ length parts.old.shape.plan.now.buffers }
     ensures kept { parts.new ≡ after_tick parts.old parts.new parts.old.ticks parts.old.stopped }
-    ensures state { IsClockState parts.old.shape.plan.now parts.old.shape.library.now parts.old.shape.clocks.now parts.new.state }
+    ensures state { IsClockStateOver parts.old.shape parts.new.state }
     ensures frames { All (λ feed. length feed.frame ≡ parts.old.shape.plan.now.frame) parts.new.feeds.items }
     ensures feeds { map feed_of parts.new.feeds.items ≡ map feed_of parts.old.feeds.items }
     ensures buffers { T.buffers taps.new ≡ T.buffers taps.old }
     ensures same { T.same taps.old taps.new }
-    ensures heard { OnOk result (Heard T.stands parts.old.shape.plan.now parts.old.shape.library.now parts.old.shape.clocks.now (InMain parts.old.clock) parts.old.own.items parts.old.shape.plan.now.frame
+    ensures heard { OnOk result (HeardOver T.stands parts.old.shape (InMain parts.old.clock) parts.old.own.items parts.old.shape.plan.now.frame
         (scene_of parts.old taps.old) (scene_of parts.new taps.new)) }
-    ensures stopped { OnErr result (HeardSome T.stands parts.old.shape.plan.now parts.old.shape.library.now parts.old.shape.clocks.now (InMain parts.old.clock) parts.old.own.items parts.old.shape.plan.now.frame
+    ensures stopped { OnErr result (HeardSomeOver T.stands parts.old.shape (InMain parts.old.clock) parts.old.own.items parts.old.shape.plan.now.frame
         (scene_of parts.old taps.old) (scene_of parts.new taps.new)) }
     ensures cues { parts.new.cues.keeping ≡ parts.old.cues.keeping }
     ensures needs { OnErr result (HasReader parts.old.shape.plan.now parts.old.shape.clocks.now (InMain parts.old.clock) ⊎ (parts.old.cues.keeping ≡ true)) }
@@ -188,14 +188,14 @@ fn run_or_stop<T: Taps>(parts: &mut EngineParts<'_>, taps: &mut T) -> Result<(),
     requires buffers { T.buffers taps.old ≡ length parts.old.shape.plan.now.buffers }
     ensures kept { OnOk result (parts.new ≡ after_tick parts.old parts.new parts.old.ticks parts.old.stopped) }
     ensures ended { IfErr result (λ fault. (fault ≡ OutOfMemory) × (parts.new ≡ after_tick parts.old parts.new parts.old.ticks (Some OutOfMemory))) }
-    ensures state { IsClockState parts.old.shape.plan.now parts.old.shape.library.now parts.old.shape.clocks.now parts.new.state }
+    ensures state { IsClockStateOver parts.old.shape parts.new.state }
     ensures frames { All (λ feed. length feed.frame ≡ parts.old.shape.plan.now.frame) parts.new.feeds.items }
     ensures feeds { map feed_of parts.new.feeds.items ≡ map feed_of parts.old.feeds.items }
     ensures buffers { T.buffers taps.new ≡ T.buffers taps.old }
     ensures same { T.same taps.old taps.new }
-    ensures heard { OnOk result (Heard T.stands parts.old.shape.plan.now parts.old.shape.library.now parts.old.shape.clocks.now (InMain parts.old.clock) parts.old.own.items parts.old.shape.plan.now.frame
+    ensures heard { OnOk result (HeardOver T.stands parts.old.shape (InMain parts.old.clock) parts.old.own.items parts.old.shape.plan.now.frame
         (scene_of parts.old taps.old) (scene_of parts.new taps.new)) }
-    ensures stopped { OnErr result (HeardSome T.stands parts.old.shape.plan.now parts.old.shape.library.now parts.old.shape.clocks.now (InMain parts.old.clock) parts.old.own.items parts.old.shape.plan.now.frame
+    ensures stopped { OnErr result (HeardSomeOver T.stands parts.old.shape (InMain parts.old.clock) parts.old.own.items parts.old.shape.plan.now.frame
         (scene_of parts.old taps.old) (scene_of parts.new taps.new)) }
     ensures cues { parts.new.cues.keeping ≡ parts.old.cues.keeping }
     ensures needs { OnErr result (HasReader parts.old.shape.plan.now parts.old.shape.clocks.now (InMain parts.old.clock) ⊎ (parts.old.cues.keeping ≡ true)) }

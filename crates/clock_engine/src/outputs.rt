@@ -1,11 +1,11 @@
 // The outputs of a new engine.
-ghost use Rattle.std.specs.Prelude.{◌≡◌, ◌<◌, ◌≤◌, ◌^◌, ℕ, All, map, length, IfOk};
+ghost use Rattle.std.specs.Prelude.{◌≡◌, ◌<◌, ◌≤◌, ◌^◌, All, map, length, IfOk};
 ghost use Rattle.plan_core.specs.Plans.{sink_node};
 ghost use Rattle.stream_meaning.specs.Instants.{Setting};
 ghost use Rattle.stream_meaning.specs.Sinks.{is_wide};
-ghost use Rattle.engine_instants.specs.States.{over};
 ghost use Rattle.clock_engine.specs.Beginnings.{IsNewFeed, IsNewPort};
 ghost use Rattle.clock_engine.specs.Engines.{feed_of, feeds_of, output_of, outputs_of};
+ghost use Rattle.engine_instants.specs.Shapes.{setting_over};
 
 use crate::parts::is_main;
 use clock_outputs::{FeedPort, Piece, Port, block_size};
@@ -21,8 +21,8 @@ pub fn ports_of(alloc: Global, shape: &Shape<'_>, clock: u32) -> Result<Vec<Port
     requires frame { shape.now.plan.now.frame ≤ 65536 }
     requires sinks { All (λ sink. sink_node sink < length shape.now.plan.now.nodes) shape.now.plan.now.sinks }
     requires few { length shape.now.plan.now.sinks < 2 ^ 32 }
-    ensures outputs { IfOk result (λ ports. (other : Setting) → map output_of ports.items ≡ outputs_of (over shape.now.plan.now shape.now.library.now shape.now.clocks.now other) clock) }
-    ensures new { IfOk result (λ ports. (other : Setting) → All (IsNewPort (over shape.now.plan.now shape.now.library.now shape.now.clocks.now other)) ports.items) }
+    ensures outputs { IfOk result (λ ports. (other : Setting) → map output_of ports.items ≡ outputs_of (setting_over shape.now other) clock) }
+    ensures new { IfOk result (λ ports. (other : Setting) → All (IsNewPort (setting_over shape.now other)) ports.items) }
 {
     let sinks = shape.plan.sinks.as_slice();
     let mut ports = Vec::with_capacity(alloc, sinks.len())?;
@@ -48,9 +48,9 @@ fn port_of(
 ) -> Result<Port, Memory>
     requires within { node < length shape.now.plan.now.nodes }
     requires frame { shape.now.plan.now.frame ≤ 65536 }
-    requires width { (other : Setting) → wide ≡ is_wide (over shape.now.plan.now shape.now.library.now shape.now.clocks.now other) sink }
+    requires width { (other : Setting) → wide ≡ is_wide (setting_over shape.now other) sink }
     ensures output { IfOk result (λ port. output_of port ≡ (sink, node)) }
-    ensures new { IfOk result (λ port. (other : Setting) → IsNewPort (over shape.now.plan.now shape.now.library.now shape.now.clocks.now other) port) }
+    ensures new { IfOk result (λ port. (other : Setting) → IsNewPort (setting_over shape.now other) port) }
 {
     let kind = shape.plan.nodes.as_slice()[node as usize].kind;
     let room = shape.plan.frame as usize * block_size(wide, kind);
@@ -71,7 +71,7 @@ pub fn feeds_of(alloc: Global, shape: &Shape<'_>, clock: u32) -> Result<Vec<Feed
     requires in_clocks { length shape.now.clocks.now ≡ length shape.now.plan.now.nodes }
     requires frame { shape.now.plan.now.frame ≤ 65536 }
     requires sinks { All (λ sink. sink_node sink < length shape.now.plan.now.nodes) shape.now.plan.now.sinks }
-    ensures feeds { IfOk result (λ feeds. (other : Setting) → map feed_of feeds.items ≡ feeds_of (over shape.now.plan.now shape.now.library.now shape.now.clocks.now other) clock) }
+    ensures feeds { IfOk result (λ feeds. (other : Setting) → map feed_of feeds.items ≡ feeds_of (setting_over shape.now other) clock) }
     ensures new { IfOk result (λ feeds. All (IsNewFeed shape.now.plan.now.frame) feeds.items) }
 {
     let sinks = shape.plan.sinks.as_slice();

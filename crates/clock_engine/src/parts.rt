@@ -2,15 +2,15 @@
 ghost use Rattle.std.specs.Prelude.{◌≡◌, ◌<◌, ◌≤◌, ◌||◌, ℕ, Some, All, false, nat_eq, length, slice_get, slice_index_or, IfOk};
 ghost use Rattle.std.specs.List.{list_any};
 ghost use Rattle.liq_base.specs.declared.limits.TheConstants.{MAX_CHILDREN, MAX_NODES};
-ghost use Rattle.plan_core.specs.declared.node.Node.{Node as PlanNode};
 ghost use Rattle.plan_core.specs.Plans.{AreNodes, IsInRange, sink_node};
 ghost use Rattle.clock_infer.specs.declared.clock_map.NodeClock.TheVariants.{Main as InMain};
 ghost use Rattle.stream_meaning.specs.Instants.{Setting, is_root, same_clock};
 ghost use Rattle.node_states.specs.declared.time.WeekTime.{WeekTime as Time};
-ghost use Rattle.engine_instants.specs.States.{HasRoomFor, over};
+ghost use Rattle.engine_instants.specs.States.{HasRoomFor};
 ghost use Rattle.engine_instants.specs.Takes.{IsUnder};
 ghost use Rattle.sub_clocks.specs.Clocks.{AreOwnRoots};
 ghost use Rattle.clock_engine.specs.Beginnings.{AreNewStates, IsNewState};
+ghost use Rattle.engine_instants.specs.Shapes.{setting_over};
 
 use clock_infer::NodeClock;
 use engine_instants::Shape;
@@ -50,7 +50,7 @@ pub fn own_roots(alloc: Global, shape: &Shape<'_>) -> Result<Vec<bool>, Memory>
     requires in_clocks { length shape.now.clocks.now ≡ length shape.now.plan.now.nodes }
     requires sinks { All (λ sink. sink_node sink < length shape.now.plan.now.nodes) shape.now.plan.now.sinks }
     ensures size { IfOk result (λ own. length own.items ≡ length shape.now.plan.now.nodes) }
-    ensures roots { IfOk result (λ own. (other : Setting) → AreOwnRoots (over shape.now.plan.now shape.now.library.now shape.now.clocks.now other) own.items) }
+    ensures roots { IfOk result (λ own. (other : Setting) → AreOwnRoots (setting_over shape.now other) own.items) }
 {
     let mut own = vec![in alloc; false; shape.clocks.len()]?;
     mark_roots(shape, &mut own);
@@ -137,7 +137,7 @@ fn mark_roots(shape: &Shape<'_>, own: &mut [bool])
     requires sinks { All (λ sink. sink_node sink < length own.old) shape.now.plan.now.sinks }
     requires none { (i : ℕ) → slice_index_or own.old i false ≡ false }
     ensures { (other : Setting) (i : ℕ) → i < length own.old
-        → slice_index_or own.new i false ≡ is_root (over shape.now.plan.now shape.now.library.now shape.now.clocks.now other) (slice_index_or shape.now.clocks.now i (InMain 0)) i }
+        → slice_index_or own.new i false ≡ is_root (setting_over shape.now other) (slice_index_or shape.now.clocks.now i (InMain 0)) i }
 {
     mark_sinks(shape.plan.sinks.as_slice(), own);
     keep_roots(shape, own);
@@ -158,7 +158,7 @@ fn keep_roots(shape: &Shape<'_>, own: &mut [bool])
     requires in_clocks { length shape.now.clocks.now ≡ length own.old }
     requires marks { (i : ℕ) → slice_index_or own.old i false ≡ list_any (λ sink. nat_eq (sink_node sink) i) shape.now.plan.now.sinks }
     ensures { (other : Setting) (i : ℕ) → i < length own.old
-        → slice_index_or own.new i false ≡ is_root (over shape.now.plan.now shape.now.library.now shape.now.clocks.now other) (slice_index_or shape.now.clocks.now i (InMain 0)) i }
+        → slice_index_or own.new i false ≡ is_root (setting_over shape.now other) (slice_index_or shape.now.clocks.now i (InMain 0)) i }
 {
     for i in 0..shape.clocks.len() {
         own[i] = is_own_root(shape, shape.clocks[i], i, own[i]);
@@ -168,7 +168,7 @@ fn keep_roots(shape: &Shape<'_>, own: &mut [bool])
 // Whether its own clock demands node i of itself: a main clock the nodes of sinks, a sub-clock its crossfade's child.
 fn is_own_root(shape: &Shape<'_>, of: NodeClock, i: usize, has_sink: bool) -> bool
     requires { has_sink ≡ list_any (λ sink. nat_eq (sink_node sink) i) shape.now.plan.now.sinks }
-    ensures { (other : Setting) → result ≡ is_root (over shape.now.plan.now shape.now.library.now shape.now.clocks.now other) of i }
+    ensures { (other : Setting) → result ≡ is_root (setting_over shape.now other) of i }
 {
     match of {
         NodeClock::Main(_) => has_sink,

@@ -12,6 +12,7 @@ use Rattle.segment_laws.specs.Stretches.{AreFed, IsNode}
 use Rattle.node_mixing.specs.Runs.{Lanes, samples_of}
 use Rattle.node_states.specs.declared.state.NodeState.{NodeState}
 use Rattle.node_states.specs.Passing.{LaneFeeds, asked, given_part, passes}
+use Rattle.engine_instants.specs.declared.shape.Shape.{Shape}
 use Rattle.engine_instants.specs.Nodes.{lies_at}
 
 -- a part that was given: of a node that is demanded and offers a cell
@@ -45,6 +46,10 @@ pub record AreFedOn (setting : Setting) (sub : ℕ → ℕ → List Slot) (clock
 pub record AllPassOn (clocks : List NodeClock) (clock : NodeClock) (held : List Part) (states : List NodeState) (rests : List ℕ) (below count : ℕ) : Type 0 where
   pub each : (i : ℕ) (state : NodeState) → i < below → lies_at clocks clock i ≡ true → slice_get states i ≡ Some state
       → gave_at held i ≡ true → passes state ≡ true → count ≤ slice_index_or rests i 0
+
+-- the same of all crossfades of a clock
+abbrev pub AllPassOnOver : Shape → NodeClock → List Part → List NodeState → (rests : List ℕ) → (count : ℕ) → Type 0
+AllPassOnOver shape clock held states rests count = AllPassOn shape.clocks.now clock held states rests (length shape.clocks.now) count
 
 -- of the crossfades of a clock below this node, those that gave at the instant after these ask for this in so many instants that go on:
 -- where cells pass one slot for each, else none

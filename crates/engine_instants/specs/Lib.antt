@@ -5,3 +5,5 @@ pub mod Nodes
 pub mod Resting
 pub mod Held
 pub mod Runs
+pub mod Shapes
+pub mod Finishing

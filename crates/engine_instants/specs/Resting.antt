@@ -1,9 +1,9 @@
 -- How far a node goes on behind an instant, and with it its clock.
-use Rattle.std.specs.Prelude.{◌≡◌, ◌<◌, ◌≤◌, ◌+◌, ◌%◌, Bool, true, false, Option, Some, None, List, ℕ, length, is_some, nat_eq}
+use Rattle.std.specs.Prelude.{◌≡◌, ◌<◌, ◌≤◌, ◌+◌, ◌%◌, Bool, true, false, Option, Some, None, List, ◌∷◌, ℕ, suc, length, is_some, nat_eq}
 use Rattle.plan_core.specs.declared.node.Node.{Node}
 use Rattle.clock_infer.specs.declared.clock_map.NodeClock.{NodeClock}
 use Rattle.frame_core.specs.Slots.{Slot, slot_at, is_first, title_of}
-use Rattle.op_cross.specs.Runs.{item_of}
+use Rattle.op_cross.specs.Runs.{item_of, run_of}
 use Rattle.op_leaf.specs.declared.leaf.Leaf.{Leaf}
 use Rattle.op_leaf.specs.Leaves.{leaf_slot}
 use Rattle.op_leaf.specs.Readers.{read_by, reader_slot}
@@ -11,7 +11,12 @@ use Rattle.stream_meaning.specs.declared.part.Part.{Part}
 use Rattle.stream_meaning.specs.Operators.{Choice, Eligible, Plays, Picks, Fades, Reads, marks_at}
 use Rattle.stream_meaning.specs.Instants.{Setting, Moment, count, gives, last_pick, moment_after, offer, parts_upto, position, reading_after, reading_at, second_at, slots_at, work_at}
 use Rattle.segment_laws.specs.Steady.{IsFree, is_inner}
-use Rattle.segment_laws.specs.Stretches.{IsNode, KeepsTitle}
+use Rattle.segment_laws.specs.Stretches.{AreFed, IsNode, KeepsTitle}
+use Rattle.node_states.specs.declared.state.NodeState.{NodeState}
+use Rattle.node_states.specs.Passing.{asked, passes}
+use Rattle.node_states.specs.States.{AreLong, StateStands}
+use Rattle.engine_instants.specs.declared.shape.Shape.{Shape}
+use Rattle.engine_instants.specs.Shapes.{setting_over}
 
 -- the child at a place begins a track
 abbrev pub begins_at : List Part → List ℕ → Option ℕ → Bool
@@ -47,3 +52,19 @@ pub record IsSameSecond (setting : Setting) (n second : ℕ) : Type 0 where
 -- so many instants lie behind this one in its tick
 pub record IsSameTick (setting : Setting) (n tick : ℕ) : Type 0 where
   pub each : (j : ℕ) → 0 < j → j ≤ tick → nat_eq ((n + j) % setting.plan.frame) 0 ≡ false
+
+-- node i, which has this part and gave this, goes on for so many instants, whatever instants its state stood for; and where it is a crossfade, it
+-- asks for one slot in each of them where cells pass, else for none
+pub record NodeGoesOn (shape : Shape) (i : ℕ) (parts : List Part) (held : Part) (state : NodeState) (below below_title second tick rest : ℕ) : Type 0 where
+  pub goes : (other : Setting) (sub : ℕ → ℕ → List Slot) (clock : NodeClock) (past : List Moment) (fed : ℕ) (node : Node) →
+      let setting = setting_over shape other in
+      AreLong sub → IsNode setting clock i node → StateStands setting sub (moment_after setting sub clock past ∷ past) fed i (work_at setting i node) state
+      → parts ≡ (moment_after setting sub clock past).parts → gives (moment_after setting sub clock past) i ≡ is_some held.slot
+      → ((buffer : ℕ) → work_at setting i node ≡ Reads buffer → fed ≡ suc (length past))
+      → (is_some held.slot ≡ true → passes state ≡ true → AreFed setting sub i fed below below_title)
+      → IsSameSecond setting (length past) second → IsSameTick setting (length past) tick
+      → NodeStretches setting sub clock past i node rest
+  pub asks : (setting : Setting) (sub : ℕ → ℕ → List Slot) (past : List Moment) (moment : Moment) (fed overlap j : ℕ)
+      → AreLong sub → StateStands setting sub (moment ∷ past) fed i (Fades overlap) state → gives moment i ≡ is_some held.slot → is_some held.slot ≡ true
+      → (passes state ≡ true → AreFed setting sub i fed below below_title) → j < rest
+      → run_of overlap (sub i) (suc (position past i) + j) ≡ fed + asked (passes state) j

@@ -17,9 +17,12 @@ use Rattle.node_states.specs.Runs.{LiesAhead, fed_on}
 use Rattle.node_states.specs.States.{AreLong, StateStands, reads, reads_at}
 use Rattle.node_states.specs.Times.{TimeStands}
 use Rattle.engine_instants.specs.declared.runs.Runs.{Runs}
-use Rattle.engine_instants.specs.Held.{AreFedOn, AreSupplied, IsHeld, gave_at, goes_through}
+use Rattle.engine_instants.specs.declared.runs.Spare.{Spare}
+use Rattle.engine_instants.specs.declared.shape.Shape.{Shape}
+use Rattle.engine_instants.specs.Held.{AllAsk, AreFedOn, AreSupplied, IsHeld, gave_at, goes_through}
 use Rattle.engine_instants.specs.Nodes.{lies_at}
 use Rattle.engine_instants.specs.Resting.{AreReadTo}
+use Rattle.engine_instants.specs.Shapes.{setting_over}
 use Rattle.engine_instants.specs.States.{ClockStands}
 
 -- node i has a lane on each side, with room for any run
@@ -27,12 +30,16 @@ pub record HasLanes (left right : Lanes) (i : ℕ) : Type 0 where
   pub on_left : HasLane left i
   pub on_right : HasLane right i
 
+-- room for any run on each side
+pub record IsSpare (spare : Spare) : Type 0 where
+  pub on_left : 1024 ≤ length spare.left.items
+  pub on_right : 1024 ≤ length spare.right.items
+
 -- room for the runs of so many nodes, of which some have lanes; between two runs no node has a part
 pub record HasRunRoom (nodes : ℕ) (runs : Runs) : Type 0 where
   pub in_left : length runs.left.items ≡ nodes
   pub in_right : length runs.right.items ≡ nodes
-  pub in_spare_left : 1024 ≤ length runs.spare_left.items
-  pub in_spare_right : 1024 ≤ length runs.spare_right.items
+  pub in_spare : IsSpare runs.spare
   pub in_held : length runs.held.items ≡ nodes
   pub in_rests : length runs.rests.items ≡ nodes
   pub in_parts : length runs.parts.items ≡ nodes
@@ -49,6 +56,10 @@ pub record AllLieAhead (library : Sounds) (clocks : List NodeClock) (clock : Nod
   pub each : (i : ℕ) (state : NodeState) → i < below → lies_at clocks clock i ≡ true → slice_get states i ≡ Some state
       → gave_at held i ≡ true → LiesAhead library state count
 
+-- the same of all nodes of a clock
+abbrev pub AllLieAheadOver : Shape → NodeClock → List Part → List NodeState → (count : ℕ) → Type 0
+AllLieAheadOver shape clock held states count = AllLieAhead shape.library.now shape.clocks.now clock held states (length shape.clocks.now) count
+
 -- the latest instant of a clock is the one after these, at this time: these are its parts, what was given there is held, and the states
 -- stand for it too; and sub-clocks go on for so long
 pub record IsBehind (setting : Setting) (sub : ℕ → ℕ → List Slot) (clock : NodeClock) (past : List Moment) (fed : ℕ → ℕ) (time : WeekTime)
@@ -60,6 +71,17 @@ pub record IsBehind (setting : Setting) (sub : ℕ → ℕ → List Slot) (clock
   pub begun : AreReadTo setting clock fed (suc (length past))
   pub time_is : TimeStands setting.start (length past) time
   pub fed_on : AreFedOn setting sub clock past fed held states rests
+
+-- so many instants go on as the latest one of a clock did, whatever instants the states stood for: they are a stretch with it, and for them
+-- each crossfade that gave asks for a slot an instant where cells pass, else for none
+pub record ClockGoesOn (shape : Shape) (clock : NodeClock) (time : WeekTime) (parts held : List Part) (states : List NodeState) (rests : List ℕ)
+    (rest : ℕ) : Type 0 where
+  pub stretch : (other : Setting) (sub : ℕ → ℕ → List Slot) (past : List Moment) (fed : ℕ → ℕ) →
+      let setting = setting_over shape other in
+      IsBehind setting sub clock past fed time parts held states rests → IsStretch setting sub clock past (suc rest)
+  pub asks : (other : Setting) (sub : ℕ → ℕ → List Slot) (past : List Moment) (fed : ℕ → ℕ) →
+      let setting = setting_over shape other in
+      IsBehind setting sub clock past fed time parts held states rests → AllAsk setting sub clock past fed states (length shape.clocks.now) rest
 
 -- what was given at the instant after these is held, with which so many instants are a stretch, the states stand for it too, the nodes of
 -- the clock have lanes, and the crossfades through which cells pass have the samples of their children
@@ -117,3 +139,45 @@ pub record NodeHasMade (setting : Setting) (sub : ℕ → ℕ → List Slot) (cl
   pub gave : gives (moment_after setting sub clock past) i ≡ true
   pub stands : StateStands setting sub (going_on setting sub clock (suc many) past) (fed_on (passes old || reads (work_at setting i node)) many fed) i (work_at setting i node) state
   pub lane_is : IsLane (λ j. lane setting sub clock past (suc j) i) many left right
+
+-- so many instants are made at once: one at least, and no more than a run has
+pub record AreAtOnce (many : ℕ) : Type 0 where
+  pub some : 0 < many
+  pub short : many ≤ 1024
+
+-- node i has the samples that it had
+pub record HasKeptSamples (left_old right_old left right : Lanes) (many i : ℕ) : Type 0 where
+  pub on_left : samples_of left i many ≡ samples_of left_old i many
+  pub on_right : samples_of right i many ≡ samples_of right_old i many
+
+-- what was held of so many nodes, no part of any, their lanes, and spare ones
+pub record HasRoomToRun (nodes : ℕ) (held parts : List Part) (left right : Lanes) (spare : Spare) : Type 0 where
+  pub in_held : length held ≡ nodes
+  pub in_parts : length parts ≡ nodes
+  pub clear : (j : ℕ) → part_at parts j ≡ silent
+  pub in_left : length left ≡ nodes
+  pub in_right : length right ≡ nodes
+  pub in_spare : IsSpare spare
+
+-- the nodes of a clock have made so many instants that go on as its latest one, whatever instants the states stood for
+pub record NodesRun (shape : Shape) (clock : NodeClock) (many : ℕ) (held : List Part) (old : List NodeState) (left_old right_old left right : Lanes)
+    (states : List NodeState) : Type 0 where
+  pub run : (other : Setting) (sub : ℕ → ℕ → List Slot) (past : List Moment) (fed : ℕ → ℕ) →
+      let setting = setting_over shape other in
+      IsGoing setting sub clock past many fed held old left_old right_old → HasGoneOn setting sub clock past many fed old left right states
+
+-- node i has made them, whatever instants its state stood for
+pub record NodeRun (shape : Shape) (i many : ℕ) (held parts : List Part) (old : NodeState) (left_old right_old left right : Lanes)
+    (state : NodeState) : Type 0 where
+  pub run : (other : Setting) (sub : ℕ → ℕ → List Slot) (clock : NodeClock) (past : List Moment) (fed : ℕ) (node : Node) →
+      let setting = setting_over shape other in
+      NodeGivesOn setting sub clock past many fed i node held parts left_old right_old old
+      → NodeHasRun setting sub clock past many fed i node old left right state
+
+-- node i, which gave, has made these samples of them
+pub record NodeMade (shape : Shape) (i many : ℕ) (held parts : List Part) (old : NodeState) (left_old right_old : Lanes) (left right : List ℤ)
+    (state : NodeState) : Type 0 where
+  pub made : (other : Setting) (sub : ℕ → ℕ → List Slot) (clock : NodeClock) (past : List Moment) (fed : ℕ) (node : Node) →
+      let setting = setting_over shape other in
+      NodeGivesOn setting sub clock past many fed i node held parts left_old right_old old
+      → NodeHasMade setting sub clock past many fed i node old left right state

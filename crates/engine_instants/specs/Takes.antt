@@ -14,6 +14,7 @@ use Rattle.stream_meaning.specs.Instants.{Setting, Moment, lies_in, reading_afte
 use Rattle.stream_meaning.specs.Calls.{HasAnswers, IsBegin, after_calls, answers_in, joined_upto, takes_by, takes_in}
 use Rattle.node_states.specs.declared.state.NodeState.{NodeState}
 use Rattle.node_states.specs.States.{StateStands, reading_by, reads_at, reads}
+use Rattle.engine_instants.specs.declared.shape.Shape.{Shape}
 use Rattle.engine_instants.specs.States.{ClockStands, IsIn, over}
 
 -- node i of a plan reads a buffer
@@ -79,6 +80,10 @@ pub record NodeBegan {T : Type 0} (stands : T → List Call → Type 0) (plan : 
       → ((buffer : ℕ) → work_at setting i node ≡ Reads buffer → (reading_after setting i buffer past).taken ≡ length (front buffer))
       → HasBegun setting sub past fed i (work_at setting i node) front more new
 
+-- the same over a shape
+abbrev pub NodeBeganOver : {T : Type 0} → (T → List Call → Type 0) → Shape → (i : ℕ) → NodeState → NodeState → T → T → Type 0
+NodeBeganOver stands shape i old new taps_old taps_new = NodeBegan stands shape.plan.now shape.library.now shape.clocks.now i old new taps_old taps_new
+
 -- some of these calls were made
 pub record NodeTookSome {T : Type 0} (stands : T → List Call → Type 0) (plan : Plan) (library : Sounds) (clocks : List NodeClock) (i : ℕ)
     (old : NodeState) (taps_old taps_new : T) : Type 0 where
@@ -90,6 +95,10 @@ pub record NodeTookSome {T : Type 0} (stands : T → List Call → Type 0) (plan
       → StateStands setting sub past fed i (work_at setting i node) old → (reads (work_at setting i node) ≡ true → fed ≡ length past)
       → ((buffer : ℕ) → work_at setting i node ≡ Reads buffer → (reading_after setting i buffer past).taken ≡ length (front buffer))
       → IsBegin made (takes_in setting true past i (Some node))
+
+-- the same over a shape
+abbrev pub NodeTookSomeOver : {T : Type 0} → (T → List Call → Type 0) → Shape → (i : ℕ) → NodeState → T → T → Type 0
+NodeTookSomeOver stands shape i old taps_old taps_new = NodeTookSome stands shape.plan.now shape.library.now shape.clocks.now i old taps_old taps_new
 
 -- the calls of the readers of a clock, node by node
 abbrev pub takes_below : Setting → NodeClock → List Moment → (n : ℕ) → List Call
@@ -114,6 +123,10 @@ pub record HaveBegun {T : Type 0} (stands : T → List Call → Type 0) (plan : 
       → ClockStands setting sub clock past fed old → HaveTaken setting clock past fed front
       → AreBegun setting sub clock past fed front more new
 
+-- the same over a shape
+abbrev pub HaveBegunOver : {T : Type 0} → (T → List Call → Type 0) → Shape → NodeClock → List NodeState → List NodeState → T → T → Type 0
+HaveBegunOver stands shape clock old new taps_old taps_new = HaveBegun stands shape.plan.now shape.library.now shape.clocks.now clock old new taps_old taps_new
+
 pub record HaveTakenSome {T : Type 0} (stands : T → List Call → Type 0) (plan : Plan) (library : Sounds) (clocks : List NodeClock) (clock : NodeClock)
     (old : List NodeState) (taps_old taps_new : T) : Type 0 where
   pub made : List Call
@@ -123,3 +136,7 @@ pub record HaveTakenSome {T : Type 0} (stands : T → List Call → Type 0) (pla
       HasOwnReaders setting → nat_eq (length past % setting.plan.frame) 0 ≡ true → HasAnswers setting (after_calls front made)
       → ClockStands setting sub clock past fed old → HaveTaken setting clock past fed front
       → IsBegin made (takes_below setting clock past (length setting.plan.nodes))
+
+-- the same over a shape
+abbrev pub HaveTakenSomeOver : {T : Type 0} → (T → List Call → Type 0) → Shape → NodeClock → List NodeState → T → T → Type 0
+HaveTakenSomeOver stands shape clock old taps_old taps_new = HaveTakenSome stands shape.plan.now shape.library.now shape.clocks.now clock old taps_old taps_new

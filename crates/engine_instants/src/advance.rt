@@ -5,7 +5,8 @@ ghost use Rattle.frame_core.specs.Slots.{Slot as TheSlot};
 ghost use Rattle.stream_meaning.specs.Instants.{Setting, Moment, parts_upto, same_clock};
 ghost use Rattle.node_states.specs.States.{AreLong};
 ghost use Rattle.engine_instants.specs.Nodes.{AreNodesOf};
-ghost use Rattle.engine_instants.specs.States.{AllFit, AreSettled, ClockStands, over};
+ghost use Rattle.engine_instants.specs.Shapes.{AllFitOver, IsShape, setting_over};
+ghost use Rattle.engine_instants.specs.States.{AreSettled, ClockStands};
 
 use crate::{ClockNodes, Shape};
 use clock_infer::NodeClock;
@@ -21,15 +22,15 @@ pub fn advance_all(
     marks: &[bool],
     states: &mut [NodeState],
 )
-    requires in_clocks { length shape.now.clocks.now ≡ length shape.now.plan.now.nodes }
+    requires shape { IsShape shape.now }
     requires chains { AreNodesOf shape.now.clocks.now nodes.now }
     requires in_parts { length parts.now ≡ length shape.now.plan.now.nodes }
     requires in_marks { length marks.now ≡ length shape.now.plan.now.nodes }
-    requires fit { AllFit shape.now.plan.now shape.now.library.now states.old }
-    ensures fit { AllFit shape.now.plan.now shape.now.library.now states.new }
+    requires fit { AllFitOver shape.now states.old }
+    ensures fit { AllFitOver shape.now states.new }
     ensures others { (i : ℕ) → same_clock (slice_index_or shape.now.clocks.now i (InMain 0)) clock ≡ false → slice_get states.new i ≡ slice_get states.old i }
     ensures stand { (setting : Setting) (sub : ℕ → ℕ → List TheSlot) (past : List Moment) (moment : Moment) (fed : ℕ → ℕ) →
-        let setting = over shape.now.plan.now shape.now.library.now shape.now.clocks.now setting in
+        let setting = setting_over shape.now setting in
         AreLong sub → ClockStands setting sub clock past fed states.old → AreSettled setting sub clock past fed
         → parts.now ≡ parts_upto setting sub clock past (length shape.now.plan.now.nodes)
         → moment.parts ≡ parts.now → moment.demands ≡ marks.now

@@ -4,11 +4,11 @@ ghost use Rattle.std.specs.List.{list_any};
 ghost use Rattle.liq_base.specs.declared.memory.Kind.{Kind as TheKind};
 ghost use Rattle.clock_infer.specs.declared.clock_map.NodeClock.{NodeClock as Clock};
 ghost use Rattle.frame_core.specs.Library.{Sounds};
-ghost use Rattle.plan_core.specs.Plans.{AreNodes};
 ghost use Rattle.stream_meaning.specs.Operators.{work_of};
 ghost use Rattle.stream_meaning.specs.Instants.{Setting, child_at, demands_from, offering, part_at, silent, uses_by, uses_from};
 ghost use Rattle.engine_instants.specs.Demands.{PicksOffer, uses_in};
 ghost use Rattle.engine_instants.specs.Nodes.{AreNodesOf, lies_at};
+ghost use Rattle.engine_instants.specs.Shapes.{IsShape};
 ghost use Rattle.engine_instants.specs.States.{over};
 
 use crate::{ClockNodes, Shape};
@@ -33,8 +33,7 @@ pub fn mark_demanded(
     parts: &[Part],
     marks: &mut [bool],
 )
-    requires nodes { AreNodes shape.now.plan.now.nodes }
-    requires in_clocks { length shape.now.clocks.now ≡ length shape.now.plan.now.nodes }
+    requires shape { IsShape shape.now }
     requires chains { AreNodesOf shape.now.clocks.now nodes.now }
     requires in_parts { length parts.now ≡ length shape.now.plan.now.nodes }
     requires in_marks { length marks.old ≡ length shape.now.plan.now.nodes }

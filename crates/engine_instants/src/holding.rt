@@ -4,9 +4,9 @@ ghost use Rattle.stream_meaning.specs.Instants.{part_at};
 ghost use Rattle.engine_instants.specs.Held.{given_by};
 ghost use Rattle.engine_instants.specs.Nodes.{AreNodesOf, lies_at};
 
-use crate::resting::gives;
 use crate::{ClockNodes, Shape};
 use clock_infer::NodeClock;
+use node_states::gives;
 use stream_meaning::Part;
 
 /// Holds what the nodes of a clock gave at an instant at which they had these parts and marks.

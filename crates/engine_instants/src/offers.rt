@@ -1,13 +1,13 @@
 // What the nodes of a clock do at an instant.
 ghost use Rattle.std.specs.Prelude.{◌≡◌, ◌<◌, ℕ, List, Some, true, false, length, slice_get};
 ghost use Rattle.plan_core.specs.declared.node.Node.{Node as PlanNode};
-ghost use Rattle.plan_core.specs.Plans.{AreNodes};
 ghost use Rattle.clock_infer.specs.declared.clock_map.NodeClock.{NodeClock as Clock};
 ghost use Rattle.frame_core.specs.Slots.{Slot as TheSlot};
 ghost use Rattle.stream_meaning.specs.Instants.{Setting, Moment, lies_in, part_at, part_in, parts_upto, second_at, silent, work_at};
 ghost use Rattle.node_states.specs.States.{AreLong, Fits, IsSettled, StateStands};
 ghost use Rattle.engine_instants.specs.Nodes.{AreNodesOf, lies_at};
-ghost use Rattle.engine_instants.specs.States.{AllFit, AreSettled, ClockStands, HasRoomFor, IsIn, over};
+ghost use Rattle.engine_instants.specs.Shapes.{AllFitOver, IsShape, setting_over};
+ghost use Rattle.engine_instants.specs.States.{AreSettled, ClockStands, HasRoomFor, IsIn};
 
 use crate::{ClockNodes, Shape};
 use clock_infer::NodeClock;
@@ -25,17 +25,16 @@ pub fn make_parts(
     parts: &mut [Part],
     desk: &mut Desk,
 )
-    requires nodes { AreNodes shape.now.plan.now.nodes }
-    requires in_clocks { length shape.now.clocks.now ≡ length shape.now.plan.now.nodes }
+    requires shape { IsShape shape.now }
     requires chains { AreNodesOf shape.now.clocks.now nodes.now }
     requires in_parts { length parts.old ≡ length shape.now.plan.now.nodes }
     requires none { (j : ℕ) → part_at parts.old j ≡ silent }
-    requires fit { AllFit shape.now.plan.now shape.now.library.now states.now }
+    requires fit { AllFitOver shape.now states.now }
     requires room { HasRoomFor shape.now.plan.now desk.old }
     ensures room { desk.new ≡ desk.old }
     ensures others { (j : ℕ) → lies_at shape.now.clocks.now clock j ≡ false → part_at parts.new j ≡ silent }
     ensures parts { (setting : Setting) (sub : ℕ → ℕ → List TheSlot) (past : List Moment) (fed : ℕ → ℕ) →
-        let setting = over shape.now.plan.now shape.now.library.now shape.now.clocks.now setting in
+        let setting = setting_over shape.now setting in
         at.second ≡ second_at setting (length past) → AreLong sub → ClockStands setting sub clock past fed states.now
         → AreSettled setting sub clock past fed
         → parts.new ≡ parts_upto setting sub clock past (length shape.now.plan.now.nodes) }
@@ -56,13 +55,13 @@ fn offer_of(
     parts: &[Part],
     desk: &mut Desk,
 ) -> Part
-    requires nodes { AreNodes shape.now.plan.now.nodes }
+    requires shape { IsShape shape.now }
     requires within { i < length shape.now.plan.now.nodes }
     requires fits { (node : PlanNode) → slice_get shape.now.plan.now.nodes i ≡ Some node → Fits shape.now.library.now (length node.children) state.now }
     requires room { HasRoomFor shape.now.plan.now desk.old }
     ensures room { desk.new ≡ desk.old }
     ensures part { (setting : Setting) (sub : ℕ → ℕ → List TheSlot) (clock : Clock) (past : List Moment) (fed : ℕ) →
-        let setting = over shape.now.plan.now shape.now.library.now shape.now.clocks.now setting in
+        let setting = setting_over shape.now setting in
         at.second ≡ second_at setting (length past) → AreLong sub → lies_in setting clock i ≡ true
         → ((node : PlanNode) → IsIn setting clock i node → StateStands setting sub past fed i (work_at setting i node) state.now)
         → ((node : PlanNode) → IsIn setting clock i node → IsSettled sub past fed i (work_at setting i node))

@@ -1,22 +1,16 @@
 // How many instants go on as the latest one of a clock did.
-ghost use Rattle.std.specs.Prelude.{◌≡◌, ◌<◌, ◌≤◌, ◌∷◌, ◌+◌, ◌&&◌, is_some, ℕ, suc, true, false, List, Option, Some, length, slice_get};
+ghost use Rattle.std.specs.Prelude.{◌≡◌, ◌<◌, ◌≤◌, is_some, ℕ, true, Some, length, slice_get};
 ghost use Rattle.liq_base.specs.declared.memory.Kind.{Kind as TheKind};
 ghost use Rattle.plan_core.specs.declared.node.Node.{Node as PlanNode};
-ghost use Rattle.plan_core.specs.Plans.{AreNodes};
-ghost use Rattle.clock_infer.specs.declared.clock_map.NodeClock.{NodeClock as Clock};
-ghost use Rattle.frame_core.specs.Slots.{Slot as TheSlot};
-ghost use Rattle.stream_meaning.specs.Operators.{Choice, Eligible, Every, Fades, Picks, Reads, work_of};
-ghost use Rattle.stream_meaning.specs.Instants.{Setting, Moment, gives, moment_after, position, work_at};
-ghost use Rattle.op_cross.specs.Runs.{run_of};
-ghost use Rattle.segment_laws.specs.Stretches.{AreFed, IsNode, IsStretch};
-ghost use Rattle.node_states.specs.Passing.{asked, passes};
+ghost use Rattle.stream_meaning.specs.Operators.{Choice, Eligible, Every, Picks, Reads, work_of};
+ghost use Rattle.node_states.specs.Passing.{passes};
 ghost use Rattle.node_states.specs.Runs.{LiesAhead};
-ghost use Rattle.node_states.specs.States.{AreLong, Fits, StateStands};
-ghost use Rattle.engine_instants.specs.Held.{AllAsk, AllPassOn};
+ghost use Rattle.node_states.specs.States.{Fits};
+ghost use Rattle.engine_instants.specs.Held.{AllPassOnOver};
 ghost use Rattle.engine_instants.specs.Nodes.{AreNodesOf};
-ghost use Rattle.engine_instants.specs.Resting.{IsSameSecond, IsSameTick, NodeStretches, begins_at};
-ghost use Rattle.engine_instants.specs.Runs.{AllLieAhead, IsBehind};
-ghost use Rattle.engine_instants.specs.States.{AllFit, over};
+ghost use Rattle.engine_instants.specs.Resting.{NodeGoesOn, begins_at};
+ghost use Rattle.engine_instants.specs.Runs.{AllLieAheadOver, ClockGoesOn};
+ghost use Rattle.engine_instants.specs.Shapes.{AllFitOver, IsShape};
 
 use crate::held::title_below;
 use crate::{ClockNodes, Shape};
@@ -39,26 +33,19 @@ pub fn rest_of(
     time: WeekTime,
     most: u32,
 ) -> u32
-    requires nodes { AreNodes shape.now.plan.now.nodes }
+    requires shape { IsShape shape.now }
     requires rate { time.rate ≡ shape.now.plan.now.rate }
     requires frame { time.frame ≡ shape.now.plan.now.frame }
-    requires in_clocks { length shape.now.clocks.now ≡ length shape.now.plan.now.nodes }
     requires chains { AreNodesOf shape.now.clocks.now nodes.now }
     requires in_parts { length parts.now ≡ length shape.now.plan.now.nodes }
     requires in_held { length held.now ≡ length shape.now.plan.now.nodes }
     requires in_rests { length rests.now ≡ length shape.now.plan.now.nodes }
-    requires fit { AllFit shape.now.plan.now shape.now.library.now states.now }
+    requires fit { AllFitOver shape.now states.now }
     ensures within { result ≤ most }
     ensures later { result ≤ time.rate }
-    ensures ahead { AllLieAhead shape.now.library.now shape.now.clocks.now clock held.now states.now (length shape.now.clocks.now) result }
-    ensures through { AllPassOn shape.now.clocks.now clock held.now states.now rests.now (length shape.now.clocks.now) result }
-    ensures stretch { (setting : Setting) (sub : ℕ → ℕ → List TheSlot) (past : List Moment) (fed : ℕ → ℕ) →
-        let setting = over shape.now.plan.now shape.now.library.now shape.now.clocks.now setting in
-        IsBehind setting sub clock past fed time parts.now held.now states.now rests.now → IsStretch setting sub clock past (suc result) }
-    ensures asks { (setting : Setting) (sub : ℕ → ℕ → List TheSlot) (past : List Moment) (fed : ℕ → ℕ) →
-        let setting = over shape.now.plan.now shape.now.library.now shape.now.clocks.now setting in
-        IsBehind setting sub clock past fed time parts.now held.now states.now rests.now
-        → AllAsk setting sub clock past fed states.now (length shape.now.clocks.now) result }
+    ensures ahead { AllLieAheadOver shape.now clock held.now states.now result }
+    ensures through { AllPassOnOver shape.now clock held.now states.now rests.now result }
+    ensures goes { ClockGoesOn shape.now clock time parts.now held.now states.now rests.now result }
 {
     let second = time.second_left();
     let tick = time.tick_left();
@@ -97,25 +84,14 @@ fn node_rest(
     tick: u32,
     most: u32,
 ) -> u32
-    requires nodes { AreNodes shape.now.plan.now.nodes }
+    requires shape { IsShape shape.now }
     requires in_parts { length parts.now ≡ length shape.now.plan.now.nodes }
     requires within { i < length shape.now.plan.now.nodes }
     requires fits { (node : PlanNode) → slice_get shape.now.plan.now.nodes i ≡ Some node → Fits shape.now.library.now (length node.children) state.now }
     ensures within { result ≤ most }
     ensures ahead { is_some held.slot ≡ true → LiesAhead shape.now.library.now state.now result }
     ensures through { is_some held.slot ≡ true → passes state.now ≡ true → result ≤ below }
-    ensures goes { (setting : Setting) (sub : ℕ → ℕ → List TheSlot) (clock : Clock) (past : List Moment) (fed : ℕ) (node : PlanNode) →
-        let setting = over shape.now.plan.now shape.now.library.now shape.now.clocks.now setting in
-        AreLong sub → IsNode setting clock i node → StateStands setting sub (moment_after setting sub clock past ∷ past) fed i (work_at setting i node) state.now
-        → parts.now ≡ (moment_after setting sub clock past).parts → gives (moment_after setting sub clock past) i ≡ is_some held.slot
-        → ((buffer : ℕ) → work_at setting i node ≡ Reads buffer → fed ≡ suc (length past))
-        → (is_some held.slot ≡ true → passes state.now ≡ true → AreFed setting sub i fed below below_title)
-        → IsSameSecond setting (length past) second → IsSameTick setting (length past) tick
-        → NodeStretches setting sub clock past i node result }
-    ensures asks { (setting : Setting) (sub : ℕ → ℕ → List TheSlot) (past : List Moment) (moment : Moment) (fed overlap j : ℕ)
-        → AreLong sub → StateStands setting sub (moment ∷ past) fed i (Fades overlap) state.now → gives moment i ≡ is_some held.slot → is_some held.slot ≡ true
-        → (passes state.now ≡ true → AreFed setting sub i fed below below_title) → j < result
-        → run_of overlap (sub i) (suc (position past i) + j) ≡ fed + asked (passes state.now) j }
+    ensures goes { NodeGoesOn shape.now i parts.now held state.now below below_title second tick result }
 {
     let node = &shape.plan.nodes.as_slice()[i];
     let gave = held.slot.is_some();
@@ -130,13 +106,6 @@ fn node_rest(
         below_title,
         bound,
     )
-}
-
-// Whether a node with this part gives.
-pub fn gives(part: Part, marked: bool) -> bool
-    ensures { result ≡ (marked && is_some part.slot) }
-{
-    marked && part.slot.is_some()
 }
 
 // How many instants behind this one a node goes on without a new second or a new tick, where it has to do with one.

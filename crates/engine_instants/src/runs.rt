@@ -4,7 +4,7 @@ ghost use Rattle.liq_base.specs.declared.limits.TheConstants.{MAX_NODES};
 ghost use Rattle.node_mixing.specs.Runs.{samples_of};
 ghost use Rattle.node_states.specs.declared.state.NodeState.{NodeState as State};
 ghost use Rattle.node_states.specs.declared.state.NodeState.TheVariants.{Idle};
-ghost use Rattle.engine_instants.specs.Runs.{HasLanes, HasRunRoom, HaveLanes};
+ghost use Rattle.engine_instants.specs.Runs.{HasLanes, HasRunRoom, HaveLanes, IsSpare};
 
 use liq_base::Memory;
 use node_mixing::{MAX_RUN, Sums, samples_of};
@@ -22,12 +22,8 @@ pub struct Runs {
     /// The same of its right samples.
     pub right: Vec<Vec<i16>>,
 
-    /// Room in which the left samples of the next node are made.
-    pub spare_left: Vec<i16>,
-
-    /// The same of its right samples.
-    pub spare_right: Vec<i16>,
-    pub sums: Sums,
+    /// Room for the run of the next node.
+    pub spare: Spare,
 
     /// By node: its part at the latest instant of its own clock, if it gave.
     pub held: Vec<Part>,
@@ -37,6 +33,26 @@ pub struct Runs {
 
     /// Room for what the nodes of the clock that runs gave.
     pub parts: Vec<Part>,
+}
+
+/// Room in which the samples of a node's run are made, as many as a run has at most.
+#[derive(Drop)]
+pub struct Spare {
+    pub left: Vec<i16>,
+    pub right: Vec<i16>,
+    pub sums: Sums,
+}
+
+impl Spare {
+    /// Room for any run. No later call takes memory.
+    pub fn new(alloc: Global) -> Result<Spare, Memory>
+        ensures { IfOk result IsSpare }
+    {
+        let left = vec![in alloc; 0; MAX_RUN as usize]?;
+        let right = vec![in alloc; 0; MAX_RUN as usize]?;
+        let sums = Sums::new(alloc)?;
+        Ok(Spare { left, right, sums })
+    }
 }
 
 impl Runs {
@@ -49,9 +65,7 @@ impl Runs {
     {
         let left = lanes_of(alloc, states)?;
         let right = lanes_of(alloc, states)?;
-        let spare_left = vec![in alloc; 0; MAX_RUN as usize]?;
-        let spare_right = vec![in alloc; 0; MAX_RUN as usize]?;
-        let sums = Sums::new(alloc)?;
+        let spare = Spare::new(alloc)?;
         let none = Part {
             slot: None,
             pick: None,
@@ -62,9 +76,7 @@ impl Runs {
         Ok(Runs {
             left,
             right,
-            spare_left,
-            spare_right,
-            sums,
+            spare,
             held,
             rests,
             parts,

@@ -5,8 +5,8 @@ ghost use Rattle.plan_core.specs.declared.node.Op.TheVariants.{Buffer};
 ghost use Rattle.plan_core.specs.Plans.{IsNoReader};
 ghost use Rattle.node_states.specs.States.{Fits};
 ghost use Rattle.engine_instants.specs.Nodes.{AreNodesOf, lies_at};
-ghost use Rattle.engine_instants.specs.States.{AllFit};
-ghost use Rattle.engine_instants.specs.Takes.{HasReader, HaveBegun, HaveTakenSome, IsReader, NodeBegan, NodeTookSome, ReadersAreIn};
+ghost use Rattle.engine_instants.specs.Shapes.{AllFitOver, IsShape};
+ghost use Rattle.engine_instants.specs.Takes.{HasReader, HaveBegunOver, HaveTakenSomeOver, IsReader, NodeBeganOver, NodeTookSomeOver, ReadersAreIn};
 
 use crate::{ClockNodes, Shape};
 use clock_infer::NodeClock;
@@ -24,16 +24,16 @@ pub fn begin_readers<T: Taps>(
     states: &mut [NodeState],
     taps: &mut T,
 ) -> Result<(), Memory>
-    requires in_clocks { length shape.now.clocks.now ≡ length shape.now.plan.now.nodes }
+    requires shape { IsShape shape.now }
     requires chains { AreNodesOf shape.now.clocks.now nodes.now }
-    requires fit { AllFit shape.now.plan.now shape.now.library.now states.old }
+    requires fit { AllFitOver shape.now states.old }
     requires readers { ReadersAreIn shape.now.plan.now (T.buffers taps.old) }
     ensures buffers { T.buffers taps.new ≡ T.buffers taps.old }
     ensures same { T.same taps.old taps.new }
-    ensures fit { AllFit shape.now.plan.now shape.now.library.now states.new }
+    ensures fit { AllFitOver shape.now states.new }
     ensures others { (i : ℕ) → lies_at shape.now.clocks.now clock i ≡ false → slice_get states.new i ≡ slice_get states.old i }
-    ensures begun { OnOk result (HaveBegun T.stands shape.now.plan.now shape.now.library.now shape.now.clocks.now clock states.old states.new taps.old taps.new) }
-    ensures stopped { OnErr result (HaveTakenSome T.stands shape.now.plan.now shape.now.library.now shape.now.clocks.now clock states.old taps.old taps.new) }
+    ensures begun { OnOk result (HaveBegunOver T.stands shape.now clock states.old states.new taps.old taps.new) }
+    ensures stopped { OnErr result (HaveTakenSomeOver T.stands shape.now clock states.old taps.old taps.new) }
     ensures reads { OnErr result (HasReader shape.now.plan.now shape.now.clocks.now clock) }
 {
     let mut i = nodes.first(clock);
@@ -56,8 +56,8 @@ fn take_at<T: Taps>(
     ensures buffers { T.buffers taps.new ≡ T.buffers taps.old }
     ensures same { T.same taps.old taps.new }
     ensures fits { (node : PlanNode) → slice_get shape.now.plan.now.nodes i ≡ Some node → Fits shape.now.library.now (length node.children) state.old → Fits shape.now.library.now (length node.children) state.new }
-    ensures begun { OnOk result (NodeBegan T.stands shape.now.plan.now shape.now.library.now shape.now.clocks.now i state.old state.new taps.old taps.new) }
-    ensures stopped { OnErr result (NodeTookSome T.stands shape.now.plan.now shape.now.library.now shape.now.clocks.now i state.old taps.old taps.new) }
+    ensures begun { OnOk result (NodeBeganOver T.stands shape.now i state.old state.new taps.old taps.new) }
+    ensures stopped { OnErr result (NodeTookSomeOver T.stands shape.now i state.old taps.old taps.new) }
     ensures reads { OnErr result (IsReader shape.now.plan.now i) }
 {
     match buffer_of(&shape.plan.nodes.as_slice()[i].op) {

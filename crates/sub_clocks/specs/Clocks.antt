@@ -22,6 +22,7 @@ use Rattle.node_states.specs.declared.time.WeekTime.{WeekTime}
 use Rattle.node_states.specs.States.{IsSettled, StateStands, left, reading_by, reads_at, room, wants}
 use Rattle.node_states.specs.Ticks.{past_of}
 use Rattle.node_states.specs.Times.{TimeStands}
+use Rattle.engine_instants.specs.declared.shape.Shape.{Shape}
 use Rattle.engine_instants.specs.Nodes.{AreNodesOf, IsLatest}
 use Rattle.engine_instants.specs.Held.{AllAsk, AllPassOn, IsHeld}
 use Rattle.engine_instants.specs.Runs.{AllLieAhead, HasLanes, HasRunRoom}
@@ -71,6 +72,10 @@ pub record AreClockLanes (plan : Plan) (library : Sounds) (clocks : List NodeClo
   pub resting : AreResting library clocks lanes
   pub rates : (k : ℕ) (time : WeekTime) → slice_get lanes.times.items k ≡ Some time → time.rate ≡ plan.rate
   pub frames : (k : ℕ) (time : WeekTime) → slice_get lanes.times.items k ≡ Some time → time.frame ≡ plan.frame
+
+-- the same over a shape
+abbrev pub AreClockLanesOver : Shape → ClockLanes → Type 0
+AreClockLanesOver shape lanes = AreClockLanes shape.plan.now shape.library.now shape.clocks.now lanes
 
 -- these marks tell of each node whether its own clock demands it of itself
 pub record AreOwnRoots (setting : Setting) (own : List Bool) : Type 0 where
@@ -234,6 +239,10 @@ pub record InstantMade {T : Type 0} (stands : T → List Call → Type 0) (plan 
       → TimeStands setting.start (ran clock) time
       → HasMadeInstant setting sub rank clock ran fed front more new
 
+-- the same over a shape
+abbrev pub InstantMadeOver : {T : Type 0} → (T → List Call → Type 0) → Shape → List Bool → NodeClock → WeekTime → (old new : ClockLanes) → (taps_old taps_new : T) → Type 0
+InstantMadeOver stands shape own clock time old new taps_old taps_new = InstantMade stands shape.plan.now shape.library.now shape.clocks.now own clock time old new taps_old taps_new
+
 -- memory was refused: these are the first calls of the instant
 pub record InstantStopped {T : Type 0} (stands : T → List Call → Type 0) (plan : Plan) (library : Sounds) (clocks : List NodeClock) (own : List Bool)
     (clock : NodeClock) (time : WeekTime) (old : ClockLanes) (taps_old taps_new : T) : Type 0 where
@@ -245,6 +254,10 @@ pub record InstantStopped {T : Type 0} (stands : T → List Call → Type 0) (pl
       → Stand setting sub rank (rank clock) ran fed front old → RanAsNeeded setting sub rank (rank clock) ran fed
       → TimeStands setting.start (ran clock) time
       → IsBegin made (calls_of setting sub clock (history setting sub clock (ran clock)))
+
+-- the same over a shape
+abbrev pub InstantStoppedOver : {T : Type 0} → (T → List Call → Type 0) → Shape → List Bool → NodeClock → WeekTime → ClockLanes → (taps_old taps_new : T) → Type 0
+InstantStoppedOver stands shape own clock time old taps_old taps_new = InstantStopped stands shape.plan.now shape.library.now shape.clocks.now own clock time old taps_old taps_new
 
 -- the readers of a clock have begun, if its instant begins a tick
 pub record Opened (setting : Setting) (sub : ℕ → ℕ → List Slot) (rank : NodeClock → ℕ) (clock : NodeClock) (ran : NodeClock → ℕ) (fed : ℕ → ℕ)
@@ -263,6 +276,10 @@ pub record ClockOpened {T : Type 0} (stands : T → List Call → Type 0) (plan 
       → TimeStands setting.start (ran clock) time
       → Opened setting sub rank clock ran fed front more new
 
+-- the same over a shape
+abbrev pub ClockOpenedOver : {T : Type 0} → (T → List Call → Type 0) → Shape → NodeClock → WeekTime → (old new : ClockLanes) → (taps_old taps_new : T) → Type 0
+ClockOpenedOver stands shape clock time old new taps_old taps_new = ClockOpened stands shape.plan.now shape.library.now shape.clocks.now clock time old new taps_old taps_new
+
 pub record OpeningStopped {T : Type 0} (stands : T → List Call → Type 0) (plan : Plan) (library : Sounds) (clocks : List NodeClock)
     (clock : NodeClock) (time : WeekTime) (old : ClockLanes) (taps_old taps_new : T) : Type 0 where
   pub made : List Call
@@ -273,6 +290,10 @@ pub record OpeningStopped {T : Type 0} (stands : T → List Call → Type 0) (pl
       → Stand setting sub rank (rank clock) ran fed front old → RanAsNeeded setting sub rank (rank clock) ran fed
       → TimeStands setting.start (ran clock) time
       → IsBegin made (takes_at setting clock (history setting sub clock (ran clock)))
+
+-- the same over a shape
+abbrev pub OpeningStoppedOver : {T : Type 0} → (T → List Call → Type 0) → Shape → NodeClock → WeekTime → ClockLanes → (taps_old taps_new : T) → Type 0
+OpeningStoppedOver stands shape clock time old taps_old taps_new = OpeningStopped stands shape.plan.now shape.library.now shape.clocks.now clock time old taps_old taps_new
 
 -- node k has its item, by these calls
 pub record NodeSettled {T : Type 0} (stands : T → List Call → Type 0) (plan : Plan) (library : Sounds) (clocks : List NodeClock) (own : List Bool)
@@ -285,6 +306,10 @@ pub record NodeSettled {T : Type 0} (stands : T → List Call → Type 0) (plan 
       → Stand setting sub rank (rank (clock_at clocks k)) ran fed front old
       → (reads_at setting k ≡ true → fed k ≡ suc (ran (clock_at clocks k)))
       → IsFeeding setting sub rank (rank (clock_at clocks k)) k (is_node k) ran fed front more new
+
+-- the same over a shape
+abbrev pub NodeSettledOver : {T : Type 0} → (T → List Call → Type 0) → Shape → List Bool → (k : ℕ) → (old new : ClockLanes) → (taps_old taps_new : T) → Type 0
+NodeSettledOver stands shape own k old new taps_old taps_new = NodeSettled stands shape.plan.now shape.library.now shape.clocks.now own k old new taps_old taps_new
 
 -- memory was refused: these are the first calls for the item of node k, which is a crossfade
 pub record IsFeedingStopped (setting : Setting) (sub : ℕ → ℕ → List Slot) (ran : NodeClock → ℕ) (fed : ℕ → ℕ) (k : ℕ) (made : List Call) : Type 0 where
@@ -303,6 +328,10 @@ pub record NodeStopped {T : Type 0} (stands : T → List Call → Type 0) (plan 
       IsWorld setting sub rank own → HasAnswers setting (after_calls front made)
       → Stand setting sub rank (rank (clock_at clocks k)) ran fed front old
       → IsFeedingStopped setting sub ran fed k made
+
+-- the same over a shape
+abbrev pub NodeStoppedOver : {T : Type 0} → (T → List Call → Type 0) → Shape → List Bool → (k : ℕ) → ClockLanes → (taps_old taps_new : T) → Type 0
+NodeStoppedOver stands shape own k old taps_old taps_new = NodeStopped stands shape.plan.now shape.library.now shape.clocks.now own k old taps_old taps_new
 
 -- the crossfades of a clock below a node have their items, by the calls of the instants that their sub-clocks made for them
 pub record AreFed (setting : Setting) (sub : ℕ → ℕ → List Slot) (rank : NodeClock → ℕ) (clock : NodeClock) (below : ℕ) (ran : NodeClock → ℕ) (fed : ℕ → ℕ)
@@ -326,6 +355,10 @@ pub record AllSettled {T : Type 0} (stands : T → List Call → Type 0) (plan :
       → Stand setting sub rank (rank clock) ran fed front old → AreReady setting sub clock ran fed
       → AreFed setting sub rank clock below ran fed front more new
 
+-- the same over a shape
+abbrev pub AllSettledOver : {T : Type 0} → (T → List Call → Type 0) → Shape → List Bool → NodeClock → (below : ℕ) → (old new : ClockLanes) → (taps_old taps_new : T) → Type 0
+AllSettledOver stands shape own clock below old new taps_old taps_new = AllSettled stands shape.plan.now shape.library.now shape.clocks.now own clock below old new taps_old taps_new
+
 pub record SettlingStopped {T : Type 0} (stands : T → List Call → Type 0) (plan : Plan) (library : Sounds) (clocks : List NodeClock) (own : List Bool)
     (clock : NodeClock) (old : ClockLanes) (taps_old taps_new : T) : Type 0 where
   pub made : List Call
@@ -335,3 +368,7 @@ pub record SettlingStopped {T : Type 0} (stands : T → List Call → Type 0) (p
       IsWorld setting sub rank own → HasAnswers setting (after_calls front made)
       → Stand setting sub rank (rank clock) ran fed front old → AreReady setting sub clock ran fed
       → IsBegin made (calls_upto setting sub clock (history setting sub clock (ran clock)) (length plan.nodes))
+
+-- the same over a shape
+abbrev pub SettlingStoppedOver : {T : Type 0} → (T → List Call → Type 0) → Shape → List Bool → NodeClock → ClockLanes → (taps_old taps_new : T) → Type 0
+SettlingStoppedOver stands shape own clock old taps_old taps_new = SettlingStopped stands shape.plan.now shape.library.now shape.clocks.now own clock old taps_old taps_new

@@ -13,6 +13,7 @@ use Rattle.stream_meaning.specs.Calls.{calls_of}
 use Rattle.node_mixing.specs.Runs.{samples_of}
 use Rattle.node_states.specs.declared.time.WeekTime.{WeekTime}
 use Rattle.node_states.specs.Times.{TimeStands}
+use Rattle.engine_instants.specs.declared.shape.Shape.{Shape}
 use Rattle.engine_instants.specs.States.{over}
 use Rattle.sub_clocks.specs.declared.lanes.ClockLanes.{ClockLanes}
 use Rattle.engine_instants.specs.Held.{IsHeld, gave_at, goes_through, passes_at}
@@ -57,6 +58,10 @@ pub record ClockRun (plan : Plan) (library : Sounds) (clocks : List NodeClock) (
       let setting = over plan library clocks other in
       CanRun setting sub rank own clock n many ran fed front old → HasRunOn setting sub rank own clock n many ran fed front new
 
+-- the same over a shape
+abbrev pub ClockRunOver : Shape → NodeClock → (many : ℕ) → (old new : ClockLanes) → Type 0
+ClockRunOver shape clock many old new = ClockRun shape.plan.now shape.library.now shape.clocks.now clock many old new
+
 -- so many instants were made behind the latest one, which was at this time
 pub record InstantsRun (plan : Plan) (library : Sounds) (clocks : List NodeClock) (clock : NodeClock) (time : WeekTime) (many : ℕ)
     (old new : ClockLanes) : Type 0 where
@@ -67,6 +72,10 @@ pub record InstantsRun (plan : Plan) (library : Sounds) (clocks : List NodeClock
       → IsHeld setting sub clock (history setting sub clock n) old.runs.held.items → TimeStands setting.start n time
       → HasRunOn setting sub rank own clock n many ran fed front new
 
+-- the same over a shape
+abbrev pub InstantsRunOver : Shape → NodeClock → WeekTime → (many : ℕ) → (old new : ClockLanes) → Type 0
+InstantsRunOver shape clock time many old new = InstantsRun shape.plan.now shape.library.now shape.clocks.now clock time many old new
+
 -- behind an instant of its sub-clock, which was at this time, crossfade k was fed more slots, without a call: whatever it was fed
 pub record FedOn (plan : Plan) (library : Sounds) (clocks : List NodeClock) (k : ℕ) (time : WeekTime) (old new : ClockLanes) : Type 0 where
   pub fed : (other : Setting) (sub : ℕ → ℕ → List Slot) (rank ran : NodeClock → ℕ) (fed : ℕ → ℕ) (front : ℕ → List Answer) (more : List Call) (own : List Bool) (n : ℕ) →
@@ -76,6 +85,10 @@ pub record FedOn (plan : Plan) (library : Sounds) (clocks : List NodeClock) (k :
       → before.reached.ran_now (Sub k) ≡ suc n → old.latest.parts.items ≡ (moment_after setting sub (Sub k) (history setting sub (Sub k) n)).parts
       → IsHeld setting sub (Sub k) (history setting sub (Sub k) n) old.runs.held.items → TimeStands setting.start n time
       → IsFeeding setting sub rank (rank (clock_at clocks k)) k is_none ran fed front more new
+
+-- the same over a shape
+abbrev pub FedOnOver : Shape → (k : ℕ) → WeekTime → (old new : ClockLanes) → Type 0
+FedOnOver shape k time old new = FedOn shape.plan.now shape.library.now shape.clocks.now k time old new
 
 -- of the crossfades of a clock below this node, the sub-clocks of those through which cells pass have made so many instants more, without
 -- a call, and left the samples of the crossfades' children
@@ -108,12 +121,20 @@ pub record SubClocksRun (plan : Plan) (library : Sounds) (clocks : List NodeCloc
       CanRun setting sub rank own clock n many ran fed front old
       → SubsRun setting sub rank clock many (goes_through (moment_after setting sub clock (history setting sub clock n)) old.states.items) below ran fed front new
 
+-- the same over a shape
+abbrev pub SubClocksRunOver : Shape → NodeClock → (many below : ℕ) → (old new : ClockLanes) → Type 0
+SubClocksRunOver shape clock many below old new = SubClocksRun shape.plan.now shape.library.now shape.clocks.now clock many below old new
+
 -- the same for the sub-clock of node i, if it is a crossfade through which cells pass, behind those below it
 pub record SubClockRun (plan : Plan) (library : Sounds) (clocks : List NodeClock) (i many : ℕ) (old new : ClockLanes) : Type 0 where
   pub step : (other : Setting) (sub : ℕ → ℕ → List Slot) (rank ran : NodeClock → ℕ) (fed : ℕ → ℕ) (front : ℕ → List Answer) (own : List Bool) (through : ℕ → Bool) →
       let setting = over plan library clocks other in
       IsWorld setting sub rank own → through i ≡ (gave_at old.runs.held.items i && passes_at old.states.items i)
       → SubsRun setting sub rank (clock_at clocks i) many through i ran fed front old → SubsRun setting sub rank (clock_at clocks i) many through (suc i) ran fed front new
+
+-- the same over a shape
+abbrev pub SubClockRunOver : Shape → (i many : ℕ) → (old new : ClockLanes) → Type 0
+SubClockRunOver shape i many old new = SubClockRun shape.plan.now shape.library.now shape.clocks.now i many old new
 
 -- but for some nodes, those in clocks of this rank or a lower one have the samples that they had
 pub record AreSamplesLeft (clocks : List NodeClock) (rank : NodeClock → ℕ) (level : ℕ) (touched : ℕ → Type 0) (many : ℕ) (old new : ClockLanes) : Type 0 where

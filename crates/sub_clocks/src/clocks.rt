@@ -1,11 +1,10 @@
 // The instants of a clock and of the sub-clocks below it.
-ghost use Rattle.std.specs.Prelude.{◌≡◌, ◌<◌, ◌≤◌, ℕ, List, length, slice_index_or, OnOk, OnErr};
-ghost use Rattle.liq_base.specs.declared.limits.TheConstants.{MAX_NODES};
-ghost use Rattle.plan_core.specs.Plans.{AreNodes};
+ghost use Rattle.std.specs.Prelude.{◌≡◌, ◌<◌, ℕ, length, slice_index_or, OnOk, OnErr};
 ghost use Rattle.clock_infer.specs.declared.clock_map.NodeClock.{NodeClock as Clock};
 ghost use Rattle.clock_infer.specs.declared.clock_map.NodeClock.TheVariants.{Main as InMain};
 ghost use Rattle.engine_instants.specs.Takes.{HasReader, ReadersAreIn};
-ghost use Rattle.sub_clocks.specs.Clocks.{AllSettled, AreClockLanes, AreLeft, HasLevels, HasRanks, InstantMade, InstantStopped, IsIdle, NodeSettled, NodeStopped, SettlingStopped, is_in, is_node};
+ghost use Rattle.sub_clocks.specs.Clocks.{AllSettledOver, AreClockLanesOver, AreLeft, HasLevels, HasRanks, InstantMadeOver, InstantStoppedOver, IsIdle, NodeSettledOver, NodeStoppedOver, SettlingStoppedOver, is_in, is_node};
+ghost use Rattle.engine_instants.specs.Shapes.{IsShape};
 
 use crate::ClockLanes;
 use crate::feeding::{feed_child, feed_on};
@@ -32,23 +31,21 @@ pub fn make_instant<T: Taps>(
     levels: usize,
     taps: &mut T,
 ) -> Result<(), Memory>
-    requires nodes { AreNodes shape.now.plan.now.nodes }
-    requires few { length shape.now.plan.now.nodes ≤ MAX_NODES }
-    requires in_clocks { length shape.now.clocks.now ≡ length shape.now.plan.now.nodes }
+    requires shape { IsShape shape.now }
     requires in_own { length own.now ≡ length shape.now.plan.now.nodes }
-    requires lanes { AreClockLanes shape.now.plan.now shape.now.library.now shape.now.clocks.now lanes.old }
+    requires lanes { AreClockLanesOver shape.now lanes.old }
     requires levels { HasLevels shape.now.clocks.now clock levels }
     requires idle { IsIdle clock lanes.old }
     requires rate { time.rate ≡ shape.now.plan.now.rate }
     requires frame { time.frame ≡ shape.now.plan.now.frame }
     requires readers { ReadersAreIn shape.now.plan.now (T.buffers taps.old) }
-    ensures lanes { AreClockLanes shape.now.plan.now shape.now.library.now shape.now.clocks.now lanes.new }
+    ensures lanes { AreClockLanesOver shape.now lanes.new }
     ensures buffers { T.buffers taps.new ≡ T.buffers taps.old }
     ensures same { T.same taps.old taps.new }
     ensures left { OnOk result ((rank : Clock → ℕ) → HasRanks shape.now.clocks.now rank
         → AreLeft shape.now.clocks.now rank (rank clock) (is_in shape.now.clocks.now clock) lanes.old lanes.new) }
-    ensures made { OnOk result (InstantMade T.stands shape.now.plan.now shape.now.library.now shape.now.clocks.now own.now clock time lanes.old lanes.new taps.old taps.new) }
-    ensures stopped { OnErr result (InstantStopped T.stands shape.now.plan.now shape.now.library.now shape.now.clocks.now own.now clock time lanes.old taps.old taps.new) }
+    ensures made { OnOk result (InstantMadeOver T.stands shape.now own.now clock time lanes.old lanes.new taps.old taps.new) }
+    ensures stopped { OnErr result (InstantStoppedOver T.stands shape.now own.now clock time lanes.old taps.old taps.new) }
     ensures reads { OnErr result (HasReader shape.now.plan.now shape.now.clocks.now clock) }
 {
     begin_clock(shape, lanes, clock, time, taps)?;
@@ -67,22 +64,20 @@ fn settle<T: Taps>(
     levels: usize,
     taps: &mut T,
 ) -> Result<(), Memory>
-    requires nodes { AreNodes shape.now.plan.now.nodes }
-    requires few { length shape.now.plan.now.nodes ≤ MAX_NODES }
-    requires in_clocks { length shape.now.clocks.now ≡ length shape.now.plan.now.nodes }
+    requires shape { IsShape shape.now }
     requires in_own { length own.now ≡ length shape.now.plan.now.nodes }
-    requires lanes { AreClockLanes shape.now.plan.now shape.now.library.now shape.now.clocks.now lanes.old }
+    requires lanes { AreClockLanesOver shape.now lanes.old }
     requires levels { HasLevels shape.now.clocks.now (slice_index_or shape.now.clocks.now k (InMain 0)) levels }
     requires idle { IsIdle (slice_index_or shape.now.clocks.now k (InMain 0)) lanes.old }
     requires within { k < length shape.now.plan.now.nodes }
     requires readers { ReadersAreIn shape.now.plan.now (T.buffers taps.old) }
-    ensures lanes { AreClockLanes shape.now.plan.now shape.now.library.now shape.now.clocks.now lanes.new }
+    ensures lanes { AreClockLanesOver shape.now lanes.new }
     ensures buffers { T.buffers taps.new ≡ T.buffers taps.old }
     ensures same { T.same taps.old taps.new }
     ensures left { OnOk result ((rank : Clock → ℕ) → HasRanks shape.now.clocks.now rank
         → AreLeft shape.now.clocks.now rank (rank (slice_index_or shape.now.clocks.now k (InMain 0))) (is_node k) lanes.old lanes.new) }
-    ensures settled { OnOk result (NodeSettled T.stands shape.now.plan.now shape.now.library.now shape.now.clocks.now own.now k lanes.old lanes.new taps.old taps.new) }
-    ensures stopped { OnErr result (NodeStopped T.stands shape.now.plan.now shape.now.library.now shape.now.clocks.now own.now k lanes.old taps.old taps.new) }
+    ensures settled { OnOk result (NodeSettledOver T.stands shape.now own.now k lanes.old lanes.new taps.old taps.new) }
+    ensures stopped { OnErr result (NodeStoppedOver T.stands shape.now own.now k lanes.old taps.old taps.new) }
     ensures reads { OnErr result (HasReader shape.now.plan.now shape.now.clocks.now (slice_index_or shape.now.clocks.now k (InMain 0))) }
 {
     while lanes.states[k as usize].wants() {
@@ -105,21 +100,19 @@ fn settle_all<T: Taps>(
     levels: usize,
     taps: &mut T,
 ) -> Result<(), Memory>
-    requires nodes { AreNodes shape.now.plan.now.nodes }
-    requires few { length shape.now.plan.now.nodes ≤ MAX_NODES }
-    requires in_clocks { length shape.now.clocks.now ≡ length shape.now.plan.now.nodes }
+    requires shape { IsShape shape.now }
     requires in_own { length own.now ≡ length shape.now.plan.now.nodes }
-    requires lanes { AreClockLanes shape.now.plan.now shape.now.library.now shape.now.clocks.now lanes.old }
+    requires lanes { AreClockLanesOver shape.now lanes.old }
     requires levels { HasLevels shape.now.clocks.now clock levels }
     requires idle { IsIdle clock lanes.old }
     requires readers { ReadersAreIn shape.now.plan.now (T.buffers taps.old) }
-    ensures lanes { AreClockLanes shape.now.plan.now shape.now.library.now shape.now.clocks.now lanes.new }
+    ensures lanes { AreClockLanesOver shape.now lanes.new }
     ensures buffers { T.buffers taps.new ≡ T.buffers taps.old }
     ensures same { T.same taps.old taps.new }
     ensures left { OnOk result ((rank : Clock → ℕ) → HasRanks shape.now.clocks.now rank
         → AreLeft shape.now.clocks.now rank (rank clock) (is_in shape.now.clocks.now clock) lanes.old lanes.new) }
-    ensures settled { OnOk result (AllSettled T.stands shape.now.plan.now shape.now.library.now shape.now.clocks.now own.now clock (length shape.now.plan.now.nodes) lanes.old lanes.new taps.old taps.new) }
-    ensures stopped { OnErr result (SettlingStopped T.stands shape.now.plan.now shape.now.library.now shape.now.clocks.now own.now clock lanes.old taps.old taps.new) }
+    ensures settled { OnOk result (AllSettledOver T.stands shape.now own.now clock (length shape.now.plan.now.nodes) lanes.old lanes.new taps.old taps.new) }
+    ensures stopped { OnErr result (SettlingStoppedOver T.stands shape.now own.now clock lanes.old taps.old taps.new) }
     ensures reads { OnErr result (HasReader shape.now.plan.now shape.now.clocks.now clock) }
 {
     let mut i = lanes.nodes.first(clock);

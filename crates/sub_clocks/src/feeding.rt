@@ -1,7 +1,5 @@
 // What a crossfade takes of the instants of its sub-clock.
 ghost use Rattle.std.specs.Prelude.{◌≡◌, ◌<◌, ◌≤◌, ◌+◌, ◌++◌, ◌∷◌, ℕ, suc, List, [], Some, true, is_some, length, slice_get, slice_index_or};
-ghost use Rattle.liq_base.specs.declared.limits.TheConstants.{MAX_NODES};
-ghost use Rattle.plan_core.specs.Plans.{AreNodes};
 ghost use Rattle.clock_infer.specs.declared.clock_map.NodeClock.{NodeClock as Clock};
 ghost use Rattle.clock_infer.specs.declared.clock_map.NodeClock.TheVariants.{Main as InMain, Sub as InSub};
 ghost use Rattle.frame_core.specs.Slots.{Slot, title_of};
@@ -14,11 +12,11 @@ ghost use Rattle.node_states.specs.declared.state.NodeState.{NodeState as State}
 ghost use Rattle.node_states.specs.declared.time.WeekTime.{WeekTime as Time};
 ghost use Rattle.node_states.specs.States.{Fits, StateStands, left, room};
 ghost use Rattle.node_states.specs.Times.{TimeStands};
-ghost use Rattle.engine_instants.specs.Held.{AllPassOn};
-ghost use Rattle.engine_instants.specs.Runs.{AllLieAhead, IsBehind};
-ghost use Rattle.engine_instants.specs.States.{over};
-ghost use Rattle.sub_clocks.specs.Clocks.{AreClockLanes, AreLeft, GoesOnFor, HasLevels, HasRanks, IsIdle, is_node, left_at, rest_at, room_at, wants_at};
-ghost use Rattle.sub_clocks.specs.Runs.{FedOn};
+ghost use Rattle.engine_instants.specs.Held.{AllPassOnOver};
+ghost use Rattle.engine_instants.specs.Runs.{AllLieAheadOver, IsBehind};
+ghost use Rattle.sub_clocks.specs.Clocks.{AreClockLanesOver, AreLeft, GoesOnFor, HasLevels, HasRanks, IsIdle, is_node, left_at, rest_at, room_at, wants_at};
+ghost use Rattle.sub_clocks.specs.Runs.{FedOnOver};
+ghost use Rattle.engine_instants.specs.Shapes.{IsShape, setting_over};
 
 use crate::ClockLanes;
 use crate::keeping::{keep, rest_for};
@@ -44,11 +42,11 @@ pub fn child_of(nodes: &[Node], k: u32) -> u32
 /// Feeds crossfade k, which wants it, the slot that its child has at the instant that its sub-clock made, and takes the time
 /// of the sub-clock on.
 pub fn feed_child(shape: &Shape<'_>, lanes: &mut ClockLanes, k: u32)
-    requires lanes { AreClockLanes shape.now.plan.now shape.now.library.now shape.now.clocks.now lanes.old }
+    requires lanes { AreClockLanesOver shape.now lanes.old }
     requires within { k < length shape.now.plan.now.nodes }
     requires idle { IsIdle (slice_index_or shape.now.clocks.now k (InMain 0)) lanes.old }
     requires wants { wants_at lanes.old.states.items k ≡ true }
-    ensures lanes { AreClockLanes shape.now.plan.now shape.now.library.now shape.now.clocks.now lanes.new }
+    ensures lanes { AreClockLanesOver shape.now lanes.new }
     ensures latest { lanes.new.latest ≡ lanes.old.latest }
     ensures runs { lanes.new.runs ≡ lanes.old.runs }
     ensures states { (i : ℕ) → (i ≡ k → ⊥) → slice_get lanes.new.states.items i ≡ slice_get lanes.old.states.items i }
@@ -73,21 +71,19 @@ pub fn feed_child(shape: &Shape<'_>, lanes: &mut ClockLanes, k: u32)
 /// wants them: so many are made, and no more. Where it wants none, it is kept how many go on. `time` is that of the latest
 /// instant, whose slot it was fed, and `levels` bounds how deep sub-clocks nest below the crossfade's clock.
 pub fn feed_on(shape: &Shape<'_>, lanes: &mut ClockLanes, k: u32, time: WeekTime, levels: usize)
-    requires nodes { AreNodes shape.now.plan.now.nodes }
-    requires few { length shape.now.plan.now.nodes ≤ MAX_NODES }
-    requires in_clocks { length shape.now.clocks.now ≡ length shape.now.plan.now.nodes }
-    requires lanes { AreClockLanes shape.now.plan.now shape.now.library.now shape.now.clocks.now lanes.old }
+    requires shape { IsShape shape.now }
+    requires lanes { AreClockLanesOver shape.now lanes.old }
     requires within { k < length shape.now.plan.now.nodes }
     requires levels { HasLevels shape.now.clocks.now (slice_index_or shape.now.clocks.now k (InMain 0)) levels }
     requires idle { IsIdle (slice_index_or shape.now.clocks.now k (InMain 0)) lanes.old }
     requires none { rest_at lanes.old k ≡ 0 }
     requires rate { time.rate ≡ shape.now.plan.now.rate }
     requires frame { time.frame ≡ shape.now.plan.now.frame }
-    ensures lanes { AreClockLanes shape.now.plan.now shape.now.library.now shape.now.clocks.now lanes.new }
+    ensures lanes { AreClockLanesOver shape.now lanes.new }
     ensures no_more { left_at lanes.new.states.items k ≤ left_at lanes.old.states.items k }
     ensures left { (rank : Clock → ℕ) → HasRanks shape.now.clocks.now rank
         → AreLeft shape.now.clocks.now rank (rank (slice_index_or shape.now.clocks.now k (InMain 0))) (is_node k) lanes.old lanes.new }
-    ensures fed { FedOn shape.now.plan.now shape.now.library.now shape.now.clocks.now k time lanes.old lanes.new }
+    ensures fed { FedOnOver shape.now k time lanes.old lanes.new }
 {
     let rest = goes_for(shape, lanes, k, time);
     let many = wanted(lanes, k, rest);
@@ -102,18 +98,17 @@ pub fn feed_on(shape: &Shape<'_>, lanes: &mut ClockLanes, k: u32, time: WeekTime
 // How many instants of the sub-clock of crossfade k go on as its latest one did, at this time, if the child gave; no more than the
 // crossfade can use.
 fn goes_for(shape: &Shape<'_>, lanes: &ClockLanes, k: u32, time: WeekTime) -> u32
-    requires nodes { AreNodes shape.now.plan.now.nodes }
-    requires in_clocks { length shape.now.clocks.now ≡ length shape.now.plan.now.nodes }
-    requires lanes { AreClockLanes shape.now.plan.now shape.now.library.now shape.now.clocks.now lanes.now }
+    requires shape { IsShape shape.now }
+    requires lanes { AreClockLanesOver shape.now lanes.now }
     requires within { k < length shape.now.plan.now.nodes }
     requires rate { time.rate ≡ shape.now.plan.now.rate }
     requires frame { time.frame ≡ shape.now.plan.now.frame }
     ensures later { result ≤ time.rate }
-    ensures ahead { AllLieAhead shape.now.library.now shape.now.clocks.now (InSub k) lanes.now.runs.held.items lanes.now.states.items (length shape.now.clocks.now) result }
-    ensures through { AllPassOn shape.now.clocks.now (InSub k) lanes.now.runs.held.items lanes.now.states.items lanes.now.runs.rests.items (length shape.now.clocks.now) result }
+    ensures ahead { AllLieAheadOver shape.now (InSub k) lanes.now.runs.held.items lanes.now.states.items result }
+    ensures through { AllPassOnOver shape.now (InSub k) lanes.now.runs.held.items lanes.now.states.items lanes.now.runs.rests.items result }
     ensures gave { 0 < result → is_some (part_at lanes.now.latest.parts.items (crossfaded shape.now.plan.now.nodes k)).slot ≡ true }
     ensures goes { (other : Setting) (sub : ℕ → ℕ → List Slot) (past : List Moment) (fed : ℕ → ℕ) →
-        let setting = over shape.now.plan.now shape.now.library.now shape.now.clocks.now other in
+        let setting = setting_over shape.now other in
         IsBehind setting sub (InSub k) past fed time lanes.now.latest.parts.items lanes.now.runs.held.items lanes.now.states.items lanes.now.runs.rests.items
         → 0 < result → GoesOnFor setting sub (InSub k) past result fed lanes.now.runs.held.items lanes.now.states.items }
 {
@@ -151,15 +146,15 @@ fn wanted(lanes: &ClockLanes, k: u32, rest: u32) -> u32
 // Feeds crossfade k, which takes them, the samples of its child in the latest run, which had so many instants, under its title at the
 // latest instant, and takes the time of the sub-clock on.
 fn feed_lane(shape: &Shape<'_>, lanes: &mut ClockLanes, k: u32, many: u32)
-    requires nodes { AreNodes shape.now.plan.now.nodes }
-    requires lanes { AreClockLanes shape.now.plan.now shape.now.library.now shape.now.clocks.now lanes.old }
+    requires shape { IsShape shape.now }
+    requires lanes { AreClockLanesOver shape.now lanes.old }
     requires within { k < length shape.now.plan.now.nodes }
     requires some { 0 < many }
     requires short { many ≤ 1024 }
     requires room { many ≤ room_at lanes.old.states.items k }
     requires later { many ≤ shape.now.plan.now.rate }
     requires idle { IsIdle (slice_index_or shape.now.clocks.now k (InMain 0)) lanes.old }
-    ensures lanes { AreClockLanes shape.now.plan.now shape.now.library.now shape.now.clocks.now lanes.new }
+    ensures lanes { AreClockLanesOver shape.now lanes.new }
     ensures runs { lanes.new.runs ≡ lanes.old.runs }
     ensures states { (i : ℕ) → (i ≡ k → ⊥) → slice_get lanes.new.states.items i ≡ slice_get lanes.old.states.items i }
     ensures times { (i : ℕ) → (i ≡ k → ⊥) → slice_get lanes.new.times.items i ≡ slice_get lanes.old.times.items i }

@@ -1,16 +1,15 @@
 // What is kept of a sub-clock's latest instant.
 ghost use Rattle.std.specs.Prelude.{◌≡◌, ◌<◌, ◌≤◌, ◌+◌, ℕ, List, Some, length, slice_get, slice_index_or};
-ghost use Rattle.plan_core.specs.Plans.{AreNodes};
 ghost use Rattle.clock_infer.specs.declared.clock_map.NodeClock.{NodeClock as Clock};
 ghost use Rattle.clock_infer.specs.declared.clock_map.NodeClock.TheVariants.{Main as InMain, Sub as InSub};
 ghost use Rattle.frame_core.specs.Slots.{Slot};
 ghost use Rattle.stream_meaning.specs.Instants.{Setting, Moment};
 ghost use Rattle.node_states.specs.declared.time.WeekTime.{WeekTime as Time};
 ghost use Rattle.node_states.specs.Times.{TimeStands};
-ghost use Rattle.engine_instants.specs.Held.{AllPassOn};
-ghost use Rattle.engine_instants.specs.Runs.{AllLieAhead, IsBehind};
-ghost use Rattle.engine_instants.specs.States.{over};
-ghost use Rattle.sub_clocks.specs.Clocks.{AreClockLanes, GoesOnFor, HasRanks, IsIdle, rest_at};
+ghost use Rattle.engine_instants.specs.Held.{AllPassOnOver};
+ghost use Rattle.engine_instants.specs.Runs.{AllLieAheadOver, IsBehind};
+ghost use Rattle.sub_clocks.specs.Clocks.{AreClockLanesOver, GoesOnFor, HasRanks, IsIdle, rest_at};
+ghost use Rattle.engine_instants.specs.Shapes.{IsShape, setting_over};
 
 use crate::ClockLanes;
 use clock_infer::NodeClock;
@@ -19,14 +18,14 @@ use node_states::WeekTime;
 
 /// Keeps that so many instants of the sub-clock of crossfade k go on as its latest one.
 pub fn keep(shape: &Shape<'_>, lanes: &mut ClockLanes, k: u32, rest: u32)
-    requires in_clocks { length shape.now.clocks.now ≡ length shape.now.plan.now.nodes }
+    requires shape { IsShape shape.now }
     requires ranks { (rank : Clock → ℕ) × HasRanks shape.now.clocks.now rank }
-    requires lanes { AreClockLanes shape.now.plan.now shape.now.library.now shape.now.clocks.now lanes.old }
+    requires lanes { AreClockLanesOver shape.now lanes.old }
     requires within { k < length shape.now.plan.now.nodes }
     requires idle { IsIdle (slice_index_or shape.now.clocks.now k (InMain 0)) lanes.old }
-    requires ahead { 0 < rest → AllLieAhead shape.now.library.now shape.now.clocks.now (InSub k) lanes.old.runs.held.items lanes.old.states.items (length shape.now.clocks.now) rest }
-    requires through { 0 < rest → AllPassOn shape.now.clocks.now (InSub k) lanes.old.runs.held.items lanes.old.states.items lanes.old.runs.rests.items (length shape.now.clocks.now) rest }
-    ensures lanes { AreClockLanes shape.now.plan.now shape.now.library.now shape.now.clocks.now lanes.new }
+    requires ahead { 0 < rest → AllLieAheadOver shape.now (InSub k) lanes.old.runs.held.items lanes.old.states.items rest }
+    requires through { 0 < rest → AllPassOnOver shape.now (InSub k) lanes.old.runs.held.items lanes.old.states.items lanes.old.runs.rests.items rest }
+    ensures lanes { AreClockLanesOver shape.now lanes.new }
     ensures kept { rest_at lanes.new k ≡ rest }
     ensures others { (i : ℕ) → (i ≡ k → ⊥) → rest_at lanes.new i ≡ rest_at lanes.old i }
     ensures states { lanes.new.states ≡ lanes.old.states }
@@ -47,17 +46,16 @@ pub fn rest_for(
     time: WeekTime,
     most: u32,
 ) -> u32
-    requires nodes { AreNodes shape.now.plan.now.nodes }
-    requires in_clocks { length shape.now.clocks.now ≡ length shape.now.plan.now.nodes }
-    requires lanes { AreClockLanes shape.now.plan.now shape.now.library.now shape.now.clocks.now lanes.now }
+    requires shape { IsShape shape.now }
+    requires lanes { AreClockLanesOver shape.now lanes.now }
     requires rate { time.rate ≡ shape.now.plan.now.rate }
     requires frame { time.frame ≡ shape.now.plan.now.frame }
     ensures within { result ≤ most }
     ensures later { result ≤ time.rate }
-    ensures ahead { AllLieAhead shape.now.library.now shape.now.clocks.now clock lanes.now.runs.held.items lanes.now.states.items (length shape.now.clocks.now) result }
-    ensures through { AllPassOn shape.now.clocks.now clock lanes.now.runs.held.items lanes.now.states.items lanes.now.runs.rests.items (length shape.now.clocks.now) result }
+    ensures ahead { AllLieAheadOver shape.now clock lanes.now.runs.held.items lanes.now.states.items result }
+    ensures through { AllPassOnOver shape.now clock lanes.now.runs.held.items lanes.now.states.items lanes.now.runs.rests.items result }
     ensures goes { (other : Setting) (sub : ℕ → ℕ → List Slot) (past : List Moment) (fed : ℕ → ℕ) →
-        let setting = over shape.now.plan.now shape.now.library.now shape.now.clocks.now other in
+        let setting = setting_over shape.now other in
         IsBehind setting sub clock past fed time lanes.now.latest.parts.items lanes.now.runs.held.items lanes.now.states.items lanes.now.runs.rests.items
         → GoesOnFor setting sub clock past result fed lanes.now.runs.held.items lanes.now.states.items }
 {
@@ -76,10 +74,10 @@ pub fn rest_for(
 
 /// Takes the time of the sub-clock of crossfade k on by so many instants.
 pub fn take_on(shape: &Shape<'_>, lanes: &mut ClockLanes, k: u32, many: u32)
-    requires lanes { AreClockLanes shape.now.plan.now shape.now.library.now shape.now.clocks.now lanes.old }
+    requires lanes { AreClockLanesOver shape.now lanes.old }
     requires within { k < length shape.now.plan.now.nodes }
     requires later { many ≤ shape.now.plan.now.rate }
-    ensures lanes { AreClockLanes shape.now.plan.now shape.now.library.now shape.now.clocks.now lanes.new }
+    ensures lanes { AreClockLanesOver shape.now lanes.new }
     ensures states { lanes.new.states ≡ lanes.old.states }
     ensures latest { lanes.new.latest ≡ lanes.old.latest }
     ensures runs { lanes.new.runs ≡ lanes.old.runs }

@@ -1,17 +1,15 @@
 // Instants of a clock that go on as its latest one did, with those of the sub-clocks below it.
 ghost use Rattle.std.specs.Prelude.{◌≡◌, ◌<◌, ◌≤◌, ◌&&◌, ℕ, List, true, false, length, slice_get, slice_index_or};
-ghost use Rattle.liq_base.specs.declared.limits.TheConstants.{MAX_NODES};
-ghost use Rattle.plan_core.specs.Plans.{AreNodes};
 ghost use Rattle.clock_infer.specs.declared.clock_map.NodeClock.{NodeClock as Clock};
 ghost use Rattle.clock_infer.specs.declared.clock_map.NodeClock.TheVariants.{Main as InMain, Sub as InSub};
 ghost use Rattle.frame_core.specs.Slots.{Slot as TheSlot};
 ghost use Rattle.stream_meaning.specs.Instants.{Setting, Moment, same_clock};
 ghost use Rattle.node_mixing.specs.Runs.{samples_of};
-ghost use Rattle.engine_instants.specs.Held.{AllPassOn, gave_at, passes_at};
-ghost use Rattle.engine_instants.specs.Runs.{AllLieAhead, HasGoneOn, IsGoing};
-ghost use Rattle.engine_instants.specs.States.{over};
-ghost use Rattle.sub_clocks.specs.Clocks.{AreClockLanes, AreLeft, HasLevels, HasRanks, IsIdle, is_in, is_node, is_none, is_upto, laned_at, rest_at};
-ghost use Rattle.sub_clocks.specs.Runs.{AreAbove, AreSamplesLeft, ClockRun, SubClockRun, SubClocksRun};
+ghost use Rattle.engine_instants.specs.Held.{AllPassOnOver, gave_at, passes_at};
+ghost use Rattle.engine_instants.specs.Runs.{AllLieAheadOver, HasGoneOn, IsGoing};
+ghost use Rattle.sub_clocks.specs.Clocks.{AreClockLanesOver, AreLeft, HasLevels, HasRanks, IsIdle, is_in, is_node, is_none, laned_at, rest_at};
+ghost use Rattle.sub_clocks.specs.Runs.{AreAbove, AreSamplesLeft, ClockRunOver, SubClocksRunOver, SubClockRunOver};
+ghost use Rattle.engine_instants.specs.Shapes.{IsShape, setting_over};
 
 use crate::ClockLanes;
 use crate::keeping::{keep, take_on};
@@ -28,25 +26,23 @@ pub fn run_clock(
     many: u32,
     levels: usize,
 )
-    requires nodes { AreNodes shape.now.plan.now.nodes }
-    requires few { length shape.now.plan.now.nodes ≤ MAX_NODES }
-    requires in_clocks { length shape.now.clocks.now ≡ length shape.now.plan.now.nodes }
-    requires lanes { AreClockLanes shape.now.plan.now shape.now.library.now shape.now.clocks.now lanes.old }
+    requires shape { IsShape shape.now }
+    requires lanes { AreClockLanesOver shape.now lanes.old }
     requires levels { HasLevels shape.now.clocks.now clock levels }
     requires idle { IsIdle clock lanes.old }
     requires some { 0 < many }
     requires short { many ≤ 1024 }
     requires later { many ≤ shape.now.plan.now.rate }
-    requires ahead { AllLieAhead shape.now.library.now shape.now.clocks.now clock lanes.old.runs.held.items lanes.old.states.items (length shape.now.clocks.now) many }
-    requires through { AllPassOn shape.now.clocks.now clock lanes.old.runs.held.items lanes.old.states.items lanes.old.runs.rests.items (length shape.now.clocks.now) many }
-    ensures lanes { AreClockLanes shape.now.plan.now shape.now.library.now shape.now.clocks.now lanes.new }
+    requires ahead { AllLieAheadOver shape.now clock lanes.old.runs.held.items lanes.old.states.items many }
+    requires through { AllPassOnOver shape.now clock lanes.old.runs.held.items lanes.old.states.items lanes.old.runs.rests.items many }
+    ensures lanes { AreClockLanesOver shape.now lanes.new }
     ensures latest { lanes.new.latest ≡ lanes.old.latest }
     ensures held { lanes.new.runs.held ≡ lanes.old.runs.held }
     ensures left { (rank : Clock → ℕ) → HasRanks shape.now.clocks.now rank
         → AreLeft shape.now.clocks.now rank (rank clock) (is_in shape.now.clocks.now clock) lanes.old lanes.new }
     ensures samples { (rank : Clock → ℕ) → HasRanks shape.now.clocks.now rank
         → AreSamplesLeft shape.now.clocks.now rank (rank clock) (is_in shape.now.clocks.now clock) many lanes.old lanes.new }
-    ensures run { ClockRun shape.now.plan.now shape.now.library.now shape.now.clocks.now clock many lanes.old lanes.new }
+    ensures run { ClockRunOver shape.now clock many lanes.old lanes.new }
 {
     run_subs(shape, lanes, clock, many, levels);
     run_own(shape, lanes, clock, many);
@@ -55,24 +51,22 @@ pub fn run_clock(
 // Makes those of the sub-clocks of its crossfades through which cells pass.
 #[cycle(onward)]
 fn run_subs(shape: &Shape<'_>, lanes: &mut ClockLanes, clock: NodeClock, many: u32, levels: usize)
-    requires nodes { AreNodes shape.now.plan.now.nodes }
-    requires few { length shape.now.plan.now.nodes ≤ MAX_NODES }
-    requires in_clocks { length shape.now.clocks.now ≡ length shape.now.plan.now.nodes }
-    requires lanes { AreClockLanes shape.now.plan.now shape.now.library.now shape.now.clocks.now lanes.old }
+    requires shape { IsShape shape.now }
+    requires lanes { AreClockLanesOver shape.now lanes.old }
     requires levels { HasLevels shape.now.clocks.now clock levels }
     requires idle { IsIdle clock lanes.old }
     requires some { 0 < many }
     requires short { many ≤ 1024 }
     requires later { many ≤ shape.now.plan.now.rate }
-    requires through { AllPassOn shape.now.clocks.now clock lanes.old.runs.held.items lanes.old.states.items lanes.old.runs.rests.items (length shape.now.clocks.now) many }
-    ensures lanes { AreClockLanes shape.now.plan.now shape.now.library.now shape.now.clocks.now lanes.new }
+    requires through { AllPassOnOver shape.now clock lanes.old.runs.held.items lanes.old.states.items lanes.old.runs.rests.items many }
+    ensures lanes { AreClockLanesOver shape.now lanes.new }
     ensures latest { lanes.new.latest ≡ lanes.old.latest }
     ensures held { lanes.new.runs.held ≡ lanes.old.runs.held }
     ensures above { (rank : Clock → ℕ) → HasRanks shape.now.clocks.now rank
         → AreAbove shape.now.clocks.now rank (rank clock) (is_in shape.now.clocks.now clock) lanes.old lanes.new }
     ensures samples { (rank : Clock → ℕ) → HasRanks shape.now.clocks.now rank
         → AreSamplesLeft shape.now.clocks.now rank (rank clock) is_none many lanes.old lanes.new }
-    ensures run { SubClocksRun shape.now.plan.now shape.now.library.now shape.now.clocks.now clock many (length shape.now.plan.now.nodes) lanes.old lanes.new }
+    ensures run { SubClocksRunOver shape.now clock many (length shape.now.plan.now.nodes) lanes.old lanes.new }
 {
     let mut i = lanes.nodes.first(clock);
     while i < shape.clocks.len() {
@@ -84,10 +78,8 @@ fn run_subs(shape: &Shape<'_>, lanes: &mut ClockLanes, clock: NodeClock, many: u
 // Makes those of the sub-clock of node i, if it is such a crossfade, and takes the sub-clock's time on.
 #[cycle(onward)]
 fn run_sub(shape: &Shape<'_>, lanes: &mut ClockLanes, i: u32, many: u32, levels: usize)
-    requires nodes { AreNodes shape.now.plan.now.nodes }
-    requires few { length shape.now.plan.now.nodes ≤ MAX_NODES }
-    requires in_clocks { length shape.now.clocks.now ≡ length shape.now.plan.now.nodes }
-    requires lanes { AreClockLanes shape.now.plan.now shape.now.library.now shape.now.clocks.now lanes.old }
+    requires shape { IsShape shape.now }
+    requires lanes { AreClockLanesOver shape.now lanes.old }
     requires within { i < length shape.now.plan.now.nodes }
     requires levels { HasLevels shape.now.clocks.now (slice_index_or shape.now.clocks.now i (InMain 0)) levels }
     requires idle { IsIdle (slice_index_or shape.now.clocks.now i (InMain 0)) lanes.old }
@@ -95,14 +87,14 @@ fn run_sub(shape: &Shape<'_>, lanes: &mut ClockLanes, i: u32, many: u32, levels:
     requires short { many ≤ 1024 }
     requires later { many ≤ shape.now.plan.now.rate }
     requires through { (gave_at lanes.old.runs.held.items i && passes_at lanes.old.states.items i) ≡ true → many ≤ rest_at lanes.old i }
-    ensures lanes { AreClockLanes shape.now.plan.now shape.now.library.now shape.now.clocks.now lanes.new }
+    ensures lanes { AreClockLanesOver shape.now lanes.new }
     ensures latest { lanes.new.latest ≡ lanes.old.latest }
     ensures held { lanes.new.runs.held ≡ lanes.old.runs.held }
     ensures above { (rank : Clock → ℕ) → HasRanks shape.now.clocks.now rank
         → AreAbove shape.now.clocks.now rank (rank (slice_index_or shape.now.clocks.now i (InMain 0))) (is_node i) lanes.old lanes.new }
     ensures samples { (rank : Clock → ℕ) → HasRanks shape.now.clocks.now rank
         → AreSamplesLeft shape.now.clocks.now rank (rank (InSub i)) (is_in shape.now.clocks.now (InSub i)) many lanes.old lanes.new }
-    ensures run { SubClockRun shape.now.plan.now shape.now.library.now shape.now.clocks.now i many lanes.old lanes.new }
+    ensures run { SubClockRunOver shape.now i many lanes.old lanes.new }
 {
     if !passes_on(lanes, i) {
         return;
@@ -126,15 +118,13 @@ fn passes_on(lanes: &ClockLanes, i: u32) -> bool
 
 // Makes what a clock's own nodes do at these instants.
 fn run_own(shape: &Shape<'_>, lanes: &mut ClockLanes, clock: NodeClock, many: u32)
-    requires nodes { AreNodes shape.now.plan.now.nodes }
-    requires few { length shape.now.plan.now.nodes ≤ MAX_NODES }
-    requires in_clocks { length shape.now.clocks.now ≡ length shape.now.plan.now.nodes }
-    requires lanes { AreClockLanes shape.now.plan.now shape.now.library.now shape.now.clocks.now lanes.old }
+    requires shape { IsShape shape.now }
+    requires lanes { AreClockLanesOver shape.now lanes.old }
     requires idle { IsIdle clock lanes.old }
     requires some { 0 < many }
     requires short { many ≤ 1024 }
-    requires ahead { AllLieAhead shape.now.library.now shape.now.clocks.now clock lanes.old.runs.held.items lanes.old.states.items (length shape.now.clocks.now) many }
-    ensures lanes { AreClockLanes shape.now.plan.now shape.now.library.now shape.now.clocks.now lanes.new }
+    requires ahead { AllLieAheadOver shape.now clock lanes.old.runs.held.items lanes.old.states.items many }
+    ensures lanes { AreClockLanesOver shape.now lanes.new }
     ensures latest { lanes.new.latest ≡ lanes.old.latest }
     ensures times { lanes.new.times ≡ lanes.old.times }
     ensures held { lanes.new.runs.held ≡ lanes.old.runs.held }
@@ -147,7 +137,7 @@ fn run_own(shape: &Shape<'_>, lanes: &mut ClockLanes, clock: NodeClock, many: u3
         → samples_of lanes.new.runs.right.items i many ≡ samples_of lanes.old.runs.right.items i many }
     ensures laned { (i : ℕ) → laned_at lanes.old i → laned_at lanes.new i }
     ensures run { (other : Setting) (sub : ℕ → ℕ → List TheSlot) (past : List Moment) (fed : ℕ → ℕ) →
-        let setting = over shape.now.plan.now shape.now.library.now shape.now.clocks.now other in
+        let setting = setting_over shape.now other in
         IsGoing setting sub clock past many fed lanes.old.runs.held.items lanes.old.states.items lanes.old.runs.left.items lanes.old.runs.right.items
         → HasGoneOn setting sub clock past many fed lanes.old.states.items lanes.new.runs.left.items lanes.new.runs.right.items lanes.new.states.items }
 {

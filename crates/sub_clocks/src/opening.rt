@@ -1,9 +1,10 @@
 // The beginning of an instant of a clock.
-ghost use Rattle.std.specs.Prelude.{◌≡◌, ℕ, false, length, slice_get, slice_index_or, OnOk, OnErr};
+ghost use Rattle.std.specs.Prelude.{◌≡◌, ℕ, false, slice_get, slice_index_or, OnOk, OnErr};
 ghost use Rattle.clock_infer.specs.declared.clock_map.NodeClock.TheVariants.{Main as InMain};
 ghost use Rattle.stream_meaning.specs.Instants.{same_clock};
 ghost use Rattle.engine_instants.specs.Takes.{HasReader, ReadersAreIn};
-ghost use Rattle.sub_clocks.specs.Clocks.{AreClockLanes, ClockOpened, IsIdle, OpeningStopped};
+ghost use Rattle.sub_clocks.specs.Clocks.{AreClockLanesOver, ClockOpenedOver, IsIdle, OpeningStoppedOver};
+ghost use Rattle.engine_instants.specs.Shapes.{IsShape};
 
 use crate::ClockLanes;
 use clock_infer::NodeClock;
@@ -20,20 +21,20 @@ pub fn begin_clock<T: Taps>(
     time: WeekTime,
     taps: &mut T,
 ) -> Result<(), Memory>
-    requires in_clocks { length shape.now.clocks.now ≡ length shape.now.plan.now.nodes }
-    requires lanes { AreClockLanes shape.now.plan.now shape.now.library.now shape.now.clocks.now lanes.old }
+    requires shape { IsShape shape.now }
+    requires lanes { AreClockLanesOver shape.now lanes.old }
     requires idle { IsIdle clock lanes.old }
     requires frame { time.frame ≡ shape.now.plan.now.frame }
     requires readers { ReadersAreIn shape.now.plan.now (T.buffers taps.old) }
-    ensures lanes { AreClockLanes shape.now.plan.now shape.now.library.now shape.now.clocks.now lanes.new }
+    ensures lanes { AreClockLanesOver shape.now lanes.new }
     ensures buffers { T.buffers taps.new ≡ T.buffers taps.old }
     ensures same { T.same taps.old taps.new }
     ensures others { (i : ℕ) → same_clock (slice_index_or shape.now.clocks.now i (InMain 0)) clock ≡ false
         → slice_get lanes.new.states.items i ≡ slice_get lanes.old.states.items i }
     ensures times { lanes.new.times.items ≡ lanes.old.times.items }
     ensures runs { lanes.new.runs ≡ lanes.old.runs }
-    ensures opened { OnOk result (ClockOpened T.stands shape.now.plan.now shape.now.library.now shape.now.clocks.now clock time lanes.old lanes.new taps.old taps.new) }
-    ensures stopped { OnErr result (OpeningStopped T.stands shape.now.plan.now shape.now.library.now shape.now.clocks.now clock time lanes.old taps.old taps.new) }
+    ensures opened { OnOk result (ClockOpenedOver T.stands shape.now clock time lanes.old lanes.new taps.old taps.new) }
+    ensures stopped { OnErr result (OpeningStoppedOver T.stands shape.now clock time lanes.old taps.old taps.new) }
     ensures reads { OnErr result (HasReader shape.now.plan.now shape.now.clocks.now clock) }
 {
     if time.begins_tick() {

@@ -1,9 +1,8 @@
 // Instants of a clock that go on as its latest one did, made at once.
-ghost use Rattle.std.specs.Prelude.{◌≡◌, ◌≤◌, length};
-ghost use Rattle.liq_base.specs.declared.limits.TheConstants.{MAX_NODES};
-ghost use Rattle.plan_core.specs.Plans.{AreNodes};
-ghost use Rattle.sub_clocks.specs.Clocks.{AreClockLanes, HasLevels, IsIdle};
-ghost use Rattle.sub_clocks.specs.Runs.{InstantsRun};
+ghost use Rattle.std.specs.Prelude.{◌≡◌, ◌≤◌};
+ghost use Rattle.sub_clocks.specs.Clocks.{AreClockLanesOver, HasLevels, IsIdle};
+ghost use Rattle.sub_clocks.specs.Runs.{InstantsRunOver};
+ghost use Rattle.engine_instants.specs.Shapes.{IsShape};
 
 use crate::ClockLanes;
 use crate::keeping::rest_for;
@@ -23,20 +22,18 @@ pub fn make_run(
     most: u32,
     levels: usize,
 ) -> u32
-    requires nodes { AreNodes shape.now.plan.now.nodes }
-    requires few { length shape.now.plan.now.nodes ≤ MAX_NODES }
-    requires in_clocks { length shape.now.clocks.now ≡ length shape.now.plan.now.nodes }
-    requires lanes { AreClockLanes shape.now.plan.now shape.now.library.now shape.now.clocks.now lanes.old }
+    requires shape { IsShape shape.now }
+    requires lanes { AreClockLanesOver shape.now lanes.old }
     requires levels { HasLevels shape.now.clocks.now clock levels }
     requires idle { IsIdle clock lanes.old }
     requires rate { time.rate ≡ shape.now.plan.now.rate }
     requires frame { time.frame ≡ shape.now.plan.now.frame }
     requires short { most ≤ 1024 }
-    ensures lanes { AreClockLanes shape.now.plan.now shape.now.library.now shape.now.clocks.now lanes.new }
+    ensures lanes { AreClockLanesOver shape.now lanes.new }
     ensures within { result ≤ most }
     ensures later { result ≤ time.rate }
     ensures latest { lanes.new.latest ≡ lanes.old.latest }
-    ensures run { InstantsRun shape.now.plan.now shape.now.library.now shape.now.clocks.now clock time result lanes.old lanes.new }
+    ensures run { InstantsRunOver shape.now clock time result lanes.old lanes.new }
 {
     let many = rest_for(shape, lanes, clock, time, most);
     if many == 0 {

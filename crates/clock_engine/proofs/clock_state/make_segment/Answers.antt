@@ -32,7 +32,7 @@ pub returns-in_err-make_instant-clause-reads : goal.returns-in_err-make_instant-
 returns-in_err-make_instant-clause-reads g c = on_err c.from_residual.result c.in_err-make_instant.ensures.reads
 
 pub make_instant-requires-clause-idle : goal.make_instant-requires-clause-idle
-make_instant-requires-clause-idle g c = record { none = λ k e. absurd (c.requires.main k e) }
+make_instant-requires-clause-idle g c = record { none = λ k e. absurd (c.requires.makes.main k e) }
 
 pub make_run-many-requires-clause-idle : goal.make_run-many-requires-clause-idle
-make_run-many-requires-clause-idle g c = record { none = λ k e. absurd (c.requires.main k e) }
+make_run-many-requires-clause-idle g c = record { none = λ k e. absurd (c.requires.makes.main k e) }

@@ -15,11 +15,11 @@ use Rattle.clock_engine.proofs.run.run_tick.Goals as goal
 pub loop-instant-init : goal.loop-instant-init
 loop-instant-init g c = record {
   low = omega arith;
-  lanes = c.requires.lanes;
+  lanes = c.requires.makes.lanes_are;
   room = (let all : c.args.shape.now.plan.now.frame ≡ c.args.shape.now.plan.now.frame - 0 = omega arith in
       subst (λ n. AllHaveRoomLeft n c.begin_tick.new.ports.items) all
-      (subst (λ ports. AllHaveRoomLeft c.args.shape.now.plan.now.frame ports) (sym c.begin_tick.ensures) c.requires.room));
-  frames = c.requires.frames;
+      (subst (λ ports. AllHaveRoomLeft c.args.shape.now.plan.now.frame ports) (sym c.begin_tick.ensures) c.requires.hearing.room));
+  frames = c.requires.hearing.frames;
   keys = refl;
   buffers = refl;
   same = g.met.T.Taps.same_refl c.args.taps.now;
@@ -30,7 +30,7 @@ loop-instant-init g c = record {
 pub hear_all-requires-clause-within : goal.hear_all-requires-clause-within
 hear_all-requires-clause-within g c =
     subst (λ n. All (λ port. port.node < n) c.loop-instant.ports.items) (sym c.len-nodes.ensures)
-    (ports_within (length c.args.shape.now.plan.now.nodes) c.loop-instant.invariant.heard.slots c.args.ports.now.items c.loop-instant.ports.items c.loop-instant.invariant.heard.ports_are c.requires.heard)
+    (ports_within (length c.args.shape.now.plan.now.nodes) c.loop-instant.invariant.heard.slots c.args.ports.now.items c.loop-instant.ports.items c.loop-instant.invariant.heard.ports_are c.requires.hearing.heard)
 
 pub hear_all-requires-clause-room : goal.hear_all-requires-clause-room
 hear_all-requires-clause-room g c =
@@ -42,7 +42,7 @@ hear_all-requires-clause-room g c =
 pub feed_all-requires-clause-within : goal.feed_all-requires-clause-within
 feed_all-requires-clause-within g c =
     subst (λ n. All (λ feed. feed.node < n) c.loop-instant.feeds.items) (sym c.len-nodes.ensures)
-    (feeds_within (length c.args.shape.now.plan.now.nodes) c.loop-instant.invariant.heard.slots c.args.feeds.now.items c.loop-instant.feeds.items c.loop-instant.invariant.heard.feeds_are c.requires.fed)
+    (feeds_within (length c.args.shape.now.plan.now.nodes) c.loop-instant.invariant.heard.slots c.args.feeds.now.items c.loop-instant.feeds.items c.loop-instant.invariant.heard.feeds_are c.requires.hearing.fed)
 
 pub feed_all-requires-clause-there : goal.feed_all-requires-clause-there
 feed_all-requires-clause-there g c =
@@ -82,14 +82,14 @@ loop-instant-preserved g c =
       buffers = c.make_segment.ensures.buffers ∙ c.loop-instant.invariant.buffers;
       same = g.met.T.Taps.same_trans c.args.taps.now c.loop-instant.taps c.make_segment.new.taps c.loop-instant.invariant.same c.make_segment.ensures.same;
       heard = heard_more g.T.Taps.stands _ _ _ _ _ instant many (instant + (1 + many)) _ _ _ next c.in_ok-many.ensures.run is c.loop-instant.invariant.heard filled long
-          (all_low frame (instant + suc many) c.args.feeds.now.items low c.requires.frames) c.mark_all.ensures.keeping c.mark_all.ensures.size
+          (all_low frame (instant + suc many) c.args.feeds.now.items low c.requires.hearing.frames) c.mark_all.ensures.keeping c.mark_all.ensures.size
           (λ k port old new at_port at_old at_new. c.in_ok-mark_all.ensures.kept k port old new (ap (λ ps. slice_get ps k) c.deref.ensures.value ∙ at_port) at_old at_new);
     }
 
 pub returns-in_err-many-clause-stopped : goal.returns-in_err-many-clause-stopped
 returns-in_err-many-clause-stopped g c =
     on_err c.from_residual.result (heard_broken g.T.Taps.stands _ _ _ _ _ c.loop-instant.instant c.args.shape.now.plan.now.frame _ _ _ c.loop-instant-test.true c.in_err-many.ensures.broken refl refl
-    (λ k list at. its_port c.args.cues.now.lists.items c.args.ports.now.items c.requires.marks k list at) c.loop-instant.invariant.heard)
+    (λ k list at. its_port c.args.cues.now.lists.items c.args.ports.now.items c.requires.hearing.marks k list at) c.loop-instant.invariant.heard)
 
 pub returns-clause-heard : goal.returns-clause-heard
 returns-clause-heard g c =
@@ -106,7 +106,7 @@ mark_all-requires g c =
     let lists = c.loop-instant.invariant.heard.lists in
     let many : c.hear_all.new.ports.items ≡ map (λ (port : Port). after_slots port (segment_of c.make_segment.new.lanes.clocks c.in_ok-many.many port.node)) c.loop-instant.ports.items = c.hear_all.ensures in
     record {
-      sizes = lists ∙ c.requires.marks
+      sizes = lists ∙ c.requires.hearing.marks
           ∙ sym (ap length c.deref.ensures.value ∙ ap length many ∙ length-map c.loop-instant.ports.items _ ∙ ap length c.loop-instant.invariant.heard.ports_are ∙ length-map c.args.ports.now.items _);
     }
 
@@ -119,7 +119,7 @@ returns-in_err-mark_all-clause-stopped g c =
     on_err c.from_residual-in_err-mark_all.result
     (heard_part g.T.Taps.stands _ _ _ _ _ instant many (instant + suc many) _ _ _ refl c.in_ok-many.ensures.run c.hear_all.ensures c.loop-instant.invariant.heard frame
     (omega (arith, short, c.loop-instant-test.true)) c.mark_all.ensures.keeping c.mark_all.ensures.size c.mark_all.ensures.grown
-    (λ k list at. its_port c.args.cues.now.lists.items c.args.ports.now.items c.requires.marks k list at))
+    (λ k list at. its_port c.args.cues.now.lists.items c.args.ports.now.items c.requires.hearing.marks k list at))
 
 pub returns-in_err-mark_all-clause-needs : goal.returns-in_err-mark_all-clause-needs
 returns-in_err-mark_all-clause-needs g c =

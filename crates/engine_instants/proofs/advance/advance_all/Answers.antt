@@ -31,7 +31,7 @@ loop-i-smaller c =
 
 pub next-requires : goal.next-requires
 next-requires c =
-    let in_nodes : c.loop-i.i < length c.args.shape.now.plan.now.nodes = omega (arith, c.requires.in_clocks, c.loop-i-test.true) in
+    let in_nodes : c.loop-i.i < length c.args.shape.now.plan.now.nodes = omega (arith, c.requires.shape.in_clocks, c.loop-i-test.true) in
     let in_states : c.loop-i.i < length c.loop-i.states = omega (arith, c.loop-i.invariant.fit.size, in_nodes) in
     let found : slice_get c.args.shape.now.plan.now.nodes c.loop-i.i ≡ Some c.index-as_slice-i.result =
     slice_get_read _ _ _ _ refl in_nodes (c.index-as_slice-i.is ∙ ap (λ nodes. get_or nodes c.loop-i.i c.index-as_slice-i.result) c.as_slice.ensures) in
@@ -43,7 +43,7 @@ next-requires c =
 
 pub loop-i-preserved : goal.loop-i-preserved
 loop-i-preserved c =
-    let in_nodes : c.loop-i.i < length c.args.shape.now.plan.now.nodes = omega (arith, c.requires.in_clocks, c.loop-i-test.true) in
+    let in_nodes : c.loop-i.i < length c.args.shape.now.plan.now.nodes = omega (arith, c.requires.shape.in_clocks, c.loop-i-test.true) in
     let in_states : c.loop-i.i < length c.loop-i.states = omega (arith, c.loop-i.invariant.fit.size, in_nodes) in
     let in_parts : c.loop-i.i < length c.args.parts.now = omega (arith, c.requires.in_parts, in_nodes) in
     let in_marks : c.loop-i.i < length c.args.marks.now = omega (arith, c.requires.in_marks, in_nodes) in
@@ -84,5 +84,5 @@ loop-i-preserved c =
 
 pub returns-clause-stand : goal.returns-clause-stand
 returns-clause-stand c setting sub past moment fed long stands settled parts same_parts same_marks =
-    gone_all (over c.args.shape.now.plan.now c.args.shape.now.library.now c.args.shape.now.clocks.now setting) sub c.args.clock past moment fed c.loop-i.i c.loop-i.states (let high = c.loop-i.invariant.high in omega (arith, high, c.requires.in_clocks, c.loop-i-test.false))
+    gone_all (over c.args.shape.now.plan.now c.args.shape.now.library.now c.args.shape.now.clocks.now setting) sub c.args.clock past moment fed c.loop-i.i c.loop-i.states (let high = c.loop-i.invariant.high in omega (arith, high, c.requires.shape.in_clocks, c.loop-i-test.false))
     (c.loop-i.invariant.done setting sub past moment fed long stands settled parts same_parts same_marks)

@@ -16,7 +16,7 @@ mark_used-requires-clause-in_marks c k d h =
     let found : slice_get c.args.shape.now.plan.now.nodes (c.loop-i.i - 1) ≡ Some c.index-all-at.result =
     slice_get_read _ _ _ _ refl in_nodes (c.index-all-at.is ∙ ap (λ nodes. get_or nodes (c.loop-i.i - 1) c.index-all-at.result) c.as_slice-all.ensures) in
     let same : c.as_slice.result.now ≡ c.index-all-at.result.children = search rules in
-    let low = (c.requires.nodes (c.loop-i.i - 1) c.index-all-at.result found).children k d (subst (λ xs. k < length xs) same h) in
+    let low = (c.requires.shape.nodes (c.loop-i.i - 1) c.index-all-at.result found).children k d (subst (λ xs. k < length xs) same h) in
     let low' : get_or c.as_slice.result.now k d < length (take (c.loop-i.i - 1) c.args.shape.now.plan.now.nodes) = subst (λ xs. get_or xs k d < length (take (c.loop-i.i - 1) c.args.shape.now.plan.now.nodes)) (sym same) low in
     let short : c.loop-i.i - 1 ≤ length c.args.shape.now.plan.now.nodes = omega (arith, in_nodes) in
     let short' : c.loop-i.i - 1 ≤ length c.loop-i.marks = omega (arith, c.requires.in_marks, in_nodes) in
@@ -30,7 +30,7 @@ mark_used-requires-clause-in_parts c k d h =
     let found : slice_get c.args.shape.now.plan.now.nodes (c.loop-i.i - 1) ≡ Some c.index-all-at.result =
     slice_get_read _ _ _ _ refl in_nodes (c.index-all-at.is ∙ ap (λ nodes. get_or nodes (c.loop-i.i - 1) c.index-all-at.result) c.as_slice-all.ensures) in
     let same : c.as_slice.result.now ≡ c.index-all-at.result.children = search rules in
-    let low = (c.requires.nodes (c.loop-i.i - 1) c.index-all-at.result found).children k d (subst (λ xs. k < length xs) same h) in
+    let low = (c.requires.shape.nodes (c.loop-i.i - 1) c.index-all-at.result found).children k d (subst (λ xs. k < length xs) same h) in
     let low' : get_or c.as_slice.result.now k d < length (take (c.loop-i.i - 1) c.args.shape.now.plan.now.nodes) = subst (λ xs. get_or xs k d < length (take (c.loop-i.i - 1) c.args.shape.now.plan.now.nodes)) (sym same) low in
     let short : c.loop-i.i - 1 ≤ length c.args.shape.now.plan.now.nodes = omega (arith, in_nodes) in
     let one = length-take-le (c.loop-i.i - 1) c.args.shape.now.plan.now.nodes short in
@@ -43,13 +43,13 @@ loop-i-init c =
     let all : length c.as_slice-all.result.now ≡ length c.args.shape.now.plan.now.nodes = ap length c.as_slice-all.ensures in
     let many : length c.args.marks.now ≡ length c.as_slice-all.result.now = omega (arith, c.requires.in_marks, all) in
     record {
-      within = omega (arith, high, all, c.requires.in_clocks);
+      within = omega (arith, high, all, c.requires.shape.in_clocks);
       own = end.own;
       others = c.requires.marks;
       marked = λ library clocks setting picks.
-          Marked-over (over c.args.shape.now.plan.now library clocks setting) _ _ _ _ (length c.args.shape.now.clocks.now) c.end-i.result many (omega (arith, all, c.requires.in_clocks)) high
+          Marked-over (over c.args.shape.now.plan.now library clocks setting) _ _ _ _ (length c.args.shape.now.clocks.now) c.end-i.result many (omega (arith, all, c.requires.shape.in_clocks)) high
           (λ j from upto. c.requires.marks j (end.skips j from upto))
-          (Marked-all (over c.args.shape.now.plan.now library clocks setting) _ _ _ (length c.args.shape.now.clocks.now) (omega (arith, c.requires.in_marks, c.requires.in_clocks)) (omega (arith, all, c.requires.in_clocks)));
+          (Marked-all (over c.args.shape.now.plan.now library clocks setting) _ _ _ (length c.args.shape.now.clocks.now) (omega (arith, c.requires.in_marks, c.requires.shape.in_clocks)) (omega (arith, all, c.requires.shape.in_clocks)));
     }
 
 pub loop-i-smaller : goal.loop-i-smaller

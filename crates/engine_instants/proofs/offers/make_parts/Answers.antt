@@ -18,7 +18,7 @@ loop-i-init c =
       others = λ j outside. c.requires.none j;
       made = λ other sub past fed at long stands settled.
           parts_to (over c.args.shape.now.plan.now c.args.shape.now.library.now c.args.shape.now.clocks.now other) sub c.args.clock past c.args.parts.now 0 c.first-i.result
-          (c.requires.in_parts ∙ sym c.requires.in_clocks) first (λ j outside. c.requires.none j) refl;
+          (c.requires.in_parts ∙ sym c.requires.shape.in_clocks) first (λ j outside. c.requires.none j) refl;
     }
 
 pub loop-i-smaller : goal.loop-i-smaller
@@ -31,11 +31,11 @@ pub loop-i-preserved : goal.loop-i-preserved
 loop-i-preserved c =
     let inside = c.loop-i.invariant.own c.loop-i-test.true in
     let next = next_own c.args.shape.now.clocks.now c.args.clock c.loop-i.i c.after-i.result inside (c.after-i.ensures c.args.shape.now.clocks.now c.requires.chains) in
-    let in_parts : c.loop-i.i < length c.loop-i.parts = omega (arith, c.requires.in_parts, c.requires.in_clocks, c.loop-i-test.true) in
-    let in_states : c.loop-i.i < length c.args.states.now = omega (arith, c.requires.fit.size, c.requires.in_clocks, c.loop-i-test.true) in
+    let in_parts : c.loop-i.i < length c.loop-i.parts = omega (arith, c.requires.in_parts, c.requires.shape.in_clocks, c.loop-i-test.true) in
+    let in_states : c.loop-i.i < length c.args.states.now = omega (arith, c.requires.fit.size, c.requires.shape.in_clocks, c.loop-i-test.true) in
     let found : slice_get c.args.states.now c.loop-i.i ≡ Some c.index-states-i.result = slice_get_read _ _ _ _ refl in_states c.index-states-i.is in
     let many : length (set c.loop-i.parts c.loop-i.i c.offer_of.result) ≡ length c.args.shape.now.clocks.now =
-    (let same = length-set c.loop-i.parts c.loop-i.i c.offer_of.result in omega (arith, same, c.requires.in_parts, c.requires.in_clocks)) in
+    (let same = length-set c.loop-i.parts c.loop-i.i c.offer_of.result in omega (arith, same, c.requires.in_parts, c.requires.shape.in_clocks)) in
     record {
       high = next.high;
       own = next.own;
@@ -53,7 +53,7 @@ loop-i-preserved c =
 
 pub returns-clause-parts : goal.returns-clause-parts
 returns-clause-parts c setting sub past fed at long stands settled =
-    let all : c.loop-i.i ≡ length c.args.shape.now.plan.now.nodes = (let high = c.loop-i.invariant.high in omega (arith, high, c.requires.in_clocks, c.loop-i-test.false)) in
+    let all : c.loop-i.i ≡ length c.args.shape.now.plan.now.nodes = (let high = c.loop-i.invariant.high in omega (arith, high, c.requires.shape.in_clocks, c.loop-i-test.false)) in
     sym (take_all c.loop-i.i c.loop-i.parts (omega (arith, all, c.requires.in_parts)))
     ∙ c.loop-i.invariant.made setting sub past fed at long stands settled
     ∙ ap (λ n. parts_upto (over c.args.shape.now.plan.now c.args.shape.now.library.now c.args.shape.now.clocks.now setting) sub c.args.clock past n) all

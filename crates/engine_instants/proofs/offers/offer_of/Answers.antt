@@ -8,13 +8,13 @@ pub offer-requires-clause-number : goal.offer-requires-clause-number
 offer-requires-clause-number c =
     let found : slice_get c.args.shape.now.plan.now.nodes c.args.i ≡ Some c.index-as_slice-i.result =
     slice_get_read _ _ _ _ refl c.requires.within (c.index-as_slice-i.is ∙ ap (λ nodes. get_or nodes c.args.i c.index-as_slice-i.result) c.as_slice.ensures) in
-    (c.requires.nodes c.args.i c.index-as_slice-i.result found).number
+    (c.requires.shape.nodes c.args.i c.index-as_slice-i.result found).number
 
 pub offer-requires-clause-few : goal.offer-requires-clause-few
 offer-requires-clause-few c =
     let found : slice_get c.args.shape.now.plan.now.nodes c.args.i ≡ Some c.index-as_slice-i.result =
     slice_get_read _ _ _ _ refl c.requires.within (c.index-as_slice-i.is ∙ ap (λ nodes. get_or nodes c.args.i c.index-as_slice-i.result) c.as_slice.ensures) in
-    (c.requires.nodes c.args.i c.index-as_slice-i.result found).few
+    (c.requires.shape.nodes c.args.i c.index-as_slice-i.result found).few
 
 pub returns-clause-part : goal.returns-clause-part
 returns-clause-part c setting sub clock past fed at long inside stands settled =

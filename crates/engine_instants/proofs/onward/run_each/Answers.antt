@@ -24,12 +24,11 @@ loop-i-init c =
       own = first.own;
       fit = c.requires.fit;
       laid = laid_skip c.args.shape.now.clocks.now c.args.clock (part_at c.args.held.now) (λ k. silent) c.args.parts.now 0 c.first-i.result first
-          (laid_none c.args.shape.now.clocks.now c.args.clock (part_at c.args.held.now) (λ k. silent) c.args.parts.now (λ k outside. c.requires.clear k));
+          (laid_none c.args.shape.now.clocks.now c.args.clock (part_at c.args.held.now) (λ k. silent) c.args.parts.now (λ k outside. c.requires.room.clear k));
       in_parts = refl;
       in_left = refl;
       in_right = refl;
-      spare_left = c.requires.spare_left;
-      spare_right = c.requires.spare_right;
+      spare = c.requires.room.in_spare;
       laned = λ k has. has;
       others = λ k outside. refl;
       stayed = λ k high. refl;
@@ -47,30 +46,30 @@ loop-i-smaller c =
     omega (arith, low, c.loop-i-test.true)
 
 pub run_node-requires-clause-in_left : goal.run_node-requires-clause-in_left
-run_node-requires-clause-in_left c = c.loop-i.invariant.in_left ∙ c.requires.in_left
+run_node-requires-clause-in_left c = c.loop-i.invariant.in_left ∙ c.requires.room.in_left
 
 pub run_node-requires-clause-in_right : goal.run_node-requires-clause-in_right
-run_node-requires-clause-in_right c = c.loop-i.invariant.in_right ∙ c.requires.in_right
+run_node-requires-clause-in_right c = c.loop-i.invariant.in_right ∙ c.requires.room.in_right
 
 pub run_node-requires-clause-fits : goal.run_node-requires-clause-fits
 run_node-requires-clause-fits c = λ node found.
-    let in_nodes : c.loop-i.i < length c.args.shape.now.plan.now.nodes = omega (arith, c.requires.in_clocks, c.loop-i-test.true) in
+    let in_nodes : c.loop-i.i < length c.args.shape.now.plan.now.nodes = omega (arith, c.requires.shape.in_clocks, c.loop-i-test.true) in
     let in_states : c.loop-i.i < length c.loop-i.states = omega (arith, c.loop-i.invariant.fit.size, in_nodes) in
     c.loop-i.invariant.fit.each c.loop-i.i node _ found (slice_get-get_or _ _ _ in_states)
 
 pub run_node-requires-clause-ahead : goal.run_node-requires-clause-ahead
 run_node-requires-clause-ahead c = λ gave.
-    let in_nodes : c.loop-i.i < length c.args.shape.now.plan.now.nodes = omega (arith, c.requires.in_clocks, c.loop-i-test.true) in
+    let in_nodes : c.loop-i.i < length c.args.shape.now.plan.now.nodes = omega (arith, c.requires.shape.in_clocks, c.loop-i-test.true) in
     let in_states : c.loop-i.i < length c.loop-i.states = omega (arith, c.loop-i.invariant.fit.size, in_nodes) in
-    let in_parts : c.loop-i.i < length c.loop-i.parts = omega (arith, c.loop-i.invariant.in_parts, c.requires.in_parts, in_nodes) in
+    let in_parts : c.loop-i.i < length c.loop-i.parts = omega (arith, c.loop-i.invariant.in_parts, c.requires.room.in_parts, in_nodes) in
     c.requires.ahead.each c.loop-i.i _ c.loop-i-test.true (c.loop-i.invariant.own c.loop-i-test.true) (sym (c.loop-i.invariant.stayed c.loop-i.i (omega arith)) ∙ slice_get-get_or _ _ _ in_states)
     (sym (ap (λ (p : Part). is_some p.slot) (get_or-set_same c.loop-i.parts c.loop-i.i (get_or c.args.held.now c.loop-i.i silent) silent in_parts)) ∙ gave)
 
 pub loop-i-preserved : goal.loop-i-preserved
 loop-i-preserved c =
-    let in_nodes : c.loop-i.i < length c.args.shape.now.plan.now.nodes = omega (arith, c.requires.in_clocks, c.loop-i-test.true) in
+    let in_nodes : c.loop-i.i < length c.args.shape.now.plan.now.nodes = omega (arith, c.requires.shape.in_clocks, c.loop-i-test.true) in
     let in_states : c.loop-i.i < length c.loop-i.states = omega (arith, c.loop-i.invariant.fit.size, in_nodes) in
-    let in_parts : c.loop-i.i < length c.loop-i.parts = omega (arith, c.loop-i.invariant.in_parts, c.requires.in_parts, in_nodes) in
+    let in_parts : c.loop-i.i < length c.loop-i.parts = omega (arith, c.loop-i.invariant.in_parts, c.requires.room.in_parts, in_nodes) in
     let inside = c.loop-i.invariant.own c.loop-i-test.true in
     let after = next_own c.args.shape.now.clocks.now c.args.clock c.loop-i.i c.after-i.result inside (c.after-i.ensures c.args.shape.now.clocks.now c.requires.chains) in
     let there : slice_get c.loop-i.states c.loop-i.i ≡ Some (get_or c.loop-i.states c.loop-i.i c.index-states-i.result) = slice_get-get_or _ _ _ in_states in
@@ -85,23 +84,22 @@ loop-i-preserved c =
       in_parts = length-set _ _ _ ∙ c.loop-i.invariant.in_parts;
       in_left = search rules;
       in_right = search rules;
-      spare_left = c.run_node.ensures.spare_left;
-      spare_right = c.run_node.ensures.spare_right;
+      spare = c.run_node.ensures.spare;
       laned = λ k has. c.run_node.ensures.laned k (c.loop-i.invariant.laned k has);
       others = λ k outside. slice_get-set_other c.loop-i.states c.loop-i.i k c.run_node.new.state (λ e. not_here c.args.shape.now.clocks.now c.args.clock c.loop-i.i k inside outside (sym e))
           ∙ c.loop-i.invariant.others k outside;
       stayed = λ k high. slice_get-set_other c.loop-i.states c.loop-i.i k c.run_node.new.state (λ e. (let low = after.low in omega (arith, high, low, e)))
           ∙ c.loop-i.invariant.stayed k (let low = after.low in omega (arith, high, low));
-      left_kept = λ k outside. c.run_node.ensures.left k (not_here c.args.shape.now.clocks.now c.args.clock c.loop-i.i k inside outside) ∙ c.loop-i.invariant.left_kept k outside;
-      right_kept = λ k outside. c.run_node.ensures.right k (not_here c.args.shape.now.clocks.now c.args.clock c.loop-i.i k inside outside) ∙ c.loop-i.invariant.right_kept k outside;
+      left_kept = λ k outside. (c.run_node.ensures.samples k (not_here c.args.shape.now.clocks.now c.args.clock c.loop-i.i k inside outside)).on_left ∙ c.loop-i.invariant.left_kept k outside;
+      right_kept = λ k outside. (c.run_node.ensures.samples k (not_here c.args.shape.now.clocks.now c.args.clock c.loop-i.i k inside outside)).on_right ∙ c.loop-i.invariant.right_kept k outside;
       done = λ other sub past fed going.
           let S = over c.args.shape.now.plan.now c.args.shape.now.library.now c.args.shape.now.clocks.now other in
           let before = c.loop-i.invariant.done other sub past fed going in
           run_skip (over c.args.shape.now.plan.now c.args.shape.now.library.now c.args.shape.now.clocks.now other) sub c.args.clock past c.args.many fed c.args.states.now (suc c.loop-i.i) c.after-i.result c.run_node.new.left c.run_node.new.right _ after
           (run_step (over c.args.shape.now.plan.now c.args.shape.now.library.now c.args.shape.now.clocks.now other) sub c.args.clock past c.args.many fed c.args.states.now c.loop-i.i c.loop-i.left c.loop-i.right c.run_node.new.left c.run_node.new.right c.loop-i.states c.run_node.new.state in_states
-          (λ k low. c.run_node.ensures.left k (λ e. omega (arith, low, e))) (λ k low. c.run_node.ensures.right k (λ e. omega (arith, low, e)))
+          (λ k low. (c.run_node.ensures.samples k (λ e. omega (arith, low, e))).on_left) (λ k low. (c.run_node.ensures.samples k (λ e. omega (arith, low, e))).on_right)
           node.0 _ (record { there = node.1; inside = inside }) was
-          (c.run_node.ensures.run other sub c.args.clock past (fed c.loop-i.i) node.0 (record {
+          (c.run_node.ensures.run.run other sub c.args.clock past (fed c.loop-i.i) node.0 (record {
             long = going.long;
             stretch = going.stretch;
             is = record { there = node.1; inside = inside };
@@ -119,8 +117,13 @@ loop-i-preserved c =
           })) before);
     }
 
+pub returns-clause-samples : goal.returns-clause-samples
+returns-clause-samples c i outside = record { on_left = c.loop-i.invariant.left_kept i outside; on_right = c.loop-i.invariant.right_kept i outside }
+
 pub returns-clause-run : goal.returns-clause-run
-returns-clause-run c = λ other sub past fed going.
-    run_all (over c.args.shape.now.plan.now c.args.shape.now.library.now c.args.shape.now.clocks.now other) sub c.args.clock past c.args.many fed c.args.states.now c.loop-i.i c.loop-i.left c.loop-i.right c.loop-i.states
-    (let high = c.loop-i.invariant.high in omega (arith, high, c.requires.in_clocks, c.loop-i-test.false))
-    (c.loop-i.invariant.done other sub past fed going)
+returns-clause-run c = record {
+  run = λ other sub past fed going.
+      run_all (over c.args.shape.now.plan.now c.args.shape.now.library.now c.args.shape.now.clocks.now other) sub c.args.clock past c.args.many fed c.args.states.now c.loop-i.i c.loop-i.left c.loop-i.right c.loop-i.states
+      (let high = c.loop-i.invariant.high in omega (arith, high, c.requires.shape.in_clocks, c.loop-i-test.false))
+      (c.loop-i.invariant.done other sub past fed going);
+}

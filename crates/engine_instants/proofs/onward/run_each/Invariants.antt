@@ -3,7 +3,7 @@ use Rattle.frame_core.specs.Slots.{Slot}
 use Rattle.stream_meaning.specs.Instants.{Setting, Moment, part_at, silent}
 use Rattle.node_mixing.specs.Runs.{samples_of}
 use Rattle.engine_instants.specs.Nodes.{lies_at}
-use Rattle.engine_instants.specs.Runs.{HasLanes, IsGoing}
+use Rattle.engine_instants.specs.Runs.{HasLanes, IsGoing, IsSpare}
 use Rattle.engine_instants.specs.States.{AllFit, over}
 use Rattle.engine_instants.proofs.Gone.{HaveRun}
 use Rattle.engine_instants.proofs.Kept.{AreLaid}
@@ -18,8 +18,7 @@ invariant-loop-i l = record {
   in_parts : length l.parts ≡ length l.initial.parts;
   in_left : length l.left ≡ length l.initial.left;
   in_right : length l.right ≡ length l.initial.right;
-  spare_left : 1024 ≤ length l.spare_left.items;
-  spare_right : 1024 ≤ length l.spare_right.items;
+  spare : IsSpare l.spare;
   laned : (k : ℕ) → HasLanes l.initial.left l.initial.right k → HasLanes l.left l.right k;
   others : (k : ℕ) → lies_at l.shape.clocks.now l.fn.clock k ≡ false → slice_get l.states k ≡ slice_get l.initial.states k;
   stayed : (k : ℕ) → l.i ≤ k → slice_get l.states k ≡ slice_get l.initial.states k;

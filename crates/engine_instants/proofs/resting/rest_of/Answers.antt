@@ -46,7 +46,7 @@ loop-i-smaller c =
 
 pub loop-i-preserved : goal.loop-i-preserved
 loop-i-preserved c =
-    let in_nodes : c.loop-i.i < length c.args.shape.now.plan.now.nodes = omega (arith, c.requires.in_clocks, c.loop-i-test.true) in
+    let in_nodes : c.loop-i.i < length c.args.shape.now.plan.now.nodes = omega (arith, c.requires.shape.in_clocks, c.loop-i-test.true) in
     let in_states : c.loop-i.i < length c.args.states.now = omega (arith, c.requires.fit.size, in_nodes) in
     let in_held : c.loop-i.i < length c.args.held.now = omega (arith, c.requires.in_held, in_nodes) in
     let in_rests : c.loop-i.i < length c.args.rests.now = omega (arith, c.requires.in_rests, in_nodes) in
@@ -85,7 +85,7 @@ loop-i-preserved c =
           (on_step (over c.args.shape.now.plan.now c.args.shape.now.library.now c.args.shape.now.clocks.now other) sub c.args.clock past c.loop-i.i c.loop-i.rest c.node_rest-rest.result w
           (λ node is.
           let gave_is = sym (held_gives S sub c.args.clock past c.args.held.now c.loop-i.i behind.held_are in_nodes is.inside) ∙ held_is in
-          c.node_rest-rest.ensures.goes other sub c.args.clock past (fed c.loop-i.i) node behind.long is
+          c.node_rest-rest.ensures.goes.goes other sub c.args.clock past (fed c.loop-i.i) node behind.long is
           (behind.stands.each c.loop-i.i node _ (record { there = is.there; inside = is.inside }) found)
           behind.parts_are gave_is
           (λ buffer at. behind.begun.each c.loop-i.i node buffer is at)
@@ -104,7 +104,7 @@ loop-i-preserved c =
           let same : c.index-states-i.result ≡ state = cc in
           let gave_is = sym (held_gives S sub c.args.clock past c.args.held.now c.loop-i.i behind.held_are in_nodes is.inside) ∙ held_is in
           subst (λ s. run_of overlap (sub c.loop-i.i) (suc (position past c.loop-i.i) + j) ≡ fed c.loop-i.i + asked (passes s) j) same
-          (c.node_rest-rest.ensures.asks S sub past (moment_after S sub c.args.clock past) (fed c.loop-i.i) overlap j behind.long
+          (c.node_rest-rest.ensures.goes.asks S sub past (moment_after S sub c.args.clock past) (fed c.loop-i.i) overlap j behind.long
           (subst (λ work. StateStands S sub (moment_after S sub c.args.clock past ∷ past) (fed c.loop-i.i) c.loop-i.i work c.index-states-i.result) at
           (behind.stands.each c.loop-i.i node _ (record { there = is.there; inside = is.inside }) found))
           gave_is (sym gave_is ∙ gave)
@@ -124,14 +124,16 @@ returns-clause-through c =
     let all : c.loop-i.i ≡ length c.args.shape.now.clocks.now = omega (arith, high, c.loop-i-test.false) in
     through_all c.args.shape.now.clocks.now c.args.clock c.args.held.now c.args.states.now c.args.rests.now c.loop-i.i c.loop-i.rest all c.loop-i.invariant.through
 
-pub returns-clause-stretch : goal.returns-clause-stretch
-returns-clause-stretch c = λ other sub past fed behind.
-    on_all (over c.args.shape.now.plan.now c.args.shape.now.library.now c.args.shape.now.clocks.now other) sub c.args.clock past c.loop-i.i c.loop-i.rest
-    (let high = c.loop-i.invariant.high in omega (arith, high, c.requires.in_clocks, c.loop-i-test.false))
-    (c.loop-i.invariant.done other sub past fed behind)
-
-pub returns-clause-asks : goal.returns-clause-asks
-returns-clause-asks c = λ other sub past fed behind.
-    asks_all (over c.args.shape.now.plan.now c.args.shape.now.library.now c.args.shape.now.clocks.now other) sub c.args.clock past fed c.args.states.now c.loop-i.i (length c.args.shape.now.clocks.now) c.loop-i.rest
-    (let high = c.loop-i.invariant.high in omega (arith, high, c.loop-i-test.false))
-    (c.loop-i.invariant.asks other sub past fed behind)
+pub returns-clause-goes : goal.returns-clause-goes
+returns-clause-goes c =
+    let high = c.loop-i.invariant.high in
+    record {
+      stretch = λ other sub past fed behind.
+          on_all (over c.args.shape.now.plan.now c.args.shape.now.library.now c.args.shape.now.clocks.now other) sub c.args.clock past c.loop-i.i c.loop-i.rest
+          (omega (arith, high, c.requires.shape.in_clocks, c.loop-i-test.false))
+          (c.loop-i.invariant.done other sub past fed behind);
+      asks = λ other sub past fed behind.
+          asks_all (over c.args.shape.now.plan.now c.args.shape.now.library.now c.args.shape.now.clocks.now other) sub c.args.clock past fed c.args.states.now c.loop-i.i (length c.args.shape.now.clocks.now) c.loop-i.rest
+          (omega (arith, high, c.loop-i-test.false))
+          (c.loop-i.invariant.asks other sub past fed behind);
+    }

@@ -31,7 +31,7 @@ loop-i-smaller g c =
 
 pub returns-in_err-take_at-clause-fit : goal.returns-in_err-take_at-clause-fit
 returns-in_err-take_at-clause-fit g c =
-    let in_nodes : c.loop-i.i < length c.args.shape.now.plan.now.nodes = omega (arith, c.requires.in_clocks, c.loop-i-test.true) in
+    let in_nodes : c.loop-i.i < length c.args.shape.now.plan.now.nodes = omega (arith, c.requires.shape.in_clocks, c.loop-i-test.true) in
     let in_states : c.loop-i.i < length c.loop-i.states = omega (arith, c.loop-i.invariant.fit.size, in_nodes) in
     fit_set _ _ _ _ _ in_states (λ node at. c.take_at.ensures.fits node at (c.loop-i.invariant.fit.each c.loop-i.i node _ at (slice_get-get_or _ _ _ in_states))) c.loop-i.invariant.fit
 
@@ -42,7 +42,7 @@ returns-in_err-take_at-clause-others g c j outside =
 
 pub returns-in_err-take_at-clause-stopped : goal.returns-in_err-take_at-clause-stopped
 returns-in_err-take_at-clause-stopped g c =
-    let in_nodes : c.loop-i.i < length c.args.shape.now.plan.now.nodes = omega (arith, c.requires.in_clocks, c.loop-i-test.true) in
+    let in_nodes : c.loop-i.i < length c.args.shape.now.plan.now.nodes = omega (arith, c.requires.shape.in_clocks, c.loop-i-test.true) in
     let in_states : c.loop-i.i < length c.loop-i.states = omega (arith, c.loop-i.invariant.fit.size, in_nodes) in
     let node = item_there c.args.shape.now.plan.now.nodes c.loop-i.i in_nodes in
     on_err c.from_residual.result (beginning_stopped g.T.Taps.stands c.args.shape.now.plan.now c.args.shape.now.library.now c.args.shape.now.clocks.now c.args.clock c.args.states.now c.args.taps.now
@@ -51,7 +51,7 @@ returns-in_err-take_at-clause-stopped g c =
 
 pub loop-i-preserved : goal.loop-i-preserved
 loop-i-preserved g c =
-    let in_nodes : c.loop-i.i < length c.args.shape.now.plan.now.nodes = omega (arith, c.requires.in_clocks, c.loop-i-test.true) in
+    let in_nodes : c.loop-i.i < length c.args.shape.now.plan.now.nodes = omega (arith, c.requires.shape.in_clocks, c.loop-i-test.true) in
     let in_states : c.loop-i.i < length c.loop-i.states = omega (arith, c.loop-i.invariant.fit.size, in_nodes) in
     let node = item_there c.args.shape.now.plan.now.nodes c.loop-i.i in_nodes in
     let inside = c.loop-i.invariant.own c.loop-i-test.true in
@@ -75,7 +75,7 @@ loop-i-preserved g c =
 pub returns-clause-begun : goal.returns-clause-begun
 returns-clause-begun g c =
     beginning_all g.T.Taps.stands c.args.shape.now.plan.now c.args.shape.now.library.now c.args.shape.now.clocks.now c.args.clock c.args.states.now c.args.taps.now c.loop-i.states c.loop-i.taps c.loop-i.i
-    (let high = c.loop-i.invariant.high in omega (arith, high, c.requires.in_clocks, c.loop-i-test.false)) c.loop-i.invariant.beginning
+    (let high = c.loop-i.invariant.high in omega (arith, high, c.requires.shape.in_clocks, c.loop-i-test.false)) c.loop-i.invariant.beginning
 
 pub returns-in_err-take_at-clause-reads : goal.returns-in_err-take_at-clause-reads
 returns-in_err-take_at-clause-reads g c =

@@ -23,7 +23,7 @@ use Rattle.sub_clocks.proofs.Settling.{all_more, all_none, all_stopped, node_clo
 use Rattle.sub_clocks.proofs.Readers.{reader_above}
 use Rattle.sub_clocks.proofs.SubSteps.{sub_idle}
 use Rattle.sub_clocks.proofs.Taking.{second_of}
-use Rattle.sub_clocks.proofs.Making.{are_ready, are_settled, clock_stands, long_history, made, ran_is}
+use Rattle.sub_clocks.proofs.Making.{are_ready, are_settled, clock_stands, long_history, made, ran_is, roots_are}
 use Rattle.sub_clocks.proofs.clocks.+clocks.Goals as goal
 
 pub settle-loop-lanes-init : goal.settle-loop-lanes-init
@@ -32,13 +32,13 @@ settle-loop-lanes-init g t c = record {
   buffers = refl;
   same = g.met.T.Taps.same_refl c.args.taps.now;
   left = λ rank ranks. left_none c.args.shape.now.clocks.now rank (rank (get_or c.args.shape.now.clocks.now c.args.k (Main 0))) (is_node c.args.k) c.args.lanes.now;
-  feeding = node_none g.T.Taps.stands c.args.shape.now.plan.now c.args.shape.now.library.now c.args.shape.now.clocks.now c.args.own.now c.requires.in_clocks c.args.lanes.now c.args.taps.now c.args.k;
+  feeding = node_none g.T.Taps.stands c.args.shape.now.plan.now c.args.shape.now.library.now c.args.shape.now.clocks.now c.args.own.now c.requires.shape.in_clocks c.args.lanes.now c.args.taps.now c.args.k;
 }
 
 pub settle-keep-requires-clause-idle : goal.settle-keep-requires-clause-idle
 settle-keep-requires-clause-idle g t c =
     idle_left c.args.shape.now.clocks.now c.requires.levels.rank (clock_at c.args.shape.now.clocks.now c.args.k) (is_node c.args.k) (c.requires.levels.rank (clock_at c.args.shape.now.clocks.now c.args.k))
-    c.args.lanes.now c.loop-lanes.lanes (length c.args.shape.now.plan.now.nodes) c.requires.levels.ranks (sym c.requires.in_clocks) c.loop-lanes.invariant.lanes.runs.in_rests (omega arith)
+    c.args.lanes.now c.loop-lanes.lanes (length c.args.shape.now.plan.now.nodes) c.requires.levels.ranks (sym c.requires.shape.in_clocks) c.loop-lanes.invariant.lanes.runs.in_rests (omega arith)
     (λ i same. let e : c.requires.levels.rank (clock_at c.args.shape.now.clocks.now i) ≡ c.requires.levels.rank (clock_at c.args.shape.now.clocks.now c.args.k) = ap (λ n. c.requires.levels.rank (clock_at c.args.shape.now.clocks.now n)) same in omega (arith, e))
     (c.loop-lanes.invariant.left c.requires.levels.rank c.requires.levels.ranks) c.requires.idle
 
@@ -47,9 +47,9 @@ settle-keep-requires-clause-ranks g t c = (c.requires.levels.rank, c.requires.le
 
 pub settle-feed_child-requires-clause-idle : goal.settle-feed_child-requires-clause-idle
 settle-feed_child-requires-clause-idle g t c =
-    let in_clocks : c.args.k < length c.args.shape.now.clocks.now = omega (arith, c.requires.within, c.requires.in_clocks) in
+    let in_clocks : c.args.k < length c.args.shape.now.clocks.now = omega (arith, c.requires.within, c.requires.shape.in_clocks) in
     idle_left c.args.shape.now.clocks.now c.requires.levels.rank (clock_at c.args.shape.now.clocks.now c.args.k) (is_node c.args.k) (c.requires.levels.rank (clock_at c.args.shape.now.clocks.now c.args.k))
-    c.args.lanes.now c.make_instant.new.lanes (length c.args.shape.now.plan.now.nodes) c.requires.levels.ranks (sym c.requires.in_clocks) c.make_instant.ensures.lanes.runs.in_rests (omega arith)
+    c.args.lanes.now c.make_instant.new.lanes (length c.args.shape.now.plan.now.nodes) c.requires.levels.ranks (sym c.requires.shape.in_clocks) c.make_instant.ensures.lanes.runs.in_rests (omega arith)
     (λ i same. let e : c.requires.levels.rank (clock_at c.args.shape.now.clocks.now i) ≡ c.requires.levels.rank (clock_at c.args.shape.now.clocks.now c.args.k) = ap (λ n. c.requires.levels.rank (clock_at c.args.shape.now.clocks.now n)) same in omega (arith, e))
     (left_under c.args.shape.now.clocks.now c.requires.levels.rank c.args.k c.args.lanes.now c.keep.new.lanes c.make_instant.new.lanes c.requires.levels.ranks in_clocks
     (left_then c.args.shape.now.clocks.now c.requires.levels.rank (c.requires.levels.rank (clock_at c.args.shape.now.clocks.now c.args.k)) (c.requires.levels.rank (clock_at c.args.shape.now.clocks.now c.args.k)) (is_node c.args.k) (is_node c.args.k)
@@ -59,9 +59,9 @@ settle-feed_child-requires-clause-idle g t c =
 
 pub settle-feed_on-requires-clause-idle : goal.settle-feed_on-requires-clause-idle
 settle-feed_on-requires-clause-idle g t c =
-    let in_clocks : c.args.k < length c.args.shape.now.clocks.now = omega (arith, c.requires.within, c.requires.in_clocks) in
+    let in_clocks : c.args.k < length c.args.shape.now.clocks.now = omega (arith, c.requires.within, c.requires.shape.in_clocks) in
     idle_left c.args.shape.now.clocks.now c.requires.levels.rank (clock_at c.args.shape.now.clocks.now c.args.k) (is_node c.args.k) (c.requires.levels.rank (clock_at c.args.shape.now.clocks.now c.args.k))
-    c.args.lanes.now c.feed_child.new.lanes (length c.args.shape.now.plan.now.nodes) c.requires.levels.ranks (sym c.requires.in_clocks) c.feed_child.ensures.lanes.runs.in_rests (omega arith)
+    c.args.lanes.now c.feed_child.new.lanes (length c.args.shape.now.plan.now.nodes) c.requires.levels.ranks (sym c.requires.shape.in_clocks) c.feed_child.ensures.lanes.runs.in_rests (omega arith)
     (λ i same. let e : c.requires.levels.rank (clock_at c.args.shape.now.clocks.now i) ≡ c.requires.levels.rank (clock_at c.args.shape.now.clocks.now c.args.k) = ap (λ n. c.requires.levels.rank (clock_at c.args.shape.now.clocks.now n)) same in omega (arith, e))
     (left_fed c.args.shape.now.clocks.now c.requires.levels.rank c.args.k c.args.lanes.now c.keep.new.lanes c.make_instant.new.lanes c.feed_child.new.lanes c.requires.levels.ranks in_clocks
     (left_then c.args.shape.now.clocks.now c.requires.levels.rank (c.requires.levels.rank (clock_at c.args.shape.now.clocks.now c.args.k)) (c.requires.levels.rank (clock_at c.args.shape.now.clocks.now c.args.k)) (is_node c.args.k) (is_node c.args.k)
@@ -71,14 +71,14 @@ settle-feed_on-requires-clause-idle g t c =
 
 pub settle-feed_on-requires-clause-none : goal.settle-feed_on-requires-clause-none
 settle-feed_on-requires-clause-none g t c =
-    let in_clocks : c.args.k < length c.args.shape.now.clocks.now = omega (arith, c.requires.within, c.requires.in_clocks) in
+    let in_clocks : c.args.k < length c.args.shape.now.clocks.now = omega (arith, c.requires.within, c.requires.shape.in_clocks) in
     ap (λ r. slice_index_or r.rests.items c.args.k 0) c.feed_child.ensures.runs
     ∙ rest_kept c.args.shape.now.clocks.now c.requires.levels.rank c.args.k c.keep.new.lanes c.make_instant.new.lanes c.requires.levels.ranks in_clocks
     (c.in_ok-make_instant.ensures.left c.requires.levels.rank c.requires.levels.ranks) ∙ c.keep.ensures.kept
 
 pub settle-feed_child-requires-clause-wants : goal.settle-feed_child-requires-clause-wants
 settle-feed_child-requires-clause-wants g t c =
-    let in_clocks : c.args.k < length c.args.shape.now.clocks.now = omega (arith, c.requires.within, c.requires.in_clocks) in
+    let in_clocks : c.args.k < length c.args.shape.now.clocks.now = omega (arith, c.requires.within, c.requires.shape.in_clocks) in
     let in_states : c.args.k < length c.loop-lanes.lanes.states.items = omega (arith, c.loop-lanes.invariant.lanes.fit.size, c.requires.within) in
     let at : slice_get c.loop-lanes.lanes.states.items c.args.k ≡ Some c.index.result.now = slice_get_read _ _ _ _ refl in_states c.index.ensures in
     let kept = kept_at c.args.shape.now.clocks.now c.requires.levels.rank c.args.k c.keep.new.lanes c.make_instant.new.lanes c.requires.levels.ranks in_clocks
@@ -87,7 +87,7 @@ settle-feed_child-requires-clause-wants g t c =
 
 pub settle-loop-lanes-smaller : goal.settle-loop-lanes-smaller
 settle-loop-lanes-smaller g t c =
-    let in_clocks : c.args.k < length c.args.shape.now.clocks.now = omega (arith, c.requires.within, c.requires.in_clocks) in
+    let in_clocks : c.args.k < length c.args.shape.now.clocks.now = omega (arith, c.requires.within, c.requires.shape.in_clocks) in
     let kept = kept_at c.args.shape.now.clocks.now c.requires.levels.rank c.args.k c.keep.new.lanes c.make_instant.new.lanes c.requires.levels.ranks in_clocks
     (c.in_ok-make_instant.ensures.left c.requires.levels.rank c.requires.levels.ranks) ∙ ap (λ xs. slice_get xs.items c.args.k) c.keep.ensures.states in
     let same = ap (λ s. option_map_or left s 0) kept in
@@ -95,7 +95,7 @@ settle-loop-lanes-smaller g t c =
 
 pub settle-loop-lanes-preserved : goal.settle-loop-lanes-preserved
 settle-loop-lanes-preserved g t c =
-    let in_clocks : c.args.k < length c.args.shape.now.clocks.now = omega (arith, c.requires.within, c.requires.in_clocks) in
+    let in_clocks : c.args.k < length c.args.shape.now.clocks.now = omega (arith, c.requires.within, c.requires.shape.in_clocks) in
     let in_times : c.args.k < length c.loop-lanes.lanes.times.items = omega (arith, c.loop-lanes.invariant.lanes.in_times, c.requires.within) in
     let timed : slice_get c.keep.new.lanes.times.items c.args.k ≡ Some c.index-time.result.now = ap (λ xs. slice_get xs.items c.args.k) c.keep.ensures.times ∙ slice_get_read _ _ _ _ refl in_times c.index-time.ensures in
     let in_states : c.args.k < length c.loop-lanes.lanes.states.items = omega (arith, c.loop-lanes.invariant.lanes.fit.size, c.requires.within) in
@@ -113,9 +113,9 @@ settle-loop-lanes-preserved g t c =
           (left_kept c.args.shape.now.clocks.now rank (rank (get_or c.args.shape.now.clocks.now c.args.k (Main 0))) c.args.k c.loop-lanes.lanes c.keep.new.lanes c.keep.ensures.states c.keep.ensures.times c.keep.ensures.held c.keep.ensures.others c.keep.ensures.left c.keep.ensures.right))
           (c.in_ok-make_instant.ensures.left rank ranks) c.feed_child.ensures.states c.feed_child.ensures.times c.feed_child.ensures.runs)
           (c.feed_on.ensures.left rank ranks);
-      feeding = node_more g.T.Taps.stands c.args.shape.now.plan.now c.args.shape.now.library.now c.args.shape.now.clocks.now c.args.own.now c.requires.in_clocks c.args.lanes.now c.args.taps.now c.args.k
+      feeding = node_more g.T.Taps.stands c.args.shape.now.plan.now c.args.shape.now.library.now c.args.shape.now.clocks.now c.args.own.now c.requires.shape.in_clocks c.args.lanes.now c.args.taps.now c.args.k
           c.requires.within c.keep.new.lanes c.loop-lanes.taps c.index.result.now at
-          (node_closed g.T.Taps.stands c.args.shape.now.plan.now c.args.shape.now.library.now c.args.shape.now.clocks.now c.args.own.now c.requires.in_clocks c.args.lanes.now c.args.taps.now c.args.k
+          (node_closed g.T.Taps.stands c.args.shape.now.plan.now c.args.shape.now.library.now c.args.shape.now.clocks.now c.args.own.now c.requires.shape.in_clocks c.args.lanes.now c.args.taps.now c.args.k
           c.requires.within c.loop-lanes.lanes c.keep.new.lanes c.loop-lanes.taps c.keep.ensures.states c.keep.ensures.times c.keep.ensures.held c.keep.ensures.kept c.keep.ensures.others c.keep.ensures.left c.keep.ensures.right c.loop-lanes.invariant.feeding)
           (λ setting sub past fed i work long stands. c.wants.ensures.more setting sub past fed i work long stands c.loop-lanes-test.true)
           c.make_instant.new.taps c.index-time.result.now timed c.keep.ensures.kept c.make_instant.new.lanes c.feed_child.new.lanes c.feed_on.new.lanes
@@ -136,9 +136,9 @@ settle-returns-in_err-make_instant-clause-stopped g t c =
     let timed : slice_get c.keep.new.lanes.times.items c.args.k ≡ Some c.index-time.result.now = ap (λ xs. slice_get xs.items c.args.k) c.keep.ensures.times ∙ slice_get_read _ _ _ _ refl in_times c.index-time.ensures in
     let in_states : c.args.k < length c.loop-lanes.lanes.states.items = omega (arith, c.loop-lanes.invariant.lanes.fit.size, c.requires.within) in
     let at : slice_get c.keep.new.lanes.states.items c.args.k ≡ Some c.index.result.now = ap (λ xs. slice_get xs.items c.args.k) c.keep.ensures.states ∙ slice_get_read _ _ _ _ refl in_states c.index.ensures in
-    on_err c.from_residual.result (node_stopped g.T.Taps.stands c.args.shape.now.plan.now c.args.shape.now.library.now c.args.shape.now.clocks.now c.args.own.now c.requires.in_clocks c.args.lanes.now c.args.taps.now c.args.k
+    on_err c.from_residual.result (node_stopped g.T.Taps.stands c.args.shape.now.plan.now c.args.shape.now.library.now c.args.shape.now.clocks.now c.args.own.now c.requires.shape.in_clocks c.args.lanes.now c.args.taps.now c.args.k
     c.requires.within c.keep.new.lanes c.loop-lanes.taps c.index.result.now at
-    (node_closed g.T.Taps.stands c.args.shape.now.plan.now c.args.shape.now.library.now c.args.shape.now.clocks.now c.args.own.now c.requires.in_clocks c.args.lanes.now c.args.taps.now c.args.k
+    (node_closed g.T.Taps.stands c.args.shape.now.plan.now c.args.shape.now.library.now c.args.shape.now.clocks.now c.args.own.now c.requires.shape.in_clocks c.args.lanes.now c.args.taps.now c.args.k
     c.requires.within c.loop-lanes.lanes c.keep.new.lanes c.loop-lanes.taps c.keep.ensures.states c.keep.ensures.times c.keep.ensures.held c.keep.ensures.kept c.keep.ensures.others c.keep.ensures.left c.keep.ensures.right c.loop-lanes.invariant.feeding)
     (λ setting sub past fed i work long stands. c.wants.ensures.more setting sub past fed i work long stands c.loop-lanes-test.true)
     c.make_instant.new.taps c.index-time.result.now timed c.in_err-make_instant.ensures.stopped)
@@ -147,7 +147,7 @@ pub settle-returns-clause-settled : goal.settle-returns-clause-settled
 settle-returns-clause-settled g t c =
     let in_states : c.args.k < length c.loop-lanes.lanes.states.items = omega (arith, c.loop-lanes.invariant.lanes.fit.size, c.requires.within) in
     let at : slice_get c.loop-lanes.lanes.states.items c.args.k ≡ Some c.index.result.now = slice_get_read _ _ _ _ refl in_states c.index.ensures in
-    node_settled g.T.Taps.stands c.args.shape.now.plan.now c.args.shape.now.library.now c.args.shape.now.clocks.now c.args.own.now c.requires.in_clocks c.args.lanes.now c.args.taps.now c.args.k
+    node_settled g.T.Taps.stands c.args.shape.now.plan.now c.args.shape.now.library.now c.args.shape.now.clocks.now c.args.own.now c.requires.shape.in_clocks c.args.lanes.now c.args.taps.now c.args.k
     c.requires.within c.loop-lanes.lanes c.loop-lanes.taps c.index.result.now at c.loop-lanes.invariant.feeding
     (λ setting sub past fed i work stands begun. c.wants.ensures.settled setting sub past fed i work stands c.loop-lanes-test.false begun)
     (λ setting sub past fed i overlap long stands. c.wants.ensures.run setting sub past fed i overlap long stands c.loop-lanes-test.false)
@@ -162,7 +162,7 @@ settle_all-loop-i-init g t c =
       buffers = refl;
       same = g.met.T.Taps.same_refl c.args.taps.now;
       left = λ rank ranks. left_none c.args.shape.now.clocks.now rank (rank c.args.clock) (is_in c.args.shape.now.clocks.now c.args.clock) c.args.lanes.now;
-      settled = all_none g.T.Taps.stands c.args.shape.now.plan.now c.args.shape.now.library.now c.args.shape.now.clocks.now c.args.own.now c.requires.in_clocks c.args.lanes.now c.args.taps.now c.args.clock c.first-i.result first;
+      settled = all_none g.T.Taps.stands c.args.shape.now.plan.now c.args.shape.now.library.now c.args.shape.now.clocks.now c.args.own.now c.requires.shape.in_clocks c.args.lanes.now c.args.taps.now c.args.clock c.first-i.result first;
     }
 
 pub settle_all-loop-i-smaller : goal.settle_all-loop-i-smaller
@@ -173,7 +173,7 @@ settle_all-loop-i-smaller g t c =
 
 pub settle_all-loop-i-preserved : goal.settle_all-loop-i-preserved
 settle_all-loop-i-preserved g t c =
-    let within : c.loop-i.i < length c.args.shape.now.plan.now.nodes = omega (arith, c.requires.in_clocks, c.loop-i-test.true) in
+    let within : c.loop-i.i < length c.args.shape.now.plan.now.nodes = omega (arith, c.requires.shape.in_clocks, c.loop-i-test.true) in
     let inside = c.loop-i.invariant.own c.loop-i-test.true in
     let own_clock : get_or c.args.shape.now.clocks.now c.loop-i.i (Main 0) ≡ c.args.clock = same_clock-true (get_or c.args.shape.now.clocks.now c.loop-i.i (Main 0)) c.args.clock inside in
     let next = next_own c.args.shape.now.clocks.now c.args.clock c.loop-i.i c.after-i.result inside (c.after-i.ensures c.args.shape.now.clocks.now c.settle.ensures.lanes.chains) in
@@ -185,31 +185,31 @@ settle_all-loop-i-preserved g t c =
       same = g.met.T.Taps.same_trans c.args.taps.now c.loop-i.taps c.settle.new.taps c.loop-i.invariant.same c.settle.ensures.same;
       left = λ rank ranks. left_settled c.args.shape.now.clocks.now rank c.args.clock c.loop-i.i c.args.lanes.now c.loop-i.lanes c.settle.new.lanes own_clock
           (c.loop-i.invariant.left rank ranks) (c.in_ok-settle.ensures.left rank ranks);
-      settled = all_more g.T.Taps.stands c.args.shape.now.plan.now c.args.shape.now.library.now c.args.shape.now.clocks.now c.args.own.now c.requires.in_clocks c.args.lanes.now c.args.taps.now c.args.clock
+      settled = all_more g.T.Taps.stands c.args.shape.now.plan.now c.args.shape.now.library.now c.args.shape.now.clocks.now c.args.own.now c.requires.shape.in_clocks c.args.lanes.now c.args.taps.now c.args.clock
           c.loop-i.i within inside c.loop-i.lanes c.loop-i.taps c.settle.new.taps c.loop-i.invariant.settled c.settle.new.lanes c.after-i.result next c.in_ok-settle.ensures.settled;
     }
 
 pub settle_all-returns-in_err-settle-clause-stopped : goal.settle_all-returns-in_err-settle-clause-stopped
 settle_all-returns-in_err-settle-clause-stopped g t c =
-    let within : c.loop-i.i < length c.args.shape.now.plan.now.nodes = omega (arith, c.requires.in_clocks, c.loop-i-test.true) in
-    on_err c.from_residual.result (all_stopped g.T.Taps.stands c.args.shape.now.plan.now c.args.shape.now.library.now c.args.shape.now.clocks.now c.args.own.now c.requires.in_clocks c.args.lanes.now c.args.taps.now c.args.clock
+    let within : c.loop-i.i < length c.args.shape.now.plan.now.nodes = omega (arith, c.requires.shape.in_clocks, c.loop-i-test.true) in
+    on_err c.from_residual.result (all_stopped g.T.Taps.stands c.args.shape.now.plan.now c.args.shape.now.library.now c.args.shape.now.clocks.now c.args.own.now c.requires.shape.in_clocks c.args.lanes.now c.args.taps.now c.args.clock
     c.loop-i.i within (c.loop-i.invariant.own c.loop-i-test.true) c.loop-i.lanes c.loop-i.taps c.settle.new.taps c.loop-i.invariant.settled c.in_err-settle.ensures.stopped)
 
 pub settle_all-returns-clause-settled : goal.settle_all-returns-clause-settled
 settle_all-returns-clause-settled g t c =
     let high = c.loop-i.invariant.high in
-    let all : c.loop-i.i ≡ length c.args.shape.now.plan.now.nodes = omega (arith, high, c.requires.in_clocks, c.loop-i-test.false) in
+    let all : c.loop-i.i ≡ length c.args.shape.now.plan.now.nodes = omega (arith, high, c.requires.shape.in_clocks, c.loop-i-test.false) in
     subst (λ n. AllSettled g.T.Taps.stands c.args.shape.now.plan.now c.args.shape.now.library.now c.args.shape.now.clocks.now c.args.own.now c.args.clock n c.args.lanes.now c.loop-i.lanes c.args.taps.now c.loop-i.taps) all
     c.loop-i.invariant.settled
 
 pub make_instant-returns-in_err-begin_clock-clause-stopped : goal.make_instant-returns-in_err-begin_clock-clause-stopped
 make_instant-returns-in_err-begin_clock-clause-stopped g t c =
-    on_err c.from_residual.result (opening_stopped g.T.Taps.stands c.args.shape.now.plan.now c.args.shape.now.library.now c.args.shape.now.clocks.now c.args.own.now c.requires.in_clocks c.args.lanes.now c.args.taps.now c.args.clock
+    on_err c.from_residual.result (opening_stopped g.T.Taps.stands c.args.shape.now.plan.now c.args.shape.now.library.now c.args.shape.now.clocks.now c.args.own.now c.requires.shape.in_clocks c.args.lanes.now c.args.taps.now c.args.clock
     c.args.time c.begin_clock.new.taps c.in_err-begin_clock.ensures.stopped)
 
 pub make_instant-returns-in_err-settle_all-clause-stopped : goal.make_instant-returns-in_err-settle_all-clause-stopped
 make_instant-returns-in_err-settle_all-clause-stopped g t c =
-    on_err c.from_residual-in_err-settle_all.result (settling_stopped g.T.Taps.stands c.args.shape.now.plan.now c.args.shape.now.library.now c.args.shape.now.clocks.now c.args.own.now c.requires.in_clocks c.args.lanes.now c.args.taps.now c.args.clock
+    on_err c.from_residual-in_err-settle_all.result (settling_stopped g.T.Taps.stands c.args.shape.now.plan.now c.args.shape.now.library.now c.args.shape.now.clocks.now c.args.own.now c.requires.shape.in_clocks c.args.lanes.now c.args.taps.now c.args.clock
     c.args.time c.begin_clock.new.lanes c.begin_clock.new.taps c.settle_all.new.taps c.in_ok-begin_clock.ensures.opened c.in_err-settle_all.ensures.stopped)
 
 pub make_instant-returns-clause-left : goal.make_instant-returns-clause-left
@@ -241,21 +241,23 @@ make_instant-returns-clause-made g t c =
           ∙ ap (second_at (over c.args.shape.now.plan.now c.args.shape.now.library.now c.args.shape.now.clocks.now other)) (sym same ∙ long_history (over c.args.shape.now.plan.now c.args.shape.now.library.now c.args.shape.now.clocks.now other) sub c.args.clock (u.reached.ran_now c.args.clock)) in
           let long = as_many (over c.args.shape.now.plan.now c.args.shape.now.library.now c.args.shape.now.clocks.now other) sub world.meaning in
           let clocked = clock_stands (over c.args.shape.now.plan.now c.args.shape.now.library.now c.args.shape.now.clocks.now other) sub rank c.args.clock ran fed front opened.more settled.more c.settle_all.new.lanes u in
+          let roots = roots_are (over c.args.shape.now.plan.now c.args.shape.now.library.now c.args.shape.now.clocks.now other) c.args.clock c.args.own.now world.roots in
           let items = are_settled (over c.args.shape.now.plan.now c.args.shape.now.library.now c.args.shape.now.clocks.now other) sub rank c.args.clock ran fed front opened.more settled.more c.settle_all.new.lanes u in
+          let f = c.finish.ensures.finished.made other sub past u.reached.fed_now (record { at = second; long = long; stands = clocked; settled = items; roots = roots }) in
           made (over c.args.shape.now.plan.now c.args.shape.now.library.now c.args.shape.now.clocks.now other) sub rank c.args.clock ran fed front opened.more settled.more c.settle_all.new.lanes u
-          world.ranks c.requires.in_clocks c.args.lanes.now c.finish.new.lanes stand needed
-          (c.finish.ensures.stand other sub past u.reached.fed_now second long clocked items world.roots)
+          world.ranks c.requires.shape.in_clocks c.args.lanes.now c.finish.new.lanes stand needed
+          f.stands
           c.finish.ensures.others c.finish.ensures.times c.finish.ensures.kept (λ i. ap (λ xs. slice_index_or xs.items i 0) c.finish.ensures.rests)
           (lanes_same c.settle_all.new.lanes c.finish.new.lanes c.finish.ensures.left c.finish.ensures.right) c.settle_all.ensures.lanes.in_times world.down o.calls
-          (c.finish.ensures.parts other sub past u.reached.fed_now second long clocked items world.roots
+          (f.parts_are
           ∙ ap (λ n. (moment_after (over c.args.shape.now.plan.now c.args.shape.now.library.now c.args.shape.now.clocks.now other) sub c.args.clock (history (over c.args.shape.now.plan.now c.args.shape.now.library.now c.args.shape.now.clocks.now other) sub c.args.clock n)).parts) same)
           (subst (λ n. IsHeld (over c.args.shape.now.plan.now c.args.shape.now.library.now c.args.shape.now.clocks.now other) sub c.args.clock (history (over c.args.shape.now.plan.now c.args.shape.now.library.now c.args.shape.now.clocks.now other) sub c.args.clock n) c.finish.new.lanes.runs.held.items) same
-          (c.finish.ensures.held other sub past u.reached.fed_now second long clocked items world.roots));
+          f.held_are);
     }
 
 pub settle-make_instant-requires : goal.settle-make_instant-requires
 settle-make_instant-requires g t c κs lives =
-    let in_clocks : c.args.k < length c.args.shape.now.clocks.now = omega (arith, c.requires.within, c.requires.in_clocks) in
+    let in_clocks : c.args.k < length c.args.shape.now.clocks.now = omega (arith, c.requires.within, c.requires.shape.in_clocks) in
     let in_times : c.args.k < length c.loop-lanes.lanes.times.items = omega (arith, c.loop-lanes.invariant.lanes.in_times, c.requires.within) in
     let at : slice_get c.loop-lanes.lanes.times.items c.args.k ≡ Some c.index-time.result.now = slice_get_read _ _ _ _ refl in_times c.index-time.ensures in
     let some = levels_some c.args.shape.now.clocks.now c.args.k c.args.levels in_clocks c.requires.levels in
@@ -264,26 +266,20 @@ settle-make_instant-requires g t c κs lives =
       (
         lives,
         (
-          c.requires.nodes,
+          c.requires.shape,
           (
-            c.requires.few,
+            c.requires.in_own,
             (
-              c.requires.in_clocks,
+              c.keep.ensures.lanes,
               (
-                c.requires.in_own,
+                under,
                 (
-                  c.keep.ensures.lanes,
+                  sub_idle c.args.k c.keep.new.lanes c.keep.ensures.kept,
                   (
-                    under,
+                    c.loop-lanes.invariant.lanes.rates c.args.k c.index-time.result.now at,
                     (
-                      sub_idle c.args.k c.keep.new.lanes c.keep.ensures.kept,
-                      (
-                        c.loop-lanes.invariant.lanes.rates c.args.k c.index-time.result.now at,
-                        (
-                          c.loop-lanes.invariant.lanes.frames c.args.k c.index-time.result.now at,
-                          subst (λ n. ReadersAreIn c.args.shape.now.plan.now n) (sym c.loop-lanes.invariant.buffers) c.requires.readers,
-                        ),
-                      ),
+                      c.loop-lanes.invariant.lanes.frames c.args.k c.index-time.result.now at,
+                      subst (λ n. ReadersAreIn c.args.shape.now.plan.now n) (sym c.loop-lanes.invariant.buffers) c.requires.readers,
                     ),
                   ),
                 ),
@@ -296,35 +292,29 @@ settle-make_instant-requires g t c κs lives =
 
 pub settle_all-settle-requires : goal.settle_all-settle-requires
 settle_all-settle-requires g t c κs lives =
-    let within : c.loop-i.i < length c.args.shape.now.plan.now.nodes = omega (arith, c.requires.in_clocks, c.loop-i-test.true) in
+    let within : c.loop-i.i < length c.args.shape.now.plan.now.nodes = omega (arith, c.requires.shape.in_clocks, c.loop-i-test.true) in
     let inside = c.loop-i.invariant.own c.loop-i-test.true in
     let here : clock_at c.args.shape.now.clocks.now c.loop-i.i ≡ c.args.clock = same_clock-true (clock_at c.args.shape.now.clocks.now c.loop-i.i) c.args.clock inside in (
       omega arith,
       (
         lives,
         (
-          c.requires.nodes,
+          c.requires.shape,
           (
-            c.requires.few,
+            c.requires.in_own,
             (
-              c.requires.in_clocks,
+              c.loop-i.invariant.lanes,
               (
-                c.requires.in_own,
+                levels_at c.args.shape.now.clocks.now c.loop-i.i c.args.levels c.args.clock here c.requires.levels,
                 (
-                  c.loop-i.invariant.lanes,
+                  subst (λ clock. IsIdle clock c.loop-i.lanes) (sym here)
+                      (idle_left c.args.shape.now.clocks.now c.requires.levels.rank c.args.clock (is_in c.args.shape.now.clocks.now c.args.clock) (c.requires.levels.rank c.args.clock) c.args.lanes.now c.loop-i.lanes
+                      (length c.args.shape.now.plan.now.nodes) c.requires.levels.ranks (sym c.requires.shape.in_clocks) c.loop-i.invariant.lanes.runs.in_rests (omega arith)
+                      (λ k same. let e : c.requires.levels.rank (clock_at c.args.shape.now.clocks.now k) ≡ c.requires.levels.rank c.args.clock = ap c.requires.levels.rank same in omega (arith, e))
+                      (c.loop-i.invariant.left c.requires.levels.rank c.requires.levels.ranks) c.requires.idle),
                   (
-                    levels_at c.args.shape.now.clocks.now c.loop-i.i c.args.levels c.args.clock here c.requires.levels,
-                    (
-                      subst (λ clock. IsIdle clock c.loop-i.lanes) (sym here)
-                          (idle_left c.args.shape.now.clocks.now c.requires.levels.rank c.args.clock (is_in c.args.shape.now.clocks.now c.args.clock) (c.requires.levels.rank c.args.clock) c.args.lanes.now c.loop-i.lanes
-                          (length c.args.shape.now.plan.now.nodes) c.requires.levels.ranks (sym c.requires.in_clocks) c.loop-i.invariant.lanes.runs.in_rests (omega arith)
-                          (λ k same. let e : c.requires.levels.rank (clock_at c.args.shape.now.clocks.now k) ≡ c.requires.levels.rank c.args.clock = ap c.requires.levels.rank same in omega (arith, e))
-                          (c.loop-i.invariant.left c.requires.levels.rank c.requires.levels.ranks) c.requires.idle),
-                      (
-                        within,
-                        subst (λ n. ReadersAreIn c.args.shape.now.plan.now n) (sym c.loop-i.invariant.buffers) c.requires.readers,
-                      ),
-                    ),
+                    within,
+                    subst (λ n. ReadersAreIn c.args.shape.now.plan.now n) (sym c.loop-i.invariant.buffers) c.requires.readers,
                   ),
                 ),
               ),

@@ -28,22 +28,22 @@ pub returns-then-many-eq0-clause-fed : goal.returns-then-many-eq0-clause-fed
 returns-then-many-eq0-clause-fed c = record {
   fed = λ other sub rank ran fed front more own n world fades before at parts held time.
       let S = over c.args.shape.now.plan.now c.args.shape.now.library.now c.args.shape.now.clocks.now other in
-      fed_kept S sub rank world.ranks c.requires.in_clocks c.args.k c.requires.within ran fed front more c.args.lanes.now c.keep.new.lanes c.goes_for-rest.result
+      fed_kept S sub rank world.ranks c.requires.shape.in_clocks c.args.k c.requires.within ran fed front more c.args.lanes.now c.keep.new.lanes c.goes_for-rest.result
       c.keep.ensures.states c.keep.ensures.times c.keep.ensures.held c.keep.ensures.kept c.keep.ensures.others c.keep.ensures.left c.keep.ensures.right before
       (λ some. record {
         n = n;
         at = at;
         gave = child_gave S sub c.args.k (history S sub (Sub c.args.k) n) own c.args.lanes.now.latest.parts.items world.roots parts (c.goes_for-rest.ensures.gave some);
         goes = c.goes_for-rest.ensures.goes other sub (history S sub (Sub c.args.k) n) before.reached.fed_now
-            (are_behind S sub rank (Sub c.args.k) n before.reached.ran_now before.reached.fed_now (after_calls front more) c.args.lanes.now c.args.time world.ranks c.requires.in_clocks c.requires.nodes world.meaning
-            (stand_under S sub rank world.ranks c.requires.in_clocks c.args.k c.requires.within ran fed front more c.args.lanes.now before)
-            (needed_under S sub rank world.ranks c.requires.in_clocks c.args.k c.requires.within ran fed front more c.args.lanes.now before) at parts held time) some;
+            (are_behind S sub rank (Sub c.args.k) n before.reached.ran_now before.reached.fed_now (after_calls front more) c.args.lanes.now c.args.time world.ranks c.requires.shape.in_clocks c.requires.shape.nodes world.meaning
+            (stand_under S sub rank world.ranks c.requires.shape.in_clocks c.args.k c.requires.within ran fed front more c.args.lanes.now before)
+            (needed_under S sub rank world.ranks c.requires.shape.in_clocks c.args.k c.requires.within ran fed front more c.args.lanes.now before) at parts held time) some;
       });
 }
 
 pub run_clock-requires-clause-levels : goal.run_clock-requires-clause-levels
 run_clock-requires-clause-levels c =
-    let in_clocks : c.args.k < length c.args.shape.now.clocks.now = omega (arith, c.requires.within, c.requires.in_clocks) in
+    let in_clocks : c.args.k < length c.args.shape.now.clocks.now = omega (arith, c.requires.within, c.requires.shape.in_clocks) in
     levels_under c.args.shape.now.clocks.now c.args.k c.args.levels in_clocks c.requires.levels
 
 pub run_clock-requires-clause-idle : goal.run_clock-requires-clause-idle
@@ -51,7 +51,7 @@ run_clock-requires-clause-idle c = sub_idle c.args.k c.args.lanes.now c.requires
 
 pub returns-clause-left : goal.returns-clause-left
 returns-clause-left c rank ranks =
-    let in_clocks : c.args.k < length c.args.shape.now.clocks.now = omega (arith, c.requires.within, c.requires.in_clocks) in
+    let in_clocks : c.args.k < length c.args.shape.now.clocks.now = omega (arith, c.requires.within, c.requires.shape.in_clocks) in
     left_fed c.args.shape.now.clocks.now rank c.args.k c.args.lanes.now c.args.lanes.now c.run_clock.new.lanes c.feed_lane.new.lanes ranks in_clocks
     (left_none c.args.shape.now.clocks.now rank (rank (get_or c.args.shape.now.clocks.now c.args.k (Main 0))) (is_node c.args.k) c.args.lanes.now)
     (c.run_clock.ensures.left rank ranks)
@@ -60,15 +60,15 @@ returns-clause-left c rank ranks =
 pub feed_lane-requires-clause-idle : goal.feed_lane-requires-clause-idle
 feed_lane-requires-clause-idle c =
     idle_left c.args.shape.now.clocks.now c.requires.levels.rank (clock_at c.args.shape.now.clocks.now c.args.k) (is_in c.args.shape.now.clocks.now (Sub c.args.k)) (c.requires.levels.rank (Sub c.args.k))
-    c.args.lanes.now c.run_clock.new.lanes (length c.args.shape.now.plan.now.nodes) c.requires.levels.ranks (sym c.requires.in_clocks) c.run_clock.ensures.lanes.runs.in_rests
-    (let in_clocks : c.args.k < length c.args.shape.now.clocks.now = omega (arith, c.requires.within, c.requires.in_clocks) in let up = c.requires.levels.ranks.deeper c.args.k in_clocks in omega (arith, up))
-    (λ i inside. let in_clocks : c.args.k < length c.args.shape.now.clocks.now = omega (arith, c.requires.within, c.requires.in_clocks) in let up = c.requires.levels.ranks.deeper c.args.k in_clocks in
+    c.args.lanes.now c.run_clock.new.lanes (length c.args.shape.now.plan.now.nodes) c.requires.levels.ranks (sym c.requires.shape.in_clocks) c.run_clock.ensures.lanes.runs.in_rests
+    (let in_clocks : c.args.k < length c.args.shape.now.clocks.now = omega (arith, c.requires.within, c.requires.shape.in_clocks) in let up = c.requires.levels.ranks.deeper c.args.k in_clocks in omega (arith, up))
+    (λ i inside. let in_clocks : c.args.k < length c.args.shape.now.clocks.now = omega (arith, c.requires.within, c.requires.shape.in_clocks) in let up = c.requires.levels.ranks.deeper c.args.k in_clocks in
     let e : c.requires.levels.rank (clock_at c.args.shape.now.clocks.now i) ≡ c.requires.levels.rank (Sub c.args.k) = ap c.requires.levels.rank inside in omega (arith, e, up))
     (c.run_clock.ensures.left c.requires.levels.rank c.requires.levels.ranks) c.requires.idle
 
 pub returns-clause-no_more : goal.returns-clause-no_more
 returns-clause-no_more c =
-    let in_clocks : c.args.k < length c.args.shape.now.clocks.now = omega (arith, c.requires.within, c.requires.in_clocks) in
+    let in_clocks : c.args.k < length c.args.shape.now.clocks.now = omega (arith, c.requires.within, c.requires.shape.in_clocks) in
     let kept = kept_at c.args.shape.now.clocks.now c.requires.levels.rank c.args.k c.args.lanes.now c.run_clock.new.lanes c.requires.levels.ranks in_clocks
     (c.run_clock.ensures.left c.requires.levels.rank c.requires.levels.ranks) in
     let same = ap (λ s. option_map_or left s 0) kept in
@@ -79,18 +79,18 @@ returns-clause-fed c = record {
   fed = λ other sub rank ran fed front more own n world fades before at parts held time.
       let S = over c.args.shape.now.plan.now c.args.shape.now.library.now c.args.shape.now.clocks.now other in
       let some : 0 < c.goes_for-rest.result = omega (arith, c.if-many-eq0.false, c.wanted-many.ensures.rest) in
-      fed_on S sub rank world.ranks c.requires.in_clocks c.args.k c.requires.within ran fed front more c.args.lanes.now before fades world.meaning own world.roots n
+      fed_on S sub rank world.ranks c.requires.shape.in_clocks c.args.k c.requires.within ran fed front more c.args.lanes.now before fades world.meaning own world.roots n
       c.wanted-many.result c.run_clock.new.lanes c.feed_lane.new.lanes
       (c.run_clock.ensures.run.run other sub rank before.reached.ran_now before.reached.fed_now (after_calls front more) own n (record {
         world = world;
-        stand = stand_under S sub rank world.ranks c.requires.in_clocks c.args.k c.requires.within ran fed front more c.args.lanes.now before;
-        needed = needed_under S sub rank world.ranks c.requires.in_clocks c.args.k c.requires.within ran fed front more c.args.lanes.now before;
+        stand = stand_under S sub rank world.ranks c.requires.shape.in_clocks c.args.k c.requires.within ran fed front more c.args.lanes.now before;
+        needed = needed_under S sub rank world.ranks c.requires.shape.in_clocks c.args.k c.requires.within ran fed front more c.args.lanes.now before;
         at = at;
         goes = goes_fewer S sub (Sub c.args.k) (history S sub (Sub c.args.k) n) c.goes_for-rest.result c.wanted-many.result before.reached.fed_now c.args.lanes.now.runs.held.items c.args.lanes.now.states.items c.wanted-many.ensures.rest
             (c.goes_for-rest.ensures.goes other sub (history S sub (Sub c.args.k) n) before.reached.fed_now
-            (are_behind S sub rank (Sub c.args.k) n before.reached.ran_now before.reached.fed_now (after_calls front more) c.args.lanes.now c.args.time world.ranks c.requires.in_clocks c.requires.nodes world.meaning
-            (stand_under S sub rank world.ranks c.requires.in_clocks c.args.k c.requires.within ran fed front more c.args.lanes.now before)
-            (needed_under S sub rank world.ranks c.requires.in_clocks c.args.k c.requires.within ran fed front more c.args.lanes.now before) at parts held time) some);
+            (are_behind S sub rank (Sub c.args.k) n before.reached.ran_now before.reached.fed_now (after_calls front more) c.args.lanes.now c.args.time world.ranks c.requires.shape.in_clocks c.requires.shape.nodes world.meaning
+            (stand_under S sub rank world.ranks c.requires.shape.in_clocks c.args.k c.requires.within ran fed front more c.args.lanes.now before)
+            (needed_under S sub rank world.ranks c.requires.shape.in_clocks c.args.k c.requires.within ran fed front more c.args.lanes.now before) at parts held time) some);
       }))
       (child_gave S sub c.args.k (history S sub (Sub c.args.k) n) own c.args.lanes.now.latest.parts.items world.roots parts (c.goes_for-rest.ensures.gave some))
       (record {
@@ -115,7 +115,7 @@ run_clock-requires-clause-through c =
 
 pub feed_lane-requires-clause-room : goal.feed_lane-requires-clause-room
 feed_lane-requires-clause-room c =
-    let in_clocks : c.args.k < length c.args.shape.now.clocks.now = omega (arith, c.requires.within, c.requires.in_clocks) in
+    let in_clocks : c.args.k < length c.args.shape.now.clocks.now = omega (arith, c.requires.within, c.requires.shape.in_clocks) in
     let kept = kept_at c.args.shape.now.clocks.now c.requires.levels.rank c.args.k c.args.lanes.now c.run_clock.new.lanes c.requires.levels.ranks in_clocks
     (c.run_clock.ensures.left c.requires.levels.rank c.requires.levels.ranks) in
     let same = ap (λ s. option_map_or room s 0) kept in

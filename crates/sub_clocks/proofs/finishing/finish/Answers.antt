@@ -5,7 +5,6 @@ use Rattle.stream_meaning.specs.declared.part.Part.{Part}
 use Rattle.engine_instants.specs.Held.{IsHeld}
 use Rattle.engine_instants.specs.States.{AllFit, ClockStands, HasRoomFor, over}
 use Rattle.sub_clocks.proofs.Restful.{resting_own}
-use Rattle.sub_clocks.proofs.Making.{roots_are}
 use Rattle.sub_clocks.proofs.finishing.finish.Goals as goal
 
 pub returns-clause-lanes : goal.returns-clause-lanes
@@ -23,8 +22,7 @@ returns-clause-lanes c =
       runs = record {
         in_left = c.requires.lanes.runs.in_left;
         in_right = c.requires.lanes.runs.in_right;
-        in_spare_left = c.requires.lanes.runs.in_spare_left;
-        in_spare_right = c.requires.lanes.runs.in_spare_right;
+        in_spare = c.requires.lanes.runs.in_spare;
         in_held = (let long = ap length held in let was = ap length c.deref_mut-2.ensures.value in omega (arith, long, few, was, c.deref_mut-2.ensures.len, c.requires.lanes.runs.in_held));
         in_rests = c.requires.lanes.runs.in_rests;
         in_parts = c.requires.lanes.runs.in_parts;
@@ -42,25 +40,23 @@ returns-clause-kept c i outside =
     let few : length c.finish_instant.new.held ≡ c.args.lanes.now.runs.held.len = omega (arith, c.deref_mut-2.ensures.len) in
     ap (λ ps. part_at ps i) (with_items_is c.args.lanes.now.runs.held c.finish_instant.new.held few) ∙ c.finish_instant.ensures.kept i outside ∙ ap (λ ps. part_at ps i) c.deref_mut-2.ensures.value
 
-pub returns-clause-held : goal.returns-clause-held
-returns-clause-held c setting sub past fed at long stands settled own =
-    let S = over c.args.shape.now.plan.now c.args.shape.now.library.now c.args.shape.now.clocks.now setting in
-    let few : length c.finish_instant.new.held ≡ c.args.lanes.now.runs.held.len = omega (arith, c.deref_mut-2.ensures.len) in
-    subst (λ (ps : List Part). IsHeld S sub c.args.clock past ps) (sym (with_items_is c.args.lanes.now.runs.held c.finish_instant.new.held few))
-    (c.finish_instant.ensures.held setting sub past fed at long
-    (subst (λ states. ClockStands S sub c.args.clock past fed states) (sym c.deref_mut.ensures.value) stands) settled (roots_are S c.args.clock c.args.own.now own))
-
-pub returns-clause-parts : goal.returns-clause-parts
-returns-clause-parts c setting sub past fed at long stands settled own =
-    c.finish_instant.ensures.parts setting sub past fed at long
-    (subst (λ states. ClockStands (over c.args.shape.now.plan.now c.args.shape.now.library.now c.args.shape.now.clocks.now setting) sub c.args.clock past fed states) (sym c.deref_mut.ensures.value) stands) settled
-    (roots_are (over c.args.shape.now.plan.now c.args.shape.now.library.now c.args.shape.now.clocks.now setting) c.args.clock c.args.own.now own)
-
-pub returns-clause-stand : goal.returns-clause-stand
-returns-clause-stand c setting sub past fed at long stands settled own =
+pub returns-clause-finished : goal.returns-clause-finished
+returns-clause-finished c =
     let many : length c.finish_instant.new.states ≡ c.args.lanes.now.states.len = omega (arith, c.deref_mut.ensures.len) in
-    subst (λ states. ClockStands (over c.args.shape.now.plan.now c.args.shape.now.library.now c.args.shape.now.clocks.now setting) sub c.args.clock (moment_after (over c.args.shape.now.plan.now c.args.shape.now.library.now c.args.shape.now.clocks.now setting) sub c.args.clock past ∷ past) fed states)
-    (sym (with_items_is c.args.lanes.now.states c.finish_instant.new.states many))
-    (c.finish_instant.ensures.stand setting sub past fed at long
-    (subst (λ states. ClockStands (over c.args.shape.now.plan.now c.args.shape.now.library.now c.args.shape.now.clocks.now setting) sub c.args.clock past fed states) (sym c.deref_mut.ensures.value) stands) settled
-    (roots_are (over c.args.shape.now.plan.now c.args.shape.now.library.now c.args.shape.now.clocks.now setting) c.args.clock c.args.own.now own))
+    let few : length c.finish_instant.new.held ≡ c.args.lanes.now.runs.held.len = omega (arith, c.deref_mut-2.ensures.len) in
+    record {
+      made = λ other sub past fed can.
+          let S = over c.args.shape.now.plan.now c.args.shape.now.library.now c.args.shape.now.clocks.now other in
+          let f = c.finish_instant.ensures.finished.made other sub past fed (record {
+            at = can.at;
+            long = can.long;
+            stands = subst (λ states. ClockStands S sub c.args.clock past fed states) (sym c.deref_mut.ensures.value) can.stands;
+            settled = can.settled;
+            roots = can.roots;
+          }) in
+          record {
+            parts_are = f.parts_are;
+            held_are = subst (λ (ps : List Part). IsHeld S sub c.args.clock past ps) (sym (with_items_is c.args.lanes.now.runs.held c.finish_instant.new.held few)) f.held_are;
+            stands = subst (λ states. ClockStands S sub c.args.clock (moment_after S sub c.args.clock past ∷ past) fed states) (sym (with_items_is c.args.lanes.now.states c.finish_instant.new.states many)) f.stands;
+          };
+    }

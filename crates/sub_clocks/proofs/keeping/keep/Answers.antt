@@ -6,7 +6,7 @@ use Rattle.sub_clocks.proofs.keeping.keep.Goals as goal
 
 pub returns-clause-lanes : goal.returns-clause-lanes
 returns-clause-lanes c =
-    let in_clocks : c.args.k < length c.args.shape.now.clocks.now = omega (arith, c.requires.within, c.requires.in_clocks) in
+    let in_clocks : c.args.k < length c.args.shape.now.clocks.now = omega (arith, c.requires.within, c.requires.shape.in_clocks) in
     let in_rests : c.args.k < length c.args.lanes.now.runs.rests.items = omega (arith, c.requires.lanes.runs.in_rests, c.requires.within) in
     record {
       fit = c.requires.lanes.fit;
@@ -17,8 +17,7 @@ returns-clause-lanes c =
       runs = record {
         in_left = c.requires.lanes.runs.in_left;
         in_right = c.requires.lanes.runs.in_right;
-        in_spare_left = c.requires.lanes.runs.in_spare_left;
-        in_spare_right = c.requires.lanes.runs.in_spare_right;
+        in_spare = c.requires.lanes.runs.in_spare;
         in_held = c.requires.lanes.runs.in_held;
         in_rests = length-set _ _ _ ∙ c.requires.lanes.runs.in_rests;
         in_parts = c.requires.lanes.runs.in_parts;

@@ -31,8 +31,8 @@ returns-clause-goes c other sub past fed behind =
     (subst (λ (xs : List NodeState). IsBehind S sub c.args.clock past fed c.args.time c.args.lanes.now.latest.parts.items c.args.lanes.now.runs.held.items xs c.deref-4.result.now) (sym c.deref-3.ensures.value)
     (subst (λ (ns : List ℕ). IsBehind S sub c.args.clock past fed c.args.time c.args.lanes.now.latest.parts.items c.args.lanes.now.runs.held.items c.args.lanes.now.states.items ns) (sym c.deref-4.ensures.value) behind))) in
     record {
-      stretch = c.rest_of.ensures.stretch other sub past fed seen;
+      stretch = c.rest_of.ensures.goes.stretch other sub past fed seen;
       held_is = behind.held_are;
       asks = subst (λ (xs : List NodeState). AllAsk S sub c.args.clock past fed xs (length c.args.shape.now.clocks.now) c.rest_of.result) c.deref-3.ensures.value
-          (c.rest_of.ensures.asks other sub past fed seen);
+          (c.rest_of.ensures.goes.asks other sub past fed seen);
     }

@@ -15,7 +15,7 @@ use Rattle.sub_clocks.proofs.onward.+onward.Goals as goal
 pub run_clock-run_own-requires-clause-idle : goal.run_clock-run_own-requires-clause-idle
 run_clock-run_own-requires-clause-idle t c =
     idle_above c.args.shape.now.clocks.now c.requires.levels.rank c.args.clock (is_in c.args.shape.now.clocks.now c.args.clock) c.args.lanes.now c.run_subs.new.lanes (length c.args.shape.now.plan.now.nodes)
-    c.requires.levels.ranks (sym c.requires.in_clocks) c.run_subs.ensures.lanes.runs.in_rests
+    c.requires.levels.ranks (sym c.requires.shape.in_clocks) c.run_subs.ensures.lanes.runs.in_rests
     (λ i inside. let e : c.requires.levels.rank (clock_at c.args.shape.now.clocks.now i) ≡ c.requires.levels.rank c.args.clock = ap c.requires.levels.rank inside in omega (arith, e))
     (c.run_subs.ensures.above c.requires.levels.rank c.requires.levels.ranks) c.requires.idle
 
@@ -42,7 +42,7 @@ pub run_clock-returns-clause-run : goal.run_clock-returns-clause-run
 run_clock-returns-clause-run t c = record {
   run = λ other sub rank ran fed front own n can.
       let S = over c.args.shape.now.plan.now c.args.shape.now.library.now c.args.shape.now.clocks.now other in
-      has_run_on S sub rank own c.requires.in_clocks c.requires.nodes c.args.clock n c.args.many c.requires.some ran fed front c.args.lanes.now c.run_subs.new.lanes c.run_own.new.lanes can
+      has_run_on S sub rank own c.requires.shape.in_clocks c.requires.shape.nodes c.args.clock n c.args.many c.requires.some ran fed front c.args.lanes.now c.run_subs.new.lanes c.run_own.new.lanes can
       (c.run_subs.ensures.run.run other sub rank ran fed front own n can) (c.run_subs.ensures.above rank can.world.ranks)
       c.run_own.ensures.times c.run_own.ensures.held c.run_own.ensures.rests c.run_own.ensures.others c.run_subs.ensures.lanes.in_times c.run_subs.ensures.lanes.fit.size c.run_own.ensures.laned
       (λ past fed going. c.run_own.ensures.run other sub past fed going);
@@ -59,7 +59,7 @@ run_subs-loop-i-init t c =
       held = refl;
       above = λ rank ranks. above_none c.args.shape.now.clocks.now rank (rank c.args.clock) (is_upto c.args.shape.now.clocks.now c.args.clock c.first-i.result) c.args.lanes.now;
       samples = λ rank ranks. samples_none c.args.shape.now.clocks.now rank (rank c.args.clock) is_none c.args.many c.args.lanes.now;
-      run = subs_start c.args.shape.now.plan.now c.args.shape.now.library.now c.args.shape.now.clocks.now c.requires.in_clocks c.args.clock c.args.many c.args.lanes.now c.first-i.result first;
+      run = subs_start c.args.shape.now.plan.now c.args.shape.now.library.now c.args.shape.now.clocks.now c.requires.shape.in_clocks c.args.clock c.args.many c.args.lanes.now c.first-i.result first;
     }
 
 pub run_subs-loop-i-smaller : goal.run_subs-loop-i-smaller
@@ -70,39 +70,33 @@ run_subs-loop-i-smaller t c =
 
 pub run_subs-run_sub-requires : goal.run_subs-run_sub-requires
 run_subs-run_sub-requires t c =
-    let within : c.loop-i.i < length c.args.shape.now.plan.now.nodes = omega (arith, c.requires.in_clocks, c.loop-i-test.true) in
+    let within : c.loop-i.i < length c.args.shape.now.plan.now.nodes = omega (arith, c.requires.shape.in_clocks, c.loop-i-test.true) in
     let inside = c.loop-i.invariant.own c.loop-i-test.true in
     let here : clock_at c.args.shape.now.clocks.now c.loop-i.i ≡ c.args.clock = same_clock-true (clock_at c.args.shape.now.clocks.now c.loop-i.i) c.args.clock inside in
     let above = c.loop-i.invariant.above c.requires.levels.rank c.requires.levels.ranks in
     let in_states : c.loop-i.i < length c.loop-i.lanes.states.items = omega (arith, c.loop-i.invariant.lanes.fit.size, within) in (
       omega arith,
       (
-        c.requires.nodes,
+        c.requires.shape,
         (
-          c.requires.few,
+          c.loop-i.invariant.lanes,
           (
-            c.requires.in_clocks,
+            within,
             (
-              c.loop-i.invariant.lanes,
+              levels_at c.args.shape.now.clocks.now c.loop-i.i c.args.levels c.args.clock here c.requires.levels,
               (
-                within,
+                subst (λ clock. IsIdle clock c.loop-i.lanes) (sym here)
+                    (idle_above c.args.shape.now.clocks.now c.requires.levels.rank c.args.clock (is_upto c.args.shape.now.clocks.now c.args.clock c.loop-i.i) c.args.lanes.now c.loop-i.lanes (length c.args.shape.now.plan.now.nodes)
+                    c.requires.levels.ranks (sym c.requires.shape.in_clocks) c.loop-i.invariant.lanes.runs.in_rests
+                    (λ k upto. let e : c.requires.levels.rank (clock_at c.args.shape.now.clocks.now k) ≡ c.requires.levels.rank c.args.clock = ap c.requires.levels.rank upto.1 in omega (arith, e)) above c.requires.idle),
                 (
-                  levels_at c.args.shape.now.clocks.now c.loop-i.i c.args.levels c.args.clock here c.requires.levels,
+                  c.requires.some,
                   (
-                    subst (λ clock. IsIdle clock c.loop-i.lanes) (sym here)
-                        (idle_above c.args.shape.now.clocks.now c.requires.levels.rank c.args.clock (is_upto c.args.shape.now.clocks.now c.args.clock c.loop-i.i) c.args.lanes.now c.loop-i.lanes (length c.args.shape.now.plan.now.nodes)
-                        c.requires.levels.ranks (sym c.requires.in_clocks) c.loop-i.invariant.lanes.runs.in_rests
-                        (λ k upto. let e : c.requires.levels.rank (clock_at c.args.shape.now.clocks.now k) ≡ c.requires.levels.rank c.args.clock = ap c.requires.levels.rank upto.1 in omega (arith, e)) above c.requires.idle),
+                    c.requires.short,
                     (
-                      c.requires.some,
-                      (
-                        c.requires.short,
-                        (
-                          c.requires.later,
-                          λ both. pass_above c.args.shape.now.clocks.now c.requires.levels.rank c.args.clock (is_upto c.args.shape.now.clocks.now c.args.clock c.loop-i.i) c.args.lanes.now c.loop-i.lanes c.loop-i.i c.args.many here inside
-                              c.loop-i-test.true in_states (λ upto. let less = upto.0 in omega (arith, less)) above c.requires.through both,
-                        ),
-                      ),
+                      c.requires.later,
+                      λ both. pass_above c.args.shape.now.clocks.now c.requires.levels.rank c.args.clock (is_upto c.args.shape.now.clocks.now c.args.clock c.loop-i.i) c.args.lanes.now c.loop-i.lanes c.loop-i.i c.args.many here inside
+                          c.loop-i-test.true in_states (λ upto. let less = upto.0 in omega (arith, less)) above c.requires.through both,
                     ),
                   ),
                 ),
@@ -115,7 +109,7 @@ run_subs-run_sub-requires t c =
 
 pub run_subs-loop-i-preserved : goal.run_subs-loop-i-preserved
 run_subs-loop-i-preserved t c =
-    let within : c.loop-i.i < length c.args.shape.now.plan.now.nodes = omega (arith, c.requires.in_clocks, c.loop-i-test.true) in
+    let within : c.loop-i.i < length c.args.shape.now.plan.now.nodes = omega (arith, c.requires.shape.in_clocks, c.loop-i-test.true) in
     let inside = c.loop-i.invariant.own c.loop-i-test.true in
     let here : clock_at c.args.shape.now.clocks.now c.loop-i.i ≡ c.args.clock = same_clock-true (clock_at c.args.shape.now.clocks.now c.loop-i.i) c.args.clock inside in
     let after = c.after-i.ensures c.args.shape.now.clocks.now c.run_sub.ensures.lanes.chains in
@@ -128,7 +122,7 @@ run_subs-loop-i-preserved t c =
       held = c.run_sub.ensures.held ∙ c.loop-i.invariant.held;
       above = λ rank ranks. above_step c.args.shape.now.clocks.now rank c.args.clock c.loop-i.i c.after-i.result c.args.lanes.now c.loop-i.lanes c.run_sub.new.lanes here next (c.loop-i.invariant.above rank ranks) (c.run_sub.ensures.above rank ranks);
       samples = λ rank ranks. samples_step c.args.shape.now.clocks.now rank c.args.clock c.loop-i.i c.args.many c.args.lanes.now c.loop-i.lanes c.run_sub.new.lanes ranks c.loop-i-test.true here (c.loop-i.invariant.samples rank ranks) (c.run_sub.ensures.samples rank ranks);
-      run = subs_next c.args.shape.now.plan.now c.args.shape.now.library.now c.args.shape.now.clocks.now c.requires.in_clocks c.args.clock c.args.many c.args.lanes.now c.loop-i.lanes c.run_sub.new.lanes c.loop-i.i c.after-i.result
+      run = subs_next c.args.shape.now.plan.now c.args.shape.now.library.now c.args.shape.now.clocks.now c.requires.shape.in_clocks c.args.clock c.args.many c.args.lanes.now c.loop-i.lanes c.run_sub.new.lanes c.loop-i.i c.after-i.result
           within here next (λ rank ranks. c.loop-i.invariant.above rank ranks) c.loop-i.invariant.run c.run_sub.ensures.run;
     }
 
@@ -141,45 +135,39 @@ run_subs-returns-clause-above t c rank ranks =
 pub run_subs-returns-clause-run : goal.run_subs-returns-clause-run
 run_subs-returns-clause-run t c =
     let high = c.loop-i.invariant.high in
-    let all : c.loop-i.i ≡ length c.args.shape.now.plan.now.nodes = omega (arith, high, c.requires.in_clocks, c.loop-i-test.false) in
+    let all : c.loop-i.i ≡ length c.args.shape.now.plan.now.nodes = omega (arith, high, c.requires.shape.in_clocks, c.loop-i-test.false) in
     subst (λ n. SubClocksRun c.args.shape.now.plan.now c.args.shape.now.library.now c.args.shape.now.clocks.now c.args.clock c.args.many n c.args.lanes.now c.loop-i.lanes) all c.loop-i.invariant.run
 
 pub run_sub-returns-then-not-passes_on-clause-run : goal.run_sub-returns-then-not-passes_on-clause-run
 run_sub-returns-then-not-passes_on-clause-run t c =
-    sub_skipped c.args.shape.now.plan.now c.args.shape.now.library.now c.args.shape.now.clocks.now c.requires.in_clocks c.args.i c.args.many c.requires.within c.args.lanes.now
+    sub_skipped c.args.shape.now.plan.now c.args.shape.now.library.now c.args.shape.now.clocks.now c.requires.shape.in_clocks c.args.i c.args.many c.requires.within c.args.lanes.now
     (sym c.passes_on.ensures ∙ c.if-not-passes_on.true)
 
 pub run_sub-run_clock-requires : goal.run_sub-run_clock-requires
 run_sub-run_clock-requires t c =
-    let in_clocks : c.args.i < length c.args.shape.now.clocks.now = omega (arith, c.requires.within, c.requires.in_clocks) in
+    let in_clocks : c.args.i < length c.args.shape.now.clocks.now = omega (arith, c.requires.within, c.requires.shape.in_clocks) in
     let some = levels_some c.args.shape.now.clocks.now c.args.i c.args.levels in_clocks c.requires.levels in
     let under = levels_under c.args.shape.now.clocks.now c.args.i c.args.levels in_clocks c.requires.levels in
     let rest : c.args.many ≤ rest_at c.args.lanes.now c.args.i = c.requires.through (sym c.passes_on.ensures ∙ c.if-not-passes_on.false) in (
       omega (arith, some),
       (
-        c.requires.nodes,
+        c.requires.shape,
         (
-          c.requires.few,
+          c.keep.ensures.lanes,
           (
-            c.requires.in_clocks,
+            under,
             (
-              c.keep.ensures.lanes,
+              sub_idle c.args.i c.keep.new.lanes c.keep.ensures.kept,
               (
-                under,
+                c.requires.some,
                 (
-                  sub_idle c.args.i c.keep.new.lanes c.keep.ensures.kept,
+                  c.requires.short,
                   (
-                    c.requires.some,
+                    c.requires.later,
                     (
-                      c.requires.short,
-                      (
-                        c.requires.later,
-                        (
-                          sub_ahead c.args.shape.now.library.now c.args.shape.now.clocks.now c.args.i c.args.many c.args.lanes.now c.keep.new.lanes c.requires.lanes.resting c.requires.some rest c.keep.ensures.states c.keep.ensures.held,
-                          sub_through c.args.shape.now.library.now c.args.shape.now.clocks.now c.args.i c.args.many c.args.lanes.now c.keep.new.lanes c.requires.lanes.resting c.requires.some rest c.keep.ensures.states c.keep.ensures.held
-                              c.requires.levels.rank c.requires.levels.ranks in_clocks c.keep.ensures.others,
-                        ),
-                      ),
+                      sub_ahead c.args.shape.now.library.now c.args.shape.now.clocks.now c.args.i c.args.many c.args.lanes.now c.keep.new.lanes c.requires.lanes.resting c.requires.some rest c.keep.ensures.states c.keep.ensures.held,
+                      sub_through c.args.shape.now.library.now c.args.shape.now.clocks.now c.args.i c.args.many c.args.lanes.now c.keep.new.lanes c.requires.lanes.resting c.requires.some rest c.keep.ensures.states c.keep.ensures.held
+                          c.requires.levels.rank c.requires.levels.ranks in_clocks c.keep.ensures.others,
                     ),
                   ),
                 ),
@@ -192,7 +180,7 @@ run_sub-run_clock-requires t c =
 
 pub run_sub-returns-clause-above : goal.run_sub-returns-clause-above
 run_sub-returns-clause-above t c rank ranks =
-    let in_clocks : c.args.i < length c.args.shape.now.clocks.now = omega (arith, c.requires.within, c.requires.in_clocks) in
+    let in_clocks : c.args.i < length c.args.shape.now.clocks.now = omega (arith, c.requires.within, c.requires.shape.in_clocks) in
     above_sub c.args.shape.now.clocks.now rank c.args.i c.args.lanes.now c.keep.new.lanes c.run_clock.new.lanes c.take_on.new.lanes ranks in_clocks
     c.keep.ensures.states c.keep.ensures.times c.keep.ensures.held c.keep.ensures.others c.keep.ensures.left c.keep.ensures.right (c.run_clock.ensures.left rank ranks) c.take_on.ensures.states c.take_on.ensures.runs c.take_on.ensures.times
 
@@ -204,7 +192,7 @@ run_sub-returns-clause-samples t c rank ranks =
 pub run_sub-returns-clause-run : goal.run_sub-returns-clause-run
 run_sub-returns-clause-run t c =
     let both = sym c.passes_on.ensures ∙ c.if-not-passes_on.false in
-    sub_run c.args.shape.now.plan.now c.args.shape.now.library.now c.args.shape.now.clocks.now c.requires.in_clocks c.args.i c.args.many c.requires.within
+    sub_run c.args.shape.now.plan.now c.args.shape.now.library.now c.args.shape.now.clocks.now c.requires.shape.in_clocks c.args.i c.args.many c.requires.within
     c.args.lanes.now c.keep.new.lanes c.run_clock.new.lanes c.take_on.new.lanes both c.requires.some (c.requires.through both)
     c.keep.ensures.states c.keep.ensures.times c.keep.ensures.held c.keep.ensures.left c.keep.ensures.right c.keep.ensures.kept c.keep.ensures.others
     c.run_clock.ensures.run c.run_clock.ensures.held c.run_clock.ensures.left c.run_clock.ensures.samples c.take_on.ensures.states c.take_on.ensures.runs c.take_on.ensures.times c.take_on.ensures.time

@@ -40,5 +40,5 @@ returns-clause-run c other sub past fed going =
     let items = with_items_is c.args.lanes.now.states c.run_nodes.new.states many in
     subst (λ (xs : List NodeState). HasGoneOn S sub c.args.clock past c.args.many fed c.args.lanes.now.states.items c.run_nodes.new.runs.left.items c.run_nodes.new.runs.right.items xs) (sym items)
     (subst (λ (xs : List NodeState). HasGoneOn S sub c.args.clock past c.args.many fed xs c.run_nodes.new.runs.left.items c.run_nodes.new.runs.right.items c.run_nodes.new.states) c.deref_mut.ensures.value
-    (c.run_nodes.ensures.run other sub past fed
+    (c.run_nodes.ensures.run.run other sub past fed
     (subst (λ (xs : List NodeState). IsGoing S sub c.args.clock past c.args.many fed c.args.lanes.now.runs.held.items xs c.args.lanes.now.runs.left.items c.args.lanes.now.runs.right.items) (sym c.deref_mut.ensures.value) going)))

@@ -14,7 +14,7 @@ returns-clause-opened g c = record {
   opened = λ other sub rank ran fed front ranks own has stand needed at.
       let within = starts_at (over c.args.shape.now.plan.now c.args.shape.now.library.now c.args.shape.now.clocks.now other) sub c.args.clock (ran c.args.clock) c.args.time c.begins_tick.result c.requires.frame at c.begins_tick.ensures ∙ c.if-begins_tick.false in
       record {
-        stand = opened_stand (over c.args.shape.now.plan.now c.args.shape.now.library.now c.args.shape.now.clocks.now other) sub rank c.args.clock ran fed front c.args.lanes.now stand needed ranks c.requires.in_clocks own [] c.args.lanes.now
+        stand = opened_stand (over c.args.shape.now.plan.now c.args.shape.now.library.now c.args.shape.now.clocks.now other) sub rank c.args.clock ran fed front c.args.lanes.now stand needed ranks c.requires.shape.in_clocks own [] c.args.lanes.now
             (within_stands (over c.args.shape.now.plan.now c.args.shape.now.library.now c.args.shape.now.clocks.now other) sub rank c.args.clock ran fed front c.args.lanes.now stand needed within)
             (within_taken (over c.args.shape.now.plan.now c.args.shape.now.library.now c.args.shape.now.clocks.now other) sub rank c.args.clock ran fed front c.args.lanes.now stand needed within)
             (λ buffer none. refl) (λ i outside. refl) refl refl;
@@ -27,7 +27,7 @@ returns-then-begins_tick-clause-opened g c =
     let many : length c.begin_readers.new.states ≡ c.args.lanes.now.states.len = omega (arith, c.deref_mut.ensures.len) in
     ok_then c.begin_readers.result
     (opened_by g.T.Taps.stands c.args.shape.now.plan.now c.args.shape.now.library.now c.args.shape.now.clocks.now c.args.clock c.args.time c.requires.frame
-    (sym c.if-begins_tick.true ∙ c.begins_tick.ensures) c.args.lanes.now c.deref_mut.result.now c.args.taps.now c.begin_readers.new.taps c.deref_mut.ensures.value c.requires.in_clocks _
+    (sym c.if-begins_tick.true ∙ c.begins_tick.ensures) c.args.lanes.now c.deref_mut.result.now c.args.taps.now c.begin_readers.new.taps c.deref_mut.ensures.value c.requires.shape.in_clocks _
     c.begin_readers.new.states (with_items_is c.args.lanes.now.states c.begin_readers.new.states many) refl refl c.begin_readers.ensures.others)
     c.begin_readers.ensures.begun
 

@@ -19,6 +19,6 @@ returns-clause-run c = record {
         needed = needed;
         at = at;
         goes = c.rest_for-many.ensures.goes other sub (history S sub c.args.clock n) fed
-            (are_behind S sub rank c.args.clock n ran fed front c.args.lanes.now c.args.time world.ranks c.requires.in_clocks c.requires.nodes world.meaning stand needed at parts held time);
+            (are_behind S sub rank c.args.clock n ran fed front c.args.lanes.now c.args.time world.ranks c.requires.shape.in_clocks c.requires.shape.nodes world.meaning stand needed at parts held time);
       });
 }

@@ -1,5 +1,4 @@
-use Rattle.std.proofs.Common.{◌≡◌, ◌∙◌, length, pos, arith, rules, ap}
-use Rattle.std.proofs.lemmas.List.{length-replicate}
+use Rattle.std.proofs.Common.{rules}
 use Rattle.std.proofs.lemmas.Option.{slice_get_within}
 use Rattle.engine_instants.proofs.Laning.{none_given}
 use Rattle.engine_instants.proofs.runs.Runs.new.Goals as goal
@@ -8,8 +7,7 @@ pub returns-clause-room : goal.returns-clause-room
 returns-clause-room c = record {
   in_left = c.in_ok-left.ensures.size;
   in_right = c.in_ok-right.ensures.size;
-  in_spare_left = (let long : length c.in_ok-spare_left.spare_left.items ≡ 1024 = ap length (c.in_ok-spare_left.ensures.items_if_clones_equal (λ y e. e)) ∙ length-replicate 1024 (pos 0) in omega (arith, long));
-  in_spare_right = (let long : length c.in_ok-spare_right.spare_right.items ≡ 1024 = ap length (c.in_ok-spare_right.ensures.items_if_clones_equal (λ y e. e)) ∙ length-replicate 1024 (pos 0) in omega (arith, long));
+  in_spare = c.in_ok-spare.ensures;
   in_held = search rules;
   in_rests = search rules;
   in_parts = search rules;
