@@ -1,9 +1,9 @@
 -- The files behind the outputs: the cue files, and the trace.
 use Rattle.std.proofs.Common.{◌≡◌, ◌∙◌, ◌++◌, ℕ, suc, Bool, true, false, List, [], ◌∷◌, length, append-nil, refl, ap, sym, subst, inr, true≢false}
-use Rattle.std.specs.Prelude.{Option, Some, None, Result, Ok, Err, OnOk, IfOk, IsSomeAnd, Vec}
+use Rattle.std.specs.Prelude.{Option, Some, Result, Ok, Err, OnOk, IfOk, IsSomeAnd, Vec}
 use Rattle.std.specs.declared.alloc.Global.{Global}
 use Rattle.std.specs.Option.{ForSome}
-use Rattle.liq_base.specs.Files.{Files, HoldsPart, with_file}
+use Rattle.liq_base.specs.Files.{Files, HoldsPart}
 use Rattle.liq_base.specs.Kept.{some_and}
 use Rattle.plan_core.specs.declared.sink.SinkPlan.{SinkPlan}
 use Rattle.plan_core.specs.declared.sink.SinkPlan.TheVariants.{Output, Feed}
@@ -11,7 +11,6 @@ use Rattle.stream_meaning.specs.Instants.{Setting}
 use Rattle.stream_meaning.specs.Sinks.{cues}
 use Rattle.clock_engine.specs.declared.cues.CueMark.{CueMark}
 use Rattle.buffer_ends.specs.Local.{Answers}
-use Rattle.trace_log.specs.Texts.{trace_text}
 use Rattle.trace_log.specs.Values.{TraceValue}
 use Rattle.stations.specs.Cues.{cue_files, cues_if, cues_in, marks_if, marks_in}
 use Rattle.stations.specs.Outputs.{HoldsUpto, OutputFile, with_outputs}
@@ -150,14 +149,3 @@ module _ (station : Station) (before mid : Option Files) (rendered : Rendered) (
   rendered_by (Ok said) window in_windows between after cues gaps counts logs marks traces =
       later_whole (cue_part ++ trace_part window) after said (later_by window in_windows) (told_again said gaps counts logs marks) (whole_behind mid between after cue_part (trace_part window) cues traces)
   rendered_by (Err e) window in_windows between after cues gaps counts logs marks traces = tt
-
--- the file of a trace that is wanted
-module _ (name : Option (List ℕ)) (trace : TraceValue) (n : List ℕ) (is : name ≡ Some n) (before after : Option Files) where
-  pub wrote_so : ForSome before (λ files. after ≡ Some (with_file files n (trace_text trace))) → ForSome before (λ files. after ≡ Some (with_outputs files (traced name trace)))
-  wrote_so wrote = λ files at. wrote files at ∙ ap (λ o. Some (with_outputs files (traced o trace))) (sym is)
-
-  pub left_so : ForSome before (λ files. IsSomeAnd after (HoldsPart files n (trace_text trace))) → ForSome before (λ files. IsSomeAnd after (HoldsUpto files (traced name trace)))
-  left_so part = subst (λ o. ForSome before (λ files. IsSomeAnd after (HoldsUpto files (traced o trace)))) (sym is) (one_part before after n (trace_text trace) part)
-
-pub none_so : (name : Option (List ℕ)) (trace : TraceValue) (before : Option Files) → name ≡ None → ForSome before (λ files. before ≡ Some (with_outputs files (traced name trace)))
-none_so name trace before is = λ files at. at ∙ ap (λ o. Some (with_outputs files (traced o trace))) (sym is)

@@ -18,3 +18,5 @@ pub mod Writing
 pub mod Known
 pub mod Marking
 pub mod Listing
+pub mod Staging
+pub mod Filing

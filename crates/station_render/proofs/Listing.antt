@@ -153,11 +153,6 @@ module _ {S : Type 0} (name : S → Option (List ℕ)) (appends : S → Option �
     closed = closes_all front.made front.telling;
   }
 
-  pub closed_whole : {T E U F : Type 0} (pieces : ℕ) (r : Result T E) (wrote : Result U F) → OnOk r (is_ok wrote ≡ true) → OnOk wrote (AreCounted name appends before pieces names order groups) → OnOk r (HaveClosed names before after)
-  closed_whole pieces (Ok x) (Ok y) well counts = closes_all names (are_telling name appends before pieces names order groups counts)
-  closed_whole pieces (Ok x) (Err e) well counts = absurd (true≢false (sym well))
-  closed_whole pieces (Err e) wrote well counts = tt
-
 -- the first sink was closed, and then the others
 pub closed_then : {O : Type 0} (order rest : List ℕ) (clock : ℕ) (split : order ≡ clock ∷ rest) (old new : List (List (OutputSink O))) (sink : OutputSink O) (taken : WasTaken clock old sink new)
     (name : O → Option (List ℕ)) (appends : O → Option ℕ) (out : O) (kept : name out ≡ name sink.sink) (any : is_some (appends out) ≡ is_some (appends sink.sink)) (before between after : Option (List Closing))

@@ -1,13 +1,11 @@
 -- The names of the outputs that were created, one after another.
-use Rattle.std.proofs.Common.{◌≡◌, ◌≤◌, ◌+◌, ◌∙◌, ◌++◌, ℕ, Bool, true, List, [], ◌∷◌, length, take, drop, slice_get, refl, ap, sym, subst, add-one}
-use Rattle.std.specs.Prelude.{Option, Some, None, Result, Ok, Err, OnOk, is_ok}
+use Rattle.std.proofs.Common.{◌≡◌, ◌≤◌, ◌+◌, ◌∙◌, ◌++◌, ℕ, Bool, List, [], ◌∷◌, length, take, drop, slice_get, ap, sym, add-one}
+use Rattle.std.specs.Prelude.{Option, Some}
 use Rattle.std.proofs.lemmas.List.{append-nil}
-use Rattle.std.proofs.lemmas.Bool.{true≢false}
-use Rattle.liq_base.specs.Files.{Closing}
 use Rattle.plan_core.specs.declared.sink.SinkPlan.{SinkPlan}
 use Rattle.plan_core.specs.declared.sink.SinkPlan.TheVariants.{Output, Feed}
-use Rattle.stations.specs.Creations.{HaveClosed, MadeFront, after_making, names_in, trace_name}
-use Rattle.stations.proofs.Making.{names_both, none_closed, none_more, then_made}
+use Rattle.stations.specs.Creations.{after_making, names_in}
+use Rattle.stations.proofs.Making.{names_both, then_made}
 use Rattle.station_render.proofs.Creating.{take_more, take_whole, taken_and_left}
 
 module _ (sinks : List SinkPlan) (k : ℕ) where
@@ -38,32 +36,3 @@ module _ (sinks : List SinkPlan) (k : ℕ) where
 -- those of the first sinks, and of the others
 pub names_split : (sinks : List SinkPlan) (k : ℕ) → names_in sinks ≡ names_in (take k sinks) ++ names_in (drop k sinks)
 names_split sinks k = ap names_in (taken_and_left sinks k) ∙ names_both (take k sinks) (drop k sinks)
-
--- what holds whatever a call answers
-pub on_ok_so : {T E : Type 0} (r : Result T E) (P : Type 0) → P → OnOk r P
-on_ok_so (Ok x) P p = p
-on_ok_so (Err e) P p = tt
-
--- the outputs were closed after all of them were created
-pub closed_made : {T E U F : Type 0} (r : Result T E) (wrote : Result U F) (names : List (List ℕ)) (before between after : Option (List (List ℕ)))
-    → OnOk r (is_ok wrote ≡ true) → OnOk wrote (between ≡ after_making names before) → after ≡ between → OnOk r (after ≡ after_making names before)
-closed_made (Ok x) (Ok y) names before between after well made same = same ∙ made
-closed_made (Ok x) (Err e) names before between after well made same = absurd (true≢false (sym well))
-closed_made (Err e) wrote names before between after well made same = tt
-
--- the name of a trace that is wanted, and of none
-pub no_trace_made : (name : Option (List ℕ)) (told : Option (List (List ℕ))) → name ≡ None → told ≡ after_making (trace_name name) told
-no_trace_made name told is = none_more told ∙ ap (λ n. after_making (trace_name n) told) (sym is)
-
-pub trace_made : (name : Option (List ℕ)) (title : List ℕ) (before after : Option (List (List ℕ))) → name ≡ Some title → after ≡ after_making (title ∷ []) before → after ≡ after_making (trace_name name) before
-trace_made name title before after is made = made ∙ ap (λ n. after_making (trace_name n) before) (sym is)
-
-pub trace_closed : (name : Option (List ℕ)) (title : List ℕ) (before after : Option (List Closing)) → name ≡ Some title → HaveClosed (title ∷ []) before after → HaveClosed (trace_name name) before after
-trace_closed name title before after is closed = subst (λ n. HaveClosed (trace_name n) before after) (sym is) closed
-
-pub no_trace_closed : (name : Option (List ℕ)) (told : Option (List Closing)) → name ≡ None → HaveClosed (trace_name name) told told
-no_trace_closed name told is = subst (λ n. HaveClosed (trace_name n) told told) (sym is) (none_closed told told refl)
-
-pub trace_front : (name : Option (List ℕ)) (title : List ℕ) (before after : Option (List (List ℕ))) (closed_before closed_after : Option (List Closing)) → name ≡ Some title
-    → MadeFront (title ∷ []) before after closed_before closed_after → MadeFront (trace_name name) before after closed_before closed_after
-trace_front name title before after closed_before closed_after is front = subst (λ n. MadeFront (trace_name n) before after closed_before closed_after) (sym is) front

@@ -1,5 +1,5 @@
 -- What a run of all engines leaves in the sinks, once they are given back.
-use Rattle.std.proofs.Common.{◌≡◌, ◌<◌, ◌+◌, ◌∙◌, ℕ, suc, List, [], ◌∷◌, length, map, get_or, slice_index_or, arith, refl, ap, sym, subst, Bool}
+use Rattle.std.proofs.Common.{◌≡◌, ◌<◌, ◌+◌, ◌∙◌, ℕ, suc, List, [], ◌∷◌, length, map, slice_index_or, arith, refl, ap, sym, subst, Bool}
 use Rattle.std.specs.Prelude.{Option, Result, Ok, Err, OnOk, IfOk, is_some}
 use Rattle.std.specs.Fn.{iterate}
 use Rattle.liq_base.specs.Counts.{counted}
@@ -19,7 +19,6 @@ use Rattle.buffer_ends.specs.declared.counts.Counts.{Counts}
 use Rattle.buffer_ends.specs.declared.run_end.End.{End}
 use Rattle.buffer_ends.specs.declared.run_end.End.TheVariants.{Write}
 use Rattle.rounds_run.specs.Runs.{AreOver, counts_of_windows}
-use Rattle.clock_threads.specs.Runs as threads
 use Rattle.stations.specs.Creations.{after_making, names_in}
 use Rattle.stations.specs.Findings.{IsFit}
 use Rattle.stations.specs.Stations.{Station, Way, answers_with, made_in, setting_after, tried_in}
@@ -32,7 +31,7 @@ use Rattle.station_render.specs.Renders.{AreMain, IsPart, IsReady, IsWhole, orde
 use Rattle.station_render.specs.EngineRuns.{AreOpened, RanAll, RanSome}
 use Rattle.station_render.specs.Runs.{HasRecord, RanPart, RanWhole, counts_from}
 use Rattle.station_render.specs.declared.rendered.Rendered.{Rendered}
-use Rattle.station_render.proofs.Lists.{got, got_is}
+use Rattle.station_render.proofs.Lists.{got_is}
 use Rattle.station_render.proofs.Creating.{created_as, part_of_ready}
 use Rattle.station_render.proofs.Ending.{begun_all}
 use Rattle.station_render.proofs.Fits.{are_main}
@@ -89,11 +88,6 @@ is_setting fit low = record {
   start = low;
 }
 
--- the same engines in another place
-pub opened_at : {S : Type 0} {name held : S → Option (List ℕ)} {left : S → Option ℕ} {debt : S → ℕ} {files : Option Files} {setting : Setting} {clocks : ClockMap} {ticks : ℕ} {order : List ℕ} {engines old : List (ClockEngine S)} {groups : List (List S)}
-    → old ≡ engines → AreOpened name held left debt files setting clocks ticks order engines groups → AreOpened name held left debt files setting clocks ticks order old groups
-opened_at {S} {name} {held} {left} {debt} {files} {setting} {clocks} {ticks} {order} {engines} {old} {groups} same opened = subst (λ es. AreOpened name held left debt files setting clocks ticks order es groups) (sym same) opened
-
 module _ {plan : Plan} {library : Sounds} {clocks : ClockMap} {start ticks : ℕ} {S : Type 0} {name title held : S → Option (List ℕ)} {left : S → Option ℕ} {debt : S → ℕ} {files : Option Files} {order : List ℕ}
     {old : List (ClockEngine S)} {groups : List (List S)} (alike : AreAlike name title debt) (fit : IsFit plan library clocks ticks)
     (opened : AreOpened title held left debt files (setting_for plan library clocks start) clocks ticks order old groups) where
@@ -107,25 +101,9 @@ module _ {plan : Plan} {library : Sounds} {clocks : ClockMap} {start ticks : ℕ
   rooms = created_as (IsReady title held left debt files world ticks) (λ output sink. HasRoom (left sink) (body_size world output.wide ticks output.node)) (λ output sink is. is.room)
       (written plan.sinks) (order_of world (written plan.sinks)) (outs_of old) opened.ready
 
-  -- the engines may begin, in rounds and by threads
+  -- the engines may begin
   pub over_plan : AreOver left plan ticks world old
   over_plan = record { plan_is = refl; well = fit.plan_is; are = may_run world ticks mains left old opened.at rooms }
-
-  pub engines_are : start < 604800 → threads.AreEngines left plan clocks ticks world old
-  engines_are low = record {
-    is = is_setting fit low;
-    plan_is = refl;
-    all = opened.all;
-    each = λ k d below.
-        let there = got old k d below in
-        let is = opened.at.each k (get_or old k d) there in
-        record {
-          over = is.over;
-          clock = is.clock_is;
-          stands = is.stands;
-          rooms = (over_plan.are.each k (get_or old k d) there).rooms;
-        };
-  }
 
   -- after a run; `last` are the engines that are handed back
   module _ {new last : List (ClockEngine S)} (last_is : last ≡ new) where

@@ -5,5 +5,7 @@ pub mod Renders
 pub mod Engines
 pub mod Runs
 pub mod EngineRuns
+pub mod Stages
 pub mod Marks
+pub mod Shelves
 pub mod Listed

@@ -10,6 +10,7 @@ ghost use Rattle.stations.specs.Stations.{Station};
 ghost use Rattle.station_render.specs.Runs.{RanPart, RanWhole, WroteOutputs};
 ghost use Rattle.station_render.specs.Listed.{AreTelling, HaveAllListed, WillList};
 ghost use Rattle.station_render.specs.OutputSinks.{HaveRooms, HoldsBody, HoldsFrontIf, owed, told};
+ghost use Rattle.station_render.specs.Shelves.{OnlyCloses};
 ghost use Rattle.station_render.specs.Sinks.{AreCreated, HasFailed, HaveSizes, AreAllEmpty, WasTaken, lists_of};
 
 use crate::output_sink::{OutputSink, end_if};
@@ -35,18 +36,37 @@ pub(crate) fn close_all<S: Shelf>(
     ensures cause { IsErrOf result RenderFault.Write → IsErrOf wrote RenderFault.Write ⊎ Rose (S.write_count shelf.old) (S.write_count shelf.new) }
     ensures failed { HasFailed (told S.Out.faults) (lists_of groups.items) → Rose (S.write_count shelf.old) (S.write_count shelf.new) }
     ensures well { OnOk result (is_ok wrote ≡ true) }
-    ensures created { S.created shelf.new ≡ S.created shelf.old }
     ensures closed { (names : List (List ℕ)) → AreTelling (told S.Out.name) (told S.Out.appends) (S.closed shelf.old) names order.now (lists_of groups.items)
         → HaveClosed names (S.closed shelf.old) (S.closed shelf.new) }
     ensures pieces { OnOk result ((closings : List Closing) → AreCreated (WillList S.Out.name S.Out.appends (S.closed shelf.old)) closings order.now (lists_of groups.items)
         → HaveAllListed closings (S.closed shelf.old) (S.closed shelf.new)) }
-    ensures reads { S.read_count shelf.old ≤ S.read_count shelf.new }
-    ensures writes { S.write_count shelf.old ≤ S.write_count shelf.new }
+    ensures shelf { OnlyCloses S.created S.read_count S.write_count shelf.old shelf.new }
 {
     let closed = close_each(shelf, order, groups, wrote.is_ok());
     let rendered = wrote?;
     closed?;
     Ok(rendered)
+}
+
+/// Closes what was created of the outputs after a fault, in sink order, and hands the fault on.
+pub(crate) fn close_broken<S: Shelf>(
+    shelf: &mut S,
+    order: &[u32],
+    groups: Vec<Vec<OutputSink<S::Out>>>,
+    fault: RenderFault,
+) -> RenderFault
+    requires { HaveSizes order.now (lists_of groups.items) }
+    ensures same { result ≡ fault }
+    ensures part { (station : Station) (before : Option Files) (count : ℕ) (made_before : Option (List (List ℕ))) → S.files shelf.old ≡ before → count ≤ S.write_count shelf.old
+        → RanPart (told S.Out.name) (told S.Out.held) (told S.Out.faults) before station order.now (lists_of groups.items) made_before (S.created shelf.old)
+        → ForSome before (λ files. WrotePart station count (S.write_count shelf.new) files (S.files shelf.new) made_before (S.created shelf.new)) }
+    ensures failed { HasFailed (told S.Out.faults) (lists_of groups.items) → Rose (S.write_count shelf.old) (S.write_count shelf.new) }
+    ensures closed { (names : List (List ℕ)) → AreTelling (told S.Out.name) (told S.Out.appends) (S.closed shelf.old) names order.now (lists_of groups.items)
+        → HaveClosed names (S.closed shelf.old) (S.closed shelf.new) }
+    ensures shelf { OnlyCloses S.created S.read_count S.write_count shelf.old shelf.new }
+{
+    let _closed = close_each(shelf, order, groups, false);
+    fault
 }
 
 // Closes the sinks in sink order, also those behind one whose closing failed. As long as all went well, each gets the byte
@@ -66,13 +86,11 @@ fn close_each<S: Shelf>(
         → IsSomeAnd (S.files shelf.new) (λ now. HoldsParts (S.write_count shelf.old) files outputs now (S.write_count shelf.new))) }
     ensures cause { OnErr result (Rose (S.write_count shelf.old) (S.write_count shelf.new)) }
     ensures failed { HasFailed (told S.Out.faults) (lists_of groups.items) → Rose (S.write_count shelf.old) (S.write_count shelf.new) }
-    ensures created { S.created shelf.new ≡ S.created shelf.old }
     ensures closed { (names : List (List ℕ)) → AreTelling (told S.Out.name) (told S.Out.appends) (S.closed shelf.old) names order.now (lists_of groups.items)
         → HaveClosed names (S.closed shelf.old) (S.closed shelf.new) }
     ensures pieces { OnOk result (well ≡ true → (closings : List Closing) → AreCreated (WillList S.Out.name S.Out.appends (S.closed shelf.old)) closings order.now (lists_of groups.items)
         → HaveAllListed closings (S.closed shelf.old) (S.closed shelf.new)) }
-    ensures reads { S.read_count shelf.old ≤ S.read_count shelf.new }
-    ensures writes { S.write_count shelf.old ≤ S.write_count shelf.new }
+    ensures shelf { OnlyCloses S.created S.read_count S.write_count shelf.old shelf.new }
 {
     let Some((clock, rest)) = order.split_first() else {
         end_all(groups);

@@ -7,6 +7,7 @@ ghost use Rattle.stations.specs.Creations.{after_making, names_in};
 ghost use Rattle.station_render.specs.Listed.{AreCounted, CreatedFront, NoneListed, WasListed};
 ghost use Rattle.stations.specs.Findings.{IsFit};
 ghost use Rattle.station_render.specs.OutputSinks.{owed, spared, told};
+ghost use Rattle.station_render.specs.Shelves.{OnlyCreates};
 ghost use Rattle.station_render.specs.Sinks.{AreCreated, AreEmpty, HasFailed, lists_of};
 ghost use Rattle.station_render.specs.Renders.{AreBegun, IsReady, NoneCreated, WasBroken, WasCreated, order_of, setting_for, written};
 
@@ -40,13 +41,10 @@ pub(crate) fn create_each<S: Shelf>(
         → AreBegun (told S.Out.name) (told S.Out.held) (told S.Out.faults) (S.files shelf.old) (setting_for plan.now library clocks.now start) answers ticks made tried order.new.items (lists_of groups.new.items) (S.created shelf.old) (S.created shelf.new) }
     ensures size { length (lists_of groups.new.items) ≡ clocks.now.running }
     ensures cause { IsErrOf result RenderFault.Write → Rose (S.write_count shelf.old) (S.write_count shelf.new) ⊎ HasFailed (told S.Out.faults) (lists_of groups.new.items) }
-    ensures files { S.files shelf.new ≡ S.files shelf.old }
     ensures made { OnOk result (S.created shelf.new ≡ after_making (names_in plan.now.sinks) (S.created shelf.old)) }
     ensures counted { OnOk result (AreCounted (told S.Out.name) (told S.Out.appends) (S.closed shelf.old) 1 (names_in plan.now.sinks) order.new.items (lists_of groups.new.items)) }
     ensures front { CreatedFront (told S.Out.name) (told S.Out.appends) (S.closed shelf.old) (names_in plan.now.sinks) (S.created shelf.old) (S.created shelf.new) order.new.items (lists_of groups.new.items) }
-    ensures closed { S.closed shelf.new ≡ S.closed shelf.old }
-    ensures reads { S.read_count shelf.old ≤ S.read_count shelf.new }
-    ensures writes { S.write_count shelf.old ≤ S.write_count shelf.new }
+    ensures shelf { OnlyCreates S.files S.closed S.read_count S.write_count shelf.old shelf.new }
 {
     for sink in plan.sinks.as_slice() {
         let SinkPlan::Output {
@@ -81,15 +79,12 @@ fn create_one<S: Shelf>(
         ⊎ WasBroken (told S.Out.name) (told S.Out.held) (told S.Out.faults) (S.files shelf.old) opening.now.clock name.now opening.now.header
         order.old.items order.new.items (lists_of groups.old.items) (lists_of groups.new.items)) }
     ensures cause { IsErrOf result RenderFault.Write → Rose (S.write_count shelf.old) (S.write_count shelf.new) ⊎ HasFailed (told S.Out.faults) (lists_of groups.new.items) }
-    ensures files { S.files shelf.new ≡ S.files shelf.old }
     ensures listed { OnOk result (WasListed (told S.Out.name) (told S.Out.appends) (S.closed shelf.old) opening.now.clock name.now (S.created shelf.old) (S.created shelf.new)
         order.old.items order.new.items (lists_of groups.old.items) (lists_of groups.new.items)) }
     ensures unlisted { OnErr result (NoneListed (S.created shelf.old) (S.created shelf.new) order.old.items order.new.items (lists_of groups.old.items) (lists_of groups.new.items)
         ⊎ WasListed (told S.Out.name) (told S.Out.appends) (S.closed shelf.old) opening.now.clock name.now (S.created shelf.old) (S.created shelf.new)
         order.old.items order.new.items (lists_of groups.old.items) (lists_of groups.new.items)) }
-    ensures closed { S.closed shelf.new ≡ S.closed shelf.old }
-    ensures reads { S.read_count shelf.old ≤ S.read_count shelf.new }
-    ensures writes { S.write_count shelf.old ≤ S.write_count shelf.new }
+    ensures shelf { OnlyCreates S.files S.closed S.read_count S.write_count shelf.old shelf.new }
 {
     order.reserve(1)?;
     reserve_one(groups, opening.clock)?;

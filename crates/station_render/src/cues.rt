@@ -1,11 +1,9 @@
 // The cue files of a rendering.
-ghost use Rattle.std.specs.Prelude.{◌≡◌, ◌≤◌, ◌++◌, ◌∷◌, [], Some, true, IfOk, IsErrOf, IsSomeAnd, OnOk, length, map, string_bytes};
-ghost use Rattle.std.specs.Option.{ForSome};
+ghost use Rattle.std.specs.Prelude.{◌≡◌, ◌++◌, ◌∷◌, [], true, IfOk, IsErrOf, OnOk, length, map, string_bytes};
 ghost use Rattle.frame_core.specs.Library.{name_of};
 ghost use Rattle.liq_base.specs.Counts.{Rose};
 ghost use Rattle.stations.specs.Cues.{cue_line, cue_name, cue_names_if, cue_names_in, cue_text, spaced};
-ghost use Rattle.stations.specs.Creations.{HaveClosed, MadeFront, after_making};
-ghost use Rattle.stations.specs.Outputs.{HoldsUpto, with_outputs};
+ghost use Rattle.station_render.specs.Shelves.{WroteFiles, WroteUpto};
 ghost use Rattle.station_render.specs.Marks.{cue_file, cue_files_by, cue_files_with, cue_of, cues_of};
 ghost use Rattle.station_render.specs.Renders.{written};
 
@@ -26,14 +24,9 @@ pub(crate) fn leave_wanted<S: Shelf>(
     shelf: &mut S,
 ) -> Result<(), RenderFault>
     requires many { job.now.cues ≡ true → length marks.now ≡ length (written job.now.plan.now.sinks) }
-    ensures written { OnOk result (ForSome (S.files shelf.old) (λ files. S.files shelf.new ≡ Some (with_outputs files (cue_files_by job.now (cues_of marks.now))))) }
-    ensures part { ForSome (S.files shelf.old) (λ files. IsSomeAnd (S.files shelf.new) (HoldsUpto files (cue_files_by job.now (cues_of marks.now)))) }
+    ensures all { OnOk result (WroteFiles S.files S.created S.closed shelf.old shelf.new (cue_names_if job.now.cues job.now.plan.now.sinks) (cue_files_by job.now (cues_of marks.now))) }
+    ensures some { WroteUpto S.files S.created S.closed S.read_count S.write_count shelf.old shelf.new (cue_names_if job.now.cues job.now.plan.now.sinks) (cue_files_by job.now (cues_of marks.now)) }
     ensures cause { IsErrOf result RenderFault.Write → Rose (S.write_count shelf.old) (S.write_count shelf.new) }
-    ensures made { OnOk result (S.created shelf.new ≡ after_making (cue_names_if job.now.cues job.now.plan.now.sinks) (S.created shelf.old)) }
-    ensures closed { OnOk result (HaveClosed (cue_names_if job.now.cues job.now.plan.now.sinks) (S.closed shelf.old) (S.closed shelf.new)) }
-    ensures front { MadeFront (cue_names_if job.now.cues job.now.plan.now.sinks) (S.created shelf.old) (S.created shelf.new) (S.closed shelf.old) (S.closed shelf.new) }
-    ensures reads { S.read_count shelf.old ≤ S.read_count shelf.new }
-    ensures writes { S.write_count shelf.old ≤ S.write_count shelf.new }
 {
     if !job.cues {
         return Ok(());
@@ -50,14 +43,9 @@ fn leave_cues<S: Shelf>(
     shelf: &mut S,
 ) -> Result<(), RenderFault>
     requires many { length marks.now ≡ length (written plan.now.sinks) }
-    ensures written { OnOk result (ForSome (S.files shelf.old) (λ files. S.files shelf.new ≡ Some (with_outputs files (cue_files_with library.now plan.now.sinks (cues_of marks.now))))) }
-    ensures part { ForSome (S.files shelf.old) (λ files. IsSomeAnd (S.files shelf.new) (HoldsUpto files (cue_files_with library.now plan.now.sinks (cues_of marks.now)))) }
+    ensures all { OnOk result (WroteFiles S.files S.created S.closed shelf.old shelf.new (cue_names_in plan.now.sinks) (cue_files_with library.now plan.now.sinks (cues_of marks.now))) }
+    ensures some { WroteUpto S.files S.created S.closed S.read_count S.write_count shelf.old shelf.new (cue_names_in plan.now.sinks) (cue_files_with library.now plan.now.sinks (cues_of marks.now)) }
     ensures cause { IsErrOf result RenderFault.Write → Rose (S.write_count shelf.old) (S.write_count shelf.new) }
-    ensures made { OnOk result (S.created shelf.new ≡ after_making (cue_names_in plan.now.sinks) (S.created shelf.old)) }
-    ensures closed { OnOk result (HaveClosed (cue_names_in plan.now.sinks) (S.closed shelf.old) (S.closed shelf.new)) }
-    ensures front { MadeFront (cue_names_in plan.now.sinks) (S.created shelf.old) (S.created shelf.new) (S.closed shelf.old) (S.closed shelf.new) }
-    ensures reads { S.read_count shelf.old ≤ S.read_count shelf.new }
-    ensures writes { S.write_count shelf.old ≤ S.write_count shelf.new }
 {
     let mut place = 0;
     for sink in plan.sinks.as_slice() {
@@ -78,25 +66,20 @@ fn leave_one<S: Shelf>(
     marks: &[CueMark],
     shelf: &mut S,
 ) -> Result<(), RenderFault>
-    ensures written { OnOk result (ForSome (S.files shelf.old) (λ files. S.files shelf.new ≡ Some (with_outputs files (cue_file library.now name.now (map cue_of marks.now) ∷ [])))) }
-    ensures part { ForSome (S.files shelf.old) (λ files. IsSomeAnd (S.files shelf.new) (HoldsUpto files (cue_file library.now name.now (map cue_of marks.now) ∷ []))) }
+    ensures all { OnOk result (WroteFiles S.files S.created S.closed shelf.old shelf.new (cue_name name.now ∷ []) (cue_file library.now name.now (map cue_of marks.now) ∷ [])) }
+    ensures some { WroteUpto S.files S.created S.closed S.read_count S.write_count shelf.old shelf.new (cue_name name.now ∷ []) (cue_file library.now name.now (map cue_of marks.now) ∷ []) }
     ensures cause { IsErrOf result RenderFault.Write → Rose (S.write_count shelf.old) (S.write_count shelf.new) }
-    ensures made { OnOk result (S.created shelf.new ≡ after_making (cue_name name.now ∷ []) (S.created shelf.old)) }
-    ensures closed { OnOk result (HaveClosed (cue_name name.now ∷ []) (S.closed shelf.old) (S.closed shelf.new)) }
-    ensures front { MadeFront (cue_name name.now ∷ []) (S.created shelf.old) (S.created shelf.new) (S.closed shelf.old) (S.closed shelf.new) }
-    ensures reads { S.read_count shelf.old ≤ S.read_count shelf.new }
-    ensures writes { S.write_count shelf.old ≤ S.write_count shelf.new }
 {
-    let file = name_of_file(alloc, name)?;
+    let file = cue_file_name(alloc, name)?;
     let text = text_of(alloc, library, marks)?;
     write_file(shelf, file.as_str(), text.as_bytes())
 }
 
-// The name of the cue file beside an output.
-fn name_of_file(alloc: Global, name: &str) -> Result<String, AllocError>
-    ensures { IfOk result (λ file. string_bytes file ≡ cue_name name.now) }
+/// The name of the cue file of the output of this name.
+pub fn cue_file_name(alloc: Global, output: &str) -> Result<String, AllocError>
+    ensures { IfOk result (λ file. string_bytes file ≡ cue_name output.now) }
 {
-    let mut file = String::from_str(alloc, name)?;
+    let mut file = String::from_str(alloc, output)?;
     file.push_str(".cue")?;
     Ok(file)
 }

@@ -1,10 +1,8 @@
 // A file that is written at once.
-ghost use Rattle.std.specs.Prelude.{◌≡◌, ◌≤◌, ◌∷◌, [], Some, IsErrOf, IsSomeAnd, OnErr, OnOk, is_some, length};
-ghost use Rattle.std.specs.Option.{ForSome};
+ghost use Rattle.std.specs.Prelude.{◌≡◌, ◌≤◌, ◌∷◌, [], IsErrOf, OnErr, OnOk, is_some, length};
 ghost use Rattle.liq_base.specs.Counts.{Rose};
-ghost use Rattle.liq_base.specs.Files.{HoldsPart, with_file};
 ghost use Rattle.liq_base.specs.Pieces.{HasRoom, Took, TookPart};
-ghost use Rattle.stations.specs.Creations.{HaveClosed, MadeFront, after_making};
+ghost use Rattle.station_render.specs.Shelves.{WroteFiles, WroteUpto, one_file};
 
 use crate::RenderFault;
 use liq_base::{Failed, Shelf, Sink};
@@ -16,14 +14,9 @@ pub(crate) fn write_file<S: Shelf>(
     name: &str,
     text: &[u8],
 ) -> Result<(), RenderFault>
-    ensures written { OnOk result (ForSome (S.files shelf.old) (λ files. S.files shelf.new ≡ Some (with_file files name.now text.now))) }
-    ensures part { ForSome (S.files shelf.old) (λ files. IsSomeAnd (S.files shelf.new) (HoldsPart files name.now text.now)) }
+    ensures all { OnOk result (WroteFiles S.files S.created S.closed shelf.old shelf.new (name.now ∷ []) (one_file name.now text.now)) }
+    ensures some { WroteUpto S.files S.created S.closed S.read_count S.write_count shelf.old shelf.new (name.now ∷ []) (one_file name.now text.now) }
     ensures cause { IsErrOf result RenderFault.Write → Rose (S.write_count shelf.old) (S.write_count shelf.new) }
-    ensures made { OnOk result (S.created shelf.new ≡ after_making (name.now ∷ []) (S.created shelf.old)) }
-    ensures closed { OnOk result (HaveClosed (name.now ∷ []) (S.closed shelf.old) (S.closed shelf.new)) }
-    ensures front { MadeFront (name.now ∷ []) (S.created shelf.old) (S.created shelf.new) (S.closed shelf.old) (S.closed shelf.new) }
-    ensures reads { S.read_count shelf.old ≤ S.read_count shelf.new }
-    ensures writes { S.write_count shelf.old ≤ S.write_count shelf.new }
 {
     let mut sink = shelf.create(name, text.len() as u64)?;
     let wrote = append_any(&mut sink, text);

@@ -18,8 +18,10 @@ mod rendering;
 mod reports;
 mod sinks;
 mod threading;
+mod ticks;
 mod traces;
 
+pub use cues::cue_file_name;
 pub use fault::RenderFault;
 pub use job::Job;
 pub use rendered::Rendered;

@@ -1,26 +1,74 @@
 // The outputs of a plan are opened, with the engines that write into them.
 ghost use Rattle.std.specs.Prelude.{◌≡◌, ◌≤◌, ◌⊎◌, [], List, Option, ℕ, IfOk, IsErrOf, OnErr, OnOk};
+ghost use Rattle.std.specs.Option.{ForSome};
 ghost use Rattle.liq_base.specs.Counts.{Rose};
-ghost use Rattle.stations.specs.Creations.{after_making, names_in};
+ghost use Rattle.stations.specs.Creations.{MadeFront, after_making, names_in};
+ghost use Rattle.stations.specs.Renderings.{WrotePart};
 ghost use Rattle.station_render.specs.Listed.{AreCounted, CreatedFront};
 ghost use Rattle.stations.specs.Stations.{Way};
 ghost use Rattle.station_render.specs.Engines.{AreKeeping, outs_of};
 ghost use Rattle.station_render.specs.OutputSinks.{owed, spared, told};
 ghost use Rattle.station_render.specs.EngineRuns.{AreOpened};
 ghost use Rattle.station_render.specs.Runs.{HasRecord, IsFitting, RanPart, setting_by, station_in};
+ghost use Rattle.station_render.specs.Shelves.{OnlyCreates};
 ghost use Rattle.station_render.specs.Sinks.{AreEmpty, HasFailed, lists_of};
+ghost use Rattle.station_render.specs.Stages.{HaveOpened};
 
+use crate::close::close_broken;
 use crate::create::create_each;
 use crate::engines::make_engines;
 use crate::output_sink::OutputSink;
+use crate::sinks::no_sinks;
 use crate::{Job, RenderFault};
 use clock_engine::ClockEngine;
 use liq_base::Shelf;
 use std::alloc::Global;
 
-/// Creates the outputs in sink order, and makes the engines of all clocks, which take the sinks. `order` gets the clock of
-/// each sink that is created; `groups` gets the sinks of each clock, where engines are not made.
-pub(crate) fn open_all<'a, S: Shelf>(
+/// The places of the sinks: the clock of each, in sink order, and for each clock a list, into which its engine gives its sinks
+/// back.
+pub(crate) struct Places<O> {
+    pub order: Vec<u32>,
+    pub groups: Vec<Vec<O>>,
+}
+
+/// The first part of a rendering: creates the outputs in sink order, and makes the engines of all clocks, which take the sinks.
+/// After a fault it closes what it created.
+pub(crate) fn open_outputs<'a, S: Shelf>(
+    alloc: Global,
+    job: &Job<'a>,
+    shelf: &mut S,
+) -> Result<
+    (
+        Places<OutputSink<S::Out>>,
+        Vec<ClockEngine<'a, OutputSink<S::Out>>>,
+    ),
+    RenderFault,
+>
+    requires fit { IsFitting job.now }
+    ensures opened { IfOk result (λ opened. HaveOpened S.Out.name S.Out.held S.Out.room S.Out.appends (S.files shelf.old) (S.closed shelf.new) job.now
+        opened.0.order.items (lists_of opened.0.groups.items) opened.1.items) }
+    ensures part { OnErr result ((way : Way) (trace : Option (List ℕ)) → HasRecord (setting_by job.now) job.now.ready.now.clocks.running job.now.ticks way
+        → ForSome (S.files shelf.old) (λ files. WrotePart (station_in job.now way trace)
+        (S.write_count shelf.old) (S.write_count shelf.new) files (S.files shelf.new) (S.created shelf.old) (S.created shelf.new))) }
+    ensures cause { IsErrOf result RenderFault.Write → Rose (S.write_count shelf.old) (S.write_count shelf.new) }
+    ensures files { OnOk result (S.files shelf.new ≡ S.files shelf.old) }
+    ensures made { OnOk result (S.created shelf.new ≡ after_making (names_in job.now.plan.now.sinks) (S.created shelf.old)) }
+    ensures closed { OnOk result (S.closed shelf.new ≡ S.closed shelf.old) }
+    ensures front { OnErr result (MadeFront (names_in job.now.plan.now.sinks) (S.created shelf.old) (S.created shelf.new) (S.closed shelf.old) (S.closed shelf.new)) }
+    ensures reads { S.read_count shelf.old ≤ S.read_count shelf.new }
+    ensures writes { S.write_count shelf.old ≤ S.write_count shelf.new }
+{
+    let mut order = Vec::new(alloc);
+    let mut groups = no_sinks(alloc, job.ready.clocks.running)?;
+    match open_all(alloc, job, shelf, &mut order, &mut groups) {
+        Ok(engines) => Ok((Places { order, groups }, engines)),
+        Err(fault) => Err(close_broken(shelf, &order, groups, fault)),
+    }
+}
+
+// Creates the outputs, and makes the engines. `order` gets the clock of each sink that is created; `groups` gets the sinks of each
+// clock, where engines are not made.
+fn open_all<'a, S: Shelf>(
     alloc: Global,
     job: &Job<'a>,
     shelf: &mut S,
@@ -36,13 +84,10 @@ pub(crate) fn open_all<'a, S: Shelf>(
     ensures part { OnErr result ((way : Way) (trace : Option (List ℕ)) → HasRecord (setting_by job.now) job.now.ready.now.clocks.running job.now.ticks way
         → RanPart (told S.Out.name) (told S.Out.held) (told S.Out.faults) (S.files shelf.old) (station_in job.now way trace) order.new.items (lists_of groups.new.items) (S.created shelf.old) (S.created shelf.new)) }
     ensures cause { IsErrOf result RenderFault.Write → Rose (S.write_count shelf.old) (S.write_count shelf.new) ⊎ HasFailed (told S.Out.faults) (lists_of groups.new.items) }
-    ensures files { S.files shelf.new ≡ S.files shelf.old }
     ensures made { OnOk result (S.created shelf.new ≡ after_making (names_in job.now.plan.now.sinks) (S.created shelf.old)) }
     ensures counted { IfOk result (λ engines. AreCounted (told S.Out.name) (told S.Out.appends) (S.closed shelf.old) 1 (names_in job.now.plan.now.sinks) order.new.items (outs_of engines.items)) }
     ensures front { OnErr result (CreatedFront (told S.Out.name) (told S.Out.appends) (S.closed shelf.old) (names_in job.now.plan.now.sinks) (S.created shelf.old) (S.created shelf.new) order.new.items (lists_of groups.new.items)) }
-    ensures closed { S.closed shelf.new ≡ S.closed shelf.old }
-    ensures reads { S.read_count shelf.old ≤ S.read_count shelf.new }
-    ensures writes { S.write_count shelf.old ≤ S.write_count shelf.new }
+    ensures shelf { OnlyCreates S.files S.closed S.read_count S.write_count shelf.old shelf.new }
 {
     create_each(job.plan, &job.ready.clocks, job.ticks, shelf, order, groups)?;
     Ok(make_engines(alloc, job, groups)?)

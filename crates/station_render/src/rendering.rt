@@ -1,13 +1,16 @@
 // A station is rendered.
-ghost use Rattle.std.specs.Prelude.{◌≡◌, ◌≤◌, ◌+◌, ◌⊎◌, [], IfOk, IsErrOf, OnOk};
+ghost use Rattle.std.specs.Prelude.{◌≡◌, ◌≤◌, ℕ, List, Option, IfOk, IsErrOf, OnOk};
 ghost use Rattle.std.specs.Option.{ForSome};
 ghost use Rattle.liq_base.specs.Counts.{Rose};
-ghost use Rattle.stations.specs.Creations.{HaveClosed, HaveListed, MadeFront, after_making, names_in, names_of, output_closings};
+ghost use Rattle.liq_base.specs.Files.{Closing, Files};
+ghost use Rattle.stations.specs.Creations.{HaveClosed, HaveListed, MadeFront, after_making, closings_in, names_in, names_of, output_closings};
 ghost use Rattle.stations.specs.Renderings.{WrotePart};
-ghost use Rattle.station_render.specs.Listed.{AreCounted, CreatedFront, HaveAllListed};
-ghost use Rattle.station_render.specs.OutputSinks.{owed, told};
-ghost use Rattle.station_render.specs.Sinks.{AreEmpty, HasFailed, lists_of};
-ghost use Rattle.station_render.specs.Runs.{IsFitting, IsRendered, RanPart, RanWhole, WroteOutputs, setting_by, station_again, station_alone, station_by};
+ghost use Rattle.stations.specs.Stations.{Way};
+ghost use Rattle.station_render.specs.Listed.{HaveAllListed};
+ghost use Rattle.station_render.specs.Runs.{IsFitting, IsRendered, WroteOutputs, setting_by, station_again, station_alone, station_by, station_in};
+ghost use Rattle.station_render.specs.Shelves.{OnlyCloses};
+ghost use Rattle.station_render.specs.Sinks.{lists_of};
+ghost use Rattle.station_render.specs.Stages.{MayClose};
 ghost use Rattle.trace_log.specs.Texts.{IsTrace};
 ghost use Rattle.trace_replay.specs.Chunks.{AreAllChunks};
 ghost use Rattle.trace_replay.specs.Traces.{IsAccepted};
@@ -15,19 +18,19 @@ ghost use Rattle.trace_replay.specs.Traces.{IsAccepted};
 use crate::close::close_all;
 use crate::cues::leave_wanted;
 use crate::engines::take_back;
-use crate::opened::open_all;
+use crate::opened::{Places, open_outputs};
 use crate::output_sink::OutputSink;
-use crate::sinks::no_sinks;
+use crate::ticks::{tick_again, tick_by_threads, tick_in_rounds};
 use crate::traces::leave_trace;
 use crate::{Job, RenderFault, Rendered, Threading};
-use clock_threads::run_threads;
+use buffer_ends::RunEnd;
+use clock_engine::ClockEngine;
 use liq_base::{Gate, Shelf};
-use rounds_run::run_rounds;
 use std::alloc::Global;
 use std::sync::Wait;
 use std::thread::Threads;
 use trace_log::Trace;
-use trace_replay::{RecordChunks, replay};
+use trace_replay::RecordChunks;
 
 /// Renders a job into the files of its outputs, and answers what is told of it. The outputs are created in sink order, each
 /// with room for exactly its bytes and with its header as one piece; then each clock makes its ticks on a thread of its own,
@@ -56,7 +59,9 @@ pub fn render<S: Shelf, G: Gate + Sync, R: Threads + Wait + Sync>(
     ensures reads { S.read_count shelf.old ≤ S.read_count shelf.new }
     ensures writes { S.write_count shelf.old ≤ S.write_count shelf.new }
 {
-    let rendered = render_outputs(rt, alloc, job, threading, shelf, gate)?;
+    let (places, engines) = open_outputs(alloc, job, shelf)?;
+    let (engines, run) = tick_by_threads(rt, alloc, job, threading.window, gate, engines);
+    let rendered = close_outputs(alloc, job, shelf, places, engines, run)?;
     leave_wanted(alloc, job, &rendered.cues, shelf)?;
     leave_trace(alloc, job.ticks, threading, shelf, rendered)
 }
@@ -79,7 +84,9 @@ pub fn render_alone<S: Shelf>(
     ensures reads { S.read_count shelf.old ≤ S.read_count shelf.new }
     ensures writes { S.write_count shelf.old ≤ S.write_count shelf.new }
 {
-    let rendered = render_outputs_alone(alloc, job, shelf)?;
+    let (places, engines) = open_outputs(alloc, job, shelf)?;
+    let (engines, run) = tick_in_rounds(alloc, job, engines);
+    let rendered = close_outputs(alloc, job, shelf, places, engines, run)?;
     leave_wanted(alloc, job, &rendered.cues, shelf)?;
     Ok(rendered)
 }
@@ -109,204 +116,40 @@ pub fn render_again<S: Shelf>(
     ensures reads { S.read_count shelf.old ≤ S.read_count shelf.new }
     ensures writes { S.write_count shelf.old ≤ S.write_count shelf.new }
 {
-    let rendered = render_outputs_again(alloc, job, trace, chunks, shelf)?;
+    let (places, engines) = open_outputs(alloc, job, shelf)?;
+    let (engines, run) = tick_again(alloc, job, trace, chunks, engines);
+    let rendered = close_outputs(alloc, job, shelf, places, engines, run)?;
     leave_wanted(alloc, job, &rendered.cues, shelf)?;
     Ok(rendered)
 }
 
-// The outputs of a rendering by threads: they are created, rendered into, and closed.
-fn render_outputs<S: Shelf, G: Gate + Sync, R: Threads + Wait + Sync>(
-    rt: &R,
+// The last part of a rendering's outputs: takes the sinks of the engines back into their places, closes all in sink order, whatever the
+// run came to, and answers what is told of it.
+fn close_outputs<S: Shelf>(
     alloc: Global,
     job: &Job<'_>,
-    threading: Threading<'_>,
     shelf: &mut S,
-    gate: &G,
+    places: Places<OutputSink<S::Out>>,
+    engines: Vec<ClockEngine<'_, OutputSink<S::Out>>>,
+    run: RunEnd,
 ) -> Result<Rendered, RenderFault>
     requires fit { IsFitting job.now }
-    ensures done { IfOk result (WroteOutputs (station_by job.now threading.entry) (S.files shelf.old) (S.files shelf.new)) }
-    ensures part { ForSome (S.files shelf.old) (λ files. WrotePart (station_by job.now threading.entry)
-        (S.write_count shelf.old) (S.write_count shelf.new) files (S.files shelf.new) (S.created shelf.old) (S.created shelf.new)) }
+    requires may { (way : Way) × (files : Option Files) × MayClose S.Out.name S.Out.held S.Out.room S.Out.appends S.Out.faults files (S.closed shelf.old) job.now way
+        places.order.items (lists_of places.groups.items) engines.items run }
+    ensures done { (way : Way) (trace : Option (List ℕ)) (before : Option Files) → S.files shelf.old ≡ before
+        → MayClose S.Out.name S.Out.held S.Out.room S.Out.appends S.Out.faults before (S.closed shelf.old) job.now way places.order.items (lists_of places.groups.items) engines.entry.items run
+        → IfOk result (WroteOutputs (station_in job.now way trace) before (S.files shelf.new)) }
+    ensures part { (way : Way) (trace : Option (List ℕ)) (before : Option Files) → S.files shelf.old ≡ before
+        → MayClose S.Out.name S.Out.held S.Out.room S.Out.appends S.Out.faults before (S.closed shelf.old) job.now way places.order.items (lists_of places.groups.items) engines.entry.items run
+        → (count : ℕ) → count ≤ S.write_count shelf.old → (made_before : Option (List (List ℕ))) → S.created shelf.old ≡ after_making (names_in job.now.plan.now.sinks) made_before
+        → ForSome before (λ files. WrotePart (station_in job.now way trace) count (S.write_count shelf.new) files (S.files shelf.new) made_before (S.created shelf.new)) }
     ensures cause { IsErrOf result RenderFault.Write → Rose (S.write_count shelf.old) (S.write_count shelf.new) }
-    ensures made { OnOk result (S.created shelf.new ≡ after_making (names_in job.now.plan.now.sinks) (S.created shelf.old)) }
-    ensures closed { OnOk result (HaveClosed (names_in job.now.plan.now.sinks) (S.closed shelf.old) (S.closed shelf.new)) }
-    ensures pieces { OnOk result (HaveAllListed (output_closings (station_by job.now threading.entry)) (S.closed shelf.old) (S.closed shelf.new)) }
-    ensures front { MadeFront (names_in job.now.plan.now.sinks) (S.created shelf.old) (S.created shelf.new) (S.closed shelf.old) (S.closed shelf.new) }
-    ensures reads { S.read_count shelf.old ≤ S.read_count shelf.new }
-    ensures writes { S.write_count shelf.old ≤ S.write_count shelf.new }
+    ensures closed { (before : Option (List Closing)) → S.closed shelf.old ≡ before → HaveClosed (names_in job.now.plan.now.sinks) before (S.closed shelf.new) }
+    ensures pieces { OnOk result ((before : Option (List Closing)) → S.closed shelf.old ≡ before
+        → HaveAllListed (closings_in (setting_by job.now) job.now.ticks job.now.plan.now.sinks) before (S.closed shelf.new)) }
+    ensures shelf { OnlyCloses S.created S.read_count S.write_count shelf.old shelf.new }
 {
-    let mut order = Vec::new(alloc);
-    let mut groups = no_sinks(alloc, job.ready.clocks.running)?;
-    let wrote = write_by_threads(
-        rt,
-        alloc,
-        job,
-        threading,
-        shelf,
-        gate,
-        &mut order,
-        &mut groups,
-    );
-    close_all(shelf, &order, groups, wrote)
-}
-
-// The same on one thread.
-fn render_outputs_alone<S: Shelf>(
-    alloc: Global,
-    job: &Job<'_>,
-    shelf: &mut S,
-) -> Result<Rendered, RenderFault>
-    requires fit { IsFitting job.now }
-    ensures done { IfOk result (WroteOutputs (station_alone job.now) (S.files shelf.old) (S.files shelf.new)) }
-    ensures part { ForSome (S.files shelf.old) (λ files. WrotePart (station_alone job.now)
-        (S.write_count shelf.old) (S.write_count shelf.new) files (S.files shelf.new) (S.created shelf.old) (S.created shelf.new)) }
-    ensures cause { IsErrOf result RenderFault.Write → Rose (S.write_count shelf.old) (S.write_count shelf.new) }
-    ensures made { OnOk result (S.created shelf.new ≡ after_making (names_in job.now.plan.now.sinks) (S.created shelf.old)) }
-    ensures closed { OnOk result (HaveClosed (names_in job.now.plan.now.sinks) (S.closed shelf.old) (S.closed shelf.new)) }
-    ensures pieces { OnOk result (HaveAllListed (output_closings (station_alone job.now)) (S.closed shelf.old) (S.closed shelf.new)) }
-    ensures front { MadeFront (names_in job.now.plan.now.sinks) (S.created shelf.old) (S.created shelf.new) (S.closed shelf.old) (S.closed shelf.new) }
-    ensures reads { S.read_count shelf.old ≤ S.read_count shelf.new }
-    ensures writes { S.write_count shelf.old ≤ S.write_count shelf.new }
-{
-    let mut order = Vec::new(alloc);
-    let mut groups = no_sinks(alloc, job.ready.clocks.running)?;
-    let wrote = write_alone(alloc, job, shelf, &mut order, &mut groups);
-    close_all(shelf, &order, groups, wrote)
-}
-
-// The same again, as a trace tells.
-fn render_outputs_again<S: Shelf>(
-    alloc: Global,
-    job: &Job<'_>,
-    trace: &Trace,
-    chunks: RecordChunks,
-    shelf: &mut S,
-) -> Result<Rendered, RenderFault>
-    requires fit { IsFitting job.now }
-    requires trace { IsTrace trace.now }
-    requires accepted { IsAccepted (setting_by job.now) job.now.ready.now.clocks.running job.now.ticks trace.now }
-    requires chunks { AreAllChunks (setting_by job.now) job.now.ready.now.clocks trace.now chunks }
-    ensures done { IfOk result (WroteOutputs (station_again job.now trace.now) (S.files shelf.old) (S.files shelf.new)) }
-    ensures part { ForSome (S.files shelf.old) (λ files. WrotePart (station_again job.now trace.now)
-        (S.write_count shelf.old) (S.write_count shelf.new) files (S.files shelf.new) (S.created shelf.old) (S.created shelf.new)) }
-    ensures cause { IsErrOf result RenderFault.Write → Rose (S.write_count shelf.old) (S.write_count shelf.new) }
-    ensures made { OnOk result (S.created shelf.new ≡ after_making (names_in job.now.plan.now.sinks) (S.created shelf.old)) }
-    ensures closed { OnOk result (HaveClosed (names_in job.now.plan.now.sinks) (S.closed shelf.old) (S.closed shelf.new)) }
-    ensures pieces { OnOk result (HaveAllListed (output_closings (station_again job.now trace.now)) (S.closed shelf.old) (S.closed shelf.new)) }
-    ensures front { MadeFront (names_in job.now.plan.now.sinks) (S.created shelf.old) (S.created shelf.new) (S.closed shelf.old) (S.closed shelf.new) }
-    ensures reads { S.read_count shelf.old ≤ S.read_count shelf.new }
-    ensures writes { S.write_count shelf.old ≤ S.write_count shelf.new }
-{
-    let mut order = Vec::new(alloc);
-    let mut groups = no_sinks(alloc, job.ready.clocks.running)?;
-    let wrote = write_again(alloc, job, trace, chunks, shelf, &mut order, &mut groups);
-    close_all(shelf, &order, groups, wrote)
-}
-
-// Creates the outputs and renders into them by threads. `order` and `groups` get the clock of each sink that is created,
-// and the sinks of each clock.
-fn write_by_threads<S: Shelf, G: Gate + Sync, R: Threads + Wait + Sync>(
-    rt: &R,
-    alloc: Global,
-    job: &Job<'_>,
-    threading: Threading<'_>,
-    shelf: &mut S,
-    gate: &G,
-    order: &mut Vec<u32>,
-    groups: &mut Vec<Vec<OutputSink<S::Out>>>,
-) -> Result<Rendered, RenderFault>
-    requires fit { IsFitting job.now }
-    requires none { order.old.items ≡ [] }
-    requires empty { AreEmpty job.now.ready.now.clocks.running (lists_of groups.old.items) }
-    ensures done { IfOk result (RanWhole (told S.Out.name) (told S.Out.held) (owed S.Out.room) (S.files shelf.old) (station_by job.now threading.entry) order.new.items (lists_of groups.new.items)) }
-    ensures part { RanPart (told S.Out.name) (told S.Out.held) (told S.Out.faults) (S.files shelf.old) (station_by job.now threading.entry) order.new.items (lists_of groups.new.items) (S.created shelf.old) (S.created shelf.new) }
-    ensures cause { IsErrOf result RenderFault.Write → Rose (S.write_count shelf.old) (S.write_count shelf.new) ⊎ HasFailed (told S.Out.faults) (lists_of groups.new.items) }
-    ensures files { S.files shelf.new ≡ S.files shelf.old }
-    ensures made { OnOk result (S.created shelf.new ≡ after_making (names_in job.now.plan.now.sinks) (S.created shelf.old)) }
-    ensures counted { OnOk result (AreCounted (told S.Out.name) (told S.Out.appends) (S.closed shelf.old) (1 + job.now.ticks) (names_in job.now.plan.now.sinks) order.new.items (lists_of groups.new.items)) }
-    ensures front { CreatedFront (told S.Out.name) (told S.Out.appends) (S.closed shelf.old) (names_in job.now.plan.now.sinks) (S.created shelf.old) (S.created shelf.new) order.new.items (lists_of groups.new.items) }
-    ensures closed { S.closed shelf.new ≡ S.closed shelf.old }
-    ensures reads { S.read_count shelf.old ≤ S.read_count shelf.new }
-    ensures writes { S.write_count shelf.old ≤ S.write_count shelf.new }
-{
-    let engines = open_all(alloc, job, shelf, order, groups)?;
-    let (engines, run) = run_threads(
-        rt,
-        alloc,
-        job.plan,
-        &job.ready.clocks,
-        engines,
-        job.ticks,
-        threading.window,
-        gate,
-    );
-    take_back(alloc, job, engines, run, groups)
-}
-
-// The same on one thread, in rounds.
-fn write_alone<S: Shelf>(
-    alloc: Global,
-    job: &Job<'_>,
-    shelf: &mut S,
-    order: &mut Vec<u32>,
-    groups: &mut Vec<Vec<OutputSink<S::Out>>>,
-) -> Result<Rendered, RenderFault>
-    requires fit { IsFitting job.now }
-    requires none { order.old.items ≡ [] }
-    requires empty { AreEmpty job.now.ready.now.clocks.running (lists_of groups.old.items) }
-    ensures done { IfOk result (RanWhole (told S.Out.name) (told S.Out.held) (owed S.Out.room) (S.files shelf.old) (station_alone job.now) order.new.items (lists_of groups.new.items)) }
-    ensures part { RanPart (told S.Out.name) (told S.Out.held) (told S.Out.faults) (S.files shelf.old) (station_alone job.now) order.new.items (lists_of groups.new.items) (S.created shelf.old) (S.created shelf.new) }
-    ensures cause { IsErrOf result RenderFault.Write → Rose (S.write_count shelf.old) (S.write_count shelf.new) ⊎ HasFailed (told S.Out.faults) (lists_of groups.new.items) }
-    ensures files { S.files shelf.new ≡ S.files shelf.old }
-    ensures made { OnOk result (S.created shelf.new ≡ after_making (names_in job.now.plan.now.sinks) (S.created shelf.old)) }
-    ensures counted { OnOk result (AreCounted (told S.Out.name) (told S.Out.appends) (S.closed shelf.old) (1 + job.now.ticks) (names_in job.now.plan.now.sinks) order.new.items (lists_of groups.new.items)) }
-    ensures front { CreatedFront (told S.Out.name) (told S.Out.appends) (S.closed shelf.old) (names_in job.now.plan.now.sinks) (S.created shelf.old) (S.created shelf.new) order.new.items (lists_of groups.new.items) }
-    ensures closed { S.closed shelf.new ≡ S.closed shelf.old }
-    ensures reads { S.read_count shelf.old ≤ S.read_count shelf.new }
-    ensures writes { S.write_count shelf.old ≤ S.write_count shelf.new }
-{
-    let mut engines = open_all(alloc, job, shelf, order, groups)?;
-    let run = run_rounds(alloc, job.plan, &mut engines, job.ticks);
-    take_back(alloc, job, engines, run, groups)
-}
-
-// The same again, as a trace tells.
-fn write_again<S: Shelf>(
-    alloc: Global,
-    job: &Job<'_>,
-    trace: &Trace,
-    chunks: RecordChunks,
-    shelf: &mut S,
-    order: &mut Vec<u32>,
-    groups: &mut Vec<Vec<OutputSink<S::Out>>>,
-) -> Result<Rendered, RenderFault>
-    requires fit { IsFitting job.now }
-    requires trace { IsTrace trace.now }
-    requires accepted { IsAccepted (setting_by job.now) job.now.ready.now.clocks.running job.now.ticks trace.now }
-    requires chunks { AreAllChunks (setting_by job.now) job.now.ready.now.clocks trace.now chunks }
-    requires none { order.old.items ≡ [] }
-    requires empty { AreEmpty job.now.ready.now.clocks.running (lists_of groups.old.items) }
-    ensures done { IfOk result (RanWhole (told S.Out.name) (told S.Out.held) (owed S.Out.room) (S.files shelf.old) (station_again job.now trace.now) order.new.items (lists_of groups.new.items)) }
-    ensures part { RanPart (told S.Out.name) (told S.Out.held) (told S.Out.faults) (S.files shelf.old) (station_again job.now trace.now) order.new.items (lists_of groups.new.items) (S.created shelf.old) (S.created shelf.new) }
-    ensures cause { IsErrOf result RenderFault.Write → Rose (S.write_count shelf.old) (S.write_count shelf.new) ⊎ HasFailed (told S.Out.faults) (lists_of groups.new.items) }
-    ensures files { S.files shelf.new ≡ S.files shelf.old }
-    ensures made { OnOk result (S.created shelf.new ≡ after_making (names_in job.now.plan.now.sinks) (S.created shelf.old)) }
-    ensures counted { OnOk result (AreCounted (told S.Out.name) (told S.Out.appends) (S.closed shelf.old) (1 + job.now.ticks) (names_in job.now.plan.now.sinks) order.new.items (lists_of groups.new.items)) }
-    ensures front { CreatedFront (told S.Out.name) (told S.Out.appends) (S.closed shelf.old) (names_in job.now.plan.now.sinks) (S.created shelf.old) (S.created shelf.new) order.new.items (lists_of groups.new.items) }
-    ensures closed { S.closed shelf.new ≡ S.closed shelf.old }
-    ensures reads { S.read_count shelf.old ≤ S.read_count shelf.new }
-    ensures writes { S.write_count shelf.old ≤ S.write_count shelf.new }
-{
-    let mut engines = open_all(alloc, job, shelf, order, groups)?;
-    let run = replay(
-        alloc,
-        job.plan,
-        &job.ready.clocks,
-        &job.ready.library,
-        job.start,
-        &mut engines,
-        trace,
-        chunks,
-    );
-    take_back(alloc, job, engines, run, groups)
+    let Places { order, mut groups } = places;
+    let told = take_back(alloc, job, engines, run, &mut groups);
+    close_all(shelf, &order, groups, told)
 }

@@ -1,12 +1,10 @@
 // The trace of a rendering.
-ghost use Rattle.std.specs.Prelude.{◌≡◌, ◌≤◌, ◌∷◌, [], Some, IfOk, IsErrOf, IsSomeAnd, OnOk};
-ghost use Rattle.std.specs.Option.{ForSome};
+ghost use Rattle.std.specs.Prelude.{◌≡◌, ◌∷◌, [], IfOk, IsErrOf, OnOk};
 ghost use Rattle.liq_base.specs.Counts.{Rose};
-ghost use Rattle.liq_base.specs.Files.{HoldsPart, with_file};
 ghost use Rattle.trace_log.specs.Texts.{IsTrace, trace_text};
-ghost use Rattle.stations.specs.Creations.{HaveClosed, MadeFront, after_making, trace_name};
-ghost use Rattle.stations.specs.Outputs.{HoldsUpto, with_outputs};
+ghost use Rattle.stations.specs.Creations.{trace_name};
 ghost use Rattle.stations.specs.Traces.{traced};
+ghost use Rattle.station_render.specs.Shelves.{WroteFiles, WroteUpto, one_file};
 ghost use Rattle.station_render.specs.Runs.{name_in};
 
 use crate::files::write_file;
@@ -27,17 +25,12 @@ pub(crate) fn leave_trace<S: Shelf>(
     ensures gaps { IfOk result (λ told. told.gaps.items ≡ rendered.gaps.items) }
     ensures counts { IfOk result (λ told. told.counts.items ≡ rendered.counts.items) }
     ensures logs { IfOk result (λ told. told.logs.items ≡ rendered.logs.items) }
-    ensures written { OnOk result (ForSome (S.files shelf.old) (λ files. S.files shelf.new
-        ≡ Some (with_outputs files (traced (name_in threading.entry) (record { ticks = ticks; window = threading.entry.window; buffers = rendered.logs.items }))))) }
     ensures cues { IfOk result (λ told. told.cues.items ≡ rendered.cues.items) }
-    ensures part { ForSome (S.files shelf.old) (λ files. IsSomeAnd (S.files shelf.new)
-        (HoldsUpto files (traced (name_in threading.entry) (record { ticks = ticks; window = threading.entry.window; buffers = rendered.logs.items })))) }
+    ensures all { OnOk result (WroteFiles S.files S.created S.closed shelf.old shelf.new (trace_name (name_in threading.entry))
+        (traced (name_in threading.entry) (record { ticks = ticks; window = threading.entry.window; buffers = rendered.logs.items }))) }
+    ensures some { WroteUpto S.files S.created S.closed S.read_count S.write_count shelf.old shelf.new (trace_name (name_in threading.entry))
+        (traced (name_in threading.entry) (record { ticks = ticks; window = threading.entry.window; buffers = rendered.logs.items })) }
     ensures cause { IsErrOf result RenderFault.Write → Rose (S.write_count shelf.old) (S.write_count shelf.new) }
-    ensures made { OnOk result (S.created shelf.new ≡ after_making (trace_name (name_in threading.entry)) (S.created shelf.old)) }
-    ensures closed { OnOk result (HaveClosed (trace_name (name_in threading.entry)) (S.closed shelf.old) (S.closed shelf.new)) }
-    ensures front { MadeFront (trace_name (name_in threading.entry)) (S.created shelf.old) (S.created shelf.new) (S.closed shelf.old) (S.closed shelf.new) }
-    ensures reads { S.read_count shelf.old ≤ S.read_count shelf.new }
-    ensures writes { S.write_count shelf.old ≤ S.write_count shelf.new }
 {
     let Some(name) = threading.trace else {
         return Ok(rendered);
@@ -73,14 +66,9 @@ fn write_trace<S: Shelf>(
     trace: &Trace,
 ) -> Result<(), RenderFault>
     requires { IsTrace trace.now }
-    ensures written { OnOk result (ForSome (S.files shelf.old) (λ files. S.files shelf.new ≡ Some (with_file files name.now (trace_text trace.now)))) }
-    ensures part { ForSome (S.files shelf.old) (λ files. IsSomeAnd (S.files shelf.new) (HoldsPart files name.now (trace_text trace.now))) }
+    ensures all { OnOk result (WroteFiles S.files S.created S.closed shelf.old shelf.new (name.now ∷ []) (one_file name.now (trace_text trace.now))) }
+    ensures some { WroteUpto S.files S.created S.closed S.read_count S.write_count shelf.old shelf.new (name.now ∷ []) (one_file name.now (trace_text trace.now)) }
     ensures cause { IsErrOf result RenderFault.Write → Rose (S.write_count shelf.old) (S.write_count shelf.new) }
-    ensures made { OnOk result (S.created shelf.new ≡ after_making (name.now ∷ []) (S.created shelf.old)) }
-    ensures closed { OnOk result (HaveClosed (name.now ∷ []) (S.closed shelf.old) (S.closed shelf.new)) }
-    ensures front { MadeFront (name.now ∷ []) (S.created shelf.old) (S.created shelf.new) (S.closed shelf.old) (S.closed shelf.new) }
-    ensures reads { S.read_count shelf.old ≤ S.read_count shelf.new }
-    ensures writes { S.write_count shelf.old ≤ S.write_count shelf.new }
 {
     let mut text = Vec::new(alloc);
     print(trace, &mut text)?;

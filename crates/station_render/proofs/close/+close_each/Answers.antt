@@ -72,21 +72,21 @@ returns-clause-whole g t c =
 
 pub returns-in_err-ended-clause-cause : goal.returns-in_err-ended-clause-cause
 returns-in_err-ended-clause-cause g t c =
-    on_err_so _ _ (rose_within _ _ _ _ (omega arith) c.close_each-others.ensures.writes (c.close-first.ensures.failed_sink c.in_err-ended.ensures.cause))
+    on_err_so _ _ (rose_within _ _ _ _ (omega arith) c.close_each-others.ensures.shelf.writes_grew (c.close-first.ensures.failed_sink c.in_err-ended.ensures.cause))
 
 pub returns-in_err-ended-clause-failed : goal.returns-in_err-ended-clause-failed
 returns-in_err-ended-clause-failed g t c = λ failed.
-    rose_within _ _ _ _ (omega arith) c.close_each-others.ensures.writes (c.close-first.ensures.failed_sink c.in_err-ended.ensures.cause)
+    rose_within _ _ _ _ (omega arith) c.close_each-others.ensures.shelf.writes_grew (c.close-first.ensures.failed_sink c.in_err-ended.ensures.cause)
 
 pub returns-in_err-first-clause-failed : goal.returns-in_err-first-clause-failed
 returns-in_err-first-clause-failed g t c = λ failed.
-    rose_within _ _ _ _ (omega arith) c.close_each-others.ensures.writes c.in_err-first.ensures.cause
+    rose_within _ _ _ _ (omega arith) c.close_each-others.ensures.shelf.writes_grew c.in_err-first.ensures.cause
 
 pub returns-clause-failed : goal.returns-clause-failed
 returns-clause-failed g t c =
     let split : c.args.order.now ≡ c.in-Some.clock.now ∷ c.in-Some.rest.now = search rules in
     λ failed. elim (failed_left c.args.order.now c.in-Some.rest.now c.in-Some.clock.now split (lists_of c.args.groups.items) (lists_of c.take_first-output.new.groups.items) c.take_first-output.result c.take_first-output.ensures (told g.S.Out.Sink.faults) failed) [
-      | inl this ↦ rose_within _ _ _ _ (omega arith) c.close_each-others.ensures.writes
+      | inl this ↦ rose_within _ _ _ _ (omega arith) c.close_each-others.ensures.shelf.writes_grew
           (c.close-first.ensures.failed_sink (let fewer = c.end_if-ended.ensures.faults in let more : 0 < told g.S.Out.Sink.faults c.take_first-output.result = this in omega (arith, fewer, more)))
       | inr other ↦ rose_within _ _ _ _ c.close-first.ensures.writes (omega arith) (c.close_each-others.ensures.failed other)
     ]

@@ -14,15 +14,15 @@ close_each-closed-requires-clause-rooms g c = λ κs lives well.
 
 pub returns-in_err-rendered-clause-part : goal.returns-in_err-rendered-clause-part
 returns-in_err-rendered-clause-part g c = λ station before count made_before same low part whole.
-    part_written station g.S.Out.Sink.name g.S.Out.Sink.held g.S.Out.Sink.room before _ _ same c.args.order.now (lists_of c.args.groups.items) g.S.Out.Sink.faults count _ _ low made_before _ _ c.close_each-closed.ensures.created c.args.wrote c.is_ok.result c.is_ok.ensures.value part whole c.close_each-closed.ensures.part
+    part_written station g.S.Out.Sink.name g.S.Out.Sink.held g.S.Out.Sink.room before _ _ same c.args.order.now (lists_of c.args.groups.items) g.S.Out.Sink.faults count _ _ low made_before _ _ c.close_each-closed.ensures.shelf.created_kept c.args.wrote c.is_ok.result c.is_ok.ensures.value part whole c.close_each-closed.ensures.part
 
 pub returns-in_err-closed-clause-part : goal.returns-in_err-closed-clause-part
 returns-in_err-closed-clause-part g c = λ station before count made_before same low part whole.
-    part_written station g.S.Out.Sink.name g.S.Out.Sink.held g.S.Out.Sink.room before _ _ same c.args.order.now (lists_of c.args.groups.items) g.S.Out.Sink.faults count _ _ low made_before _ _ c.close_each-closed.ensures.created c.args.wrote c.is_ok.result c.is_ok.ensures.value part whole c.close_each-closed.ensures.part
+    part_written station g.S.Out.Sink.name g.S.Out.Sink.held g.S.Out.Sink.room before _ _ same c.args.order.now (lists_of c.args.groups.items) g.S.Out.Sink.faults count _ _ low made_before _ _ c.close_each-closed.ensures.shelf.created_kept c.args.wrote c.is_ok.result c.is_ok.ensures.value part whole c.close_each-closed.ensures.part
 
 pub returns-clause-part : goal.returns-clause-part
 returns-clause-part g c = λ station before count made_before same low part whole.
-    part_written station g.S.Out.Sink.name g.S.Out.Sink.held g.S.Out.Sink.room before _ _ same c.args.order.now (lists_of c.args.groups.items) g.S.Out.Sink.faults count _ _ low made_before _ _ c.close_each-closed.ensures.created c.args.wrote c.is_ok.result c.is_ok.ensures.value part whole c.close_each-closed.ensures.part
+    part_written station g.S.Out.Sink.name g.S.Out.Sink.held g.S.Out.Sink.room before _ _ same c.args.order.now (lists_of c.args.groups.items) g.S.Out.Sink.faults count _ _ low made_before _ _ c.close_each-closed.ensures.shelf.created_kept c.args.wrote c.is_ok.result c.is_ok.ensures.value part whole c.close_each-closed.ensures.part
 
 pub returns-clause-done : goal.returns-clause-done
 returns-clause-done g c = λ station before same whole.

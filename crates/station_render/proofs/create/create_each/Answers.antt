@@ -95,15 +95,15 @@ loop-sink-preserved g c =
           c.opening_of-opening.result.clock c.loop-sink.order.items c.create_one.new.order.items (c.loop-sink.invariant.order library start) made.order_is c.opening_of-opening.ensures.clock
           ∙ ap (order_of (setting_for c.args.plan.now library c.args.clocks.now start)) (sym (written_next c.args.plan.now.sinks c.loop-sink.sink-index c.in-Output.name c.in-Output.node c.in-Output.fallible c.in-Output.wide at));
       size = added_many c.opening_of-opening.result.clock made.sink (lists_of c.loop-sink.groups.items) (lists_of c.create_one.new.groups.items) made.added ∙ c.loop-sink.invariant.size;
-      files = c.create_one.ensures.files ∙ c.loop-sink.invariant.files;
+      files = c.create_one.ensures.shelf.files_kept ∙ c.loop-sink.invariant.files;
       made = made_next c.args.plan.now.sinks c.loop-sink.sink-index _ _ c.loop-sink.invariant.made c.in-Output.name c.as_str.result.now c.in-Output.node c.in-Output.fallible c.in-Output.wide at c.as_str.ensures.same _
           listed.told;
       counted = counted_of (told g.S.Out.Sink.name) (told g.S.Out.Sink.appends) (g.S.Shelf.closed c.args.shelf.now) 1 _ _ _ _ (names_next c.args.plan.now.sinks c.loop-sink.sink-index c.in-Output.name c.in-Output.node c.in-Output.fallible c.in-Output.wide at)
           (counted_more (told g.S.Out.Sink.name) (told g.S.Out.Sink.appends) (g.S.Shelf.closed c.args.shelf.now) (names_in (take c.loop-sink.sink-index c.args.plan.now.sinks)) c.opening_of-opening.result.clock c.in-Output.name c.as_str.result.now
           _ _ _ _ _ _ below c.as_str.ensures.same c.loop-sink.invariant.counted listed);
-      closed = c.create_one.ensures.closed ∙ c.loop-sink.invariant.closed;
-      reads = omega (arith, c.create_one.ensures.reads, c.loop-sink.invariant.reads);
-      writes = omega (arith, c.create_one.ensures.writes, c.loop-sink.invariant.writes);
+      closed = c.create_one.ensures.shelf.closed_kept ∙ c.loop-sink.invariant.closed;
+      reads = omega (arith, c.create_one.ensures.shelf.reads_grew, c.loop-sink.invariant.reads);
+      writes = omega (arith, c.create_one.ensures.shelf.writes_grew, c.loop-sink.invariant.writes);
     }
 
 pub returns-clause-ready : goal.returns-clause-ready

@@ -2,9 +2,12 @@ use Rattle.std.proofs.Common.{rules, arith, List, ◌≡◌, ◌<◌, ◌≤◌,
 use Rattle.std.specs.Prelude.{Some}
 use Rattle.plan_core.specs.declared.sink.SinkPlan.{SinkPlan}
 use Rattle.plan_core.specs.declared.sink.SinkPlan.TheVariants.{Output, Feed}
+use Rattle.stations.specs.Creations.{HaveClosed, after_making}
+use Rattle.stations.specs.Cues.{cue_names_in}
+use Rattle.stations.proofs.Making.{all_made}
 use Rattle.station_render.specs.Marks.{cues_of}
 use Rattle.station_render.proofs.Lists.{got}
-use Rattle.station_render.proofs.Creating.{written_still}
+use Rattle.station_render.proofs.Creating.{take_whole, written_still}
 use Rattle.station_render.proofs.CueFiles.{closed_next, closed_still, cues_front, cues_next, cues_still, files_next, files_part, files_still, files_upto, files_whole, marks_at, named_as, part_named_as}
 use Rattle.station_render.proofs.Reporting.{one_place, place_below}
 use Rattle.station_render.proofs.cues.leave_cues.Goals as goal
@@ -53,8 +56,8 @@ overflow_add-place g c =
     let inside : c.loop-sink.place < length c.args.marks.now = omega (arith, below, c.loop-sink.invariant.place, c.requires.many) in
     search (rules, arith)
 
-pub returns-in_err-leave_one-clause-part : goal.returns-in_err-leave_one-clause-part
-returns-in_err-leave_one-clause-part g c =
+pub returns-in_err-leave_one-clause-some : goal.returns-in_err-leave_one-clause-some
+returns-in_err-leave_one-clause-some g c =
     let low : c.loop-sink.sink-index < length c.args.plan.now.sinks = subst (λ (xs : List SinkPlan). c.loop-sink.sink-index < length xs) c.as_slice-sink-items.ensures c.loop-sink-test.true in
     let item : c.sink-item.result ≡ slice_index_or c.args.plan.now.sinks c.loop-sink.sink-index c.sink-item.result = c.sink-item.is ∙ ap (λ (xs : List SinkPlan). slice_index_or xs c.loop-sink.sink-index c.sink-item.result) c.as_slice-sink-items.ensures in
     let at : slice_get c.args.plan.now.sinks c.loop-sink.sink-index ≡ Some (Output c.in-Output.name c.in-Output.node c.in-Output.fallible c.in-Output.wide) =
@@ -62,16 +65,14 @@ returns-in_err-leave_one-clause-part g c =
     let below = place_below c.args.plan.now.sinks c.loop-sink.sink-index c.in-Output.name c.in-Output.node c.in-Output.fallible c.in-Output.wide at in
     let inside : c.loop-sink.place < length c.args.marks.now = omega (arith, below, c.loop-sink.invariant.place, c.requires.many) in
     let there = marks_at c.args.marks.now c.loop-sink.place _ c.loop-sink.invariant.place c.index-marks-place.result inside c.index-marks-place.is _ c.deref.ensures.value in
-    files_part c.args.library.now c.args.plan.now.sinks (cues_of c.args.marks.now) c.loop-sink.sink-index _ _ c.loop-sink.invariant.files c.in-Output.name c.in-Output.node c.in-Output.fallible c.in-Output.wide at _ there _
-    (part_named_as c.args.library.now c.as_str.result.now c.in-Output.name c.as_str.ensures.same _ _ _ c.leave_one.ensures.part)
-
-pub returns-in_err-leave_one-clause-front : goal.returns-in_err-leave_one-clause-front
-returns-in_err-leave_one-clause-front g c =
-    let low : c.loop-sink.sink-index < length c.args.plan.now.sinks = subst (λ (xs : List SinkPlan). c.loop-sink.sink-index < length xs) c.as_slice-sink-items.ensures c.loop-sink-test.true in
-    let item : c.sink-item.result ≡ slice_index_or c.args.plan.now.sinks c.loop-sink.sink-index c.sink-item.result = c.sink-item.is ∙ ap (λ (xs : List SinkPlan). slice_index_or xs c.loop-sink.sink-index c.sink-item.result) c.as_slice-sink-items.ensures in
-    let at : slice_get c.args.plan.now.sinks c.loop-sink.sink-index ≡ Some (Output c.in-Output.name c.in-Output.node c.in-Output.fallible c.in-Output.wide) =
-    got c.args.plan.now.sinks c.loop-sink.sink-index c.sink-item.result low ∙ ap Some (sym item ∙ c.in-Output.is) in
-    cues_front c.args.plan.now.sinks c.loop-sink.sink-index _ _ c.loop-sink.invariant.made c.in-Output.name c.as_str.result.now c.in-Output.node c.in-Output.fallible c.in-Output.wide at c.as_str.ensures.same _ _ _ _ c.loop-sink.invariant.closed c.leave_one.ensures.front
+    record {
+      part = files_part c.args.library.now c.args.plan.now.sinks (cues_of c.args.marks.now) c.loop-sink.sink-index _ _ c.loop-sink.invariant.files c.in-Output.name c.in-Output.node c.in-Output.fallible c.in-Output.wide at _ there _
+          (part_named_as c.args.library.now c.as_str.result.now c.in-Output.name c.as_str.ensures.same _ _ _ c.leave_one.ensures.some.part);
+      front = cues_front c.args.plan.now.sinks c.loop-sink.sink-index _ _ c.loop-sink.invariant.made c.in-Output.name c.as_str.result.now c.in-Output.node c.in-Output.fallible c.in-Output.wide at c.as_str.ensures.same _ _ _ _
+          c.loop-sink.invariant.closed c.leave_one.ensures.some.front;
+      reads_grew = omega (arith, c.leave_one.ensures.some.reads_grew, c.loop-sink.invariant.reads);
+      writes_grew = omega (arith, c.leave_one.ensures.some.writes_grew, c.loop-sink.invariant.writes);
+    }
 
 pub loop-sink-preserved : goal.loop-sink-preserved
 loop-sink-preserved g c =
@@ -85,19 +86,31 @@ loop-sink-preserved g c =
     record {
       place = ap (λ n. n + 1) c.loop-sink.invariant.place ∙ sym (one_place c.args.plan.now.sinks c.loop-sink.sink-index c.in-Output.name c.in-Output.node c.in-Output.fallible c.in-Output.wide at);
       files = files_next c.args.library.now c.args.plan.now.sinks (cues_of c.args.marks.now) c.loop-sink.sink-index _ _ c.loop-sink.invariant.files c.in-Output.name c.in-Output.node c.in-Output.fallible c.in-Output.wide at _ there _
-          (named_as c.args.library.now c.as_str.result.now c.in-Output.name c.as_str.ensures.same _ _ _ c.in_ok-leave_one.ensures.written);
-      made = cues_next c.args.plan.now.sinks c.loop-sink.sink-index _ _ c.loop-sink.invariant.made c.in-Output.name c.as_str.result.now c.in-Output.node c.in-Output.fallible c.in-Output.wide at c.as_str.ensures.same _ c.in_ok-leave_one.ensures.made;
-      closed = closed_next c.args.plan.now.sinks c.loop-sink.sink-index _ _ c.loop-sink.invariant.closed c.in-Output.name c.as_str.result.now c.in-Output.node c.in-Output.fallible c.in-Output.wide at c.as_str.ensures.same _ c.in_ok-leave_one.ensures.closed;
-      reads = omega (arith, c.leave_one.ensures.reads, c.loop-sink.invariant.reads);
-      writes = omega (arith, c.leave_one.ensures.writes, c.loop-sink.invariant.writes);
+          (named_as c.args.library.now c.as_str.result.now c.in-Output.name c.as_str.ensures.same _ _ _ c.in_ok-leave_one.ensures.all.written);
+      made = cues_next c.args.plan.now.sinks c.loop-sink.sink-index _ _ c.loop-sink.invariant.made c.in-Output.name c.as_str.result.now c.in-Output.node c.in-Output.fallible c.in-Output.wide at c.as_str.ensures.same _ c.in_ok-leave_one.ensures.all.made;
+      closed = closed_next c.args.plan.now.sinks c.loop-sink.sink-index _ _ c.loop-sink.invariant.closed c.in-Output.name c.as_str.result.now c.in-Output.node c.in-Output.fallible c.in-Output.wide at c.as_str.ensures.same _ c.in_ok-leave_one.ensures.all.closes;
+      reads = omega (arith, c.leave_one.ensures.some.reads_grew, c.loop-sink.invariant.reads);
+      writes = omega (arith, c.leave_one.ensures.some.writes_grew, c.loop-sink.invariant.writes);
     }
 
-pub returns-clause-written : goal.returns-clause-written
-returns-clause-written g c =
+pub returns-clause-all : goal.returns-clause-all
+returns-clause-all g c =
     let all : length c.args.plan.now.sinks ≤ c.loop-sink.sink-index = subst (λ (xs : List SinkPlan). length xs ≤ c.loop-sink.sink-index) c.as_slice-sink-items.ensures c.loop-sink-test.false in
-    files_whole c.args.library.now c.args.plan.now.sinks (cues_of c.args.marks.now) c.loop-sink.sink-index _ _ c.loop-sink.invariant.files all
+    let sinks = take_whole c.args.plan.now.sinks c.loop-sink.sink-index all in
+    record {
+      written = files_whole c.args.library.now c.args.plan.now.sinks (cues_of c.args.marks.now) c.loop-sink.sink-index _ _ c.loop-sink.invariant.files all;
+      made = c.loop-sink.invariant.made ∙ ap (λ xs. after_making (cue_names_in xs) (g.S.Shelf.created c.args.shelf.now)) sinks;
+      closes = subst (λ xs. HaveClosed (cue_names_in xs) (g.S.Shelf.closed c.args.shelf.now) (g.S.Shelf.closed c.loop-sink.shelf)) sinks c.loop-sink.invariant.closed;
+    }
 
-pub returns-clause-part : goal.returns-clause-part
-returns-clause-part g c =
+pub returns-clause-some : goal.returns-clause-some
+returns-clause-some g c =
     let all : length c.args.plan.now.sinks ≤ c.loop-sink.sink-index = subst (λ (xs : List SinkPlan). length xs ≤ c.loop-sink.sink-index) c.as_slice-sink-items.ensures c.loop-sink-test.false in
-    files_upto c.args.library.now c.args.plan.now.sinks (cues_of c.args.marks.now) c.loop-sink.sink-index _ _ c.loop-sink.invariant.files all
+    let sinks = take_whole c.args.plan.now.sinks c.loop-sink.sink-index all in
+    record {
+      part = files_upto c.args.library.now c.args.plan.now.sinks (cues_of c.args.marks.now) c.loop-sink.sink-index _ _ c.loop-sink.invariant.files all;
+      front = all_made (cue_names_in c.args.plan.now.sinks) _ _ _ _ (c.loop-sink.invariant.made ∙ ap (λ xs. after_making (cue_names_in xs) (g.S.Shelf.created c.args.shelf.now)) sinks)
+          (subst (λ xs. HaveClosed (cue_names_in xs) (g.S.Shelf.closed c.args.shelf.now) (g.S.Shelf.closed c.loop-sink.shelf)) sinks c.loop-sink.invariant.closed);
+      reads_grew = c.loop-sink.invariant.reads;
+      writes_grew = c.loop-sink.invariant.writes;
+    }

@@ -1,50 +1,36 @@
-use Rattle.std.proofs.Common.{List, ℕ, ap, refl}
+use Rattle.std.proofs.Common.{◌≡◌, List, ℕ, ap, subst, sym}
 use Rattle.std.specs.Borrow.{Bor}
-use Rattle.std.specs.Prelude.{option_map}
+use Rattle.std.specs.Prelude.{None, Some, option_map}
+use Rattle.stations.specs.Creations.{trace_name}
+use Rattle.stations.specs.Traces.{traced}
+use Rattle.station_render.specs.Shelves.{WroteFiles, WroteUpto}
 use Rattle.station_render.specs.Runs.{name_in}
-use Rattle.station_render.proofs.Leaving.{left_so, none_so, part_none, wrote_so}
-use Rattle.stations.proofs.Making.{none_made}
-use Rattle.station_render.proofs.Naming.{no_trace_closed, no_trace_made, trace_closed, trace_front, trace_made}
+use Rattle.station_render.proofs.Filing.{none_wanted, none_yet}
 use Rattle.station_render.proofs.traces.leave_trace.Goals as goal
 
-pub returns-in_default-clause-written : goal.returns-in_default-clause-written
-returns-in_default-clause-written g c =
-    none_so (name_in c.args.threading) _ _ (ap (option_map (λ (name : Bor (List ℕ)). name.now)) c.in_default.is)
+pub returns-in_default-clause-all : goal.returns-in_default-clause-all
+returns-in_default-clause-all g c =
+    let is : name_in c.args.threading ≡ None = ap (option_map (λ (name : Bor (List ℕ)). name.now)) c.in_default.is in
+    subst (λ name. WroteFiles g.S.Shelf.files g.S.Shelf.created g.S.Shelf.closed c.args.shelf.now c.args.shelf.now (trace_name name)
+    (traced name (record { ticks = c.args.ticks; window = c.args.threading.window; buffers = c.args.rendered.logs.items }))) (sym is) (none_wanted g.S.Shelf.files g.S.Shelf.created g.S.Shelf.closed c.args.shelf.now)
 
-pub returns-in_default-clause-part : goal.returns-in_default-clause-part
-returns-in_default-clause-part g c = part_none _ _
+pub returns-in_default-clause-some : goal.returns-in_default-clause-some
+returns-in_default-clause-some g c = none_yet g.S.Shelf.files g.S.Shelf.created g.S.Shelf.closed c.args.shelf.now g.S.Shelf.read_count g.S.Shelf.write_count _ _
 
-pub returns-clause-written : goal.returns-clause-written
-returns-clause-written g c =
-    wrote_so (name_in c.args.threading) _ _ (ap (option_map (λ (name : Bor (List ℕ)). name.now)) c.in-Some.is) _ _ c.in_ok-wrote.ensures.written
+pub returns-in_err-wrote-clause-some : goal.returns-in_err-wrote-clause-some
+returns-in_err-wrote-clause-some g c =
+    let is : name_in c.args.threading ≡ Some c.in-Some.name.now = ap (option_map (λ (name : Bor (List ℕ)). name.now)) c.in-Some.is in
+    subst (λ name. WroteUpto g.S.Shelf.files g.S.Shelf.created g.S.Shelf.closed g.S.Shelf.read_count g.S.Shelf.write_count c.args.shelf.now c.write_trace-wrote.new.shelf (trace_name name)
+    (traced name (record { ticks = c.args.ticks; window = c.args.threading.window; buffers = c.args.rendered.logs.items }))) (sym is) c.write_trace-wrote.ensures.some
 
-pub returns-clause-part : goal.returns-clause-part
-returns-clause-part g c =
-    left_so (name_in c.args.threading) _ _ (ap (option_map (λ (name : Bor (List ℕ)). name.now)) c.in-Some.is) _ _ c.write_trace-wrote.ensures.part
+pub returns-clause-some : goal.returns-clause-some
+returns-clause-some g c =
+    let is : name_in c.args.threading ≡ Some c.in-Some.name.now = ap (option_map (λ (name : Bor (List ℕ)). name.now)) c.in-Some.is in
+    subst (λ name. WroteUpto g.S.Shelf.files g.S.Shelf.created g.S.Shelf.closed g.S.Shelf.read_count g.S.Shelf.write_count c.args.shelf.now c.write_trace-wrote.new.shelf (trace_name name)
+    (traced name (record { ticks = c.args.ticks; window = c.args.threading.window; buffers = c.args.rendered.logs.items }))) (sym is) c.write_trace-wrote.ensures.some
 
-pub returns-in_err-wrote-clause-part : goal.returns-in_err-wrote-clause-part
-returns-in_err-wrote-clause-part g c =
-    left_so (name_in c.args.threading) _ _ (ap (option_map (λ (name : Bor (List ℕ)). name.now)) c.in-Some.is) _ _ c.write_trace-wrote.ensures.part
-
-pub returns-in_default-clause-made : goal.returns-in_default-clause-made
-returns-in_default-clause-made g c =
-    no_trace_made (name_in c.args.threading) _ (ap (option_map (λ (name : Bor (List ℕ)). name.now)) c.in_default.is)
-
-pub returns-in_default-clause-front : goal.returns-in_default-clause-front
-returns-in_default-clause-front g c = none_made _ _ _ _ _ refl refl
-
-pub returns-clause-made : goal.returns-clause-made
-returns-clause-made g c = trace_made (name_in c.args.threading) _ _ _ (ap (option_map (λ (name : Bor (List ℕ)). name.now)) c.in-Some.is) c.in_ok-wrote.ensures.made
-
-pub returns-clause-front : goal.returns-clause-front
-returns-clause-front g c = trace_front (name_in c.args.threading) _ _ _ _ _ (ap (option_map (λ (name : Bor (List ℕ)). name.now)) c.in-Some.is) c.write_trace-wrote.ensures.front
-
-pub returns-in_err-wrote-clause-front : goal.returns-in_err-wrote-clause-front
-returns-in_err-wrote-clause-front g c = trace_front (name_in c.args.threading) _ _ _ _ _ (ap (option_map (λ (name : Bor (List ℕ)). name.now)) c.in-Some.is) c.write_trace-wrote.ensures.front
-
-pub returns-in_default-clause-closed : goal.returns-in_default-clause-closed
-returns-in_default-clause-closed g c =
-    no_trace_closed (name_in c.args.threading) _ (ap (option_map (λ (name : Bor (List ℕ)). name.now)) c.in_default.is)
-
-pub returns-clause-closed : goal.returns-clause-closed
-returns-clause-closed g c = trace_closed (name_in c.args.threading) _ _ _ (ap (option_map (λ (name : Bor (List ℕ)). name.now)) c.in-Some.is) c.in_ok-wrote.ensures.closed
+pub returns-clause-all : goal.returns-clause-all
+returns-clause-all g c =
+    let is : name_in c.args.threading ≡ Some c.in-Some.name.now = ap (option_map (λ (name : Bor (List ℕ)). name.now)) c.in-Some.is in
+    subst (λ name. WroteFiles g.S.Shelf.files g.S.Shelf.created g.S.Shelf.closed c.args.shelf.now c.write_trace-wrote.new.shelf (trace_name name)
+    (traced name (record { ticks = c.args.ticks; window = c.args.threading.window; buffers = c.args.rendered.logs.items }))) (sym is) c.in_ok-wrote.ensures.all

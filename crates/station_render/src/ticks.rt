@@ -1,0 +1,90 @@
+// The engines of a job make their ticks.
+ghost use Rattle.std.specs.Prelude.{◌<◌};
+ghost use Rattle.stations.specs.Stations.{InRounds, InWindows, Again};
+ghost use Rattle.station_render.specs.Runs.{IsFitting, setting_by};
+ghost use Rattle.station_render.specs.Stages.{AreReady, HaveTicked};
+ghost use Rattle.trace_log.specs.Texts.{IsTrace};
+ghost use Rattle.trace_replay.specs.Chunks.{AreAllChunks};
+ghost use Rattle.trace_replay.specs.Traces.{IsAccepted};
+
+use crate::Job;
+use buffer_ends::RunEnd;
+use clock_engine::ClockEngine;
+use clock_threads::run_threads;
+use liq_base::{Gate, Sink};
+use rounds_run::run_rounds;
+use std::alloc::Global;
+use std::sync::Wait;
+use std::thread::Threads;
+use trace_log::Trace;
+use trace_replay::{RecordChunks, replay};
+
+/// Each clock makes its ticks on a thread of its own, in windows of so many.
+pub(crate) fn tick_by_threads<'a, O: Sink + Send, G: Gate + Sync, R: Threads + Wait + Sync>(
+    rt: &R,
+    alloc: Global,
+    job: &Job<'a>,
+    window: u64,
+    gate: &G,
+    engines: Vec<ClockEngine<'a, O>>,
+) -> (Vec<ClockEngine<'a, O>>, RunEnd)
+    requires fit { IsFitting job.now }
+    requires some { 0 < window }
+    requires ready { AreReady O.room job.now engines.items }
+    ensures ticked { HaveTicked O.held O.name O.faults O.appends job.now (InWindows window) engines.entry.items result.0.items result.1 }
+{
+    run_threads(
+        rt,
+        alloc,
+        job.plan,
+        &job.ready.clocks,
+        engines,
+        job.ticks,
+        window,
+        gate,
+    )
+}
+
+/// All clocks make their ticks on one thread, in rounds.
+pub(crate) fn tick_in_rounds<'a, O: Sink>(
+    alloc: Global,
+    job: &Job<'a>,
+    engines: Vec<ClockEngine<'a, O>>,
+) -> (Vec<ClockEngine<'a, O>>, RunEnd)
+    requires fit { IsFitting job.now }
+    requires ready { AreReady O.room job.now engines.items }
+    ensures ticked { HaveTicked O.held O.name O.faults O.appends job.now InRounds engines.entry.items result.0.items result.1 }
+{
+    let mut engines = engines;
+    let run = run_rounds(alloc, job.plan, &mut engines, job.ticks);
+    (engines, run)
+}
+
+/// One clock after another makes its ticks on one thread, as a trace tells, of whose record the chunks are.
+pub(crate) fn tick_again<'a, O: Sink>(
+    alloc: Global,
+    job: &Job<'a>,
+    trace: &Trace,
+    chunks: RecordChunks,
+    engines: Vec<ClockEngine<'a, O>>,
+) -> (Vec<ClockEngine<'a, O>>, RunEnd)
+    requires fit { IsFitting job.now }
+    requires trace { IsTrace trace.now }
+    requires accepted { IsAccepted (setting_by job.now) job.now.ready.now.clocks.running job.now.ticks trace.now }
+    requires chunks { AreAllChunks (setting_by job.now) job.now.ready.now.clocks trace.now chunks }
+    requires ready { AreReady O.room job.now engines.items }
+    ensures ticked { HaveTicked O.held O.name O.faults O.appends job.now (Again trace.now) engines.entry.items result.0.items result.1 }
+{
+    let mut engines = engines;
+    let run = replay(
+        alloc,
+        job.plan,
+        &job.ready.clocks,
+        &job.ready.library,
+        job.start,
+        &mut engines,
+        trace,
+        chunks,
+    );
+    (engines, run)
+}
