@@ -49,7 +49,7 @@ pub record GivesOn (setting : Setting) (sub : ℕ → ℕ → List Slot) (clock 
   pub library : setting.library ≡ sounds
   pub goes_on : GoesOn setting sub clock past many i node
   pub begun : reads (work_at setting i node) ≡ true → fed ≡ suc (length past)
-  pub filled : passes state ≡ true → ChildFeeds (sub i) fed many below node.children before.left.now before.right.now
+  pub supplied : passes state ≡ true → ChildFeeds (sub i) fed many below node.children before.left.now before.right.now
   pub stands : StateStands setting sub (moment_after setting sub clock past ∷ past) fed i (work_at setting i node) state
 
 -- what the children of node i gave at the instant after these, which of them it used there, and the samples of those that gave, over so

@@ -65,10 +65,10 @@ returns-clause-made c = record {
       λ through. child_feeds S sub (moment_after S sub clock past ∷ past) (length (take c.args.count c.args.own_left.now)) fed c.args.i c.title_below-below.result c.index-as_slice-i.result c.args.state.now c.args.left.now c.args.right.now c.requires.shape.nodes found there.stands through
       (subst (λ t. LaneFeeds (sub c.args.i) fed (length (take c.args.count c.args.own_left.now)) t (samples_of c.args.left.now (crossfaded c.args.shape.now.plan.now.nodes c.args.i) (length (take c.args.count c.args.own_left.now)))
       (samples_of c.args.right.now (crossfaded c.args.shape.now.plan.now.nodes c.args.i) (length (take c.args.count c.args.own_left.now)))) title_is (there.supplied gave through)) in
-      let stands = c.run.ensures.stands S sub clock past fed c.args.i (record { library = refl; goes_on = goes; begun = there.begun; filled = feeds; stands = there.stands }) in
+      let stands = c.run.ensures.stands S sub clock past fed c.args.i (record { library = refl; goes_on = goes; begun = there.begun; supplied = feeds; stands = there.stands }) in
       let pick_is = ap (λ (p : Part). p.pick) (sym (get_or_default _ _ silent _ in_parts) ∙ there.given c.args.i (omega arith) ∙ given_yes (moment_after S sub clock past) c.args.i gave) in
       let low : (k : ℕ) → list_any (nat_eq k) c.index-as_slice-i.result.children ≡ true → k < c.args.i = λ k among. child_low S sub clock past c.args.i k c.index-as_slice-i.result c.requires.shape.nodes found among in
-      let lane_is = c.run.ensures.lane S sub clock past fed c.args.i (record { library = refl; goes_on = goes; begun = there.begun; filled = feeds; stands = there.stands }) (record {
+      let lane_is = c.run.ensures.lane S sub clock past fed c.args.i (record { library = refl; goes_on = goes; begun = there.begun; supplied = feeds; stands = there.stands }) (record {
         given = λ k among. there.given k (let under = low k among in omega (arith, under));
         used = pick_is;
         lanes = λ k among g. there.lanes k (low k among) g;

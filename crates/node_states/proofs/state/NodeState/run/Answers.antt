@@ -80,7 +80,7 @@ pub returns-then-passes-clause-stands : goal.returns-then-passes-clause-stands
 returns-then-passes-clause-stands c = λ setting sub clock past fed i gives.
     let same : c.as_slice-children.result.now ≡ c.args.node.now.children = search rules in
     let through : passes c.args.self.now ≡ true = ap passes c.in-Cross.is ∙ sym c.passes.ensures ∙ c.if-passes.true in
-    let child = gives.filled through in
+    let child = gives.supplied through in
     let there : slice_get c.as_slice-children.result.now 0 ≡ Some child.child = ap (λ xs. slice_get xs 0) same ∙ child.there in
     let before_run : StateStands setting sub (moment_after setting sub clock past ∷ past) fed i (work_at setting i c.args.node.now) (Cross c.in-Cross.state) =
     subst (λ (s : NodeState). StateStands setting sub (moment_after setting sub clock past ∷ past) fed i (work_at setting i c.args.node.now) s) c.in-Cross.is gives.stands in
@@ -94,7 +94,7 @@ pub returns-then-passes-clause-lane : goal.returns-then-passes-clause-lane
 returns-then-passes-clause-lane c = λ setting sub clock past fed i gives children.
     let same : c.as_slice-children.result.now ≡ c.args.node.now.children = search rules in
     let through : passes c.args.self.now ≡ true = ap passes c.in-Cross.is ∙ sym c.passes.ensures ∙ c.if-passes.true in
-    let child = gives.filled through in
+    let child = gives.supplied through in
     let there : slice_get c.as_slice-children.result.now 0 ≡ Some child.child = ap (λ xs. slice_get xs 0) same ∙ child.there in
     let before_run : StateStands setting sub (moment_after setting sub clock past ∷ past) fed i (work_at setting i c.args.node.now) (Cross c.in-Cross.state) =
     subst (λ (s : NodeState). StateStands setting sub (moment_after setting sub clock past ∷ past) fed i (work_at setting i c.args.node.now) s) c.in-Cross.is gives.stands in
