@@ -3,10 +3,10 @@ use Rattle.std.proofs.Common.{◌≡◌, ◌≢◌, ℕ, suc, ◌<◌, ◌≤◌
 use Rattle.std.proofs.lemmas.List.{get_or_default}
 use Rattle.buffer_ends.specs.Local.{Answers, LocalBuffer, closed_windows}
 use Rattle.buffer_ends.specs.declared.thread_taps.ThreadTaps.{ThreadTaps}
-use Rattle.clock_tasks.specs.declared.task.Task.{Task}
-use Rattle.clock_windows.specs.declared.wires.Wire.{Wire}
-use Rattle.clock_windows.specs.Wires.{wire_at}
-use Rattle.clock_windows.proofs.Sets.{same_or_other}
+use Rattle.clock_threads.specs.declared.task.Task.{Task}
+use Rattle.clock_threads.specs.declared.wires.Wire.{Wire}
+use Rattle.clock_threads.specs.Wires.{wire_at}
+use Rattle.clock_threads.proofs.Sets.{same_or_other}
 use Rattle.clock_threads.specs.Logs.{AreNoLogs, TookLogs, AreCollected}
 use Rattle.clock_threads.proofs.Joining.{front_get, last_get}
 use Rattle.clock_threads.proofs.Making.{first_gone, map_get, map_long}

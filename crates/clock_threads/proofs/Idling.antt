@@ -15,13 +15,13 @@ use Rattle.run_records.proofs.Alone.{feeder_runs}
 use Rattle.clock_engine.specs.declared.engine.ClockEngine.{ClockEngine}
 use Rattle.clock_engine.specs.Engines.{held_of}
 use Rattle.clock_engine.proofs.Pieces.{got_between, got_none}
-use Rattle.clock_windows.specs.Listed.{listed}
-use Rattle.clock_windows.proofs.Meeting.{low_or_high}
-use Rattle.clock_windows.proofs.Starts.{start_most, start_next, start_zero}
-use Rattle.clock_windows.proofs.Breaking.{begin_none}
-use Rattle.clock_windows.proofs.Recording.{listed_at, listed_long}
-use Rattle.clock_windows.proofs.Sets.{same_or_other}
-use Rattle.clock_threads.specs.Runs.{AreEngines, HasRunAll, HasRunSome}
+use Rattle.clock_threads.specs.Listed.{listed}
+use Rattle.clock_threads.proofs.Meeting.{low_or_high}
+use Rattle.clock_threads.proofs.Starts.{start_most, start_next, start_zero}
+use Rattle.clock_threads.proofs.Breaking.{begin_none}
+use Rattle.clock_threads.proofs.Recording.{listed_at, listed_long}
+use Rattle.clock_threads.proofs.Sets.{same_or_other}
+use Rattle.clock_threads.specs.ThreadRuns.{AreEngines, HasRunAll, HasRunSome}
 use Rattle.clock_threads.proofs.Readying.{grown_none, same_not}
 
 -- one window of each buffer, in which nothing was called

@@ -5,12 +5,12 @@ use Rattle.buffer_queue.specs.Window.{Window, opened, capacity_of}
 use Rattle.buffer_ends.specs.Sides.{Side}
 use Rattle.buffer_ends.specs.Borders.{HasEnd}
 use Rattle.buffer_ends.specs.declared.thread_taps.ThreadTaps.{ThreadTaps}
-use Rattle.clock_tasks.specs.declared.task.Task.{Task}
-use Rattle.clock_windows.specs.declared.wires.Wire.{Wire}
-use Rattle.clock_windows.specs.Wires.{wire_at}
-use Rattle.clock_windows.specs.Ends.{puts_of as put_ends, takes_of as take_ends, SameButEnds, JoinOpen}
-use Rattle.clock_windows.specs.Records.{SameEngines}
-use Rattle.clock_windows.proofs.Sets.{same_or_other, side}
+use Rattle.clock_threads.specs.declared.task.Task.{Task}
+use Rattle.clock_threads.specs.declared.wires.Wire.{Wire}
+use Rattle.clock_threads.specs.Wires.{wire_at}
+use Rattle.clock_threads.specs.Ends.{puts_of as put_ends, takes_of as take_ends, SameButEnds, JoinOpen}
+use Rattle.clock_threads.specs.Records.{SameEngines}
+use Rattle.clock_threads.proofs.Sets.{same_or_other, side}
 use Rattle.clock_threads.specs.Starts.{AreQueues, AreBare, PutAdded, TakeAdded, BothAdded, AreJoined}
 
 -- queues, one more

@@ -4,10 +4,10 @@ use Rattle.plan_core.specs.declared.plan.Plan.{Plan}
 use Rattle.buffer_ends.specs.Local.{LocalBuffer, planned}
 use Rattle.buffer_ends.specs.declared.thread_taps.ThreadTaps.{ThreadTaps}
 use Rattle.clock_engine.specs.declared.engine.ClockEngine.{ClockEngine}
-use Rattle.clock_tasks.specs.declared.task.Task.{Task}
-use Rattle.clock_windows.proofs.Sets.{same_or_other}
-use Rattle.clock_windows.specs.Ends.{puts_of as put_ends, takes_of as take_ends}
-use Rattle.clock_threads.specs.Tasks.{engine_of, AreLocals, IsBare, AreTasks}
+use Rattle.clock_threads.specs.declared.task.Task.{Task}
+use Rattle.clock_threads.proofs.Sets.{same_or_other}
+use Rattle.clock_threads.specs.Ends.{puts_of as put_ends, takes_of as take_ends}
+use Rattle.clock_threads.specs.EngineTasks.{engine_of, AreLocals, IsBare, AreTasks}
 use Rattle.clock_threads.proofs.Joining.{front_get, last_get}
 
 pub map_snoc : {A B : Type 0} (f : A → B) (xs : List A) (y : A) → map f (xs ++ y ∷ []) ≡ map f xs ++ f y ∷ []

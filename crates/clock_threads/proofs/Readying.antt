@@ -18,29 +18,29 @@ use Rattle.clock_engine.specs.Ticks.{HaveTicksRoom}
 use Rattle.clock_engine.specs.Pieces.{GotPieces}
 use Rattle.clock_engine.proofs.Pieces.{got_none}
 use Rattle.clock_engine.specs.declared.engine.ClockEngine.{ClockEngine}
-use Rattle.clock_tasks.specs.declared.task.Task.{Task}
-use Rattle.clock_tasks.specs.Histories.{History, answers_by}
-use Rattle.clock_tasks.specs.Tasks.{EngineGone, IsSameClock}
-use Rattle.clock_windows.specs.declared.wires.Wire.{Wire}
-use Rattle.clock_windows.specs.Wires.{wire_at, kept}
-use Rattle.clock_windows.specs.Ends.{puts_of as put_ends, takes_of as take_ends}
+use Rattle.clock_threads.specs.declared.task.Task.{Task}
+use Rattle.clock_threads.specs.Histories.{History, answers_by}
+use Rattle.clock_threads.specs.TaskRuns.{EngineGone, IsSameClock}
+use Rattle.clock_threads.specs.declared.wires.Wire.{Wire}
+use Rattle.clock_threads.specs.Wires.{wire_at, kept}
+use Rattle.clock_threads.specs.Ends.{puts_of as put_ends, takes_of as take_ends}
 use Rattle.run_records.specs.Records.{Run, Window, start, answers_of as answers_in_run}
 use Rattle.clock_infer.specs.declared.clock_map.ClockMap.{ClockMap}
 use Rattle.frame_core.specs.declared.cell.Cell.{Cell}
-use Rattle.clock_windows.specs.Records.{ClockGoing, SameEngines}
-use Rattle.clock_windows.specs.Runs.{IsReady, IsWriteAt, DoneAt, RunDone, PartAt, RunPart, StandsOrStopped}
-use Rattle.clock_windows.specs.Lawful.{IsWiredRun, answers_of, meant}
-use Rattle.clock_windows.proofs.Starts.{start_zero}
-use Rattle.clock_windows.proofs.Ending.{with_one}
-use Rattle.clock_windows.proofs.Finishing.{done_windows, done_wired, done_bytes, done_stands}
-use Rattle.clock_windows.proofs.Breaking.{Reach}
-use Rattle.clock_windows.proofs.Partly.{part_begun, part_fronts, part_given, part_pieces, part_run, part_stood, reach}
-use Rattle.clock_windows.proofs.Recording.{run_of, run_answers, run_is_lawful}
+use Rattle.clock_threads.specs.Records.{ClockGoing, SameEngines}
+use Rattle.clock_threads.specs.WindowRuns.{IsReady, IsWriteAt, DoneAt, RunDone, PartAt, RunPart, StandsOrStopped}
+use Rattle.clock_threads.specs.Lawful.{IsWiredRun, answers_of, meant}
+use Rattle.clock_threads.proofs.Starts.{start_zero}
+use Rattle.clock_threads.proofs.Ending.{with_one}
+use Rattle.clock_threads.proofs.Finishing.{done_windows, done_wired, done_bytes, done_stands}
+use Rattle.clock_threads.proofs.Breaking.{Reach}
+use Rattle.clock_threads.proofs.Partly.{part_begun, part_fronts, part_given, part_pieces, part_run, part_stood, reach}
+use Rattle.clock_threads.proofs.Recording.{run_of, run_answers, run_is_lawful}
 use Rattle.clock_threads.specs.Logs.{AreNoLogs}
 use Rattle.clock_threads.specs.Starts.{AreJoined, AreBare}
-use Rattle.clock_threads.specs.Tasks.{engine_of, AreTasks}
-use Rattle.clock_threads.specs.Runs.{IsFresh, HasMadeAll, HasMadePart, HasRunSome, IsWriteEnd}
-use Rattle.clock_threads.specs.Threads.{AreLaid, AreFresh, HasRunTasks}
+use Rattle.clock_threads.specs.EngineTasks.{engine_of, AreTasks}
+use Rattle.clock_threads.specs.ThreadRuns.{IsFresh, HasMadeAll, HasMadePart, HasRunSome, IsWriteEnd}
+use Rattle.clock_threads.specs.WiredRuns.{AreLaid, AreFresh, HasRunTasks}
 use Rattle.clock_threads.proofs.Making.{map_get, map_long}
 
 nothing : History

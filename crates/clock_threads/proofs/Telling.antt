@@ -6,17 +6,17 @@ use Rattle.buffer_ends.specs.declared.thread_taps.ThreadTaps.{ThreadTaps}
 use Rattle.clock_infer.specs.declared.clock_map.ClockMap.{ClockMap}
 use Rattle.stream_meaning.specs.Instants.{Setting}
 use Rattle.clock_engine.specs.declared.engine.ClockEngine.{ClockEngine}
-use Rattle.clock_tasks.specs.declared.task.Task.{Task}
-use Rattle.clock_windows.specs.declared.wires.Wire.{Wire}
+use Rattle.clock_threads.specs.declared.task.Task.{Task}
+use Rattle.clock_threads.specs.declared.wires.Wire.{Wire}
 use Rattle.buffer_sides.specs.Logs.{told}
-use Rattle.clock_windows.specs.Wires.{wire_at}
-use Rattle.clock_windows.specs.Listed.{listed}
-use Rattle.clock_windows.proofs.Recording.{listed_long, listed_at}
-use Rattle.clock_windows.proofs.Sets.{same_or_other}
+use Rattle.clock_threads.specs.Wires.{wire_at}
+use Rattle.clock_threads.specs.Listed.{listed}
+use Rattle.clock_threads.proofs.Recording.{listed_long, listed_at}
+use Rattle.clock_threads.proofs.Sets.{same_or_other}
 use Rattle.clock_threads.specs.Logs.{AreCollected, counts_in}
-use Rattle.clock_threads.specs.Tasks.{engine_of}
-use Rattle.clock_threads.specs.Runs.{HasRunAll}
-use Rattle.clock_threads.specs.Threads.{HasRunTasks}
+use Rattle.clock_threads.specs.EngineTasks.{engine_of}
+use Rattle.clock_threads.specs.ThreadRuns.{HasRunAll}
+use Rattle.clock_threads.specs.WiredRuns.{HasRunTasks}
 use Rattle.clock_threads.proofs.Making.{map_get, map_long}
 
 pub same_lists : {A : Type 0} (xs ys : List A) → length xs ≡ length ys → ((k : ℕ) (d : A) → k < length xs → slice_index_or xs k d ≡ slice_index_or ys k d) → xs ≡ ys

@@ -13,13 +13,13 @@ use Rattle.run_records.specs.Buffers.{feeder, main_of, reader}
 use Rattle.run_records.proofs.Alone.{feeder_runs}
 use Rattle.buffer_sides.specs.Sides.{AreFeeders, AreReaders}
 use Rattle.clock_engine.specs.declared.engine.ClockEngine.{ClockEngine}
-use Rattle.clock_windows.specs.declared.wires.Wire.{Wire}
-use Rattle.clock_windows.specs.Wires.{no_wire, wire_at}
-use Rattle.clock_windows.specs.Lawful.{AreWires, IsWireOf}
-use Rattle.clock_windows.proofs.Sets.{same_or_other}
+use Rattle.clock_threads.specs.declared.wires.Wire.{Wire}
+use Rattle.clock_threads.specs.Wires.{no_wire, wire_at}
+use Rattle.clock_threads.specs.Lawful.{AreWires, IsWireOf}
+use Rattle.clock_threads.proofs.Sets.{same_or_other}
 use Rattle.clock_threads.specs.Plans.{AreFirstWires, IsWireAt, over}
-use Rattle.clock_threads.specs.Runs.{AreEngines}
-use Rattle.clock_threads.specs.Threads.{AreFresh, AreLaid}
+use Rattle.clock_threads.specs.ThreadRuns.{AreEngines}
+use Rattle.clock_threads.specs.WiredRuns.{AreFresh, AreLaid}
 use Rattle.clock_threads.proofs.Joining.{front_get, last_get}
 
 -- what is found at a place that is there

@@ -3,9 +3,9 @@ use Rattle.std.specs.Prelude.{◌≡◌, ◌≢◌, ◌<◌, ◌+◌, ℕ, List,
 use Rattle.buffer_ends.specs.Local.{Answers, LocalBuffer, counts_of, puts_of, takes_of_window}
 use Rattle.buffer_ends.specs.declared.counts.Counts.{Counts}
 use Rattle.buffer_ends.specs.declared.thread_taps.ThreadTaps.{ThreadTaps}
-use Rattle.clock_tasks.specs.declared.task.Task.{Task}
-use Rattle.clock_windows.specs.declared.wires.Wire.{Wire}
-use Rattle.clock_windows.specs.Wires.{wire_at}
+use Rattle.clock_threads.specs.declared.task.Task.{Task}
+use Rattle.clock_threads.specs.declared.wires.Wire.{Wire}
+use Rattle.clock_threads.specs.Wires.{wire_at}
 
 -- two counts as one
 abbrev pub more_counts : Counts → Counts → Counts

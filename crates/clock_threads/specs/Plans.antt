@@ -5,9 +5,9 @@ use Rattle.clock_infer.specs.declared.clock_map.ClockMap.{ClockMap}
 use Rattle.clock_infer.specs.declared.clock_map.NodeClock.{NodeClock}
 use Rattle.stream_meaning.specs.Instants.{Setting}
 use Rattle.run_records.specs.Buffers.{main_of}
-use Rattle.clock_windows.specs.declared.wires.Wire.{Wire}
-use Rattle.clock_windows.specs.Wires.{wire_at}
-use Rattle.clock_windows.specs.Lawful.{IsWireOf}
+use Rattle.clock_threads.specs.declared.wires.Wire.{Wire}
+use Rattle.clock_threads.specs.Wires.{wire_at}
+use Rattle.clock_threads.specs.Lawful.{IsWireOf}
 
 -- the same setting with this plan and these clocks
 abbrev pub over : Plan → List NodeClock → Setting → Setting

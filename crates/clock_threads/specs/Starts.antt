@@ -4,10 +4,10 @@ use Rattle.atomic_table.specs.Seated.{TableId}
 use Rattle.buffer_queue.specs.Window.{Window, opened, capacity_of}
 use Rattle.buffer_ends.specs.Sides.{Side}
 use Rattle.buffer_ends.specs.declared.thread_taps.ThreadTaps.{ThreadTaps}
-use Rattle.clock_tasks.specs.declared.task.Task.{Task}
-use Rattle.clock_windows.specs.declared.wires.Wire.{Wire}
-use Rattle.clock_windows.specs.Wires.{wire_at}
-use Rattle.clock_windows.specs.Ends.{puts_of as put_ends, takes_of as take_ends, SameButEnds, JoinOpen}
+use Rattle.clock_threads.specs.declared.task.Task.{Task}
+use Rattle.clock_threads.specs.declared.wires.Wire.{Wire}
+use Rattle.clock_threads.specs.Wires.{wire_at}
+use Rattle.clock_threads.specs.Ends.{puts_of as put_ends, takes_of as take_ends, SameButEnds, JoinOpen}
 
 -- a queue for each of the first buffers, with both its ends, in a window that opens with nothing
 pub record AreQueues (wires : List Wire) (many : ℕ) (queues : List TableId) (passes : List (Window × Window)) : Type 0 where

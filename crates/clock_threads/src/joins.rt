@@ -1,13 +1,13 @@
 // The ends are handed out to the clocks.
 ghost use Rattle.std.specs.Prelude.{◌≡◌, ◌≢◌, ◌<◌, ◌^◌, ℕ, length, slice_index_or, OnOk, OnErr};
-ghost use Rattle.clock_windows.specs.Wires.{wire_at};
-ghost use Rattle.clock_windows.specs.Records.{SameEngines};
+ghost use Rattle.clock_threads.specs.Wires.{wire_at};
+ghost use Rattle.clock_threads.specs.Records.{SameEngines};
 ghost use Rattle.clock_threads.specs.Starts.{AreQueues, AreBare, AreJoined, PutAdded, TakeAdded, BothAdded};
 
+use crate::task::Task;
+use crate::wires::Wire;
 use buffer_ends::{PutEnd, TakeEnd, ThreadTaps};
 use buffer_queue::{BufferQueue, PutPass, TakePass};
-use clock_tasks::Task;
-use clock_windows::Wire;
 use liq_base::Memory;
 use std::alloc::Global;
 

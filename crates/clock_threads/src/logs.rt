@@ -2,8 +2,8 @@
 ghost use Rattle.std.specs.Prelude.{◌≡◌, IfOk};
 ghost use Rattle.clock_threads.specs.Logs.{AreNoLogs, TookLogs};
 
+use crate::wires::Wire;
 use buffer_ends::BufferLog;
-use clock_windows::Wire;
 use liq_base::Memory;
 use std::alloc::Global;
 use std::mem;

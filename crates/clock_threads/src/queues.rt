@@ -1,10 +1,10 @@
 // The queues of the buffers.
 ghost use Rattle.std.specs.Prelude.{◌<◌, ℕ, length, IfOk};
-ghost use Rattle.clock_windows.specs.Wires.{wire_at};
+ghost use Rattle.clock_threads.specs.Wires.{wire_at};
 ghost use Rattle.clock_threads.specs.Starts.{AreQueues};
 
+use crate::wires::Wire;
 use buffer_queue::{BufferQueue, PutPass, TakePass};
-use clock_windows::Wire;
 use liq_base::Memory;
 use std::alloc::Global;
 

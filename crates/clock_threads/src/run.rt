@@ -2,10 +2,10 @@
 ghost use Rattle.std.specs.Prelude.{◌≡◌, ◌<◌, ◌≤◌, true, All, length};
 ghost use Rattle.buffer_ends.specs.declared.run_end.End.TheVariants.{Done, Memory as NoMemory};
 ghost use Rattle.stream_meaning.specs.Instants.{Setting};
-ghost use Rattle.clock_threads.specs.Runs.{AreAlike, AreEngines, HasRunAll, HasRunSome};
+ghost use Rattle.clock_threads.specs.ThreadRuns.{AreAlike, AreEngines, HasRunAll, HasRunSome};
 
-use crate::threads::{ended, run_wired};
-use crate::unwired::run_unwired;
+use crate::unbuffered::run_unbuffered;
+use crate::wired::{ended, run_wired};
 use crate::wires::wires_of;
 use buffer_ends::{End, RunEnd};
 use clock_engine::ClockEngine;
@@ -46,7 +46,7 @@ pub fn run_threads<'a, O: Sink + Send, G: Gate + Sync, R: Threads + Wait + Sync>
     }
     let mut engines = engines;
     if plan.buffers.len() == 0 {
-        let end = run_unwired(rt, alloc, &mut engines, ticks, window, gate);
+        let end = run_unbuffered(rt, alloc, &mut engines, ticks, window, gate);
         return (engines, end);
     }
     let Ok(wires) = wires_of(alloc, plan, clocks) else {

@@ -2,13 +2,13 @@
 ghost use Rattle.std.specs.Prelude.{◌≡◌, ◌≤◌, ◌+◌, ◌++◌, ℕ, [], length, map, vec_capacity, OnOk, IfOk, OnErr};
 ghost use Rattle.plan_core.specs.declared.plan.Plan.{Plan as ThePlan};
 ghost use Rattle.clock_threads.specs.Logs.{AreCollected};
-ghost use Rattle.clock_threads.specs.Tasks.{AreLocals, AreTasks, engine_of};
+ghost use Rattle.clock_threads.specs.EngineTasks.{AreLocals, AreTasks, engine_of};
 
 use crate::logs::take_logs;
+use crate::task::Task;
+use crate::wires::Wire;
 use buffer_ends::{BufferLog, LocalTaps, ThreadTaps};
 use clock_engine::ClockEngine;
-use clock_tasks::Task;
-use clock_windows::Wire;
 use liq_base::Memory;
 use plan_core::Plan;
 use std::alloc::Global;

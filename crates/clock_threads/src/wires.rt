@@ -7,10 +7,17 @@ ghost use Rattle.clock_threads.specs.Plans.{AreFirstWires, IsWireAt, over};
 
 use buffer_sides::{feeders, main_of, readers};
 use clock_infer::ClockMap;
-use clock_windows::Wire;
 use liq_base::Memory;
 use plan_core::{BufferPlan, Plan};
 use std::alloc::Global;
+
+/// The main clock of a buffer's feed, that of its reader, and how many chunks it holds at most.
+#[derive(Clone, Copy, Debug, Drop)]
+pub struct Wire {
+    pub from: u32,
+    pub to: u32,
+    pub capacity: u32,
+}
 
 // The buffer of a number.
 fn buffer_at(buffers: &[BufferPlan], number: usize) -> &BufferPlan

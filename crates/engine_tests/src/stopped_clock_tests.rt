@@ -6,7 +6,7 @@ ghost use Rattle.clock_infer.specs.Answers.{IsClockMap};
 ghost use Rattle.clock_infer.specs.declared.clock_map.NodeClock.TheVariants.{Main as InMain};
 ghost use Rattle.frame_core.specs.Library.{IsLibrary, tracks_of};
 ghost use Rattle.clock_engine.specs.Engines.{outputs_of};
-ghost use Rattle.clock_threads.specs.Runs.{AreEngines, IsFresh};
+ghost use Rattle.clock_threads.specs.ThreadRuns.{AreEngines, IsFresh};
 ghost use Rattle.engine_tests.specs.Joined.{joined_nodes, joined_sinks, no_room, setting_over};
 
 use crate::small_plans::{lies_in, mono, one_name, output};

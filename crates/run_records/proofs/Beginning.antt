@@ -11,10 +11,10 @@ use Rattle.stream_meaning.specs.Instants.{Setting, answered}
 use Rattle.stream_meaning.specs.Calls.{joined_upto}
 use Rattle.stream_meaning.specs.Settings.{IsSetting}
 use Rattle.stream_meaning.proofs.Answering.{joined_same}
-use Rattle.stream_laws.specs.Parting.{Goes}
-use Rattle.stream_laws.specs.Alike.{IsTickAlike}
-use Rattle.stream_laws.proofs.Parting.{joined_first}
-use Rattle.stream_laws.proofs.Ticking.{ticks_go}
+use Rattle.run_records.specs.Parting.{Goes}
+use Rattle.run_records.specs.Alike.{IsTickAlike}
+use Rattle.run_records.proofs.Parting.{joined_first}
+use Rattle.run_records.proofs.Ticking.{ticks_go}
 use Rattle.run_records.specs.Buffers.{feeder, reader}
 use Rattle.run_records.specs.Records.{AreRoundsBegun, AreWindowsBegun, Follows, IsRounds, Run, Window, answers_of, calls_in, capacity_of, on, rounds_of, setting_in, setting_then, start, ticks_of, windows_in}
 use Rattle.run_records.specs.Rounds.{BeginsRounds, HasNoJoin}

@@ -17,7 +17,7 @@ use Rattle.run_records.specs.Heard.{HasRoom, IsHeard}
 use Rattle.run_records.proofs.Sunk.{sink_is_drawn}
 use Rattle.run_records.specs.Buffers.{feeder, reader}
 use Rattle.run_records.specs.Records.{AreWindowsBegun, Run, IsLawful, IsRounds, rounds_of, Window, Follows, windows_of, setting_in, capacity_of, on, start, calls_in, windows_in}
-use Rattle.stream_laws.specs.Parting.{ArePart}
+use Rattle.run_records.specs.Parting.{ArePart}
 use Rattle.run_records.specs.Ordered.{HasSameText, told, made, got_by, kept_by, IsOrdered}
 
 one_alone : (P : ℕ → Type 0) → P 0 → (b : ℕ) → b < 1 → P b

@@ -27,9 +27,9 @@ use Rattle.stream_meaning.proofs.Ranks.{AreNested, deeper, rank_below}
 use Rattle.stream_meaning.proofs.Existence.{are_nested, same_clock-true}
 use Rattle.run_records.specs.Buffers.{main_within, main_of, fed_in, reads_in, read_from, feeder, reader}
 use Rattle.run_records.specs.Owning.{IsOwn}
-use Rattle.stream_laws.specs.Alike.{IsAt}
-use Rattle.stream_laws.proofs.Instantly.{HasRank}
-use Rattle.stream_laws.proofs.Ticking.{reads_op}
+use Rattle.run_records.specs.Alike.{IsAt}
+use Rattle.run_records.proofs.Instantly.{HasRank}
+use Rattle.run_records.proofs.Ticking.{reads_op}
 
 module _ (P : Call → Type 0) where
   pub all_joined : (calls : ℕ → List Call) (n : ℕ) → ((j : ℕ) → All P (calls j)) → All P (joined_upto calls n)

@@ -16,11 +16,11 @@ use Rattle.run_records.specs.Buffers.{feeder, reader}
 use Rattle.run_records.specs.Records.{Window, Run, windows_of, setting_in, start, ticks_of, calls_in, windows_in, IsLawful, answers_of, puts_of}
 use Rattle.run_records.proofs.Running.{runs_in, rests_in, own_in}
 use Rattle.run_records.proofs.Alone.{feeder_runs}
-use Rattle.stream_laws.specs.Parting.{Differ, Goes}
-use Rattle.stream_laws.specs.Alike.{IsTickAlike}
+use Rattle.run_records.specs.Parting.{Differ, Goes}
+use Rattle.run_records.specs.Alike.{IsTickAlike}
 use Rattle.run_records.specs.Ordered.{told, HasSameText, made, got_by, IsOrdered}
-use Rattle.stream_laws.proofs.Parting.{joined_first}
-use Rattle.stream_laws.proofs.Ticking.{tick_goes, tick_first}
+use Rattle.run_records.proofs.Parting.{joined_first}
+use Rattle.run_records.proofs.Ticking.{tick_goes, tick_first}
 use Rattle.std.specs.Prelude.{All}
 use Rattle.run_records.specs.Owning.{IsOwn}
 use Rattle.run_records.proofs.Owning.{all_at}

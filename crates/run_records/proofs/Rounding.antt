@@ -9,10 +9,10 @@ use Rattle.stream_meaning.specs.Instants.{Setting, answered}
 use Rattle.stream_meaning.specs.Calls.{joined_upto}
 use Rattle.stream_meaning.specs.Settings.{IsSetting}
 use Rattle.run_records.specs.Records.{Run, setting_in, capacity_of, on, Follows, ticks_of, rounds_of, IsRounds, answers_of}
-use Rattle.stream_laws.specs.Parting.{Differ, ArePart, Goes}
-use Rattle.stream_laws.specs.Alike.{IsTickAlike}
-use Rattle.stream_laws.proofs.Parting.{goes_equal, goes_each}
-use Rattle.stream_laws.proofs.Ticking.{tick_goes, tick_first}
+use Rattle.run_records.specs.Parting.{Differ, ArePart, Goes}
+use Rattle.run_records.specs.Alike.{IsTickAlike}
+use Rattle.run_records.proofs.Parting.{goes_equal, goes_each}
+use Rattle.run_records.proofs.Ticking.{tick_goes, tick_first}
 
 -- a list under calls in their order
 pub follows_split : (C : ℕ) (xs ys : List Call) (q r : List (List Cell)) → Follows C q (xs ++ ys) r → (m : List (List Cell)) × Follows C q xs m × Follows C m ys r

@@ -28,7 +28,7 @@ use Rattle.rounds_run.proofs.Lawful.{none_counted, some_counted}
 use Rattle.rounds_run.proofs.Records.{run_of, window_at, windows_many}
 use Rattle.buffer_sides.specs.Logs.{told}
 use Rattle.clock_threads.specs.Logs.{counts_in}
-use Rattle.clock_threads.specs.Runs as threads
+use Rattle.clock_threads.specs.ThreadRuns as threads
 use Rattle.trace_log.specs.Values.{TraceValue}
 use Rattle.trace_replay.specs.Replays.{HasReplayedAll, HasReplayedSome, ticks_to}
 use Rattle.trace_replay.specs.Traces.{IsAccepted}

@@ -6,7 +6,7 @@ use Rattle.stream_meaning.specs.Instants.{Setting}
 use Rattle.clock_engine.specs.declared.engine.ClockEngine.{ClockEngine}
 use Rattle.buffer_ends.specs.declared.run_end.RunEnd.{RunEnd}
 use Rattle.buffer_ends.specs.declared.run_end.End.TheVariants.{Done, Write}
-use Rattle.clock_threads.specs.Runs as threads
+use Rattle.clock_threads.specs.ThreadRuns as threads
 use Rattle.stations.specs.Creations.{after_making, names_in}
 use Rattle.stations.specs.Cues.{marks_if}
 use Rattle.stations.specs.Stations.{Way}

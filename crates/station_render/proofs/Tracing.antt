@@ -12,8 +12,8 @@ use Rattle.stream_meaning.specs.Instants.{Setting}
 use Rattle.run_records.specs.Records.{IsLawful as AreWindows, Run, Window, setting_in, start, windows_in}
 use Rattle.buffer_ends.specs.Local.{Answers}
 use Rattle.buffer_sides.specs.Logs.{told}
-use Rattle.clock_windows.proofs.Meeting.{low_or_high}
-use Rattle.clock_windows.proofs.Starts.{start_zero}
+use Rattle.clock_threads.proofs.Meeting.{low_or_high}
+use Rattle.clock_threads.proofs.Starts.{start_zero}
 use Rattle.trace_log.specs.Texts.{IsTrace, windows_of}
 use Rattle.station_render.proofs.Lists.{many_mapped, within}
 

@@ -9,11 +9,11 @@ use Rattle.op_leaf.specs.Readers.{Answer}
 use Rattle.stream_meaning.specs.Instants.{Setting, answered}
 use Rattle.stream_meaning.specs.Calls.{calls_of_tick}
 use Rattle.stream_meaning.specs.Settings.{IsSetting}
-use Rattle.stream_laws.specs.Parting.{ArePart, Differ, Goes, IsSameCall}
-use Rattle.stream_laws.specs.Alike.{IsTickAlike}
-use Rattle.stream_laws.specs.Outputs.{first_calls}
-use Rattle.stream_laws.proofs.Parting.{joined_first}
-use Rattle.stream_laws.proofs.Ticking.{ticks_go}
+use Rattle.run_records.specs.Parting.{ArePart, Differ, Goes, IsSameCall}
+use Rattle.run_records.specs.Alike.{IsTickAlike}
+use Rattle.run_records.specs.Outputs.{first_calls}
+use Rattle.run_records.proofs.Parting.{joined_first}
+use Rattle.run_records.proofs.Ticking.{ticks_go}
 use Rattle.run_records.specs.Buffers.{feeder, reader}
 use Rattle.run_records.specs.Records.{capacity_of}
 use Rattle.trace_replay.specs.Clocks.{Agree, AreAnswered, AreInOrder, CanCome, IsFront, Joins, Log, NeverComes, Suits, Waits, got_in, puts_in, takes_in}

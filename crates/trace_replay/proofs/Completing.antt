@@ -20,8 +20,8 @@ use Rattle.stream_meaning.specs.Calls.{answers_in, calls_of_tick, joined_between
 use Rattle.stream_meaning.specs.Settings.{IsSetting}
 use Rattle.stream_meaning.proofs.Answering.{joined_same}
 use Rattle.stream_meaning.proofs.Unread.{no_tick_takes, none_in_joined}
-use Rattle.stream_laws.specs.Outputs.{first_calls}
-use Rattle.stream_laws.proofs.Ticking.{reads_op}
+use Rattle.run_records.specs.Outputs.{first_calls}
+use Rattle.run_records.proofs.Ticking.{reads_op}
 use Rattle.run_records.specs.Buffers.{feeder, reader}
 use Rattle.run_records.specs.Ordered.{IsOrdered, made as counted, told}
 use Rattle.run_records.specs.Owning.{IsOwn}

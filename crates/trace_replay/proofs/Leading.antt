@@ -10,7 +10,7 @@ use Rattle.op_leaf.specs.Readers.{Answer}
 use Rattle.stream_meaning.specs.Instants.{Setting, answered}
 use Rattle.stream_meaning.specs.Calls.{joined_upto}
 use Rattle.stream_meaning.specs.Settings.{IsSetting}
-use Rattle.stream_laws.specs.Outputs.{first_calls}
+use Rattle.run_records.specs.Outputs.{first_calls}
 use Rattle.run_records.specs.Buffers.{feeder, reader}
 use Rattle.run_records.specs.Ordered.{IsOrdered, made as counted, told}
 use Rattle.run_records.specs.Records.{IsLawful, Run, Window, answers_of, calls_in, capacity_of, puts_of, setting_in, windows_of}

@@ -15,7 +15,7 @@ use Rattle.stream_meaning.specs.Calls.{answers_in, calls_of_tick, joined_upto}
 use Rattle.stream_meaning.specs.Settings.{IsSetting}
 use Rattle.stream_meaning.specs.Sinks.{ticks_bytes}
 use Rattle.stream_meaning.proofs.Unread.{no_tick_takes, none_in_joined}
-use Rattle.stream_laws.specs.Outputs.{first_calls}
+use Rattle.run_records.specs.Outputs.{first_calls}
 use Rattle.engine_instants.proofs.Reading.{op_of_reads}
 use Rattle.run_records.specs.Buffers.{feeder, reader}
 use Rattle.run_records.specs.Owning.{IsOwn}

@@ -9,7 +9,7 @@ use Rattle.op_leaf.specs.Readers.{Answer}
 use Rattle.stream_meaning.specs.Instants.{Setting, answered}
 use Rattle.stream_meaning.specs.Calls.{answers_in, calls_of_tick}
 use Rattle.stream_meaning.proofs.Answering.{answers_in-append}
-use Rattle.stream_laws.specs.Outputs.{first_calls}
+use Rattle.run_records.specs.Outputs.{first_calls}
 use Rattle.run_records.specs.Records.{start}
 use Rattle.node_states.specs.Ticks.{HasTicked}
 use Rattle.clock_engine.specs.declared.engine.EngineParts.{EngineParts}

@@ -17,7 +17,7 @@ use Rattle.stream_meaning.specs.Instants.{Setting, answered}
 use Rattle.stream_meaning.specs.Calls.{calls_of_tick, joined_upto, joined_between}
 use Rattle.stream_meaning.specs.Settings.{IsSetting}
 use Rattle.stream_meaning.proofs.Answering.{joined_same}
-use Rattle.stream_laws.specs.Outputs.{first_calls}
+use Rattle.run_records.specs.Outputs.{first_calls}
 use Rattle.run_records.specs.Buffers.{feeder, reader}
 use Rattle.run_records.specs.Ordered.{told}
 use Rattle.run_records.specs.Owning.{IsOwn}

@@ -10,7 +10,7 @@ use Rattle.frame_core.specs.Frames.{somes}
 use Rattle.frame_core.specs.Calls.{Call, Took, Given, put_of, puts_to, takes_of}
 use Rattle.op_leaf.specs.Readers.{Answer}
 use Rattle.run_records.proofs.Flattening.{puts-append, takes-append}
-use Rattle.stream_laws.specs.Parting.{IsSameCall}
+use Rattle.run_records.specs.Parting.{IsSameCall}
 use Rattle.trace_replay.specs.declared.told.Taken.TheVariants.{Chunk as GotChunk, Empty as IsEmpty, Waits as MustWait, Never as NoTake}
 use Rattle.trace_replay.specs.declared.told.Put.TheVariants.{Accepted as IsAccepted, Full as IsFull, Never as NoPut}
 use Rattle.trace_replay.specs.Clocks.{IsFront, Suits, buffer_of, got_in}

@@ -12,11 +12,11 @@ use Rattle.stream_meaning.specs.Instants.{Setting, answered}
 use Rattle.stream_meaning.specs.Calls.{IsBegin, answers_in, calls_of_tick}
 use Rattle.stream_meaning.specs.Settings.{IsSetting}
 use Rattle.stream_meaning.proofs.Answering.{answers_in-append, joined_same}
-use Rattle.stream_laws.specs.Parting.{ArePart, Goes}
-use Rattle.stream_laws.specs.Alike.{IsTickAlike}
-use Rattle.stream_laws.specs.Outputs.{first_calls}
-use Rattle.stream_laws.proofs.Parting.{joined_first}
-use Rattle.stream_laws.proofs.Ticking.{ticks_go}
+use Rattle.run_records.specs.Parting.{ArePart, Goes}
+use Rattle.run_records.specs.Alike.{IsTickAlike}
+use Rattle.run_records.specs.Outputs.{first_calls}
+use Rattle.run_records.proofs.Parting.{joined_first}
+use Rattle.run_records.proofs.Ticking.{ticks_go}
 use Rattle.run_records.specs.Owning.{IsOwn}
 use Rattle.run_records.proofs.Owning.{own_tick}
 use Rattle.trace_replay.specs.Clocks.{AreAnswered, AreInOrder, HasReplayed, IsFront, Log}

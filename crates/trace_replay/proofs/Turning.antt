@@ -11,8 +11,8 @@ use Rattle.op_leaf.specs.Readers.{Answer}
 use Rattle.stream_meaning.specs.Instants.{Setting, answered}
 use Rattle.stream_meaning.specs.Calls.{calls_of_tick, gives_of_tick, given, joined_upto, takes_of_tick}
 use Rattle.stream_meaning.specs.Settings.{IsSetting}
-use Rattle.stream_laws.specs.Outputs.{first_calls}
-use Rattle.stream_laws.proofs.Parting.{joined_first}
+use Rattle.run_records.specs.Outputs.{first_calls}
+use Rattle.run_records.proofs.Parting.{joined_first}
 use Rattle.run_records.specs.Buffers.{feeder, reader}
 use Rattle.run_records.specs.Ordered.{made as counted}
 use Rattle.run_records.specs.Records.{answers_of}

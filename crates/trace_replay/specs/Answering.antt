@@ -5,7 +5,7 @@ use Rattle.frame_core.specs.Coded.{cell_coded}
 use Rattle.frame_core.specs.declared.cell.Cell.{Cell}
 use Rattle.frame_core.specs.Frames.{somes}
 use Rattle.frame_core.specs.Calls.{Call, Took, takes_of, puts_to}
-use Rattle.stream_laws.specs.Parting.{IsSameCall}
+use Rattle.run_records.specs.Parting.{IsSameCall}
 use Rattle.std.proofs.Common.{◌∙◌, ap, sym, append_assoc, append-nil, arith}
 use Rattle.trace_replay.specs.declared.told.Taken.{Taken}
 use Rattle.trace_replay.specs.declared.told.Taken.TheVariants.{Chunk as GotChunk, Empty as IsEmpty, Waits as MustWait, Never as NoTake}

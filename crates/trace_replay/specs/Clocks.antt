@@ -6,8 +6,8 @@ use Rattle.frame_core.specs.Frames.{somes}
 use Rattle.frame_core.specs.Calls.{Call, Took, Given, takes_of, puts_to}
 use Rattle.op_leaf.specs.Readers.{Answer}
 use Rattle.stream_meaning.specs.Instants.{Setting, answered}
-use Rattle.stream_laws.specs.Parting.{IsSameCall}
-use Rattle.stream_laws.specs.Outputs.{first_calls}
+use Rattle.run_records.specs.Parting.{IsSameCall}
+use Rattle.run_records.specs.Outputs.{first_calls}
 use Rattle.run_records.specs.Buffers.{feeder, reader}
 use Rattle.run_records.specs.Records.{capacity_of, start}
 

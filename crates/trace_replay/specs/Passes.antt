@@ -6,7 +6,7 @@ use Rattle.frame_core.specs.Calls.{Call, puts_to}
 use Rattle.op_leaf.specs.Readers.{Answer}
 use Rattle.stream_meaning.specs.Instants.{Setting, answered}
 use Rattle.stream_meaning.specs.Calls.{answers_in}
-use Rattle.stream_laws.specs.Outputs.{first_calls}
+use Rattle.run_records.specs.Outputs.{first_calls}
 use Rattle.run_records.specs.Buffers.{feeder, reader}
 use Rattle.run_records.specs.Ordered.{IsOrdered, made as counted, told}
 use Rattle.run_records.specs.Records.{IsLawful, Run, answers_of, capacity_of, setting_in, start, windows_of}

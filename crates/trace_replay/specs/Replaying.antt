@@ -5,7 +5,7 @@ use Rattle.op_leaf.specs.Readers.{Answer}
 use Rattle.stream_meaning.specs.Instants.{answered}
 use Rattle.stream_meaning.specs.Calls.{answers_in}
 use Rattle.stream_meaning.specs.Settings.{IsSetting}
-use Rattle.stream_laws.specs.Outputs.{first_calls}
+use Rattle.run_records.specs.Outputs.{first_calls}
 use Rattle.clock_outputs.specs.Appends.{RoseAt}
 use Rattle.clock_engine.specs.declared.engine.ClockEngine.{ClockEngine}
 use Rattle.clock_engine.specs.Engines.{EngineStands, outputs_of, setting_of}

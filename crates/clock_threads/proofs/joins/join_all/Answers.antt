@@ -1,6 +1,6 @@
 use Rattle.std.proofs.Common.{◌≡◌, ◌<◌, ◌+◌, get_or, sym, subst, length, arith, rules, ap, ◌∙◌, length-append, [], ◌∷◌}
 use Rattle.buffer_queue.specs.Window.{Window}
-use Rattle.clock_windows.specs.Wires.{wire_at}
+use Rattle.clock_threads.specs.Wires.{wire_at}
 use Rattle.clock_threads.proofs.Joining.{waiting_less, waiting_last, joined_skip, join_step, puts_later, takes_later}
 use Rattle.clock_threads.proofs.joins.join_all.Goals as goal
 

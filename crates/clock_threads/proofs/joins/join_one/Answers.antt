@@ -1,6 +1,6 @@
 use Rattle.std.proofs.Common.{◌≡◌, ◌<◌, subst, set, length, length-set, arith}
 use Rattle.std.proofs.lemmas.List.{get_or_default}
-use Rattle.clock_tasks.specs.declared.task.Task.{Task}
+use Rattle.clock_threads.specs.declared.task.Task.{Task}
 use Rattle.buffer_ends.specs.declared.thread_taps.ThreadTaps.{ThreadTaps}
 use Rattle.clock_threads.specs.Starts.{PutAdded, TakeAdded}
 use Rattle.clock_threads.proofs.Joining.{both_added, engines_set, engines_then}

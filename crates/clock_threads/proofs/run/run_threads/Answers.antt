@@ -1,8 +1,8 @@
 use Rattle.std.proofs.Common.{◌∙◌, rules, List, length, sym, subst}
-use Rattle.clock_windows.specs.declared.wires.Wire.{Wire}
+use Rattle.clock_threads.specs.declared.wires.Wire.{Wire}
 use Rattle.plan_core.specs.declared.plan.Plan.{Plan}
 use Rattle.plan_core.specs.Plans.{IsWellFormed}
-use Rattle.clock_threads.specs.Threads.{AreFresh, AreLaid, AreSomeFresh}
+use Rattle.clock_threads.specs.WiredRuns.{AreFresh, AreLaid, AreSomeFresh}
 use Rattle.clock_threads.proofs.Idling.{done_no_write, memory_no_write, none_made, none_run}
 use Rattle.clock_threads.proofs.Wiring.{fresh_is, laid}
 use Rattle.clock_threads.proofs.run.run_threads.Goals as goal

@@ -1,4 +1,4 @@
-use Rattle.clock_threads.specs.Tasks.{AreLocals}
+use Rattle.clock_threads.specs.EngineTasks.{AreLocals}
 use Rattle.clock_threads.proofs.tasks.locals_of.Given as goal
 
 abbrev pub invariant-loop : goal.invariant-loop

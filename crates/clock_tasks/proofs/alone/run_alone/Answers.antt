@@ -1,7 +1,0 @@
-use Rattle.clock_tasks.specs.Alone.{any_calls, any_taps, no_buffers, with_taps}
-use Rattle.clock_tasks.proofs.Retapping.{ran_with}
-use Rattle.clock_tasks.proofs.alone.run_alone.Goals as goal
-
-pub returns : goal.returns
-returns g c =
-    ran_with g.O.Sink.room c.args.count g.O.Sink.held g.O.Sink.name g.O.Sink.faults g.O.Sink.appends _ _ _ any_calls no_buffers any_taps (with_taps _ c.args.engine.now) (with_taps c.run_ticks.new.taps c.run_ticks.new.engine) tt tt (λ calls. tt) c.run_ticks.ensures

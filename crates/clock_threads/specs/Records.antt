@@ -1,0 +1,119 @@
+-- What the clocks have done, window by window.
+use Rattle.std.specs.Prelude.{◌≡◌, ◌≢◌, ◌⊎◌, ◌<◌, ◌+◌, ◌-◌, ◌^◌, ℕ, zero, suc, Option, List, [], ◌∷◌, ◌++◌, length, map, slice_index_or, slice_set}
+use Rattle.frame_core.specs.declared.cell.Cell.{Cell}
+use Rattle.frame_core.specs.Legal.{IsRun}
+use Rattle.frame_core.specs.Calls.{Call, takes_of, puts_to}
+use Rattle.buffer_ends.specs.Sides.{Side}
+use Rattle.buffer_ends.specs.Local.{Answers, LocalBuffer, closed, no_answers}
+use Rattle.buffer_ends.specs.Ends.{EndsStand, ListsStand, Has}
+use Rattle.buffer_ends.specs.declared.thread_taps.ThreadTaps.{ThreadTaps}
+use Rattle.clock_engine.specs.Ticks.{HaveTicksRoom}
+use Rattle.clock_engine.specs.Pieces.{GotPieces}
+use Rattle.run_records.specs.Records.{Window, start}
+use Rattle.buffer_sides.specs.Logs.{told}
+use Rattle.clock_threads.specs.declared.task.Task.{Task}
+use Rattle.clock_threads.specs.Histories.{History, joined_from}
+use Rattle.stream_meaning.specs.Calls.{joined_upto}
+use Rattle.clock_engine.specs.Engines.{held_of}
+use Rattle.clock_threads.specs.TaskRuns.{EngineGone, IsSameClock}
+use Rattle.clock_threads.specs.declared.wires.Wire.{Wire}
+use Rattle.clock_threads.specs.Wires.{wire_at, kept}
+use Rattle.clock_threads.specs.Ends.{puts_of as put_ends, takes_of as take_ends, JoinOpen}
+
+-- the puts and the takes of a buffer in so many ticks from one on
+abbrev pub window_of : Wire → (ℕ → History) → (b from count : ℕ) → Window
+window_of wire histories b from count =
+    (puts_to b (joined_from (histories wire.from).calls from count), takes_of b (joined_from (histories wire.to).calls from count))
+
+-- the first so many windows of a buffer
+abbrev pub windows_upto : Wire → (ℕ → History) → (b W N count : ℕ) → List Window
+windows_upto wire histories b W N zero = []
+windows_upto wire histories b W N (suc j) =
+    windows_upto wire histories b W N j ++ window_of wire histories b (start W N j) (start W N (suc j) - start W N j) ∷ []
+
+-- each end of task k is that of a buffer which joins clock k to another one
+pub record IsWired {S R : Type 0} (wires : List Wire) (k : ℕ) (task : Task S (ThreadTaps R)) : Type 0 where
+  pub puts : (p : ℕ) (d : Side) → p < length (put_ends task) → let b = (slice_index_or (put_ends task) p d).buffer in
+      (b < length wires) × ((wire_at wires b).from ≡ k) × ((wire_at wires b).to ≢ k)
+  pub takes : (p : ℕ) (d : Side) → p < length (take_ends task) → let b = (slice_index_or (take_ends task) p d).buffer in
+      (b < length wires) × ((wire_at wires b).to ≡ k) × ((wire_at wires b).from ≢ k)
+
+-- clock k has made so many of N ticks, each of its sinks got a piece for each of them, and its taps stand for the calls on the buffers
+-- that are its own alone
+pub record ClockGoing {S R : Type 0} (held name : S → Option (List ℕ)) (room : S → Option ℕ) (faults : S → ℕ) (appends : S → Option ℕ) (wires : List Wire) (N t k : ℕ) (history : History)
+    (first now : Task S (ThreadTaps R)) : Type 0 where
+  pub gone : EngineGone held t history (held_of held first.engine) now.engine
+  pub same : IsSameClock name faults first.engine now.engine
+  pub pieces : GotPieces appends t first.engine.outs now.engine.outs
+  pub rooms : (n : ℕ) → t + n ≡ N → HaveTicksRoom room now.engine.parts now.engine.outs n
+  pub wired : IsWired wires k now
+  pub stand : EndsStand (put_ends now) (take_ends now) now.taps.local (kept wires k (joined_upto history.calls t))
+  pub lists : length now.taps.local ≡ length wires
+  pub capacities : (b : ℕ) (d : LocalBuffer) → b < length wires → (slice_index_or now.taps.local b d).capacity ≡ (wire_at wires b).capacity
+
+-- the windows of a buffer between clocks so far are one history, and both ends open the next one
+pub record JoinGoing {S R : Type 0} (wire : Wire) (b : ℕ) (windows : List Window) (tasks : List (Task S (ThreadTaps R))) : Type 0 where
+  pub chunks : List (List Cell)
+  pub run : IsRun wire.capacity [] windows chunks
+  pub opens : JoinOpen wire b chunks tasks
+
+-- a list with the answers of these windows, each closed
+pub record IsLogged (windows : List Window) (list : LocalBuffer) : Type 0 where
+  pub closed_are : list.closed ≡ map told windows
+  pub opens : list.current ≡ no_answers
+
+-- The logs so far: that of a buffer between clocks stands here, and that of a buffer with both ends in one clock in the clock's list.
+pub record LogsGoing {S R : Type 0} (wires : List Wire) (windows : ℕ → List Window) (now : List (Task S (ThreadTaps R))) (logs : List (List Answers)) (d : Task S (ThreadTaps R)) : Type 0 where
+  pub many : length logs ≡ length wires
+  pub joined : (b : ℕ) (e : List Answers) → b < length wires → (wire_at wires b).from ≢ (wire_at wires b).to → slice_index_or logs b e ≡ map told (windows b)
+  pub local : (b : ℕ) (e : LocalBuffer) → b < length wires → (wire_at wires b).from ≡ (wire_at wires b).to → IsLogged (windows b) (slice_index_or (slice_index_or now (wire_at wires b).from d).taps.local b e)
+
+-- so many windows were made and closed
+pub record Going {S R : Type 0} (held name : S → Option (List ℕ)) (room : S → Option ℕ) (faults : S → ℕ) (appends : S → Option ℕ) (wires : List Wire) (W N j : ℕ)
+    (first now : List (Task S (ThreadTaps R))) (logs : List (List Answers)) (d : Task S (ThreadTaps R)) : Type 0 where
+  pub histories : ℕ → History
+  pub many : length now ≡ length first
+  pub clocks : (k : ℕ) → k < length first → ClockGoing held name room faults appends wires N (start W N j) k (histories k) (slice_index_or first k d) (slice_index_or now k d)
+  pub joins : (b : ℕ) → b < length wires → (wire_at wires b).from ≢ (wire_at wires b).to
+      → JoinGoing (wire_at wires b) b (windows_upto (wire_at wires b) histories b W N j) now
+  pub logged : LogsGoing wires (λ b. windows_upto (wire_at wires b) histories b W N j) now logs d
+
+-- the list of a buffer was closed
+pub record ListClosed {S R : Type 0} (b : ℕ) (old new : Task S (ThreadTaps R)) : Type 0 where
+  pub engine : new.engine ≡ old.engine
+  pub puts : put_ends new ≡ put_ends old
+  pub takes : take_ends new ≡ take_ends old
+  pub local : (d : LocalBuffer) → new.taps.local ≡ slice_set old.taps.local b (closed (slice_index_or old.taps.local b d))
+  pub lists : (calls : List Call) → ListsStand (λ n. Has (put_ends old) n ⊎ Has (take_ends old) n) old.taps.local calls
+      → ListsStand (λ n. Has (put_ends old) n ⊎ Has (take_ends old) n) new.taps.local calls
+
+-- both ends of a buffer are in clock k
+abbrev pub IsOwn : (wires : List Wire) → (k b : ℕ) → Type 0
+IsOwn wires k b = ((wire_at wires b).from ≡ k) × ((wire_at wires b).to ≡ k)
+
+-- task k, of which the lists of its own buffers below `below` were closed, and no others
+pub record EndedTask {S R : Type 0} (wires : List Wire) (below k : ℕ) (old new : Task S (ThreadTaps R)) : Type 0 where
+  pub engine : new.engine ≡ old.engine
+  pub puts : put_ends new ≡ put_ends old
+  pub takes : take_ends new ≡ take_ends old
+  pub many : length new.taps.local ≡ length old.taps.local
+  pub own : (b : ℕ) (d : LocalBuffer) → b < below → IsOwn wires k b → slice_index_or new.taps.local b d ≡ closed (slice_index_or old.taps.local b d)
+  pub others : (b : ℕ) (d : LocalBuffer) → (IsOwn wires k b → ⊥) → slice_index_or new.taps.local b d ≡ slice_index_or old.taps.local b d
+  pub lists : (calls : List Call) → ListsStand (λ n. Has (put_ends old) n ⊎ Has (take_ends old) n) old.taps.local calls
+      → ListsStand (λ n. Has (put_ends old) n ⊎ Has (take_ends old) n) new.taps.local calls
+
+-- the window of each buffer with both ends in one clock was closed
+pub record AllEndedTasks {S R : Type 0} (wires : List Wire) (old new : List (Task S (ThreadTaps R))) : Type 0 where
+  pub many : length new ≡ length old
+  pub each : (k : ℕ) (d : Task S (ThreadTaps R)) → k < length old → EndedTask wires (length wires) k (slice_index_or old k d) (slice_index_or new k d)
+
+-- the tasks have the lists of these wires' buffers
+pub record HaveLists {S R : Type 0} (wires : List Wire) (tasks : List (Task S (ThreadTaps R))) : Type 0 where
+  pub few : length wires < 2 ^ 32
+  pub places : (b : ℕ) → b < length wires → (wire_at wires b).from < length tasks
+  pub lists : (k : ℕ) (d : Task S (ThreadTaps R)) → k < length tasks → length (slice_index_or tasks k d).taps.local ≡ length wires
+
+-- the engines as they were
+pub record SameEngines {S R : Type 0} (old new : List (Task S (ThreadTaps R))) : Type 0 where
+  pub many : length new ≡ length old
+  pub each : (k : ℕ) (d : Task S (ThreadTaps R)) → k < length old → (slice_index_or new k d).engine ≡ (slice_index_or old k d).engine

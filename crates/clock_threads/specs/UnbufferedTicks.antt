@@ -1,0 +1,27 @@
+-- Engines over a plan without buffers: each stands for a task with taps of no buffer.
+use Rattle.std.specs.Prelude.{ℕ, Option, List, ⊤}
+use Rattle.frame_core.specs.Calls.{Call}
+use Rattle.clock_engine.specs.declared.engine.ClockEngine.{ClockEngine}
+use Rattle.clock_threads.specs.declared.task.Task.{Task}
+use Rattle.clock_threads.specs.TaskRuns.{CanRun, WasRun}
+
+-- the task of an engine with these taps
+abbrev pub with_taps : {S T : Type 0} → T → ClockEngine S → Task S T
+with_taps taps engine = record { engine = engine; taps = taps }
+
+abbrev pub no_buffers : ⊤ → ℕ
+no_buffers taps = 0
+
+abbrev pub any_calls : ⊤ → List Call → Type 0
+any_calls taps calls = ⊤
+
+abbrev pub any_taps : ⊤ → ⊤ → Type 0
+any_taps old new = ⊤
+
+-- it may make so many ticks
+abbrev pub CanRunUnbuffered : {S : Type 0} → (S → Option ℕ) → (count : ℕ) → ClockEngine S → Type 0
+CanRunUnbuffered room count engine = CanRun room no_buffers count (with_taps tt engine)
+
+-- what it did
+abbrev pub WasRunUnbuffered : {S : Type 0} → (held name : S → Option (List ℕ)) → (S → Option ℕ) → (S → ℕ) → (S → Option ℕ) → (count : ℕ) → (old new : ClockEngine S) → Type 0
+WasRunUnbuffered held name room faults appends count old new = WasRun held name room faults appends any_calls no_buffers any_taps count (with_taps tt old) (with_taps tt new)

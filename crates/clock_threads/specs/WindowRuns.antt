@@ -1,0 +1,101 @@
+-- A run of all clocks by threads.
+use Rattle.std.specs.Prelude.{◌≡◌, ◌⊎◌, ◌<◌, ◌≤◌, ◌-◌, ◌^◌, ℕ, suc, Option, Some, None, List, [], ◌∷◌, ◌++◌, length, slice_index_or}
+use Rattle.frame_core.specs.declared.cell.Cell.{Cell}
+use Rattle.frame_core.specs.Legal.{IsRun}
+use Rattle.frame_core.specs.Calls.{Call, takes_of, puts_to}
+use Rattle.buffer_ends.specs.Local.{Answers, on}
+use Rattle.buffer_ends.specs.declared.run_end.End.{End}
+use Rattle.buffer_ends.specs.declared.run_end.End.TheVariants.{Write, Memory as NoMemory}
+use Rattle.buffer_ends.specs.declared.thread_taps.ThreadTaps.{ThreadTaps}
+use Rattle.clock_engine.specs.declared.fault.TickFault.{TickFault}
+use Rattle.clock_engine.specs.declared.fault.TickFault.TheVariants.{Memory as OutOfMemory, Write as Refused}
+use Rattle.clock_threads.specs.declared.task.Task.{Task}
+use Rattle.clock_threads.specs.Histories.{History, joined_from}
+use Rattle.stream_meaning.specs.Calls.{joined_upto}
+use Rattle.op_leaf.specs.Readers.{Answer}
+use Rattle.clock_engine.specs.declared.engine.ClockEngine.{ClockEngine}
+use Rattle.clock_engine.specs.Engines.{EngineStands, EngineStopped, held_of}
+use Rattle.clock_engine.specs.Pieces.{GotBetween, GotPieces}
+use Rattle.clock_threads.specs.TaskRuns.{EngineGone, EngineGonePart, IsSameClock, IsWriteOf}
+use Rattle.clock_threads.specs.declared.wires.Wire.{Wire}
+use Rattle.clock_threads.specs.Wires.{wire_at}
+use Rattle.run_records.specs.Records.{Follows, start}
+use Rattle.clock_threads.specs.Records.{windows_upto, Going}
+
+-- the tasks of all clocks before the first tick
+pub record IsReady {S R : Type 0} (held name : S → Option (List ℕ)) (room : S → Option ℕ) (faults : S → ℕ) (appends : S → Option ℕ) (wires : List Wire) (W N : ℕ) (tasks : List (Task S (ThreadTaps R))) (logs : List (List Answers)) : Type 0 where
+  pub some : 0 < length tasks
+  pub few : length wires < 2 ^ 32
+  pub places : (b : ℕ) → b < length wires → (wire_at wires b).from < length tasks × ((wire_at wires b).to < length tasks)
+  pub buffers : (k : ℕ) (d : Task S (ThreadTaps R)) → k < length tasks → length (slice_index_or tasks k d).engine.parts.shape.plan.now.buffers ≡ length wires
+  pub begun : (d : Task S (ThreadTaps R)) → Going held name room faults appends wires W N 0 tasks tasks logs d
+
+-- all ticks were made
+pub record DoneAt {S R : Type 0} (held name : S → Option (List ℕ)) (room : S → Option ℕ) (faults : S → ℕ) (appends : S → Option ℕ) (wires : List Wire) (W N : ℕ) (first now : List (Task S (ThreadTaps R))) (logs : List (List Answers)) (d : Task S (ThreadTaps R)) : Type 0 where
+  pub windows : ℕ
+  pub all : start W N windows ≡ N
+  pub tight : (i : ℕ) → i < windows → start W N i < N
+  pub going : Going held name room faults appends wires W N windows first now logs d
+
+abbrev pub RunDone : {S R : Type 0} → (held name : S → Option (List ℕ)) → (S → Option ℕ) → (S → ℕ) → (S → Option ℕ) → List Wire → (W N : ℕ) → (first now : List (Task S (ThreadTaps R))) → (logs : List (List Answers)) → Type 0
+RunDone {S} {R} held name room faults appends wires W N first now logs = (d : Task S (ThreadTaps R)) → DoneAt held name room faults appends wires W N first now logs d
+
+-- How far a clock came in the window that follows so many: it has made so many ticks, and maybe stopped in the next one, which is still of
+-- that window; since the window began it made these calls; and each of its sinks got a piece for each of the ticks, and at most one more
+-- where it stopped.
+pub record CameTo {S R : Type 0} (held name : S → Option (List ℕ)) (faults : S → ℕ) (appends : S → Option ℕ) (W N closed : ℕ) (history : History) (since : List Call) (first now : Task S (ThreadTaps R)) : Type 0 where
+  pub same : IsSameClock name faults first.engine now.engine
+  pub ticks : ℕ
+  pub least : start W N closed ≤ ticks
+  pub pieces : now.engine.parts.stopped ≡ None → GotPieces appends ticks first.engine.outs now.engine.outs
+  pub pieces_part : GotBetween appends ticks (suc ticks) first.engine.outs now.engine.outs
+  pub came : ((ticks ≤ start W N (suc closed)) × EngineGone held ticks history (held_of held first.engine) now.engine
+      × (since ≡ joined_from history.calls (start W N closed) (ticks - start W N closed)))
+      ⊎ ((ticks < start W N (suc closed)) × (part : EngineGonePart held ticks history (held_of held first.engine) now.engine)
+      × (since ≡ joined_from history.calls (start W N closed) (ticks - start W N closed) ++ part.made))
+
+-- an engine that has made so many ticks and tried no other, or stopped in the next one; with these answers before it
+abbrev pub StandsOrStopped : {S : Type 0} → ClockEngine S → (made tried : ℕ) → (answers : ℕ → List Answer) → Type 0
+StandsOrStopped engine made tried answers =
+    ((tried ≡ made) × EngineStands engine.parts made answers) ⊎ ((tried ≡ suc made) × (calls : List Call) × EngineStopped engine.parts made answers calls)
+
+-- The run came so far: no clock is past the window that follows those that were closed, and all ended the window before it, or those that did not stop ended it. The windows of each buffer, the open one too, are
+-- one history, and a clock's calls on a buffer of its own are in order.
+pub record PartAt {S R : Type 0} (held name : S → Option (List ℕ)) (faults : S → ℕ) (appends : S → Option ℕ) (wires : List Wire) (W N : ℕ) (first now : List (Task S (ThreadTaps R))) (d : Task S (ThreadTaps R)) : Type 0 where
+  pub closed : ℕ
+  pub histories : ℕ → History
+  pub since : ℕ → List Call
+  pub many : length now ≡ length first
+  pub clocks : (k : ℕ) → k < length first → CameTo held name faults appends W N closed (histories k) (since k) (slice_index_or first k d) (slice_index_or now k d)
+  pub ended : ((k : ℕ) (low : k < length first) → ((slice_index_or now k d).engine.parts.stopped ≡ None) × ((clocks k low).ticks ≡ start W N closed))
+      ⊎ ((k : ℕ) (low : k < length first) → (slice_index_or now k d).engine.parts.stopped ≡ None → (clocks k low).ticks ≡ start W N (suc closed))
+  pub runs : (b : ℕ) → b < length wires → (chunks : List (List Cell))
+      × IsRun (wire_at wires b).capacity [] (windows_upto (wire_at wires b) histories b W N closed ++ (puts_to b (since (wire_at wires b).from), takes_of b (since (wire_at wires b).to)) ∷ []) chunks
+  pub in_order : (b : ℕ) → b < length wires → (wire_at wires b).from ≡ (wire_at wires b).to → (chunks : List (List Cell))
+      × Follows (wire_at wires b).capacity [] (on b (joined_upto (histories (wire_at wires b).from).calls (start W N closed) ++ since (wire_at wires b).from)) chunks
+
+abbrev pub RunPart : {S R : Type 0} → (held name : S → Option (List ℕ)) → (S → ℕ) → (S → Option ℕ) → List Wire → (W N : ℕ) → (first now : List (Task S (ThreadTaps R))) → Type 0
+RunPart {S} {R} held name faults appends wires W N first now = (d : Task S (ThreadTaps R)) → PartAt held name faults appends wires W N first now d
+
+-- how a run ends, where this fault stopped a clock
+abbrev pub end_by : (clock : ℕ) → TickFault → End
+end_by clock (Refused sink) = Write clock sink
+end_by clock OutOfMemory = NoMemory
+
+-- the lowest clock that stopped tells the end
+pub record IsToldByLowest {S R : Type 0} (tasks : List (Task S (ThreadTaps R))) (end : End) : Type 0 where
+  pub place : ℕ
+  pub within : place < length tasks
+  pub fault : TickFault
+  pub stopped : (d : Task S (ThreadTaps R)) → (slice_index_or tasks place d).engine.parts.stopped ≡ Some fault
+  pub lowest : (k : ℕ) (d : Task S (ThreadTaps R)) → k < place → (slice_index_or tasks k d).engine.parts.stopped ≡ None
+  pub end_is : (d : Task S (ThreadTaps R)) → end ≡ end_by (slice_index_or tasks place d).engine.parts.clock fault
+
+-- this sink of this clock, the lowest that stopped, refused bytes
+pub record IsWriteAt {S R : Type 0} (faults : S → ℕ) (clock sink : ℕ) (first now : List (Task S (ThreadTaps R))) : Type 0 where
+  pub place : ℕ
+  pub within : place < length first
+  pub clock_is : (d : Task S (ThreadTaps R)) → (slice_index_or now place d).engine.parts.clock ≡ clock
+  pub stopped : (d : Task S (ThreadTaps R)) → (slice_index_or now place d).engine.parts.stopped ≡ Some (Refused sink)
+  pub lowest : (k : ℕ) (d : Task S (ThreadTaps R)) → k < place → (slice_index_or now k d).engine.parts.stopped ≡ None
+  pub write : (d : Task S (ThreadTaps R)) → IsWriteOf faults sink (slice_index_or first place d).engine (slice_index_or now place d).engine

@@ -1,0 +1,23 @@
+-- Which clocks a buffer joins.
+use Rattle.std.specs.Prelude.{ℕ, ◌==◌, Bool, false, ◌||◌, List, [], ◌∷◌, slice_index_or, if◌then◌else◌}
+use Rattle.frame_core.specs.Calls.{Call}
+use Rattle.buffer_ends.specs.Local.{buffer_of}
+use Rattle.clock_threads.specs.declared.wires.Wire.{Wire}
+
+abbrev pub no_wire : Wire
+no_wire = record { from = 0; to = 0; capacity = 0 }
+
+abbrev pub wire_at : List Wire → ℕ → Wire
+wire_at wires b = slice_index_or wires b no_wire
+
+-- buffer b joins clock k to another one
+abbrev pub ends_at : Wire → ℕ → Bool
+ends_at wire k = if wire.from == wire.to then false else wire.from == k || wire.to == k
+
+abbrev pub ended : List Wire → (k b : ℕ) → Bool
+ended wires k b = ends_at (wire_at wires b) k
+
+-- the calls of clock k on the buffers that are its own alone
+abbrev pub kept : List Wire → ℕ → List Call → List Call
+kept wires k [] = []
+kept wires k (call ∷ calls) = if ended wires k (buffer_of call) then kept wires k calls else call ∷ kept wires k calls

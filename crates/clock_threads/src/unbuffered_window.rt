@@ -1,0 +1,79 @@
+// The engines of a plan without buffers.
+ghost use Rattle.std.specs.Prelude.{◌<◌, ℕ, All, length, slice_index_or};
+ghost use Rattle.clock_threads.specs.UnbufferedTicks.{CanRunUnbuffered, WasRunUnbuffered};
+
+use crate::task::run_ticks;
+use clock_engine::ClockEngine;
+use frame_core::{Chunk, Gave, Taps};
+use liq_base::{Gate, Memory, Sink};
+use std::alloc::Global;
+use std::thread;
+use std::thread::Threads;
+
+// Taps that refuse each call, as for want of memory. An engine without readers and feeds makes none.
+#[derive(Drop)]
+struct UnbufferedTaps {
+    // How many buffers there are.
+    buffers: u32,
+}
+
+impl Taps for UnbufferedTaps {
+    ghost use Rattle.std.specs.Prelude.{⊤};
+
+    ghost stands = { λ s calls. ⊤ };
+
+    ghost buffers = { λ s. s.buffers };
+
+    ghost same = { λ s t. ⊤ };
+
+    ghost same_refl = { λ s. tt };
+
+    ghost same_trans = { λ s t u a b. tt };
+
+    fn take(&mut self, _buffer: u32) -> Result<Option<Chunk>, Memory> {
+        Err(Memory)
+    }
+
+    fn give(&mut self, _buffer: u32, chunk: Chunk) -> Result<Gave, (Chunk, Memory)> {
+        Err((chunk, Memory))
+    }
+}
+
+// So many ticks of one engine, each after the gate. An engine with a fault stops at its tick.
+fn run_unbuffered_ticks<O: Sink, G: Gate>(
+    alloc: Global,
+    engine: &mut ClockEngine<'_, O>,
+    gate: &G,
+    count: u64,
+)
+    requires { CanRunUnbuffered O.room count engine.old }
+    ensures { WasRunUnbuffered O.held O.name O.room O.faults O.appends count engine.old engine.new }
+{
+    run_ticks(
+        alloc,
+        engine,
+        &mut UnbufferedTaps { buffers: 0 },
+        gate,
+        count,
+    );
+}
+
+/// Each engine makes so many ticks, over a plan without buffers, at the same time as the others.
+pub fn run_unbuffered_window<O: Sink + Send, G: Gate + Sync, R: Threads + Sync>(
+    rt: &R,
+    alloc: Global,
+    engines: &mut [ClockEngine<'_, O>],
+    gate: &G,
+    count: u64,
+)
+    requires some { 0 < length engines.old }
+    requires can { All (CanRunUnbuffered O.room count) engines.old }
+    ensures ran { (i : ℕ) (d : _) → i < length engines.old → WasRunUnbuffered O.held O.name O.room O.faults O.appends count (slice_index_or engines.old i d) (slice_index_or engines.new i d) }
+{
+    thread::for_each_mut(
+        rt,
+        engines,
+        engines.len(),
+        &|_, engine| run_unbuffered_ticks(alloc, engine, gate, count),
+    );
+}

@@ -1,3 +1,0 @@
-pub mod Parting
-pub mod Outputs
-pub mod Alike
