@@ -13,8 +13,7 @@ use Rattle.plan_core.specs.declared.plan.Plan.{Plan}
 use Rattle.clock_infer.specs.declared.clock_map.NodeClock.{NodeClock}
 use Rattle.frame_core.specs.Slots.{Slot}
 use Rattle.frame_core.specs.Library.{Sounds}
-use Rattle.frame_core.specs.Calls.{Call}
-use Rattle.op_leaf.specs.Readers.{Answer}
+use Rattle.frame_core.specs.Calls.{Call, Answer}
 use Rattle.stream_meaning.specs.Instants.{Setting, history, part_at}
 use Rattle.stream_meaning.specs.Calls.{HasAnswers, IsBegin, after_calls, calls_of, joined_upto}
 use Rattle.stream_meaning.proofs.Answering.{after_calls-none, after_calls-then, answers_first, answers_then, begin_all, begin_joined, begin_none, joined_same}

@@ -1,6 +1,6 @@
 -- An engine without ticks that begins to keep its marks.
 use Rattle.std.proofs.Common.{◌≡◌, ◌∙◌, ℕ, true, List, sym}
-use Rattle.op_leaf.specs.Readers.{Answer}
+use Rattle.frame_core.specs.Calls.{Answer}
 use Rattle.clock_engine.specs.declared.engine.EngineParts.{EngineParts}
 use Rattle.clock_engine.specs.Engines.{EngineStands}
 

@@ -7,16 +7,15 @@ use Rattle.std.proofs.lemmas.List.{append-nil, get_or_default, get_or-map, lengt
 use Rattle.std.proofs.lemmas.Option.{none-some, slice_get_read, slice_get_within}
 use Rattle.liq_base.specs.Pieces.{HasRoom, IsPrefix, grown, narrowed}
 use Rattle.clock_infer.specs.declared.clock_map.NodeClock.TheVariants.{Main}
-use Rattle.op_leaf.specs.Readers.{Answer}
 use Rattle.frame_core.specs.Slots.{Slot}
-use Rattle.frame_core.specs.Calls.{Call}
+use Rattle.frame_core.specs.Calls.{Call, Answer}
 use Rattle.stream_meaning.specs.Arithmetic.{cells_of}
-use Rattle.stream_meaning.specs.Instants.{Setting, clock_of, sub_of}
-use Rattle.stream_meaning.specs.Sinks.{block_length, cues, feed_cells, gaps, is_wide, kind_of, tick_bytes, tick_cues, tick_slots}
+use Rattle.stream_meaning.specs.Instants.{Setting, clock_of, sub_of, with_rest}
+use Rattle.stream_meaning.specs.Sinks.{block_length, cues, feed_cells, gaps, is_wide, kind_of, tick_bytes, tick_cues, tick_slots, IsOutput}
 use Rattle.stream_meaning.specs.Calls.{HasAnswers, IsBegin, IsUnread, after_calls, answers_in, calls_of_tick, give_by, joined_upto, takes_of_tick}
 use Rattle.stream_meaning.proofs.Answering.{answers_first, answers_in-append, begin_all, begin_behind, begin_more}
 use Rattle.stream_meaning.proofs.Unread.{no_given, no_tick_takes, none_in_joined}
-use Rattle.node_states.specs.Ticks.{HasStopped, HasTicked, IsOutput, with_rest}
+use Rattle.node_states.specs.Ticks.{HasStopped, HasTicked}
 use Rattle.clock_outputs.specs.declared.port.Port.{Port}
 use Rattle.clock_outputs.specs.declared.feed.FeedPort.{FeedPort}
 use Rattle.clock_outputs.specs.Feeds.{HaveGiven, HaveGivenSome, HaveOwnBuffers, given_by}

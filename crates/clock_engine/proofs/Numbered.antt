@@ -9,8 +9,7 @@ use Rattle.clock_infer.specs.declared.clock_map.NodeClock.TheVariants.{Main}
 use Rattle.stream_meaning.specs.Instants.{Setting, clock_of, lies_in, same_clock}
 use Rattle.stream_meaning.proofs.Existence.{same_clock-true}
 use Rattle.std.specs.Option.{option_map_or}
-use Rattle.stream_meaning.specs.Sinks.{is_wide, wide_sink}
-use Rattle.node_states.specs.Ticks.{IsOutput}
+use Rattle.stream_meaning.specs.Sinks.{is_wide, wide_sink, IsOutput}
 use Rattle.clock_outputs.specs.declared.port.Port.{Port}
 use Rattle.clock_engine.specs.Engines.{output_of, outputs_from, outputs_of}
 

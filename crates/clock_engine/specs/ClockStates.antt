@@ -5,7 +5,7 @@ use Rattle.clock_infer.specs.declared.clock_map.NodeClock.{NodeClock}
 use Rattle.clock_infer.specs.declared.clock_map.NodeClock.TheVariants.{Sub}
 use Rattle.frame_core.specs.Slots.{Slot}
 use Rattle.frame_core.specs.Library.{Sounds}
-use Rattle.op_leaf.specs.Readers.{Answer}
+use Rattle.frame_core.specs.Calls.{Answer}
 use Rattle.stream_meaning.specs.Instants.{Setting}
 use Rattle.node_states.specs.Times.{TimeStands}
 use Rattle.engine_instants.specs.declared.shape.Shape.{Shape}

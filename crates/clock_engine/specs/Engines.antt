@@ -9,12 +9,10 @@ use Rattle.clock_infer.specs.declared.clock_map.ClockMap.{ClockMap}
 use Rattle.clock_infer.specs.declared.clock_map.NodeClock.{NodeClock}
 use Rattle.clock_infer.specs.declared.clock_map.NodeClock.TheVariants.{Main}
 use Rattle.clock_infer.specs.Answers.{IsClockMap}
-use Rattle.frame_core.specs.Calls.{Call}
-use Rattle.op_leaf.specs.Readers.{Answer}
-use Rattle.stream_meaning.specs.Instants.{Setting, lies_in, sub_of}
+use Rattle.frame_core.specs.Calls.{Call, Answer}
+use Rattle.stream_meaning.specs.Instants.{Setting, lies_in, sub_of, with_rest}
 use Rattle.stream_meaning.specs.Sinks.{block_length, cues, gaps, is_wide, kind_of}
 use Rattle.stream_meaning.specs.Calls.{IsBegin, IsUnread, after_calls, calls_of_tick}
-use Rattle.node_states.specs.Ticks.{with_rest}
 use Rattle.clock_outputs.specs.declared.port.Port.{Port}
 use Rattle.clock_outputs.specs.declared.feed.FeedPort.{FeedPort}
 use Rattle.sub_clocks.specs.Clocks.{AreOwnRoots}

@@ -5,8 +5,7 @@ use Rattle.plan_core.specs.declared.plan.Plan.{Plan}
 use Rattle.clock_infer.specs.declared.clock_map.NodeClock.{NodeClock}
 use Rattle.frame_core.specs.Slots.{Slot}
 use Rattle.frame_core.specs.Library.{Sounds}
-use Rattle.frame_core.specs.Calls.{Adds, Call}
-use Rattle.op_leaf.specs.Readers.{Answer}
+use Rattle.frame_core.specs.Calls.{Adds, Call, Answer}
 use Rattle.stream_meaning.specs.Instants.{Setting, IsMeaning, history, moment_after, offer, part_at}
 use Rattle.stream_meaning.specs.Calls.{GoDown, HasAnswers, IsBegin, after_calls, calls_of, joined_upto}
 use Rattle.clock_outputs.specs.declared.port.Port.{Port}

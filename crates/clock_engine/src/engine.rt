@@ -1,7 +1,7 @@
 // The engine of one clock.
 ghost use Rattle.clock_engine.specs.declared.fault.TickFault.{TickFault as Fault};
 ghost use Rattle.clock_engine.specs.declared.fault.TickFault.TheVariants.{Memory as OutOfMemory, Write};
-ghost use Rattle.frame_core.specs.Calls.{Call};
+ghost use Rattle.frame_core.specs.Calls.{Call, Answer};
 ghost use Rattle.clock_outputs.specs.Feeds.{HaveGiven, HaveGivenSome};
 ghost use Rattle.std.specs.Prelude.{◌≡◌, ◌<◌, ◌+◌, ◌⊎◌, ℕ, Some, None, true, List, [], All, map, length, IfOk, OnOk, OnErr, IfErr};
 ghost use Rattle.plan_core.specs.Plans.{IsWellFormed};
@@ -10,12 +10,11 @@ ghost use Rattle.frame_core.specs.Library.{IsLibrary};
 ghost use Rattle.clock_engine.specs.ClockStates.{IsClockStateOver};
 ghost use Rattle.clock_engine.specs.Runs.{HeardOver, HeardSomeOver};
 ghost use Rattle.clock_infer.specs.declared.clock_map.NodeClock.TheVariants.{Main as InMain};
-ghost use Rattle.op_leaf.specs.Readers.{Answer};
 ghost use Rattle.clock_engine.specs.Engines.{AreClocksOf, AreParts, EngineStands, EngineStopped, IsWhole, after_tick, feed_of, outputs_of, scene_of, setting_of};
 ghost use Rattle.clock_outputs.specs.Appends.{AreKept, GotOnePiece, NoneFell};
-ghost use Rattle.stream_meaning.specs.Sinks.{cues, gaps};
+ghost use Rattle.stream_meaning.specs.Sinks.{cues, gaps, IsOutput};
 ghost use Rattle.clock_engine.specs.Cues.{mark_of};
-ghost use Rattle.node_states.specs.Ticks.{IsOutput, with_rest};
+ghost use Rattle.stream_meaning.specs.Instants.{with_rest};
 ghost use Rattle.engine_instants.specs.Takes.{HasReader};
 ghost use Rattle.clock_engine.specs.Ticks.{GotSomePieces, HasEnds, HasFailed, HasMade, HaveTickRoom, HaveTicksRoom, IsWriteFault, RoomsFell};
 

@@ -8,11 +8,10 @@ use Rattle.clock_infer.specs.declared.clock_map.ClockMap.{ClockMap}
 use Rattle.frame_core.specs.declared.cell.Cell.{Cell}
 use Rattle.frame_core.specs.Legal.{IsRun}
 use Rattle.frame_core.specs.Calls.{Call, takes_of, puts_to}
-use Rattle.stream_meaning.specs.Instants.{Setting, answered}
-use Rattle.stream_meaning.specs.Sinks.{ticks_bytes}
+use Rattle.stream_meaning.specs.Instants.{Setting, answered, with_rest}
+use Rattle.stream_meaning.specs.Sinks.{ticks_bytes, IsOutput}
 use Rattle.stream_meaning.specs.Calls.{IsBegin, after_calls, answers_in, calls_of_tick, joined_upto, joined_between}
 use Rattle.stream_meaning.specs.Settings.{IsSetting}
-use Rattle.node_states.specs.Ticks.{IsOutput, with_rest}
 use Rattle.run_records.specs.Buffers.{feeder, reader}
 use Rattle.run_records.specs.Records.{AreWindowsBegun, Follows, IsWithin, Run, Window, answers_of, calls_in, capacity_of, on, setting_then, start, windows_in, windows_of}
 use Rattle.run_records.proofs.Alone.{feeder_runs}

@@ -6,9 +6,8 @@ use Rattle.frame_core.specs.declared.cell.Cell.{Cell}
 use Rattle.buffer_ends.specs.Local.{Answers as Told, on}
 use Rattle.buffer_ends.specs.declared.thread_taps.ThreadTaps.{ThreadTaps}
 use Rattle.stream_meaning.specs.Instants.{Setting, answered}
-use Rattle.stream_meaning.specs.Sinks.{ticks_bytes}
+use Rattle.stream_meaning.specs.Sinks.{ticks_bytes, IsOutput}
 use Rattle.stream_meaning.specs.Calls.{joined_upto}
-use Rattle.node_states.specs.Ticks.{IsOutput}
 use Rattle.node_states.proofs.Outputs.{output_moved}
 use Rattle.clock_engine.specs.Engines.{EngineStands, setting_of, held_of}
 use Rattle.clock_engine.specs.declared.engine.ClockEngine.{ClockEngine}

@@ -5,11 +5,10 @@ use mathlib.Core.Path.{fun_ext}
 use Rattle.liq_base.specs.Pieces.{IsPrefix, grown}
 use Rattle.clock_infer.specs.declared.clock_map.ClockMap.{ClockMap}
 use Rattle.buffer_ends.specs.declared.thread_taps.ThreadTaps.{ThreadTaps}
-use Rattle.stream_meaning.specs.Instants.{Setting}
-use Rattle.stream_meaning.specs.Sinks.{ticks_bytes}
+use Rattle.stream_meaning.specs.Instants.{Setting, with_rest}
+use Rattle.stream_meaning.specs.Sinks.{ticks_bytes, IsOutput}
 use Rattle.stream_meaning.specs.Calls.{after_calls, calls_of_tick, joined_upto}
 use Rattle.stream_meaning.specs.Settings.{IsSetting}
-use Rattle.node_states.specs.Ticks.{IsOutput, with_rest}
 use Rattle.run_records.specs.Records.{AreWindowsBegun, Follows, Run, setting_then, start}
 use Rattle.clock_engine.specs.Engines.{setting_of, held_of}
 use Rattle.clock_engine.specs.Pieces.{GotBetween}

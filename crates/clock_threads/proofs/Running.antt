@@ -1,12 +1,10 @@
 -- A task's ticks.
 use Rattle.std.proofs.Common.{◌≡◌, ℕ, suc, ◌<◌, ◌≤◌, ◌+◌, ◌*◌, List, ◌++◌, length, sym, refl, ap, ◌∙◌, subst, arith, append_assoc, append-nil, add-zero, add-suc, Option, Some, None, true}
-use Rattle.frame_core.specs.Calls.{Call}
-use Rattle.op_leaf.specs.Readers.{Answer}
-use Rattle.stream_meaning.specs.Instants.{Setting}
+use Rattle.frame_core.specs.Calls.{Call, Answer}
+use Rattle.stream_meaning.specs.Instants.{Setting, with_rest}
 use Rattle.stream_meaning.specs.Calls.{IsBegin, after_calls, calls_of_tick}
-use Rattle.stream_meaning.specs.Sinks.{ticks_bytes}
+use Rattle.stream_meaning.specs.Sinks.{ticks_bytes, IsOutput}
 use Rattle.liq_base.specs.Pieces.{IsPrefix, grown}
-use Rattle.node_states.specs.Ticks.{IsOutput, with_rest}
 use Rattle.clock_outputs.specs.Appends.{GotOnePiece}
 use Rattle.clock_outputs.proofs.Since.{fell_then, kept_then}
 use Rattle.clock_outputs.proofs.Taken.{fell_none, kept_none}

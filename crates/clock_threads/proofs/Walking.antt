@@ -3,13 +3,12 @@ use Rattle.std.proofs.Common.{◌≡◌, ◌⊎◌, ℕ, zero, suc, ◌<◌, ◌
 use mathlib.Core.Path.{fun_ext}
 use Rattle.std.proofs.lemmas.Bool.{lt-ltb, le-ltb}
 use Rattle.liq_base.specs.Pieces.{grown}
-use Rattle.frame_core.specs.Calls.{Call}
+use Rattle.frame_core.specs.Calls.{Call, Answer}
 use Rattle.frame_core.specs.Calls.Call.{Took, Given}
-use Rattle.op_leaf.specs.Readers.{Answer}
-use Rattle.stream_meaning.specs.Instants.{Setting}
+use Rattle.stream_meaning.specs.Instants.{Setting, with_rest}
 use Rattle.stream_meaning.specs.Sinks.{tick_bytes, ticks_bytes}
 use Rattle.stream_meaning.specs.Calls.{joined_upto, calls_of_tick, answers_in, after_calls}
-use Rattle.node_states.specs.Ticks.{with_rest, HasTicked, HasStopped}
+use Rattle.node_states.specs.Ticks.{HasTicked, HasStopped}
 use Rattle.clock_threads.specs.Histories.{History, answers_by, Agree, AreTicks, HasGone, HasGonePart}
 
 pub answers-append : (b : ℕ) (cs ds : List Call) → answers_in b (cs ++ ds) ≡ answers_in b cs ++ answers_in b ds

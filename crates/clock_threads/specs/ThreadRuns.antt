@@ -3,15 +3,14 @@ use Rattle.std.specs.Prelude.{◌≡◌, ◌<◌, ℕ, Option, Some, None, List,
 use Rattle.liq_base.specs.Pieces.{IsPrefix, grown}
 use Rattle.plan_core.specs.declared.plan.Plan.{Plan}
 use Rattle.clock_infer.specs.declared.clock_map.ClockMap.{ClockMap}
-use Rattle.op_leaf.specs.Readers.{Answer}
+use Rattle.frame_core.specs.Calls.{Answer}
 use Rattle.buffer_ends.specs.Local.{Answers}
 use Rattle.buffer_ends.specs.declared.counts.Counts.{Counts}
 use Rattle.buffer_ends.specs.declared.run_end.End.{End}
 use Rattle.buffer_ends.specs.declared.run_end.End.TheVariants.{Write}
-use Rattle.stream_meaning.specs.Instants.{Setting}
+use Rattle.stream_meaning.specs.Instants.{Setting, with_rest}
 use Rattle.stream_meaning.specs.Settings.{IsSetting}
-use Rattle.stream_meaning.specs.Sinks.{ticks_bytes}
-use Rattle.node_states.specs.Ticks.{IsOutput, with_rest}
+use Rattle.stream_meaning.specs.Sinks.{ticks_bytes, IsOutput}
 use Rattle.run_records.specs.Records.{AreWindowsBegun, IsLawful, Run, setting_in, setting_then}
 use Rattle.clock_outputs.specs.Appends.{RoseAt}
 use Rattle.clock_engine.specs.Engines.{EngineStands, outputs_of, setting_of, held_of}

@@ -2,7 +2,7 @@
 use Rattle.std.specs.Prelude.{◌≡◌, ◌⊎◌, ◌<◌, ◌≤◌, ◌-◌, ◌^◌, ℕ, suc, Option, Some, None, List, [], ◌∷◌, ◌++◌, length, slice_index_or}
 use Rattle.frame_core.specs.declared.cell.Cell.{Cell}
 use Rattle.frame_core.specs.Legal.{IsRun}
-use Rattle.frame_core.specs.Calls.{Call, takes_of, puts_to}
+use Rattle.frame_core.specs.Calls.{Call, takes_of, puts_to, Answer}
 use Rattle.buffer_ends.specs.Local.{Answers, on}
 use Rattle.buffer_ends.specs.declared.run_end.End.{End}
 use Rattle.buffer_ends.specs.declared.run_end.End.TheVariants.{Write, Memory as NoMemory}
@@ -12,7 +12,6 @@ use Rattle.clock_engine.specs.declared.fault.TickFault.TheVariants.{Memory as Ou
 use Rattle.clock_threads.specs.declared.task.Task.{Task}
 use Rattle.clock_threads.specs.Histories.{History, joined_from}
 use Rattle.stream_meaning.specs.Calls.{joined_upto}
-use Rattle.op_leaf.specs.Readers.{Answer}
 use Rattle.clock_engine.specs.declared.engine.ClockEngine.{ClockEngine}
 use Rattle.clock_engine.specs.Engines.{EngineStands, EngineStopped, held_of}
 use Rattle.clock_engine.specs.Pieces.{GotBetween, GotPieces}

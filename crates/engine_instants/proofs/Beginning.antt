@@ -7,8 +7,7 @@ use Rattle.plan_core.specs.declared.plan.Plan.{Plan}
 use Rattle.clock_infer.specs.declared.clock_map.NodeClock.{NodeClock}
 use Rattle.frame_core.specs.Slots.{Slot}
 use Rattle.frame_core.specs.Library.{Sounds}
-use Rattle.frame_core.specs.Calls.{Adds, Call}
-use Rattle.op_leaf.specs.Readers.{Answer}
+use Rattle.frame_core.specs.Calls.{Adds, Call, Answer}
 use Rattle.stream_meaning.specs.Operators.{Reads}
 use Rattle.stream_meaning.specs.Instants.{Setting, Moment, lies_in, reading_after, work_at}
 use Rattle.stream_meaning.specs.Calls.{HasAnswers, IsBegin, after_calls, answers_in, takes_in}

@@ -10,8 +10,7 @@ use Rattle.plan_core.specs.Plans.{IsNoReader}
 use Rattle.clock_infer.specs.declared.clock_map.NodeClock.{NodeClock}
 use Rattle.frame_core.specs.Slots.{Slot}
 use Rattle.frame_core.specs.Library.{Sounds}
-use Rattle.frame_core.specs.Calls.{Call, Took}
-use Rattle.op_leaf.specs.Readers.{Answer}
+use Rattle.frame_core.specs.Calls.{Call, Took, Answer}
 use Rattle.stream_meaning.specs.Operators.{Work, Plays, Picks, Mixes, Fades, Reads, work_of}
 use Rattle.stream_meaning.specs.Instants.{Setting, Moment, work_at}
 use Rattle.stream_meaning.specs.Calls.{HasAnswers, IsBegin, after_calls, takes_by}

@@ -7,7 +7,7 @@ use Rattle.plan_core.specs.declared.node.Node.{Node}
 use Rattle.plan_core.specs.Plans.{AreNodes}
 use Rattle.plan_core.proofs.Paths.{child_below}
 use Rattle.clock_infer.specs.declared.clock_map.NodeClock.{NodeClock}
-use Rattle.frame_core.specs.Slots.{Slot, slot_at, is_first, title_of}
+use Rattle.frame_core.specs.Slots.{Slot, slot_at, is_first, title_of, is_inner}
 use Rattle.op_cross.specs.Runs.{item_of}
 use Rattle.op_leaf.specs.Leaves.{leaf_slot}
 use Rattle.op_leaf.specs.Readers.{read_by, reader_slot}
@@ -16,7 +16,7 @@ use Rattle.op_select.specs.Selection.{pick_of, picked}
 use Rattle.stream_meaning.specs.declared.part.Part.{Part}
 use Rattle.stream_meaning.specs.Operators.{Work, Choice, Selects, TakesTurns, Eligible, Every, Where, Plays, Picks, Mixes, Fades, Reads, marks_at}
 use Rattle.stream_meaning.specs.Instants.{Setting, Moment, count, demanded, gives, last_pick, moment_after, offer, part_at, part_by, parts_upto, picked_part, position, reading_after, reading_at, second_at, slots_at, work_at}
-use Rattle.segment_laws.specs.Steady.{IsFree, is_inner}
+use Rattle.segment_laws.specs.Steady.{IsFree}
 use Rattle.segment_laws.specs.Stretches.{IsNode, IsStretch, KeepsTitle, NodeGoes, NodeKeeps}
 use Rattle.segment_laws.proofs.Parts.{own_part, part_stays}
 use Rattle.segment_laws.proofs.Following.{AreBelow, below_from}

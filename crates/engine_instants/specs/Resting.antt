@@ -2,7 +2,7 @@
 use Rattle.std.specs.Prelude.{◌≡◌, ◌<◌, ◌≤◌, ◌+◌, ◌%◌, Bool, true, false, Option, Some, None, List, ◌∷◌, ℕ, suc, length, is_some, nat_eq}
 use Rattle.plan_core.specs.declared.node.Node.{Node}
 use Rattle.clock_infer.specs.declared.clock_map.NodeClock.{NodeClock}
-use Rattle.frame_core.specs.Slots.{Slot, slot_at, is_first, title_of}
+use Rattle.frame_core.specs.Slots.{Slot, slot_at, is_first, title_of, is_inner}
 use Rattle.op_cross.specs.Runs.{item_of, run_of}
 use Rattle.op_leaf.specs.declared.leaf.Leaf.{Leaf}
 use Rattle.op_leaf.specs.Leaves.{leaf_slot}
@@ -10,7 +10,7 @@ use Rattle.op_leaf.specs.Readers.{read_by, reader_slot}
 use Rattle.stream_meaning.specs.declared.part.Part.{Part}
 use Rattle.stream_meaning.specs.Operators.{Choice, Eligible, Plays, Picks, Fades, Reads, marks_at}
 use Rattle.stream_meaning.specs.Instants.{Setting, Moment, count, gives, last_pick, moment_after, offer, parts_upto, position, reading_after, reading_at, second_at, slots_at, work_at}
-use Rattle.segment_laws.specs.Steady.{IsFree, is_inner}
+use Rattle.segment_laws.specs.Steady.{IsFree}
 use Rattle.segment_laws.specs.Stretches.{AreFed, IsNode, KeepsTitle}
 use Rattle.node_states.specs.declared.state.NodeState.{NodeState}
 use Rattle.node_states.specs.Passing.{asked, passes}

@@ -8,7 +8,7 @@ use Rattle.clock_infer.specs.declared.clock_map.ClockMap.{ClockMap}
 use Rattle.clock_infer.specs.declared.clock_map.NodeClock.TheVariants.{Main}
 use Rattle.frame_core.specs.Library.{Sounds}
 use Rattle.stream_meaning.specs.Instants.{same_clock}
-use Rattle.node_states.specs.Ticks.{IsOutput}
+use Rattle.stream_meaning.specs.Sinks.{IsOutput}
 use Rattle.clock_engine.specs.Engines.{outputs_from, outputs_of}
 use Rattle.engine_tests.specs.Joined.{setting_over}
 use Rattle.engine_tests.specs.Sole.{sole_node}

@@ -5,7 +5,7 @@ ghost use Rattle.plan_core.specs.Plans.{IsWellFormed};
 ghost use Rattle.clock_infer.specs.Answers.{IsClockMap};
 ghost use Rattle.clock_infer.specs.declared.clock_map.NodeClock.TheVariants.{Main as InMain};
 ghost use Rattle.frame_core.specs.Library.{IsLibrary};
-ghost use Rattle.node_states.specs.Ticks.{IsOutput};
+ghost use Rattle.stream_meaning.specs.Sinks.{IsOutput};
 ghost use Rattle.clock_engine.specs.Engines.{setting_of};
 ghost use Rattle.engine_tests.specs.Sole.{sole_node};
 

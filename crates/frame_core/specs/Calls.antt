@@ -4,13 +4,17 @@ use Rattle.frame_core.specs.declared.cell.Cell.{Cell}
 use Rattle.frame_core.specs.declared.chunk.Gave.{Gave}
 use Rattle.frame_core.specs.declared.chunk.Gave.TheVariants.{Accepted, Full}
 
+-- an answer of the buffer: a chunk, or empty
+abbrev pub Answer : Type 0
+Answer = Option (List Cell)
+
 -- a take of a buffer with its answer; or a give of a chunk to a buffer, true where it was accepted
 pub data Call : Type 0 where
-  Took : ℕ → Option (List Cell) → Call
+  Took : ℕ → Answer → Call
   Given : ℕ → List Cell → Bool → Call
 
 -- the answers of the takes of one buffer
-abbrev pub takes_of : ℕ → List Call → List (Option (List Cell))
+abbrev pub takes_of : ℕ → List Call → List Answer
 takes_of buffer [] = []
 takes_of buffer (Took of answer ∷ calls) = if buffer == of then answer ∷ takes_of buffer calls else takes_of buffer calls
 takes_of buffer (Given to chunk accepted ∷ calls) = takes_of buffer calls

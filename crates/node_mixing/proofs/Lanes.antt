@@ -6,9 +6,9 @@ use Rattle.std.proofs.lemmas.Bool.{false≢true}
 use Rattle.std.proofs.lemmas.List.{map-append, append-nil}
 use Rattle.std.proofs.lemmas.Simd.{map-map, zip2_of_maps, zip2_splat}
 use Rattle.frame_core.specs.declared.cell.Cell.{Cell}
-use Rattle.frame_core.specs.Slots.{Slot}
+use Rattle.frame_core.specs.Slots.{Slot, is_inner, slot_left, slot_right}
 use Rattle.sample_kernels.specs.Samples.{clamped, half_of, mean_of, scaled}
-use Rattle.op_leaf.specs.Inner.{is_inner, lefts_of, slot_left, slot_right}
+use Rattle.op_leaf.specs.Inner.{lefts_of}
 use Rattle.op_leaf.specs.Lanes.{IsLane}
 use Rattle.op_leaf.proofs.Laid.{each_same, inner_is}
 use Rattle.stream_meaning.specs.Arithmetic.{Mixing, Adds, Scales, Halves, Doubles, Passes, cells_of, changed_slot, levelled, mix_slot, sum_of, summed_slot}

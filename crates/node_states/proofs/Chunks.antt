@@ -5,8 +5,8 @@ use Rattle.std.proofs.lemmas.Bool.Decides.{nat_tests}
 use Rattle.std.proofs.lemmas.List.{length-append}
 use Rattle.frame_core.specs.declared.cell.Cell.{Cell}
 use Rattle.frame_core.specs.Slots.{Slot}
-use Rattle.frame_core.specs.Calls.{Adds, Call, Took}
-use Rattle.op_leaf.specs.Readers.{Answer, Reader, after_takes, at_start, begun, takes_of, wants}
+use Rattle.frame_core.specs.Calls.{Adds, Call, Took, Answer}
+use Rattle.op_leaf.specs.Readers.{Reader, after_takes, at_start, begun, takes_of, wants}
 use Rattle.stream_meaning.specs.Operators.{Reads}
 use Rattle.stream_meaning.specs.Instants.{Setting, Moment, next_answers, reading_after, reading_at, started}
 use Rattle.node_states.specs.declared.state.NodeState.{NodeState}

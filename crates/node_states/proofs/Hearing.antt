@@ -9,16 +9,15 @@ use Rattle.plan_core.specs.declared.node.Node.{Node}
 use Rattle.plan_core.proofs.Paths.{child_below}
 use Rattle.clock_infer.specs.declared.clock_map.NodeClock.{NodeClock}
 use Rattle.frame_core.specs.declared.cell.Cell.{Cell}
-use Rattle.frame_core.specs.Slots.{Slot, slot_at}
+use Rattle.frame_core.specs.Slots.{Slot, slot_at, slot_left, slot_right, is_inner}
 use Rattle.op_leaf.specs.declared.leaf.Leaf.{Leaf}
-use Rattle.op_leaf.specs.Inner.{is_inner, lefts_of, rights_of, slot_left, slot_right}
+use Rattle.op_leaf.specs.Inner.{lefts_of, rights_of}
 use Rattle.op_leaf.specs.Lanes.{IsLane}
 use Rattle.op_leaf.specs.Leaves.{leaf_slot}
 use Rattle.op_leaf.specs.Readers.{Reader, after_cell, read_by, reader_slot}
 use Rattle.op_leaf.proofs.Laid.{lane_from, lane_of_same}
 use Rattle.op_leaf.proofs.Onward.{one_before}
 use Rattle.op_cross.specs.Runs.{item_of}
-use Rattle.op_cross.specs.Stretches.{left_of, right_of}
 use Rattle.op_select.specs.Selection.{picked}
 use Rattle.stream_meaning.specs.declared.part.Part.{Part}
 use Rattle.stream_meaning.specs.Arithmetic.{Mixing, Adds, Scales, Halves, Doubles, Passes, cells_of, changed_slot, mix_slot, summed_slot}
@@ -138,30 +137,22 @@ mix_some mixing parts children e = subst (λ n. 0 < n) (offered_cells parts chil
 
 -- ---- the items of a crossfade as a lane
 
-left_same : (slot : Slot) → left_of slot ≡ slot_left slot
-left_same None = refl
-left_same (Some cell) = refl
-
-right_same : (slot : Slot) → right_of slot ≡ slot_right slot
-right_same None = refl
-right_same (Some cell) = refl
-
-slots_taken : (side of_slot : Slot → ℤ) → ((slot : Slot) → side slot ≡ of_slot slot) → (items : List Slot) (many at : ℕ) (slots : ℕ → Slot) → many ≤ length items
-    → ((j : ℕ) → j < many → slots (at + j) ≡ slot_at items j) → map side (take many items) ≡ map (λ q. of_slot (slots q)) (range_with_len at many)
-slots_taken side of_slot same items zero at slots there are = refl
-slots_taken side of_slot same [] (suc many) at slots there are = absurd (omega (arith, there))
-slots_taken side of_slot same (item ∷ items) (suc many) at slots there are =
+slots_taken : (side : Slot → ℤ) (items : List Slot) (many at : ℕ) (slots : ℕ → Slot) → many ≤ length items
+    → ((j : ℕ) → j < many → slots (at + j) ≡ slot_at items j) → map side (take many items) ≡ map (λ q. side (slots q)) (range_with_len at many)
+slots_taken side items zero at slots there are = refl
+slots_taken side [] (suc many) at slots there are = absurd (omega (arith, there))
+slots_taken side (item ∷ items) (suc many) at slots there are =
     let e : at + 0 ≡ at = omega arith in
-    ap (λ x. x ∷ map side (take many items)) (same item ∙ ap of_slot (sym (are 0 (omega arith)) ∙ ap slots e))
-    ∙ ap (λ l. of_slot (slots at) ∷ l) (slots_taken side of_slot same items many (at + 1) slots (omega (arith, there))
+    ap (λ x. x ∷ map side (take many items)) (ap side (sym (are 0 (omega arith)) ∙ ap slots e))
+    ∙ ap (λ l. side (slots at) ∷ l) (slots_taken side items many (at + 1) slots (omega (arith, there))
     (λ j less. let f : at + 1 + j ≡ at + suc j = omega arith in ap slots f ∙ are (suc j) (omega (arith, less))))
 
 items_lane : (items : List Slot) (p many : ℕ) (left right : List ℤ) → p + many ≤ length items
-    → left ≡ map left_of (take many (drop p items)) → right ≡ map right_of (take many (drop p items))
+    → left ≡ map slot_left (take many (drop p items)) → right ≡ map slot_right (take many (drop p items))
     → ((j : ℕ) → j < many → is_inner (slot_at items (p + j)) ≡ true) → IsLane (λ j. slot_at items (p + j)) many left right
 items_lane items p many left right settled left_is right_is inner = record {
-  left_is = left_is ∙ slots_taken left_of slot_left left_same (drop p items) many 0 (λ j. slot_at items (p + j)) there at;
-  right_is = right_is ∙ slots_taken right_of slot_right right_same (drop p items) many 0 (λ j. slot_at items (p + j)) there at;
+  left_is = left_is ∙ slots_taken slot_left (drop p items) many 0 (λ j. slot_at items (p + j)) there at;
+  right_is = right_is ∙ slots_taken slot_right (drop p items) many 0 (λ j. slot_at items (p + j)) there at;
   inner = inner;
 }
   where
@@ -334,7 +325,7 @@ module _ (setting : Setting) (sub : ℕ → ℕ → List Slot) (clock : NodeCloc
   pub fade_run : (overlap : ℕ) → work_at setting i node ≡ Fades overlap → (left right : List ℤ) (items : List Slot)
       → ((j : ℕ) → j < many → item_of overlap (sub i) (suc (position past i) + j) ≡ slot_at items (suc (position past i) + j))
       → suc (position past i) + many ≤ length items
-      → left ≡ map left_of (take many (drop (suc (position past i)) items)) → right ≡ map right_of (take many (drop (suc (position past i)) items))
+      → left ≡ map slot_left (take many (drop (suc (position past i)) items)) → right ≡ map slot_right (take many (drop (suc (position past i)) items))
       → IsLane (λ j. Lane j i) many left right
   fade_run overlap at left right items are settled left_is right_is = lane_of_same (λ j. slot_at items (suc (position past i) + j)) (λ j. Lane j i) many left right
       (λ j less. let e : position past i + suc j ≡ suc (position past i) + j = omega arith in

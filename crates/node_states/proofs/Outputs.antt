@@ -3,7 +3,7 @@ use Rattle.std.proofs.Common.{◌≡◌, ◌∙◌, ℕ, ap, sym}
 use Rattle.std.specs.Prelude.{slice_get}
 use Rattle.clock_infer.specs.declared.clock_map.NodeClock.TheVariants.{Main}
 use Rattle.stream_meaning.specs.Instants.{Setting, clock_of}
-use Rattle.node_states.specs.Ticks.{IsOutput}
+use Rattle.stream_meaning.specs.Sinks.{IsOutput}
 
 -- it keeps its width
 abbrev pub output_moved : (one other : Setting) (m k sink node : ℕ) → one ≡ other → m ≡ k → IsOutput one m sink node → IsOutput other k sink node

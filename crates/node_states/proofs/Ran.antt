@@ -3,7 +3,7 @@ use Rattle.std.proofs.Common.{◌≡◌, ◌<◌, ◌≤◌, ◌+◌, ◌∙◌,
 use Rattle.plan_core.specs.declared.node.Node.{Node}
 use Rattle.clock_infer.specs.declared.clock_map.NodeClock.{NodeClock}
 use Rattle.frame_core.specs.Library.{Sounds}
-use Rattle.frame_core.specs.Slots.{Slot, slot_at}
+use Rattle.frame_core.specs.Slots.{Slot, slot_at, slot_left, slot_right}
 use Rattle.op_leaf.specs.declared.leaf.LeafState.{LeafState}
 use Rattle.op_leaf.specs.Inner.{lefts_of, rights_of}
 use Rattle.op_leaf.specs.Lanes.{IsLane}
@@ -13,7 +13,6 @@ use Rattle.op_leaf.specs.Standing.{StandsAt, leaf_of}
 use Rattle.op_cross.specs.Crossfade.{cross}
 use Rattle.op_cross.specs.Runs.{item_of}
 use Rattle.op_cross.specs.States.{Crossing, StandsFor}
-use Rattle.op_cross.specs.Stretches.{left_of, right_of}
 use Rattle.op_cross.proofs.LeastRuns.{item_of-is}
 use Rattle.op_select.specs.Selection.{Selection}
 use Rattle.random_ops.specs.Turns.{Turning}
@@ -190,8 +189,8 @@ module _ (setting : Setting) (sub : ℕ → ℕ → List Slot) (clock : NodeCloc
   cross_stands some old new same on (Reads buffer) s = absurd s
 
   pub cross_lane : (old : Crossing) (left right : List ℤ) → ((slots : List Slot) (p : ℕ) → StandsFor old slots p → p + many ≤ length (cross old.overlap slots))
-      → ((slots : List Slot) (p : ℕ) → StandsFor old slots p → left ≡ map left_of (take many (drop p (cross old.overlap slots))))
-      → ((slots : List Slot) (p : ℕ) → StandsFor old slots p → right ≡ map right_of (take many (drop p (cross old.overlap slots))))
+      → ((slots : List Slot) (p : ℕ) → StandsFor old slots p → left ≡ map slot_left (take many (drop p (cross old.overlap slots))))
+      → ((slots : List Slot) (p : ℕ) → StandsFor old slots p → right ≡ map slot_right (take many (drop p (cross old.overlap slots))))
       → (work : Work) → work_at setting i node ≡ work → StateStands setting sub Past fed i work (Cross old) → IsLane (λ j. Lane j i) many left right
   cross_lane old left right settled left_is right_is (Plays leaf) at s = absurd s
   cross_lane old left right settled left_is right_is (Picks rule eligible) at s = absurd s

@@ -3,7 +3,7 @@ use Rattle.std.proofs.Common.{◌≡◌, ◌<◌, ◌≤◌, ◌+◌, ◌∙◌,
 use Rattle.std.specs.Prelude.{is_some, slice_get, ◌&&◌}
 use Rattle.std.proofs.lemmas.Bool.{false≢true, cases_lt}
 use Rattle.std.proofs.lemmas.List.{get_or_past}
-use Rattle.frame_core.specs.Slots.{Slot, slot_at, title_of}
+use Rattle.frame_core.specs.Slots.{Slot, slot_at, title_of, is_inner}
 use Rattle.op_cross.specs.Crossfade.{cross}
 use Rattle.op_cross.specs.Runs.{item_of, run_of}
 use Rattle.op_cross.specs.States.{AllInner, Crossing, IsCrossing, StandsFor, passes}
@@ -19,7 +19,6 @@ use Rattle.op_leaf.specs.Standing.{StandsAt, leaf_of}
 use Rattle.node_states.specs.declared.state.NodeState.{NodeState}
 use Rattle.node_states.specs.declared.state.NodeState.TheVariants.{Leaf, Select, Turn, Mix, Cross, Read, Idle}
 use Rattle.stream_meaning.specs.Instants.{Setting, Moment, Reading, count, demanded, gives, offer, position, reading_after, reading_at, read_on}
-use Rattle.segment_laws.specs.Steady.{is_inner}
 use Rattle.segment_laws.specs.Stretches.{AreFed, NodeGoes, NodeKeeps}
 use Rattle.segment_laws.proofs.Reaching.{item_more, item_titled, run_more}
 use Rattle.node_states.specs.Passing.{asked}

@@ -6,12 +6,11 @@ use Rattle.plan_core.specs.declared.node.Node.{Node}
 use Rattle.clock_infer.specs.declared.clock_map.NodeClock.{NodeClock}
 use Rattle.cell_ring.specs.Rings.{inner_cells}
 use Rattle.frame_core.specs.declared.cell.Cell.{Cell}
-use Rattle.frame_core.specs.Slots.{Slot, slot_at}
+use Rattle.frame_core.specs.Slots.{Slot, slot_at, slot_left, slot_right}
 use Rattle.op_leaf.specs.Lanes.{IsLane}
 use Rattle.op_cross.specs.Crossfade.{cross}
 use Rattle.op_cross.specs.Runs.{item_of}
 use Rattle.op_cross.specs.States.{Crossing, StandsFor}
-use Rattle.op_cross.specs.Stretches.{left_of, right_of}
 use Rattle.op_cross.proofs.CrossGrows.{cross-begins}
 use Rattle.op_cross.proofs.LeastRuns.{item_of-is}
 use Rattle.stream_meaning.specs.Operators.{Work, Plays, Picks, Mixes, Fades, Reads}
@@ -98,8 +97,8 @@ module _ (setting : Setting) (sub : ℕ → ℕ → List Slot) (clock : NodeCloc
         ∙ ap (λ l. slot_at (cross old.overlap l) (position Past i + j)) (sym (whole_cells j low))
 
     fade_through : (left right : List ℤ) → work_at setting i node ≡ Fades overlap
-        → left ≡ map left_of (take many (drop (position Past i) (cross old.overlap (sub i fed ++ map Some Cells))))
-        → right ≡ map right_of (take many (drop (position Past i) (cross old.overlap (sub i fed ++ map Some Cells))))
+        → left ≡ map slot_left (take many (drop (position Past i) (cross old.overlap (sub i fed ++ map Some Cells))))
+        → right ≡ map slot_right (take many (drop (position Past i) (cross old.overlap (sub i fed ++ map Some Cells))))
         → IsLane (λ j. lane setting sub clock past (suc j) i) many left right
     fade_through left right at left_is right_is =
         let gone : position Past i ≡ suc (position past i) = gave_position past First i goes.gave in
@@ -110,13 +109,13 @@ module _ (setting : Setting) (sub : ℕ → ℕ → List Slot) (clock : NodeCloc
         (let c = least (sub i fed) (position Past i) many s.stands (omega arith) in
         let all : length (cross old.overlap (sub i fed ++ map Some (take many Cells))) ≡ length (cross old.overlap (sub i fed ++ map Some Cells)) =
         ap (λ l. length (cross old.overlap (sub i fed ++ map Some l))) (take_all many Cells (let n = cells_many in omega (arith, n))) in omega (arith, c, all, gone))
-        (left_is ∙ ap (λ p. map left_of (take many (drop p (cross old.overlap (sub i fed ++ map Some Cells))))) gone)
-        (right_is ∙ ap (λ p. map right_of (take many (drop p (cross old.overlap (sub i fed ++ map Some Cells))))) gone)
+        (left_is ∙ ap (λ p. map slot_left (take many (drop p (cross old.overlap (sub i fed ++ map Some Cells))))) gone)
+        (right_is ∙ ap (λ p. map slot_right (take many (drop p (cross old.overlap (sub i fed ++ map Some Cells))))) gone)
 
   pub through_lane : (left right : List ℤ)
       → ((slots : List Slot) (p m : ℕ) → StandsFor old slots p → m ≤ many → length (cross old.overlap (slots ++ map Some (take m Cells))) ≡ p + m)
-      → ((slots : List Slot) (p : ℕ) → StandsFor old slots p → left ≡ map left_of (take many (drop p (cross old.overlap (slots ++ map Some Cells)))))
-      → ((slots : List Slot) (p : ℕ) → StandsFor old slots p → right ≡ map right_of (take many (drop p (cross old.overlap (slots ++ map Some Cells)))))
+      → ((slots : List Slot) (p : ℕ) → StandsFor old slots p → left ≡ map slot_left (take many (drop p (cross old.overlap (slots ++ map Some Cells)))))
+      → ((slots : List Slot) (p : ℕ) → StandsFor old slots p → right ≡ map slot_right (take many (drop p (cross old.overlap (slots ++ map Some Cells)))))
       → (work : Work) → work_at setting i node ≡ work → StateStands setting sub Past fed i work (Cross old) → IsLane (λ j. lane setting sub clock past (suc j) i) many left right
   through_lane left right least left_is right_is (Plays leaf) at s = absurd s
   through_lane left right least left_is right_is (Picks rule eligible) at s = absurd s

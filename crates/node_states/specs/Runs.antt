@@ -5,9 +5,9 @@ use Rattle.plan_core.specs.declared.node.Node.{Node}
 use Rattle.plan_core.specs.Plans.{AreNodes}
 use Rattle.clock_infer.specs.declared.clock_map.NodeClock.{NodeClock}
 use Rattle.frame_core.specs.Library.{Sounds}
-use Rattle.frame_core.specs.Slots.{Slot}
+use Rattle.frame_core.specs.Slots.{Slot, is_inner}
 use Rattle.op_cross.specs.States.{passes as crossing_passes, ready_stretch}
-use Rattle.op_leaf.specs.Inner.{LiesAhead as LeafLiesAhead, is_inner}
+use Rattle.op_leaf.specs.Inner.{LiesAhead as LeafLiesAhead}
 use Rattle.op_leaf.specs.Lanes.{IsLane}
 use Rattle.op_leaf.specs.Readers.{read_by, reader_slot}
 use Rattle.stream_meaning.specs.Instants.{Setting, Moment, gives, moment_after, part_at, work_at}

@@ -1,8 +1,8 @@
 -- The takes of a reader at the start of a tick, whatever answers come behind them.
 use Rattle.std.specs.Prelude.{◌≡◌, ℕ, suc, true, List, ◌++◌, ◌%◌, length, map, nat_eq}
 use Rattle.frame_core.specs.Slots.{Slot}
-use Rattle.frame_core.specs.Calls.{Adds, Call, Took}
-use Rattle.op_leaf.specs.Readers.{Answer, Reader, after_takes, at_start, takes_of}
+use Rattle.frame_core.specs.Calls.{Adds, Call, Took, Answer}
+use Rattle.op_leaf.specs.Readers.{Reader, after_takes, at_start, takes_of}
 use Rattle.stream_meaning.specs.Operators.{Reads}
 use Rattle.stream_meaning.specs.Instants.{Setting, Moment, next_answers, reading_after}
 use Rattle.node_states.specs.declared.state.NodeState.{NodeState}

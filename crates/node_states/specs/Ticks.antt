@@ -1,31 +1,16 @@
 -- What a tick of an engine of one main clock owes.
-use Rattle.std.specs.Prelude.{◌≡◌, Bool, Some, Option, List, ◌++◌, ℕ, suc, slice_get}
+use Rattle.std.specs.Prelude.{◌≡◌, Bool, Option, List, ℕ, suc}
 use Rattle.liq_base.specs.Pieces.{IsPrefix, grown}
-use Rattle.plan_core.specs.declared.sink.SinkPlan.TheVariants.{Output}
 use Rattle.clock_infer.specs.declared.clock_map.NodeClock.{NodeClock}
-use Rattle.clock_infer.specs.declared.clock_map.NodeClock.TheVariants.{Main}
 use Rattle.frame_core.specs.Slots.{Slot}
-use Rattle.frame_core.specs.Calls.{Call}
-use Rattle.op_leaf.specs.Readers.{Answer}
-use Rattle.stream_meaning.specs.Instants.{Setting, Moment, answered, clock_of, history}
-use Rattle.stream_meaning.specs.Sinks.{tick_bytes, ticks_bytes}
+use Rattle.frame_core.specs.Calls.{Call, Answer}
+use Rattle.stream_meaning.specs.Instants.{Setting, Moment, clock_of, history, with_rest}
+use Rattle.stream_meaning.specs.Sinks.{tick_bytes, ticks_bytes, IsOutput}
 use Rattle.stream_meaning.specs.Calls.{IsBegin, calls_of_tick, after_calls}
 
 -- the instants that node i's clock has made
 abbrev pub past_of : Setting → (sub : ℕ → ℕ → List Slot) → (ran : NodeClock → ℕ) → ℕ → List Moment
 past_of setting sub ran i = history setting sub (clock_of setting i) (ran (clock_of setting i))
-
--- the setting with these answers, and behind them any others
-abbrev pub with_rest : Setting → (answers rest : ℕ → List Answer) → Setting
-with_rest setting answers rest = answered setting (λ buffer. answers buffer ++ rest buffer)
-
--- an output of main clock m
-pub record IsOutput (setting : Setting) (m sink node : ℕ) : Type 0 where
-  pub name : List ℕ
-  pub fallible : Bool
-  pub wide : Bool
-  pub there : slice_get setting.plan.sinks sink ≡ Some (Output name node fallible wide)
-  pub in_clock : clock_of setting node ≡ Main m
 
 -- after tick t, which made these calls: the engine stands for one tick more and for their answers, whatever answers follow;
 -- `held` and `now` are what each sink held before and holds now, where it tells it

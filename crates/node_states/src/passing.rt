@@ -1,9 +1,8 @@
 // A run of a crossfade through which the cells of its child pass.
 ghost use Rattle.std.specs.Prelude.{◌≡◌, ◌≤◌, ◌+◌, ◌++◌, ℕ, List, Some, true, map, take, drop, length, slice_get};
-ghost use Rattle.frame_core.specs.Slots.{Slot};
+ghost use Rattle.frame_core.specs.Slots.{Slot, slot_left, slot_right};
 ghost use Rattle.op_cross.specs.Crossfade.{cross};
 ghost use Rattle.op_cross.specs.States.{StandsFor, passes};
-ghost use Rattle.op_cross.specs.Stretches.{left_of, right_of};
 ghost use Rattle.node_states.specs.Passing.{cells_before};
 
 use node_mixing::{Before, samples_of};
@@ -28,9 +27,9 @@ pub fn pass_child(
     ensures least { (child p m : ℕ) (slots : List Slot) → slice_get children.now 0 ≡ Some child → StandsFor state.old slots p → m ≤ length left.old
         → length (cross state.old.overlap (slots ++ map Some (take m (cells_before title before.now child (length left.old))))) ≡ p + m }
     ensures left { (child p : ℕ) (slots : List Slot) → slice_get children.now 0 ≡ Some child → StandsFor state.old slots p
-        → left.new ≡ map left_of (take (length left.old) (drop p (cross state.old.overlap (slots ++ map Some (cells_before title before.now child (length left.old)))))) }
+        → left.new ≡ map slot_left (take (length left.old) (drop p (cross state.old.overlap (slots ++ map Some (cells_before title before.now child (length left.old)))))) }
     ensures right { (child p : ℕ) (slots : List Slot) → slice_get children.now 0 ≡ Some child → StandsFor state.old slots p
-        → right.new ≡ map right_of (take (length left.old) (drop p (cross state.old.overlap (slots ++ map Some (cells_before title before.now child (length left.old)))))) }
+        → right.new ≡ map slot_right (take (length left.old) (drop p (cross state.old.overlap (slots ++ map Some (cells_before title before.now child (length left.old)))))) }
 {
     let Some(child) = children.get(0) else {
         return;

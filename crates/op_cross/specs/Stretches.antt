@@ -1,7 +1,6 @@
 -- Items that are cells of one track.
 use Rattle.std.specs.Prelude.{not, ◌||◌, nat_eq, Some, None, List, [], ◌∷◌, ℕ, suc, if◌then◌else◌}
 use Rattle.frame_core.specs.Slots.{Slot}
-pub use Rattle.frame_core.specs.Slots.{slot_left as left_of, slot_right as right_of}
 
 -- how many items, from the first on, are cells that begin no track
 abbrev pub inner_run : List Slot → ℕ

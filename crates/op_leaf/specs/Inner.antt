@@ -2,8 +2,7 @@
 use Rattle.std.specs.Prelude.{◌<◌, ◌≤◌, ◌+◌, ℕ, ℤ, List, length, map, zero, suc, if◌then◌else◌}
 use Rattle.std.specs.List.{range_with_len}
 use Rattle.frame_core.specs.Library.{Sounds, sound_at, tracks_of}
-use Rattle.frame_core.specs.Slots.{Slot, title_of, goes_on}
-pub use Rattle.frame_core.specs.Slots.{is_inner, slot_left, slot_right}
+use Rattle.frame_core.specs.Slots.{Slot, title_of, goes_on, is_inner, slot_left, slot_right}
 use Rattle.frame_core.specs.Sounds.{length_of}
 use Rattle.op_leaf.specs.declared.blank.Blank.{Blank}
 use Rattle.op_leaf.specs.declared.files.Files.{Files}

@@ -1,7 +1,8 @@
 -- The reader of a buffer: the cells that it holds, and whether it plays.
-use Rattle.std.specs.Prelude.{Bool, true, false, Option, Some, None, List, [], ◌∷◌, ◌++◌, ℕ, zero, suc, ◌-◌, length, drop, nat_lt, nat_le, if◌then◌else◌}
+use Rattle.std.specs.Prelude.{Bool, true, false, Some, None, List, [], ◌∷◌, ◌++◌, ℕ, zero, suc, ◌-◌, length, drop, nat_lt, nat_le, if◌then◌else◌}
 use Rattle.frame_core.specs.declared.cell.Cell.{Cell}
 use Rattle.frame_core.specs.Slots.{Slot}
+use Rattle.frame_core.specs.Calls.{Answer}
 
 -- the cells in their order; the samples that it holds before it plays, at least 1; and the samples of a tick
 pub record Reader : Type 0 where
@@ -61,10 +62,6 @@ after_cell reader = if reader.playing then record reader { cells = drop 1 reader
 abbrev pub read_by : ℕ → Reader → Reader
 read_by zero reader = reader
 read_by (suc j) reader = after_cell (read_by j reader)
-
--- an answer of the buffer: a chunk, or empty
-abbrev pub Answer : Type 0
-Answer = Option (List Cell)
 
 -- after the takes of a tick: the next answers while it wants, up to and with the first empty one
 abbrev pub after_takes : List Answer → Reader → Reader

@@ -12,14 +12,12 @@ use Rattle.plan_core.specs.Plans.{IsWellFormed}
 use Rattle.plan_core.specs.declared.sink.BufferPlan.{BufferPlan}
 use Rattle.clock_infer.specs.declared.clock_map.NodeClock.TheVariants.{Main}
 use Rattle.frame_core.specs.declared.cell.Cell.{Cell}
-use Rattle.frame_core.specs.Calls.{Call}
-use Rattle.op_leaf.specs.Readers.{Answer}
-use Rattle.stream_meaning.specs.Instants.{Setting}
+use Rattle.frame_core.specs.Calls.{Call, Answer}
+use Rattle.stream_meaning.specs.Instants.{Setting, with_rest}
 use Rattle.stream_meaning.specs.Sinks.{ticks_bytes}
 use Rattle.stream_meaning.specs.Calls.{IsBegin}
 use Rattle.stream_meaning.proofs.Answering.{begin_none}
 use Rattle.run_records.specs.Records.{Follows, Window, capacity_of, on as calls_on, rounds_to, setting_in, setting_then}
-use Rattle.node_states.specs.Ticks.{with_rest}
 use Rattle.clock_engine.specs.declared.engine.ClockEngine.{ClockEngine}
 use Rattle.clock_engine.specs.Engines.{setting_of, held_of}
 use Rattle.buffer_ends.specs.Ends.{LocalStands}

@@ -6,17 +6,15 @@ use native.Mathlib.Nat.{min-eq_right, min-le_right}
 use Rattle.std.proofs.Math.ListN.{length-set}
 use Rattle.std.proofs.Math.Nat.{suc-mul}
 use Rattle.liq_base.specs.Pieces.{IsPrefix, grown}
-use Rattle.frame_core.specs.Calls.{Call}
-use Rattle.stream_meaning.specs.Sinks.{tick_bytes, ticks_bytes}
+use Rattle.frame_core.specs.Calls.{Call, Answer}
+use Rattle.stream_meaning.specs.Sinks.{tick_bytes, ticks_bytes, IsOutput}
 use Rattle.clock_infer.specs.declared.clock_map.NodeClock.TheVariants.{Main}
-use Rattle.op_leaf.specs.Readers.{Answer}
-use Rattle.stream_meaning.specs.Instants.{Setting}
+use Rattle.stream_meaning.specs.Instants.{Setting, with_rest}
 use Rattle.stream_meaning.specs.Calls.{IsBegin, IsUnread, after_calls, answers_in, calls_of_tick}
 use Rattle.stream_meaning.proofs.Unread.{no_tick_takes}
 use Rattle.clock_outputs.proofs.Gives.{adds_more, adds_nothing}
 use Rattle.clock_outputs.proofs.Since.{fell_then, kept_then, rose_since}
 use Rattle.clock_outputs.proofs.Taken.{fell_none, kept_none}
-use Rattle.node_states.specs.Ticks.{IsOutput, with_rest}
 use Rattle.node_states.proofs.Outputs.{output_moved}
 use Rattle.clock_outputs.specs.Appends.{AreKept, GotOnePiece, NoneFell}
 use Rattle.clock_outputs.proofs.Places.{low_or_high, same_or_other, slice_get-set_other, slice_get-set_same}

@@ -3,12 +3,10 @@ use Rattle.std.proofs.Common.{◌≡◌, ◌<◌, ◌∙◌, ◌++◌, ◌/◌, 
 use mathlib.Core.Path.{fun_ext}
 use Rattle.std.proofs.lemmas.Bool.Decides.{nat_tests}
 use Rattle.clock_infer.specs.declared.clock_map.NodeClock.{NodeClock}
-use Rattle.frame_core.specs.Calls.{Call}
-use Rattle.op_leaf.specs.Readers.{Answer}
-use Rattle.stream_meaning.specs.Instants.{Setting}
+use Rattle.frame_core.specs.Calls.{Call, Answer}
+use Rattle.stream_meaning.specs.Instants.{Setting, with_rest}
 use Rattle.stream_meaning.specs.Calls.{IsBegin, IsUnread, answers_in, calls_of_tick, joined_upto}
 use Rattle.stream_meaning.proofs.Answering.{answers_in-append, begin_joined, joined_same}
-use Rattle.node_states.specs.Ticks.{with_rest}
 use Rattle.rounds_run.specs.Rounds.{AreTurns, AreTurnsBegun, AreTurnsUpto, calls_of_turns, world}
 
 -- an engine has its own answers, or does not read the buffer

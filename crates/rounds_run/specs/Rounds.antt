@@ -3,12 +3,11 @@ use Rattle.std.specs.Prelude.{◌≡◌, ◌+◌, ◌/◌, ◌%◌, ℕ, suc, Bo
 pub use Rattle.run_records.specs.Records.{made_by, ticks_by}
 use Rattle.liq_base.specs.Pieces.{IsPrefix, grown}
 use Rattle.clock_infer.specs.declared.clock_map.NodeClock.TheVariants.{Main}
-use Rattle.frame_core.specs.Calls.{Adds, Call}
-use Rattle.op_leaf.specs.Readers.{Answer}
-use Rattle.stream_meaning.specs.Instants.{Setting}
+use Rattle.frame_core.specs.Calls.{Adds, Call, Answer}
+use Rattle.stream_meaning.specs.Instants.{Setting, with_rest}
 use Rattle.stream_meaning.specs.Calls.{IsBegin, IsUnread, answers_in, calls_of_tick, joined_upto}
-use Rattle.stream_meaning.specs.Sinks.{ticks_bytes}
-use Rattle.node_states.specs.Ticks.{HoldTicks, IsOutput, with_rest}
+use Rattle.stream_meaning.specs.Sinks.{ticks_bytes, IsOutput}
+use Rattle.node_states.specs.Ticks.{HoldTicks}
 use Rattle.clock_outputs.specs.Appends.{AreKept, NoneFell, RoseAt}
 use Rattle.clock_engine.specs.declared.engine.ClockEngine.{ClockEngine}
 use Rattle.clock_engine.specs.Engines.{EngineStands, held_of, outputs_of, setting_of}

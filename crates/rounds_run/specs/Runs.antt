@@ -4,11 +4,10 @@ use Rattle.std.specs.List.{flat_map}
 use Rattle.liq_base.specs.Pieces.{grown}
 use Rattle.plan_core.specs.declared.plan.Plan.{Plan}
 use Rattle.plan_core.specs.Plans.{IsWellFormed}
-use Rattle.op_leaf.specs.Readers.{Answer}
-use Rattle.stream_meaning.specs.Instants.{Setting}
-use Rattle.stream_meaning.specs.Sinks.{ticks_bytes}
+use Rattle.frame_core.specs.Calls.{Answer}
+use Rattle.stream_meaning.specs.Instants.{Setting, with_rest}
+use Rattle.stream_meaning.specs.Sinks.{ticks_bytes, IsOutput}
 use Rattle.run_records.specs.Records.{AreRoundsBegun, IsRounds, Run, Window, setting_in, setting_then}
-use Rattle.node_states.specs.Ticks.{IsOutput, with_rest}
 use Rattle.clock_outputs.specs.Appends.{AreKept, NoneFell}
 use Rattle.clock_engine.specs.declared.engine.ClockEngine.{ClockEngine}
 use Rattle.clock_engine.specs.Engines.{EngineStands, held_of, setting_of}

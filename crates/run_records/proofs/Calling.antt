@@ -1,8 +1,7 @@
 -- Causality by places: where the first calls of a clock's ticks agree, so does the next one but for its answer.
 use Rattle.std.proofs.Common.{◌≡◌, ℕ, zero, suc, Bool, Option, Some, None, List, [], ◌∷◌, ◌++◌, length, take, slice_get, refl, sym, subst, ◌∙◌, inl, inr}
 use Rattle.clock_infer.specs.declared.clock_map.ClockMap.{ClockMap}
-use Rattle.frame_core.specs.Calls.{Call, Took, Given}
-use Rattle.op_leaf.specs.Readers.{Answer}
+use Rattle.frame_core.specs.Calls.{Call, Took, Given, Answer}
 use Rattle.stream_meaning.specs.Instants.{Setting, answered}
 use Rattle.stream_meaning.specs.Settings.{IsSetting}
 use Rattle.run_records.specs.Parting.{Differ, Goes, IsSameCall, AreSameCalls}

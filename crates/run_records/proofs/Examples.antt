@@ -3,11 +3,10 @@ use Rattle.std.proofs.Common.{◌≡◌, ◌<◌, ◌≤◌, ℕ, zero, suc, Som
 use Rattle.std.specs.Prelude.{Option, pos, ⊤}
 use Rattle.frame_core.specs.declared.cell.Cell.{Cell}
 use Rattle.frame_core.specs.Legal.{Legal, IsRun}
-use Rattle.frame_core.specs.Calls.{Took, takes_of, puts_to}
+use Rattle.frame_core.specs.Calls.{Took, takes_of, puts_to, Answer}
 use Rattle.plan_core.specs.declared.node.Op.TheVariants.{Single, Blank, Fallback, Add, Buffer}
 use Rattle.plan_core.specs.declared.sink.SinkPlan.TheVariants.{Feed}
 use Rattle.clock_infer.specs.declared.clock_map.NodeClock.TheVariants.{Main}
-use Rattle.op_leaf.specs.Readers.{Answer}
 use Rattle.stream_meaning.specs.Arithmetic.{cells_of}
 use Rattle.stream_meaning.specs.Instants.{Setting, answered}
 use Rattle.stream_meaning.specs.Calls.{joined_upto, calls_of_tick}

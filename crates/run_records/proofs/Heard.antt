@@ -17,7 +17,7 @@ use Rattle.clock_infer.specs.declared.clock_map.NodeClock.{NodeClock}
 use Rattle.clock_infer.specs.declared.clock_map.NodeClock.TheVariants.{Main}
 use Rattle.clock_infer.proofs.MapLaws.{sinks}
 use Rattle.clock_infer.proofs.Exact.{some_inj, there_more}
-use Rattle.op_leaf.specs.Readers.{Answer}
+use Rattle.frame_core.specs.Calls.{Answer}
 use Rattle.op_select.specs.declared.rule.Rule.TheVariants.{First}
 use Rattle.op_select.specs.Selection.{first_ready, picked}
 use Rattle.stream_meaning.specs.declared.part.Part.{Part}

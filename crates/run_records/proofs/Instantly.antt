@@ -8,9 +8,9 @@ use Rattle.clock_infer.specs.declared.clock_map.NodeClock.{NodeClock}
 use Rattle.clock_infer.specs.declared.clock_map.NodeClock.TheVariants.{Sub}
 use Rattle.clock_infer.proofs.Exact.{some_inj}
 use Rattle.frame_core.specs.Slots.{Slot}
-use Rattle.frame_core.specs.Calls.{Call}
+use Rattle.frame_core.specs.Calls.{Call, Answer}
 use Rattle.op_cross.specs.Runs.{run_of, item_of}
-use Rattle.op_leaf.specs.Readers.{Answer, reader_slot}
+use Rattle.op_leaf.specs.Readers.{reader_slot}
 use Rattle.stream_meaning.specs.declared.part.Part.{Part}
 use Rattle.stream_meaning.specs.Operators.{Work, Plays, Picks, Mixes, Fades, Reads}
 use Rattle.stream_meaning.specs.Instants.{Setting, Moment, Reading, IsMeaning, answered, clock_of, lies_in, work_at, position, gives, unpicked, slots_at, part_by, part_in, parts_upto, moment_of, moment_after, history, slots_of, crossfaded, read_on, reading_after}

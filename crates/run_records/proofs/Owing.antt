@@ -4,7 +4,8 @@ use Rattle.std.proofs.lemmas.Bool.{cases_lt}
 use Rattle.std.proofs.lemmas.Bool.Decides.{nat_tests}
 use Rattle.std.proofs.lemmas.List.{length-drop}
 use Rattle.frame_core.specs.declared.cell.Cell.{Cell}
-use Rattle.op_leaf.specs.Readers.{Answer, Reader, wants, wanted, takes_of, after_takes, begun, at_start, after_cell, read_by, holds_some, flag_front}
+use Rattle.frame_core.specs.Calls.{Answer}
+use Rattle.op_leaf.specs.Readers.{Reader, wants, wanted, takes_of, after_takes, begun, at_start, after_cell, read_by, holds_some, flag_front}
 use Rattle.run_records.specs.Records.{Window}
 use Rattle.run_records.specs.Pace.{has_none, Owes, KeepsPace, KeepPace, AreSmall, AreTicks, ticked, untaken, takes_in, reader_after, answers_after}
 

@@ -15,9 +15,9 @@ use Rattle.clock_infer.specs.declared.clock_map.NodeClock.TheVariants.{Main, Sub
 use Rattle.clock_infer.proofs.MapLaws.{ranks}
 use Rattle.frame_core.specs.declared.cell.Cell.{Cell}
 use Rattle.frame_core.specs.Slots.{Slot}
-use Rattle.frame_core.specs.Calls.{Call, Took, Given}
+use Rattle.frame_core.specs.Calls.{Call, Took, Given, Answer}
 use Rattle.op_cross.specs.Runs.{run_of}
-use Rattle.op_leaf.specs.Readers.{Answer, takes_of}
+use Rattle.op_leaf.specs.Readers.{takes_of}
 use Rattle.stream_meaning.specs.Operators.{Work, Plays, Picks, Mixes, Fades, Reads}
 use Rattle.stream_meaning.specs.Instants.{Setting, Moment, answered, clock_of, lies_in, work_at, position, next_answers, history, reading_after, sub_of}
 use Rattle.stream_meaning.specs.Sinks.{feed_cells}

@@ -1,10 +1,10 @@
 -- The windows of a reader that is drawn are those of its ticks.
 use Rattle.std.proofs.Common.{◌≡◌, ◌<◌, ◌≤◌, ◌+◌, ◌-◌, ◌*◌, ℕ, zero, suc, Bool, List, [], ◌∷◌, ◌++◌, slice_get, Some, refl, ap, sym, subst, ◌∙◌, arith}
 use Rattle.std.proofs.Math.Nat.{suc-mul}
-use Rattle.frame_core.specs.Calls.{Call, takes_of, puts_to}
+use Rattle.frame_core.specs.Calls.{Call, takes_of, puts_to, Answer}
 use Rattle.plan_core.specs.declared.node.Node.{Node}
 use Rattle.plan_core.specs.declared.sink.SinkPlan.TheVariants.{Feed}
-use Rattle.op_leaf.specs.Readers.{Answer, Reader}
+use Rattle.op_leaf.specs.Readers.{Reader}
 use Rattle.op_leaf.specs.Readers as R
 use Rattle.stream_meaning.specs.Operators.{Reads}
 use Rattle.stream_meaning.specs.Instants.{Setting, next_answers, work_at, new_reading, Reading}

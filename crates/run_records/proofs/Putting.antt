@@ -3,13 +3,13 @@ use Rattle.std.proofs.Common.{◌≡◌, ◌≤◌, ◌+◌, ◌-◌, ◌*◌, �
 use Rattle.std.proofs.lemmas.Bool.Decides.{nat_tests}
 use Rattle.frame_core.specs.declared.cell.Cell.{Cell}
 use Rattle.frame_core.specs.Slots.{Slot}
-use Rattle.frame_core.specs.Calls.{Call, Took, puts_to, put_of}
+use Rattle.frame_core.specs.Calls.{Call, Took, puts_to, put_of, Answer}
 use Rattle.plan_core.specs.declared.node.Node.{Node}
 use Rattle.plan_core.specs.declared.sink.SinkPlan.{SinkPlan}
 use Rattle.plan_core.specs.declared.sink.SinkPlan.TheVariants.{Output, Feed}
 use Rattle.clock_infer.specs.declared.clock_map.NodeClock.{NodeClock}
 use Rattle.clock_infer.specs.declared.clock_map.NodeClock.TheVariants.{Main, Sub}
-use Rattle.op_leaf.specs.Readers.{Answer, takes_of}
+use Rattle.op_leaf.specs.Readers.{takes_of}
 use Rattle.op_cross.specs.Runs.{run_of}
 use Rattle.stream_meaning.specs.Operators.{Work, Plays, Picks, Mixes, Fades, Reads}
 use Rattle.stream_meaning.specs.Instants.{Setting, Moment, lies_in, next_answers, reading_after, work_at, history, position, sub_of}

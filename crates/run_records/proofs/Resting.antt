@@ -6,8 +6,7 @@ use Rattle.std.proofs.lemmas.List.Elements.{All-head, All-tail}
 use Rattle.clock_infer.specs.declared.clock_map.ClockMap.{ClockMap}
 use Rattle.frame_core.specs.declared.cell.Cell.{Cell}
 use Rattle.frame_core.specs.Legal.{Legal, IsRun}
-use Rattle.frame_core.specs.Calls.{Call, Took, Given, takes_of, puts_to, put_of}
-use Rattle.op_leaf.specs.Readers.{Answer}
+use Rattle.frame_core.specs.Calls.{Call, Took, Given, takes_of, puts_to, put_of, Answer}
 use Rattle.stream_meaning.specs.Instants.{Setting, answered}
 use Rattle.stream_meaning.specs.Calls.{joined_upto, joined_between}
 use Rattle.stream_meaning.specs.Settings.{IsSetting}

@@ -6,11 +6,10 @@ use Rattle.frame_core.specs.declared.cell.Cell.{Cell}
 use Rattle.frame_core.specs.Slots.{Slot}
 use Rattle.frame_core.specs.Legal.{Legal, IsRun}
 use Rattle.frame_core.specs.Legal.Legal.{ended, accepted, full, got, empty}
-use Rattle.frame_core.specs.Calls.{Call, puts_to, put_of}
+use Rattle.frame_core.specs.Calls.{Call, puts_to, put_of, Answer}
 use Rattle.plan_core.specs.declared.sink.SinkPlan.{SinkPlan}
 use Rattle.plan_core.specs.declared.sink.SinkPlan.TheVariants.{Output, Feed}
 use Rattle.clock_infer.specs.declared.clock_map.NodeClock.TheVariants.{Main}
-use Rattle.op_leaf.specs.Readers.{Answer}
 use Rattle.stream_meaning.specs.Arithmetic.{cells_of}
 use Rattle.stream_meaning.specs.Instants.{Setting, lies_in, history, sub_of, stream_of}
 use Rattle.stream_meaning.specs.Calls.{joined_upto, calls_of, given, give_by, calls_of_tick, takes_of_tick, gives_of_tick}

@@ -4,8 +4,8 @@ use Rattle.std.proofs.lemmas.Option.{slice_get_within}
 use Rattle.plan_core.specs.declared.node.Node.{Node}
 use Rattle.clock_infer.specs.declared.clock_map.NodeClock.{NodeClock}
 use Rattle.clock_infer.proofs.Exact.{some_inj}
-use Rattle.frame_core.specs.Calls.{Call, Took}
-use Rattle.op_leaf.specs.Readers.{Answer, takes_of}
+use Rattle.frame_core.specs.Calls.{Call, Took, Answer}
+use Rattle.op_leaf.specs.Readers.{takes_of}
 use Rattle.stream_meaning.specs.Operators.{Work, Plays, Picks, Mixes, Fades, Reads}
 use Rattle.stream_meaning.specs.Instants.{Setting, Moment, Reading, answered, lies_in, work_at, next_answers, started, reading_at, reading_after}
 use Rattle.stream_meaning.specs.Calls.{joined_upto, takes_by, takes_in, takes_at}

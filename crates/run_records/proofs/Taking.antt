@@ -1,8 +1,8 @@
 -- A reader over two lists of answers: its takes are one, and so is what they leave, or they part.
 use Rattle.std.proofs.Common.{◌≡◌, ◌<◌, ◌⊎◌, ◌∙◌, ◌+◌, ◌++◌, ℕ, Bool, true, false, Some, None, List, [], ◌∷◌, length, map, inl, inr, refl, ap, sym, subst}
 use Rattle.frame_core.specs.declared.cell.Cell.{Cell}
-use Rattle.frame_core.specs.Calls.{Call, Took}
-use Rattle.op_leaf.specs.Readers.{Answer, Reader, wants, takes_of, after_takes, begun}
+use Rattle.frame_core.specs.Calls.{Call, Took, Answer}
+use Rattle.op_leaf.specs.Readers.{Reader, wants, takes_of, after_takes, begun}
 use Rattle.stream_meaning.specs.Instants.{Reading, next_answers, started}
 use Rattle.run_records.specs.Parting.{ArePart, Goes}
 use Rattle.run_records.proofs.Deciding.{same_cells}

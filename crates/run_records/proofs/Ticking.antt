@@ -12,8 +12,7 @@ use Rattle.clock_infer.specs.declared.clock_map.NodeClock.{NodeClock}
 use Rattle.clock_infer.specs.declared.clock_map.NodeClock.TheVariants.{Main}
 use Rattle.clock_infer.proofs.MapLaws.{ranks}
 use Rattle.frame_core.specs.declared.cell.Cell.{Cell}
-use Rattle.frame_core.specs.Calls.{Call, Given}
-use Rattle.op_leaf.specs.Readers.{Answer}
+use Rattle.frame_core.specs.Calls.{Call, Given, Answer}
 use Rattle.stream_meaning.specs.Operators.{Reads, work_of}
 use Rattle.stream_meaning.specs.Arithmetic.{cells_of}
 use Rattle.stream_meaning.specs.Instants.{Setting, Moment, answered, clock_of, lies_in, offer, moment_after, history, sub_of, stream_of}

@@ -1,7 +1,8 @@
 -- When a buffer between two clocks has room for every put, whatever the order within a window.
 use Rattle.std.specs.Prelude.{◌≡◌, ◌⊎◌, ◌<◌, ◌≤◌, ◌+◌, ◌*◌, ◌++◌, ℕ, zero, suc, Bool, true, false, Option, Some, None, is_some, List, [], ◌∷◌, length, drop, slice_get}
 use Rattle.frame_core.specs.declared.cell.Cell.{Cell}
-use Rattle.op_leaf.specs.Readers.{Answer, Reader, at_start, read_by, takes_of}
+use Rattle.frame_core.specs.Calls.{Answer}
+use Rattle.op_leaf.specs.Readers.{Reader, at_start, read_by, takes_of}
 use Rattle.plan_core.specs.declared.node.Node.{Node}
 use Rattle.clock_infer.specs.declared.clock_map.NodeClock.TheVariants.{Main}
 use Rattle.stream_meaning.specs.Operators.{Reads}

@@ -4,9 +4,8 @@ use Rattle.std.specs.List.{flat_map}
 use Rattle.std.specs.Option.{option_map_or}
 use Rattle.frame_core.specs.declared.cell.Cell.{Cell}
 use Rattle.frame_core.specs.Legal.{IsRun}
-use Rattle.frame_core.specs.Calls.{Call, takes_of, puts_to}
+use Rattle.frame_core.specs.Calls.{Call, takes_of, puts_to, Answer}
 use Rattle.frame_core.specs.Calls.Call.{Took, Given}
-use Rattle.op_leaf.specs.Readers.{Answer}
 use Rattle.stream_meaning.specs.Instants.{Setting, answered}
 use Rattle.stream_meaning.specs.Calls.{IsBegin, calls_of_tick, joined_upto, joined_between}
 use Rattle.run_records.specs.Buffers.{feeder, reader}

@@ -4,7 +4,7 @@ use Rattle.std.specs.List.{flat_map}
 use Rattle.stream_meaning.specs.Instants.{Setting}
 use Rattle.stream_meaning.specs.Sinks.{ticks_bytes, gaps}
 use Rattle.run_records.specs.Buffers.{feeder, reader}
-use Rattle.op_leaf.specs.Readers.{Answer}
+use Rattle.frame_core.specs.Calls.{Answer}
 use Rattle.run_records.specs.Records.{Window, Run, setting_in, setting_then}
 
 -- all windows of a buffer as one

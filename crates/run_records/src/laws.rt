@@ -1,7 +1,7 @@
 // Laws of settings that differ in their answers alone, and of records. Each is a contract of a function that does nothing.
 ghost use Rattle.std.specs.Prelude.{◌≡◌, ℕ, Bool, List, length, slice_get, take, ◌*◌, ◌+◌, ◌<◌, ◌≤◌, [], All, false, max, suc, is_none};
 ghost use Rattle.clock_infer.specs.declared.clock_map.ClockMap.{ClockMap as Map};
-ghost use Rattle.op_leaf.specs.Readers.{Answer};
+ghost use Rattle.frame_core.specs.Calls.{Answer};
 ghost use Rattle.stream_meaning.specs.Instants.{Setting, answered, prefill};
 ghost use Rattle.stream_meaning.specs.Settings.{IsSetting};
 ghost use Rattle.run_records.specs.Parting.{AreSameCalls, Goes};

@@ -15,7 +15,8 @@ use Rattle.clock_infer.proofs.Exact.{there_more}
 use Rattle.frame_core.specs.Slots.{Slot, slot_at, is_first, is_inner}
 use Rattle.op_cross.specs.Runs.{item_of}
 use Rattle.op_leaf.specs.Leaves.{leaf_slot}
-use Rattle.op_leaf.specs.Readers.{Answer, reader_slot}
+use Rattle.frame_core.specs.Calls.{Answer}
+use Rattle.op_leaf.specs.Readers.{reader_slot}
 use Rattle.op_select.specs.Selection.{goes_on, picked}
 use Rattle.stream_meaning.specs.declared.part.Part.{Part}
 use Rattle.stream_meaning.specs.Operators.{Work, Plays, Picks, Mixes, Fades, Reads, child_used, marks_at}

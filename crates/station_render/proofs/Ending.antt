@@ -8,7 +8,7 @@ use Rattle.std.proofs.lemmas.List.{append-nil, map-append}
 use Rattle.liq_base.specs.Counts.{Rose}
 use Rattle.liq_base.specs.Files.{Files}
 use Rattle.liq_base.specs.Kept.{rose_within, some_and}
-use Rattle.op_leaf.specs.Readers.{Answer}
+use Rattle.frame_core.specs.Calls.{Answer}
 use Rattle.stream_meaning.specs.Instants.{Setting, answered}
 use Rattle.liq_base.specs.Pieces.{HasRoom}
 use Rattle.stations.specs.Outputs.{HoldsParts, HoldsSome, HoldsUpto, OutputFile, OutputPart, with_outputs}

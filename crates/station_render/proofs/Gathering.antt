@@ -5,9 +5,9 @@ use Rattle.std.proofs.lemmas.List.{map-append}
 use native.Mathlib.Nat.{min-le_right}
 use Rattle.liq_base.specs.Counts.{Rose}
 use Rattle.clock_infer.specs.declared.clock_map.ClockMap.{ClockMap}
-use Rattle.stream_meaning.specs.Instants.{Setting}
+use Rattle.stream_meaning.specs.Instants.{Setting, with_rest}
 use Rattle.stream_meaning.proofs.Answering.{begin_none}
-use Rattle.node_states.specs.Ticks.{IsOutput, with_rest}
+use Rattle.stream_meaning.specs.Sinks.{IsOutput}
 use Rattle.clock_outputs.specs.Appends.{RoseAt}
 use Rattle.run_records.specs.Records.{AreRoundsBegun, Follows, IsRounds, Run, Window, calls_in, capacity_of, made_by, on, setting_in, setting_then, ticks_by}
 use Rattle.clock_engine.specs.declared.engine.ClockEngine.{ClockEngine}

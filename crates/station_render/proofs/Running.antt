@@ -12,12 +12,11 @@ use Rattle.plan_core.specs.declared.plan.Plan.{Plan}
 use Rattle.plan_core.specs.declared.sink.SinkPlan.{SinkPlan}
 use Rattle.plan_core.specs.declared.sink.SinkPlan.TheVariants.{Output, Feed}
 use Rattle.clock_infer.specs.declared.clock_map.NodeClock.TheVariants.{Main}
-use Rattle.stream_meaning.specs.Instants.{Setting, answered, clock_of, lies_in, same_clock}
-use Rattle.stream_meaning.specs.Sinks.{block_length, cues, gaps, is_wide, kind_of, ticks_bytes, wide_sink}
-use Rattle.op_leaf.specs.Readers.{Answer}
+use Rattle.stream_meaning.specs.Instants.{Setting, answered, clock_of, lies_in, same_clock, with_rest}
+use Rattle.stream_meaning.specs.Sinks.{block_length, cues, gaps, is_wide, kind_of, ticks_bytes, wide_sink, IsOutput}
+use Rattle.frame_core.specs.Calls.{Answer}
 use Rattle.clock_infer.specs.declared.clock_map.ClockMap.{ClockMap}
 use Rattle.stream_meaning.proofs.Existence.{same_clock-true}
-use Rattle.node_states.specs.Ticks.{IsOutput, with_rest}
 use Rattle.clock_engine.specs.declared.engine.ClockEngine.{ClockEngine}
 use Rattle.clock_engine.specs.Engines.{EngineStands, held_in, held_of, outputs_from, outputs_of, setting_of}
 use Rattle.clock_engine.specs.Ticks.{HaveTicksRoom, piece_size}

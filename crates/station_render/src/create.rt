@@ -2,7 +2,7 @@
 ghost use Rattle.std.specs.Prelude.{◌≡◌, ◌<◌, ◌≤◌, ◌+◌, ◌⊎◌, [], ◌∷◌, ◌++◌, ℕ, List, length, map, slice_get, Some, IfOk, OnOk, OnErr, IsErrOf};
 ghost use Rattle.liq_base.specs.Counts.{Rose};
 ghost use Rattle.frame_core.specs.Library.{Sounds};
-ghost use Rattle.op_leaf.specs.Readers.{Answer};
+ghost use Rattle.frame_core.specs.Calls.{Answer};
 ghost use Rattle.stations.specs.Creations.{after_making, names_in};
 ghost use Rattle.station_render.specs.Listed.{AreCounted, CreatedFront, NoneListed, WasListed};
 ghost use Rattle.stations.specs.Findings.{IsFit};

@@ -1,7 +1,7 @@
 -- What a rendering leaves that was broken off, and what threads render beside one thread.
 use Rattle.std.specs.Prelude.{◌≡◌, ◌⊎◌, ℕ, List, Option, IsSomeAnd, ⊤}
 use Rattle.liq_base.specs.Files.{Files}
-use Rattle.op_leaf.specs.Readers.{Answer}
+use Rattle.frame_core.specs.Calls.{Answer}
 use Rattle.run_records.specs.Records.{IsRounds, Run, setting_in}
 use Rattle.stream_meaning.specs.Instants.{Setting}
 use Rattle.run_records.specs.Rounds.{BeginsRounds, HasNoJoin}

@@ -4,7 +4,7 @@ use Rattle.frame_core.specs.Library.{Sounds}
 use Rattle.plan_core.specs.declared.plan.Plan.{Plan}
 use Rattle.clock_infer.specs.declared.clock_map.ClockMap.{ClockMap}
 use Rattle.stream_meaning.specs.Instants.{Setting, answered}
-use Rattle.op_leaf.specs.Readers.{Answer}
+use Rattle.frame_core.specs.Calls.{Answer}
 use Rattle.run_records.specs.Records.{AreRoundsBegun, AreWindowsBegun, IsLawful as AreWindows, IsRounds, Run, answers_of, setting_in, ticks_by}
 use Rattle.trace_log.specs.Values.{TraceValue}
 use Rattle.trace_replay.specs.Replays.{IsRecordOf, ticks_to}

@@ -8,7 +8,7 @@ use Rattle.stream_meaning.specs.Instants.{Setting}
 use Rattle.stream_meaning.specs.Sinks.{block_length, kind_of, ticks_bytes, gaps}
 use Rattle.wav_io.specs.Header.{header_bytes, wide_header_bytes}
 use Rattle.stations.specs.Outputs.{OutputFile, OutputPart}
-use Rattle.op_leaf.specs.Readers.{Answer}
+use Rattle.frame_core.specs.Calls.{Answer}
 use Rattle.run_records.specs.Buffers.{main_of}
 use Rattle.run_records.specs.Records.{Run}
 use Rattle.stations.specs.Stations.{IsBegun, Station, made_of, setting_of_run, setting_with, tried_of}

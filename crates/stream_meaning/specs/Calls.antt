@@ -8,9 +8,9 @@ use Rattle.plan_core.specs.declared.sink.SinkPlan.TheVariants.{Output, Feed}
 use Rattle.clock_infer.specs.declared.clock_map.NodeClock.{NodeClock}
 use Rattle.clock_infer.specs.declared.clock_map.NodeClock.TheVariants.{Main, Sub}
 use Rattle.frame_core.specs.Slots.{Slot}
-use Rattle.frame_core.specs.Calls.{Call, Took, Given}
+use Rattle.frame_core.specs.Calls.{Call, Took, Given, Answer}
 use Rattle.op_cross.specs.Runs.{run_of}
-use Rattle.op_leaf.specs.Readers.{Answer, takes_of}
+use Rattle.op_leaf.specs.Readers.{takes_of}
 use Rattle.stream_meaning.specs.Operators.{Work, Plays, Picks, Mixes, Fades, Reads}
 use Rattle.stream_meaning.specs.Instants.{Setting, Moment, clock_of, lies_in, position, next_answers, reading_after, work_at, history, sub_of}
 use Rattle.stream_meaning.specs.Sinks.{feed_cells}

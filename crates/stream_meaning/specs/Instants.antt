@@ -12,7 +12,8 @@ use Rattle.clock_infer.specs.declared.clock_map.NodeClock.TheVariants.{Main, Sub
 use Rattle.frame_core.specs.Slots.{Slot, is_first}
 use Rattle.op_cross.specs.Runs.{item_of}
 use Rattle.op_leaf.specs.Leaves.{leaf_slot}
-use Rattle.op_leaf.specs.Readers.{Answer, Reader, after_cell, at_start, reader_slot, takes_of}
+use Rattle.frame_core.specs.Calls.{Answer}
+use Rattle.op_leaf.specs.Readers.{Reader, after_cell, at_start, reader_slot, takes_of}
 use Rattle.op_select.specs.declared.rule.Picked.{Picked}
 use Rattle.op_select.specs.Selection.{picked}
 use Rattle.stream_meaning.specs.declared.part.Part.{Part}
@@ -31,6 +32,10 @@ pub record Setting : Type 0 where
 -- the same with other answers
 abbrev pub answered : Setting → (ℕ → List Answer) → Setting
 answered setting answers = record { plan = setting.plan; library = setting.library; clocks = setting.clocks; start = setting.start; answers = answers }
+
+-- the setting with these answers, and behind them any others
+abbrev pub with_rest : Setting → (answers rest : ℕ → List Answer) → Setting
+with_rest setting answers rest = answered setting (λ buffer. answers buffer ++ rest buffer)
 
 abbrev pub clock_of : Setting → ℕ → NodeClock
 clock_of setting i = slice_index_or setting.clocks i (Main 0)

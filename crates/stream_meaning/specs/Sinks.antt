@@ -1,5 +1,5 @@
 -- What a clock's sinks write and give.
-use Rattle.std.specs.Prelude.{Bool, true, false, Some, None, List, [], ◌∷◌, ◌++◌, ℕ, ℤ, zero, suc, pos, ◌+◌, ◌*◌, map, slice_get, if◌then◌else◌}
+use Rattle.std.specs.Prelude.{Bool, true, false, Some, None, List, [], ◌∷◌, ◌++◌, ℕ, ℤ, zero, suc, pos, ◌+◌, ◌*◌, map, slice_get, if◌then◌else◌, ◌≡◌}
 use Rattle.std.specs.List.{flat_map, range_with_len}
 use Rattle.std.specs.Option.{option_map_or}
 use Rattle.liq_base.specs.declared.memory.Kind.{Kind}
@@ -12,7 +12,8 @@ use Rattle.frame_core.specs.Slots.{Slot}
 use Rattle.sample_kernels.specs.Encoded.{block_of}
 use Rattle.sample_kernels.specs.Wide.{wide_block_of}
 use Rattle.stream_meaning.specs.Arithmetic.{cells_of}
-use Rattle.stream_meaning.specs.Instants.{Setting, stream_of}
+use Rattle.stream_meaning.specs.Instants.{Setting, stream_of, clock_of}
+use Rattle.clock_infer.specs.declared.clock_map.NodeClock.TheVariants.{Main}
 
 -- the block of an instant in an output: of samples of three bytes where it is wide, and else of two
 abbrev pub sample_block : (wide : Bool) → Kind → (left right : ℤ) → List ℕ
@@ -88,3 +89,11 @@ tick_cues setting i t = cues_from (t * setting.plan.frame) (tick_slots setting i
 abbrev pub cues : Setting → (i ticks : ℕ) → List Cue
 cues setting i zero = []
 cues setting i (suc ticks) = cues setting i ticks ++ tick_cues setting i ticks
+
+-- an output of main clock m
+pub record IsOutput (setting : Setting) (m sink node : ℕ) : Type 0 where
+  pub name : List ℕ
+  pub fallible : Bool
+  pub wide : Bool
+  pub there : slice_get setting.plan.sinks sink ≡ Some (Output name node fallible wide)
+  pub in_clock : clock_of setting node ≡ Main m

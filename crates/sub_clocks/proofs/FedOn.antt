@@ -4,9 +4,8 @@ use Rattle.std.specs.Prelude.{is_some}
 use Rattle.clock_infer.specs.declared.clock_map.NodeClock.{NodeClock}
 use Rattle.clock_infer.specs.declared.clock_map.NodeClock.TheVariants.{Sub}
 use Rattle.frame_core.specs.Slots.{Slot, title_of}
-use Rattle.frame_core.specs.Calls.{Call}
+use Rattle.frame_core.specs.Calls.{Call, Answer}
 use Rattle.op_leaf.specs.Lanes.{AreTitled, IsLane}
-use Rattle.op_leaf.specs.Readers.{Answer}
 use Rattle.stream_meaning.specs.Operators.{Work}
 use Rattle.stream_meaning.specs.Instants.{Setting, Moment, IsMeaning, clock_of, crossfaded, gives, history, moment_after, offer, part_at}
 use Rattle.stream_meaning.specs.Calls.{after_calls}

@@ -7,8 +7,7 @@ use Rattle.clock_infer.specs.declared.clock_map.NodeClock.{NodeClock}
 use Rattle.clock_infer.specs.declared.clock_map.NodeClock.TheVariants.{Sub}
 use Rattle.frame_core.specs.Slots.{Slot}
 use Rattle.op_cross.specs.Runs.{run_of}
-use Rattle.frame_core.specs.Calls.{Call}
-use Rattle.op_leaf.specs.Readers.{Answer}
+use Rattle.frame_core.specs.Calls.{Call, Answer}
 use Rattle.stream_meaning.specs.Operators.{Reads}
 use Rattle.stream_meaning.specs.Instants.{Setting, Moment, Reading, gives, read_on, reading_after, reading_at, clock_of, history, is_root, moment_after, part_at, position, same_clock, work_at}
 use Rattle.stream_meaning.specs.Calls.{GoDown, after_calls, ran_by, takes_at}

@@ -5,9 +5,8 @@ use Rattle.clock_infer.specs.declared.clock_map.NodeClock.{NodeClock}
 use Rattle.clock_infer.specs.declared.clock_map.NodeClock.TheVariants.{Sub}
 use Rattle.frame_core.specs.Slots.{Slot}
 use Rattle.frame_core.specs.Library.{Sounds}
-use Rattle.frame_core.specs.Calls.{Adds, Call}
+use Rattle.frame_core.specs.Calls.{Adds, Call, Answer}
 use Rattle.op_cross.specs.Runs.{run_of}
-use Rattle.op_leaf.specs.Readers.{Answer}
 use Rattle.stream_meaning.specs.Operators.{Work, Fades, Reads}
 use Rattle.stream_meaning.specs.Instants.{Setting, Moment, history, position}
 use Rattle.stream_meaning.specs.Calls.{HasAnswers, IsBegin, after_calls, takes_at}

@@ -7,9 +7,8 @@ use Rattle.plan_core.specs.declared.node.Node.{Node}
 use Rattle.clock_infer.specs.declared.clock_map.NodeClock.{NodeClock}
 use Rattle.clock_infer.specs.declared.clock_map.NodeClock.TheVariants.{Sub}
 use Rattle.frame_core.specs.Slots.{Slot}
-use Rattle.frame_core.specs.Calls.{Call}
+use Rattle.frame_core.specs.Calls.{Call, Answer}
 use Rattle.op_cross.specs.Runs.{run_of}
-use Rattle.op_leaf.specs.Readers.{Answer}
 use Rattle.stream_meaning.specs.Operators.{Work, Fades, Reads}
 use Rattle.stream_meaning.specs.Instants.{Setting, Moment, IsMeaning, clock_of, crossfaded, history, moment_after, part_at, position, second_at, work_at}
 use Rattle.stream_meaning.specs.Calls.{IsBegin, after_calls, calls_of, joined_between}

@@ -3,11 +3,10 @@ use Rattle.std.specs.Prelude.{◌≡◌, ◌<◌, ◌≤◌, ◌+◌, ◌&&◌, 
 use Rattle.plan_core.specs.declared.plan.Plan.{Plan}
 use Rattle.clock_infer.specs.declared.clock_map.NodeClock.{NodeClock}
 use Rattle.clock_infer.specs.declared.clock_map.NodeClock.TheVariants.{Sub}
-use Rattle.frame_core.specs.Calls.{Call}
+use Rattle.frame_core.specs.Calls.{Call, Answer}
 use Rattle.frame_core.specs.Slots.{Slot, title_of}
 use Rattle.frame_core.specs.Library.{Sounds}
 use Rattle.op_leaf.specs.Lanes.{AreTitled, IsLane}
-use Rattle.op_leaf.specs.Readers.{Answer}
 use Rattle.stream_meaning.specs.Instants.{Setting, clock_of, crossfaded, history, moment_after, offer, part_at}
 use Rattle.stream_meaning.specs.Calls.{calls_of}
 use Rattle.node_mixing.specs.Runs.{samples_of}

@@ -4,9 +4,8 @@ use Rattle.std.proofs.lemmas.List.{map-append}
 use Rattle.std.proofs.lemmas.Bool.Decides.{nat_tests}
 use Rattle.frame_core.specs.declared.cell.Cell.{Cell}
 use Rattle.frame_core.specs.Frames.{somes}
-use Rattle.frame_core.specs.Calls.{Call, Took, Given, put_of, takes_of, puts_to}
+use Rattle.frame_core.specs.Calls.{Call, Took, Given, put_of, takes_of, puts_to, Answer}
 use Rattle.frame_core.proofs.Lanes.{somes-append}
-use Rattle.op_leaf.specs.Readers.{Answer}
 use Rattle.stream_meaning.specs.Instants.{Setting}
 use Rattle.run_records.proofs.Flattening.{takes-append, puts-append}
 use Rattle.trace_replay.specs.Clocks.{Agree, AreAnswered, IsFront, Joins, Log, puts_in, takes_in}

@@ -6,8 +6,7 @@ use Rattle.std.proofs.lemmas.List.{drop-append-le, length-drop}
 use Rattle.std.proofs.Math.ListN.{drop_of_length-le}
 use Rattle.frame_core.specs.declared.cell.Cell.{Cell}
 use Rattle.frame_core.specs.Frames.{somes}
-use Rattle.frame_core.specs.Calls.{Call, Took, Given, put_of, puts_to, takes_of}
-use Rattle.op_leaf.specs.Readers.{Answer}
+use Rattle.frame_core.specs.Calls.{Call, Took, Given, put_of, puts_to, takes_of, Answer}
 use Rattle.stream_meaning.specs.Instants.{Setting}
 use Rattle.run_records.specs.Buffers.{feeder, reader}
 use Rattle.run_records.specs.Records.{Follows, capacity_of, on}

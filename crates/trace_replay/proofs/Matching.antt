@@ -8,9 +8,8 @@ use Rattle.clock_infer.specs.declared.clock_map.ClockMap.{ClockMap}
 use Rattle.clock_infer.specs.declared.clock_map.NodeClock.TheVariants.{Main}
 use Rattle.frame_core.specs.declared.cell.Cell.{Cell}
 use Rattle.frame_core.specs.Frames.{somes}
-use Rattle.frame_core.specs.Calls.{Call, puts_to, takes_of}
-use Rattle.op_leaf.specs.Readers.{Answer}
-use Rattle.stream_meaning.specs.Instants.{Setting, answered}
+use Rattle.frame_core.specs.Calls.{Call, puts_to, takes_of, Answer}
+use Rattle.stream_meaning.specs.Instants.{Setting, answered, with_rest}
 use Rattle.stream_meaning.specs.Calls.{answers_in, calls_of_tick, joined_upto}
 use Rattle.stream_meaning.specs.Settings.{IsSetting}
 use Rattle.stream_meaning.specs.Sinks.{ticks_bytes}
@@ -21,7 +20,6 @@ use Rattle.run_records.specs.Buffers.{feeder, reader}
 use Rattle.run_records.specs.Owning.{IsOwn}
 use Rattle.run_records.specs.Records.{IsLawful, Run, Window, answers_of, calls_in, setting_in}
 use Rattle.run_records.proofs.Flattening.{takes-append}
-use Rattle.node_states.specs.Ticks.{with_rest}
 use Rattle.clock_engine.specs.declared.engine.ClockEngine.{ClockEngine}
 use Rattle.clock_engine.specs.Engines.{held_of, setting_of}
 use Rattle.rounds_run.specs.Rounds.{HasRunPart, HasRunTurns, MayRun, world}

@@ -4,8 +4,7 @@ use mathlib.Core.Path.{fun_ext}
 use native.Mathlib.Nat.{mul_comm}
 use Rattle.std.proofs.lemmas.Bool.{cases_lt}
 use Rattle.std.proofs.Math.Nat.{div-add-mod, min-eq_left, min-eq_right, mod-lt, mul-le-mul_right}
-use Rattle.frame_core.specs.Calls.{Call, puts_to, takes_of}
-use Rattle.op_leaf.specs.Readers.{Answer}
+use Rattle.frame_core.specs.Calls.{Call, puts_to, takes_of, Answer}
 use Rattle.stream_meaning.specs.Instants.{Setting, answered}
 use Rattle.stream_meaning.specs.Calls.{answers_in, calls_of_tick}
 use Rattle.stream_meaning.proofs.Answering.{answers_in-append}

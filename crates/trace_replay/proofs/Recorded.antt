@@ -11,8 +11,7 @@ use Rattle.frame_core.specs.Frames.{somes}
 use Rattle.frame_core.specs.Legal.{IsRun}
 use Rattle.frame_core.proofs.Lanes.{somes-append}
 use Rattle.frame_core.proofs.Laws.{legal_whole}
-use Rattle.frame_core.specs.Calls.{Call, Took, Given, takes_of, puts_to, put_of}
-use Rattle.op_leaf.specs.Readers.{Answer}
+use Rattle.frame_core.specs.Calls.{Call, Took, Given, takes_of, puts_to, put_of, Answer}
 use Rattle.stream_meaning.specs.Instants.{Setting, answered}
 use Rattle.stream_meaning.specs.Calls.{calls_of_tick, joined_upto, joined_between}
 use Rattle.stream_meaning.specs.Settings.{IsSetting}

@@ -1,8 +1,7 @@
 -- The run of an engine over all the chunks of a record.
 use Rattle.std.proofs.Common.{◌≡◌, ◌<◌, ◌≤◌, ◌+◌, ◌-◌, ◌*◌, ◌∙◌, ◌++◌, ◌⊎◌, ℕ, suc, Bool, true, inl, inr, Option, Some, List, [], length, add-one, suc-mul, refl, ap, slice_get, sym, subst, arith}
 use mathlib.Core.Path.{fun_ext}
-use Rattle.frame_core.specs.Calls.{Call}
-use Rattle.op_leaf.specs.Readers.{Answer}
+use Rattle.frame_core.specs.Calls.{Call, Answer}
 use Rattle.stream_meaning.specs.Instants.{Setting, answered}
 use Rattle.stream_meaning.specs.Calls.{IsBegin, answers_in, calls_of_tick}
 use Rattle.stream_meaning.proofs.Answering.{answers_in-append}

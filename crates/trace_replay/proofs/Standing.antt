@@ -7,8 +7,7 @@ use Rattle.std.proofs.lemmas.List.{drop-append-le, length-take-le, map-append, t
 use Rattle.std.proofs.lemmas.Option.{slice_get_within}
 use Rattle.frame_core.specs.declared.cell.Cell.{Cell}
 use Rattle.frame_core.specs.Frames.{somes}
-use Rattle.frame_core.specs.Calls.{Call, Took, Given, put_of, puts_to, takes_of}
-use Rattle.op_leaf.specs.Readers.{Answer}
+use Rattle.frame_core.specs.Calls.{Call, Took, Given, put_of, puts_to, takes_of, Answer}
 use Rattle.run_records.proofs.Flattening.{puts-append, takes-append}
 use Rattle.run_records.specs.Parting.{IsSameCall}
 use Rattle.trace_replay.specs.declared.told.Taken.TheVariants.{Chunk as GotChunk, Empty as IsEmpty, Waits as MustWait, Never as NoTake}

@@ -6,8 +6,7 @@ use Rattle.std.proofs.lemmas.Bool.{cases_lt}
 use Rattle.std.proofs.lemmas.Bool.Decides.{nat_tests}
 use Rattle.clock_infer.specs.declared.clock_map.ClockMap.{ClockMap}
 use Rattle.frame_core.specs.declared.cell.Cell.{Cell}
-use Rattle.frame_core.specs.Calls.{Call, Took}
-use Rattle.op_leaf.specs.Readers.{Answer}
+use Rattle.frame_core.specs.Calls.{Call, Took, Answer}
 use Rattle.stream_meaning.specs.Instants.{Setting, answered}
 use Rattle.stream_meaning.specs.Calls.{IsBegin, answers_in, calls_of_tick}
 use Rattle.stream_meaning.specs.Settings.{IsSetting}

@@ -3,8 +3,7 @@ use Rattle.std.specs.Prelude.{◌≡◌, ◌<◌, ◌≤◌, ◌+◌, ◌⊎◌,
 use Rattle.std.specs.List.{flat_map}
 use Rattle.frame_core.specs.declared.cell.Cell.{Cell}
 use Rattle.frame_core.specs.Frames.{somes}
-use Rattle.frame_core.specs.Calls.{Call, Took, Given, takes_of, puts_to}
-use Rattle.op_leaf.specs.Readers.{Answer}
+use Rattle.frame_core.specs.Calls.{Call, Took, Given, takes_of, puts_to, Answer}
 use Rattle.stream_meaning.specs.Instants.{Setting, answered}
 use Rattle.run_records.specs.Parting.{IsSameCall}
 use Rattle.run_records.specs.Outputs.{first_calls}

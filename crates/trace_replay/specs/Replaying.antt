@@ -1,7 +1,6 @@
 -- The run of an engine over all the chunks of a record.
 use Rattle.std.specs.Prelude.{◌≡◌, ◌<◌, ◌+◌, ◌++◌, ℕ, suc, Bool, Option, Some, List, [], slice_get}
-use Rattle.frame_core.specs.Calls.{Call}
-use Rattle.op_leaf.specs.Readers.{Answer}
+use Rattle.frame_core.specs.Calls.{Call, Answer}
 use Rattle.stream_meaning.specs.Instants.{answered}
 use Rattle.stream_meaning.specs.Calls.{answers_in}
 use Rattle.stream_meaning.specs.Settings.{IsSetting}

@@ -1,8 +1,7 @@
 use Rattle.std.proofs.Common.{◌∙◌, rules, [], length, slice_get, ap, arith, refl, subst}
 use Rattle.std.proofs.lemmas.Option.{slice_get_within}
-use Rattle.stream_meaning.specs.Instants.{Setting}
+use Rattle.stream_meaning.specs.Instants.{Setting, with_rest}
 use Rattle.engine_instants.specs.Runs.{HasRunRoom}
-use Rattle.node_states.specs.Ticks.{with_rest}
 use Rattle.clock_engine.specs.Beginnings.{IsNewPort}
 use Rattle.clock_engine.proofs.Numbered.{all_at}
 use Rattle.clock_engine.proofs.Mapped.{has_ranks, rank_low}

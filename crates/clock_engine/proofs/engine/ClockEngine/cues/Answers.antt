@@ -1,8 +1,8 @@
 use Rattle.std.proofs.Common.{◌≡◌, ◌<◌, ◌∙◌, Some, length, map, slice_get, arith, ap, sym, refl, subst, inl, inr}
 use Rattle.std.proofs.lemmas.Bool.{true≢false}
 use Rattle.std.proofs.lemmas.Option.{slice_get_read, slice_get_within}
-use Rattle.stream_meaning.specs.Sinks.{cues}
-use Rattle.node_states.specs.Ticks.{IsOutput, with_rest}
+use Rattle.stream_meaning.specs.Sinks.{cues, IsOutput}
+use Rattle.stream_meaning.specs.Instants.{with_rest}
 use Rattle.clock_engine.specs.Cues.{mark_of}
 use Rattle.clock_engine.specs.Engines.{EngineStands, EngineStopped, setting_of}
 use Rattle.engine_instants.proofs.Places.{below_or_same}

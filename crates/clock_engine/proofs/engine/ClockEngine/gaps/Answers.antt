@@ -1,7 +1,7 @@
 use Rattle.std.proofs.Common.{◌≡◌, ◌<◌, ◌∙◌, Some, length, get_or, slice_get, arith, ap, sym, refl, subst, inl, inr}
 use Rattle.std.proofs.lemmas.Option.{slice_get_read, slice_get_within}
-use Rattle.stream_meaning.specs.Sinks.{gaps}
-use Rattle.node_states.specs.Ticks.{IsOutput, with_rest}
+use Rattle.stream_meaning.specs.Sinks.{gaps, IsOutput}
+use Rattle.stream_meaning.specs.Instants.{with_rest}
 use Rattle.clock_engine.specs.Engines.{EngineStands, EngineStopped, setting_of}
 use Rattle.engine_instants.proofs.Places.{below_or_same}
 use Rattle.clock_engine.proofs.Numbered.{port_found, port_node}
