@@ -117,7 +117,7 @@ impl CellRing {
     }
 
     /// Appends cells with this title and these samples, none of which begins a track.
-    pub fn push_run(&mut self, title: u32, left: &[i16], right: &[i16])
+    pub fn push_inner(&mut self, title: u32, left: &[i16], right: &[i16])
         requires same { length right.now ≡ length left.now }
         requires there { length self.old.cells + length left.now ≤ self.old.room }
         ensures { self.new ≡ record { cells = self.old.cells ++ inner_cells title left.now right.now; room = self.old.room } }

@@ -6,7 +6,7 @@ use mathlib.Core.Path.{fun_ext}
 use Rattle.liq_base.specs.Pieces.{IsPrefix, grown}
 use Rattle.clock_infer.specs.declared.clock_map.ClockMap.{ClockMap}
 use Rattle.frame_core.specs.declared.cell.Cell.{Cell}
-use Rattle.frame_core.specs.Legal.{IsRun}
+use Rattle.frame_core.specs.Legal.{IsHistory}
 use Rattle.frame_core.specs.Calls.{Call, takes_of, puts_to}
 use Rattle.stream_meaning.specs.Instants.{Setting, answered, with_rest}
 use Rattle.stream_meaning.specs.Sinks.{ticks_bytes, IsOutput}
@@ -17,7 +17,7 @@ use Rattle.run_records.specs.Records.{AreWindowsBegun, Follows, IsWithin, Run, W
 use Rattle.run_records.proofs.Alone.{feeder_runs}
 use Rattle.run_records.proofs.Owning.{own_tick}
 use Rattle.run_records.proofs.Running.{runs_in, rests_in}
-use Rattle.clock_threads.specs.Histories.{AreTicks, History, answers_by, joined_from}
+use Rattle.clock_threads.specs.TickCalls.{AreTicks, TickCalls, answers_by, joined_from}
 use Rattle.clock_threads.proofs.Walking.{answers-append, joined_alike}
 use Rattle.clock_threads.specs.declared.wires.Wire.{Wire}
 use Rattle.clock_threads.specs.Wires.{wire_at}
@@ -49,28 +49,28 @@ itself bytes = record { rest = []; whole_is = sym (append-nil bytes) }
 
 -- A clock has made so many ticks from the last border on, and tried no more or, after these calls, stopped in the next one; each output
 -- has grown by its bytes of the ticks that were made, and by a front of those of the ones that were tried.
-pub record Came (setting : Setting) (m s e : ℕ) (history : History) (ticks tried : ℕ) (made : List Call) (accepted : ℕ → Bool) (old new : ℕ → Option (List ℕ)) : Type 0 where
+pub record Came (setting : Setting) (m s e : ℕ) (tick_calls : TickCalls) (ticks tried : ℕ) (made : List Call) (accepted : ℕ → Bool) (old new : ℕ → Option (List ℕ)) : Type 0 where
   pub inside : ((tried ≡ ticks) × (made ≡ [])) ⊎ (tried ≡ suc ticks)
-  pub ticks_are : AreTicks setting m ticks history
-  pub begun : (rest : Answers) → IsBegin made (calls_of_tick (with_rest setting (after_calls (answers_by history ticks) made) rest) accepted m ticks)
+  pub ticks_are : AreTicks setting m ticks tick_calls
+  pub begun : (rest : Answers) → IsBegin made (calls_of_tick (with_rest setting (after_calls (answers_by tick_calls ticks) made) rest) accepted m ticks)
   pub front : (rest : Answers) (sink node : ℕ) (output : IsOutput setting m sink node)
-      → (bytes : List ℕ) × IsPrefix (ticks_bytes (with_rest setting (after_calls (answers_by history ticks) made) rest) output.wide node ticks) bytes
-      × IsPrefix bytes (ticks_bytes (with_rest setting (after_calls (answers_by history ticks) made) rest) output.wide node tried) × (new sink ≡ grown bytes (old sink))
+      → (bytes : List ℕ) × IsPrefix (ticks_bytes (with_rest setting (after_calls (answers_by tick_calls ticks) made) rest) output.wide node ticks) bytes
+      × IsPrefix bytes (ticks_bytes (with_rest setting (after_calls (answers_by tick_calls ticks) made) rest) output.wide node tried) × (new sink ≡ grown bytes (old sink))
 
 -- what a clock called since the last border; one that does not run called nothing
-pub record Reach (setting : Setting) (running m s e : ℕ) (history : History) (Stands : (made tried : ℕ) → Answers → Type 0) (old new : ℕ → Option (List ℕ)) : Type 0 where
+pub record Reach (setting : Setting) (running m s e : ℕ) (tick_calls : TickCalls) (Stands : (made tried : ℕ) → Answers → Type 0) (old new : ℕ → Option (List ℕ)) : Type 0 where
   pub ticks : ℕ
   pub tried : ℕ
   pub within : IsWithin s e ticks tried
   pub made : List Call
   pub accepted : ℕ → Bool
   pub since : List Call
-  pub since_is : m < running → since ≡ joined_from history.calls s (ticks - s) ++ made
-  pub came : m < running → Came setting m s e history ticks tried made accepted old new
-  pub stands : m < running → Stands ticks tried (answers_by history ticks)
+  pub since_is : m < running → since ≡ joined_from tick_calls.calls s (ticks - s) ++ made
+  pub came : m < running → Came setting m s e tick_calls ticks tried made accepted old new
+  pub stands : m < running → Stands ticks tried (answers_by tick_calls ticks)
   pub rests : running ≤ m → (since ≡ []) × (ticks ≡ s)
 
-module _ (setting : Setting) (map : ClockMap) (is : IsSetting setting map) (wires : List Wire) (are : AreWires setting map.running wires) (W N closed : ℕ) (hs : ℕ → History)
+module _ (setting : Setting) (map : ClockMap) (is : IsSetting setting map) (wires : List Wire) (are : AreWires setting map.running wires) (W N closed : ℕ) (hs : ℕ → TickCalls)
     (Stands : ℕ → (made tried : ℕ) → Answers → Type 0) (old new : ℕ → ℕ → Option (List ℕ))
     (reach : (m : ℕ) → Reach setting map.running m (start W N closed) (start W N (suc closed)) (hs m) (Stands m) (old m) (new m)) where
   abbrev s : ℕ
@@ -304,15 +304,15 @@ module _ (setting : Setting) (map : ClockMap) (is : IsSetting setting map) (wire
   module _ (level_is : (m n : ℕ) → m < map.running → n < map.running → tried m ≡ ticks m → tried n ≡ ticks n → ticks m ≡ ticks n)
       (ended_is : (m n : ℕ) → m < map.running → tried n ≡ suc (ticks n) → tried m ≡ ticks m → ticks m ≡ e)
       (runs_are : (b : ℕ) → b < length wires → (chunks : List (List Cell))
-      × IsRun (wire_at wires b).capacity [] (windows_upto (wire_at wires b) hs b W N closed ++ (puts_to b (since (wire_at wires b).from), takes_of b (since (wire_at wires b).to)) ∷ []) chunks)
+      × IsHistory (wire_at wires b).capacity [] (windows_upto (wire_at wires b) hs b W N closed ++ (puts_to b (since (wire_at wires b).from), takes_of b (since (wire_at wires b).to)) ∷ []) chunks)
       (ordered : (b : ℕ) → b < length wires → (wire_at wires b).from ≡ (wire_at wires b).to → (chunks : List (List Cell))
       × Follows (wire_at wires b).capacity [] (on_ends b (joined_upto (hs (wire_at wires b).from).calls (start W N closed) ++ since (wire_at wires b).from)) chunks) where
-    pub legal_is : (b : ℕ) → b < length setting.plan.buffers → (chunks : List (List Cell)) × IsRun (capacity_of setting b) [] (windows_of broken_run b) chunks
+    pub legal_is : (b : ℕ) → b < length setting.plan.buffers → (chunks : List (List Cell)) × IsHistory (capacity_of setting b) [] (windows_of broken_run b) chunks
     legal_is b known =
         let less = in_wires b known in let l = runs_are b less in
         let same : windows_upto (wire_at wires b) hs b W N closed ++ (puts_to b (since (wire_at wires b).from), takes_of b (since (wire_at wires b).to)) ∷ [] ≡ windows b =
         (λ i. windows_upto (wire_at wires b) hs b W N closed ++ (puts_to b (since ((are.each b less).from_is i)), open_takes b less i) ∷ []) in
-        (l.0, subst (λ (z : ℕ × List Window). IsRun z.0 [] z.1 l.0) (λ i. ((are.each b less).capacity_is i, (same ∙ sym (windows_are b less)) i)) l.1)
+        (l.0, subst (λ (z : ℕ × List Window). IsHistory z.0 [] z.1 l.0) (λ i. ((are.each b less).capacity_is i, (same ∙ sym (windows_are b less)) i)) l.1)
 
     pub order_is : (rest : Answers) (b : ℕ) → b < length setting.plan.buffers → feeder setting b ≡ reader setting b
         → (chunks : List (List Cell)) × Follows (capacity_of setting b) [] (on b (joined_upto (calls_in (world rest) map.running accepts (feeder setting b)) (start W N closed) ++ since (feeder setting b))) chunks

@@ -14,16 +14,16 @@ use Rattle.std.specs.contracts.impls.GlobalAllocator.TheImpl
 use Rattle.std.below.std_heap.proofs.GlobalAllocator.TheSendSync as AllocatorSent
 use Rattle.clock_outputs.specs.contracts.feed.FeedPort
 use Rattle.clock_outputs.specs.contracts.port.Port
-use Rattle.clock_engine.specs.contracts.fault.TickFault
-use Rattle.clock_engine.specs.contracts.engine.ClockEngine
-use Rattle.clock_engine.specs.contracts.engine.ClockEngine.TheInside as Fields
-use Rattle.clock_engine.specs.contracts.engine.EngineParts
-use Rattle.engine_instants.specs.contracts.shape.Shape
-use Rattle.clock_engine.proofs.clock_state.ClockState.TheSendSync as ClockStateSent
-use Rattle.clock_engine.proofs.cues.Cues.TheSendSync as CuesSent
+use Rattle.clock_ticks.specs.contracts.fault.TickFault
+use Rattle.clock_ticks.specs.contracts.engine.ClockEngine
+use Rattle.clock_ticks.specs.contracts.engine.ClockEngine.TheInside as Fields
+use Rattle.clock_ticks.specs.contracts.engine.EngineParts
+use Rattle.clock_instants.specs.contracts.shape.Shape
+use Rattle.clock_ticks.proofs.clock_state.ClockState.TheSendSync as ClockStateSent
+use Rattle.clock_ticks.proofs.cues.Cues.TheSendSync as CuesSent
 use Rattle.clock_outputs.proofs.port.Port.TheSendSync as PortSent
 use Rattle.clock_outputs.proofs.feed.FeedPort.TheSendSync as FeedSent
-use Rattle.clock_engine.proofs.fault.TickFault.TheSendSync as FaultSent
+use Rattle.clock_ticks.proofs.fault.TickFault.TheSendSync as FaultSent
 use Rattle.clock_infer.proofs.clock_map.NodeClock.TheSendSync as ClockSent
 use Rattle.fixed_text.proofs.week.WeekSecond.TheSendSync as SecondSent
 use Rattle.fixed_text.proofs.decimal.Decimal.TheSendSync as DecimalSent

@@ -1,22 +1,22 @@
 -- The whole run.
 use Rattle.std.proofs.Common.{◌≡◌, ◌⊎◌, ℕ, suc, ◌<◌, ◌≤◌, ◌+◌, ◌-◌, All, List, [], ◌∷◌, length, slice_index_or, min, sym, refl, ap, ◌∙◌, subst, arith, inl, inr, Option, Some, None, ◌++◌, add-suc, append-nil}
 use Rattle.std.specs.Prelude.{IfSome}
-use Rattle.clock_engine.specs.declared.engine.ClockEngine.{ClockEngine}
-use Rattle.frame_core.specs.Legal.{Legal, IsRun}
+use Rattle.clock_ticks.specs.declared.engine.ClockEngine.{ClockEngine}
+use Rattle.frame_core.specs.Legal.{Legal, IsHistory}
 use Rattle.frame_core.specs.Calls.{Call, takes_of, puts_to}
 use Rattle.frame_core.proofs.Laws.{run_more}
 use Rattle.buffer_ends.specs.Local.{Answers, on}
 use Rattle.buffer_ends.specs.declared.thread_taps.ThreadTaps.{ThreadTaps}
 use Rattle.buffer_ends.specs.declared.run_end.End.{End}
 use Rattle.buffer_ends.specs.declared.run_end.End.TheVariants.{Done, Write}
-use Rattle.clock_engine.specs.declared.fault.TickFault.{TickFault}
-use Rattle.clock_engine.specs.declared.fault.TickFault.TheVariants.{Memory as OutOfMemory, Write as Refused}
+use Rattle.clock_ticks.specs.declared.fault.TickFault.{TickFault}
+use Rattle.clock_ticks.specs.declared.fault.TickFault.TheVariants.{Memory as OutOfMemory, Write as Refused}
 use Rattle.clock_threads.specs.declared.task.Task.{Task}
-use Rattle.clock_threads.specs.Histories.{History, Agree, answers_by, joined_from}
+use Rattle.clock_threads.specs.TickCalls.{TickCalls, Agree, answers_by, joined_from}
 use Rattle.stream_meaning.specs.Calls.{joined_upto}
-use Rattle.clock_engine.specs.Engines.{held_of}
-use Rattle.clock_engine.specs.Pieces.{GotBetween, GotPieces}
-use Rattle.clock_engine.proofs.Pieces.{between_then, got_between, got_then}
+use Rattle.clock_ticks.specs.Engines.{held_of}
+use Rattle.clock_ticks.specs.Pieces.{GotBetween, GotPieces}
+use Rattle.clock_ticks.proofs.Pieces.{between_then, got_between, got_then}
 use Rattle.clock_threads.specs.TaskRuns.{CanRun, WasRun, EngineGone, EngineGonePart, IsSameClock, IsWriteOf}
 use Rattle.clock_threads.proofs.Walking.{agree_none, joined_alike}
 use Rattle.clock_threads.proofs.Running.{rooms_fewer, same_then}
@@ -84,7 +84,7 @@ module _ {S R : Type 0} where
     loop_part made first now start_logs logs ready loop d = let l = loop.at d in
         record {
           closed = l.windows;
-          histories = l.going.histories;
+          clock_calls = l.going.clock_calls;
           since = λ k. [];
           many = loop.many;
           clocks = λ k h. (let c = l.going.clocks k h in
@@ -94,13 +94,13 @@ module _ {S R : Type 0} where
                 least = omega arith;
                 pieces = λ runs. c.pieces;
                 pieces_part = got_between appends (start W N l.windows) (start W N l.windows) (suc (start W N l.windows)) (slice_index_or first k d).engine.outs (slice_index_or now k d).engine.outs (omega arith) (omega arith) c.pieces;
-                came = inl (start_up W N l.windows, c.gone, sym (joined_none (l.going.histories k).calls (start W N l.windows)));
+                came = inl (start_up W N l.windows, c.gone, sym (joined_none (l.going.clock_calls k).calls (start W N l.windows)));
               });
           ended = inl (λ k h. ((l.going.clocks k h).gone.stand.runs, refl));
           runs = λ b low. (let g = going_runs held name room faults appends wires W N l.windows first now logs d l.going ready.places b low in
-              (g.0, run_more (wire_at wires b).capacity [] g.0 g.0 (windows_upto (wire_at wires b) l.going.histories b W N l.windows) [] [] g.1 Legal.ended));
+              (g.0, run_more (wire_at wires b).capacity [] g.0 g.0 (windows_upto (wire_at wires b) l.going.clock_calls b W N l.windows) [] [] g.1 Legal.ended));
           in_order = λ b low e. (let f = going_local held name room faults appends wires W N l.windows first now logs d l.going ready.places b low e in
-              (f.0, subst (λ cs. Follows (wire_at wires b).capacity [] (on b cs) f.0) (sym (append-nil (joined_upto (l.going.histories (wire_at wires b).from).calls (start W N l.windows)))) f.1));
+              (f.0, subst (λ cs. Follows (wire_at wires b).capacity [] (on b cs) f.0) (sym (append-nil (joined_upto (l.going.clock_calls (wire_at wires b).from).calls (start W N l.windows)))) f.1));
         }
 
     pub loop_all : (made : ℕ) (first now : List (Task S (ThreadTaps R))) (logs : List (List Answers)) → N ≤ made → Loop made first now logs → RunDone held name room faults appends wires W N first now logs
@@ -116,7 +116,7 @@ module _ {S R : Type 0} where
         let most_left : made + count ≤ N = omega (arith, next, most, at) in
         record {
           many = c.lists ∙ sym r ∙ ap (λ set. length set.plan.buffers) (sym c.same.setting);
-          stands = record { ticks = start W N l.windows; answers = answers_by (l.going.histories k) (start W N l.windows); stand = c.gone.stand };
+          stands = record { ticks = start W N l.windows; answers = answers_by (l.going.clock_calls k) (start W N l.windows); stand = c.gone.stand };
           few = (let t = c.gone.stand.made in omega (arith, t, at, most_left, few));
           rooms = rooms_fewer room (slice_index_or now k d).engine.parts (slice_index_or now k d).engine.outs count (N - made) (omega (arith, most_left)) (c.rooms (N - made) (omega (arith, at, less)));
         })
@@ -160,18 +160,18 @@ module _ {S R : Type 0} where
           same_then name faults (slice_index_or first k d).engine (slice_index_or now k d).engine (slice_index_or mid k d).engine ((loop.at d).going.clocks k h).same (ran k d within).clock
 
       -- how far a clock came, and what it called since the border
-      record At (d : Task S (ThreadTaps R)) (k : ℕ) (g : History) : Type 0 where
-        agree : Agree (start W N (loop.at d).windows) ((loop.at d).going.histories k) g
+      record At (d : Task S (ThreadTaps R)) (k : ℕ) (g : TickCalls) : Type 0 where
+        agree : Agree (start W N (loop.at d).windows) ((loop.at d).going.clock_calls k) g
         since : List Call
         reached : k < length first → CameTo held name faults appends W N (loop.at d).windows g since (slice_index_or first k d) (slice_index_or mid k d)
         ended : (low : k < length first) → (slice_index_or mid k d).engine.parts.stopped ≡ None → (reached low).ticks ≡ start W N (suc (loop.at d).windows)
-        stood : k < length first → TapsStand (slice_index_or mid k d).taps (kept wires k (joined_upto ((loop.at d).going.histories k).calls (start W N (loop.at d).windows)) ++ since)
+        stood : k < length first → TapsStand (slice_index_or mid k d).taps (kept wires k (joined_upto ((loop.at d).going.clock_calls k).calls (start W N (loop.at d).windows)) ++ since)
 
-      stops : (d : Task S (ThreadTaps R)) (k : ℕ) → k < length first → (o : Option TickFault) → (slice_index_or mid k d).engine.parts.stopped ≡ o → (g : History) × At d k g
+      stops : (d : Task S (ThreadTaps R)) (k : ℕ) → k < length first → (o : Option TickFault) → (slice_index_or mid k d).engine.parts.stopped ≡ o → (g : TickCalls) × At d k g
       stops d k less' None e =
           let c = (loop.at d).going in let t = start W N (loop.at d).windows in let m = loop.many in let within : k < length now = omega (arith, less', m) in
           let r = ran k d within in let n = next_at d in
-          let w = r.ran.on t (c.histories k) (held_of held (slice_index_or first k d).engine) (c.clocks k less').gone e in
+          let w = r.ran.on t (c.clock_calls k) (held_of held (slice_index_or first k d).engine) (c.clocks k less').gone e in
           let long : count ≡ t + count - t = omega arith in
           let pieces : GotPieces appends (t + count) (slice_index_or first k d).engine.outs (slice_index_or mid k d).engine.outs =
           got_then appends t count (slice_index_or first k d).engine.outs (slice_index_or now k d).engine.outs (slice_index_or mid k d).engine.outs (c.clocks k less').same.outs (c.clocks k less').pieces w.pieces in (
@@ -188,13 +188,13 @@ module _ {S R : Type 0} where
                 came = inl (omega (arith, n), w.gone, ap (joined_from w.after.calls t) long);
               };
               ended = λ again runs. sym n;
-              stood = λ again. w.taps (kept wires k (joined_upto (c.histories k).calls t)) (c.clocks k less').stand;
+              stood = λ again. w.taps (kept wires k (joined_upto (c.clock_calls k).calls t)) (c.clocks k less').stand;
             },
           )
       stops d k less' (Some fault) e =
           let c = (loop.at d).going in let t = start W N (loop.at d).windows in let m = loop.many in let within : k < length now = omega (arith, less', m) in
           let r = ran k d within in let n = next_at d in
-          let w = r.ran.halted t (c.histories k) (held_of held (slice_index_or first k d).engine) (c.clocks k less').gone (λ n. some_none (sym e ∙ n)) in
+          let w = r.ran.halted t (c.clock_calls k) (held_of held (slice_index_or first k d).engine) (c.clocks k less').gone (λ n. some_none (sym e ∙ n)) in
           let long : w.made ≡ t + w.made - t = omega arith in (
             w.after,
             record {
@@ -211,17 +211,17 @@ module _ {S R : Type 0} where
                 came = inr ((let f = w.fewer in omega (arith, f, n)), w.part, ap (λ l. joined_from w.after.calls t l ++ w.part.made) long);
               };
               ended = λ again runs. absurd (some_none (sym e ∙ runs));
-              stood = λ again. w.taps (kept wires k (joined_upto (c.histories k).calls t)) (c.clocks k less').stand;
+              stood = λ again. w.taps (kept wires k (joined_upto (c.clock_calls k).calls t)) (c.clocks k less').stand;
             },
           )
 
-      abbrev chosen : (d : Task S (ThreadTaps R)) (k : ℕ) → (g : History) × At d k g
+      abbrev chosen : (d : Task S (ThreadTaps R)) (k : ℕ) → (g : TickCalls) × At d k g
       chosen d k = elim (low_or_high k (length first)) [
         | inl low ↦ stops d k low (slice_index_or mid k d).engine.parts.stopped refl
         | inr high ↦ (
-          (loop.at d).going.histories k,
+          (loop.at d).going.clock_calls k,
           record {
-            agree = agree_none (start W N (loop.at d).windows) ((loop.at d).going.histories k);
+            agree = agree_none (start W N (loop.at d).windows) ((loop.at d).going.clock_calls k);
             since = [];
             reached = λ low. absurd (omega (arith, low, high));
             ended = λ low. absurd (omega (arith, low, high));
@@ -233,7 +233,7 @@ module _ {S R : Type 0} where
       abbrev called : (d : Task S (ThreadTaps R)) (k : ℕ) → List Call
       called d k = (chosen d k).1.since
 
-      stood_by : (d : Task S (ThreadTaps R)) (k : ℕ) → k < length first → TapsStand (slice_index_or mid k d).taps (kept wires k (joined_upto ((loop.at d).going.histories k).calls (start W N (loop.at d).windows)) ++ called d k)
+      stood_by : (d : Task S (ThreadTaps R)) (k : ℕ) → k < length first → TapsStand (slice_index_or mid k d).taps (kept wires k (joined_upto ((loop.at d).going.clock_calls k).calls (start W N (loop.at d).windows)) ++ called d k)
       stood_by d k h = (chosen d k).1.stood h
 
       -- the windows may be closed, whatever the clocks did
@@ -246,22 +246,22 @@ module _ {S R : Type 0} where
         came_to : RunPart held name faults appends wires W N first mid
         came_to d =
             let l = loop.at d in let j = l.windows in let t = start W N j in
-            let gs : ℕ → History = λ k. (chosen d k).0 in
-            let same : (b : ℕ) → windows_upto (wire_at wires b) gs b W N j ≡ windows_upto (wire_at wires b) l.going.histories b W N j =
-            λ b. windows_alike (wire_at wires b) l.going.histories gs b W N j t (λ k. (chosen d k).1.agree) (λ i low'. start_climbs W N (suc i) (j - suc i) j (omega (arith, low'))) (λ i low'. start_up W N i) in
+            let gs : ℕ → TickCalls = λ k. (chosen d k).0 in
+            let same : (b : ℕ) → windows_upto (wire_at wires b) gs b W N j ≡ windows_upto (wire_at wires b) l.going.clock_calls b W N j =
+            λ b. windows_alike (wire_at wires b) l.going.clock_calls gs b W N j t (λ k. (chosen d k).1.agree) (λ i low'. start_climbs W N (suc i) (j - suc i) j (omega (arith, low'))) (λ i low'. start_up W N i) in
             record {
               closed = j;
-              histories = gs;
+              clock_calls = gs;
               since = called d;
               many = (let m = loop.many in omega (arith, m, mid_many));
               clocks = λ k h. (chosen d k).1.reached h;
               ended = inr (λ k h. (chosen d k).1.ended h);
               runs = λ b low. (let wire = wire_at wires b in
                   let g = all_shut held name room faults appends wires W N j d count first now mid logs ready.places l.going (λ k h. ran k d h) mid_many (called d) (stood_by d) shut closed b low in
-                  (g.0, subst (λ ws. IsRun wire.capacity [] (ws ++ (puts_to b (called d wire.from), takes_of b (called d wire.to)) ∷ []) g.0) (sym (same b)) g.1));
+                  (g.0, subst (λ ws. IsHistory wire.capacity [] (ws ++ (puts_to b (called d wire.from), takes_of b (called d wire.to)) ∷ []) g.0) (sym (same b)) g.1));
               in_order = λ b low e. (let k = (wire_at wires b).from in
                   let f = list_follows held name room faults appends wires W N j d count first now mid logs ready.places l.going (λ k h. ran k d h) mid_many (called d) (stood_by d) b low e in
-                  (f.0, subst (λ cs. Follows (wire_at wires b).capacity [] (on b (cs ++ called d k)) f.0) (sym (joined_alike (gs k).calls (l.going.histories k).calls t (λ i less. (chosen d k).1.agree.calls i less))) f.1));
+                  (f.0, subst (λ cs. Follows (wire_at wires b).capacity [] (on b (cs ++ called d k)) f.0) (sym (joined_alike (gs k).calls (l.going.clock_calls k).calls t (λ i less. (chosen d k).1.agree.calls i less))) f.1));
             }
 
         -- a clock stopped, or the log of a buffer could not take a window
@@ -270,7 +270,7 @@ module _ {S R : Type 0} where
             let p = came_to d in
             record {
               closed = p.closed;
-              histories = p.histories;
+              clock_calls = p.clock_calls;
               since = p.since;
               many = same.many ∙ p.many;
               clocks = λ k h. (let c = p.clocks k h in
@@ -282,8 +282,8 @@ module _ {S R : Type 0} where
                     least = c.least;
                     pieces = λ runs. subst (λ (e : ClockEngine S). GotPieces appends c.ticks (slice_index_or first k d).engine.outs e.outs) is (c.pieces (ap (λ (e : ClockEngine S). e.parts.stopped) is ∙ runs));
                     pieces_part = subst (λ (e : ClockEngine S). GotBetween appends c.ticks (suc c.ticks) (slice_index_or first k d).engine.outs e.outs) is c.pieces_part;
-                    came = subst (λ (e : ClockEngine S). ((c.ticks ≤ to) × EngineGone held c.ticks (p.histories k) (held_of held (slice_index_or first k d).engine) e × (p.since k ≡ joined_from (p.histories k).calls from (c.ticks - from)))
-                        ⊎ ((c.ticks < to) × (part : EngineGonePart held c.ticks (p.histories k) (held_of held (slice_index_or first k d).engine) e) × (p.since k ≡ joined_from (p.histories k).calls from (c.ticks - from) ++ part.made))) is c.came;
+                    came = subst (λ (e : ClockEngine S). ((c.ticks ≤ to) × EngineGone held c.ticks (p.clock_calls k) (held_of held (slice_index_or first k d).engine) e × (p.since k ≡ joined_from (p.clock_calls k).calls from (c.ticks - from)))
+                        ⊎ ((c.ticks < to) × (part : EngineGonePart held c.ticks (p.clock_calls k) (held_of held (slice_index_or first k d).engine) e) × (p.since k ≡ joined_from (p.clock_calls k).calls from (c.ticks - from) ++ part.made))) is c.came;
                   });
               ended = elim p.ended [
                 | inl all ↦ inl (λ k h. (ap (λ (e : ClockEngine S). e.parts.stopped) (same.each k d (let m = p.many in omega (arith, h, m))) ∙ (all k h).0, (all k h).1))

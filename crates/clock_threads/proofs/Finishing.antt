@@ -9,30 +9,30 @@ use Rattle.stream_meaning.specs.Instants.{Setting, answered}
 use Rattle.stream_meaning.specs.Sinks.{ticks_bytes, IsOutput}
 use Rattle.stream_meaning.specs.Calls.{joined_upto}
 use Rattle.node_states.proofs.Outputs.{output_moved}
-use Rattle.clock_engine.specs.Engines.{EngineStands, setting_of, held_of}
-use Rattle.clock_engine.specs.declared.engine.ClockEngine.{ClockEngine}
+use Rattle.clock_ticks.specs.Engines.{EngineStands, setting_of, held_of}
+use Rattle.clock_ticks.specs.declared.engine.ClockEngine.{ClockEngine}
 use Rattle.clock_threads.specs.declared.task.Task.{Task}
-use Rattle.clock_threads.specs.Histories.{History, answers_by}
+use Rattle.clock_threads.specs.TickCalls.{TickCalls, answers_by}
 use Rattle.clock_threads.specs.declared.wires.Wire.{Wire}
 use Rattle.clock_threads.specs.Wires.{wire_at}
 use Rattle.run_records.specs.Records.{Follows, Window}
 use Rattle.clock_infer.specs.declared.clock_map.ClockMap.{ClockMap}
 use Rattle.stream_meaning.specs.Settings.{IsSetting}
 use Rattle.clock_threads.specs.WindowRuns.{DoneAt}
-use Rattle.clock_threads.specs.Lawful.{Answers, IsWiredRun, AreWires, TakeOwn, answers_of, meant, and_rest, got_by}
+use Rattle.clock_threads.specs.Lawful.{Answers, IsWiredHistory, AreWires, TakeOwn, answers_of, meant, and_rest, got_by}
 use Rattle.clock_threads.proofs.Owning.{in_takes, take_own}
 use Rattle.clock_threads.proofs.Lists.{going_local}
 use Rattle.clock_threads.proofs.Lawfully.{windows, is_lawful, rests, answers_whole}
 
-got_same : (h : History) (t : ℕ) → answers_by h t ≡ got_by h t
+got_same : (h : TickCalls) (t : ℕ) → answers_by h t ≡ got_by h t
 got_same h t = fun_ext (λ b. in_takes b (joined_upto h.calls t))
 
 module _ {S R : Type 0} (held name : S → Option (List ℕ)) (room : S → Option ℕ) (faults : S → ℕ) (appends : S → Option ℕ) (wires : List Wire) (W N : ℕ) (first now : List (Task S (ThreadTaps R))) (logs : List (List Told)) (d : Task S (ThreadTaps R))
     (done : DoneAt held name room faults appends wires W N first now logs d) (setting : Setting) (map : ClockMap) (is : IsSetting setting map) (are : AreWires setting map.running wires) (all_run : length first ≡ map.running) (some : 0 < length first)
     (shared : (k : ℕ) → k < length first → (setting_of (slice_index_or first k d).engine.parts ≡ setting) × ((slice_index_or first k d).engine.parts.clock ≡ k))
     (places : (b : ℕ) → b < length wires → (wire_at wires b).from < length first × ((wire_at wires b).to < length first)) where
-  abbrev pub hs : ℕ → History
-  hs = done.going.histories
+  abbrev pub hs : ℕ → TickCalls
+  hs = done.going.clock_calls
 
   abbrev engine_of : ℕ → ClockEngine S
   engine_of k = (slice_index_or now k d).engine
@@ -59,7 +59,7 @@ module _ {S R : Type 0} (held name : S → Option (List ℕ)) (room : S → Opti
   abbrev pub done_windows : ℕ → List Window
   done_windows = windows (meant setting) wires (length first) own W N done.windows done.all hs
 
-  pub done_wired : IsWiredRun (meant setting) wires W N done.windows done_windows
+  pub done_wired : IsWiredHistory (meant setting) wires W N done.windows done_windows
   done_wired = is_lawful (meant setting) wires (length first) own W N done.windows done.all hs done.tight some places ticks (λ b less apart. (let g = done.going.joins b less apart in (g.chunks, g.run))) local
 
   -- what an output of clock k holds is what its source means, given what the takes of the record got

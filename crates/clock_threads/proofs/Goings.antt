@@ -2,7 +2,7 @@
 use Rattle.std.proofs.Common.{◌≡◌, ◌≢◌, ◌⊎◌, ℕ, zero, suc, ◌<◌, ◌≤◌, ◌+◌, ◌-◌, true, false, List, [], ◌∷◌, ◌++◌, length, map, slice_index_or, sym, refl, ap, ◌∙◌, subst, arith, inl, inr, ⊎_elim, Option, None}
 use Rattle.std.proofs.lemmas.List.{get_or_default}
 use Rattle.frame_core.specs.declared.cell.Cell.{Cell}
-use Rattle.frame_core.specs.Legal.{IsRun}
+use Rattle.frame_core.specs.Legal.{IsHistory}
 use Rattle.frame_core.specs.Calls.{Call, takes_of, puts_to}
 use Rattle.buffer_queue.specs.Window.{Window as QueueWindow, opened}
 use Rattle.buffer_ends.specs.Local.{Answers, LocalBuffer, closed as closed_list, on, Leads, empty_list, held as held_by}
@@ -10,14 +10,14 @@ use Rattle.buffer_ends.specs.Sides.{Side}
 use Rattle.buffer_ends.specs.Ends.{ListsStand, Has}
 use Rattle.buffer_ends.specs.Borders.{HasEnd}
 use Rattle.buffer_ends.specs.declared.thread_taps.ThreadTaps.{ThreadTaps}
-use Rattle.clock_engine.specs.Ticks.{HaveTicksRoom}
-use Rattle.clock_engine.specs.Pieces.{GotPieces}
-use Rattle.clock_engine.proofs.Pieces.{got_then}
+use Rattle.clock_ticks.specs.Ticks.{HaveTicksRoom}
+use Rattle.clock_ticks.specs.Pieces.{GotPieces}
+use Rattle.clock_ticks.proofs.Pieces.{got_then}
 use Rattle.clock_threads.specs.declared.task.Task.{Task}
-use Rattle.clock_threads.specs.Histories.{History, joined_from, Agree}
+use Rattle.clock_threads.specs.TickCalls.{TickCalls, joined_from, Agree}
 use Rattle.stream_meaning.specs.Calls.{joined_upto}
-use Rattle.clock_engine.specs.declared.engine.ClockEngine.{ClockEngine}
-use Rattle.clock_engine.specs.Engines.{held_of}
+use Rattle.clock_ticks.specs.declared.engine.ClockEngine.{ClockEngine}
+use Rattle.clock_ticks.specs.Engines.{held_of}
 use Rattle.clock_threads.specs.TaskRuns.{EngineGone, WentOn, WasRun, IsSameClock}
 use Rattle.clock_threads.proofs.Walking.{joined_alike, agree_none}
 use Rattle.clock_threads.proofs.Running.{same_then}
@@ -45,42 +45,42 @@ module _ {S R : Type 0} (held name : S → Option (List ℕ)) (room : S → Opti
     abbrev within : (k : ℕ) → k < length first → k < length now
     within k h = let m = going.many in omega (arith, h, m)
 
-    abbrev went : (k : ℕ) (h : k < length first) → WentOn held appends TapsStand count (start W N j) (going.histories k) (held_of held (slice_index_or first k d).engine) (slice_index_or now k d) (slice_index_or mid k d)
-    went k h = (ran k (within k h)).ran.on (start W N j) (going.histories k) (held_of held (slice_index_or first k d).engine) (going.clocks k h).gone (all_run k (let m = within k h in omega (arith, m, mid_many)))
+    abbrev went : (k : ℕ) (h : k < length first) → WentOn held appends TapsStand count (start W N j) (going.clock_calls k) (held_of held (slice_index_or first k d).engine) (slice_index_or now k d) (slice_index_or mid k d)
+    went k h = (ran k (within k h)).ran.on (start W N j) (going.clock_calls k) (held_of held (slice_index_or first k d).engine) (going.clocks k h).gone (all_run k (let m = within k h in omega (arith, m, mid_many)))
 
-    record Goes (k : ℕ) (h : History) : Type 0 where
-      agree : Agree (start W N j) (going.histories k) h
+    record Goes (k : ℕ) (h : TickCalls) : Type 0 where
+      agree : Agree (start W N j) (going.clock_calls k) h
       engine : (less : k < length first) → EngineGone held (start W N j + count) h (held_of held (slice_index_or first k d).engine) (slice_index_or mid k d).engine
-      taps : (less : k < length first) → TapsStand (slice_index_or mid k d).taps (kept wires k (joined_upto (going.histories k).calls (start W N j)) ++ joined_from h.calls (start W N j) count)
+      taps : (less : k < length first) → TapsStand (slice_index_or mid k d).taps (kept wires k (joined_upto (going.clock_calls k).calls (start W N j)) ++ joined_from h.calls (start W N j) count)
 
-    abbrev chosen : (k : ℕ) → (h : History) × Goes k h
+    abbrev chosen : (k : ℕ) → (h : TickCalls) × Goes k h
     chosen k = elim (low_or_high k (length first)) [
       | inl less ↦ (
         (went k less).after,
         record {
           agree = (went k less).agree;
           engine = λ again. (went k less).gone;
-          taps = λ again. (went k less).taps (kept wires k (joined_upto (going.histories k).calls (start W N j))) (going.clocks k less).stand;
+          taps = λ again. (went k less).taps (kept wires k (joined_upto (going.clock_calls k).calls (start W N j))) (going.clocks k less).stand;
         },
       )
       | inr high ↦ (
-        going.histories k,
+        going.clock_calls k,
         record {
-          agree = agree_none (start W N j) (going.histories k);
+          agree = agree_none (start W N j) (going.clock_calls k);
           engine = λ less. absurd (omega (arith, less, high));
           taps = λ less. absurd (omega (arith, less, high));
         },
       )
     ]
 
-    abbrev after : ℕ → History
+    abbrev after : ℕ → TickCalls
     after k = (chosen k).0
 
-    agrees : (k : ℕ) → Agree (start W N j) (going.histories k) (after k)
+    agrees : (k : ℕ) → Agree (start W N j) (going.clock_calls k) (after k)
     agrees k = (chosen k).1.agree
 
     goes : (k : ℕ) (less : k < length first) → EngineGone held (start W N j + count) (after k) (held_of held (slice_index_or first k d).engine) (slice_index_or mid k d).engine
-        × TapsStand (slice_index_or mid k d).taps (kept wires k (joined_upto (going.histories k).calls (start W N j)) ++ joined_from (after k).calls (start W N j) count)
+        × TapsStand (slice_index_or mid k d).taps (kept wires k (joined_upto (going.clock_calls k).calls (start W N j)) ++ joined_from (after k).calls (start W N j) count)
     goes k less = ((chosen k).1.engine less, (chosen k).1.taps less)
 
     here : (k : ℕ) (e : Task S (ThreadTaps R)) → k < length first → slice_index_or mid k e ≡ slice_index_or mid k d
@@ -89,13 +89,13 @@ module _ {S R : Type 0} (held name : S → Option (List ℕ)) (room : S → Opti
     abbrev since : ℕ → List Call
     since k = joined_from (after k).calls (start W N j) count
 
-    stood : (k : ℕ) → k < length first → TapsStand (slice_index_or mid k d).taps (kept wires k (joined_upto (going.histories k).calls (start W N j)) ++ since k)
+    stood : (k : ℕ) → k < length first → TapsStand (slice_index_or mid k d).taps (kept wires k (joined_upto (going.clock_calls k).calls (start W N j)) ++ since k)
     stood k less = (goes k less).1
 
     -- a buffer between clocks, after the window
     join_ran : (b : ℕ) → b < length wires → (wire_at wires b).from ≢ (wire_at wires b).to
         → (put : QueueWindow) × (take : QueueWindow) × JoinRan (wire_at wires b) b put take mid
-        × (put.opening ≡ take.opening) × IsRun (wire_at wires b).capacity [] (windows_upto (wire_at wires b) going.histories b W N j) put.opening
+        × (put.opening ≡ take.opening) × IsHistory (wire_at wires b).capacity [] (windows_upto (wire_at wires b) going.clock_calls b W N j) put.opening
         × (put.answers ≡ puts_to b (since (wire_at wires b).from)) × (take.answers ≡ takes_of b (since (wire_at wires b).to))
     join_ran = ends_ran held name room faults appends wires W N j d count first now mid logs places going ran mid_many since stood
 
@@ -109,13 +109,13 @@ module _ {S R : Type 0} (held name : S → Option (List ℕ)) (room : S → Opti
 
       -- the windows of a buffer between clocks, with this one, and what is open
       pub join_shut : (b : ℕ) (less : b < length wires) (apart : (wire_at wires b).from ≢ (wire_at wires b).to)
-          → (rest : List (List Cell)) × IsRun (wire_at wires b).capacity [] (windows_upto (wire_at wires b) after b W N (suc j)) rest × JoinOpen (wire_at wires b) b rest shut
+          → (rest : List (List Cell)) × IsHistory (wire_at wires b).capacity [] (windows_upto (wire_at wires b) after b W N (suc j)) rest × JoinOpen (wire_at wires b) b rest shut
       join_shut b less apart =
-          let wire = wire_at wires b in let old = windows_upto wire going.histories b W N j in
+          let wire = wire_at wires b in let old = windows_upto wire going.clock_calls b W N j in
           let r = ends_shut held name room faults appends wires W N j d count first now mid logs places going ran mid_many since stood shut closed.shut b less apart in
           let more : count ≡ start W N (suc j) - start W N j = omega (arith, next) in
-          let same : windows_upto wire after b W N j ≡ old = windows_alike wire going.histories after b W N j (start W N j) agrees (λ i low. reaches i low) (λ i low. up i (omega (arith, low))) in
-          (r.0, subst (λ (l : List Window). IsRun wire.capacity [] l r.0) (λ i. sym same i ++ window_of wire after b (start W N j) (more i) ∷ []) r.1, r.2)
+          let same : windows_upto wire after b W N j ≡ old = windows_alike wire going.clock_calls after b W N j (start W N j) agrees (λ i low. reaches i low) (λ i low. up i (omega (arith, low))) in
+          (r.0, subst (λ (l : List Window). IsHistory wire.capacity [] l r.0) (λ i. sym same i ++ window_of wire after b (start W N j) (more i) ∷ []) r.1, r.2)
 
       module _ (last : List (Task S (ThreadTaps R))) (ends : AllEndedTasks wires shut last) where
         in_mid : (k : ℕ) → k < length first → k < length mid
@@ -145,7 +145,7 @@ module _ {S R : Type 0} (held name : S → Option (List ℕ)) (room : S → Opti
             let c = going.clocks k h in let r = ran k (within k h) in let g = goes k h in
             let s = closed.shut.tasks.same k d (in_mid k h) in let e = ends.each k d (in_shut k h) in
             let y = slice_index_or mid k d in let z = slice_index_or shut k d in let u = slice_index_or last k d in
-            let old = kept wires k (joined_upto (going.histories k).calls (start W N j)) in let more = joined_from (after k).calls (start W N j) count in
+            let old = kept wires k (joined_upto (going.clock_calls k).calls (start W N j)) in let more = joined_from (after k).calls (start W N j) count in
             -- the lists after the ticks, at the closed ends, and after the border
             let Away : ℕ → Type 0 = λ x. Has (put_ends z) x ⊎ Has (take_ends z) x in
             let at_z : ListsStand Away z.taps.local (old ++ more) = subst (λ l. ListsStand Away l (old ++ more)) (sym s.local) (λ x f' low' out. g.1.2 x f' low' (λ has. out (moved has))) in
@@ -153,8 +153,8 @@ module _ {S R : Type 0} (held name : S → Option (List ℕ)) (room : S → Opti
             let there = at_u b f low (λ has. away (gone_on has)) in
             let none : ended wires k b ≡ false = elim (true_or_false (ended wires k b)) [ inr off ↦ off | inl on_end ↦ absurd (away (end_there on_end)) ] in
             let same : on b (old ++ more) ≡ on b (kept wires k (joined_upto (after k).calls (start W N (suc j)))) =
-            on-append b old more ∙ (λ i. on_kept wires k b (joined_upto (going.histories k).calls (start W N j)) none i ++ on b more)
-            ∙ ap (λ l. on b l ++ on b more) (sym (joined_alike (after k).calls (going.histories k).calls (start W N j) (λ n less. (agrees k).calls n less)))
+            on-append b old more ∙ (λ i. on_kept wires k b (joined_upto (going.clock_calls k).calls (start W N j)) none i ++ on b more)
+            ∙ ap (λ l. on b l ++ on b more) (sym (joined_alike (after k).calls (going.clock_calls k).calls (start W N j) (λ n less. (agrees k).calls n less)))
             ∙ sym (on-append b (joined_upto (after k).calls (start W N j)) more) ∙ ap (on b) (sym (joined_split (after k).calls (start W N j) count) ∙ ap (joined_upto (after k).calls) (sym next))
             ∙ sym (on_kept wires k b (joined_upto (after k).calls (start W N (suc j))) none) in
             subst (λ l. Leads (empty_list (slice_index_or u.taps.local b f).capacity) l (held_by (slice_index_or u.taps.local b f))) same there
@@ -196,7 +196,7 @@ module _ {S R : Type 0} (held name : S → Option (List ℕ)) (room : S → Opti
               takes = λ p f low. subst (λ b. (b < length wires) × ((wire_at wires b).to ≡ k) × ((wire_at wires b).from ≢ k)) (sym (take_buffer p f low)) (c.wired.takes p f (omega (arith, low, take_many)));
             } in
             let calls = joined_upto (after k).calls (start W N (suc j)) in
-            let all = kept wires k (joined_upto (going.histories k).calls (start W N j)) ++ joined_from (after k).calls (start W N j) count in
+            let all = kept wires k (joined_upto (going.clock_calls k).calls (start W N j)) ++ joined_from (after k).calls (start W N j) count in
             record {
               gone = subst (λ (q : ℕ × _). EngineGone held q.0 (after k) (held_of held (slice_index_or first k d).engine) q.1) (λ i. (sym next i, sym engine i)) g.0;
               same = same_then name faults (slice_index_or first k d).engine x.engine u.engine c.same (subst (λ f. IsSameClock name faults x.engine f) (sym engine) r.clock);
@@ -230,11 +230,11 @@ module _ {S R : Type 0} (held name : S → Option (List ℕ)) (room : S → Opti
         window_more b = window_of (wire_at wires b) after b (start W N j) (start W N (suc j) - start W N j)
 
         -- the answers of the windows before this one, and of this one
-        told_more : (b : ℕ) (x y : List Answers) (z : Answers) → y ≡ x ++ z ∷ [] → x ≡ map told (windows_upto (wire_at wires b) going.histories b W N j) → z ≡ told (window_more b)
+        told_more : (b : ℕ) (x y : List Answers) (z : Answers) → y ≡ x ++ z ∷ [] → x ≡ map told (windows_upto (wire_at wires b) going.clock_calls b W N j) → z ≡ told (window_more b)
             → y ≡ map told (windows_upto (wire_at wires b) after b W N (suc j))
         told_more b x y z is before last_is =
-            let same : windows_upto (wire_at wires b) after b W N j ≡ windows_upto (wire_at wires b) going.histories b W N j =
-            windows_alike (wire_at wires b) going.histories after b W N j (start W N j) agrees (λ i low. reaches i low) (λ i low. up i (omega (arith, low))) in
+            let same : windows_upto (wire_at wires b) after b W N j ≡ windows_upto (wire_at wires b) going.clock_calls b W N j =
+            windows_alike (wire_at wires b) going.clock_calls after b W N j (start W N j) agrees (λ i low. reaches i low) (λ i low. up i (omega (arith, low))) in
             is ∙ (λ i. (before ∙ ap (map told) (sym same)) i ++ last_is i ∷ []) ∙ sym (map_joined told (windows_upto (wire_at wires b) after b W N j) (window_more b ∷ []))
 
         joined_on : (b : ℕ) (e : List Answers) → b < length wires → (wire_at wires b).from ≢ (wire_at wires b).to → slice_index_or after_logs b e ≡ map told (windows_upto (wire_at wires b) after b W N (suc j))
@@ -254,7 +254,7 @@ module _ {S R : Type 0} (held name : S → Option (List ℕ)) (room : S → Opti
             let in_x : b < length x.taps.local = (let n = c.lists in omega (arith, less, n)) in
             let in_y : b < length y.taps.local = (let n = r.many in omega (arith, in_x, n)) in
             let was = going.logged.local b f less is in let same = r.taps.2.each b f in_x in
-            let old = kept wires k (joined_upto (going.histories k).calls (start W N j)) in let more = joined_from (after k).calls (start W N j) count in
+            let old = kept wires k (joined_upto (going.clock_calls k).calls (start W N j)) in let more = joined_from (after k).calls (start W N j) count in
             let away : Has (put_ends x) b ⊎ Has (take_ends x) b → ⊥ = not_ended wires k b x c.wired is in
             let away_after : Has (put_ends y) b ⊎ Has (take_ends y) b → ⊥ =
             λ has. ⊎_elim (λ (p : Has (put_ends y) b). away (inl (has_back (put_ends x) (put_ends y) b r.taps.0 p))) (λ (p : Has (take_ends y) b). away (inr (has_back (take_ends x) (take_ends y) b r.taps.1 p))) has in
@@ -270,7 +270,7 @@ module _ {S R : Type 0} (held name : S → Option (List ℕ)) (room : S → Opti
 
         pub going_more : Going held name room faults appends wires W N (suc j) first last after_logs d
         going_more = record {
-          histories = after;
+          clock_calls = after;
           many = (let m = ends.many in let n = closed.shut.tasks.many in let o = going.many in omega (arith, m, n, o, mid_many));
           clocks = λ k h. clock_on k h;
           joins = λ b less apart. join_on b less apart;

@@ -8,13 +8,13 @@ use Rattle.buffer_ends.specs.declared.run_end.End.{End}
 use Rattle.buffer_ends.specs.declared.run_end.End.TheVariants.{Done, Memory, Write}
 use Rattle.stream_meaning.specs.Instants.{Setting}
 use Rattle.stream_meaning.specs.Calls.{IsBegin, joined_between, joined_upto}
-use Rattle.frame_core.specs.Legal.{Legal, IsRun}
+use Rattle.frame_core.specs.Legal.{Legal, IsHistory}
 use Rattle.run_records.specs.Buffers.{feeder}
 use Rattle.run_records.specs.Records.{AreWindowsBegun, Follows, IsLawful, Run, Window, calls_in, capacity_of, on, setting_then, start}
 use Rattle.run_records.proofs.Alone.{feeder_runs}
-use Rattle.clock_engine.specs.declared.engine.ClockEngine.{ClockEngine}
-use Rattle.clock_engine.specs.Engines.{held_of}
-use Rattle.clock_engine.proofs.Pieces.{got_between, got_none}
+use Rattle.clock_ticks.specs.declared.engine.ClockEngine.{ClockEngine}
+use Rattle.clock_ticks.specs.Engines.{held_of}
+use Rattle.clock_ticks.proofs.Pieces.{got_between, got_none}
 use Rattle.clock_threads.specs.Listed.{listed}
 use Rattle.clock_threads.proofs.Meeting.{low_or_high}
 use Rattle.clock_threads.proofs.Starts.{start_most, start_next, start_zero}
@@ -45,7 +45,7 @@ idle_begun setting clocks W N = record {
   whole = λ rest m. subst (λ n. IsBegin (joined_between (calls_in (setting_then setting (idle_run setting) rest) clocks (λ n t b. true) m) n 0) []) (sym (start_zero W N)) (begin_none []);
   begun = λ rest m. begin_none (joined_between (calls_in (setting_then setting (idle_run setting) rest) clocks (λ n t b. true) m) (start W N 0) 0);
   are = λ rest b less. listed_at (length setting.plan.buffers) idle_windows b [] less;
-  legal = λ b less. ([], subst (λ (ws : List Window). IsRun (capacity_of setting b) [] ws []) (sym (listed_at (length setting.plan.buffers) idle_windows b [] less)) ([], Legal.ended, refl));
+  legal = λ b less. ([], subst (λ (ws : List Window). IsHistory (capacity_of setting b) [] ws []) (sym (listed_at (length setting.plan.buffers) idle_windows b [] less)) ([], Legal.ended, refl));
   in_order = λ rest b less one. ([], subst (λ n. Follows (capacity_of setting b) [] (on b (joined_upto (calls_in (setting_then setting (idle_run setting) rest) clocks (λ n t b. true) (feeder setting b)) n ++ [])) []) (sym (start_zero W N)) refl);
 }
 

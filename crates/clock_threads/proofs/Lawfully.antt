@@ -3,19 +3,19 @@ use Rattle.std.proofs.Common.{◌≡◌, ◌≢◌, ℕ, zero, suc, ◌<◌, ◌
 use Rattle.std.specs.List.{flat_map}
 use mathlib.Core.Path.{fun_ext}
 use Rattle.frame_core.specs.declared.cell.Cell.{Cell}
-use Rattle.frame_core.specs.Legal.{Legal, IsRun}
+use Rattle.frame_core.specs.Legal.{Legal, IsHistory}
 use Rattle.frame_core.specs.Calls.{Call, takes_of, puts_to, put_of}
 use Rattle.frame_core.specs.Calls.Call.{Took, Given}
 use Rattle.frame_core.proofs.Laws.{run_more}
 use Rattle.buffer_ends.specs.Local.{Held, on, Leads}
 use Rattle.stream_meaning.specs.Calls.{joined_upto}
-use Rattle.clock_threads.specs.Histories.{History, joined_from}
+use Rattle.clock_threads.specs.TickCalls.{TickCalls, joined_from}
 use Rattle.clock_threads.proofs.Walking.{joined_alike}
 use Rattle.clock_threads.specs.declared.wires.Wire.{Wire}
 use Rattle.clock_threads.specs.Wires.{wire_at, no_wire}
 use Rattle.run_records.specs.Records.{Window, start}
 use Rattle.clock_threads.specs.Records.{window_of, windows_upto}
-use Rattle.clock_threads.specs.Lawful.{Answers, Meaning, and_rest, got_by, answers_of, histories_of, IsWiredRun, TakeOwn}
+use Rattle.clock_threads.specs.Lawful.{Answers, Meaning, and_rest, got_by, answers_of, clock_calls_of, IsWiredHistory, TakeOwn}
 use Rattle.run_records.specs.Records.{Follows}
 use Rattle.run_records.proofs.Rounding.{follows_split}
 use Rattle.clock_threads.proofs.Sets.{same_or_other}
@@ -60,14 +60,14 @@ module _ (W N : ℕ) where
       let e : start W N (suc j) ≡ start W N j + (start W N (suc j) - start W N j) = omega (arith, up) in
       ap (joined_upto f) e ∙ joined_split f (start W N j) (start W N (suc j) - start W N j)
 
-  pub all_puts : (wire : Wire) (hs : ℕ → History) (b j : ℕ) → flat_map (λ (w : Window). w.0) (windows_upto wire hs b W N j) ≡ puts_to b (joined_upto (hs wire.from).calls (start W N j))
+  pub all_puts : (wire : Wire) (hs : ℕ → TickCalls) (b j : ℕ) → flat_map (λ (w : Window). w.0) (windows_upto wire hs b W N j) ≡ puts_to b (joined_upto (hs wire.from).calls (start W N j))
   all_puts wire hs b zero = ap (λ n. puts_to b (joined_upto (hs wire.from).calls n)) (sym (start_zero W N))
   all_puts wire hs b (suc j) =
       let f = (hs wire.from).calls in let more = joined_from f (start W N j) (start W N (suc j) - start W N j) in
       flat_snoc (λ (w : Window). w.0) (windows_upto wire hs b W N j) (window_of wire hs b (start W N j) (start W N (suc j) - start W N j))
       ∙ ap (λ l. l ++ puts_to b more) (all_puts wire hs b j) ∙ sym (puts-append b (joined_upto f (start W N j)) more) ∙ ap (puts_to b) (sym (upto_next f j))
 
-  pub all_takes : (wire : Wire) (hs : ℕ → History) (b j : ℕ) → flat_map (λ (w : Window). w.1) (windows_upto wire hs b W N j) ≡ takes_of b (joined_upto (hs wire.to).calls (start W N j))
+  pub all_takes : (wire : Wire) (hs : ℕ → TickCalls) (b j : ℕ) → flat_map (λ (w : Window). w.1) (windows_upto wire hs b W N j) ≡ takes_of b (joined_upto (hs wire.to).calls (start W N j))
   all_takes wire hs b zero = ap (λ n. takes_of b (joined_upto (hs wire.to).calls n)) (sym (start_zero W N))
   all_takes wire hs b (suc j) =
       let f = (hs wire.to).calls in let more = joined_from f (start W N j) (start W N (suc j) - start W N j) in
@@ -75,8 +75,8 @@ module _ (W N : ℕ) where
       ∙ ap (λ l. l ++ takes_of b more) (all_takes wire hs b j) ∙ sym (takes-append b (joined_upto f (start W N j)) more) ∙ ap (takes_of b) (sym (upto_next f j))
 
   -- a buffer of one clock: its windows are one history, whatever their length
-  pub local_run : (wire : Wire) (hs : ℕ → History) (b j : ℕ) (r : List (List Cell)) → wire.from ≡ wire.to
-      → Follows wire.capacity [] (on b (joined_upto (hs wire.from).calls (start W N j))) r → IsRun wire.capacity [] (windows_upto wire hs b W N j) r
+  pub local_run : (wire : Wire) (hs : ℕ → TickCalls) (b j : ℕ) (r : List (List Cell)) → wire.from ≡ wire.to
+      → Follows wire.capacity [] (on b (joined_upto (hs wire.from).calls (start W N j))) r → IsHistory wire.capacity [] (windows_upto wire hs b W N j) r
   local_run wire hs b zero r e f = subst (λ n. Follows wire.capacity [] (on b (joined_upto (hs wire.from).calls n)) r) (start_zero W N) f
   local_run wire hs b (suc j) r e f =
       let calls = (hs wire.from).calls in let more = joined_from calls (start W N j) (start W N (suc j) - start W N j) in
@@ -87,7 +87,7 @@ module _ (W N : ℕ) where
       run_more wire.capacity [] cut.0 r (windows_upto wire hs b W N j) (puts_to b more) (takes_of b (joined_from (hs wire.to).calls (start W N j) (start W N (suc j) - start W N j))) (local_run wire hs b j cut.0 e cut.1) legal
 
   -- windows rest on the calls below N alone
-  pub windows_same : (wire : Wire) (hs gs : ℕ → History) (b j : ℕ) → ((i : ℕ) → i < N → (gs wire.from).calls i ≡ (hs wire.from).calls i) → ((i : ℕ) → i < N → (gs wire.to).calls i ≡ (hs wire.to).calls i)
+  pub windows_same : (wire : Wire) (hs gs : ℕ → TickCalls) (b j : ℕ) → ((i : ℕ) → i < N → (gs wire.from).calls i ≡ (hs wire.from).calls i) → ((i : ℕ) → i < N → (gs wire.to).calls i ≡ (hs wire.to).calls i)
       → windows_upto wire gs b W N j ≡ windows_upto wire hs b W N j
   windows_same wire hs gs b zero from to = refl
   windows_same wire hs gs b (suc j) from to =
@@ -106,7 +106,7 @@ beyond (w ∷ wires) zero h = absurd (omega (arith, h))
 beyond (w ∷ wires) (suc b) h = beyond wires b (omega (arith, h))
 
 -- The record of clocks that made all their ticks: their windows are lawful.
-module _ (meant : Meaning) (wires : List Wire) (clocks : ℕ) (own : TakeOwn meant wires clocks) (W N j : ℕ) (whole : start W N j ≡ N) (hs : ℕ → History) where
+module _ (meant : Meaning) (wires : List Wire) (clocks : ℕ) (own : TakeOwn meant wires clocks) (W N j : ℕ) (whole : start W N j ≡ N) (hs : ℕ → TickCalls) where
   abbrev pub windows : ℕ → List Window
   windows b = windows_upto (wire_at wires b) hs b W N j
 
@@ -140,14 +140,14 @@ module _ (meant : Meaning) (wires : List Wire) (clocks : ℕ) (own : TakeOwn mea
   pub is_lawful : (tight : (i : ℕ) → i < j → start W N i < N) → 0 < clocks
       → ((b : ℕ) → b < length wires → (wire_at wires b).from < clocks × ((wire_at wires b).to < clocks))
       → ((m : ℕ) → m < clocks → (i : ℕ) → i < N → (rest : Answers) → (hs m).calls i ≡ meant (and_rest (got_by (hs m) (suc i)) rest) ((hs m).accepted i) m i)
-      → ((b : ℕ) → b < length wires → (wire_at wires b).from ≢ (wire_at wires b).to → (rest : List (List Cell)) × IsRun (wire_at wires b).capacity [] (windows b) rest)
+      → ((b : ℕ) → b < length wires → (wire_at wires b).from ≢ (wire_at wires b).to → (rest : List (List Cell)) × IsHistory (wire_at wires b).capacity [] (windows b) rest)
       → ((b : ℕ) → b < length wires → (wire_at wires b).from ≡ (wire_at wires b).to → (rest : List (List Cell)) × Follows (wire_at wires b).capacity [] (on b (joined_upto (hs (wire_at wires b).from).calls N)) rest)
-      → IsWiredRun meant wires W N j windows
+      → IsWiredHistory meant wires W N j windows
   is_lawful tight some places ticks joined local = record {
     accepted = λ m t. (hs m).accepted t;
     whole = whole;
     tight = tight;
-    are = λ b less. sym (windows_same W N (wire_at wires b) hs (histories_of meant windows (λ m t. (hs m).accepted t)) b j
+    are = λ b less. sym (windows_same W N (wire_at wires b) hs (clock_calls_of meant windows (λ m t. (hs m).accepted t)) b j
         (λ i low. sym (calls_are (wire_at wires b).from (places b less).0 (ticks (wire_at wires b).from (places b less).0) i low)) (λ i low. sym (calls_are (wire_at wires b).to (places b less).1 (ticks (wire_at wires b).to (places b less).1) i low)));
     legal = λ b less. (elim (same_or_other (wire_at wires b).from (wire_at wires b).to) [
       | inl e ↦ (let l = local b less e in (l.0, local_run W N (wire_at wires b) hs b j l.0 e (subst (λ n. Follows (wire_at wires b).capacity [] (on b (joined_upto (hs (wire_at wires b).from).calls n)) l.0) (sym whole) l.1)))
@@ -155,7 +155,7 @@ module _ (meant : Meaning) (wires : List Wire) (clocks : ℕ) (own : TakeOwn mea
     ]);
     in_order = λ b less e. (let l = local b less e in (
       l.0,
-      subst (λ c. Follows (wire_at wires b).capacity [] (on b c) l.0) (joined_alike (hs (wire_at wires b).from).calls (histories_of meant windows (λ m t. (hs m).accepted t) (wire_at wires b).from).calls N
+      subst (λ c. Follows (wire_at wires b).capacity [] (on b c) l.0) (joined_alike (hs (wire_at wires b).from).calls (clock_calls_of meant windows (λ m t. (hs m).accepted t) (wire_at wires b).from).calls N
           (λ i low. calls_are (wire_at wires b).from (places b less).0 (ticks (wire_at wires b).from (places b less).0) i low)) l.1,
     ));
     others = λ b past. (let n : N ≤ N = omega arith in let off = beyond wires b past in

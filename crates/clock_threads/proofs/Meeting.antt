@@ -6,7 +6,7 @@ use Rattle.buffer_queue.specs.Window.{Window as QueueWindow}
 use Rattle.buffer_ends.specs.Sides.{Side}
 use Rattle.buffer_ends.specs.Ends.{Has}
 use Rattle.buffer_ends.specs.Borders.{HasEnd}
-use Rattle.clock_threads.specs.Histories.{History, joined_from, Agree}
+use Rattle.clock_threads.specs.TickCalls.{TickCalls, joined_from, Agree}
 use Rattle.stream_meaning.specs.Calls.{joined_upto}
 use Rattle.clock_threads.proofs.Walking.{joined_alike}
 use Rattle.clock_threads.specs.declared.wires.Wire.{Wire}
@@ -21,7 +21,7 @@ joined_split f t (suc n) =
     ap (joined_upto f) e ∙ (λ i. joined_split f t n i ++ f (t + n)) ∙ append_assoc (joined_upto f t) (joined_from f t n) (f (t + n))
 
 -- the windows that lie below tick t, where the histories agree below it
-pub windows_alike : (wire : Wire) (hs gs : ℕ → History) (b W N j t : ℕ) → ((k : ℕ) → Agree t (hs k) (gs k)) → ((i : ℕ) → i < j → start W N (suc i) ≤ t) → ((i : ℕ) → i < j → start W N i ≤ start W N (suc i))
+pub windows_alike : (wire : Wire) (hs gs : ℕ → TickCalls) (b W N j t : ℕ) → ((k : ℕ) → Agree t (hs k) (gs k)) → ((i : ℕ) → i < j → start W N (suc i) ≤ t) → ((i : ℕ) → i < j → start W N i ≤ start W N (suc i))
     → windows_upto wire gs b W N j ≡ windows_upto wire hs b W N j
 windows_alike wire hs gs b W N zero t agree below up = refl
 windows_alike wire hs gs b W N (suc j) t agree below up =

@@ -10,13 +10,13 @@ use Rattle.stream_meaning.specs.Sinks.{ticks_bytes, IsOutput}
 use Rattle.stream_meaning.specs.Calls.{after_calls, calls_of_tick, joined_upto}
 use Rattle.stream_meaning.specs.Settings.{IsSetting}
 use Rattle.run_records.specs.Records.{AreWindowsBegun, Follows, Run, setting_then, start}
-use Rattle.clock_engine.specs.Engines.{setting_of, held_of}
-use Rattle.clock_engine.specs.Pieces.{GotBetween}
-use Rattle.clock_engine.proofs.Pieces.{between_wider, got_between}
-use Rattle.clock_engine.specs.declared.engine.ClockEngine.{ClockEngine}
-use Rattle.clock_engine.specs.declared.fault.TickFault.{TickFault}
+use Rattle.clock_ticks.specs.Engines.{setting_of, held_of}
+use Rattle.clock_ticks.specs.Pieces.{GotBetween}
+use Rattle.clock_ticks.proofs.Pieces.{between_wider, got_between}
+use Rattle.clock_ticks.specs.declared.engine.ClockEngine.{ClockEngine}
+use Rattle.clock_ticks.specs.declared.fault.TickFault.{TickFault}
 use Rattle.clock_threads.specs.declared.task.Task.{Task}
-use Rattle.clock_threads.specs.Histories.{History, HasGone, HasGonePart, answers_by, joined_from}
+use Rattle.clock_threads.specs.TickCalls.{TickCalls, HasGone, HasGonePart, answers_by, joined_from}
 use Rattle.clock_threads.specs.TaskRuns.{EngineGone, EngineGonePart, stands_for, stopped_for}
 use Rattle.clock_threads.specs.declared.wires.Wire.{Wire}
 use Rattle.clock_threads.specs.WindowRuns.{PartAt, StandsOrStopped}
@@ -26,23 +26,23 @@ use Rattle.clock_threads.proofs.Starts.{start_up}
 use Rattle.clock_threads.specs.Wires.{wire_at}
 use Rattle.clock_threads.specs.Records.{windows_upto}
 use Rattle.clock_threads.proofs.Running.{part_moved}
-use Rattle.frame_core.specs.Legal.{IsRun}
+use Rattle.frame_core.specs.Legal.{IsHistory}
 use Rattle.frame_core.specs.Calls.{Call, takes_of, puts_to}
 use Rattle.buffer_ends.specs.Local.{on}
 
 none_some : {A : Type 0} {x : A} → Some x ≡ None → ⊥
 none_some e = cc
 
-module _ {S : Type 0} (held : S → Option (List ℕ)) (setting : Setting) (m s e : ℕ) (history : History) (first : ℕ → Option (List ℕ)) (engine : ClockEngine S) (t : ℕ) where
-  came_whole : HasGone setting stands_for (held_of held) m t history first engine → Came setting m s e history t t [] (λ b. true) first (held_of held engine)
+module _ {S : Type 0} (held : S → Option (List ℕ)) (setting : Setting) (m s e : ℕ) (tick_calls : TickCalls) (first : ℕ → Option (List ℕ)) (engine : ClockEngine S) (t : ℕ) where
+  came_whole : HasGone setting stands_for (held_of held) m t tick_calls first engine → Came setting m s e tick_calls t t [] (λ b. true) first (held_of held engine)
   came_whole gone = record {
     inside = inl (refl, refl);
     ticks_are = gone.ticks;
-    begun = λ rest. begin_none (calls_of_tick (with_rest setting (after_calls (answers_by history t) []) rest) (λ b. true) m t);
+    begun = λ rest. begin_none (calls_of_tick (with_rest setting (after_calls (answers_by tick_calls t) []) rest) (λ b. true) m t);
     front = λ rest sink node output.
-        let same : with_rest setting (answers_by history t) rest ≡ with_rest setting (after_calls (answers_by history t) []) rest =
-        ap (λ (A : Answers). with_rest setting A rest) (fun_ext (λ b. sym (append-nil (answers_by history t b)))) in
-        let world = with_rest setting (answers_by history t) rest in (
+        let same : with_rest setting (answers_by tick_calls t) rest ≡ with_rest setting (after_calls (answers_by tick_calls t) []) rest =
+        ap (λ (A : Answers). with_rest setting A rest) (fun_ext (λ b. sym (append-nil (answers_by tick_calls t b)))) in
+        let world = with_rest setting (answers_by tick_calls t) rest in (
           ticks_bytes world output.wide node t,
           subst (λ (w : Setting). IsPrefix (ticks_bytes w output.wide node t) (ticks_bytes world output.wide node t)) same (itself (ticks_bytes world output.wide node t)),
           subst (λ (w : Setting). IsPrefix (ticks_bytes world output.wide node t) (ticks_bytes w output.wide node t)) same (itself (ticks_bytes world output.wide node t)),
@@ -50,7 +50,7 @@ module _ {S : Type 0} (held : S → Option (List ℕ)) (setting : Setting) (m s 
         );
   }
 
-  came_part : (gone : HasGonePart setting stopped_for (held_of held) m t history first engine) → Came setting m s e history t (suc t) gone.made gone.accepted first (held_of held engine)
+  came_part : (gone : HasGonePart setting stopped_for (held_of held) m t tick_calls first engine) → Came setting m s e tick_calls t (suc t) gone.made gone.accepted first (held_of held engine)
   came_part gone = record {
     inside = inr refl;
     ticks_are = gone.ticks;
@@ -78,7 +78,7 @@ module _ {S R : Type 0} (held name : S → Option (List ℕ)) (faults : S → �
 
   -- with the calls that the run has of it
   record Reached (k : ℕ) : Type 0 where
-    reach : Reach setting map.running k s e (part.histories k) (Stands k) (old k) (new k)
+    reach : Reach setting map.running k s e (part.clock_calls k) (Stands k) (old k) (new k)
     calls : k < length first → reach.since ≡ part.since k
     came_at : k < length first → (low : k < length first) × (reach.ticks ≡ (part.clocks k low).ticks)
     stops : reach.tried ≡ suc reach.ticks → (k < length first) × (fault : TickFault) × ((slice_index_or now k d).engine.parts.stopped ≡ Some fault)
@@ -90,15 +90,15 @@ module _ {S R : Type 0} (held name : S → Option (List ℕ)) (faults : S → �
       known : (setting_of (slice_index_or now k d).engine.parts ≡ setting) × ((slice_index_or now k d).engine.parts.clock ≡ k)
       known = ((part.clocks k low).same.setting ∙ (shared k low).0, (part.clocks k low).same.clock ∙ (shared k low).1)
 
-      by : (((part.clocks k low).ticks ≤ e) × EngineGone held (part.clocks k low).ticks (part.histories k) (old k) (slice_index_or now k d).engine
-          × (part.since k ≡ joined_from (part.histories k).calls s ((part.clocks k low).ticks - s)))
-          ⊎ (((part.clocks k low).ticks < e) × (gone : EngineGonePart held (part.clocks k low).ticks (part.histories k) (old k) (slice_index_or now k d).engine)
-          × (part.since k ≡ joined_from (part.histories k).calls s ((part.clocks k low).ticks - s) ++ gone.made))
+      by : (((part.clocks k low).ticks ≤ e) × EngineGone held (part.clocks k low).ticks (part.clock_calls k) (old k) (slice_index_or now k d).engine
+          × (part.since k ≡ joined_from (part.clock_calls k).calls s ((part.clocks k low).ticks - s)))
+          ⊎ (((part.clocks k low).ticks < e) × (gone : EngineGonePart held (part.clocks k low).ticks (part.clock_calls k) (old k) (slice_index_or now k d).engine)
+          × (part.since k ≡ joined_from (part.clock_calls k).calls s ((part.clocks k low).ticks - s) ++ gone.made))
           → Reached k
       by (inl gone) =
           (let t = (part.clocks k low).ticks in let least = (part.clocks k low).least in let most = gone.0 in
-          let on : HasGone setting stands_for (held_of held) k t (part.histories k) (old k) (slice_index_or now k d).engine =
-          subst (λ (z : Setting × ℕ). HasGone z.0 stands_for (held_of held) z.1 t (part.histories k) (old k) (slice_index_or now k d).engine) (λ i. (known.0 i, known.1 i)) gone.1 in
+          let on : HasGone setting stands_for (held_of held) k t (part.clock_calls k) (old k) (slice_index_or now k d).engine =
+          subst (λ (z : Setting × ℕ). HasGone z.0 stands_for (held_of held) z.1 t (part.clock_calls k) (old k) (slice_index_or now k d).engine) (λ i. (known.0 i, known.1 i)) gone.1 in
           record {
             reach = record {
               ticks = t;
@@ -107,8 +107,8 @@ module _ {S R : Type 0} (held name : S → Option (List ℕ)) (faults : S → �
               made = [];
               accepted = λ b. true;
               since = part.since k;
-              since_is = λ runs. gone.2 ∙ sym (append-nil (joined_from (part.histories k).calls s (t - s)));
-              came = λ runs. came_whole held setting k s e (part.histories k) (old k) (slice_index_or now k d).engine t on;
+              since_is = λ runs. gone.2 ∙ sym (append-nil (joined_from (part.clock_calls k).calls s (t - s)));
+              came = λ runs. came_whole held setting k s e (part.clock_calls k) (old k) (slice_index_or now k d).engine t on;
               stands = λ runs. inl (refl, gone.1.stand);
               rests = λ high. absurd (omega (arith, low, high, all_run));
             };
@@ -119,7 +119,7 @@ module _ {S R : Type 0} (held name : S → Option (List ℕ)) (faults : S → �
           })
       by (inr gone) =
           (let t = (part.clocks k low).ticks in let least = (part.clocks k low).least in let less = gone.0 in
-          let on = part_moved (setting_of (slice_index_or now k d).engine.parts) setting (slice_index_or now k d).engine.parts.clock k (held_of held) t (part.histories k) (old k) (slice_index_or now k d).engine known.0 known.1 gone.1 in
+          let on = part_moved (setting_of (slice_index_or now k d).engine.parts) setting (slice_index_or now k d).engine.parts.clock k (held_of held) t (part.clock_calls k) (old k) (slice_index_or now k d).engine known.0 known.1 gone.1 in
           record {
             reach = record {
               ticks = t;
@@ -128,8 +128,8 @@ module _ {S R : Type 0} (held name : S → Option (List ℕ)) (faults : S → �
               made = on.0.made;
               accepted = on.0.accepted;
               since = part.since k;
-              since_is = λ runs. gone.2 ∙ ap (λ l. joined_from (part.histories k).calls s (t - s) ++ l) (sym on.1);
-              came = λ runs. came_part held setting k s e (part.histories k) (old k) (slice_index_or now k d).engine t on.0;
+              since_is = λ runs. gone.2 ∙ ap (λ l. joined_from (part.clock_calls k).calls s (t - s) ++ l) (sym on.1);
+              came = λ runs. came_part held setting k s e (part.clock_calls k) (old k) (slice_index_or now k d).engine t on.0;
               stands = λ runs. inr (refl, gone.1.made, gone.1.halted);
               rests = λ high. absurd (omega (arith, low, high, all_run));
             };
@@ -162,7 +162,7 @@ module _ {S R : Type 0} (held name : S → Option (List ℕ)) (faults : S → �
     }
   ]
 
-  pub reach : (k : ℕ) → Reach setting map.running k s e (part.histories k) (Stands k) (old k) (new k)
+  pub reach : (k : ℕ) → Reach setting map.running k s e (part.clock_calls k) (Stands k) (old k) (new k)
   reach k = (reach_at k).reach
 
   pub since_are : (k : ℕ) → k < length first → part.since k ≡ (reach k).since
@@ -190,31 +190,31 @@ module _ {S R : Type 0} (held name : S → Option (List ℕ)) (faults : S → �
       ]
 
   abbrev pub part_run : Run
-  part_run = broken_run setting map is wires are W N part.closed part.histories Stands old new reach
+  part_run = broken_run setting map is wires are W N part.closed part.clock_calls Stands old new reach
 
   -- its record
   abbrev pub part_begun : ((b : ℕ) → b < length wires → (wire_at wires b).from < length first × ((wire_at wires b).to < length first)) → AreWindowsBegun setting map.running W N part_run
-  part_begun places = windows_begun setting map is wires are W N part.closed part.histories Stands old new reach level_are ended_are
+  part_begun places = windows_begun setting map is wires are W N part.closed part.clock_calls Stands old new reach level_are ended_are
       (λ b low. (let r = part.runs b low in let p = places b low in (
         r.0,
-        subst (λ (z : List Call × List Call). IsRun (wire_at wires b).capacity [] (windows_upto (wire_at wires b) part.histories b W N part.closed ++ (puts_to b z.0, takes_of b z.1) ∷ []) r.0)
+        subst (λ (z : List Call × List Call). IsHistory (wire_at wires b).capacity [] (windows_upto (wire_at wires b) part.clock_calls b W N part.closed ++ (puts_to b z.0, takes_of b z.1) ∷ []) r.0)
             (λ i. (since_are (wire_at wires b).from p.0 i, since_are (wire_at wires b).to p.1 i)) r.1,
       )))
       (λ b low one. (let r = part.in_order b low one in let k = (wire_at wires b).from in
-      (r.0, subst (λ (z : List Call). Follows (wire_at wires b).capacity [] (on b (joined_upto (part.histories k).calls s ++ z)) r.0) (since_are k (places b low).0) r.1)))
+      (r.0, subst (λ (z : List Call). Follows (wire_at wires b).capacity [] (on b (joined_upto (part.clock_calls k).calls s ++ z)) r.0) (since_are k (places b low).0) r.1)))
 
   -- what each output holds
   pub part_fronts : (k : ℕ) → k < length first → (rest : Answers) (sink node : ℕ) (output : IsOutput setting k sink node)
       → (front : List ℕ) × IsPrefix (ticks_bytes (setting_then setting part_run rest) output.wide node (reach k).ticks) front × IsPrefix front (ticks_bytes (setting_then setting part_run rest) output.wide node (reach k).tried)
       × (held_of held (slice_index_or now k d).engine sink ≡ grown front (held_of held (slice_index_or first k d).engine sink))
-  part_fronts k low rest sink node out = fronts setting map is wires are W N part.closed part.histories Stands old new reach k (omega (arith, low, all_run)) rest sink node out
+  part_fronts k low rest sink node out = fronts setting map is wires are W N part.closed part.clock_calls Stands old new reach k (omega (arith, low, all_run)) rest sink node out
 
   -- for which answers each engine stands, or stopped
-  pub part_stood : (k : ℕ) → k < length first → StandsOrStopped (slice_index_or now k d).engine (reach k).ticks (reach k).tried (answers_by (part.histories k) (reach k).ticks)
-  part_stood k low = stood setting map is wires are W N part.closed part.histories Stands old new reach k (omega (arith, low, all_run))
+  pub part_stood : (k : ℕ) → k < length first → StandsOrStopped (slice_index_or now k d).engine (reach k).ticks (reach k).tried (answers_by (part.clock_calls k) (reach k).ticks)
+  part_stood k low = stood setting map is wires are W N part.closed part.clock_calls Stands old new reach k (omega (arith, low, all_run))
 
-  pub part_given : (k : ℕ) → k < length first → (rest : Answers) → (more : Answers) × (with_rest setting (answers_by (part.histories k) (reach k).ticks) more ≡ setting_then setting part_run rest)
-  part_given k low rest = given setting map is wires are W N part.closed part.histories Stands old new reach k (omega (arith, low, all_run)) rest
+  pub part_given : (k : ℕ) → k < length first → (rest : Answers) → (more : Answers) × (with_rest setting (answers_by (part.clock_calls k) (reach k).ticks) more ≡ setting_then setting part_run rest)
+  part_given k low rest = given setting map is wires are W N part.closed part.clock_calls Stands old new reach k (omega (arith, low, all_run)) rest
 
   -- how many pieces each sink got
   pub part_pieces : (k : ℕ) → k < length first → GotBetween appends (reach k).ticks (reach k).tried (slice_index_or first k d).engine.outs (slice_index_or now k d).engine.outs

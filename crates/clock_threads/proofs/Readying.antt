@@ -13,13 +13,13 @@ use Rattle.buffer_ends.specs.declared.thread_taps.ThreadTaps.{ThreadTaps}
 use Rattle.stream_meaning.specs.Instants.{Setting, answered}
 use Rattle.stream_meaning.specs.Sinks.{ticks_bytes}
 use Rattle.stream_meaning.specs.Calls.{joined_upto}
-use Rattle.clock_engine.specs.Engines.{EngineStands, outputs_of, setting_of, held_of}
-use Rattle.clock_engine.specs.Ticks.{HaveTicksRoom}
-use Rattle.clock_engine.specs.Pieces.{GotPieces}
-use Rattle.clock_engine.proofs.Pieces.{got_none}
-use Rattle.clock_engine.specs.declared.engine.ClockEngine.{ClockEngine}
+use Rattle.clock_ticks.specs.Engines.{EngineStands, outputs_of, setting_of, held_of}
+use Rattle.clock_ticks.specs.Ticks.{HaveTicksRoom}
+use Rattle.clock_ticks.specs.Pieces.{GotPieces}
+use Rattle.clock_ticks.proofs.Pieces.{got_none}
+use Rattle.clock_ticks.specs.declared.engine.ClockEngine.{ClockEngine}
 use Rattle.clock_threads.specs.declared.task.Task.{Task}
-use Rattle.clock_threads.specs.Histories.{History, answers_by}
+use Rattle.clock_threads.specs.TickCalls.{TickCalls, answers_by}
 use Rattle.clock_threads.specs.TaskRuns.{EngineGone, IsSameClock}
 use Rattle.clock_threads.specs.declared.wires.Wire.{Wire}
 use Rattle.clock_threads.specs.Wires.{wire_at, kept}
@@ -29,7 +29,7 @@ use Rattle.clock_infer.specs.declared.clock_map.ClockMap.{ClockMap}
 use Rattle.frame_core.specs.declared.cell.Cell.{Cell}
 use Rattle.clock_threads.specs.Records.{ClockGoing, SameEngines}
 use Rattle.clock_threads.specs.WindowRuns.{IsReady, IsWriteAt, DoneAt, RunDone, PartAt, RunPart, StandsOrStopped}
-use Rattle.clock_threads.specs.Lawful.{IsWiredRun, answers_of, meant}
+use Rattle.clock_threads.specs.Lawful.{IsWiredHistory, answers_of, meant}
 use Rattle.clock_threads.proofs.Starts.{start_zero}
 use Rattle.clock_threads.proofs.Ending.{with_one}
 use Rattle.clock_threads.proofs.Finishing.{done_windows, done_wired, done_bytes, done_stands}
@@ -43,7 +43,7 @@ use Rattle.clock_threads.specs.ThreadRuns.{IsFresh, HasMadeAll, HasMadePart, Has
 use Rattle.clock_threads.specs.WiredRuns.{AreLaid, AreFresh, HasRunTasks}
 use Rattle.clock_threads.proofs.Making.{map_get, map_long}
 
-nothing : History
+nothing : TickCalls
 nothing = record { calls = λ t. []; accepted = λ t b. true }
 
 pub grown_none : (held : Option (List ℕ)) → held ≡ grown [] held
@@ -134,7 +134,7 @@ module _ {S R : Type 0} (held name : S → Option (List ℕ)) (room : S → Opti
     buffers = λ k d h. (let f = fresh_at k d (in_bare k h) in
         ap (λ (s : Setting). length s.plan.buffers) f.over ∙ ap (λ (p : Plan). length p.buffers) fresh.engines_are.plan_is ∙ sym are.many);
     begun = λ d. record {
-      histories = λ k. nothing;
+      clock_calls = λ k. nothing;
       many = refl;
       clocks = clock_ready d;
       joins = λ b low apart. record { chunks = []; run = refl; opens = j.opens b (omega arith) low apart };
@@ -157,7 +157,7 @@ module _ {S R : Type 0} (held name : S → Option (List ℕ)) (room : S → Opti
     abbrev wins : ℕ → List Window
     wins = done_windows held name room faults appends wires W N joined now logs d done setting map_of fresh.engines_are.is fresh.wires_are long inside (shared d) places_joined
 
-    abbrev wired : IsWiredRun (meant setting) wires W N done.windows wins
+    abbrev wired : IsWiredHistory (meant setting) wires W N done.windows wins
     wired = done_wired held name room faults appends wires W N joined now logs d done setting map_of fresh.engines_are.is fresh.wires_are long inside (shared d) places_joined
 
     abbrev the_run : Run
@@ -205,13 +205,13 @@ module _ {S R : Type 0} (held name : S → Option (List ℕ)) (room : S → Opti
     abbrev begun_run : Run
     begun_run = part_run held name faults appends wires W N joined now d p setting map_of fresh.engines_are.is fresh.wires_are long (shared d)
 
-    abbrev reached : (k : ℕ) → Reach setting map_of.running k (start W N p.closed) (start W N (suc p.closed)) (p.histories k) (StandsOrStopped (slice_index_or now k d).engine) (held_of held (slice_index_or joined k d).engine) (held_of held (slice_index_or now k d).engine)
+    abbrev reached : (k : ℕ) → Reach setting map_of.running k (start W N p.closed) (start W N (suc p.closed)) (p.clock_calls k) (StandsOrStopped (slice_index_or now k d).engine) (held_of held (slice_index_or joined k d).engine) (held_of held (slice_index_or now k d).engine)
     reached = reach held name faults appends wires W N joined now d p setting map_of fresh.engines_are.is fresh.wires_are long (shared d)
 
     made_part : (k : ℕ) → k < length joined → HasMadePart held name faults appends setting begun_run (reached k).ticks (reached k).tried k (slice_index_or joined k d).engine (slice_index_or now k d).engine
     made_part k h = record {
       same = (p.clocks k h).same;
-      answers = answers_by (p.histories k) (reached k).ticks;
+      answers = answers_by (p.clock_calls k) (reached k).ticks;
       given = part_given held name faults appends wires W N joined now d p setting map_of fresh.engines_are.is fresh.wires_are long (shared d) k h;
       stands = part_stood held name faults appends wires W N joined now d p setting map_of fresh.engines_are.is fresh.wires_are long (shared d) k h;
       part = part_fronts held name faults appends wires W N joined now d p setting map_of fresh.engines_are.is fresh.wires_are long (shared d) k h;

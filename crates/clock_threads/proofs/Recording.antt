@@ -5,7 +5,7 @@ use Rattle.std.proofs.lemmas.Bool.{cases_lt, lt-ltb, le-ltb}
 use Rattle.std.proofs.lemmas.Bool.Decides.{nat_tests}
 use mathlib.Core.Path.{fun_ext}
 use Rattle.clock_infer.specs.declared.clock_map.ClockMap.{ClockMap}
-use Rattle.frame_core.specs.Legal.{IsRun}
+use Rattle.frame_core.specs.Legal.{IsHistory}
 use Rattle.frame_core.specs.Calls.{Call, Took, Given, takes_of, puts_to}
 use Rattle.buffer_ends.specs.Local.{on as on_ends}
 use Rattle.stream_meaning.specs.Instants.{Setting}
@@ -16,12 +16,12 @@ use Rattle.run_records.specs.Records.{Follows, IsLawful, Run, Window, answers_of
 use Rattle.run_records.proofs.Alone.{feeder_runs}
 use Rattle.run_records.proofs.Owning.{own_tick}
 use Rattle.run_records.proofs.Running.{runs_in, rests_in}
-use Rattle.clock_threads.specs.Histories.{History, joined_from}
+use Rattle.clock_threads.specs.TickCalls.{TickCalls, joined_from}
 use Rattle.clock_threads.proofs.Walking.{joined_alike}
 use Rattle.clock_threads.specs.declared.wires.Wire.{Wire}
 use Rattle.clock_threads.specs.Wires.{wire_at}
 use Rattle.clock_threads.specs.Records.{windows_upto}
-use Rattle.clock_threads.specs.Lawful.{Answers, AreWires, IsWiredRun, answers_of, histories_of, meant}
+use Rattle.clock_threads.specs.Lawful.{Answers, AreWires, IsWiredHistory, answers_of, clock_calls_of, meant}
 use Rattle.clock_threads.specs.Listed.{listed}
 use Rattle.clock_threads.proofs.Sets.{same_or_other}
 use Rattle.clock_threads.proofs.Keeping.{takes-append}
@@ -69,7 +69,7 @@ none_joined f b zero none = refl
 none_joined f b (suc n) none = takes-append b (joined_upto f n) (f n) ∙ (λ i. none_joined f b n none i ++ none n i)
 
 module _ (setting : Setting) (map : ClockMap) (is : IsSetting setting map) (wires : List Wire) (are : AreWires setting map.running wires)
-    (W N count : ℕ) (windows : ℕ → List Window) (wired : IsWiredRun (meant setting) wires W N count windows) where
+    (W N count : ℕ) (windows : ℕ → List Window) (wired : IsWiredHistory (meant setting) wires W N count windows) where
   abbrev pub run_of : Run
   run_of = record { buffers = listed (length wires) windows }
 
@@ -88,8 +88,8 @@ module _ (setting : Setting) (map : ClockMap) (is : IsSetting setting map) (wire
   abbrev calls : ℕ → ℕ → List Call
   calls = calls_in inner map.running wired.accepted
 
-  abbrev hs : ℕ → History
-  hs = histories_of (meant setting) windows wired.accepted
+  abbrev hs : ℕ → TickCalls
+  hs = clock_calls_of (meant setting) windows wired.accepted
 
   in_plan : (b : ℕ) → b < length wires → b < length setting.plan.buffers
   in_plan b less = let n = are.many in omega (arith, less, n)
@@ -136,7 +136,7 @@ module _ (setting : Setting) (map : ClockMap) (is : IsSetting setting map) (wire
     are = λ b known. (let less : b < length wires = (let n = are.many in omega (arith, known, n)) in
         run_windows b less ∙ wired.are b less ∙ windows_same b less count);
     legal = λ b known. (let less : b < length wires = (let n = are.many in omega (arith, known, n)) in let l = wired.legal b less in
-        (l.0, subst (λ (z : ℕ × List Window). IsRun z.0 [] z.1 l.0) (λ i. ((are.each b less).capacity_is i, sym (run_windows b less) i)) l.1));
+        (l.0, subst (λ (z : ℕ × List Window). IsHistory z.0 [] z.1 l.0) (λ i. ((are.each b less).capacity_is i, sym (run_windows b less) i)) l.1));
     in_order = λ b known one. (let less : b < length wires = (let n = are.many in omega (arith, known, n)) in
         let w = are.each b less in let runs : reader setting b < map.running = (let f = from_runs b less in omega (arith, f, one)) in
         let to : (wire_at wires b).to ≡ reader setting b = w.to_is ∙ ap (λ (t : Bool). cond t (reader setting b) (feeder setting b)) (lt-ltb (reader setting b) map.running runs) in

@@ -17,8 +17,8 @@ module _ {S T U : Type 0} (room : S → Option ℕ) (count : ℕ) where
     taps = itself;
     many = refl;
     ran = record {
-      on = λ t history first gone runs. (let w = ran.ran.on t history first gone runs in record { after = w.after; agree = w.agree; gone = w.gone; pieces = w.pieces; taps = λ calls stand. any _ });
-      halted = λ t history first gone stops. (let w = ran.ran.halted t history first gone stops in record { made = w.made; fewer = w.fewer; after = w.after; agree = w.agree; part = w.part; pieces = w.pieces; taps = λ calls stand. any _ });
+      on = λ t tick_calls first gone runs. (let w = ran.ran.on t tick_calls first gone runs in record { after = w.after; agree = w.agree; gone = w.gone; pieces = w.pieces; taps = λ calls stand. any _ });
+      halted = λ t tick_calls first gone stops. (let w = ran.ran.halted t tick_calls first gone stops in record { made = w.made; fewer = w.fewer; after = w.after; agree = w.agree; part = w.part; pieces = w.pieces; taps = λ calls stand. any _ });
     };
     write = ran.write;
     rooms = ran.rooms;

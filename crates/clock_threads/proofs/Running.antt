@@ -8,16 +8,16 @@ use Rattle.liq_base.specs.Pieces.{IsPrefix, grown}
 use Rattle.clock_outputs.specs.Appends.{GotOnePiece}
 use Rattle.clock_outputs.proofs.Since.{fell_then, kept_then}
 use Rattle.clock_outputs.proofs.Taken.{fell_none, kept_none}
-use Rattle.clock_engine.specs.declared.engine.ClockEngine.{ClockEngine}
-use Rattle.clock_engine.specs.Engines.{EngineStands, setting_of, held_of}
-use Rattle.clock_engine.proofs.Pieces.{got_more, got_none, got_part}
-use Rattle.clock_engine.specs.Ticks.{GotSomePieces, HasMade, HasFailed, HaveTicksRoom, HaveTickRoom, IsWriteFault, piece_size}
-use Rattle.clock_engine.specs.declared.fault.TickFault.{TickFault}
-use Rattle.clock_engine.specs.declared.fault.TickFault.TheVariants.{Memory as OutOfMemory, Write}
-use Rattle.clock_engine.specs.declared.engine.EngineParts.{EngineParts}
+use Rattle.clock_ticks.specs.declared.engine.ClockEngine.{ClockEngine}
+use Rattle.clock_ticks.specs.Engines.{EngineStands, setting_of, held_of}
+use Rattle.clock_ticks.proofs.Pieces.{got_more, got_none, got_part}
+use Rattle.clock_ticks.specs.Ticks.{GotSomePieces, HasMade, HasFailed, HaveTicksRoom, HaveTickRoom, IsWriteFault, piece_size}
+use Rattle.clock_ticks.specs.declared.fault.TickFault.{TickFault}
+use Rattle.clock_ticks.specs.declared.fault.TickFault.TheVariants.{Memory as OutOfMemory, Write}
+use Rattle.clock_ticks.specs.declared.engine.EngineParts.{EngineParts}
 use Rattle.std.proofs.Math.Nat.{mul-le-mul_right}
 use Rattle.clock_threads.specs.declared.task.Task.{Task}
-use Rattle.clock_threads.specs.Histories.{AreTicks, History, answers_by, joined_from, Agree, HasGone, HasGonePart}
+use Rattle.clock_threads.specs.TickCalls.{AreTicks, TickCalls, answers_by, joined_from, Agree, HasGone, HasGonePart}
 use Rattle.clock_threads.specs.TaskRuns.{IsSameClock, stands_for, stopped_for, EngineGone, WentOn, WasRun}
 use Rattle.clock_threads.proofs.Writing.{write_of, write_since}
 use Rattle.clock_threads.proofs.Walking.{agree_none, agree_then, joined_alike, extended, extended_at, extended_below, gone_more, gone_part}
@@ -38,24 +38,24 @@ pub record Running {S T : Type 0} (held name : S → Option (List ℕ)) (room : 
   pub clock : IsSameClock name faults old.engine new.engine
   pub taps : same old.taps new.taps
   pub many : buffers new.taps ≡ buffers old.taps
-  pub on : (t : ℕ) (history : History) (first : ℕ → Option (List ℕ)) → EngineGone held t history first old.engine → WentOn held appends stands count t history first old new
+  pub on : (t : ℕ) (tick_calls : TickCalls) (first : ℕ → Option (List ℕ)) → EngineGone held t tick_calls first old.engine → WentOn held appends stands count t tick_calls first old new
   pub rooms : (n : ℕ) → HaveTicksRoom room old.engine.parts old.engine.outs (n + count) → HaveTicksRoom room new.engine.parts new.engine.outs n
   pub engine : (t : ℕ) (answers : ℕ → List Answer) → EngineStands old.engine.parts t answers → (more : ℕ → List Answer) × EngineStands new.engine.parts (t + count) more
   pub runs : new.engine.parts.stopped ≡ None
 
 -- an engine that stopped, by another name of its setting and its clock
-pub part_moved : {S : Type 0} (setting other : Setting) (m k : ℕ) (held : ClockEngine S → ℕ → Option (List ℕ)) (t : ℕ) (history : History) (first : ℕ → Option (List ℕ)) (e : ClockEngine S) → setting ≡ other → m ≡ k
-    → (part : HasGonePart setting stopped_for held m t history first e) → (moved : HasGonePart other stopped_for held k t history first e) × (moved.made ≡ part.made)
-part_moved setting other m k held t history first e same clock part = (
+pub part_moved : {S : Type 0} (setting other : Setting) (m k : ℕ) (held : ClockEngine S → ℕ → Option (List ℕ)) (t : ℕ) (tick_calls : TickCalls) (first : ℕ → Option (List ℕ)) (e : ClockEngine S) → setting ≡ other → m ≡ k
+    → (part : HasGonePart setting stopped_for held m t tick_calls first e) → (moved : HasGonePart other stopped_for held k t tick_calls first e) × (moved.made ≡ part.made)
+part_moved setting other m k held t tick_calls first e same clock part = (
   record {
-    ticks = subst (λ (z : Setting × ℕ). AreTicks z.0 z.1 t history) (λ i. (same i, clock i)) part.ticks;
+    ticks = subst (λ (z : Setting × ℕ). AreTicks z.0 z.1 t tick_calls) (λ i. (same i, clock i)) part.ticks;
     made = part.made;
     halted = part.halted;
     accepted = part.accepted;
-    begun = subst (λ (z : Setting × ℕ). (rest : ℕ → List Answer) → IsBegin part.made (calls_of_tick (with_rest z.0 (after_calls (answers_by history t) part.made) rest) part.accepted z.1 t)) (λ i. (same i, clock i)) part.begun;
+    begun = subst (λ (z : Setting × ℕ). (rest : ℕ → List Answer) → IsBegin part.made (calls_of_tick (with_rest z.0 (after_calls (answers_by tick_calls t) part.made) rest) part.accepted z.1 t)) (λ i. (same i, clock i)) part.begun;
     part = subst (λ (z : Setting × ℕ). (rest : ℕ → List Answer) (sink node : ℕ) (output : IsOutput z.0 z.1 sink node) → (front : List ℕ)
-        × IsPrefix (ticks_bytes (with_rest z.0 (after_calls (answers_by history t) part.made) rest) output.wide node t) front
-        × IsPrefix front (ticks_bytes (with_rest z.0 (after_calls (answers_by history t) part.made) rest) output.wide node (suc t)) × (held e sink ≡ grown front (first sink))) (λ i. (same i, clock i)) part.part;
+        × IsPrefix (ticks_bytes (with_rest z.0 (after_calls (answers_by tick_calls t) part.made) rest) output.wide node t) front
+        × IsPrefix front (ticks_bytes (with_rest z.0 (after_calls (answers_by tick_calls t) part.made) rest) output.wide node (suc t)) × (held e sink ≡ grown front (first sink))) (λ i. (same i, clock i)) part.part;
   },
   refl,
 )
@@ -98,7 +98,7 @@ module _ {S T : Type 0} (held name : S → Option (List ℕ)) (room : S → Opti
       on = λ t h first gone.
           let w = running.on t h first gone in
           let ticked = made.engine (t + count) _ w.gone.stand in
-          let after : History = extended w.after (t + count) made.more ticked.accepted in
+          let after : TickCalls = extended w.after (t + count) made.more ticked.accepted in
           let below : Agree (t + count) w.after after = extended_below w.after (t + count) made.more ticked.accepted in
           let all = gone_more (setting_of y.engine.parts) stands_for (held_of held) y.engine.parts.clock (t + count) w.after first y.engine e w.gone made.more ticked in
           record {

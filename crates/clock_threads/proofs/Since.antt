@@ -3,7 +3,7 @@
 use Rattle.std.proofs.Common.{◌≡◌, ◌≢◌, ◌⊎◌, ℕ, ◌<◌, ◌^◌, List, [], ◌∷◌, ◌++◌, length, slice_index_or, sym, refl, ap, ◌∙◌, subst, arith, inl, inr, ⊎_elim, Option}
 use Rattle.std.proofs.lemmas.List.{get_or_default}
 use Rattle.frame_core.specs.declared.cell.Cell.{Cell}
-use Rattle.frame_core.specs.Legal.{Legal, IsRun}
+use Rattle.frame_core.specs.Legal.{Legal, IsHistory}
 use Rattle.frame_core.specs.Calls.{Call, takes_of, puts_to}
 use Rattle.frame_core.proofs.Laws.{run_more}
 use Rattle.buffer_queue.specs.Window.{Window as QueueWindow, opened, capacity_of}
@@ -77,7 +77,7 @@ module _ {S R : Type 0} (held name : S → Option (List ℕ)) (room : S → Opti
     (going : Going held name room faults appends wires W N j first now logs d)
     (ran : (k : ℕ) → k < length now → WasRun held name room faults appends TapsStand TapsBuffers SameTaps count (slice_index_or now k d) (slice_index_or mid k d))
     (mid_many : length mid ≡ length now) (since : ℕ → List Call)
-    (stood : (k : ℕ) → k < length first → TapsStand (slice_index_or mid k d).taps (kept wires k (joined_upto (going.histories k).calls (start W N j)) ++ since k)) where
+    (stood : (k : ℕ) → k < length first → TapsStand (slice_index_or mid k d).taps (kept wires k (joined_upto (going.clock_calls k).calls (start W N j)) ++ since k)) where
   within : (k : ℕ) → k < length first → k < length now
   within k h = let m = going.many in omega (arith, h, m)
 
@@ -87,7 +87,7 @@ module _ {S R : Type 0} (held name : S → Option (List ℕ)) (room : S → Opti
   -- a buffer between clocks, after these calls
   pub ends_ran : (b : ℕ) → b < length wires → (wire_at wires b).from ≢ (wire_at wires b).to
       → (put : QueueWindow) × (take : QueueWindow) × JoinRan (wire_at wires b) b put take mid
-      × (put.opening ≡ take.opening) × IsRun (wire_at wires b).capacity [] (windows_upto (wire_at wires b) going.histories b W N j) put.opening
+      × (put.opening ≡ take.opening) × IsHistory (wire_at wires b).capacity [] (windows_upto (wire_at wires b) going.clock_calls b W N j) put.opening
       × (put.answers ≡ puts_to b (since (wire_at wires b).from)) × (take.answers ≡ takes_of b (since (wire_at wires b).to))
   ends_ran b less apart =
       let wire = wire_at wires b in let g = going.joins b less apart in let f = (places b less).0 in let t = (places b less).1 in
@@ -105,9 +105,9 @@ module _ {S R : Type 0} (held name : S → Option (List ℕ)) (room : S → Opti
           take_end = λ e. subst (λ (x : Task S (ThreadTaps R)). HasEnd (take_ends x) b v) (sym (here wire.to e t)) (later_end _ _ b o same_t take);
         },
         later_opening _ _ b o same_f put ∙ sym (later_opening _ _ b o same_t take),
-        subst (λ l. IsRun wire.capacity [] (windows_upto wire going.histories b W N j) l) (sym (later_opening _ _ b o same_f put)) g.run,
-        later_puts _ _ b o same_f put (kept wires wire.from (joined_upto (going.histories wire.from).calls (start W N j))) (since wire.from) (stood wire.from f).0 (puts_kept wires wire.from b (joined_upto (going.histories wire.from).calls (start W N j)) end_f),
-        later_takes _ _ b o same_t take (kept wires wire.to (joined_upto (going.histories wire.to).calls (start W N j))) (since wire.to) (stood wire.to t).1 (takes_kept wires wire.to b (joined_upto (going.histories wire.to).calls (start W N j)) end_t),
+        subst (λ l. IsHistory wire.capacity [] (windows_upto wire going.clock_calls b W N j) l) (sym (later_opening _ _ b o same_f put)) g.run,
+        later_puts _ _ b o same_f put (kept wires wire.from (joined_upto (going.clock_calls wire.from).calls (start W N j))) (since wire.from) (stood wire.from f).0 (puts_kept wires wire.from b (joined_upto (going.clock_calls wire.from).calls (start W N j)) end_f),
+        later_takes _ _ b o same_t take (kept wires wire.to (joined_upto (going.clock_calls wire.to).calls (start W N j))) (since wire.to) (stood wire.to t).1 (takes_kept wires wire.to b (joined_upto (going.clock_calls wire.to).calls (start W N j)) end_t),
       )
 
   pub ends_close : length wires < 2 ^ 32 → MayClose wires mid
@@ -119,7 +119,7 @@ module _ {S R : Type 0} (held name : S → Option (List ℕ)) (room : S → Opti
 
   -- a buffer of one clock: these calls go on where those before them ended
   pub list_follows : (b : ℕ) → b < length wires → (wire_at wires b).from ≡ (wire_at wires b).to
-      → (rest : List (List Cell)) × Follows (wire_at wires b).capacity [] (on b (joined_upto (going.histories (wire_at wires b).from).calls (start W N j) ++ since (wire_at wires b).from)) rest
+      → (rest : List (List Cell)) × Follows (wire_at wires b).capacity [] (on b (joined_upto (going.clock_calls (wire_at wires b).from).calls (start W N j) ++ since (wire_at wires b).from)) rest
   list_follows b less e =
       let k = (wire_at wires b).from in let h = (places b less).0 in
       let c = going.clocks k h in let r = ran k (within k h) in
@@ -130,7 +130,7 @@ module _ {S R : Type 0} (held name : S → Option (List ℕ)) (room : S → Opti
       let away : Has (put_ends x) b ⊎ Has (take_ends x) b → ⊥ = not_ended wires k b x c.wired e in
       let away_after : Has (put_ends y) b ⊎ Has (take_ends y) b → ⊥ =
       λ has. ⊎_elim (λ (p : Has (put_ends y) b). away (inl (has_back (put_ends x) (put_ends y) b r.taps.0 p))) (λ (p : Has (take_ends y) b). away (inr (has_back (take_ends x) (take_ends y) b r.taps.1 p))) has in
-      let before = joined_upto (going.histories k).calls (start W N j) in
+      let before = joined_upto (going.clock_calls k).calls (start W N j) in
       let follows = leads_follows (empty_list l.capacity) (on b (kept wires k before ++ since k)) (held_by l) ((stood k h).2 b (empty_buffer 0) in_y away_after) in
       let capacity : l.capacity ≡ (wire_at wires b).capacity = (r.taps.2.each b (empty_buffer 0) in_x).capacity ∙ c.capacities b (empty_buffer 0) less in
       let calls : on b (kept wires k before ++ since k) ≡ on b (before ++ since k) =
@@ -140,23 +140,23 @@ module _ {S R : Type 0} (held name : S → Option (List ℕ)) (room : S → Opti
   module _ (shut : List (Task S (ThreadTaps R))) (closed : AllShut wires mid shut) where
     -- the windows of a buffer between clocks, with the open one
     pub ends_shut : (b : ℕ) → b < length wires → (wire_at wires b).from ≢ (wire_at wires b).to
-        → (rest : List (List Cell)) × IsRun (wire_at wires b).capacity [] (windows_upto (wire_at wires b) going.histories b W N j ++ (puts_to b (since (wire_at wires b).from), takes_of b (since (wire_at wires b).to)) ∷ []) rest
+        → (rest : List (List Cell)) × IsHistory (wire_at wires b).capacity [] (windows_upto (wire_at wires b) going.clock_calls b W N j ++ (puts_to b (since (wire_at wires b).from), takes_of b (since (wire_at wires b).to)) ∷ []) rest
         × JoinOpen (wire_at wires b) b rest shut
     ends_shut b less apart =
         let wire = wire_at wires b in let r = ends_ran b less apart in let t = closed.each b r.0 r.1 less apart r.2 in
         let legal : Legal wire.capacity t.rest r.0.opening (puts_to b (since wire.from)) (takes_of b (since wire.to)) =
         subst (λ (z : List (Option (List Cell)) × List (Option (List Cell))). Legal wire.capacity t.rest r.0.opening z.0 z.1) (λ i. (r.5 i, r.6 i)) t.legal in
-        (t.rest, run_more wire.capacity [] r.0.opening t.rest (windows_upto wire going.histories b W N j) (puts_to b (since wire.from)) (takes_of b (since wire.to)) r.4 legal, t.opens)
+        (t.rest, run_more wire.capacity [] r.0.opening t.rest (windows_upto wire going.clock_calls b W N j) (puts_to b (since wire.from)) (takes_of b (since wire.to)) r.4 legal, t.opens)
 
     -- those of any buffer
     pub all_shut : (b : ℕ) → b < length wires
-        → (rest : List (List Cell)) × IsRun (wire_at wires b).capacity [] (windows_upto (wire_at wires b) going.histories b W N j ++ (puts_to b (since (wire_at wires b).from), takes_of b (since (wire_at wires b).to)) ∷ []) rest
+        → (rest : List (List Cell)) × IsHistory (wire_at wires b).capacity [] (windows_upto (wire_at wires b) going.clock_calls b W N j ++ (puts_to b (since (wire_at wires b).from), takes_of b (since (wire_at wires b).to)) ∷ []) rest
     all_shut b less = elim (same_or_other (wire_at wires b).from (wire_at wires b).to) [
       | inl e ↦ (
-          let wire = wire_at wires b in let f = list_follows b less e in let before = joined_upto (going.histories wire.from).calls (start W N j) in
+          let wire = wire_at wires b in let f = list_follows b less e in let before = joined_upto (going.clock_calls wire.from).calls (start W N j) in
           let cut = follows_split wire.capacity (on b before) (on b (since wire.from)) [] f.0 (subst (λ l. Follows wire.capacity [] l f.0) (on-append b before (since wire.from)) f.1) in
           let legal : Legal wire.capacity f.0 cut.0 (puts_to b (since wire.from)) (takes_of b (since wire.to)) =
           subst (λ k. Legal wire.capacity f.0 cut.0 (puts_to b (since wire.from)) (takes_of b (since k))) e (follows_legal wire.capacity b (since wire.from) cut.0 f.0 cut.2) in
-          (f.0, run_more wire.capacity [] cut.0 f.0 (windows_upto wire going.histories b W N j) (puts_to b (since wire.from)) (takes_of b (since wire.to)) (local_run W N wire going.histories b j cut.0 e cut.1) legal))
+          (f.0, run_more wire.capacity [] cut.0 f.0 (windows_upto wire going.clock_calls b W N j) (puts_to b (since wire.from)) (takes_of b (since wire.to)) (local_run W N wire going.clock_calls b j cut.0 e cut.1) legal))
       | inr apart ↦ (let s = ends_shut b less apart in (s.0, s.1))
     ]

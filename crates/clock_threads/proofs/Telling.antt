@@ -5,7 +5,7 @@ use Rattle.buffer_ends.specs.declared.counts.Counts.{Counts}
 use Rattle.buffer_ends.specs.declared.thread_taps.ThreadTaps.{ThreadTaps}
 use Rattle.clock_infer.specs.declared.clock_map.ClockMap.{ClockMap}
 use Rattle.stream_meaning.specs.Instants.{Setting}
-use Rattle.clock_engine.specs.declared.engine.ClockEngine.{ClockEngine}
+use Rattle.clock_ticks.specs.declared.engine.ClockEngine.{ClockEngine}
 use Rattle.clock_threads.specs.declared.task.Task.{Task}
 use Rattle.clock_threads.specs.declared.wires.Wire.{Wire}
 use Rattle.buffer_sides.specs.Logs.{told}

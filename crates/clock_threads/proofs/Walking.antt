@@ -9,7 +9,7 @@ use Rattle.stream_meaning.specs.Instants.{Setting, with_rest}
 use Rattle.stream_meaning.specs.Sinks.{tick_bytes, ticks_bytes}
 use Rattle.stream_meaning.specs.Calls.{joined_upto, calls_of_tick, answers_in, after_calls}
 use Rattle.node_states.specs.Ticks.{HasTicked, HasStopped}
-use Rattle.clock_threads.specs.Histories.{History, answers_by, Agree, AreTicks, HasGone, HasGonePart}
+use Rattle.clock_threads.specs.TickCalls.{TickCalls, answers_by, Agree, AreTicks, HasGone, HasGonePart}
 
 pub answers-append : (b : ℕ) (cs ds : List Call) → answers_in b (cs ++ ds) ≡ answers_in b cs ++ answers_in b ds
 answers-append b [] ds = refl
@@ -24,35 +24,35 @@ pub joined_alike : (f g : ℕ → List Call) (n : ℕ) → ((i : ℕ) → i < n 
 joined_alike f g zero same = refl
 joined_alike f g (suc n) same = (λ i. joined_alike f g n (λ j h. same j (omega (arith, h))) i ++ same n (omega arith) i)
 
-pub answers_alike : (h h' : History) (t n : ℕ) → Agree t h h' → n ≤ t → answers_by h' n ≡ answers_by h n
+pub answers_alike : (h h' : TickCalls) (t n : ℕ) → Agree t h h' → n ≤ t → answers_by h' n ≡ answers_by h n
 answers_alike h h' t n agree below = ap (λ l. λ (b : ℕ). answers_in b l) (joined_alike h'.calls h.calls n (λ i less. agree.calls i (omega (arith, less, below))))
 
-pub agree_none : (t : ℕ) (h : History) → Agree t h h
+pub agree_none : (t : ℕ) (h : TickCalls) → Agree t h h
 agree_none t h = record { calls = λ i less. refl; accepted = λ i less. refl }
 
-pub agree_then : (t n : ℕ) (h k l : History) → t ≤ n → Agree t h k → Agree n k l → Agree t h l
+pub agree_then : (t n : ℕ) (h k l : TickCalls) → t ≤ n → Agree t h k → Agree n k l → Agree t h l
 agree_then t n h k l below a b = record {
   calls = λ i less. b.calls i (omega (arith, less, below)) ∙ a.calls i less;
   accepted = λ i less. b.accepted i (omega (arith, less, below)) ∙ a.accepted i less;
 }
 
 -- the history with the calls of tick t
-abbrev pub extended : History → ℕ → List Call → (ℕ → Bool) → History
+abbrev pub extended : TickCalls → ℕ → List Call → (ℕ → Bool) → TickCalls
 extended h t more accepted = record {
   calls = λ i. if nat_lt i t then h.calls i else more;
   accepted = λ i. if nat_lt i t then h.accepted i else accepted;
 }
 
-pub extended_below : (h : History) (t : ℕ) (more : List Call) (accepted : ℕ → Bool) → Agree t h (extended h t more accepted)
+pub extended_below : (h : TickCalls) (t : ℕ) (more : List Call) (accepted : ℕ → Bool) → Agree t h (extended h t more accepted)
 extended_below h t more accepted = record {
   calls = λ i less. ap (λ b. if b then h.calls i else more) (lt-ltb i t less);
   accepted = λ i less. ap (λ b. if b then h.accepted i else accepted) (lt-ltb i t less);
 }
 
-pub extended_at : (h : History) (t : ℕ) (more : List Call) (accepted : ℕ → Bool) → (extended h t more accepted).calls t ≡ more
+pub extended_at : (h : TickCalls) (t : ℕ) (more : List Call) (accepted : ℕ → Bool) → (extended h t more accepted).calls t ≡ more
 extended_at h t more accepted = ap (λ b. if b then h.calls t else more) (le-ltb t t (omega arith))
 
-extended_accepts : (h : History) (t : ℕ) (more : List Call) (accepted : ℕ → Bool) → (extended h t more accepted).accepted t ≡ accepted
+extended_accepts : (h : TickCalls) (t : ℕ) (more : List Call) (accepted : ℕ → Bool) → (extended h t more accepted).accepted t ≡ accepted
 extended_accepts h t more accepted = ap (λ b. if b then h.accepted t else accepted) (le-ltb t t (omega arith))
 
 pub grown_twice : (x y : List ℕ) (h : Option (List ℕ)) → grown y (grown x h) ≡ grown (x ++ y) h
@@ -66,8 +66,8 @@ later : (setting : Setting) (A : ℕ → List Answer) (more : List Call) (rest :
 later setting A more rest = ap (λ (f : ℕ → List Answer). record { plan = setting.plan; library = setting.library; clocks = setting.clocks; start = setting.start; answers = f }) (fun_ext (λ b. sym (append_assoc (A b) (answers_in b more) (rest b))))
 
 module _ {E : Type 0} (setting : Setting) (stands : E → ℕ → (ℕ → List Answer) → Type 0) (held : E → ℕ → Option (List ℕ)) where
-  module _ (m t : ℕ) (h : History) (first : ℕ → Option (List ℕ)) (e e' : E) (gone : HasGone setting stands held m t h first e) where
-    ticks_kept : (h' : History) → Agree t h h' → AreTicks setting m t h'
+  module _ (m t : ℕ) (h : TickCalls) (first : ℕ → Option (List ℕ)) (e e' : E) (gone : HasGone setting stands held m t h first e) where
+    ticks_kept : (h' : TickCalls) → Agree t h h' → AreTicks setting m t h'
     ticks_kept h' agree i less rest =
         agree.calls i less ∙ gone.ticks i less rest
         ∙ (λ j. calls_of_tick (with_rest setting (sym (answers_alike h h' t (suc i) agree (omega (arith, less))) j) rest) (sym (agree.accepted i less) j) m i)

@@ -12,7 +12,7 @@ use Rattle.stream_meaning.specs.Settings.{IsSetting}
 use Rattle.run_records.specs.Buffers.{feeder, main_of, reader}
 use Rattle.run_records.proofs.Alone.{feeder_runs}
 use Rattle.buffer_sides.specs.Sides.{AreFeeders, AreReaders}
-use Rattle.clock_engine.specs.declared.engine.ClockEngine.{ClockEngine}
+use Rattle.clock_ticks.specs.declared.engine.ClockEngine.{ClockEngine}
 use Rattle.clock_threads.specs.declared.wires.Wire.{Wire}
 use Rattle.clock_threads.specs.Wires.{no_wire, wire_at}
 use Rattle.clock_threads.specs.Lawful.{AreWires, IsWireOf}

@@ -1,11 +1,11 @@
 -- A write that failed, seen from before.
 use Rattle.std.proofs.Common.{◌≡◌, ℕ, Option, Some, List, slice_get, ap, ◌∙◌, sym}
 use Rattle.clock_outputs.proofs.Since.{rose_since}
-use Rattle.clock_engine.specs.declared.engine.ClockEngine.{ClockEngine}
-use Rattle.clock_engine.specs.declared.fault.TickFault.{TickFault}
-use Rattle.clock_engine.specs.declared.fault.TickFault.TheVariants.{Write}
-use Rattle.clock_engine.specs.Engines.{outputs_of}
-use Rattle.clock_engine.specs.Ticks.{IsWriteFault}
+use Rattle.clock_ticks.specs.declared.engine.ClockEngine.{ClockEngine}
+use Rattle.clock_ticks.specs.declared.fault.TickFault.{TickFault}
+use Rattle.clock_ticks.specs.declared.fault.TickFault.TheVariants.{Write}
+use Rattle.clock_ticks.specs.Engines.{outputs_of}
+use Rattle.clock_ticks.specs.Ticks.{IsWriteFault}
 use Rattle.clock_threads.specs.TaskRuns.{IsSameClock, IsWriteOf}
 
 sink_is : (sink other : ℕ) → ◌≡◌ {A = TickFault} (Write sink) (Write other) → other ≡ sink

@@ -2,14 +2,14 @@
 use Rattle.std.specs.Prelude.{◌≡◌, ◌≢◌, ◌<◌, ◌≤◌, ℕ, Bool, Option, List, [], ◌++◌, length, nat_lt, if◌then◌else◌}
 use Rattle.std.specs.List.{flat_map}
 use Rattle.frame_core.specs.declared.cell.Cell.{Cell}
-use Rattle.frame_core.specs.Legal.{IsRun}
+use Rattle.frame_core.specs.Legal.{IsHistory}
 use Rattle.frame_core.specs.Calls.{Call, takes_of}
 use Rattle.buffer_ends.specs.Local.{on}
 use Rattle.stream_meaning.specs.Instants.{Setting, answered}
 use Rattle.stream_meaning.specs.Calls.{joined_upto, calls_of_tick}
 use Rattle.run_records.specs.Buffers.{feeder, reader}
 use Rattle.run_records.specs.Records.{Follows, Window, capacity_of, start}
-use Rattle.clock_threads.specs.Histories.{History}
+use Rattle.clock_threads.specs.TickCalls.{TickCalls}
 use Rattle.clock_threads.specs.declared.wires.Wire.{Wire}
 use Rattle.clock_threads.specs.Wires.{wire_at}
 use Rattle.clock_threads.specs.Records.{windows_upto}
@@ -28,16 +28,16 @@ abbrev pub and_rest : Answers → Answers → Answers
 and_rest answers rest b = answers b ++ rest b
 
 -- what was got in the first so many ticks
-abbrev pub got_by : History → ℕ → Answers
-got_by history t b = takes_of b (joined_upto history.calls t)
+abbrev pub got_by : TickCalls → ℕ → Answers
+got_by tick_calls t b = takes_of b (joined_upto tick_calls.calls t)
 
 -- what the windows of each buffer got
 abbrev pub answers_of : (ℕ → List Window) → Answers
 answers_of windows b = flat_map (λ (w : Window). w.1) (windows b)
 
 -- the calls of the ticks of each clock, where the takes get what the windows got
-abbrev pub histories_of : Meaning → (ℕ → List Window) → (accepted : ℕ → ℕ → ℕ → Bool) → ℕ → History
-histories_of meant windows accepted m = record {
+abbrev pub clock_calls_of : Meaning → (ℕ → List Window) → (accepted : ℕ → ℕ → ℕ → Bool) → ℕ → TickCalls
+clock_calls_of meant windows accepted m = record {
   calls = λ t. meant (answers_of windows) (accepted m t) m t;
   accepted = accepted m;
 }
@@ -45,14 +45,14 @@ histories_of meant windows accepted m = record {
 -- A lawful record of N ticks of each clock, in so many windows of W ticks, by the wires of the buffers: `windows b` are the windows of
 -- buffer b, which hold the puts and the takes of these ticks; each buffer's windows are one history; and those of a buffer with both
 -- ends in one clock are in the order in which this clock makes its calls.
-pub record IsWiredRun (meant : Meaning) (wires : List Wire) (W N count : ℕ) (windows : ℕ → List Window) : Type 0 where
+pub record IsWiredHistory (meant : Meaning) (wires : List Wire) (W N count : ℕ) (windows : ℕ → List Window) : Type 0 where
   pub accepted : (m t b : ℕ) → Bool
   pub whole : start W N count ≡ N
   pub tight : (i : ℕ) → i < count → start W N i < N
-  pub are : (b : ℕ) → b < length wires → windows b ≡ windows_upto (wire_at wires b) (histories_of meant windows accepted) b W N count
-  pub legal : (b : ℕ) → b < length wires → (rest : List (List Cell)) × IsRun (wire_at wires b).capacity [] (windows b) rest
+  pub are : (b : ℕ) → b < length wires → windows b ≡ windows_upto (wire_at wires b) (clock_calls_of meant windows accepted) b W N count
+  pub legal : (b : ℕ) → b < length wires → (rest : List (List Cell)) × IsHistory (wire_at wires b).capacity [] (windows b) rest
   pub in_order : (b : ℕ) → b < length wires → (wire_at wires b).from ≡ (wire_at wires b).to
-      → (rest : List (List Cell)) × Follows (wire_at wires b).capacity [] (on b (joined_upto (histories_of meant windows accepted (wire_at wires b).from).calls N)) rest
+      → (rest : List (List Cell)) × Follows (wire_at wires b).capacity [] (on b (joined_upto (clock_calls_of meant windows accepted (wire_at wires b).from).calls N)) rest
   pub others : (b : ℕ) → length wires ≤ b → answers_of windows b ≡ []
 
 -- a running clock takes only of the buffers whose taking ends it has

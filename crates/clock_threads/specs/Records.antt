@@ -1,35 +1,35 @@
 -- What the clocks have done, window by window.
 use Rattle.std.specs.Prelude.{◌≡◌, ◌≢◌, ◌⊎◌, ◌<◌, ◌+◌, ◌-◌, ◌^◌, ℕ, zero, suc, Option, List, [], ◌∷◌, ◌++◌, length, map, slice_index_or, slice_set}
 use Rattle.frame_core.specs.declared.cell.Cell.{Cell}
-use Rattle.frame_core.specs.Legal.{IsRun}
+use Rattle.frame_core.specs.Legal.{IsHistory}
 use Rattle.frame_core.specs.Calls.{Call, takes_of, puts_to}
 use Rattle.buffer_ends.specs.Sides.{Side}
 use Rattle.buffer_ends.specs.Local.{Answers, LocalBuffer, closed, no_answers}
 use Rattle.buffer_ends.specs.Ends.{EndsStand, ListsStand, Has}
 use Rattle.buffer_ends.specs.declared.thread_taps.ThreadTaps.{ThreadTaps}
-use Rattle.clock_engine.specs.Ticks.{HaveTicksRoom}
-use Rattle.clock_engine.specs.Pieces.{GotPieces}
+use Rattle.clock_ticks.specs.Ticks.{HaveTicksRoom}
+use Rattle.clock_ticks.specs.Pieces.{GotPieces}
 use Rattle.run_records.specs.Records.{Window, start}
 use Rattle.buffer_sides.specs.Logs.{told}
 use Rattle.clock_threads.specs.declared.task.Task.{Task}
-use Rattle.clock_threads.specs.Histories.{History, joined_from}
+use Rattle.clock_threads.specs.TickCalls.{TickCalls, joined_from}
 use Rattle.stream_meaning.specs.Calls.{joined_upto}
-use Rattle.clock_engine.specs.Engines.{held_of}
+use Rattle.clock_ticks.specs.Engines.{held_of}
 use Rattle.clock_threads.specs.TaskRuns.{EngineGone, IsSameClock}
 use Rattle.clock_threads.specs.declared.wires.Wire.{Wire}
 use Rattle.clock_threads.specs.Wires.{wire_at, kept}
 use Rattle.clock_threads.specs.Ends.{puts_of as put_ends, takes_of as take_ends, JoinOpen}
 
 -- the puts and the takes of a buffer in so many ticks from one on
-abbrev pub window_of : Wire → (ℕ → History) → (b from count : ℕ) → Window
-window_of wire histories b from count =
-    (puts_to b (joined_from (histories wire.from).calls from count), takes_of b (joined_from (histories wire.to).calls from count))
+abbrev pub window_of : Wire → (ℕ → TickCalls) → (b from count : ℕ) → Window
+window_of wire clock_calls b from count =
+    (puts_to b (joined_from (clock_calls wire.from).calls from count), takes_of b (joined_from (clock_calls wire.to).calls from count))
 
 -- the first so many windows of a buffer
-abbrev pub windows_upto : Wire → (ℕ → History) → (b W N count : ℕ) → List Window
-windows_upto wire histories b W N zero = []
-windows_upto wire histories b W N (suc j) =
-    windows_upto wire histories b W N j ++ window_of wire histories b (start W N j) (start W N (suc j) - start W N j) ∷ []
+abbrev pub windows_upto : Wire → (ℕ → TickCalls) → (b W N count : ℕ) → List Window
+windows_upto wire clock_calls b W N zero = []
+windows_upto wire clock_calls b W N (suc j) =
+    windows_upto wire clock_calls b W N j ++ window_of wire clock_calls b (start W N j) (start W N (suc j) - start W N j) ∷ []
 
 -- each end of task k is that of a buffer which joins clock k to another one
 pub record IsWired {S R : Type 0} (wires : List Wire) (k : ℕ) (task : Task S (ThreadTaps R)) : Type 0 where
@@ -40,21 +40,21 @@ pub record IsWired {S R : Type 0} (wires : List Wire) (k : ℕ) (task : Task S (
 
 -- clock k has made so many of N ticks, each of its sinks got a piece for each of them, and its taps stand for the calls on the buffers
 -- that are its own alone
-pub record ClockGoing {S R : Type 0} (held name : S → Option (List ℕ)) (room : S → Option ℕ) (faults : S → ℕ) (appends : S → Option ℕ) (wires : List Wire) (N t k : ℕ) (history : History)
+pub record ClockGoing {S R : Type 0} (held name : S → Option (List ℕ)) (room : S → Option ℕ) (faults : S → ℕ) (appends : S → Option ℕ) (wires : List Wire) (N t k : ℕ) (tick_calls : TickCalls)
     (first now : Task S (ThreadTaps R)) : Type 0 where
-  pub gone : EngineGone held t history (held_of held first.engine) now.engine
+  pub gone : EngineGone held t tick_calls (held_of held first.engine) now.engine
   pub same : IsSameClock name faults first.engine now.engine
   pub pieces : GotPieces appends t first.engine.outs now.engine.outs
   pub rooms : (n : ℕ) → t + n ≡ N → HaveTicksRoom room now.engine.parts now.engine.outs n
   pub wired : IsWired wires k now
-  pub stand : EndsStand (put_ends now) (take_ends now) now.taps.local (kept wires k (joined_upto history.calls t))
+  pub stand : EndsStand (put_ends now) (take_ends now) now.taps.local (kept wires k (joined_upto tick_calls.calls t))
   pub lists : length now.taps.local ≡ length wires
   pub capacities : (b : ℕ) (d : LocalBuffer) → b < length wires → (slice_index_or now.taps.local b d).capacity ≡ (wire_at wires b).capacity
 
 -- the windows of a buffer between clocks so far are one history, and both ends open the next one
 pub record JoinGoing {S R : Type 0} (wire : Wire) (b : ℕ) (windows : List Window) (tasks : List (Task S (ThreadTaps R))) : Type 0 where
   pub chunks : List (List Cell)
-  pub run : IsRun wire.capacity [] windows chunks
+  pub run : IsHistory wire.capacity [] windows chunks
   pub opens : JoinOpen wire b chunks tasks
 
 -- a list with the answers of these windows, each closed
@@ -71,12 +71,12 @@ pub record LogsGoing {S R : Type 0} (wires : List Wire) (windows : ℕ → List 
 -- so many windows were made and closed
 pub record Going {S R : Type 0} (held name : S → Option (List ℕ)) (room : S → Option ℕ) (faults : S → ℕ) (appends : S → Option ℕ) (wires : List Wire) (W N j : ℕ)
     (first now : List (Task S (ThreadTaps R))) (logs : List (List Answers)) (d : Task S (ThreadTaps R)) : Type 0 where
-  pub histories : ℕ → History
+  pub clock_calls : ℕ → TickCalls
   pub many : length now ≡ length first
-  pub clocks : (k : ℕ) → k < length first → ClockGoing held name room faults appends wires N (start W N j) k (histories k) (slice_index_or first k d) (slice_index_or now k d)
+  pub clocks : (k : ℕ) → k < length first → ClockGoing held name room faults appends wires N (start W N j) k (clock_calls k) (slice_index_or first k d) (slice_index_or now k d)
   pub joins : (b : ℕ) → b < length wires → (wire_at wires b).from ≢ (wire_at wires b).to
-      → JoinGoing (wire_at wires b) b (windows_upto (wire_at wires b) histories b W N j) now
-  pub logged : LogsGoing wires (λ b. windows_upto (wire_at wires b) histories b W N j) now logs d
+      → JoinGoing (wire_at wires b) b (windows_upto (wire_at wires b) clock_calls b W N j) now
+  pub logged : LogsGoing wires (λ b. windows_upto (wire_at wires b) clock_calls b W N j) now logs d
 
 -- the list of a buffer was closed
 pub record ListClosed {S R : Type 0} (b : ℕ) (old new : Task S (ThreadTaps R)) : Type 0 where

@@ -2,13 +2,13 @@
 use Rattle.std.specs.Prelude.{◌≡◌, ◌<◌, ◌≤◌, ◌+◌, Option, Some, None, List, ◌++◌, ℕ, suc, length, slice_get, true}
 use Rattle.frame_core.specs.Calls.{Call, Answer}
 use Rattle.clock_outputs.specs.Appends.{AreKept, NoneFell, RoseAt}
-use Rattle.clock_engine.specs.declared.engine.ClockEngine.{ClockEngine}
-use Rattle.clock_engine.specs.declared.fault.TickFault.TheVariants.{Memory as OutOfMemory, Write}
-use Rattle.clock_engine.specs.Engines.{EngineStands, EngineStopped, held_of, outputs_of, setting_of}
-use Rattle.clock_engine.specs.Ticks.{HaveTicksRoom}
-use Rattle.clock_engine.specs.Pieces.{GotBetween, GotPieces}
+use Rattle.clock_ticks.specs.declared.engine.ClockEngine.{ClockEngine}
+use Rattle.clock_ticks.specs.declared.fault.TickFault.TheVariants.{Memory as OutOfMemory, Write}
+use Rattle.clock_ticks.specs.Engines.{EngineStands, EngineStopped, held_of, outputs_of, setting_of}
+use Rattle.clock_ticks.specs.Ticks.{HaveTicksRoom}
+use Rattle.clock_ticks.specs.Pieces.{GotBetween, GotPieces}
 use Rattle.clock_threads.specs.declared.task.Task.{Task}
-use Rattle.clock_threads.specs.Histories.{History, joined_from, Agree, HasGone, HasGonePart}
+use Rattle.clock_threads.specs.TickCalls.{TickCalls, joined_from, Agree, HasGone, HasGonePart}
 
 abbrev pub stands_for : {S : Type 0} → ClockEngine S → ℕ → (ℕ → List Answer) → Type 0
 stands_for e t answers = EngineStands e.parts t answers
@@ -45,37 +45,37 @@ pub record CanRun {S T : Type 0} (room : S → Option ℕ) (buffers : T → ℕ)
   pub few : x.engine.parts.ticks + count ≤ 1000000000
   pub rooms : HaveTicksRoom room x.engine.parts x.engine.outs count
 
-abbrev pub EngineGone : {S : Type 0} → (S → Option (List ℕ)) → (t : ℕ) → History → (ℕ → Option (List ℕ)) → ClockEngine S → Type 0
-EngineGone held t history first e = HasGone (setting_of e.parts) stands_for (held_of held) e.parts.clock t history first e
+abbrev pub EngineGone : {S : Type 0} → (S → Option (List ℕ)) → (t : ℕ) → TickCalls → (ℕ → Option (List ℕ)) → ClockEngine S → Type 0
+EngineGone held t tick_calls first e = HasGone (setting_of e.parts) stands_for (held_of held) e.parts.clock t tick_calls first e
 
-abbrev pub EngineGonePart : {S : Type 0} → (S → Option (List ℕ)) → (t : ℕ) → History → (ℕ → Option (List ℕ)) → ClockEngine S → Type 0
-EngineGonePart held t history first e = HasGonePart (setting_of e.parts) stopped_for (held_of held) e.parts.clock t history first e
+abbrev pub EngineGonePart : {S : Type 0} → (S → Option (List ℕ)) → (t : ℕ) → TickCalls → (ℕ → Option (List ℕ)) → ClockEngine S → Type 0
+EngineGonePart held t tick_calls first e = HasGonePart (setting_of e.parts) stopped_for (held_of held) e.parts.clock t tick_calls first e
 
 -- it made all ticks, and each sink got a piece for each of them
-pub record WentOn {S T : Type 0} (held : S → Option (List ℕ)) (appends : S → Option ℕ) (stands : T → List Call → Type 0) (count t : ℕ) (history : History) (first : ℕ → Option (List ℕ))
+pub record WentOn {S T : Type 0} (held : S → Option (List ℕ)) (appends : S → Option ℕ) (stands : T → List Call → Type 0) (count t : ℕ) (tick_calls : TickCalls) (first : ℕ → Option (List ℕ))
     (old new : Task S T) : Type 0 where
-  pub after : History
-  pub agree : Agree t history after
+  pub after : TickCalls
+  pub agree : Agree t tick_calls after
   pub gone : EngineGone held (t + count) after first new.engine
   pub pieces : GotPieces appends count old.engine.outs new.engine.outs
   pub taps : (calls : List Call) → stands old.taps calls → stands new.taps (calls ++ joined_from after.calls t count)
 
 -- it stopped in a tick of this window, after these calls; each sink got a piece for each tick before it, and at most one in it
-pub record Halted {S T : Type 0} (held : S → Option (List ℕ)) (appends : S → Option ℕ) (stands : T → List Call → Type 0) (count t : ℕ) (history : History) (first : ℕ → Option (List ℕ))
+pub record Halted {S T : Type 0} (held : S → Option (List ℕ)) (appends : S → Option ℕ) (stands : T → List Call → Type 0) (count t : ℕ) (tick_calls : TickCalls) (first : ℕ → Option (List ℕ))
     (old new : Task S T) : Type 0 where
   pub made : ℕ
   pub fewer : made < count
-  pub after : History
-  pub agree : Agree t history after
+  pub after : TickCalls
+  pub agree : Agree t tick_calls after
   pub part : EngineGonePart held (t + made) after first new.engine
   pub pieces : GotBetween appends made (suc made) old.engine.outs new.engine.outs
   pub taps : (calls : List Call) → stands old.taps calls → stands new.taps (calls ++ (joined_from after.calls t made ++ part.made))
 
 pub record RanTask {S T : Type 0} (held : S → Option (List ℕ)) (appends : S → Option ℕ) (stands : T → List Call → Type 0) (count : ℕ) (old new : Task S T) : Type 0 where
-  pub on : (t : ℕ) (history : History) (first : ℕ → Option (List ℕ)) → EngineGone held t history first old.engine → new.engine.parts.stopped ≡ None
-      → WentOn held appends stands count t history first old new
-  pub halted : (t : ℕ) (history : History) (first : ℕ → Option (List ℕ)) → EngineGone held t history first old.engine → (new.engine.parts.stopped ≡ None → ⊥)
-      → Halted held appends stands count t history first old new
+  pub on : (t : ℕ) (tick_calls : TickCalls) (first : ℕ → Option (List ℕ)) → EngineGone held t tick_calls first old.engine → new.engine.parts.stopped ≡ None
+      → WentOn held appends stands count t tick_calls first old new
+  pub halted : (t : ℕ) (tick_calls : TickCalls) (first : ℕ → Option (List ℕ)) → EngineGone held t tick_calls first old.engine → (new.engine.parts.stopped ≡ None → ⊥)
+      → Halted held appends stands count t tick_calls first old new
 
 pub record WasRun {S T : Type 0} (held name : S → Option (List ℕ)) (room : S → Option ℕ) (faults : S → ℕ) (appends : S → Option ℕ) (stands : T → List Call → Type 0) (buffers : T → ℕ) (same : T → T → Type 0)
     (count : ℕ) (old new : Task S T) : Type 0 where

@@ -13,11 +13,11 @@ use Rattle.stream_meaning.specs.Settings.{IsSetting}
 use Rattle.stream_meaning.specs.Sinks.{ticks_bytes, IsOutput}
 use Rattle.run_records.specs.Records.{AreWindowsBegun, IsLawful, Run, setting_in, setting_then}
 use Rattle.clock_outputs.specs.Appends.{RoseAt}
-use Rattle.clock_engine.specs.Engines.{EngineStands, outputs_of, setting_of, held_of}
-use Rattle.clock_engine.specs.Ticks.{HaveTicksRoom}
-use Rattle.clock_engine.specs.Pieces.{GotBetween, GotPieces}
-use Rattle.clock_engine.specs.declared.engine.ClockEngine.{ClockEngine}
-use Rattle.clock_engine.specs.declared.fault.TickFault.TheVariants.{Write as Refused}
+use Rattle.clock_ticks.specs.Engines.{EngineStands, outputs_of, setting_of, held_of}
+use Rattle.clock_ticks.specs.Ticks.{HaveTicksRoom}
+use Rattle.clock_ticks.specs.Pieces.{GotBetween, GotPieces}
+use Rattle.clock_ticks.specs.declared.engine.ClockEngine.{ClockEngine}
+use Rattle.clock_ticks.specs.declared.fault.TickFault.TheVariants.{Write as Refused}
 use Rattle.clock_threads.specs.TaskRuns.{IsSameClock}
 use Rattle.clock_threads.specs.WindowRuns.{StandsOrStopped}
 use Rattle.buffer_sides.specs.Logs.{told}

@@ -3,7 +3,7 @@ use Rattle.std.specs.Prelude.{List, [], map, refl, ⊤}
 use Rattle.std.proofs.Common.{arith}
 use denote.RawPtr.{block_ptr}
 use Rattle.buffer_ends.specs.declared.thread_taps.ThreadTaps.{ThreadTaps}
-use Rattle.clock_engine.specs.declared.engine.ClockEngine.{ClockEngine}
+use Rattle.clock_ticks.specs.declared.engine.ClockEngine.{ClockEngine}
 use Rattle.clock_threads.specs.declared.task.Task.{Task}
 use Rattle.clock_threads.specs.UnbufferedTicks.{with_taps}
 

@@ -1,7 +1,7 @@
 -- Engines over a plan without buffers: each stands for a task with taps of no buffer.
 use Rattle.std.specs.Prelude.{ℕ, Option, List, ⊤}
 use Rattle.frame_core.specs.Calls.{Call}
-use Rattle.clock_engine.specs.declared.engine.ClockEngine.{ClockEngine}
+use Rattle.clock_ticks.specs.declared.engine.ClockEngine.{ClockEngine}
 use Rattle.clock_threads.specs.declared.task.Task.{Task}
 use Rattle.clock_threads.specs.TaskRuns.{CanRun, WasRun}
 

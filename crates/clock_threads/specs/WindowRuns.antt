@@ -1,20 +1,20 @@
 -- A run of all clocks by threads.
 use Rattle.std.specs.Prelude.{◌≡◌, ◌⊎◌, ◌<◌, ◌≤◌, ◌-◌, ◌^◌, ℕ, suc, Option, Some, None, List, [], ◌∷◌, ◌++◌, length, slice_index_or}
 use Rattle.frame_core.specs.declared.cell.Cell.{Cell}
-use Rattle.frame_core.specs.Legal.{IsRun}
+use Rattle.frame_core.specs.Legal.{IsHistory}
 use Rattle.frame_core.specs.Calls.{Call, takes_of, puts_to, Answer}
 use Rattle.buffer_ends.specs.Local.{Answers, on}
 use Rattle.buffer_ends.specs.declared.run_end.End.{End}
 use Rattle.buffer_ends.specs.declared.run_end.End.TheVariants.{Write, Memory as NoMemory}
 use Rattle.buffer_ends.specs.declared.thread_taps.ThreadTaps.{ThreadTaps}
-use Rattle.clock_engine.specs.declared.fault.TickFault.{TickFault}
-use Rattle.clock_engine.specs.declared.fault.TickFault.TheVariants.{Memory as OutOfMemory, Write as Refused}
+use Rattle.clock_ticks.specs.declared.fault.TickFault.{TickFault}
+use Rattle.clock_ticks.specs.declared.fault.TickFault.TheVariants.{Memory as OutOfMemory, Write as Refused}
 use Rattle.clock_threads.specs.declared.task.Task.{Task}
-use Rattle.clock_threads.specs.Histories.{History, joined_from}
+use Rattle.clock_threads.specs.TickCalls.{TickCalls, joined_from}
 use Rattle.stream_meaning.specs.Calls.{joined_upto}
-use Rattle.clock_engine.specs.declared.engine.ClockEngine.{ClockEngine}
-use Rattle.clock_engine.specs.Engines.{EngineStands, EngineStopped, held_of}
-use Rattle.clock_engine.specs.Pieces.{GotBetween, GotPieces}
+use Rattle.clock_ticks.specs.declared.engine.ClockEngine.{ClockEngine}
+use Rattle.clock_ticks.specs.Engines.{EngineStands, EngineStopped, held_of}
+use Rattle.clock_ticks.specs.Pieces.{GotBetween, GotPieces}
 use Rattle.clock_threads.specs.TaskRuns.{EngineGone, EngineGonePart, IsSameClock, IsWriteOf}
 use Rattle.clock_threads.specs.declared.wires.Wire.{Wire}
 use Rattle.clock_threads.specs.Wires.{wire_at}
@@ -42,16 +42,16 @@ RunDone {S} {R} held name room faults appends wires W N first now logs = (d : Ta
 -- How far a clock came in the window that follows so many: it has made so many ticks, and maybe stopped in the next one, which is still of
 -- that window; since the window began it made these calls; and each of its sinks got a piece for each of the ticks, and at most one more
 -- where it stopped.
-pub record CameTo {S R : Type 0} (held name : S → Option (List ℕ)) (faults : S → ℕ) (appends : S → Option ℕ) (W N closed : ℕ) (history : History) (since : List Call) (first now : Task S (ThreadTaps R)) : Type 0 where
+pub record CameTo {S R : Type 0} (held name : S → Option (List ℕ)) (faults : S → ℕ) (appends : S → Option ℕ) (W N closed : ℕ) (tick_calls : TickCalls) (since : List Call) (first now : Task S (ThreadTaps R)) : Type 0 where
   pub same : IsSameClock name faults first.engine now.engine
   pub ticks : ℕ
   pub least : start W N closed ≤ ticks
   pub pieces : now.engine.parts.stopped ≡ None → GotPieces appends ticks first.engine.outs now.engine.outs
   pub pieces_part : GotBetween appends ticks (suc ticks) first.engine.outs now.engine.outs
-  pub came : ((ticks ≤ start W N (suc closed)) × EngineGone held ticks history (held_of held first.engine) now.engine
-      × (since ≡ joined_from history.calls (start W N closed) (ticks - start W N closed)))
-      ⊎ ((ticks < start W N (suc closed)) × (part : EngineGonePart held ticks history (held_of held first.engine) now.engine)
-      × (since ≡ joined_from history.calls (start W N closed) (ticks - start W N closed) ++ part.made))
+  pub came : ((ticks ≤ start W N (suc closed)) × EngineGone held ticks tick_calls (held_of held first.engine) now.engine
+      × (since ≡ joined_from tick_calls.calls (start W N closed) (ticks - start W N closed)))
+      ⊎ ((ticks < start W N (suc closed)) × (part : EngineGonePart held ticks tick_calls (held_of held first.engine) now.engine)
+      × (since ≡ joined_from tick_calls.calls (start W N closed) (ticks - start W N closed) ++ part.made))
 
 -- an engine that has made so many ticks and tried no other, or stopped in the next one; with these answers before it
 abbrev pub StandsOrStopped : {S : Type 0} → ClockEngine S → (made tried : ℕ) → (answers : ℕ → List Answer) → Type 0
@@ -62,16 +62,16 @@ StandsOrStopped engine made tried answers =
 -- one history, and a clock's calls on a buffer of its own are in order.
 pub record PartAt {S R : Type 0} (held name : S → Option (List ℕ)) (faults : S → ℕ) (appends : S → Option ℕ) (wires : List Wire) (W N : ℕ) (first now : List (Task S (ThreadTaps R))) (d : Task S (ThreadTaps R)) : Type 0 where
   pub closed : ℕ
-  pub histories : ℕ → History
+  pub clock_calls : ℕ → TickCalls
   pub since : ℕ → List Call
   pub many : length now ≡ length first
-  pub clocks : (k : ℕ) → k < length first → CameTo held name faults appends W N closed (histories k) (since k) (slice_index_or first k d) (slice_index_or now k d)
+  pub clocks : (k : ℕ) → k < length first → CameTo held name faults appends W N closed (clock_calls k) (since k) (slice_index_or first k d) (slice_index_or now k d)
   pub ended : ((k : ℕ) (low : k < length first) → ((slice_index_or now k d).engine.parts.stopped ≡ None) × ((clocks k low).ticks ≡ start W N closed))
       ⊎ ((k : ℕ) (low : k < length first) → (slice_index_or now k d).engine.parts.stopped ≡ None → (clocks k low).ticks ≡ start W N (suc closed))
   pub runs : (b : ℕ) → b < length wires → (chunks : List (List Cell))
-      × IsRun (wire_at wires b).capacity [] (windows_upto (wire_at wires b) histories b W N closed ++ (puts_to b (since (wire_at wires b).from), takes_of b (since (wire_at wires b).to)) ∷ []) chunks
+      × IsHistory (wire_at wires b).capacity [] (windows_upto (wire_at wires b) clock_calls b W N closed ++ (puts_to b (since (wire_at wires b).from), takes_of b (since (wire_at wires b).to)) ∷ []) chunks
   pub in_order : (b : ℕ) → b < length wires → (wire_at wires b).from ≡ (wire_at wires b).to → (chunks : List (List Cell))
-      × Follows (wire_at wires b).capacity [] (on b (joined_upto (histories (wire_at wires b).from).calls (start W N closed) ++ since (wire_at wires b).from)) chunks
+      × Follows (wire_at wires b).capacity [] (on b (joined_upto (clock_calls (wire_at wires b).from).calls (start W N closed) ++ since (wire_at wires b).from)) chunks
 
 abbrev pub RunPart : {S R : Type 0} → (held name : S → Option (List ℕ)) → (S → ℕ) → (S → Option ℕ) → List Wire → (W N : ℕ) → (first now : List (Task S (ThreadTaps R))) → Type 0
 RunPart {S} {R} held name faults appends wires W N first now = (d : Task S (ThreadTaps R)) → PartAt held name faults appends wires W N first now d

@@ -7,7 +7,7 @@ use Rattle.buffer_ends.specs.Local.{Answers}
 use Rattle.buffer_ends.specs.declared.thread_taps.ThreadTaps.{ThreadTaps}
 use Rattle.stream_meaning.specs.Instants.{Setting}
 use Rattle.run_records.specs.Records.{Window}
-use Rattle.clock_engine.specs.declared.engine.ClockEngine.{ClockEngine}
+use Rattle.clock_ticks.specs.declared.engine.ClockEngine.{ClockEngine}
 use Rattle.clock_threads.specs.declared.task.Task.{Task}
 use Rattle.clock_threads.specs.declared.wires.Wire.{Wire}
 use Rattle.clock_threads.specs.Wires.{wire_at}

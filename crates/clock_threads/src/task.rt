@@ -2,7 +2,7 @@
 ghost use Rattle.clock_threads.specs.UnbufferedTicks.{with_taps};
 ghost use Rattle.clock_threads.specs.TaskRuns.{CanRun, WasRun};
 
-use clock_engine::ClockEngine;
+use clock_ticks::ClockEngine;
 use frame_core::Taps;
 use liq_base::{Gate, Sink};
 use std::alloc::Global;

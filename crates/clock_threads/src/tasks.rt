@@ -8,7 +8,7 @@ use crate::logs::take_logs;
 use crate::task::Task;
 use crate::wires::Wire;
 use buffer_ends::{BufferLog, LocalTaps, ThreadTaps};
-use clock_engine::ClockEngine;
+use clock_ticks::ClockEngine;
 use liq_base::Memory;
 use plan_core::Plan;
 use std::alloc::Global;

@@ -10,7 +10,7 @@ ghost use Rattle.clock_threads.specs.Unbuffered.{AreUnbuffered};
 use crate::unbuffered_windows::run_unbuffered_windows;
 use crate::wired::ended;
 use buffer_ends::RunEnd;
-use clock_engine::ClockEngine;
+use clock_ticks::ClockEngine;
 use liq_base::{Gate, Sink};
 use std::alloc::Global;
 use std::thread::Threads;

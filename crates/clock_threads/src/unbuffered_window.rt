@@ -3,7 +3,7 @@ ghost use Rattle.std.specs.Prelude.{◌<◌, ℕ, All, length, slice_index_or};
 ghost use Rattle.clock_threads.specs.UnbufferedTicks.{CanRunUnbuffered, WasRunUnbuffered};
 
 use crate::task::run_ticks;
-use clock_engine::ClockEngine;
+use clock_ticks::ClockEngine;
 use frame_core::{Chunk, Gave, Taps};
 use liq_base::{Gate, Memory, Sink};
 use std::alloc::Global;

@@ -7,7 +7,7 @@ ghost use Rattle.clock_threads.specs.WindowRuns.{IsReady, IsToldByLowest, IsWrit
 use crate::unbuffered_window::run_unbuffered_window;
 use crate::windows::end_of;
 use buffer_ends::End;
-use clock_engine::ClockEngine;
+use clock_ticks::ClockEngine;
 use liq_base::{Gate, Sink};
 use std::alloc::Global;
 use std::thread::Threads;

@@ -11,7 +11,7 @@ use crate::task::Task;
 use crate::window::run_window;
 use crate::wires::Wire;
 use buffer_ends::{BufferLog, End, ThreadTaps};
-use clock_engine::TickFault;
+use clock_ticks::TickFault;
 use liq_base::{Gate, Memory, Sink};
 use std::alloc::Global;
 use std::sync::Wait;

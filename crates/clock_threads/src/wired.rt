@@ -19,7 +19,7 @@ use crate::windows::run_windows;
 use crate::wires::Wire;
 use buffer_ends::{BufferLog, End, RunEnd, ThreadTaps};
 use buffer_queue::{BufferQueue, PutPass, TakePass};
-use clock_engine::ClockEngine;
+use clock_ticks::ClockEngine;
 use liq_base::{Gate, Memory, Sink};
 use plan_core::Plan;
 use std::alloc::Global;

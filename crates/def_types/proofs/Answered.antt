@@ -15,13 +15,13 @@ use Rattle.type_terms.specs.Term.{Term, source_term, variable}
 use Rattle.type_terms.specs.declared.ty.KindTerm.{KindTerm}
 use Rattle.typing_rules.specs.Scripts.{Targets}
 use Rattle.typing_rules.specs.Typing.{token_of}
-use Rattle.type_schemes.specs.Schemes.{AreAmong}
+use Rattle.general_types.specs.Schemes.{AreAmong}
 use Rattle.type_steps.specs.Environment.{AreKindsOver, AreTypesOver, AreUsesOver, Env, Found, IsEnvOver, Known}
 use Rattle.type_steps.specs.Flow.{IsTypeOf}
-use Rattle.type_scope.specs.Seen.{IsSeen, env_of, founds, types_seen}
-use Rattle.type_scope.specs.declared.environment.FoundUse.{FoundUse}
-use Rattle.type_scope.specs.declared.environment.Names.{Names}
-use Rattle.type_scope.specs.declared.environment.TypedName.{TypedName}
+use Rattle.name_types.specs.Seen.{IsSeen, env_of, founds, types_seen}
+use Rattle.name_types.specs.declared.environment.FoundUse.{FoundUse}
+use Rattle.name_types.specs.declared.environment.Names.{Names}
+use Rattle.name_types.specs.declared.environment.TypedName.{TypedName}
 use Rattle.type_steps.specs.Defs.{outside}
 use Rattle.def_types.specs.PartsOf.{AreVars, HasNoDef, HaveNoParams, InfersDef, InfersInners, InfersParams, IsParamOf, with_inner}
 use Rattle.def_types.specs.Steps.{AreTypedParams, HasNoBody, InfersBody, IsBodyOf, vars_named}

@@ -4,11 +4,11 @@ use Rattle.std.specs.Borrow.{Bor}
 use Rattle.type_terms.specs.Table.{Table}
 use Rattle.type_terms.specs.Term.{Term}
 use Rattle.type_steps.specs.Environment.{AreTypesOver, Env}
-use Rattle.type_scope.specs.Seen.{DefIs, IsSeen, def_seen, env_of, types_seen}
-use Rattle.type_scope.specs.declared.environment.FoundUse.{FoundUse}
-use Rattle.type_scope.specs.declared.environment.KnownDef.{KnownDef}
-use Rattle.type_scope.specs.declared.environment.Names.{Names}
-use Rattle.type_scope.specs.declared.environment.TypedName.{TypedName}
+use Rattle.name_types.specs.Seen.{DefIs, IsSeen, def_seen, env_of, types_seen}
+use Rattle.name_types.specs.declared.environment.FoundUse.{FoundUse}
+use Rattle.name_types.specs.declared.environment.KnownDef.{KnownDef}
+use Rattle.name_types.specs.declared.environment.Names.{Names}
+use Rattle.name_types.specs.declared.environment.TypedName.{TypedName}
 use Rattle.def_types.specs.PartsOf.{with_inner}
 
 def_behind : (s : Table) (env : Env) (us : List (ℕ × Term)) (t : ℕ) (o : Option KnownDef) → DefIs s env t o → DefIs s (with_inner env us) t o

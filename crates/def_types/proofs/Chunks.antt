@@ -2,11 +2,11 @@
 use Rattle.std.proofs.Common.{◌≡◌, ◌∙◌, sym, ap, subst, refl, arith, ℕ, zero, suc, ◌+◌, ◌<◌, ◌≤◌, length, List, [], ◌∷◌, ◌++◌, map, take, drop, get_or, append_assoc, min}
 use Rattle.std.proofs.lemmas.List.{append-nil, map-append, take_more}
 use Rattle.type_terms.specs.declared.ty.KindTerm.{KindTerm}
-use Rattle.type_schemes.specs.declared.general.TextKind.{TextKind}
+use Rattle.general_types.specs.declared.general.TextKind.{TextKind}
 use Rattle.type_steps.specs.Environment.{Found, TextUse}
-use Rattle.type_scope.specs.Seen.{found, founds, text_use}
-use Rattle.type_scope.specs.declared.environment.FoundUse.{FoundUse}
-use Rattle.type_scope.specs.declared.environment.TextUse.{TextUse as ATextUse}
+use Rattle.name_types.specs.Seen.{found, founds, text_use}
+use Rattle.name_types.specs.declared.environment.FoundUse.{FoundUse}
+use Rattle.name_types.specs.declared.environment.TextUse.{TextUse as ATextUse}
 use Rattle.def_types.specs.TextUses.{kinds_in, text_uses, use_of}
 
 kinds_append : (fs gs : List Found) → kinds_in (fs ++ gs) ≡ kinds_in fs ++ kinds_in gs

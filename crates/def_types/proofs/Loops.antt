@@ -10,9 +10,9 @@ use Rattle.type_terms.specs.Term.{Term, variable}
 use Rattle.typing_rules.specs.Typing.{token_of}
 use Rattle.type_steps.specs.Environment.{AreTypesOver, AreUsesOver, Found, IsEnvOver}
 use Rattle.type_steps.specs.Flow.{HasNoType, Infers}
-use Rattle.type_scope.specs.Seen.{env_of, types_seen}
-use Rattle.type_scope.specs.declared.environment.Names.{Names}
-use Rattle.type_scope.specs.declared.environment.TypedName.{TypedName}
+use Rattle.name_types.specs.Seen.{env_of, types_seen}
+use Rattle.name_types.specs.declared.environment.Names.{Names}
+use Rattle.name_types.specs.declared.environment.TypedName.{TypedName}
 use Rattle.expression_types.specs.Order.{AreAdded, tokens_used}
 use Rattle.expression_types.proofs.Adding.{next_added, none_added}
 use Rattle.type_steps.specs.Defs.{outside}

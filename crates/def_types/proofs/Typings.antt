@@ -11,12 +11,12 @@ use Rattle.type_terms.specs.Term.{Term, kind_meaning}
 use Rattle.type_terms.specs.declared.ty.KindTerm.{KindTerm}
 use Rattle.typing_rules.specs.Kinds.{counted, kind_at, kinds_of, put}
 use Rattle.typing_rules.specs.Scripts.{Targets}
-use Rattle.type_schemes.specs.declared.general.TextKind.{TextKind}
-use Rattle.type_schemes.specs.declared.general.TextKind.TheVariants.{Open, Outer}
-use Rattle.type_schemes.specs.Generals.{IsGeneral, open_of, settled as settled_text}
-use Rattle.type_schemes.specs.Holding.{AreThere, HeldVariables, IsHeldBy}
+use Rattle.general_types.specs.declared.general.TextKind.{TextKind}
+use Rattle.general_types.specs.declared.general.TextKind.TheVariants.{Open, Outer}
+use Rattle.general_types.specs.Generals.{IsGeneral, open_of, settled as settled_text}
+use Rattle.general_types.specs.Holding.{AreThere, HeldVariables, IsHeldBy}
 use Rattle.type_steps.specs.Environment.{AreKnownOver, Found, Known, TextUse, function}
-use Rattle.type_scope.specs.declared.environment.Names.{Names}
+use Rattle.name_types.specs.declared.environment.Names.{Names}
 use Rattle.expression_types.specs.Order.{AreAdded, Said, said_at, said_of}
 use Rattle.type_steps.specs.Counts.{open_in, opens_in}
 use Rattle.type_steps.specs.Defs.{HasNoTyping, HoldsBefore, IsTypingOf, outside, terms_before}
@@ -24,10 +24,10 @@ use Rattle.def_types.specs.Answers.{AreSaidAs, IsNumberedDef, IsTypedDef, said_i
 use Rattle.def_types.specs.PartsOf.{HasNoDef, InfersDef}
 use Rattle.def_types.specs.Steps.{IsGeneralDef}
 use Rattle.def_types.specs.TextUses.{kinds_in, pending_of, text_uses}
-use Rattle.type_scope.specs.declared.environment.KnownDef.{KnownDef}
+use Rattle.name_types.specs.declared.environment.KnownDef.{KnownDef}
 use Rattle.def_types.specs.declared.parts.TypedParts.{TypedParts}
 use Rattle.def_types.proofs.General.{def_held, def_keeps, def_typing}
-use Rattle.type_schemes.specs.Schemes.{Scheme, scheme_of}
+use Rattle.general_types.specs.Schemes.{Scheme, scheme_of}
 
 pub general_as : (s : Table) (names ts us : List Term) (x y : Term) (ks ls : List KindTerm) (g : Scheme) (text : List TextKind) → ts ≡ us → x ≡ y → ks ≡ ls → IsGeneral s names ts x ks g text → IsGeneral s names us y ls g text
 general_as s names ts us x y ks ls g text e f h i =

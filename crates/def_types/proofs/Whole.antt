@@ -10,8 +10,8 @@ use Rattle.typing_rules.specs.Typing.{DefHas, DefaultsHave, Has, InnersHave, Typ
 use Rattle.type_steps.specs.Environment.{AreFound, Env, Found, IsEnvOver, Known, sight_under, types_under}
 use Rattle.type_steps.specs.Flow.{HasNoType, Infers, Reached}
 use Rattle.type_steps.proofs.Tables.{ends_with, follows_both, reach, seen_over}
-use Rattle.type_scope.specs.Seen.{types_seen}
-use Rattle.type_scope.specs.declared.environment.TypedName.{TypedName}
+use Rattle.name_types.specs.Seen.{types_seen}
+use Rattle.name_types.specs.declared.environment.TypedName.{TypedName}
 use Rattle.type_steps.specs.Defs.{outside}
 use Rattle.def_types.specs.PartsOf.{DefAs, HasNoDef, HaveNoInners, HaveNoParams, InfersDef, InfersInners, InfersParams, VarsAs, TypesAs, types_at, with_inner}
 use Rattle.def_types.specs.Steps.{BodyHas, HasNoBody, InfersBody, ResultAs, param_tokens, tokens_named, vars_named}

@@ -6,13 +6,13 @@ use Rattle.type_terms.specs.Agrees.{Follows}
 use Rattle.type_terms.specs.Ground.{Assignment}
 use Rattle.type_terms.specs.Table.{Solves, Table}
 use Rattle.typing_rules.specs.Scripts.{Targets, def_token, params_of}
-use Rattle.type_schemes.specs.Holding.{HeldVariables}
-use Rattle.type_schemes.specs.Schemes.{scheme_of}
+use Rattle.general_types.specs.Holding.{HeldVariables}
+use Rattle.general_types.specs.Schemes.{scheme_of}
 use Rattle.name_scope.specs.Seen.{seen_parameter}
 use Rattle.type_steps.specs.Environment.{Known, TextUse, function}
-use Rattle.type_scope.specs.Seen.{text_use}
-use Rattle.type_scope.specs.declared.environment.KnownDef.{KnownDef}
-use Rattle.type_scope.specs.declared.environment.Names.{Names}
+use Rattle.name_types.specs.Seen.{text_use}
+use Rattle.name_types.specs.declared.environment.KnownDef.{KnownDef}
+use Rattle.name_types.specs.declared.environment.Names.{Names}
 use Rattle.expression_types.specs.Order.{Said, said_at}
 use Rattle.type_steps.specs.Counts.{scheme_count, text_count}
 use Rattle.type_steps.specs.Defs.{HasNoTyping, HoldsBefore, IsTypingOf, KeepsTypings}

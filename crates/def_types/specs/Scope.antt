@@ -3,10 +3,10 @@ use Rattle.std.specs.Prelude.{ℕ, ◌<◌, List, [], ◌∷◌, length, ⊤}
 use Rattle.type_terms.specs.Table.{Table}
 use Rattle.typing_rules.specs.Scripts.{Targets}
 use Rattle.type_steps.specs.Environment.{AreKnownOver}
-use Rattle.type_scope.specs.Seen.{DefIs, def_seen, newest_first}
-use Rattle.type_scope.specs.declared.environment.Known.{Known as AKnown}
-use Rattle.type_scope.specs.declared.environment.Known.TheVariants as known
-use Rattle.type_scope.specs.declared.environment.KnownDef.{KnownDef}
+use Rattle.name_types.specs.Seen.{DefIs, def_seen, newest_first}
+use Rattle.name_types.specs.declared.environment.Known.{Known as AKnown}
+use Rattle.name_types.specs.declared.environment.Known.TheVariants as known
+use Rattle.name_types.specs.declared.environment.KnownDef.{KnownDef}
 use Rattle.type_steps.specs.Defs.{outside}
 
 -- the defs that were bound are among so many

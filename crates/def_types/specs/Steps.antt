@@ -9,15 +9,15 @@ use Rattle.type_terms.specs.Table.{Table, Solves}
 use Rattle.type_terms.specs.Term.{Term, variable}
 use Rattle.typing_rules.specs.Scripts.{Places, Targets, def_token, params_of}
 use Rattle.typing_rules.specs.Typing.{Has, InnersHave, Types, token_of, within}
-use Rattle.type_schemes.specs.declared.general.TextKind.{TextKind}
-use Rattle.type_schemes.specs.Generals.{AreTextKindsOver, IsGeneral, IsNumberedText}
-use Rattle.type_schemes.specs.Holding.{HeldVariables, IsHeldBy}
-use Rattle.type_schemes.specs.Schemes.{IsSchemeOver, scheme_of}
+use Rattle.general_types.specs.declared.general.TextKind.{TextKind}
+use Rattle.general_types.specs.Generals.{AreTextKindsOver, IsGeneral, IsNumberedText}
+use Rattle.general_types.specs.Holding.{HeldVariables, IsHeldBy}
+use Rattle.general_types.specs.Schemes.{IsSchemeOver, scheme_of}
 use Rattle.name_scope.specs.Seen.{seen_parameter}
 use Rattle.type_steps.specs.Environment.{AreFound, AreUsesOver, Env, Found, Known, sight_under, types_under}
 use Rattle.type_steps.specs.Flow.{Reached}
-use Rattle.type_scope.specs.declared.environment.KnownDef.{KnownDef}
-use Rattle.type_scope.specs.declared.environment.TypedName.{TypedName}
+use Rattle.name_types.specs.declared.environment.KnownDef.{KnownDef}
+use Rattle.name_types.specs.declared.environment.TypedName.{TypedName}
 use Rattle.type_steps.specs.Defs.{outside}
 use Rattle.def_types.specs.Answers.{text_of}
 use Rattle.def_types.specs.PartsOf.{HasNoDef, HaveNoInners, HaveNoParams, InfersDef, InfersInners, InfersParams}

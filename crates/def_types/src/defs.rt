@@ -2,9 +2,9 @@
 ghost use Rattle.std.specs.Prelude.{◌≡◌, ◌<◌, [], length, IfOk, IfSome};
 ghost use Rattle.script_grammar.specs.View.{view_def};
 ghost use Rattle.type_terms.specs.Term.{term_of, variable};
-ghost use Rattle.type_schemes.specs.Holding.{AreThere};
+ghost use Rattle.general_types.specs.Holding.{AreThere};
 ghost use Rattle.type_steps.specs.Environment.{AreUsesOver};
-ghost use Rattle.type_scope.specs.Seen.{IsSeen, env_of, founds};
+ghost use Rattle.name_types.specs.Seen.{IsSeen, env_of, founds};
 ghost use Rattle.expression_types.specs.Order.{tokens_used};
 ghost use Rattle.type_steps.specs.Defs.{HoldsBefore};
 ghost use Rattle.def_types.specs.Answers.{AreSaidAs, IsDefTyped, IsNumberedDef, text_of};
@@ -13,12 +13,12 @@ ghost use Rattle.def_types.specs.Steps.{IsGeneralDef};
 
 use crate::parts::{TypedParts, type_parts};
 use crate::texts::{all_kinds, text_of_uses, variables};
+use general_types::{Held, generalise};
 use liq_base::Memory;
 use name_scope::parameters;
+use name_types::{FoundUse, KnownDef, Names};
 use script_grammar::tree::Def;
 use std::alloc::Global;
-use type_schemes::{Held, generalise};
-use type_scope::{FoundUse, KnownDef, Names};
 use type_terms::{Subst, Ty};
 
 /// The general type of a def and the uses in its text; `None` where it has no typing. It fails only where memory is refused.

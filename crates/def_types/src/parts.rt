@@ -3,16 +3,16 @@ ghost use Rattle.std.specs.Prelude.{◌≡◌, ◌++◌, [], map, option_map, If
 ghost use Rattle.script_grammar.specs.View.{listed, view_def, view_expr, view_full, view_inner, view_param};
 ghost use Rattle.type_steps.specs.Environment.{AreTypesOver};
 ghost use Rattle.type_steps.specs.Flow.{IsTypeOf};
-ghost use Rattle.type_scope.specs.Seen.{IsSeen, env_of, founds, types_seen};
+ghost use Rattle.name_types.specs.Seen.{IsSeen, env_of, founds, types_seen};
 ghost use Rattle.expression_types.specs.Order.{AreAddedIf, AreAddedWhere, tokens_used};
 ghost use Rattle.def_types.specs.PartsOf.{IsParamOf, with_inner};
 ghost use Rattle.def_types.specs.Steps.{AreInnersOf, AreParamsOf, ArePartsOf, IsBodyOf};
 
 use expression_types::{type_expr, type_full};
 use liq_base::Memory;
+use name_types::{FoundUse, Names, TypedName};
 use script_grammar::tree::{Def, Expr, Full, Inner, Param, ParamForm};
 use std::alloc::Global;
-use type_scope::{FoundUse, Names, TypedName};
 use type_steps::new_var;
 use type_terms::Subst;
 

@@ -1,14 +1,14 @@
 // The uses in the text of a def, from the kinds that its general type tells one after another.
 ghost use Rattle.std.specs.Prelude.{◌≡◌, ◌++◌, map, IfOk, OnOk};
 ghost use Rattle.type_terms.specs.Term.{term_of, variable};
-ghost use Rattle.type_scope.specs.Seen.{found, founds, pending, text_use};
+ghost use Rattle.name_types.specs.Seen.{found, founds, pending, text_use};
 ghost use Rattle.def_types.specs.TextUses.{kinds_in, pending_of, text_uses, use_of};
 
+use general_types::TextKind as KindInText;
 use liq_base::Memory;
+use name_types::{FoundUse, TextKind, TextUse};
 use std::alloc::Global;
 use std::cmp::min;
-use type_schemes::TextKind as KindInText;
-use type_scope::{FoundUse, TextKind, TextUse};
 use type_terms::{KindTerm, Ty};
 
 /// Variables as types.

@@ -15,7 +15,7 @@ use Rattle.clock_infer.specs.Answers.{IsClockMap}
 use Rattle.frame_core.specs.Library.{IsLibrary, Sounds, tracks_of}
 use Rattle.stream_meaning.specs.Instants.{Setting}
 use Rattle.stream_meaning.specs.Settings.{IsSetting}
-use Rattle.clock_engine.specs.declared.engine.ClockEngine.{ClockEngine}
+use Rattle.clock_ticks.specs.declared.engine.ClockEngine.{ClockEngine}
 use Rattle.clock_threads.specs.ThreadRuns.{AreEngines, IsFresh}
 use Rattle.engine_tests.specs.Joined.{joined_nodes, joined_sinks, mono_node, no_room, setting_over}
 

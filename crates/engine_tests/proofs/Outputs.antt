@@ -9,7 +9,7 @@ use Rattle.clock_infer.specs.declared.clock_map.NodeClock.TheVariants.{Main}
 use Rattle.frame_core.specs.Library.{Sounds}
 use Rattle.stream_meaning.specs.Instants.{same_clock}
 use Rattle.stream_meaning.specs.Sinks.{IsOutput}
-use Rattle.clock_engine.specs.Engines.{outputs_from, outputs_of}
+use Rattle.clock_ticks.specs.Engines.{outputs_from, outputs_of}
 use Rattle.engine_tests.specs.Joined.{setting_over}
 use Rattle.engine_tests.specs.Sole.{sole_node}
 

@@ -6,14 +6,14 @@ ghost use Rattle.clock_infer.specs.Answers.{IsClockMap};
 ghost use Rattle.clock_infer.specs.declared.clock_map.NodeClock.TheVariants.{Main as InMain};
 ghost use Rattle.frame_core.specs.Library.{IsLibrary};
 ghost use Rattle.stream_meaning.specs.Sinks.{IsOutput};
-ghost use Rattle.clock_engine.specs.Engines.{setting_of};
+ghost use Rattle.clock_ticks.specs.Engines.{setting_of};
 ghost use Rattle.engine_tests.specs.Sole.{sole_node};
 
 use crate::small_engines::{begun, looped, one_file, one_sink, tick};
 use crate::small_plans::lies_in;
 use buffer_ends::LocalTaps;
-use clock_engine::{ClockEngine, CueMark, TickFault};
 use clock_infer::{ClockMap, assign};
+use clock_ticks::{ClockEngine, CueMark, TickFault};
 use frame_core::Library;
 use liq_base::MemSink;
 use plan_core::Plan;

@@ -19,7 +19,7 @@ mod op_cross_tests;
 #[cfg(test)]
 mod op_select_tests;
 #[cfg(test)]
-mod random_ops_tests;
+mod op_turn_tests;
 #[cfg(test)]
 mod seed_words_tests;
 #[cfg(test)]

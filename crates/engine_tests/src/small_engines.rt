@@ -4,14 +4,14 @@ ghost use Rattle.plan_core.specs.Plans.{IsWellFormed};
 ghost use Rattle.clock_infer.specs.Answers.{IsClockMap};
 ghost use Rattle.clock_infer.specs.declared.clock_map.NodeClock.TheVariants.{Main as InMain};
 ghost use Rattle.frame_core.specs.Library.{IsLibrary};
-ghost use Rattle.clock_engine.specs.Engines.{setting_of};
+ghost use Rattle.clock_ticks.specs.Engines.{setting_of};
 ghost use Rattle.engine_tests.specs.Joined.{setting_over};
 ghost use Rattle.engine_tests.specs.Sole.{sole_node};
 
 use crate::small_plans::{mono, one_name, output};
 use buffer_ends::LocalTaps;
-use clock_engine::{ClockEngine, TickFault};
 use clock_infer::ClockMap;
+use clock_ticks::{ClockEngine, TickFault};
 use fixed_text::WeekSecond;
 use frame_core::{Library, Track};
 use liq_base::{Kind, MemSink, Memory, Text};

@@ -5,15 +5,15 @@ ghost use Rattle.plan_core.specs.Plans.{IsWellFormed};
 ghost use Rattle.clock_infer.specs.Answers.{IsClockMap};
 ghost use Rattle.clock_infer.specs.declared.clock_map.NodeClock.TheVariants.{Main as InMain};
 ghost use Rattle.frame_core.specs.Library.{IsLibrary, tracks_of};
-ghost use Rattle.clock_engine.specs.Engines.{outputs_of};
+ghost use Rattle.clock_ticks.specs.Engines.{outputs_of};
 ghost use Rattle.clock_threads.specs.ThreadRuns.{AreEngines, IsFresh};
 ghost use Rattle.engine_tests.specs.Joined.{joined_nodes, joined_sinks, no_room, setting_over};
 
 use crate::small_plans::{lies_in, mono, one_name, output};
 use buffer_ends::End;
-use clock_engine::ClockEngine;
 use clock_infer::{ClockMap, assign};
 use clock_threads::run_threads;
+use clock_ticks::ClockEngine;
 use fixed_text::WeekSecond;
 use frame_core::{Library, Track};
 use liq_base::{Gate, Kind, MemSink, Sink, Text};

@@ -5,14 +5,14 @@ ghost use Rattle.plan_core.specs.Plans.{IsWellFormed};
 ghost use Rattle.clock_infer.specs.Answers.{IsClockMap};
 ghost use Rattle.clock_infer.specs.declared.clock_map.NodeClock.TheVariants.{Main as InMain};
 ghost use Rattle.frame_core.specs.Library.{IsLibrary};
-ghost use Rattle.clock_engine.specs.Engines.{setting_of};
+ghost use Rattle.clock_ticks.specs.Engines.{setting_of};
 ghost use Rattle.engine_tests.specs.Sole.{sole_node};
 
 use crate::small_engines::{begun, check_held, looped, one_file, one_sink, tick};
 use crate::small_plans::{lies_in, mono, one_name, output};
 use buffer_ends::LocalTaps;
-use clock_engine::{ClockEngine, TickFault};
 use clock_infer::{ClockMap, assign};
+use clock_ticks::{ClockEngine, TickFault};
 use frame_core::{Library, Track};
 use liq_base::{Kind, MemSink, Text};
 use plan_core::{Items, Op, Plan};

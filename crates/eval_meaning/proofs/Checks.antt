@@ -7,7 +7,7 @@ use Rattle.plan_core.specs.declared.sink.SinkPlan.TheVariants.{Output}
 use Rattle.fixed_text.specs.declared.decimal.Decimal.{Decimal}
 use Rattle.script_grammar.specs.declared.tree.Literal.TheVariants as literal
 use Rattle.script_grammar.specs.declared.tree.CompareOp.TheVariants as op
-use Rattle.script_grammar.specs.Tree.{Tree, Many, none, more, AFull, AnExpr, APrim, AnArg, AStmt, Plain, Expr, And, Not, Alone, Compared, Sum, Product, Multiplied, Constant, Quoted, Truth, Named, Called, Chosen, Listed, Format, Call, Arg, If, Param, Optional, Bind, Def, Stmt, BindPart, DefPart, CallPart, Script}
+use Rattle.script_grammar.specs.Tree.{Tree, Many, none, more, AFull, AnExpr, AnOperand, AnArg, AStmt, Plain, Expr, And, Not, Alone, Compared, Sum, Product, Multiplied, Constant, Quoted, Truth, Named, Called, Chosen, Listed, Format, Call, Arg, If, Param, Optional, Bind, Def, Stmt, BindPart, DefPart, CallPart, Script}
 use Rattle.typing_rules.specs.declared.uses.Use.{Use}
 use Rattle.typing_rules.specs.declared.uses.Builtin.TheVariants as builtins
 use Rattle.typing_rules.specs.declared.uses.KindOf.TheVariants as kind_of
@@ -24,7 +24,7 @@ use Rattle.builtin_calls.specs.Parts.{bool_or, decimal_or, as_format, plain, pla
 use Rattle.builtin_calls.specs.Settings.{duration_of, rate_of, set_duration, set_rate, setting}
 use Rattle.builtin_calls.specs.Sinks.{add_output}
 use Rattle.builtin_calls.specs.Times.{track_of}
-use Rattle.eval_meaning.specs.Meaning.{full, expr, ors, conj, ands, nega, compare, sum, addeds, product, multiplieds, times, prim, choice, fulls, call, arguments, argued, applied, named, parameter, parameters, inners, body, call_by}
+use Rattle.eval_meaning.specs.Meaning.{full, expr, ors, conjunction, ands, negation, compare, sum, addends, product, factors, times, operand, choice, fulls, call, arguments, argued, applied, named, parameter, parameters, inners, body, call_by}
 use Rattle.eval_meaning.specs.Scripts.{ended, evaluation, statement, statements, turned}
 
 abbrev only : Tree AFull → Script
@@ -32,26 +32,26 @@ only f = more (Stmt (BindPart (Bind 0 (codes "x") f)) false) none
 
 -- x = 1 / 0
 zero_divisor : evaluation (only (Plain (Expr (And (Not false (Alone (Sum (Product (Constant 2 (literal.Int (pos 1))) (more (Multiplied 3 true (Constant 4 (literal.Int (pos 0)))) none)) none))) none) none))) [] ≡ Err (Some (told.BadValue 1 3))
-unfolding statements turned statement full expr ors conj ands nega compare sum addeds product multiplieds times prim count multiplied quotient ended
+unfolding statements turned statement full expr ors conjunction ands negation compare sum addends product factors times operand count multiplied quotient ended
 zero_divisor = refl
 
 -- x = true
 no_output : evaluation (only (Plain (Expr (And (Not false (Alone (Sum (Product (Truth 2 true) none) none))) none) none))) [] ≡ Err (Some told.NoOutput)
-unfolding statements turned statement full expr ors conj ands nega compare sum addeds product multiplieds prim count ended
+unfolding statements turned statement full expr ors conjunction ands negation compare sum addends product factors operand count ended
 no_output = refl
 
 -- x = if true then 1 else 1 / 0 end
 chosen_alone :
     evaluation (only (Plain (Expr (And (Not false (Alone (Sum (Product (Chosen (If 2 (Plain (Expr (And (Not false (Alone (Sum (Product (Truth 3 true) none) none))) none) none)) (Plain (Expr (And (Not false (Alone (Sum (Product (Constant 5 (literal.Int (pos 1))) none) none))) none) none)) (Plain (Expr (And (Not false (Alone (Sum (Product (Constant 7 (literal.Int (pos 1))) (more (Multiplied 8 true (Constant 9 (literal.Int (pos 0)))) none)) none))) none) none)))) none) none))) none) none))) []
     ≡ Err (Some told.NoOutput)
-unfolding statements turned statement full expr ors conj ands nega compare sum addeds product multiplieds times prim choice count multiplied quotient truth_of ended
+unfolding statements turned statement full expr ors conjunction ands negation compare sum addends product factors times operand choice count multiplied quotient truth_of ended
 chosen_alone = refl
 
 -- x = false and 1 / 0 == 1
 both_sides :
     evaluation (only (Plain (Expr (And (Not false (Alone (Sum (Product (Truth 2 false) none) none))) (more (Not false (Compared (Sum (Product (Constant 4 (literal.Int (pos 1))) (more (Multiplied 5 true (Constant 6 (literal.Int (pos 0)))) none)) none) 7 op.Equal (Sum (Product (Constant 8 (literal.Int (pos 1))) none) none))) none)) none))) []
     ≡ Err (Some (told.BadValue 1 5))
-unfolding statements turned statement full expr ors conj ands nega compare sum addeds product multiplieds times prim count multiplied quotient ended
+unfolding statements turned statement full expr ors conjunction ands negation compare sum addends product factors times operand count multiplied quotient ended
 both_sides = refl
 
 -- def f(~y = 1 / 0, z) = z end  x = f(3), or x = f(y = 2, 3)
@@ -64,25 +64,25 @@ abbrev uses_of_f : List Use
 uses_of_f = record { at = 12; target = target.Slot 9; kinds = [] } ∷ record { at = 16; target = target.Def 1; kinds = [] } ∷ []
 
 default_used : evaluation (with_default (more (Arg 17 None (Plain (Expr (And (Not false (Alone (Sum (Product (Constant 17 (literal.Int (pos 3))) none) none))) none) none))) none)) uses_of_f ≡ Err (Some (told.BadValue 2 6))
-unfolding statements turned statement full expr ors conj ands nega compare sum addeds product multiplieds times prim call arguments argued applied parameter parameters count multiplied quotient ended body call_by
+unfolding statements turned statement full expr ors conjunction ands negation compare sum addends product factors times operand call arguments argued applied parameter parameters count multiplied quotient ended body call_by
 default_used = refl
 
 default_unused :
     evaluation (with_default (more (Arg 17 (Some (codes "y")) (Plain (Expr (And (Not false (Alone (Sum (Product (Constant 19 (literal.Int (pos 2))) none) none))) none) none))) (more (Arg 21 None (Plain (Expr (And (Not false (Alone (Sum (Product (Constant 21 (literal.Int (pos 3))) none) none))) none) none))) none))) uses_of_f
     ≡ Err (Some told.NoOutput)
-unfolding statements turned statement full expr ors conj ands nega compare sum addeds product multiplieds prim named call arguments argued applied parameter parameters inners count ended body call_by
+unfolding statements turned statement full expr ors conjunction ands negation compare sum addends product factors operand named call arguments argued applied parameter parameters inners count ended body call_by
 default_unused = refl
 
 -- ---- shapes of more than one row
 
-abbrev alone : Tree APrim → Tree AnExpr
+abbrev alone : Tree AnOperand → Tree AnExpr
 alone p = Expr (And (Not false (Alone (Sum (Product p none) none))) none) none
 
-abbrev unlabelled : ℕ → Tree APrim → Tree AnArg
+abbrev unlabelled : ℕ → Tree AnOperand → Tree AnArg
 unlabelled at p = Arg at None (Plain (alone p))
 
 -- a statement that binds the name at this token
-abbrev bound : ℕ → Tree APrim → Tree AStmt
+abbrev bound : ℕ → Tree AnOperand → Tree AStmt
 bound at p = Stmt (BindPart (Bind at (codes "x") (Plain (alone p)))) false
 
 abbrev use_of : ℕ → Target → Use
@@ -91,7 +91,7 @@ use_of at t = record { at = at; target = t; kinds = [] }
 -- ---- the end of the settings
 
 -- set(key, n)
-abbrev set_to : ℕ → List ℕ → Tree APrim → Tree AStmt
+abbrev set_to : ℕ → List ℕ → Tree AnOperand → Tree AStmt
 set_to at key p = Stmt (CallPart (Call at (codes "set") (more (unlabelled (at + 2) (Quoted (at + 2) key)) (more (unlabelled (at + 4) p) none)))) false
 
 abbrev seconds : ℕ → Decimal → Tree AStmt
@@ -106,22 +106,22 @@ sets = use_of 0 (target.Builtin builtins.Set) ∷ use_of 10 (target.Builtin buil
 
 -- set("frame.duration", 0.)  set("log", 1)  x = true: a bad tick is blamed on the last statement that set one
 bad_tick : evaluation (more (seconds 0 (some_millionths 0 tt)) (more (set_to 10 (codes "log") (Constant 14 (literal.Int (pos 1)))) (more (bound 20 (Truth 22 true)) none))) sets ≡ Err (Some (told.BadSetting 1))
-unfolding statements turned statement full expr ors conj ands nega compare sum addeds product multiplieds prim call arguments argued applied builtin set plain_text plain as_text setting set_duration duration_of count ended
+unfolding statements turned statement full expr ors conjunction ands negation compare sum addends product factors operand call arguments argued applied builtin set plain_text plain as_text setting set_duration duration_of count ended
 bad_tick = refl
 
 -- set("frame.duration", 0.): the settings end with the script too
 last_setting : evaluation (more (seconds 0 (some_millionths 0 tt)) none) sets ≡ Err (Some (told.BadSetting 1))
-unfolding statements turned statement full expr ors conj ands nega compare sum addeds product multiplieds prim call arguments argued applied builtin set plain_text plain as_text setting set_duration duration_of count ended
+unfolding statements turned statement full expr ors conjunction ands negation compare sum addends product factors operand call arguments argued applied builtin set plain_text plain as_text setting set_duration duration_of count ended
 last_setting = refl
 
 -- set("frame.duration", 0.00001)  set("frame.audio.samplerate", 192000): no sample at 44100 samples a second, and one at 192000
 rate_in_force : evaluation (more (seconds 0 (some_millionths 10 tt)) (more (rate 10 192000) none)) sets ≡ Err (Some told.NoOutput)
-unfolding statements turned statement full expr ors conj ands nega compare sum addeds product multiplieds prim call arguments argued applied builtin set plain_text plain as_text setting set_duration duration_of set_rate rate_of count ended
+unfolding statements turned statement full expr ors conjunction ands negation compare sum addends product factors operand call arguments argued applied builtin set plain_text plain as_text setting set_duration duration_of set_rate rate_of count ended
 rate_in_force = refl
 
 -- x = true  set("frame.audio.samplerate", 8000)
 late_setting : evaluation (more (bound 0 (Truth 2 true)) (more (rate 10 8000) none)) sets ≡ Err (Some (told.BadSetting 2))
-unfolding statements turned statement full expr ors conj ands nega compare sum addeds product multiplieds prim call arguments argued applied builtin set plain_text plain as_text setting set_rate rate_of count ended
+unfolding statements turned statement full expr ors conjunction ands negation compare sum addends product factors operand call arguments argued applied builtin set plain_text plain as_text setting set_rate rate_of count ended
 late_setting = refl
 
 -- ---- the limit of the work
@@ -131,7 +131,7 @@ worked n = record first_machine { work = n }
 
 -- x = true  x = true, behind 999998 steps
 last_step : statements none [] (more (bound 0 (Truth 2 true)) (more (bound 10 (Truth 12 true)) none)) 0 [] (worked 999998) ≡ Err (Some (told.TooMuchWork 2))
-unfolding statements turned statement full expr ors conj ands nega compare sum addeds product multiplieds prim count ended
+unfolding statements turned statement full expr ors conjunction ands negation compare sum addends product factors operand count ended
 last_step = refl
 
 -- x = [true, true]  x = x  x = true: the list takes 3 steps, and so does its name
@@ -139,11 +139,11 @@ abbrev sizes : Script
 sizes = more (bound 0 (Listed 2 (more (Plain (alone (Truth 3 true))) (more (Plain (alone (Truth 5 true))) none)))) (more (bound 10 (Named 12 (codes "x"))) (more (bound 20 (Truth 22 true)) none))
 
 size_counts : statements sizes (use_of 12 (target.Slot 0) ∷ []) sizes 0 [] (worked 999993) ≡ Err (Some (told.TooMuchWork 3))
-unfolding statements turned statement full expr ors conj ands nega compare sum addeds product multiplieds prim fulls named count ended
+unfolding statements turned statement full expr ors conjunction ands negation compare sum addends product factors operand fulls named count ended
 size_counts = refl
 
 size_passes : statements sizes (use_of 12 (target.Slot 0) ∷ []) sizes 0 [] (worked 999994) ≡ Err (Some (told.TooMuchWork 2))
-unfolding statements turned statement full expr ors conj ands nega compare sum addeds product multiplieds prim fulls named count ended
+unfolding statements turned statement full expr ors conjunction ands negation compare sum addends product factors operand fulls named count ended
 size_passes = refl
 
 -- ---- calls that run
@@ -166,11 +166,11 @@ abbrev nested : ℕ → Script
 nested n = defs_from n 0 (more (bound (10 * n) (Called (Call (10 * n + 5) (codes "f") none))) none)
 
 calls_16 : evaluation (nested 16) (calls_from 16 0) ≡ Err (Some told.NoOutput)
-unfolding statements turned statement full expr ors conj ands nega compare sum addeds product multiplieds prim call arguments applied parameters inners body call_by count ended
+unfolding statements turned statement full expr ors conjunction ands negation compare sum addends product factors operand call arguments applied parameters inners body call_by count ended
 calls_16 = refl
 
 calls_17 : evaluation (nested 17) (calls_from 17 0) ≡ Err (Some (told.TooLarge Calls))
-unfolding statements turned statement full expr ors conj ands nega compare sum addeds product multiplieds prim call arguments applied parameters inners body call_by count ended
+unfolding statements turned statement full expr ors conjunction ands negation compare sum addends product factors operand call arguments applied parameters inners body call_by count ended
 calls_17 = refl
 
 -- ---- kinds of a call
@@ -195,7 +195,7 @@ uses_of_kinds =
     ∷ record { at = 36; target = target.Def 11; kinds = kind_of.Fixed Stereo ∷ [] } ∷ []
 
 each_kind : evaluation two_kinds uses_of_kinds ≡ Ok (record { rate = 44100; frame = 1764; nodes = record { op = node_op.Blank 0; kind = Mono; children = [] } ∷ record { op = node_op.Blank 0; kind = Stereo; children = [] } ∷ []; sinks = Output (codes "A") 0 false false ∷ Output (codes "B") 1 false false ∷ []; buffers = [] })
-unfolding statements turned statement full expr ors conj ands nega compare sum addeds product multiplieds prim call arguments argued applied builtin blank output_file decimal_or bool_or plain plain_format plain_text plain_source as_format as_text source_of track_of add push add_output parameters inners body call_by count ended
+unfolding statements turned statement full expr ors conjunction ands negation compare sum addends product factors operand call arguments argued applied builtin blank output_file decimal_or bool_or plain plain_format plain_text plain_source as_format as_text source_of track_of add push add_output parameters inners body call_by count ended
 each_kind = refl
 
 -- ---- formats
@@ -210,13 +210,13 @@ uses_of_sized =
     ∷ record { at = 10; target = target.Builtin builtins.Blank; kinds = kind_of.Fixed Stereo ∷ [] } ∷ []
 
 narrow_output : evaluation (sized (pos 16)) uses_of_sized ≡ Ok (record { rate = 44100; frame = 1764; nodes = record { op = node_op.Blank 0; kind = Stereo; children = [] } ∷ []; sinks = Output (codes "A") 0 false false ∷ []; buffers = [] })
-unfolding statements turned statement full expr ors conj ands nega compare sum addeds product multiplieds prim call arguments argued applied builtin blank output_file decimal_or bool_or plain plain_format plain_text plain_source as_format as_text source_of track_of add push add_output count ended
+unfolding statements turned statement full expr ors conjunction ands negation compare sum addends product factors operand call arguments argued applied builtin blank output_file decimal_or bool_or plain plain_format plain_text plain_source as_format as_text source_of track_of add push add_output count ended
 narrow_output = refl
 
 wide_output : evaluation (sized (pos 24)) uses_of_sized ≡ Ok (record { rate = 44100; frame = 1764; nodes = record { op = node_op.Blank 0; kind = Stereo; children = [] } ∷ []; sinks = Output (codes "A") 0 false true ∷ []; buffers = [] })
-unfolding statements turned statement full expr ors conj ands nega compare sum addeds product multiplieds prim call arguments argued applied builtin blank output_file decimal_or bool_or plain plain_format plain_text plain_source as_format as_text source_of track_of add push add_output count ended
+unfolding statements turned statement full expr ors conjunction ands negation compare sum addends product factors operand call arguments argued applied builtin blank output_file decimal_or bool_or plain plain_format plain_text plain_source as_format as_text source_of track_of add push add_output count ended
 wide_output = refl
 
 other_size : evaluation (sized (pos 20)) uses_of_sized ≡ Err (Some (told.BadValue 1 1))
-unfolding statements turned statement full expr ors conj ands nega compare sum addeds product multiplieds prim call arguments argued applied builtin output_file count ended
+unfolding statements turned statement full expr ors conjunction ands negation compare sum addends product factors operand call arguments argued applied builtin output_file count ended
 other_size = refl

@@ -1,7 +1,7 @@
 -- What counting and the builtins keep true of the state, evaluation keeps.
 use Rattle.std.proofs.Common.{ℕ, zero, suc, List, [], ◌∷◌, ◌++◌, Bool, true, false, Option, Some, None, Result, Ok, Err}
 use Rattle.liq_base.specs.declared.memory.Kind.{Kind}
-use Rattle.script_grammar.specs.Tree.{Tree, Many, none, more, AFull, AnExpr, AnAnd, ANot, ACompare, ASum, AnAdded, AProduct, AMultiplied, APrim, ACall, AnArg, AnIf, AParam, AnInner, ADef, Negative, Plain, Expr, And, Not, Alone, Compared, Sum, Added, Product, Multiplied, Constant, Quoted, Truth, Named, Called, Chosen, Nothing, Paren, Tuple, Listed, Braces, Format, Call, Arg, If, Param, Labelled, Optional, Inner, Bind, Def, APart, BindPart, DefPart, CallPart, IfPart}
+use Rattle.script_grammar.specs.Tree.{Tree, Many, none, more, AFull, AnExpr, AnAnd, ANot, ACompare, ASum, AnAdded, AProduct, AMultiplied, AnOperand, ACall, AnArg, AnIf, AParam, AnInner, ADef, Negative, Plain, Expr, And, Not, Alone, Compared, Sum, Added, Product, Multiplied, Constant, Quoted, Truth, Named, Called, Chosen, Nothing, Paren, Tuple, Listed, Braces, Format, Call, Arg, If, Param, Labelled, Optional, Inner, Bind, Def, APart, BindPart, DefPart, CallPart, IfPart}
 use Rattle.typing_rules.specs.declared.uses.Use.{Use}
 use Rattle.typing_rules.specs.declared.uses.Target.{Target}
 use Rattle.typing_rules.specs.declared.uses.Target.TheVariants as target
@@ -84,31 +84,31 @@ applied_keeps kept s calls (Some u) at given m is = called_keeps kept s calls u.
 -- ---- expressions
 
 mutual
-  unfolding full meaning.expr meaning.ors meaning.conj meaning.ands meaning.nega meaning.compare meaning.sum meaning.addeds meaning.plus meaning.product meaning.multiplieds meaning.times meaning.prim meaning.fulls meaning.choice meaning.call meaning.arguments meaning.argued
+  unfolding full meaning.expr meaning.ors meaning.conjunction meaning.ands meaning.negation meaning.compare meaning.sum meaning.addends meaning.plus meaning.product meaning.factors meaning.times meaning.operand meaning.fulls meaning.choice meaning.call meaning.arguments meaning.argued
 
   pub full_keeps : {P : Machine → Type 0} → IsKept P → (s : Scope) → KeepsCalls P s → (e : Tree AFull) (m : Machine) → P m → HoldsBehind P (full s e m)
   full_keeps {P = P} kept s calls (Negative at n) m is = counted kept 1 m (λ c. negative at n >>= λ v. Ok (v, c)) is (λ c still. fixed P (negative at n) (λ v. Ok (v, c)) (λ v. still))
   full_keeps kept s calls (Plain e) m is = expr_keeps kept s calls e m is
 
   pub expr_keeps : {P : Machine → Type 0} → IsKept P → (s : Scope) → KeepsCalls P s → (e : Tree AnExpr) (m : Machine) → P m → HoldsBehind P (meaning.expr s e m)
-  expr_keeps {P = P} kept s calls (Expr a rest) m is = after P (meaning.conj s a m) (λ x. meaning.ors s rest x.0 x.1) (conj_keeps kept s calls a m is) (λ x held. ors_keeps kept s calls rest x.0 x.1 held)
+  expr_keeps {P = P} kept s calls (Expr a rest) m is = after P (meaning.conjunction s a m) (λ x. meaning.ors s rest x.0 x.1) (conjunction_keeps kept s calls a m is) (λ x held. ors_keeps kept s calls rest x.0 x.1 held)
 
   ors_keeps : {P : Machine → Type 0} → IsKept P → (s : Scope) → KeepsCalls P s → (rest : Tree (Many AnAnd)) (v : Value) (m : Machine) → P m → HoldsBehind P (meaning.ors s rest v m)
   ors_keeps kept s calls none v m is = is
-  ors_keeps {P = P} kept s calls (more a rest) v m is = after P (joined either v (meaning.conj s a m)) (λ x. meaning.ors s rest x.0 x.1) (joined_keeps kept either v (meaning.conj s a m) (conj_keeps kept s calls a m is)) (λ x held. ors_keeps kept s calls rest x.0 x.1 held)
+  ors_keeps {P = P} kept s calls (more a rest) v m is = after P (joined either v (meaning.conjunction s a m)) (λ x. meaning.ors s rest x.0 x.1) (joined_keeps kept either v (meaning.conjunction s a m) (conjunction_keeps kept s calls a m is)) (λ x held. ors_keeps kept s calls rest x.0 x.1 held)
 
-  conj_keeps : {P : Machine → Type 0} → IsKept P → (s : Scope) → KeepsCalls P s → (e : Tree AnAnd) (m : Machine) → P m → HoldsBehind P (meaning.conj s e m)
-  conj_keeps {P = P} kept s calls (And n rest) m is = after P (meaning.nega s n m) (λ x. meaning.ands s rest x.0 x.1) (nega_keeps kept s calls n m is) (λ x held. ands_keeps kept s calls rest x.0 x.1 held)
+  conjunction_keeps : {P : Machine → Type 0} → IsKept P → (s : Scope) → KeepsCalls P s → (e : Tree AnAnd) (m : Machine) → P m → HoldsBehind P (meaning.conjunction s e m)
+  conjunction_keeps {P = P} kept s calls (And n rest) m is = after P (meaning.negation s n m) (λ x. meaning.ands s rest x.0 x.1) (negation_keeps kept s calls n m is) (λ x held. ands_keeps kept s calls rest x.0 x.1 held)
 
   ands_keeps : {P : Machine → Type 0} → IsKept P → (s : Scope) → KeepsCalls P s → (rest : Tree (Many ANot)) (v : Value) (m : Machine) → P m → HoldsBehind P (meaning.ands s rest v m)
   ands_keeps kept s calls none v m is = is
-  ands_keeps {P = P} kept s calls (more n rest) v m is = after P (joined both v (meaning.nega s n m)) (λ x. meaning.ands s rest x.0 x.1) (joined_keeps kept both v (meaning.nega s n m) (nega_keeps kept s calls n m is)) (λ x held. ands_keeps kept s calls rest x.0 x.1 held)
+  ands_keeps {P = P} kept s calls (more n rest) v m is = after P (joined both v (meaning.negation s n m)) (λ x. meaning.ands s rest x.0 x.1) (joined_keeps kept both v (meaning.negation s n m) (negation_keeps kept s calls n m is)) (λ x held. ands_keeps kept s calls rest x.0 x.1 held)
 
-  nega_keeps : {P : Machine → Type 0} → IsKept P → (s : Scope) → KeepsCalls P s → (e : Tree ANot) (m : Machine) → P m → HoldsBehind P (meaning.nega s e m)
-  nega_keeps {P = P} kept s calls (Not true inner) m is =
+  negation_keeps : {P : Machine → Type 0} → IsKept P → (s : Scope) → KeepsCalls P s → (e : Tree ANot) (m : Machine) → P m → HoldsBehind P (meaning.negation s e m)
+  negation_keeps {P = P} kept s calls (Not true inner) m is =
       after P (meaning.compare s inner m) (λ x. count 1 x.1 >>= λ c. opposite x.0 >>= λ u. Ok (u, c)) (compare_keeps kept s calls inner m is) (λ x held.
       counted kept 1 x.1 (λ c. opposite x.0 >>= λ u. Ok (u, c)) held (λ c still. fixed P (opposite x.0) (λ u. Ok (u, c)) (λ u. still)))
-  nega_keeps kept s calls (Not false inner) m is = compare_keeps kept s calls inner m is
+  negation_keeps kept s calls (Not false inner) m is = compare_keeps kept s calls inner m is
 
   compare_keeps : {P : Machine → Type 0} → IsKept P → (s : Scope) → KeepsCalls P s → (e : Tree ACompare) (m : Machine) → P m → HoldsBehind P (meaning.compare s e m)
   compare_keeps kept s calls (Alone left) m is = sum_keeps kept s calls left m is
@@ -118,38 +118,38 @@ mutual
       counted kept 1 y.1 (λ c. compared o x.0 y.0 >>= λ u. Ok (u, c)) still (λ c yet. fixed P (compared o x.0 y.0) (λ u. Ok (u, c)) (λ u. yet))))
 
   sum_keeps : {P : Machine → Type 0} → IsKept P → (s : Scope) → KeepsCalls P s → (e : Tree ASum) (m : Machine) → P m → HoldsBehind P (meaning.sum s e m)
-  sum_keeps {P = P} kept s calls (Sum p rest) m is = after P (meaning.product s p m) (λ x. meaning.addeds s rest x.0 x.1) (product_keeps kept s calls p m is) (λ x held. addeds_keeps kept s calls rest x.0 x.1 held)
+  sum_keeps {P = P} kept s calls (Sum p rest) m is = after P (meaning.product s p m) (λ x. meaning.addends s rest x.0 x.1) (product_keeps kept s calls p m is) (λ x held. addends_keeps kept s calls rest x.0 x.1 held)
 
-  addeds_keeps : {P : Machine → Type 0} → IsKept P → (s : Scope) → KeepsCalls P s → (rest : Tree (Many AnAdded)) (v : Value) (m : Machine) → P m → HoldsBehind P (meaning.addeds s rest v m)
-  addeds_keeps kept s calls none v m is = is
-  addeds_keeps {P = P} kept s calls (more (Added at minus p) rest) v m is = after P (joined (added minus at) v (meaning.product s p m)) (λ x. meaning.addeds s rest x.0 x.1) (joined_keeps kept (added minus at) v (meaning.product s p m) (product_keeps kept s calls p m is)) (λ x held. addeds_keeps kept s calls rest x.0 x.1 held)
+  addends_keeps : {P : Machine → Type 0} → IsKept P → (s : Scope) → KeepsCalls P s → (rest : Tree (Many AnAdded)) (v : Value) (m : Machine) → P m → HoldsBehind P (meaning.addends s rest v m)
+  addends_keeps kept s calls none v m is = is
+  addends_keeps {P = P} kept s calls (more (Added at minus p) rest) v m is = after P (joined (added minus at) v (meaning.product s p m)) (λ x. meaning.addends s rest x.0 x.1) (joined_keeps kept (added minus at) v (meaning.product s p m) (product_keeps kept s calls p m is)) (λ x held. addends_keeps kept s calls rest x.0 x.1 held)
 
   product_keeps : {P : Machine → Type 0} → IsKept P → (s : Scope) → KeepsCalls P s → (e : Tree AProduct) (m : Machine) → P m → HoldsBehind P (meaning.product s e m)
-  product_keeps {P = P} kept s calls (Product p rest) m is = after P (meaning.prim s p m) (λ x. meaning.multiplieds s rest x.0 x.1) (prim_keeps kept s calls p m is) (λ x held. multiplieds_keeps kept s calls rest x.0 x.1 held)
+  product_keeps {P = P} kept s calls (Product p rest) m is = after P (meaning.operand s p m) (λ x. meaning.factors s rest x.0 x.1) (operand_keeps kept s calls p m is) (λ x held. factors_keeps kept s calls rest x.0 x.1 held)
 
-  multiplieds_keeps : {P : Machine → Type 0} → IsKept P → (s : Scope) → KeepsCalls P s → (rest : Tree (Many AMultiplied)) (v : Value) (m : Machine) → P m → HoldsBehind P (meaning.multiplieds s rest v m)
-  multiplieds_keeps kept s calls none v m is = is
-  multiplieds_keeps {P = P} kept s calls (more (Multiplied at divide p) rest) v m is = after P (joined (multiplied divide at) v (meaning.prim s p m)) (λ x. meaning.multiplieds s rest x.0 x.1) (joined_keeps kept (multiplied divide at) v (meaning.prim s p m) (prim_keeps kept s calls p m is)) (λ x held. multiplieds_keeps kept s calls rest x.0 x.1 held)
+  factors_keeps : {P : Machine → Type 0} → IsKept P → (s : Scope) → KeepsCalls P s → (rest : Tree (Many AMultiplied)) (v : Value) (m : Machine) → P m → HoldsBehind P (meaning.factors s rest v m)
+  factors_keeps kept s calls none v m is = is
+  factors_keeps {P = P} kept s calls (more (Multiplied at divide p) rest) v m is = after P (joined (multiplied divide at) v (meaning.operand s p m)) (λ x. meaning.factors s rest x.0 x.1) (joined_keeps kept (multiplied divide at) v (meaning.operand s p m) (operand_keeps kept s calls p m is)) (λ x held. factors_keeps kept s calls rest x.0 x.1 held)
 
-  prim_keeps : {P : Machine → Type 0} → IsKept P → (s : Scope) → KeepsCalls P s → (e : Tree APrim) (m : Machine) → P m → HoldsBehind P (meaning.prim s e m)
-  prim_keeps kept s calls (Constant at n) m is = counted kept 1 m (λ c. Ok (literal_value n, c)) is (λ c still. still)
-  prim_keeps kept s calls (Quoted at text) m is = counted kept 1 m (λ c. Ok (value.Text text, c)) is (λ c still. still)
-  prim_keeps kept s calls (Truth at b) m is = counted kept 1 m (λ c. Ok (value.Truth b, c)) is (λ c still. still)
-  prim_keeps kept s calls (Named at name) m is = named_keeps kept s (use_at at s.uses) m is
-  prim_keeps kept s calls (Called k) m is = counted kept 1 m (λ c. meaning.call s k c) is (λ c still. call_keeps kept s calls k c still)
-  prim_keeps kept s calls (Chosen i) m is = counted kept 1 m (λ c. meaning.choice s i c) is (λ c still. choice_keeps kept s calls i c still)
-  prim_keeps kept s calls (Nothing at) m is = counted kept 1 m (λ c. Ok (value.Nothing, c)) is (λ c still. still)
-  prim_keeps kept s calls (Paren f) m is = counted kept 1 m (λ c. full s f c) is (λ c still. full_keeps kept s calls f c still)
-  prim_keeps {P = P} kept s calls (Tuple at f g rest) m is =
+  operand_keeps : {P : Machine → Type 0} → IsKept P → (s : Scope) → KeepsCalls P s → (e : Tree AnOperand) (m : Machine) → P m → HoldsBehind P (meaning.operand s e m)
+  operand_keeps kept s calls (Constant at n) m is = counted kept 1 m (λ c. Ok (literal_value n, c)) is (λ c still. still)
+  operand_keeps kept s calls (Quoted at text) m is = counted kept 1 m (λ c. Ok (value.Text text, c)) is (λ c still. still)
+  operand_keeps kept s calls (Truth at b) m is = counted kept 1 m (λ c. Ok (value.Truth b, c)) is (λ c still. still)
+  operand_keeps kept s calls (Named at name) m is = named_keeps kept s (use_at at s.uses) m is
+  operand_keeps kept s calls (Called k) m is = counted kept 1 m (λ c. meaning.call s k c) is (λ c still. call_keeps kept s calls k c still)
+  operand_keeps kept s calls (Chosen i) m is = counted kept 1 m (λ c. meaning.choice s i c) is (λ c still. choice_keeps kept s calls i c still)
+  operand_keeps kept s calls (Nothing at) m is = counted kept 1 m (λ c. Ok (value.Nothing, c)) is (λ c still. still)
+  operand_keeps kept s calls (Paren f) m is = counted kept 1 m (λ c. full s f c) is (λ c still. full_keeps kept s calls f c still)
+  operand_keeps {P = P} kept s calls (Tuple at f g rest) m is =
       counted kept 1 m (λ c. full s f c >>= λ x. full s g x.1 >>= λ y. meaning.fulls s rest (x.0 ∷ y.0 ∷ []) y.1 >>= λ z. Ok (value.Tuple (many z.0), z.1)) is (λ c still.
       after P (full s f c) (λ x. full s g x.1 >>= λ y. meaning.fulls s rest (x.0 ∷ y.0 ∷ []) y.1 >>= λ z. Ok (value.Tuple (many z.0), z.1)) (full_keeps kept s calls f c still) (λ x held.
       after P (full s g x.1) (λ y. meaning.fulls s rest (x.0 ∷ y.0 ∷ []) y.1 >>= λ z. Ok (value.Tuple (many z.0), z.1)) (full_keeps kept s calls g x.1 held) (λ y yet.
       after P (meaning.fulls s rest (x.0 ∷ y.0 ∷ []) y.1) (λ z. Ok (value.Tuple (many z.0), z.1)) (fulls_keeps kept s calls rest (x.0 ∷ y.0 ∷ []) y.1 yet) (λ z last. last))))
-  prim_keeps {P = P} kept s calls (Listed at parts) m is =
+  operand_keeps {P = P} kept s calls (Listed at parts) m is =
       counted kept 1 m (λ c. meaning.fulls s parts [] c >>= λ z. Ok (value.Listed (many z.0), z.1)) is (λ c still.
       after P (meaning.fulls s parts [] c) (λ z. Ok (value.Listed (many z.0), z.1)) (fulls_keeps kept s calls parts [] c still) (λ z last. last))
-  prim_keeps kept s calls (Braces at pred) m is = counted kept 1 m (λ c. Ok (value.Pred (or_pred pred), c)) is (λ c still. still)
-  prim_keeps {P = P} kept s calls (Format at bits) m is = counted kept 1 m (λ c. meaning.format at bits >>= λ v. Ok (v, c)) is (λ c still. fixed P (meaning.format at bits) (λ v. Ok (v, c)) (λ v. still))
+  operand_keeps kept s calls (Braces at pred) m is = counted kept 1 m (λ c. Ok (value.Pred (or_pred pred), c)) is (λ c still. still)
+  operand_keeps {P = P} kept s calls (Format at bits) m is = counted kept 1 m (λ c. meaning.format at bits >>= λ v. Ok (v, c)) is (λ c still. fixed P (meaning.format at bits) (λ v. Ok (v, c)) (λ v. still))
 
   fulls_keeps : {P : Machine → Type 0} → IsKept P → (s : Scope) → KeepsCalls P s → (rest : Tree (Many AFull)) (vs : List Value) (m : Machine) → P m → HoldsBehind P (meaning.fulls s rest vs m)
   fulls_keeps kept s calls none vs m is = is

@@ -6,7 +6,7 @@ use Rattle.plan_core.specs.declared.node.Node.{Node}
 use Rattle.script_grammar.specs.declared.tree.Literal.{Literal}
 use Rattle.script_grammar.specs.declared.tree.Literal.TheVariants as literal
 use Rattle.script_grammar.specs.declared.tree.CompareOp.{CompareOp}
-use Rattle.script_grammar.specs.Tree.{Tree, Many, none, more, AFull, AnExpr, AnAnd, ANot, ACompare, ASum, AnAdded, AProduct, AMultiplied, APrim, ACall, AnArg, AnIf, APOr, Negative, Plain, Expr, And, Not, Alone, Compared, Sum, Added, Product, Multiplied, Constant, Quoted, Truth, Named, Called, Chosen, Nothing, Paren, Tuple, Listed, Braces, Format, Call, Arg, If}
+use Rattle.script_grammar.specs.Tree.{Tree, Many, none, more, AFull, AnExpr, AnAnd, ANot, ACompare, ASum, AnAdded, AProduct, AMultiplied, AnOperand, ACall, AnArg, AnIf, APOr, Negative, Plain, Expr, And, Not, Alone, Compared, Sum, Added, Product, Multiplied, Constant, Quoted, Truth, Named, Called, Chosen, Nothing, Paren, Tuple, Listed, Braces, Format, Call, Arg, If}
 use Rattle.type_terms.specs.Ground.{Ground, Grounds, base_type, list, tuple, source, IsNumber, no_more}
 use Rattle.type_terms.specs.Ground as ground
 use Rattle.type_terms.specs.declared.ty.Base.TheVariants as base
@@ -280,11 +280,11 @@ FullSafe s t e = (g : Ground) → Has t e g → Runs s t g (full s e)
 abbrev pub ExprSafe : Scope → Sight → Tree AnExpr → Type 0
 ExprSafe s t e = (g : Ground) → Has t e g → Runs s t g (meaning.expr s e)
 
-abbrev ConjSafe : Scope → Sight → Tree AnAnd → Type 0
-ConjSafe s t e = (g : Ground) → Has t e g → Runs s t g (meaning.conj s e)
+abbrev ConjunctionSafe : Scope → Sight → Tree AnAnd → Type 0
+ConjunctionSafe s t e = (g : Ground) → Has t e g → Runs s t g (meaning.conjunction s e)
 
-abbrev NegaSafe : Scope → Sight → Tree ANot → Type 0
-NegaSafe s t e = (g : Ground) → Has t e g → Runs s t g (meaning.nega s e)
+abbrev NegationSafe : Scope → Sight → Tree ANot → Type 0
+NegationSafe s t e = (g : Ground) → Has t e g → Runs s t g (meaning.negation s e)
 
 abbrev CompareSafe : Scope → Sight → Tree ACompare → Type 0
 CompareSafe s t e = (g : Ground) → Has t e g → Runs s t g (meaning.compare s e)
@@ -295,8 +295,8 @@ SumSafe s t e = (g : Ground) → Has t e g → Runs s t g (meaning.sum s e)
 abbrev ProductSafe : Scope → Sight → Tree AProduct → Type 0
 ProductSafe s t e = (g : Ground) → Has t e g → Runs s t g (meaning.product s e)
 
-abbrev PrimSafe : Scope → Sight → Tree APrim → Type 0
-PrimSafe s t e = (g : Ground) → Has t e g → Runs s t g (meaning.prim s e)
+abbrev OperandSafe : Scope → Sight → Tree AnOperand → Type 0
+OperandSafe s t e = (g : Ground) → Has t e g → Runs s t g (meaning.operand s e)
 
 abbrev pub ChoiceSafe : Scope → Sight → Tree AnIf → Type 0
 ChoiceSafe s t e = (g : Ground) → Has t e g → Runs s t g (meaning.choice s e)
@@ -310,11 +310,11 @@ OrsSafe s t rest = EachHas t rest truth → RunsOn s t truth truth (meaning.ors 
 abbrev AndsSafe : Scope → Sight → Tree (Many ANot) → Type 0
 AndsSafe s t rest = EachHas t rest truth → RunsOn s t truth truth (meaning.ands s rest)
 
-abbrev AddedsSafe : Scope → Sight → Tree (Many AnAdded) → Type 0
-AddedsSafe s t rest = (g : Ground) → IsNumber g → EachHas t rest g → RunsOn s t g g (meaning.addeds s rest)
+abbrev AddendsSafe : Scope → Sight → Tree (Many AnAdded) → Type 0
+AddendsSafe s t rest = (g : Ground) → IsNumber g → EachHas t rest g → RunsOn s t g g (meaning.addends s rest)
 
 abbrev TimesSafe : Scope → Sight → Tree (Many AMultiplied) → Type 0
-TimesSafe s t rest = (g : Ground) → IsNumber g → EachHas t rest g → RunsOn s t g g (meaning.multiplieds s rest)
+TimesSafe s t rest = (g : Ground) → IsNumber g → EachHas t rest g → RunsOn s t g g (meaning.factors s rest)
 
 abbrev AllsSafe : Scope → Sight → Tree (Many AFull) → Type 0
 AllsSafe s t rest = (ts : Grounds) (hs : List Ground) → HaveAll t rest ts → RunAll s t hs ts (meaning.fulls s rest)
@@ -333,39 +333,39 @@ of_plain : (s : Scope) (t : Sight) (e : Tree AnExpr) → ExprSafe s t e → Full
 unfolding full
 of_plain s t e a g has = a g has
 
-of_expr : (s : Scope) (t : Sight) (a : Tree AnAnd) (rest : Tree (Many AnAnd)) → ConjSafe s t a → OrsSafe s t rest → ExprSafe s t (Expr a rest)
+of_expr : (s : Scope) (t : Sight) (a : Tree AnAnd) (rest : Tree (Many AnAnd)) → ConjunctionSafe s t a → OrsSafe s t rest → ExprSafe s t (Expr a rest)
 unfolding meaning.expr meaning.ors
-of_expr s t a none first others g has = goes_on s t g g (meaning.conj s a) (λ v m. Ok (v, m)) (first g has.0) (no_more_runs s t g)
+of_expr s t a none first others g has = goes_on s t g g (meaning.conjunction s a) (λ v m. Ok (v, m)) (first g has.0) (no_more_runs s t g)
 of_expr s t a (more b rest) first others g has =
     subst (λ (h : Ground). Runs s t h (meaning.expr s (Expr a (more b rest)))) (sym has.2)
-    (goes_on s t truth truth (meaning.conj s a) (meaning.ors s (more b rest)) (first truth (subst (λ (h : Ground). Has t a h) has.2 has.0)) (others (subst (λ (h : Ground). EachHas t (more b rest) h) has.2 has.1)))
+    (goes_on s t truth truth (meaning.conjunction s a) (meaning.ors s (more b rest)) (first truth (subst (λ (h : Ground). Has t a h) has.2 has.0)) (others (subst (λ (h : Ground). EachHas t (more b rest) h) has.2 has.1)))
 
 no_ors : (s : Scope) (t : Sight) → OrsSafe s t none
 unfolding meaning.ors
 no_ors s t has = no_more_runs s t truth
 
-of_ors : (s : Scope) (t : Sight) (a : Tree AnAnd) (rest : Tree (Many AnAnd)) → ConjSafe s t a → OrsSafe s t rest → OrsSafe s t (more a rest)
+of_ors : (s : Scope) (t : Sight) (a : Tree AnAnd) (rest : Tree (Many AnAnd)) → ConjunctionSafe s t a → OrsSafe s t rest → OrsSafe s t (more a rest)
 unfolding meaning.ors
-of_ors s t a rest first others has = linked s t truth truth truth either (meaning.conj s a) (meaning.ors s rest) either_at (first truth has.0) (others has.1)
+of_ors s t a rest first others has = linked s t truth truth truth either (meaning.conjunction s a) (meaning.ors s rest) either_at (first truth has.0) (others has.1)
 
-of_conj : (s : Scope) (t : Sight) (n : Tree ANot) (rest : Tree (Many ANot)) → NegaSafe s t n → AndsSafe s t rest → ConjSafe s t (And n rest)
-unfolding meaning.conj meaning.ands
-of_conj s t n none first others g has = goes_on s t g g (meaning.nega s n) (λ v m. Ok (v, m)) (first g has.0) (no_more_runs s t g)
-of_conj s t n (more b rest) first others g has =
-    subst (λ (h : Ground). Runs s t h (meaning.conj s (And n (more b rest)))) (sym has.2)
-    (goes_on s t truth truth (meaning.nega s n) (meaning.ands s (more b rest)) (first truth (subst (λ (h : Ground). Has t n h) has.2 has.0)) (others (subst (λ (h : Ground). EachHas t (more b rest) h) has.2 has.1)))
+of_conjunction : (s : Scope) (t : Sight) (n : Tree ANot) (rest : Tree (Many ANot)) → NegationSafe s t n → AndsSafe s t rest → ConjunctionSafe s t (And n rest)
+unfolding meaning.conjunction meaning.ands
+of_conjunction s t n none first others g has = goes_on s t g g (meaning.negation s n) (λ v m. Ok (v, m)) (first g has.0) (no_more_runs s t g)
+of_conjunction s t n (more b rest) first others g has =
+    subst (λ (h : Ground). Runs s t h (meaning.conjunction s (And n (more b rest)))) (sym has.2)
+    (goes_on s t truth truth (meaning.negation s n) (meaning.ands s (more b rest)) (first truth (subst (λ (h : Ground). Has t n h) has.2 has.0)) (others (subst (λ (h : Ground). EachHas t (more b rest) h) has.2 has.1)))
 
 no_ands : (s : Scope) (t : Sight) → AndsSafe s t none
 unfolding meaning.ands
 no_ands s t has = no_more_runs s t truth
 
-of_ands : (s : Scope) (t : Sight) (a : Tree ANot) (rest : Tree (Many ANot)) → NegaSafe s t a → AndsSafe s t rest → AndsSafe s t (more a rest)
+of_ands : (s : Scope) (t : Sight) (a : Tree ANot) (rest : Tree (Many ANot)) → NegationSafe s t a → AndsSafe s t rest → AndsSafe s t (more a rest)
 unfolding meaning.ands
-of_ands s t a rest first others has = linked s t truth truth truth both (meaning.nega s a) (meaning.ands s rest) both_at (first truth has.0) (others has.1)
+of_ands s t a rest first others has = linked s t truth truth truth both (meaning.negation s a) (meaning.ands s rest) both_at (first truth has.0) (others has.1)
 
-of_not : (s : Scope) (t : Sight) (negated : Bool) (inner : Tree ACompare) → CompareSafe s t inner → NegaSafe s t (Not negated inner)
-unfolding meaning.nega
-of_not s t true inner a g has = subst (λ (h : Ground). Runs s t h (meaning.nega s (Not true inner))) (sym has.0) (is_opposite s t (meaning.compare s inner) (a truth has.1))
+of_not : (s : Scope) (t : Sight) (negated : Bool) (inner : Tree ACompare) → CompareSafe s t inner → NegationSafe s t (Not negated inner)
+unfolding meaning.negation
+of_not s t true inner a g has = subst (λ (h : Ground). Runs s t h (meaning.negation s (Not true inner))) (sym has.0) (is_opposite s t (meaning.compare s inner) (a truth has.1))
 of_not s t false inner a g has = a g has
 
 of_alone : (s : Scope) (t : Sight) (left : Tree ASum) → SumSafe s t left → CompareSafe s t (Alone left)
@@ -378,83 +378,83 @@ of_compared s t left right at o a b g has =
     subst (λ (h : Ground). Runs s t h (meaning.compare s (Compared left at o right))) (sym has.0)
     (is_compared s t has.1.0 o (meaning.sum s left) (meaning.sum s right) has.1.1 (a has.1.0 has.1.2) (b has.1.0 has.1.3))
 
-of_sum : (s : Scope) (t : Sight) (p : Tree AProduct) (rest : Tree (Many AnAdded)) → ProductSafe s t p → AddedsSafe s t rest → SumSafe s t (Sum p rest)
-unfolding meaning.sum meaning.addeds
+of_sum : (s : Scope) (t : Sight) (p : Tree AProduct) (rest : Tree (Many AnAdded)) → ProductSafe s t p → AddendsSafe s t rest → SumSafe s t (Sum p rest)
+unfolding meaning.sum meaning.addends
 of_sum s t p none first others g has = goes_on s t g g (meaning.product s p) (λ v m. Ok (v, m)) (first g has.0) (no_more_runs s t g)
-of_sum s t p (more b rest) first others g has = goes_on s t g g (meaning.product s p) (meaning.addeds s (more b rest)) (first g has.0) (others g has.2 has.1)
+of_sum s t p (more b rest) first others g has = goes_on s t g g (meaning.product s p) (meaning.addends s (more b rest)) (first g has.0) (others g has.2 has.1)
 
-no_addeds : (s : Scope) (t : Sight) → AddedsSafe s t none
-unfolding meaning.addeds
-no_addeds s t g number has = no_more_runs s t g
+no_addends : (s : Scope) (t : Sight) → AddendsSafe s t none
+unfolding meaning.addends
+no_addends s t g number has = no_more_runs s t g
 
-of_addeds : (s : Scope) (t : Sight) (at : ℕ) (minus : Bool) (p : Tree AProduct) (rest : Tree (Many AnAdded)) → ProductSafe s t p → AddedsSafe s t rest → AddedsSafe s t (more (Added at minus p) rest)
-unfolding meaning.addeds meaning.plus
-of_addeds s t at minus p rest first others g number has = linked s t g g g (added minus at) (meaning.product s p) (meaning.addeds s rest) (λ ns u w a b. added_safe ns minus at g number u w a b) (first g has.0) (others g number has.1)
+of_addends : (s : Scope) (t : Sight) (at : ℕ) (minus : Bool) (p : Tree AProduct) (rest : Tree (Many AnAdded)) → ProductSafe s t p → AddendsSafe s t rest → AddendsSafe s t (more (Added at minus p) rest)
+unfolding meaning.addends meaning.plus
+of_addends s t at minus p rest first others g number has = linked s t g g g (added minus at) (meaning.product s p) (meaning.addends s rest) (λ ns u w a b. added_safe ns minus at g number u w a b) (first g has.0) (others g number has.1)
 
-of_product : (s : Scope) (t : Sight) (p : Tree APrim) (rest : Tree (Many AMultiplied)) → PrimSafe s t p → TimesSafe s t rest → ProductSafe s t (Product p rest)
-unfolding meaning.product meaning.multiplieds
-of_product s t p none first others g has = goes_on s t g g (meaning.prim s p) (λ v m. Ok (v, m)) (first g has.0) (no_more_runs s t g)
-of_product s t p (more b rest) first others g has = goes_on s t g g (meaning.prim s p) (meaning.multiplieds s (more b rest)) (first g has.0) (others g has.2 has.1)
+of_product : (s : Scope) (t : Sight) (p : Tree AnOperand) (rest : Tree (Many AMultiplied)) → OperandSafe s t p → TimesSafe s t rest → ProductSafe s t (Product p rest)
+unfolding meaning.product meaning.factors
+of_product s t p none first others g has = goes_on s t g g (meaning.operand s p) (λ v m. Ok (v, m)) (first g has.0) (no_more_runs s t g)
+of_product s t p (more b rest) first others g has = goes_on s t g g (meaning.operand s p) (meaning.factors s (more b rest)) (first g has.0) (others g has.2 has.1)
 
 no_times : (s : Scope) (t : Sight) → TimesSafe s t none
-unfolding meaning.multiplieds
+unfolding meaning.factors
 no_times s t g number has = no_more_runs s t g
 
-of_times : (s : Scope) (t : Sight) (at : ℕ) (divide : Bool) (p : Tree APrim) (rest : Tree (Many AMultiplied)) → PrimSafe s t p → TimesSafe s t rest → TimesSafe s t (more (Multiplied at divide p) rest)
-unfolding meaning.multiplieds meaning.times
-of_times s t at divide p rest first others g number has = linked s t g g g (multiplied divide at) (meaning.prim s p) (meaning.multiplieds s rest) (λ ns u w a b. multiplied_safe ns divide at g number u w a b) (first g has.0) (others g number has.1)
+of_times : (s : Scope) (t : Sight) (at : ℕ) (divide : Bool) (p : Tree AnOperand) (rest : Tree (Many AMultiplied)) → OperandSafe s t p → TimesSafe s t rest → TimesSafe s t (more (Multiplied at divide p) rest)
+unfolding meaning.factors meaning.times
+of_times s t at divide p rest first others g number has = linked s t g g g (multiplied divide at) (meaning.operand s p) (meaning.factors s rest) (λ ns u w a b. multiplied_safe ns divide at g number u w a b) (first g has.0) (others g number has.1)
 
-of_constant : (s : Scope) (t : Sight) (at : ℕ) (n : Literal) → PrimSafe s t (Constant at n)
-unfolding meaning.prim
+of_constant : (s : Scope) (t : Sight) (at : ℕ) (n : Literal) → OperandSafe s t (Constant at n)
+unfolding meaning.operand
 of_constant s t at n g has = counts_one s t g (λ c. Ok (literal_value n, c)) (is_made s t g (literal_value n) (literal_is n g has))
 
-of_quoted : (s : Scope) (t : Sight) (at : ℕ) (text : List ℕ) → PrimSafe s t (Quoted at text)
-unfolding meaning.prim
+of_quoted : (s : Scope) (t : Sight) (at : ℕ) (text : List ℕ) → OperandSafe s t (Quoted at text)
+unfolding meaning.operand
 of_quoted s t at text g has = counts_one s t g (λ c. Ok (value.Text text, c)) (is_made s t g (value.Text text) (λ ns. has))
 
-of_truth : (s : Scope) (t : Sight) (at : ℕ) (b : Bool) → PrimSafe s t (Truth at b)
-unfolding meaning.prim
+of_truth : (s : Scope) (t : Sight) (at : ℕ) (b : Bool) → OperandSafe s t (Truth at b)
+unfolding meaning.operand
 of_truth s t at b g has = counts_one s t g (λ c. Ok (value.Truth b, c)) (is_made s t g (value.Truth b) (λ ns. has))
 
-of_named : (s : Scope) (t : Sight) (at : ℕ) (name : List ℕ) → PrimSafe s t (Named at name)
-unfolding meaning.prim
+of_named : (s : Scope) (t : Sight) (at : ℕ) (name : List ℕ) → OperandSafe s t (Named at name)
+unfolding meaning.operand
 of_named s t at name g has = is_named s t at g has
 
-of_called : (s : Scope) (t : Sight) (k : Tree ACall) → CallSafe s t k → PrimSafe s t (Called k)
-unfolding meaning.prim
+of_called : (s : Scope) (t : Sight) (k : Tree ACall) → CallSafe s t k → OperandSafe s t (Called k)
+unfolding meaning.operand
 of_called s t k a g has = counts_one s t g (meaning.call s k) (a g has)
 
-of_chosen : (s : Scope) (t : Sight) (i : Tree AnIf) → ChoiceSafe s t i → PrimSafe s t (Chosen i)
-unfolding meaning.prim
+of_chosen : (s : Scope) (t : Sight) (i : Tree AnIf) → ChoiceSafe s t i → OperandSafe s t (Chosen i)
+unfolding meaning.operand
 of_chosen s t i a g has = counts_one s t g (meaning.choice s i) (a g has)
 
-of_nothing : (s : Scope) (t : Sight) (at : ℕ) → PrimSafe s t (Nothing at)
-unfolding meaning.prim
+of_nothing : (s : Scope) (t : Sight) (at : ℕ) → OperandSafe s t (Nothing at)
+unfolding meaning.operand
 of_nothing s t at g has = counts_one s t g (λ c. Ok (value.Nothing, c)) (is_made s t g value.Nothing (λ ns. has))
 
-of_paren : (s : Scope) (t : Sight) (f : Tree AFull) → FullSafe s t f → PrimSafe s t (Paren f)
-unfolding meaning.prim
+of_paren : (s : Scope) (t : Sight) (f : Tree AFull) → FullSafe s t f → OperandSafe s t (Paren f)
+unfolding meaning.operand
 of_paren s t f a g has = counts_one s t g (full s f) (a g has)
 
-of_tuple : (s : Scope) (t : Sight) (at : ℕ) (f h : Tree AFull) (rest : Tree (Many AFull)) → FullSafe s t f → FullSafe s t h → AllsSafe s t rest → PrimSafe s t (Tuple at f h rest)
-unfolding meaning.prim
+of_tuple : (s : Scope) (t : Sight) (at : ℕ) (f h : Tree AFull) (rest : Tree (Many AFull)) → FullSafe s t f → FullSafe s t h → AllsSafe s t rest → OperandSafe s t (Tuple at f h rest)
+unfolding meaning.operand
 of_tuple s t at f h rest a b c g has =
-    subst (λ (k : Ground). Runs s t k (meaning.prim s (Tuple at f h rest))) (sym has.3)
+    subst (λ (k : Ground). Runs s t k (meaning.operand s (Tuple at f h rest))) (sym has.3)
     (counts_one s t (tuple (ground.more has.0 (ground.more has.1 has.2))) (λ c. full s f c >>= λ x. full s h x.1 >>= λ y. meaning.fulls s rest (x.0 ∷ y.0 ∷ []) y.1 >>= λ z. Ok (value.Tuple (many z.0), z.1))
     (is_tuple s t has.0 has.1 has.2 (full s f) (full s h) (meaning.fulls s rest) (a has.0 has.4) (b has.1 has.5) (c has.2 (has.0 ∷ has.1 ∷ []) has.6)))
 
-of_listed : (s : Scope) (t : Sight) (at : ℕ) (parts : Tree (Many AFull)) → EachSafe s t parts → PrimSafe s t (Listed at parts)
-unfolding meaning.prim
+of_listed : (s : Scope) (t : Sight) (at : ℕ) (parts : Tree (Many AFull)) → EachSafe s t parts → OperandSafe s t (Listed at parts)
+unfolding meaning.operand
 of_listed s t at parts a g has =
-    subst (λ (k : Ground). Runs s t k (meaning.prim s (Listed at parts))) (sym has.1)
+    subst (λ (k : Ground). Runs s t k (meaning.operand s (Listed at parts))) (sym has.1)
     (counts_one s t (list has.0) (λ c. meaning.fulls s parts [] c >>= λ z. Ok (value.Listed (many z.0), z.1)) (is_list s t has.0 (meaning.fulls s parts) (a has.0 has.2)))
 
-of_braces : (s : Scope) (t : Sight) (at : ℕ) (pred : Tree APOr) → PrimSafe s t (Braces at pred)
-unfolding meaning.prim
+of_braces : (s : Scope) (t : Sight) (at : ℕ) (pred : Tree APOr) → OperandSafe s t (Braces at pred)
+unfolding meaning.operand
 of_braces s t at pred g has = counts_one s t g (λ c. Ok (value.Pred (or_pred pred), c)) (is_made s t g (value.Pred (or_pred pred)) (λ ns. has))
 
-of_format : (s : Scope) (t : Sight) (at : ℕ) (bits : Option ℤ) → PrimSafe s t (Format at bits)
-unfolding meaning.prim
+of_format : (s : Scope) (t : Sight) (at : ℕ) (bits : Option ℤ) → OperandSafe s t (Format at bits)
+unfolding meaning.operand
 of_format s t at bits g has = counts_one s t g (λ c. meaning.format at bits >>= λ v. Ok (v, c)) (is_found s t g (meaning.format at bits) (λ ns. format_safe ns at bits g has))
 
 no_alls : (s : Scope) (t : Sight) → AllsSafe s t none
@@ -501,53 +501,53 @@ mutual
   safe_full bs s t (Plain e) = of_plain s t e (safe_expr bs s t e)
 
   pub safe_expr : BuiltinsAreSafe → (s : Scope) (t : Sight) (e : Tree AnExpr) → ExprSafe s t e
-  safe_expr bs s t (Expr a rest) = of_expr s t a rest (safe_conj bs s t a) (safe_ors bs s t rest)
+  safe_expr bs s t (Expr a rest) = of_expr s t a rest (safe_conjunction bs s t a) (safe_ors bs s t rest)
 
   safe_ors : BuiltinsAreSafe → (s : Scope) (t : Sight) (rest : Tree (Many AnAnd)) → OrsSafe s t rest
   safe_ors bs s t none = no_ors s t
-  safe_ors bs s t (more a rest) = of_ors s t a rest (safe_conj bs s t a) (safe_ors bs s t rest)
+  safe_ors bs s t (more a rest) = of_ors s t a rest (safe_conjunction bs s t a) (safe_ors bs s t rest)
 
-  safe_conj : BuiltinsAreSafe → (s : Scope) (t : Sight) (e : Tree AnAnd) → ConjSafe s t e
-  safe_conj bs s t (And n rest) = of_conj s t n rest (safe_nega bs s t n) (safe_ands bs s t rest)
+  safe_conjunction : BuiltinsAreSafe → (s : Scope) (t : Sight) (e : Tree AnAnd) → ConjunctionSafe s t e
+  safe_conjunction bs s t (And n rest) = of_conjunction s t n rest (safe_negation bs s t n) (safe_ands bs s t rest)
 
   safe_ands : BuiltinsAreSafe → (s : Scope) (t : Sight) (rest : Tree (Many ANot)) → AndsSafe s t rest
   safe_ands bs s t none = no_ands s t
-  safe_ands bs s t (more a rest) = of_ands s t a rest (safe_nega bs s t a) (safe_ands bs s t rest)
+  safe_ands bs s t (more a rest) = of_ands s t a rest (safe_negation bs s t a) (safe_ands bs s t rest)
 
-  safe_nega : BuiltinsAreSafe → (s : Scope) (t : Sight) (e : Tree ANot) → NegaSafe s t e
-  safe_nega bs s t (Not negated inner) = of_not s t negated inner (safe_compare bs s t inner)
+  safe_negation : BuiltinsAreSafe → (s : Scope) (t : Sight) (e : Tree ANot) → NegationSafe s t e
+  safe_negation bs s t (Not negated inner) = of_not s t negated inner (safe_compare bs s t inner)
 
   safe_compare : BuiltinsAreSafe → (s : Scope) (t : Sight) (e : Tree ACompare) → CompareSafe s t e
   safe_compare bs s t (Alone left) = of_alone s t left (safe_sum bs s t left)
   safe_compare bs s t (Compared left at o right) = of_compared s t left right at o (safe_sum bs s t left) (safe_sum bs s t right)
 
   safe_sum : BuiltinsAreSafe → (s : Scope) (t : Sight) (e : Tree ASum) → SumSafe s t e
-  safe_sum bs s t (Sum p rest) = of_sum s t p rest (safe_product bs s t p) (safe_addeds bs s t rest)
+  safe_sum bs s t (Sum p rest) = of_sum s t p rest (safe_product bs s t p) (safe_addends bs s t rest)
 
-  safe_addeds : BuiltinsAreSafe → (s : Scope) (t : Sight) (rest : Tree (Many AnAdded)) → AddedsSafe s t rest
-  safe_addeds bs s t none = no_addeds s t
-  safe_addeds bs s t (more (Added at minus p) rest) = of_addeds s t at minus p rest (safe_product bs s t p) (safe_addeds bs s t rest)
+  safe_addends : BuiltinsAreSafe → (s : Scope) (t : Sight) (rest : Tree (Many AnAdded)) → AddendsSafe s t rest
+  safe_addends bs s t none = no_addends s t
+  safe_addends bs s t (more (Added at minus p) rest) = of_addends s t at minus p rest (safe_product bs s t p) (safe_addends bs s t rest)
 
   safe_product : BuiltinsAreSafe → (s : Scope) (t : Sight) (e : Tree AProduct) → ProductSafe s t e
-  safe_product bs s t (Product p rest) = of_product s t p rest (safe_prim bs s t p) (safe_times bs s t rest)
+  safe_product bs s t (Product p rest) = of_product s t p rest (safe_operand bs s t p) (safe_times bs s t rest)
 
   safe_times : BuiltinsAreSafe → (s : Scope) (t : Sight) (rest : Tree (Many AMultiplied)) → TimesSafe s t rest
   safe_times bs s t none = no_times s t
-  safe_times bs s t (more (Multiplied at divide p) rest) = of_times s t at divide p rest (safe_prim bs s t p) (safe_times bs s t rest)
+  safe_times bs s t (more (Multiplied at divide p) rest) = of_times s t at divide p rest (safe_operand bs s t p) (safe_times bs s t rest)
 
-  safe_prim : BuiltinsAreSafe → (s : Scope) (t : Sight) (e : Tree APrim) → PrimSafe s t e
-  safe_prim bs s t (Constant at n) = of_constant s t at n
-  safe_prim bs s t (Quoted at text) = of_quoted s t at text
-  safe_prim bs s t (Truth at b) = of_truth s t at b
-  safe_prim bs s t (Named at name) = of_named s t at name
-  safe_prim bs s t (Called k) = of_called s t k (safe_call bs s t k)
-  safe_prim bs s t (Chosen i) = of_chosen s t i (safe_choice bs s t i)
-  safe_prim bs s t (Nothing at) = of_nothing s t at
-  safe_prim bs s t (Paren f) = of_paren s t f (safe_full bs s t f)
-  safe_prim bs s t (Tuple at f h rest) = of_tuple s t at f h rest (safe_full bs s t f) (safe_full bs s t h) (safe_alls bs s t rest)
-  safe_prim bs s t (Listed at parts) = of_listed s t at parts (safe_each bs s t parts)
-  safe_prim bs s t (Braces at pred) = of_braces s t at pred
-  safe_prim bs s t (Format at bits) = of_format s t at bits
+  safe_operand : BuiltinsAreSafe → (s : Scope) (t : Sight) (e : Tree AnOperand) → OperandSafe s t e
+  safe_operand bs s t (Constant at n) = of_constant s t at n
+  safe_operand bs s t (Quoted at text) = of_quoted s t at text
+  safe_operand bs s t (Truth at b) = of_truth s t at b
+  safe_operand bs s t (Named at name) = of_named s t at name
+  safe_operand bs s t (Called k) = of_called s t k (safe_call bs s t k)
+  safe_operand bs s t (Chosen i) = of_chosen s t i (safe_choice bs s t i)
+  safe_operand bs s t (Nothing at) = of_nothing s t at
+  safe_operand bs s t (Paren f) = of_paren s t f (safe_full bs s t f)
+  safe_operand bs s t (Tuple at f h rest) = of_tuple s t at f h rest (safe_full bs s t f) (safe_full bs s t h) (safe_alls bs s t rest)
+  safe_operand bs s t (Listed at parts) = of_listed s t at parts (safe_each bs s t parts)
+  safe_operand bs s t (Braces at pred) = of_braces s t at pred
+  safe_operand bs s t (Format at bits) = of_format s t at bits
 
   safe_alls : BuiltinsAreSafe → (s : Scope) (t : Sight) (rest : Tree (Many AFull)) → AllsSafe s t rest
   safe_alls bs s t none = no_alls s t

@@ -3,7 +3,7 @@ use Rattle.std.proofs.Common.{◌≡◌, ℤ, inl, inr, ℕ, List, [], ◌∷◌
 use Rattle.liq_base.specs.declared.memory.Kind.{Kind}
 use Rattle.script_grammar.specs.declared.tree.CompareOp.{CompareOp}
 use Rattle.script_grammar.specs.declared.tree.Literal.{Literal}
-use Rattle.script_grammar.specs.Tree.{Tree, APOr, Many, none, more, AFull, AnExpr, AnAnd, ANot, ACompare, ASum, AnAdded, AProduct, AMultiplied, APrim, ACall, AnArg, AnIf, AParam, AnInner, ADef, Negative, Plain, Expr, And, Not, Alone, Compared, Sum, Added, Product, Multiplied, Constant, Quoted, Truth, Named, Called, Chosen, Nothing, Paren, Tuple, Listed, Braces, Format, Call, Arg, If, Param, Labelled, Optional, Inner, Bind, Def, APart, BindPart, DefPart, CallPart, IfPart}
+use Rattle.script_grammar.specs.Tree.{Tree, APOr, Many, none, more, AFull, AnExpr, AnAnd, ANot, ACompare, ASum, AnAdded, AProduct, AMultiplied, AnOperand, ACall, AnArg, AnIf, AParam, AnInner, ADef, Negative, Plain, Expr, And, Not, Alone, Compared, Sum, Added, Product, Multiplied, Constant, Quoted, Truth, Named, Called, Chosen, Nothing, Paren, Tuple, Listed, Braces, Format, Call, Arg, If, Param, Labelled, Optional, Inner, Bind, Def, APart, BindPart, DefPart, CallPart, IfPart}
 use Rattle.typing_rules.specs.declared.uses.Use.{Use}
 use Rattle.typing_rules.specs.declared.uses.Target.{Target}
 use Rattle.typing_rules.specs.declared.uses.Target.TheVariants as target
@@ -126,14 +126,14 @@ SameExpr s r e = (m : Machine) → meaning.expr s e m ≡ meaning.expr r e m
 abbrev SameOrs : Scope → Scope → Tree (Many AnAnd) → Type 0
 SameOrs s r e = (v : Value) (m : Machine) → meaning.ors s e v m ≡ meaning.ors r e v m
 
-abbrev SameConj : Scope → Scope → Tree AnAnd → Type 0
-SameConj s r e = (m : Machine) → meaning.conj s e m ≡ meaning.conj r e m
+abbrev SameConjunction : Scope → Scope → Tree AnAnd → Type 0
+SameConjunction s r e = (m : Machine) → meaning.conjunction s e m ≡ meaning.conjunction r e m
 
 abbrev SameAnds : Scope → Scope → Tree (Many ANot) → Type 0
 SameAnds s r e = (v : Value) (m : Machine) → meaning.ands s e v m ≡ meaning.ands r e v m
 
-abbrev SameNega : Scope → Scope → Tree ANot → Type 0
-SameNega s r e = (m : Machine) → meaning.nega s e m ≡ meaning.nega r e m
+abbrev SameNegation : Scope → Scope → Tree ANot → Type 0
+SameNegation s r e = (m : Machine) → meaning.negation s e m ≡ meaning.negation r e m
 
 abbrev SameCompare : Scope → Scope → Tree ACompare → Type 0
 SameCompare s r e = (m : Machine) → meaning.compare s e m ≡ meaning.compare r e m
@@ -141,17 +141,17 @@ SameCompare s r e = (m : Machine) → meaning.compare s e m ≡ meaning.compare 
 abbrev SameSum : Scope → Scope → Tree ASum → Type 0
 SameSum s r e = (m : Machine) → meaning.sum s e m ≡ meaning.sum r e m
 
-abbrev SameAddeds : Scope → Scope → Tree (Many AnAdded) → Type 0
-SameAddeds s r e = (v : Value) (m : Machine) → meaning.addeds s e v m ≡ meaning.addeds r e v m
+abbrev SameAddends : Scope → Scope → Tree (Many AnAdded) → Type 0
+SameAddends s r e = (v : Value) (m : Machine) → meaning.addends s e v m ≡ meaning.addends r e v m
 
 abbrev SameProduct : Scope → Scope → Tree AProduct → Type 0
 SameProduct s r e = (m : Machine) → meaning.product s e m ≡ meaning.product r e m
 
-abbrev SameMultiplieds : Scope → Scope → Tree (Many AMultiplied) → Type 0
-SameMultiplieds s r e = (v : Value) (m : Machine) → meaning.multiplieds s e v m ≡ meaning.multiplieds r e v m
+abbrev SameFactors : Scope → Scope → Tree (Many AMultiplied) → Type 0
+SameFactors s r e = (v : Value) (m : Machine) → meaning.factors s e v m ≡ meaning.factors r e v m
 
-abbrev SamePrim : Scope → Scope → Tree APrim → Type 0
-SamePrim s r e = (m : Machine) → meaning.prim s e m ≡ meaning.prim r e m
+abbrev SameOperand : Scope → Scope → Tree AnOperand → Type 0
+SameOperand s r e = (m : Machine) → meaning.operand s e m ≡ meaning.operand r e m
 
 abbrev SameFulls : Scope → Scope → Tree (Many AFull) → Type 0
 SameFulls s r e = (vs : List Value) (m : Machine) → meaning.fulls s e vs m ≡ meaning.fulls r e vs m
@@ -178,36 +178,36 @@ plain_of : (s r : Scope) (e : Tree AnExpr) → SameExpr s r e → SameFull s r (
 unfolding full
 plain_of s r e same m = same m
 
-expr_of : (s r : Scope) (a : Tree AnAnd) (rest : Tree (Many AnAnd)) → SameConj s r a → SameOrs s r rest → SameExpr s r (Expr a rest)
+expr_of : (s r : Scope) (a : Tree AnAnd) (rest : Tree (Many AnAnd)) → SameConjunction s r a → SameOrs s r rest → SameExpr s r (Expr a rest)
 unfolding meaning.expr
-expr_of s r a rest first second m = then_same (meaning.conj s a m) (meaning.conj r a m) (λ x. meaning.ors s rest x.0 x.1) (λ x. meaning.ors r rest x.0 x.1) (first m) (λ x. second x.0 x.1)
+expr_of s r a rest first second m = then_same (meaning.conjunction s a m) (meaning.conjunction r a m) (λ x. meaning.ors s rest x.0 x.1) (λ x. meaning.ors r rest x.0 x.1) (first m) (λ x. second x.0 x.1)
 
 no_ors : (s r : Scope) → SameOrs s r none
 unfolding meaning.ors
 no_ors s r v m = refl
 
-ors_of : (s r : Scope) (a : Tree AnAnd) (rest : Tree (Many AnAnd)) → SameConj s r a → SameOrs s r rest → SameOrs s r (more a rest)
+ors_of : (s r : Scope) (a : Tree AnAnd) (rest : Tree (Many AnAnd)) → SameConjunction s r a → SameOrs s r rest → SameOrs s r (more a rest)
 unfolding meaning.ors
 ors_of s r a rest first second v m =
-    then_same (joined either v (meaning.conj s a m)) (joined either v (meaning.conj r a m)) (λ x. meaning.ors s rest x.0 x.1) (λ x. meaning.ors r rest x.0 x.1)
-    (joined_same either v (meaning.conj s a m) (meaning.conj r a m) (first m)) (λ x. second x.0 x.1)
+    then_same (joined either v (meaning.conjunction s a m)) (joined either v (meaning.conjunction r a m)) (λ x. meaning.ors s rest x.0 x.1) (λ x. meaning.ors r rest x.0 x.1)
+    (joined_same either v (meaning.conjunction s a m) (meaning.conjunction r a m) (first m)) (λ x. second x.0 x.1)
 
-conj_of : (s r : Scope) (a : Tree ANot) (rest : Tree (Many ANot)) → SameNega s r a → SameAnds s r rest → SameConj s r (And a rest)
-unfolding meaning.conj
-conj_of s r a rest first second m = then_same (meaning.nega s a m) (meaning.nega r a m) (λ x. meaning.ands s rest x.0 x.1) (λ x. meaning.ands r rest x.0 x.1) (first m) (λ x. second x.0 x.1)
+conjunction_of : (s r : Scope) (a : Tree ANot) (rest : Tree (Many ANot)) → SameNegation s r a → SameAnds s r rest → SameConjunction s r (And a rest)
+unfolding meaning.conjunction
+conjunction_of s r a rest first second m = then_same (meaning.negation s a m) (meaning.negation r a m) (λ x. meaning.ands s rest x.0 x.1) (λ x. meaning.ands r rest x.0 x.1) (first m) (λ x. second x.0 x.1)
 
 no_ands : (s r : Scope) → SameAnds s r none
 unfolding meaning.ands
 no_ands s r v m = refl
 
-ands_of : (s r : Scope) (a : Tree ANot) (rest : Tree (Many ANot)) → SameNega s r a → SameAnds s r rest → SameAnds s r (more a rest)
+ands_of : (s r : Scope) (a : Tree ANot) (rest : Tree (Many ANot)) → SameNegation s r a → SameAnds s r rest → SameAnds s r (more a rest)
 unfolding meaning.ands
 ands_of s r a rest first second v m =
-    then_same (joined both v (meaning.nega s a m)) (joined both v (meaning.nega r a m)) (λ x. meaning.ands s rest x.0 x.1) (λ x. meaning.ands r rest x.0 x.1)
-    (joined_same both v (meaning.nega s a m) (meaning.nega r a m) (first m)) (λ x. second x.0 x.1)
+    then_same (joined both v (meaning.negation s a m)) (joined both v (meaning.negation r a m)) (λ x. meaning.ands s rest x.0 x.1) (λ x. meaning.ands r rest x.0 x.1)
+    (joined_same both v (meaning.negation s a m) (meaning.negation r a m) (first m)) (λ x. second x.0 x.1)
 
-not_of : (s r : Scope) (negated : Bool) (inside : Tree ACompare) → SameCompare s r inside → SameNega s r (Not negated inside)
-unfolding meaning.nega
+not_of : (s r : Scope) (negated : Bool) (inside : Tree ACompare) → SameCompare s r inside → SameNegation s r (Not negated inside)
+unfolding meaning.negation
 not_of s r true inside same m =
     then_same (meaning.compare s inside m) (meaning.compare r inside m) (λ x. count 1 x.1 >>= λ c. opposite x.0 >>= λ u. Ok (u, c)) (λ x. count 1 x.1 >>= λ c. opposite x.0 >>= λ u. Ok (u, c)) (same m) (λ x. refl)
 not_of s r false inside same m = same m
@@ -223,84 +223,84 @@ compared_of s r one at o other first second m =
     (first m) (λ x.
     then_same (meaning.sum s other x.1) (meaning.sum r other x.1) (λ y. count 1 y.1 >>= λ c. compared o x.0 y.0 >>= λ u. Ok (u, c)) (λ y. count 1 y.1 >>= λ c. compared o x.0 y.0 >>= λ u. Ok (u, c)) (second x.1) (λ y. refl))
 
-sum_of : (s r : Scope) (p : Tree AProduct) (rest : Tree (Many AnAdded)) → SameProduct s r p → SameAddeds s r rest → SameSum s r (Sum p rest)
+sum_of : (s r : Scope) (p : Tree AProduct) (rest : Tree (Many AnAdded)) → SameProduct s r p → SameAddends s r rest → SameSum s r (Sum p rest)
 unfolding meaning.sum
-sum_of s r p rest first second m = then_same (meaning.product s p m) (meaning.product r p m) (λ x. meaning.addeds s rest x.0 x.1) (λ x. meaning.addeds r rest x.0 x.1) (first m) (λ x. second x.0 x.1)
+sum_of s r p rest first second m = then_same (meaning.product s p m) (meaning.product r p m) (λ x. meaning.addends s rest x.0 x.1) (λ x. meaning.addends r rest x.0 x.1) (first m) (λ x. second x.0 x.1)
 
-no_addeds : (s r : Scope) → SameAddeds s r none
-unfolding meaning.addeds
-no_addeds s r v m = refl
+no_addends : (s r : Scope) → SameAddends s r none
+unfolding meaning.addends
+no_addends s r v m = refl
 
-addeds_of : (s r : Scope) (at : ℕ) (minus : Bool) (p : Tree AProduct) (rest : Tree (Many AnAdded)) → SameProduct s r p → SameAddeds s r rest → SameAddeds s r (more (Added at minus p) rest)
-unfolding meaning.addeds meaning.plus
-addeds_of s r at minus p rest first second v m =
-    then_same (joined (added minus at) v (meaning.product s p m)) (joined (added minus at) v (meaning.product r p m)) (λ x. meaning.addeds s rest x.0 x.1) (λ x. meaning.addeds r rest x.0 x.1)
+addends_of : (s r : Scope) (at : ℕ) (minus : Bool) (p : Tree AProduct) (rest : Tree (Many AnAdded)) → SameProduct s r p → SameAddends s r rest → SameAddends s r (more (Added at minus p) rest)
+unfolding meaning.addends meaning.plus
+addends_of s r at minus p rest first second v m =
+    then_same (joined (added minus at) v (meaning.product s p m)) (joined (added minus at) v (meaning.product r p m)) (λ x. meaning.addends s rest x.0 x.1) (λ x. meaning.addends r rest x.0 x.1)
     (joined_same (added minus at) v (meaning.product s p m) (meaning.product r p m) (first m)) (λ x. second x.0 x.1)
 
-product_of : (s r : Scope) (p : Tree APrim) (rest : Tree (Many AMultiplied)) → SamePrim s r p → SameMultiplieds s r rest → SameProduct s r (Product p rest)
+product_of : (s r : Scope) (p : Tree AnOperand) (rest : Tree (Many AMultiplied)) → SameOperand s r p → SameFactors s r rest → SameProduct s r (Product p rest)
 unfolding meaning.product
-product_of s r p rest first second m = then_same (meaning.prim s p m) (meaning.prim r p m) (λ x. meaning.multiplieds s rest x.0 x.1) (λ x. meaning.multiplieds r rest x.0 x.1) (first m) (λ x. second x.0 x.1)
+product_of s r p rest first second m = then_same (meaning.operand s p m) (meaning.operand r p m) (λ x. meaning.factors s rest x.0 x.1) (λ x. meaning.factors r rest x.0 x.1) (first m) (λ x. second x.0 x.1)
 
-no_multiplieds : (s r : Scope) → SameMultiplieds s r none
-unfolding meaning.multiplieds
-no_multiplieds s r v m = refl
+no_factors : (s r : Scope) → SameFactors s r none
+unfolding meaning.factors
+no_factors s r v m = refl
 
-multiplieds_of : (s r : Scope) (at : ℕ) (divide : Bool) (p : Tree APrim) (rest : Tree (Many AMultiplied)) → SamePrim s r p → SameMultiplieds s r rest → SameMultiplieds s r (more (Multiplied at divide p) rest)
-unfolding meaning.multiplieds meaning.times
-multiplieds_of s r at divide p rest first second v m =
-    then_same (joined (multiplied divide at) v (meaning.prim s p m)) (joined (multiplied divide at) v (meaning.prim r p m)) (λ x. meaning.multiplieds s rest x.0 x.1) (λ x. meaning.multiplieds r rest x.0 x.1)
-    (joined_same (multiplied divide at) v (meaning.prim s p m) (meaning.prim r p m) (first m)) (λ x. second x.0 x.1)
+factors_of : (s r : Scope) (at : ℕ) (divide : Bool) (p : Tree AnOperand) (rest : Tree (Many AMultiplied)) → SameOperand s r p → SameFactors s r rest → SameFactors s r (more (Multiplied at divide p) rest)
+unfolding meaning.factors meaning.times
+factors_of s r at divide p rest first second v m =
+    then_same (joined (multiplied divide at) v (meaning.operand s p m)) (joined (multiplied divide at) v (meaning.operand r p m)) (λ x. meaning.factors s rest x.0 x.1) (λ x. meaning.factors r rest x.0 x.1)
+    (joined_same (multiplied divide at) v (meaning.operand s p m) (meaning.operand r p m) (first m)) (λ x. second x.0 x.1)
 
-constant_of : (s r : Scope) (at : ℕ) (n : Literal) → SamePrim s r (Constant at n)
-unfolding meaning.prim
+constant_of : (s r : Scope) (at : ℕ) (n : Literal) → SameOperand s r (Constant at n)
+unfolding meaning.operand
 constant_of s r at n m = refl
 
-quoted_of : (s r : Scope) (at : ℕ) (text : List ℕ) → SamePrim s r (Quoted at text)
-unfolding meaning.prim
+quoted_of : (s r : Scope) (at : ℕ) (text : List ℕ) → SameOperand s r (Quoted at text)
+unfolding meaning.operand
 quoted_of s r at text m = refl
 
-truth_of_prim : (s r : Scope) (at : ℕ) (b : Bool) → SamePrim s r (Truth at b)
-unfolding meaning.prim
-truth_of_prim s r at b m = refl
+truth_of_operand : (s r : Scope) (at : ℕ) (b : Bool) → SameOperand s r (Truth at b)
+unfolding meaning.operand
+truth_of_operand s r at b m = refl
 
-nothing_of : (s r : Scope) (at : ℕ) → SamePrim s r (Nothing at)
-unfolding meaning.prim
+nothing_of : (s r : Scope) (at : ℕ) → SameOperand s r (Nothing at)
+unfolding meaning.operand
 nothing_of s r at m = refl
 
-braces_of : (s r : Scope) (at : ℕ) (pred : Tree APOr) → SamePrim s r (Braces at pred)
-unfolding meaning.prim
+braces_of : (s r : Scope) (at : ℕ) (pred : Tree APOr) → SameOperand s r (Braces at pred)
+unfolding meaning.operand
 braces_of s r at pred m = refl
 
-format_of : (s r : Scope) (at : ℕ) (bits : Option ℤ) → SamePrim s r (Format at bits)
-unfolding meaning.prim
+format_of : (s r : Scope) (at : ℕ) (bits : Option ℤ) → SameOperand s r (Format at bits)
+unfolding meaning.operand
 format_of s r at bits m = refl
 
-named_of : (s r : Scope) (at : ℕ) (name : List ℕ) → s.slots ≡ r.slots → target_said (use_at at s.uses) ≡ target_said (use_at at r.uses) → SamePrim s r (Named at name)
-unfolding meaning.prim
+named_of : (s r : Scope) (at : ℕ) (name : List ℕ) → s.slots ≡ r.slots → target_said (use_at at s.uses) ≡ target_said (use_at at r.uses) → SameOperand s r (Named at name)
+unfolding meaning.operand
 named_of s r at name slots target m = named_same s r (use_at at s.uses) (use_at at r.uses) m slots target
 
-called_of : (s r : Scope) (k : Tree ACall) → SameCall s r k → SamePrim s r (Called k)
-unfolding meaning.prim
+called_of : (s r : Scope) (k : Tree ACall) → SameCall s r k → SameOperand s r (Called k)
+unfolding meaning.operand
 called_of s r k same m = then_each (count 1 m) (λ c. meaning.call s k c) (λ c. meaning.call r k c) (λ c. same c)
 
-chosen_of : (s r : Scope) (i : Tree AnIf) → SameChoice s r i → SamePrim s r (Chosen i)
-unfolding meaning.prim
+chosen_of : (s r : Scope) (i : Tree AnIf) → SameChoice s r i → SameOperand s r (Chosen i)
+unfolding meaning.operand
 chosen_of s r i same m = then_each (count 1 m) (λ c. meaning.choice s i c) (λ c. meaning.choice r i c) (λ c. same c)
 
-paren_of : (s r : Scope) (f : Tree AFull) → SameFull s r f → SamePrim s r (Paren f)
-unfolding meaning.prim
+paren_of : (s r : Scope) (f : Tree AFull) → SameFull s r f → SameOperand s r (Paren f)
+unfolding meaning.operand
 paren_of s r f same m = then_each (count 1 m) (λ c. full s f c) (λ c. full r f c) (λ c. same c)
 
-tuple_of : (s r : Scope) (at : ℕ) (f g : Tree AFull) (rest : Tree (Many AFull)) → SameFull s r f → SameFull s r g → SameFulls s r rest → SamePrim s r (Tuple at f g rest)
-unfolding meaning.prim
+tuple_of : (s r : Scope) (at : ℕ) (f g : Tree AFull) (rest : Tree (Many AFull)) → SameFull s r f → SameFull s r g → SameFulls s r rest → SameOperand s r (Tuple at f g rest)
+unfolding meaning.operand
 tuple_of s r at f g rest first second third m =
     then_each (count 1 m) (λ c. full s f c >>= λ x. full s g x.1 >>= λ y. meaning.fulls s rest (x.0 ∷ y.0 ∷ []) y.1 >>= λ z. Ok (value.Tuple (many z.0), z.1)) (λ c. full r f c >>= λ x. full r g x.1 >>= λ y. meaning.fulls r rest (x.0 ∷ y.0 ∷ []) y.1 >>= λ z. Ok (value.Tuple (many z.0), z.1)) (λ c.
     then_same (full s f c) (full r f c) (λ x. full s g x.1 >>= λ y. meaning.fulls s rest (x.0 ∷ y.0 ∷ []) y.1 >>= λ z. Ok (value.Tuple (many z.0), z.1)) (λ x. full r g x.1 >>= λ y. meaning.fulls r rest (x.0 ∷ y.0 ∷ []) y.1 >>= λ z. Ok (value.Tuple (many z.0), z.1)) (first c) (λ x.
     then_same (full s g x.1) (full r g x.1) (λ y. meaning.fulls s rest (x.0 ∷ y.0 ∷ []) y.1 >>= λ z. Ok (value.Tuple (many z.0), z.1)) (λ y. meaning.fulls r rest (x.0 ∷ y.0 ∷ []) y.1 >>= λ z. Ok (value.Tuple (many z.0), z.1)) (second x.1) (λ y.
     then_same (meaning.fulls s rest (x.0 ∷ y.0 ∷ []) y.1) (meaning.fulls r rest (x.0 ∷ y.0 ∷ []) y.1) (λ z. Ok (value.Tuple (many z.0), z.1)) (λ z. Ok (value.Tuple (many z.0), z.1)) (third (x.0 ∷ y.0 ∷ []) y.1) (λ z. refl))))
 
-listed_of : (s r : Scope) (at : ℕ) (parts : Tree (Many AFull)) → SameFulls s r parts → SamePrim s r (Listed at parts)
-unfolding meaning.prim
+listed_of : (s r : Scope) (at : ℕ) (parts : Tree (Many AFull)) → SameFulls s r parts → SameOperand s r (Listed at parts)
+unfolding meaning.operand
 listed_of s r at parts same m =
     then_each (count 1 m) (λ c. meaning.fulls s parts [] c >>= λ z. Ok (value.Listed (many z.0), z.1)) (λ c. meaning.fulls r parts [] c >>= λ z. Ok (value.Listed (many z.0), z.1)) (λ c.
     then_same (meaning.fulls s parts [] c) (meaning.fulls r parts [] c) (λ z. Ok (value.Listed (many z.0), z.1)) (λ z. Ok (value.Listed (many z.0), z.1)) (same [] c) (λ z. refl))
@@ -344,53 +344,53 @@ mutual
   full_same s r sc (Plain e) alike = plain_of s r e (expr_same s r sc e alike)
 
   pub expr_same : (s r : Scope) (sc : scoping.Scope) (e : Tree AnExpr) → Alike s r (names sc e) → SameExpr s r e
-  expr_same s r sc (Expr a rest) alike = expr_of s r a rest (conj_same s r sc a (left s r (names sc a) (names sc rest) alike)) (ors_same s r sc rest (right s r (names sc a) (names sc rest) alike))
+  expr_same s r sc (Expr a rest) alike = expr_of s r a rest (conjunction_same s r sc a (left s r (names sc a) (names sc rest) alike)) (ors_same s r sc rest (right s r (names sc a) (names sc rest) alike))
 
   ors_same : (s r : Scope) (sc : scoping.Scope) (rest : Tree (Many AnAnd)) → Alike s r (names sc rest) → SameOrs s r rest
   ors_same s r sc none alike = no_ors s r
-  ors_same s r sc (more a rest) alike = ors_of s r a rest (conj_same s r sc a (left s r (names sc a) (names sc rest) alike)) (ors_same s r sc rest (right s r (names sc a) (names sc rest) alike))
+  ors_same s r sc (more a rest) alike = ors_of s r a rest (conjunction_same s r sc a (left s r (names sc a) (names sc rest) alike)) (ors_same s r sc rest (right s r (names sc a) (names sc rest) alike))
 
-  conj_same : (s r : Scope) (sc : scoping.Scope) (e : Tree AnAnd) → Alike s r (names sc e) → SameConj s r e
-  conj_same s r sc (And a rest) alike = conj_of s r a rest (nega_same s r sc a (left s r (names sc a) (names sc rest) alike)) (ands_same s r sc rest (right s r (names sc a) (names sc rest) alike))
+  conjunction_same : (s r : Scope) (sc : scoping.Scope) (e : Tree AnAnd) → Alike s r (names sc e) → SameConjunction s r e
+  conjunction_same s r sc (And a rest) alike = conjunction_of s r a rest (negation_same s r sc a (left s r (names sc a) (names sc rest) alike)) (ands_same s r sc rest (right s r (names sc a) (names sc rest) alike))
 
   ands_same : (s r : Scope) (sc : scoping.Scope) (rest : Tree (Many ANot)) → Alike s r (names sc rest) → SameAnds s r rest
   ands_same s r sc none alike = no_ands s r
-  ands_same s r sc (more a rest) alike = ands_of s r a rest (nega_same s r sc a (left s r (names sc a) (names sc rest) alike)) (ands_same s r sc rest (right s r (names sc a) (names sc rest) alike))
+  ands_same s r sc (more a rest) alike = ands_of s r a rest (negation_same s r sc a (left s r (names sc a) (names sc rest) alike)) (ands_same s r sc rest (right s r (names sc a) (names sc rest) alike))
 
-  nega_same : (s r : Scope) (sc : scoping.Scope) (e : Tree ANot) → Alike s r (names sc e) → SameNega s r e
-  nega_same s r sc (Not negated inside) alike = not_of s r negated inside (compare_same s r sc inside alike)
+  negation_same : (s r : Scope) (sc : scoping.Scope) (e : Tree ANot) → Alike s r (names sc e) → SameNegation s r e
+  negation_same s r sc (Not negated inside) alike = not_of s r negated inside (compare_same s r sc inside alike)
 
   compare_same : (s r : Scope) (sc : scoping.Scope) (e : Tree ACompare) → Alike s r (names sc e) → SameCompare s r e
   compare_same s r sc (Alone one) alike = alone_of s r one (sum_same s r sc one alike)
   compare_same s r sc (Compared one at o other) alike = compared_of s r one at o other (sum_same s r sc one (left s r (names sc one) (names sc other) alike)) (sum_same s r sc other (right s r (names sc one) (names sc other) alike))
 
   sum_same : (s r : Scope) (sc : scoping.Scope) (e : Tree ASum) → Alike s r (names sc e) → SameSum s r e
-  sum_same s r sc (Sum p rest) alike = sum_of s r p rest (product_same s r sc p (left s r (names sc p) (names sc rest) alike)) (addeds_same s r sc rest (right s r (names sc p) (names sc rest) alike))
+  sum_same s r sc (Sum p rest) alike = sum_of s r p rest (product_same s r sc p (left s r (names sc p) (names sc rest) alike)) (addends_same s r sc rest (right s r (names sc p) (names sc rest) alike))
 
-  addeds_same : (s r : Scope) (sc : scoping.Scope) (rest : Tree (Many AnAdded)) → Alike s r (names sc rest) → SameAddeds s r rest
-  addeds_same s r sc none alike = no_addeds s r
-  addeds_same s r sc (more (Added at minus p) rest) alike = addeds_of s r at minus p rest (product_same s r sc p (left s r (names sc p) (names sc rest) alike)) (addeds_same s r sc rest (right s r (names sc p) (names sc rest) alike))
+  addends_same : (s r : Scope) (sc : scoping.Scope) (rest : Tree (Many AnAdded)) → Alike s r (names sc rest) → SameAddends s r rest
+  addends_same s r sc none alike = no_addends s r
+  addends_same s r sc (more (Added at minus p) rest) alike = addends_of s r at minus p rest (product_same s r sc p (left s r (names sc p) (names sc rest) alike)) (addends_same s r sc rest (right s r (names sc p) (names sc rest) alike))
 
   product_same : (s r : Scope) (sc : scoping.Scope) (e : Tree AProduct) → Alike s r (names sc e) → SameProduct s r e
-  product_same s r sc (Product p rest) alike = product_of s r p rest (prim_same s r sc p (left s r (names sc p) (names sc rest) alike)) (multiplieds_same s r sc rest (right s r (names sc p) (names sc rest) alike))
+  product_same s r sc (Product p rest) alike = product_of s r p rest (operand_same s r sc p (left s r (names sc p) (names sc rest) alike)) (factors_same s r sc rest (right s r (names sc p) (names sc rest) alike))
 
-  multiplieds_same : (s r : Scope) (sc : scoping.Scope) (rest : Tree (Many AMultiplied)) → Alike s r (names sc rest) → SameMultiplieds s r rest
-  multiplieds_same s r sc none alike = no_multiplieds s r
-  multiplieds_same s r sc (more (Multiplied at divide p) rest) alike = multiplieds_of s r at divide p rest (prim_same s r sc p (left s r (names sc p) (names sc rest) alike)) (multiplieds_same s r sc rest (right s r (names sc p) (names sc rest) alike))
+  factors_same : (s r : Scope) (sc : scoping.Scope) (rest : Tree (Many AMultiplied)) → Alike s r (names sc rest) → SameFactors s r rest
+  factors_same s r sc none alike = no_factors s r
+  factors_same s r sc (more (Multiplied at divide p) rest) alike = factors_of s r at divide p rest (operand_same s r sc p (left s r (names sc p) (names sc rest) alike)) (factors_same s r sc rest (right s r (names sc p) (names sc rest) alike))
 
-  prim_same : (s r : Scope) (sc : scoping.Scope) (e : Tree APrim) → Alike s r (names sc e) → SamePrim s r e
-  prim_same s r sc (Constant at n) alike = constant_of s r at n
-  prim_same s r sc (Quoted at text) alike = quoted_of s r at text
-  prim_same s r sc (Truth at b) alike = truth_of_prim s r at b
-  prim_same s r sc (Named at name) alike = named_of s r at name alike.slots (alike.targets at)
-  prim_same s r sc (Called k) alike = called_of s r k (call_same s r sc k alike)
-  prim_same s r sc (Chosen i) alike = chosen_of s r i (choice_same s r sc i alike)
-  prim_same s r sc (Nothing at) alike = nothing_of s r at
-  prim_same s r sc (Paren f) alike = paren_of s r f (full_same s r sc f alike)
-  prim_same s r sc (Tuple at f g rest) alike = tuple_of s r at f g rest (full_same s r sc f (first_of s r (names sc f) (names sc g) (names sc rest) alike)) (full_same s r sc g (second_of s r (names sc f) (names sc g) (names sc rest) alike)) (fulls_same s r sc rest (third_of s r (names sc f) (names sc g) (names sc rest) alike))
-  prim_same s r sc (Listed at parts) alike = listed_of s r at parts (fulls_same s r sc parts alike)
-  prim_same s r sc (Braces at pred) alike = braces_of s r at pred
-  prim_same s r sc (Format at bits) alike = format_of s r at bits
+  operand_same : (s r : Scope) (sc : scoping.Scope) (e : Tree AnOperand) → Alike s r (names sc e) → SameOperand s r e
+  operand_same s r sc (Constant at n) alike = constant_of s r at n
+  operand_same s r sc (Quoted at text) alike = quoted_of s r at text
+  operand_same s r sc (Truth at b) alike = truth_of_operand s r at b
+  operand_same s r sc (Named at name) alike = named_of s r at name alike.slots (alike.targets at)
+  operand_same s r sc (Called k) alike = called_of s r k (call_same s r sc k alike)
+  operand_same s r sc (Chosen i) alike = chosen_of s r i (choice_same s r sc i alike)
+  operand_same s r sc (Nothing at) alike = nothing_of s r at
+  operand_same s r sc (Paren f) alike = paren_of s r f (full_same s r sc f alike)
+  operand_same s r sc (Tuple at f g rest) alike = tuple_of s r at f g rest (full_same s r sc f (first_of s r (names sc f) (names sc g) (names sc rest) alike)) (full_same s r sc g (second_of s r (names sc f) (names sc g) (names sc rest) alike)) (fulls_same s r sc rest (third_of s r (names sc f) (names sc g) (names sc rest) alike))
+  operand_same s r sc (Listed at parts) alike = listed_of s r at parts (fulls_same s r sc parts alike)
+  operand_same s r sc (Braces at pred) alike = braces_of s r at pred
+  operand_same s r sc (Format at bits) alike = format_of s r at bits
 
   fulls_same : (s r : Scope) (sc : scoping.Scope) (rest : Tree (Many AFull)) → Alike s r (names sc rest) → SameFulls s r rest
   fulls_same s r sc none alike = no_fulls s r

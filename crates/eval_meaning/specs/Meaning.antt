@@ -1,7 +1,7 @@
 -- What an expression means: a value and the state behind it, or the first fault, by cases on the tree.
 use Rattle.std.specs.Prelude.{ℕ, zero, suc, ℤ, pos, List, [], ◌∷◌, ◌++◌, true, false, Option, Some, None, Result, Ok, Err, int_le, ◌&&◌}
 use Rattle.liq_base.specs.declared.memory.Kind.{Kind}
-use Rattle.script_grammar.specs.Tree.{Tree, Many, none, more, AFull, AnExpr, AnAnd, ANot, ACompare, ASum, AnAdded, AProduct, AMultiplied, APrim, ACall, AnArg, AnIf, AParam, AnInner, ADef, Negative, Plain, Expr, And, Not, Alone, Compared, Sum, Added, Product, Multiplied, Constant, Quoted, Truth, Named, Called, Chosen, Nothing, Paren, Tuple, Listed, Braces, Format, Call, Arg, If, Param, Labelled, Optional, Inner, Bind, Def, Script}
+use Rattle.script_grammar.specs.Tree.{Tree, Many, none, more, AFull, AnExpr, AnAnd, ANot, ACompare, ASum, AnAdded, AProduct, AMultiplied, AnOperand, ACall, AnArg, AnIf, AParam, AnInner, ADef, Negative, Plain, Expr, And, Not, Alone, Compared, Sum, Added, Product, Multiplied, Constant, Quoted, Truth, Named, Called, Chosen, Nothing, Paren, Tuple, Listed, Braces, Format, Call, Arg, If, Param, Labelled, Optional, Inner, Bind, Def, Script}
 use Rattle.typing_rules.specs.declared.uses.Use.{Use}
 use Rattle.typing_rules.specs.declared.uses.Target.{Target}
 use Rattle.typing_rules.specs.declared.uses.Target.TheVariants as target
@@ -81,60 +81,60 @@ unfoldable mutual
   full s (Plain e) m = expr s e m
 
   pub expr : Scope → Tree AnExpr → Machine → Outcome
-  expr s (Expr a rest) m = conj s a m >>= λ x. ors s rest x.0 x.1
+  expr s (Expr a rest) m = conjunction s a m >>= λ x. ors s rest x.0 x.1
 
   pub ors : Scope → Tree (Many AnAnd) → Value → Machine → Outcome
   ors s none v m = Ok (v, m)
-  ors s (more a rest) v m = joined either v (conj s a m) >>= λ x. ors s rest x.0 x.1
+  ors s (more a rest) v m = joined either v (conjunction s a m) >>= λ x. ors s rest x.0 x.1
 
-  pub conj : Scope → Tree AnAnd → Machine → Outcome
-  conj s (And n rest) m = nega s n m >>= λ x. ands s rest x.0 x.1
+  pub conjunction : Scope → Tree AnAnd → Machine → Outcome
+  conjunction s (And n rest) m = negation s n m >>= λ x. ands s rest x.0 x.1
 
   pub ands : Scope → Tree (Many ANot) → Value → Machine → Outcome
   ands s none v m = Ok (v, m)
-  ands s (more n rest) v m = joined both v (nega s n m) >>= λ x. ands s rest x.0 x.1
+  ands s (more n rest) v m = joined both v (negation s n m) >>= λ x. ands s rest x.0 x.1
 
-  pub nega : Scope → Tree ANot → Machine → Outcome
-  nega s (Not true inner) m = compare s inner m >>= λ x. count 1 x.1 >>= λ c. opposite x.0 >>= λ u. Ok (u, c)
-  nega s (Not false inner) m = compare s inner m
+  pub negation : Scope → Tree ANot → Machine → Outcome
+  negation s (Not true inner) m = compare s inner m >>= λ x. count 1 x.1 >>= λ c. opposite x.0 >>= λ u. Ok (u, c)
+  negation s (Not false inner) m = compare s inner m
 
   pub compare : Scope → Tree ACompare → Machine → Outcome
   compare s (Alone left) m = sum s left m
   compare s (Compared left at o right) m = sum s left m >>= λ x. sum s right x.1 >>= λ y. count 1 y.1 >>= λ c. compared o x.0 y.0 >>= λ u. Ok (u, c)
 
   pub sum : Scope → Tree ASum → Machine → Outcome
-  sum s (Sum p rest) m = product s p m >>= λ x. addeds s rest x.0 x.1
+  sum s (Sum p rest) m = product s p m >>= λ x. addends s rest x.0 x.1
 
-  pub addeds : Scope → Tree (Many AnAdded) → Value → Machine → Outcome
-  addeds s none v m = Ok (v, m)
-  addeds s (more a rest) v m = plus s a v m >>= λ x. addeds s rest x.0 x.1
+  pub addends : Scope → Tree (Many AnAdded) → Value → Machine → Outcome
+  addends s none v m = Ok (v, m)
+  addends s (more a rest) v m = plus s a v m >>= λ x. addends s rest x.0 x.1
 
   pub plus : Scope → Tree AnAdded → Value → Machine → Outcome
   plus s (Added at minus p) v m = joined (added minus at) v (product s p m)
 
   pub product : Scope → Tree AProduct → Machine → Outcome
-  product s (Product p rest) m = prim s p m >>= λ x. multiplieds s rest x.0 x.1
+  product s (Product p rest) m = operand s p m >>= λ x. factors s rest x.0 x.1
 
-  pub multiplieds : Scope → Tree (Many AMultiplied) → Value → Machine → Outcome
-  multiplieds s none v m = Ok (v, m)
-  multiplieds s (more a rest) v m = times s a v m >>= λ x. multiplieds s rest x.0 x.1
+  pub factors : Scope → Tree (Many AMultiplied) → Value → Machine → Outcome
+  factors s none v m = Ok (v, m)
+  factors s (more a rest) v m = times s a v m >>= λ x. factors s rest x.0 x.1
 
   pub times : Scope → Tree AMultiplied → Value → Machine → Outcome
-  times s (Multiplied at divide p) v m = joined (multiplied divide at) v (prim s p m)
+  times s (Multiplied at divide p) v m = joined (multiplied divide at) v (operand s p m)
 
-  pub prim : Scope → Tree APrim → Machine → Outcome
-  prim s (Constant at n) m = count 1 m >>= λ c. Ok (literal_value n, c)
-  prim s (Quoted at text) m = count 1 m >>= λ c. Ok (value.Text text, c)
-  prim s (Truth at b) m = count 1 m >>= λ c. Ok (value.Truth b, c)
-  prim s (Named at name) m = named s (use_at at s.uses) m
-  prim s (Called k) m = count 1 m >>= λ c. call s k c
-  prim s (Chosen i) m = count 1 m >>= λ c. choice s i c
-  prim s (Nothing at) m = count 1 m >>= λ c. Ok (value.Nothing, c)
-  prim s (Paren f) m = count 1 m >>= λ c. full s f c
-  prim s (Tuple at f g rest) m = count 1 m >>= λ c. full s f c >>= λ x. full s g x.1 >>= λ y. fulls s rest (x.0 ∷ y.0 ∷ []) y.1 >>= λ z. Ok (value.Tuple (many z.0), z.1)
-  prim s (Listed at parts) m = count 1 m >>= λ c. fulls s parts [] c >>= λ z. Ok (value.Listed (many z.0), z.1)
-  prim s (Braces at pred) m = count 1 m >>= λ c. Ok (value.Pred (or_pred pred), c)
-  prim s (Format at bits) m = count 1 m >>= λ c. format at bits >>= λ v. Ok (v, c)
+  pub operand : Scope → Tree AnOperand → Machine → Outcome
+  operand s (Constant at n) m = count 1 m >>= λ c. Ok (literal_value n, c)
+  operand s (Quoted at text) m = count 1 m >>= λ c. Ok (value.Text text, c)
+  operand s (Truth at b) m = count 1 m >>= λ c. Ok (value.Truth b, c)
+  operand s (Named at name) m = named s (use_at at s.uses) m
+  operand s (Called k) m = count 1 m >>= λ c. call s k c
+  operand s (Chosen i) m = count 1 m >>= λ c. choice s i c
+  operand s (Nothing at) m = count 1 m >>= λ c. Ok (value.Nothing, c)
+  operand s (Paren f) m = count 1 m >>= λ c. full s f c
+  operand s (Tuple at f g rest) m = count 1 m >>= λ c. full s f c >>= λ x. full s g x.1 >>= λ y. fulls s rest (x.0 ∷ y.0 ∷ []) y.1 >>= λ z. Ok (value.Tuple (many z.0), z.1)
+  operand s (Listed at parts) m = count 1 m >>= λ c. fulls s parts [] c >>= λ z. Ok (value.Listed (many z.0), z.1)
+  operand s (Braces at pred) m = count 1 m >>= λ c. Ok (value.Pred (or_pred pred), c)
+  operand s (Format at bits) m = count 1 m >>= λ c. format at bits >>= λ v. Ok (v, c)
 
   -- the values so far, and those of more
   pub fulls : Scope → Tree (Many AFull) → List Value → Machine → Result (List Value × Machine) Fault

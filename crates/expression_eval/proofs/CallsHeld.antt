@@ -4,7 +4,7 @@ use Rattle.std.specs.Prelude.{map}
 use Rattle.std.specs.Global.{Vec}
 use Rattle.std.specs.List.{list_any}
 use Rattle.script_grammar.specs.Tree.{Sort, Tree, Many, AFull, AnExpr, AnAnd, ASum, AProduct, ACall, CallPart, none, more}
-use Rattle.script_grammar.specs.View.{listed, tuple_of, view_added, view_and, view_arg, view_call, view_expr, view_full, view_multiplied, view_not, view_prim, view_product, view_sum}
+use Rattle.script_grammar.specs.View.{listed, tuple_of, view_added, view_and, view_arg, view_call, view_expr, view_full, view_multiplied, view_not, view_operand, view_product, view_sum}
 use Rattle.script_grammar.specs.declared.tree.Full.{Full}
 use Rattle.script_grammar.specs.declared.tree.Expr as expr
 use Rattle.script_grammar.specs.declared.tree.And as and_
@@ -13,7 +13,7 @@ use Rattle.script_grammar.specs.declared.tree.Sum as sum
 use Rattle.script_grammar.specs.declared.tree.Added as added
 use Rattle.script_grammar.specs.declared.tree.Multiplied as multiplied
 use Rattle.script_grammar.specs.declared.tree.Product as product
-use Rattle.script_grammar.specs.declared.tree.Operand as prim
+use Rattle.script_grammar.specs.declared.tree.Operand as operand
 use Rattle.script_grammar.specs.declared.tree.Call as call
 use Rattle.script_grammar.specs.declared.tree.Arg as arg
 use Rattle.script_grammar.proofs.Rows.{and_seen, call_seen, expr_seen, fulls_listed, list_made, product_seen, sum_seen}
@@ -53,19 +53,19 @@ sum_held e l is =
     ∙ ap (λ (b : Bool). holds_call (view_product (sum.out-Sum e).first) || b) (held_listed view_added (sum.out-Sum e).rest.items)
     ∙ ap (λ (k : List added.Added). holds_call (view_product (sum.out-Sum e).first) || list_any (λ x. holds_call (view_added x)) k) (sym is)
 
-product_held : (e : product.Product) (l : List multiplied.Multiplied) → l ≡ (product.out-Product e).rest.items → holds_call (view_product e) ≡ (holds_call (view_prim (product.out-Product e).first) || list_any (λ x. holds_call (view_multiplied x)) l)
+product_held : (e : product.Product) (l : List multiplied.Multiplied) → l ≡ (product.out-Product e).rest.items → holds_call (view_product e) ≡ (holds_call (view_operand (product.out-Product e).first) || list_any (λ x. holds_call (view_multiplied x)) l)
 product_held e l is =
     ap (λ (t : Tree AProduct). holds_call t) (product_seen e)
-    ∙ ap (λ (b : Bool). holds_call (view_prim (product.out-Product e).first) || b) (held_listed view_multiplied (product.out-Product e).rest.items)
-    ∙ ap (λ (k : List multiplied.Multiplied). holds_call (view_prim (product.out-Product e).first) || list_any (λ x. holds_call (view_multiplied x)) k) (sym is)
+    ∙ ap (λ (b : Bool). holds_call (view_operand (product.out-Product e).first) || b) (held_listed view_multiplied (product.out-Product e).rest.items)
+    ∙ ap (λ (k : List multiplied.Multiplied). holds_call (view_operand (product.out-Product e).first) || list_any (λ x. holds_call (view_multiplied x)) k) (sym is)
 
 call_held : (e : call.Call) (l : List arg.Arg) → l ≡ (call.out-Call e).args.items → list_any (λ x. holds_call (view_arg x)) l ≡ holds_call (listed (map view_arg (call.out-Call e).args.items))
 call_held e l is = ap (λ (k : List arg.Arg). list_any (λ x. holds_call (view_arg x)) k) is ∙ sym (held_listed view_arg (call.out-Call e).args.items)
 
-pub list_held : (at : ℕ) (v : Vec Full) (l : List Full) → l ≡ v.items → holds_call (view_prim (prim.List at v)) ≡ list_any (λ x. holds_call (view_full x)) l
+pub list_held : (at : ℕ) (v : Vec Full) (l : List Full) → l ≡ v.items → holds_call (view_operand (operand.List at v)) ≡ list_any (λ x. holds_call (view_full x)) l
 list_held at v l is = ap (λ (t : _). holds_call t) (list_made at v) ∙ held_listed view_full v.items ∙ ap (λ (k : List Full). list_any (λ x. holds_call (view_full x)) k) (sym is)
 
-pub tuple_held : (at : ℕ) (v : Vec Full) (l : List Full) → l ≡ v.items → holds_call (view_prim (prim.Tuple at v)) ≡ list_any (λ x. holds_call (view_full x)) l
+pub tuple_held : (at : ℕ) (v : Vec Full) (l : List Full) → l ≡ v.items → holds_call (view_operand (operand.Tuple at v)) ≡ list_any (λ x. holds_call (view_full x)) l
 tuple_held at v l is =
     ap (λ (t : Tree (Many AFull)). holds_call (tuple_of at t)) (fulls_listed v) ∙ in_brackets at (listed (map view_full v.items)) ∙ held_listed view_full v.items
     ∙ ap (λ (k : List Full). list_any (λ x. holds_call (view_full x)) k) (sym is)
@@ -83,7 +83,7 @@ pub sum_rest : (e : sum.Sum) (l : List added.Added) (b : Bool) → l ≡ (sum.ou
 sum_rest e l b is first rest = rest ∙ ap (λ (f : Bool). f || list_any (λ x. holds_call (view_added x)) l) first ∙ sym (sum_held e l is)
 
 -- the others, where the first has none
-pub product_rest : (e : product.Product) (l : List multiplied.Multiplied) (b : Bool) → l ≡ (product.out-Product e).rest.items → false ≡ holds_call (view_prim (product.out-Product e).first) → b ≡ list_any (λ x. holds_call (view_multiplied x)) l → b ≡ holds_call (view_product e)
+pub product_rest : (e : product.Product) (l : List multiplied.Multiplied) (b : Bool) → l ≡ (product.out-Product e).rest.items → false ≡ holds_call (view_operand (product.out-Product e).first) → b ≡ list_any (λ x. holds_call (view_multiplied x)) l → b ≡ holds_call (view_product e)
 product_rest e l b is first rest = rest ∙ ap (λ (f : Bool). f || list_any (λ x. holds_call (view_multiplied x)) l) first ∙ sym (product_held e l is)
 
 pub setting_means : (uses : List Use) (e : call.Call) (l : List arg.Arg) (b : Bool) → l ≡ (call.out-Call e).args.items → true ≡ means_set (target_said (use_at (call.out-Call e).at uses)) → b ≡ list_any (λ x. holds_call (view_arg x)) l → not b ≡ is_setting uses (CallPart (view_call e))

@@ -1,7 +1,7 @@
 -- An operator behind its other operand.
 use Rattle.std.proofs.Common.{◌≡◌, Result, Ok, refl, sym, ap, subst, ◌∙◌}
 use Rattle.script_grammar.specs.Tree.{Tree, AnAdded}
-use Rattle.script_grammar.specs.View.{view_added, view_multiplied, view_prim, view_product}
+use Rattle.script_grammar.specs.View.{view_added, view_multiplied, view_operand, view_product}
 use Rattle.script_grammar.specs.declared.tree.Added as added
 use Rattle.script_grammar.specs.declared.tree.Multiplied as multiplied
 use Rattle.script_values.specs.Gives.{Gives}
@@ -21,6 +21,6 @@ pub plus_means : (s : Scope) (a : added.Added) (v : Value) (m : Machine) → mea
 unfolding meaning.plus
 plus_means s a v m = ap (λ (t : Tree AnAdded). meaning.plus s t v m) (ap view_added (sym (added.roll-out-Added a) ∙ added.rolls-Added' (added.out-Added a)))
 
-pub times_means : (s : Scope) (a : multiplied.Multiplied) (v : Value) (m : Machine) → meaning.times s (view_multiplied a) v m ≡ joined (numbers.multiplied a.divide a.at) v (meaning.prim s (view_prim a.prim) m)
+pub times_means : (s : Scope) (a : multiplied.Multiplied) (v : Value) (m : Machine) → meaning.times s (view_multiplied a) v m ≡ joined (numbers.multiplied a.divide a.at) v (meaning.operand s (view_operand a.operand) m)
 unfolding meaning.times
 times_means s a v m = refl

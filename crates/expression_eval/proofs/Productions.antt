@@ -4,15 +4,15 @@ use Rattle.std.proofs.lemmas.List.{map_push}
 use Rattle.std.specs.Prelude.{map}
 use Rattle.liq_base.specs.declared.memory.Kind.{Kind}
 use Rattle.std.specs.Global.{Box, Vec}
-use Rattle.script_grammar.specs.Tree.{Tree, Many, none, more, AFull, AnExpr, AnAnd, ANot, ACompare, ASum, AProduct, APrim, ACall, Listed, Not}
-use Rattle.script_grammar.specs.View.{listed, tuple_of, view_expr, view_and, view_not, view_sum, view_added, view_product, view_multiplied, view_prim, view_full, view_call, view_arg, view_compare, view_if}
+use Rattle.script_grammar.specs.Tree.{Tree, Many, none, more, AFull, AnExpr, AnAnd, ANot, ACompare, ASum, AProduct, AnOperand, ACall, Listed, Not}
+use Rattle.script_grammar.specs.View.{listed, tuple_of, view_expr, view_and, view_not, view_sum, view_added, view_product, view_multiplied, view_operand, view_full, view_call, view_arg, view_compare, view_if}
 use Rattle.script_grammar.specs.declared.tree.Full.{Full}
 use Rattle.script_grammar.specs.declared.tree.Expr as expr
 use Rattle.script_grammar.specs.declared.tree.And as and_
 use Rattle.script_grammar.specs.declared.tree.Not as not_
 use Rattle.script_grammar.specs.declared.tree.Sum as sum
 use Rattle.script_grammar.specs.declared.tree.Product as product
-use Rattle.script_grammar.specs.declared.tree.Operand as prim
+use Rattle.script_grammar.specs.declared.tree.Operand as operand
 use Rattle.script_grammar.specs.declared.tree.Call as call
 use Rattle.script_grammar.specs.declared.tree.Arg as arg
 use Rattle.script_grammar.specs.declared.tree.Compare as compare
@@ -35,25 +35,25 @@ use Rattle.script_values.specs.Numbers.{either, both, compared as numbers_compar
 use Rattle.script_values.specs.Machines.{count}
 use Rattle.script_values.specs.Slots.{Given, Slot}
 use Rattle.eval_meaning.specs.Meaning as meaning
-use Rattle.eval_meaning.specs.Meaning.{Scope, full, conj, nega, joined}
+use Rattle.eval_meaning.specs.Meaning.{Scope, full, conjunction, negation, joined}
 use Rattle.expression_eval.specs.Steps.{after_count}
 use Rattle.expression_eval.proofs.Loops.{Steps, fails_on, fails_same}
 
-pub expr_means : (s : Scope) (e : expr.Expr) (l : List and_.And) (m : Machine) → l ≡ (expr.out-Expr e).rest.items → meaning.expr s (view_expr e) m ≡ (meaning.conj s (view_and (expr.out-Expr e).first) m >>= λ x. meaning.ors s (listed (map view_and l)) x.0 x.1)
+pub expr_means : (s : Scope) (e : expr.Expr) (l : List and_.And) (m : Machine) → l ≡ (expr.out-Expr e).rest.items → meaning.expr s (view_expr e) m ≡ (meaning.conjunction s (view_and (expr.out-Expr e).first) m >>= λ x. meaning.ors s (listed (map view_and l)) x.0 x.1)
 unfolding meaning.expr
-expr_means s e l m is = ap (λ (t : Tree AnExpr). meaning.expr s t m) (expr_seen e) ∙ ap (λ (k : List and_.And). meaning.conj s (view_and (expr.out-Expr e).first) m >>= λ x. meaning.ors s (listed (map view_and k)) x.0 x.1) (sym is)
+expr_means s e l m is = ap (λ (t : Tree AnExpr). meaning.expr s t m) (expr_seen e) ∙ ap (λ (k : List and_.And). meaning.conjunction s (view_and (expr.out-Expr e).first) m >>= λ x. meaning.ors s (listed (map view_and k)) x.0 x.1) (sym is)
 
-pub conj_means : (s : Scope) (e : and_.And) (l : List not_.Not) (m : Machine) → l ≡ (and_.out-And e).rest.items → meaning.conj s (view_and e) m ≡ (meaning.nega s (view_not (and_.out-And e).first) m >>= λ x. meaning.ands s (listed (map view_not l)) x.0 x.1)
-unfolding meaning.conj
-conj_means s e l m is = ap (λ (t : Tree AnAnd). meaning.conj s t m) (and_seen e) ∙ ap (λ (k : List not_.Not). meaning.nega s (view_not (and_.out-And e).first) m >>= λ x. meaning.ands s (listed (map view_not k)) x.0 x.1) (sym is)
+pub conjunction_means : (s : Scope) (e : and_.And) (l : List not_.Not) (m : Machine) → l ≡ (and_.out-And e).rest.items → meaning.conjunction s (view_and e) m ≡ (meaning.negation s (view_not (and_.out-And e).first) m >>= λ x. meaning.ands s (listed (map view_not l)) x.0 x.1)
+unfolding meaning.conjunction
+conjunction_means s e l m is = ap (λ (t : Tree AnAnd). meaning.conjunction s t m) (and_seen e) ∙ ap (λ (k : List not_.Not). meaning.negation s (view_not (and_.out-And e).first) m >>= λ x. meaning.ands s (listed (map view_not k)) x.0 x.1) (sym is)
 
-pub sum_means : (s : Scope) (e : sum.Sum) (l : List added.Added) (m : Machine) → l ≡ (sum.out-Sum e).rest.items → meaning.sum s (view_sum e) m ≡ (meaning.product s (view_product (sum.out-Sum e).first) m >>= λ x. meaning.addeds s (listed (map view_added l)) x.0 x.1)
+pub sum_means : (s : Scope) (e : sum.Sum) (l : List added.Added) (m : Machine) → l ≡ (sum.out-Sum e).rest.items → meaning.sum s (view_sum e) m ≡ (meaning.product s (view_product (sum.out-Sum e).first) m >>= λ x. meaning.addends s (listed (map view_added l)) x.0 x.1)
 unfolding meaning.sum
-sum_means s e l m is = ap (λ (t : Tree ASum). meaning.sum s t m) (sum_seen e) ∙ ap (λ (k : List added.Added). meaning.product s (view_product (sum.out-Sum e).first) m >>= λ x. meaning.addeds s (listed (map view_added k)) x.0 x.1) (sym is)
+sum_means s e l m is = ap (λ (t : Tree ASum). meaning.sum s t m) (sum_seen e) ∙ ap (λ (k : List added.Added). meaning.product s (view_product (sum.out-Sum e).first) m >>= λ x. meaning.addends s (listed (map view_added k)) x.0 x.1) (sym is)
 
-pub product_means : (s : Scope) (e : product.Product) (l : List multiplied.Multiplied) (m : Machine) → l ≡ (product.out-Product e).rest.items → meaning.product s (view_product e) m ≡ (meaning.prim s (view_prim (product.out-Product e).first) m >>= λ x. meaning.multiplieds s (listed (map view_multiplied l)) x.0 x.1)
+pub product_means : (s : Scope) (e : product.Product) (l : List multiplied.Multiplied) (m : Machine) → l ≡ (product.out-Product e).rest.items → meaning.product s (view_product e) m ≡ (meaning.operand s (view_operand (product.out-Product e).first) m >>= λ x. meaning.factors s (listed (map view_multiplied l)) x.0 x.1)
 unfolding meaning.product
-product_means s e l m is = ap (λ (t : Tree AProduct). meaning.product s t m) (product_seen e) ∙ ap (λ (k : List multiplied.Multiplied). meaning.prim s (view_prim (product.out-Product e).first) m >>= λ x. meaning.multiplieds s (listed (map view_multiplied k)) x.0 x.1) (sym is)
+product_means s e l m is = ap (λ (t : Tree AProduct). meaning.product s t m) (product_seen e) ∙ ap (λ (k : List multiplied.Multiplied). meaning.operand s (view_operand (product.out-Product e).first) m >>= λ x. meaning.factors s (listed (map view_multiplied k)) x.0 x.1) (sym is)
 
 pub call_means : (s : Scope) (e : call.Call) (l : List arg.Arg) (m : Machine) → l ≡ (call.out-Call e).args.items → meaning.call s (view_call e) m ≡ (meaning.arguments s (listed (map view_arg l)) [] m >>= λ x. meaning.applied s (use_at (call.out-Call e).at s.uses) (call.out-Call e).at x.0 x.1)
 unfolding meaning.call
@@ -61,21 +61,21 @@ call_means s e l m is = ap (λ (t : Tree ACall). meaning.call s t m) (call_seen 
 
 -- ---- the loops
 
-pub ors_steps : (s : Scope) → Steps (meaning.ors s) (λ t v m. joined either v (conj s t m))
+pub ors_steps : (s : Scope) → Steps (meaning.ors s) (λ t v m. joined either v (conjunction s t m))
 unfolding meaning.ors
 ors_steps s = record { opens = λ t ts v m. refl }
 
-pub ands_steps : (s : Scope) → Steps (meaning.ands s) (λ t v m. joined both v (nega s t m))
+pub ands_steps : (s : Scope) → Steps (meaning.ands s) (λ t v m. joined both v (negation s t m))
 unfolding meaning.ands
 ands_steps s = record { opens = λ t ts v m. refl }
 
-pub addeds_steps : (s : Scope) → Steps (meaning.addeds s) (meaning.plus s)
-unfolding meaning.addeds
-addeds_steps s = record { opens = λ t ts v m. refl }
+pub addends_steps : (s : Scope) → Steps (meaning.addends s) (meaning.plus s)
+unfolding meaning.addends
+addends_steps s = record { opens = λ t ts v m. refl }
 
-pub multiplieds_steps : (s : Scope) → Steps (meaning.multiplieds s) (meaning.times s)
-unfolding meaning.multiplieds
-multiplieds_steps s = record { opens = λ t ts v m. refl }
+pub factors_steps : (s : Scope) → Steps (meaning.factors s) (meaning.times s)
+unfolding meaning.factors
+factors_steps s = record { opens = λ t ts v m. refl }
 
 abbrev pub with_last : {X : Type 0} → List X → X × Machine → Result (List X × Machine) Fault
 with_last xs x = Ok (xs ++ x.0 ∷ [], x.1)
@@ -111,13 +111,13 @@ pub ands_none : (s : Scope) (v : Value) (m : Machine) → meaning.ands s none v 
 unfolding meaning.ands
 ands_none s v m = refl
 
-pub addeds_none : (s : Scope) (v : Value) (m : Machine) → meaning.addeds s none v m ≡ Ok (v, m)
-unfolding meaning.addeds
-addeds_none s v m = refl
+pub addends_none : (s : Scope) (v : Value) (m : Machine) → meaning.addends s none v m ≡ Ok (v, m)
+unfolding meaning.addends
+addends_none s v m = refl
 
-pub multiplieds_none : (s : Scope) (v : Value) (m : Machine) → meaning.multiplieds s none v m ≡ Ok (v, m)
-unfolding meaning.multiplieds
-multiplieds_none s v m = refl
+pub factors_none : (s : Scope) (v : Value) (m : Machine) → meaning.factors s none v m ≡ Ok (v, m)
+unfolding meaning.factors
+factors_none s v m = refl
 
 pub fulls_none : (s : Scope) (vs : List Value) (m : Machine) → meaning.fulls s none vs m ≡ Ok (vs, m)
 unfolding meaning.fulls
@@ -162,8 +162,8 @@ abbrev pub as_list : List Value × Machine → Outcome
 as_list z = Ok (value.Listed (many z.0), z.1)
 
 -- a bracket of the program, whatever it holds
-pub grouped_means : (s : Scope) (at : ℕ) (ts : Tree (Many AFull)) (m : Machine) → meaning.prim s (tuple_of at ts) m ≡ (count 1 m >>= meaning.grouped s ts)
-unfolding meaning.prim meaning.fulls
+pub grouped_means : (s : Scope) (at : ℕ) (ts : Tree (Many AFull)) (m : Machine) → meaning.operand s (tuple_of at ts) m ≡ (count 1 m >>= meaning.grouped s ts)
+unfolding meaning.operand meaning.fulls
 grouped_means s at none m = refl
 grouped_means s at (more f none) m = refl
 grouped_means s at (more f (more g rest)) m =
@@ -175,18 +175,18 @@ pair_means s [] m two = absurd (omega arith)
 pair_means s (f ∷ []) m two = absurd (omega arith)
 pair_means s (f ∷ g ∷ rest) m two = refl
 
-pub tuple_view : (at : ℕ) (v : Vec Full) → view_prim (prim.Tuple at v) ≡ tuple_of at (listed (map view_full v.items))
+pub tuple_view : (at : ℕ) (v : Vec Full) → view_operand (operand.Tuple at v) ≡ tuple_of at (listed (map view_full v.items))
 tuple_view at v = ap (tuple_of at) (fulls_listed v)
 
 -- ---- productions of one part
 
-pub not_means : (s : Scope) (e : not_.Not) (m : Machine) → (not_.out-Not e).negated ≡ true → meaning.nega s (view_not e) m ≡ (meaning.compare s (view_compare (not_.out-Not e).inner) m >>= λ x. after_count (opposite x.0) x.1)
-unfolding meaning.nega
-not_means s e m is = ap (λ (t : Tree ANot). meaning.nega s t m) (not_seen e) ∙ ap (λ (b : Bool). meaning.nega s (Not b (view_compare (not_.out-Not e).inner)) m) is
+pub not_means : (s : Scope) (e : not_.Not) (m : Machine) → (not_.out-Not e).negated ≡ true → meaning.negation s (view_not e) m ≡ (meaning.compare s (view_compare (not_.out-Not e).inner) m >>= λ x. after_count (opposite x.0) x.1)
+unfolding meaning.negation
+not_means s e m is = ap (λ (t : Tree ANot). meaning.negation s t m) (not_seen e) ∙ ap (λ (b : Bool). meaning.negation s (Not b (view_compare (not_.out-Not e).inner)) m) is
 
-pub plain_means : (s : Scope) (e : not_.Not) (m : Machine) → (not_.out-Not e).negated ≡ false → meaning.nega s (view_not e) m ≡ meaning.compare s (view_compare (not_.out-Not e).inner) m
-unfolding meaning.nega
-plain_means s e m is = ap (λ (t : Tree ANot). meaning.nega s t m) (not_seen e) ∙ ap (λ (b : Bool). meaning.nega s (Not b (view_compare (not_.out-Not e).inner)) m) is
+pub plain_means : (s : Scope) (e : not_.Not) (m : Machine) → (not_.out-Not e).negated ≡ false → meaning.negation s (view_not e) m ≡ meaning.compare s (view_compare (not_.out-Not e).inner) m
+unfolding meaning.negation
+plain_means s e m is = ap (λ (t : Tree ANot). meaning.negation s t m) (not_seen e) ∙ ap (λ (b : Bool). meaning.negation s (Not b (view_compare (not_.out-Not e).inner)) m) is
 
 pub alone_means : (s : Scope) (e : compare.Compare) (m : Machine) → (compare.out-Compare e).right ≡ None → meaning.compare s (view_compare e) m ≡ meaning.sum s (view_sum (compare.out-Compare e).left) m
 unfolding meaning.compare
@@ -218,30 +218,30 @@ argued_means s a m = refl
 
 -- ---- operands with parts
 
-pub call_counted : (s : Scope) (n : prim.Operand) (k : call.Call) (m : Machine) → n ≡ prim.Call k → meaning.prim s (view_prim n) m ≡ (count 1 m >>= λ c. meaning.call s (view_call k) c)
-unfolding meaning.prim
-call_counted s n k m is = ap (λ (x : prim.Operand). meaning.prim s (view_prim x) m) is
+pub call_counted : (s : Scope) (n : operand.Operand) (k : call.Call) (m : Machine) → n ≡ operand.Call k → meaning.operand s (view_operand n) m ≡ (count 1 m >>= λ c. meaning.call s (view_call k) c)
+unfolding meaning.operand
+call_counted s n k m is = ap (λ (x : operand.Operand). meaning.operand s (view_operand x) m) is
 
-pub choice_counted : (s : Scope) (n : prim.Operand) (i : If) (m : Machine) → n ≡ prim.If i → meaning.prim s (view_prim n) m ≡ (count 1 m >>= λ c. meaning.choice s (view_if i) c)
-unfolding meaning.prim
-choice_counted s n i m is = ap (λ (x : prim.Operand). meaning.prim s (view_prim x) m) is
+pub choice_counted : (s : Scope) (n : operand.Operand) (i : If) (m : Machine) → n ≡ operand.If i → meaning.operand s (view_operand n) m ≡ (count 1 m >>= λ c. meaning.choice s (view_if i) c)
+unfolding meaning.operand
+choice_counted s n i m is = ap (λ (x : operand.Operand). meaning.operand s (view_operand x) m) is
 
-pub paren_counted : (s : Scope) (n : prim.Operand) (b : Box Full) (m : Machine) → n ≡ prim.Paren b → meaning.prim s (view_prim n) m ≡ (count 1 m >>= λ c. meaning.full s (view_full b.value) c)
-unfolding meaning.prim
-paren_counted s n b m is = ap (λ (x : prim.Operand). meaning.prim s (view_prim x) m) is
+pub paren_counted : (s : Scope) (n : operand.Operand) (b : Box Full) (m : Machine) → n ≡ operand.Paren b → meaning.operand s (view_operand n) m ≡ (count 1 m >>= λ c. meaning.full s (view_full b.value) c)
+unfolding meaning.operand
+paren_counted s n b m is = ap (λ (x : operand.Operand). meaning.operand s (view_operand x) m) is
 
-pub tuple_counted : (s : Scope) (n : prim.Operand) (at : ℕ) (v : Vec Full) (l : List Full) (m : Machine) → n ≡ prim.Tuple at v → l ≡ v.items → meaning.prim s (view_prim n) m ≡ (count 1 m >>= meaning.grouped s (listed (map view_full l)))
+pub tuple_counted : (s : Scope) (n : operand.Operand) (at : ℕ) (v : Vec Full) (l : List Full) (m : Machine) → n ≡ operand.Tuple at v → l ≡ v.items → meaning.operand s (view_operand n) m ≡ (count 1 m >>= meaning.grouped s (listed (map view_full l)))
 tuple_counted s n at v l m is same =
-    ap (λ (x : prim.Operand). meaning.prim s (view_prim x) m) is ∙ ap (λ (t : Tree APrim). meaning.prim s t m) (tuple_view at v) ∙ ap (λ (k : List Full). meaning.prim s (tuple_of at (listed (map view_full k))) m) (sym same)
+    ap (λ (x : operand.Operand). meaning.operand s (view_operand x) m) is ∙ ap (λ (t : Tree AnOperand). meaning.operand s t m) (tuple_view at v) ∙ ap (λ (k : List Full). meaning.operand s (tuple_of at (listed (map view_full k))) m) (sym same)
     ∙ grouped_means s at (listed (map view_full l)) m
 
-list_means : (s : Scope) (at : ℕ) (ts : Tree (Many AFull)) (m : Machine) → meaning.prim s (Listed at ts) m ≡ (count 1 m >>= meaning.all_of s ts)
-unfolding meaning.prim
+list_means : (s : Scope) (at : ℕ) (ts : Tree (Many AFull)) (m : Machine) → meaning.operand s (Listed at ts) m ≡ (count 1 m >>= meaning.all_of s ts)
+unfolding meaning.operand
 list_means s at ts m = refl
 
-pub list_counted : (s : Scope) (n : prim.Operand) (at : ℕ) (v : Vec Full) (l : List Full) (m : Machine) → n ≡ prim.List at v → l ≡ v.items → meaning.prim s (view_prim n) m ≡ (count 1 m >>= meaning.all_of s (listed (map view_full l)))
+pub list_counted : (s : Scope) (n : operand.Operand) (at : ℕ) (v : Vec Full) (l : List Full) (m : Machine) → n ≡ operand.List at v → l ≡ v.items → meaning.operand s (view_operand n) m ≡ (count 1 m >>= meaning.all_of s (listed (map view_full l)))
 list_counted s n at v l m is same =
-    ap (λ (x : prim.Operand). meaning.prim s (view_prim x) m) is ∙ ap (λ (t : Tree APrim). meaning.prim s t m) (list_made at v) ∙ ap (λ (k : List Full). meaning.prim s (Listed at (listed (map view_full k))) m) (sym same)
+    ap (λ (x : operand.Operand). meaning.operand s (view_operand x) m) is ∙ ap (λ (t : Tree AnOperand). meaning.operand s t m) (list_made at v) ∙ ap (λ (k : List Full). meaning.operand s (Listed at (listed (map view_full k))) m) (sym same)
     ∙ list_means s at (listed (map view_full l)) m
 
 -- ---- calls of defs

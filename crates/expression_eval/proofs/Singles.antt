@@ -1,7 +1,7 @@
 -- An expression that is one operand means what the operand means.
 use Rattle.std.proofs.Common.{◌≡◌, Ok, Err, false, refl, ap, ◌∙◌}
 use Rattle.script_grammar.specs.Lone.{lone}
-use Rattle.script_grammar.specs.Tree.{Tree, AnExpr, APrim, none, Product}
+use Rattle.script_grammar.specs.Tree.{Tree, AnExpr, AnOperand, none, Product}
 use Rattle.script_grammar.specs.View.{view_full, view_expr}
 use Rattle.script_grammar.specs.declared.tree.Full.{Full}
 use Rattle.script_grammar.specs.declared.tree.Full.TheVariants as full
@@ -15,16 +15,16 @@ same : (r : Outcome) → (r >>= λ x. Ok (x.0, x.1)) ≡ r
 same (Ok x) = refl
 same (Err e) = refl
 
-product_lone : (s : Scope) (p : Tree APrim) (m : Machine) → meaning.product s (Product p none) m ≡ meaning.prim s p m
-unfolding meaning.product meaning.multiplieds
-product_lone s p m = same (meaning.prim s p m)
+product_lone : (s : Scope) (p : Tree AnOperand) (m : Machine) → meaning.product s (Product p none) m ≡ meaning.operand s p m
+unfolding meaning.product meaning.factors
+product_lone s p m = same (meaning.operand s p m)
 
-pub lone_means : (s : Scope) (p : Tree APrim) (m : Machine) → meaning.expr s (lone false p) m ≡ meaning.prim s p m
-unfolding meaning.expr meaning.ors meaning.conj meaning.ands meaning.nega meaning.compare meaning.sum meaning.addeds
+pub lone_means : (s : Scope) (p : Tree AnOperand) (m : Machine) → meaning.expr s (lone false p) m ≡ meaning.operand s p m
+unfolding meaning.expr meaning.ors meaning.conjunction meaning.ands meaning.negation meaning.compare meaning.sum meaning.addends
 lone_means s p m =
     let whole : Outcome = meaning.product s (Product p none) m in
     same (((whole >>= λ x. Ok (x.0, x.1)) >>= λ x. Ok (x.0, x.1))) ∙ same (whole >>= λ x. Ok (x.0, x.1)) ∙ same whole ∙ product_lone s p m
 
-pub full_lone : (s : Scope) (f : Full) (e : expr.Expr) (p : Tree APrim) (m : Machine) → f ≡ full.Plain e → view_expr e ≡ lone false p → meaning.full s (view_full f) m ≡ meaning.prim s p m
+pub full_lone : (s : Scope) (f : Full) (e : expr.Expr) (p : Tree AnOperand) (m : Machine) → f ≡ full.Plain e → view_expr e ≡ lone false p → meaning.full s (view_full f) m ≡ meaning.operand s p m
 unfolding meaning.full
 full_lone s f e p m is seen = ap (λ (g : Full). meaning.full s (view_full g) m) is ∙ ap (λ (t : Tree AnExpr). meaning.expr s t m) seen ∙ lone_means s p m

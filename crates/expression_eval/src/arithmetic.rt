@@ -2,7 +2,7 @@
 ghost use Rattle.std.specs.Prelude.{map};
 ghost use Rattle.script_grammar.specs.View.{listed, view_compare, view_sum, view_added, view_product, view_multiplied};
 ghost use Rattle.script_values.specs.Gives.{Gives};
-ghost use Rattle.eval_meaning.specs.Meaning.{joined, compare, sum, addeds, plus, product, multiplieds, times};
+ghost use Rattle.eval_meaning.specs.Meaning.{joined, compare, sum, addends, plus, product, factors, times};
 ghost use Rattle.expression_eval.specs.Places.{Goes};
 ghost use Rattle.script_values.specs.Numbers.{compared};
 ghost use Rattle.eval_scope.specs.Scopes.{scope_of};
@@ -69,12 +69,12 @@ fn sum(
     ensures { Gives (λ v. (view_value v, machine.new)) out.new (sum (scope_of scope.now) (view_sum node.now) machine.old) }
 {
     product(alloc, scope, left, machine, &node.first, out);
-    addeds(alloc, scope, left, machine, &node.rest, out);
+    addends(alloc, scope, left, machine, &node.rest, out);
 }
 
 /// ((`+` | `-`) product)*, behind the value in the place
 #[cycle(value)]
-fn addeds(
+fn addends(
     alloc: Global,
     scope: &Scope<'_>,
     left: usize,
@@ -82,7 +82,7 @@ fn addeds(
     parts: &[Added],
     out: &mut Result<Value, Fault>,
 )
-    ensures { Goes (λ v. addeds (scope_of scope.now) (listed (map view_added parts.now)) v machine.old) out.old out.new machine.new }
+    ensures { Goes (λ v. addends (scope_of scope.now) (listed (map view_added parts.now)) v machine.old) out.old out.new machine.new }
 {
     'turns: for part in parts {
         if out.is_err() {
@@ -127,12 +127,12 @@ fn product(
     ensures { Gives (λ v. (view_value v, machine.new)) out.new (product (scope_of scope.now) (view_product node.now) machine.old) }
 {
     operand(alloc, scope, left, machine, &node.first, out);
-    multiplieds(alloc, scope, left, machine, &node.rest, out);
+    factors(alloc, scope, left, machine, &node.rest, out);
 }
 
 /// ((`*` | `/`) operand)*, behind the value in the place
 #[cycle(value)]
-fn multiplieds(
+fn factors(
     alloc: Global,
     scope: &Scope<'_>,
     left: usize,
@@ -140,7 +140,7 @@ fn multiplieds(
     parts: &[Multiplied],
     out: &mut Result<Value, Fault>,
 )
-    ensures { Goes (λ v. multiplieds (scope_of scope.now) (listed (map view_multiplied parts.now)) v machine.old) out.old out.new machine.new }
+    ensures { Goes (λ v. factors (scope_of scope.now) (listed (map view_multiplied parts.now)) v machine.old) out.old out.new machine.new }
 {
     'turns: for part in parts {
         if out.is_err() {
@@ -164,7 +164,7 @@ fn multiplied(
     ensures { Goes (λ v. times (scope_of scope.now) (view_multiplied part.now) v machine.old) out.old out.new machine.new }
 {
     let mut other = Err(Fault::Memory);
-    operand(alloc, scope, left, machine, &part.prim, &mut other);
+    operand(alloc, scope, left, machine, &part.operand, &mut other);
     let operator = Operator::Product {
         divide: part.divide,
         at: part.at,

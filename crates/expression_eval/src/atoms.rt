@@ -1,8 +1,8 @@
 // Operands without parts.
-ghost use Rattle.script_grammar.specs.View.{view_prim};
+ghost use Rattle.script_grammar.specs.View.{view_operand};
 ghost use Rattle.script_values.specs.Gives.{Gives};
 ghost use Rattle.script_values.specs.View.{view_value};
-ghost use Rattle.eval_meaning.specs.Meaning.{prim};
+ghost use Rattle.eval_meaning.specs.Meaning.{operand};
 ghost use Rattle.eval_scope.specs.Scopes.{scope_of};
 
 use crate::preds::counted_pred;
@@ -15,14 +15,14 @@ use std::alloc::Global;
 /// The value of an operand without parts, behind its count. Of one with parts it makes none, as if memory were wanting:
 /// the descent sends none here.
 #[inline(never)]
-#[tactic(auto, unfolding(eval_meaning::specs::Meaning::prim))]
+#[tactic(auto, unfolding(eval_meaning::specs::Meaning::operand))]
 pub fn atom(
     alloc: Global,
     scope: &Scope<'_>,
     machine: &mut Machine,
     node: &Operand,
 ) -> Result<Value, Fault>
-    ensures { Gives (λ v. (view_value v, machine.new)) result (prim (scope_of scope.now) (view_prim node.now) machine.old) }
+    ensures { Gives (λ v. (view_value v, machine.new)) result (operand (scope_of scope.now) (view_operand node.now) machine.old) }
 {
     match node {
         Operand::Name { at, name: _ } => named(alloc, scope, machine, *at),

@@ -3,7 +3,7 @@ ghost use Rattle.std.specs.Prelude.{◌≡◌, Some};
 ghost use Rattle.std.specs.List.{list_any};
 ghost use Rattle.eval_meaning.specs.Calls.{holds_call, is_set, is_setting, means_set};
 ghost use Rattle.script_grammar.specs.declared.tree.StmtPart.TheVariants.{Call as a_call};
-ghost use Rattle.script_grammar.specs.View.{view_added, view_and, view_arg, view_compare, view_expr, view_full, view_if, view_multiplied, view_not, view_part, view_prim, view_product, view_sum};
+ghost use Rattle.script_grammar.specs.View.{view_added, view_and, view_arg, view_compare, view_expr, view_full, view_if, view_multiplied, view_not, view_part, view_operand, view_product, view_sum};
 ghost use Rattle.typing_rules.specs.Kinds.{target_said};
 ghost use Rattle.typing_rules.specs.Uses.{use_at};
 
@@ -156,11 +156,11 @@ fn sum_holds(node: &Sum) -> bool
     if product_holds(&node.first) {
         return true;
     }
-    addeds_hold(&node.rest)
+    addends_hold(&node.rest)
 }
 
 #[cycle(holds)]
-fn addeds_hold(parts: &[Added]) -> bool
+fn addends_hold(parts: &[Added]) -> bool
     ensures { result ≡ list_any (λ x. holds_call (view_added x)) parts.now }
 {
     for part in parts {
@@ -178,15 +178,15 @@ fn product_holds(node: &Product) -> bool
     if operand_holds(&node.first) {
         return true;
     }
-    multiplieds_hold(&node.rest)
+    factors_hold(&node.rest)
 }
 
 #[cycle(holds)]
-fn multiplieds_hold(parts: &[Multiplied]) -> bool
+fn factors_hold(parts: &[Multiplied]) -> bool
     ensures { result ≡ list_any (λ x. holds_call (view_multiplied x)) parts.now }
 {
     for part in parts {
-        if operand_holds(&part.prim) {
+        if operand_holds(&part.operand) {
             return true;
         }
     }
@@ -195,7 +195,7 @@ fn multiplieds_hold(parts: &[Multiplied]) -> bool
 
 #[cycle(holds)]
 fn operand_holds(node: &tree::Operand) -> bool
-    ensures { result ≡ holds_call (view_prim node.now) }
+    ensures { result ≡ holds_call (view_operand node.now) }
 {
     match node {
         tree::Operand::Literal { at: _, value: _ } => false,

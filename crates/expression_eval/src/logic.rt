@@ -2,7 +2,7 @@
 ghost use Rattle.std.specs.Prelude.{map};
 ghost use Rattle.script_grammar.specs.View.{listed, view_expr, view_and, view_not};
 ghost use Rattle.script_values.specs.Gives.{Gives};
-ghost use Rattle.eval_meaning.specs.Meaning.{expr, ors, joined, conj, ands, nega};
+ghost use Rattle.eval_meaning.specs.Meaning.{expr, ors, joined, conjunction, ands, negation};
 ghost use Rattle.expression_eval.specs.Places.{Goes};
 ghost use Rattle.script_values.specs.Numbers.{both, either};
 ghost use Rattle.eval_scope.specs.Scopes.{scope_of};
@@ -27,7 +27,7 @@ pub fn expr(
 )
     ensures { Gives (λ v. (view_value v, machine.new)) out.new (expr (scope_of scope.now) (view_expr node.now) machine.old) }
 {
-    conj(alloc, scope, left, machine, &node.first, out);
+    conjunction(alloc, scope, left, machine, &node.first, out);
     ors(alloc, scope, left, machine, &node.rest, out);
 }
 
@@ -62,16 +62,16 @@ fn or_one(
     part: &And,
     out: &mut Result<Value, Fault>,
 )
-    ensures { Goes (λ v. joined either v (conj (scope_of scope.now) (view_and part.now) machine.old)) out.old out.new machine.new }
+    ensures { Goes (λ v. joined either v (conjunction (scope_of scope.now) (view_and part.now) machine.old)) out.old out.new machine.new }
 {
     let mut other = Err(Fault::Memory);
-    conj(alloc, scope, left, machine, part, &mut other);
+    conjunction(alloc, scope, left, machine, part, &mut other);
     operate(machine, Operator::Or, out, other);
 }
 
 /// and: not (`and` not)*
 #[cycle(value)]
-fn conj(
+fn conjunction(
     alloc: Global,
     scope: &Scope<'_>,
     left: usize,
@@ -79,9 +79,9 @@ fn conj(
     node: &And,
     out: &mut Result<Value, Fault>,
 )
-    ensures { Gives (λ v. (view_value v, machine.new)) out.new (conj (scope_of scope.now) (view_and node.now) machine.old) }
+    ensures { Gives (λ v. (view_value v, machine.new)) out.new (conjunction (scope_of scope.now) (view_and node.now) machine.old) }
 {
-    nega(alloc, scope, left, machine, &node.first, out);
+    negation(alloc, scope, left, machine, &node.first, out);
     ands(alloc, scope, left, machine, &node.rest, out);
 }
 
@@ -116,16 +116,16 @@ fn and_one(
     part: &Not,
     out: &mut Result<Value, Fault>,
 )
-    ensures { Goes (λ v. joined both v (nega (scope_of scope.now) (view_not part.now) machine.old)) out.old out.new machine.new }
+    ensures { Goes (λ v. joined both v (negation (scope_of scope.now) (view_not part.now) machine.old)) out.old out.new machine.new }
 {
     let mut other = Err(Fault::Memory);
-    nega(alloc, scope, left, machine, part, &mut other);
+    negation(alloc, scope, left, machine, part, &mut other);
     operate(machine, Operator::And, out, other);
 }
 
 /// not: `not`? comparison
 #[cycle(value)]
-fn nega(
+fn negation(
     alloc: Global,
     scope: &Scope<'_>,
     left: usize,
@@ -133,7 +133,7 @@ fn nega(
     node: &Not,
     out: &mut Result<Value, Fault>,
 )
-    ensures { Gives (λ v. (view_value v, machine.new)) out.new (nega (scope_of scope.now) (view_not node.now) machine.old) }
+    ensures { Gives (λ v. (view_value v, machine.new)) out.new (negation (scope_of scope.now) (view_not node.now) machine.old) }
 {
     compare(alloc, scope, left, machine, &node.inner, out);
     if node.negated {

@@ -1,8 +1,8 @@
 // Operands that hold values: calls, `if`, and values in round and square brackets.
 ghost use Rattle.std.specs.Prelude.{◌≤◌, length, map};
-ghost use Rattle.script_grammar.specs.View.{listed, view_full, view_prim};
+ghost use Rattle.script_grammar.specs.View.{listed, view_full, view_operand};
 ghost use Rattle.script_values.specs.Gives.{Gives};
-ghost use Rattle.eval_meaning.specs.Meaning.{prim, grouped, all_of};
+ghost use Rattle.eval_meaning.specs.Meaning.{operand, grouped, all_of};
 ghost use Rattle.eval_scope.specs.Scopes.{scope_of};
 ghost use Rattle.script_values.specs.View.{view_value};
 
@@ -28,7 +28,7 @@ pub fn operand(
     node: &tree::Operand,
     out: &mut Result<Value, Fault>,
 )
-    ensures { Gives (λ v. (view_value v, machine.new)) out.new (prim (scope_of scope.now) (view_prim node.now) machine.old) }
+    ensures { Gives (λ v. (view_value v, machine.new)) out.new (operand (scope_of scope.now) (view_operand node.now) machine.old) }
 {
     match node {
         tree::Operand::Call(inside) => {

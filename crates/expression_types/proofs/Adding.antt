@@ -3,7 +3,7 @@ use Rattle.std.proofs.Common.{◌≡◌, ◌∙◌, sym, ap, subst, refl, ℕ, �
 use Rattle.liq_base.specs.declared.memory.Memory.{Memory}
 use Rattle.std.proofs.lemmas.List.{append-nil, map-append, take_all, take_more}
 use Rattle.script_grammar.specs.Tree.{Sort, Tree, AFull, If}
-use Rattle.script_grammar.specs.View.{listed, tuple_of, view_added, view_and, view_arg, view_call, view_compare, view_expr, view_full, view_not, view_product, view_sum, view_prim, view_multiplied}
+use Rattle.script_grammar.specs.View.{listed, tuple_of, view_added, view_and, view_arg, view_call, view_compare, view_expr, view_full, view_not, view_product, view_sum, view_operand, view_multiplied}
 use Rattle.script_grammar.specs.declared.tree.Full.{Full}
 use Rattle.script_grammar.specs.declared.tree.Expr as expr
 use Rattle.script_grammar.specs.declared.tree.And as and_
@@ -22,8 +22,8 @@ use Rattle.type_terms.specs.declared.ty.KindTerm.{KindTerm}
 use Rattle.script_grammar.proofs.Rows.{added_seen, and_seen, call_seen, compare_alone, compare_seen, expr_seen, not_seen, product_seen, sum_seen}
 use Rattle.type_steps.specs.Environment.{Found, with_use}
 use Rattle.type_steps.specs.Flow.{if_yes}
-use Rattle.type_scope.specs.Seen.{IsNamed, env_of}
-use Rattle.type_scope.specs.declared.environment.Names.{Names}
+use Rattle.name_types.specs.Seen.{IsNamed, env_of}
+use Rattle.name_types.specs.declared.environment.Names.{Names}
 use Rattle.expression_types.specs.Order.{AreAdded, AreAddedIf, AreAddedWhere, Said, kinds_count, said_at, said_of, tokens_used}
 
 pub none_added : (ns : Names) (fs : List Found) → AreAdded ns [] fs fs
@@ -99,9 +99,9 @@ module _ (ns : Names) (old mid new : List Found) (made : Bool) (n : ℕ) (answer
   sum_added e l lis f g = chain_added ns (tokens_used (view_sum e)) (tokens_used (view_product (sum.out-Sum e).first)) (tokens_used (listed (map view_added l))) old mid new made n answer
       (ap tokens_used (sum_seen e) ∙ ap (λ (k : List added.Added). tokens_used (view_product (sum.out-Sum e).first) ++ tokens_used (listed (map view_added k))) (sym lis)) answers f g
 
-  pub product_added : (e : product.Product) (l : List multiplied.Multiplied) → l ≡ (product.out-Product e).rest.items → AreAdded ns (tokens_used (view_prim (product.out-Product e).first)) old mid → AreAdded ns (tokens_used (listed (map view_multiplied l))) mid new → AreAddedIf ns (tokens_used (view_product e)) old new answer
-  product_added e l lis f g = chain_added ns (tokens_used (view_product e)) (tokens_used (view_prim (product.out-Product e).first)) (tokens_used (listed (map view_multiplied l))) old mid new made n answer
-      (ap tokens_used (product_seen e) ∙ ap (λ (k : List multiplied.Multiplied). tokens_used (view_prim (product.out-Product e).first) ++ tokens_used (listed (map view_multiplied k))) (sym lis)) answers f g
+  pub product_added : (e : product.Product) (l : List multiplied.Multiplied) → l ≡ (product.out-Product e).rest.items → AreAdded ns (tokens_used (view_operand (product.out-Product e).first)) old mid → AreAdded ns (tokens_used (listed (map view_multiplied l))) mid new → AreAddedIf ns (tokens_used (view_product e)) old new answer
+  product_added e l lis f g = chain_added ns (tokens_used (view_product e)) (tokens_used (view_operand (product.out-Product e).first)) (tokens_used (listed (map view_multiplied l))) old mid new made n answer
+      (ap tokens_used (product_seen e) ∙ ap (λ (k : List multiplied.Multiplied). tokens_used (view_operand (product.out-Product e).first) ++ tokens_used (listed (map view_multiplied k))) (sym lis)) answers f g
 
 -- a term of a sum, behind its operator
 pub term_added : (ns : Names) (a : added.Added) (old new : List Found) → AreAdded ns (tokens_used (view_product (added.out-Added a).product)) old new → AreAdded ns (tokens_used (view_added a)) old new

@@ -8,19 +8,19 @@ use Rattle.typing_rules.specs.Table.{signature}
 use Rattle.typing_rules.specs.declared.uses.Builtin.{Builtin}
 use Rattle.typing_rules.specs.declared.uses.Target.{Target}
 use Rattle.typing_rules.specs.declared.uses.Target.TheVariants as target
-use Rattle.type_schemes.specs.Schemes.{Scheme, builtin_scheme, open_numbers, scheme_of}
-use Rattle.type_schemes.specs.declared.general.KindParameter.TheVariants.{Open}
+use Rattle.general_types.specs.Schemes.{Scheme, builtin_scheme, open_numbers, scheme_of}
+use Rattle.general_types.specs.declared.general.KindParameter.TheVariants.{Open}
 use Rattle.name_scope.specs.Seen.{seen_parameter}
 use Rattle.type_steps.specs.Environment.{AreUsesOver, Found, with_use}
 use Rattle.type_steps.specs.Flow.{AreTermsOver, HasNoCall}
 use Rattle.type_steps.proofs.Calls.{uses_with}
 use Rattle.type_steps.proofs.Tables.{over_later, uses_later}
-use Rattle.type_scope.specs.Seen.{DefIs, HasBegun, IsCalled, IsSeen, def_seen, env_of, founds}
-use Rattle.type_scope.specs.declared.calls.Callee.{Callee}
-use Rattle.type_scope.specs.declared.environment.FoundUse.{FoundUse}
-use Rattle.type_scope.specs.declared.environment.KnownDef.{KnownDef}
-use Rattle.type_scope.specs.declared.environment.Names.{Names}
-use Rattle.type_scope.proofs.Seeing.{seen_later}
+use Rattle.name_types.specs.Seen.{DefIs, HasBegun, IsCalled, IsSeen, def_seen, env_of, founds}
+use Rattle.name_types.specs.declared.calls.Callee.{Callee}
+use Rattle.name_types.specs.declared.environment.FoundUse.{FoundUse}
+use Rattle.name_types.specs.declared.environment.KnownDef.{KnownDef}
+use Rattle.name_types.specs.declared.environment.Names.{Names}
+use Rattle.name_types.proofs.Seeing.{seen_later}
 use Rattle.expression_types.specs.Order.{kinds_count, open_kinds}
 
 pub terms_later : (s s' : Table) (ts : List Term) → Follows s s' → AreTermsOver s ts → AreTermsOver s' ts

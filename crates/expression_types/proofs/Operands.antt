@@ -3,11 +3,11 @@ use Rattle.std.proofs.Common.{◌≡◌, ◌∙◌, sym, ap, refl, ℕ, List, ma
 use Rattle.std.specs.Global.{Vec}
 use Rattle.liq_base.specs.declared.memory.Memory.{Memory}
 use Rattle.script_grammar.specs.Tree.{Sort, Tree, Constant, Negative, Listed}
-use Rattle.script_grammar.specs.View.{listed, tuple_of, view_full, view_prim}
+use Rattle.script_grammar.specs.View.{listed, tuple_of, view_full, view_operand}
 use Rattle.script_grammar.specs.declared.tree.Full.{Full}
 use Rattle.script_grammar.specs.declared.tree.Literal.{Literal}
 use Rattle.script_grammar.specs.declared.tree.Literal.TheVariants as literal
-use Rattle.script_grammar.specs.declared.tree.Operand as prim
+use Rattle.script_grammar.specs.declared.tree.Operand as operand
 use Rattle.type_terms.specs.Ground.{Ground}
 use Rattle.type_terms.specs.Term.{variable}
 use Rattle.type_terms.specs.Table.{Table}
@@ -18,7 +18,7 @@ use Rattle.type_steps.specs.Environment.{Env, Found, AreUsesOver, IsEnvOver}
 use Rattle.type_steps.specs.Flow.{Defines, Infers, IsTypeOf}
 use Rattle.type_steps.proofs.Ends.{leaf_infers}
 use Rattle.type_steps.proofs.Forms.{infers_as, none_as}
-use Rattle.type_scope.specs.Literals.{literal_term}
+use Rattle.name_types.specs.Literals.{literal_term}
 
 pub constant_infers : (s s' : Table) (env : Env) (at : ℕ) (l : Literal) (n : ℕ) (fs : List Found) → IsEnvOver s env → AreUsesOver s fs → Defines s s' n (literal_term l) → Infers s s' env (Constant at l) (variable n) fs fs
 constant_infers s s' env at (literal.Int k) n fs o us d = leaf_infers s s' env (Constant at (literal.Int k)) base.Int n fs (λ z. refl) (λ z g h. h) o us d
@@ -38,8 +38,8 @@ answered_as e e' to back s s' env old new (Ok answer) f = typed_as e e' to back 
 answered_as e e' to back s s' env old new (Err m) f = tt
 
 -- values in parentheses and in square brackets
-pub prim_tuple : (at : ℕ) (v : Vec Full) (l : List Full) → l ≡ v.items → view_prim (prim.Tuple at v) ≡ tuple_of at (listed (map view_full l))
-prim_tuple at v l is = ap (tuple_of at) (fulls_listed v) ∙ ap (λ (k : List Full). tuple_of at (listed (map view_full k))) (sym is)
+pub operand_tuple : (at : ℕ) (v : Vec Full) (l : List Full) → l ≡ v.items → view_operand (operand.Tuple at v) ≡ tuple_of at (listed (map view_full l))
+operand_tuple at v l is = ap (tuple_of at) (fulls_listed v) ∙ ap (λ (k : List Full). tuple_of at (listed (map view_full k))) (sym is)
 
-pub prim_list : (at : ℕ) (v : Vec Full) (l : List Full) → l ≡ v.items → view_prim (prim.List at v) ≡ Listed at (listed (map view_full l))
-prim_list at v l is = ap (Listed at) (fulls_listed v) ∙ ap (λ (k : List Full). Listed at (listed (map view_full k))) (sym is)
+pub operand_list : (at : ℕ) (v : Vec Full) (l : List Full) → l ≡ v.items → view_operand (operand.List at v) ≡ Listed at (listed (map view_full l))
+operand_list at v l is = ap (Listed at) (fulls_listed v) ∙ ap (λ (k : List Full). Listed at (listed (map view_full k))) (sym is)

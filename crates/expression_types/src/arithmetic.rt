@@ -3,14 +3,14 @@ ghost use Rattle.std.specs.Prelude.{length, map, IfOk, ◌<◌};
 ghost use Rattle.script_grammar.specs.Tree.{more, none};
 ghost use Rattle.script_grammar.specs.View.{listed, view_added, view_compare, view_multiplied, view_product, view_sum};
 ghost use Rattle.type_steps.specs.Flow.{AreJoined, IsTypeOf};
-ghost use Rattle.type_scope.specs.Seen.{IsSeen, env_of, founds};
+ghost use Rattle.name_types.specs.Seen.{IsSeen, env_of, founds};
 ghost use Rattle.expression_types.specs.Order.{AreAddedIf, AreAddedWhere, tokens_used};
 
-use crate::values::type_prim;
+use crate::values::type_operand;
 use liq_base::Memory;
+use name_types::{FoundUse, Names, some_if};
 use script_grammar::tree::{Added, Compare, Multiplied, Product, Sum};
 use std::alloc::Global;
-use type_scope::{FoundUse, Names, some_if};
 use type_steps::{is_number, is_number_of_many, new_type, same};
 use type_terms::{Subst, Ty};
 
@@ -87,7 +87,7 @@ fn type_sum(
     match type_product(alloc, subst, names, uses, &sum.first)? {
         None => Ok(None),
         Some(n) => {
-            let joined = join_addeds(alloc, subst, names, uses, n, &sum.rest)?;
+            let joined = join_addends(alloc, subst, names, uses, n, &sum.rest)?;
             if !joined {
                 return Ok(None);
             }
@@ -123,20 +123,20 @@ fn join_added(
 
 /// Makes the terms of a sum have the type of the first.
 #[cycle(value)]
-fn join_addeds(
+fn join_addends(
     alloc: Global,
     subst: &mut Subst,
     names: Names<'_, '_>,
     uses: &mut Vec<FoundUse>,
     n: u64,
-    addeds: &[Added],
+    addends: &[Added],
 ) -> Result<bool, Memory>
     requires seen { IsSeen subst.old names uses.old.items }
     requires inside { n < length subst.old.types }
-    ensures typed { IfOk result (λ yes. AreJoined subst.old subst.new (env_of names.entry) (listed (map view_added addeds.now)) n (founds uses.old.items) (founds uses.new.items) yes) }
-    ensures order { IfOk result (λ yes. AreAddedWhere names.entry (tokens_used (listed (map view_added addeds.now))) (founds uses.old.items) (founds uses.new.items) yes) }
+    ensures typed { IfOk result (λ yes. AreJoined subst.old subst.new (env_of names.entry) (listed (map view_added addends.now)) n (founds uses.old.items) (founds uses.new.items) yes) }
+    ensures order { IfOk result (λ yes. AreAddedWhere names.entry (tokens_used (listed (map view_added addends.now))) (founds uses.old.items) (founds uses.new.items) yes) }
 {
-    for added in addeds {
+    for added in addends {
         let joined = join_added(alloc, subst, names, uses, n, added)?;
         if !joined {
             return Ok(false);
@@ -158,10 +158,10 @@ fn type_product(
     ensures typed { IfOk result (λ r. IsTypeOf subst.old subst.new (env_of names.entry) (view_product product.now) (founds uses.old.items) (founds uses.new.items) r) }
     ensures order { IfOk result (λ r. AreAddedIf names.entry (tokens_used (view_product product.now)) (founds uses.old.items) (founds uses.new.items) r) }
 {
-    match type_prim(alloc, subst, names, uses, &product.first)? {
+    match type_operand(alloc, subst, names, uses, &product.first)? {
         None => Ok(None),
         Some(n) => {
-            let joined = join_multiplieds(alloc, subst, names, uses, n, &product.rest)?;
+            let joined = join_factors(alloc, subst, names, uses, n, &product.rest)?;
             if !joined {
                 return Ok(None);
             }
@@ -186,7 +186,7 @@ fn join_multiplied(
     ensures typed { IfOk result (λ yes. AreJoined subst.old subst.new (env_of names.entry) (more (view_multiplied multiplied.now) none) n (founds uses.old.items) (founds uses.new.items) yes) }
     ensures order { IfOk result (λ yes. AreAddedWhere names.entry (tokens_used (view_multiplied multiplied.now)) (founds uses.old.items) (founds uses.new.items) yes) }
 {
-    match type_prim(alloc, subst, names, uses, &multiplied.prim)? {
+    match type_operand(alloc, subst, names, uses, &multiplied.operand)? {
         None => Ok(false),
         Some(other) => {
             let yes = same(alloc, subst, n, other)?;
@@ -197,20 +197,20 @@ fn join_multiplied(
 
 /// Makes the factors of a product have the type of the first.
 #[cycle(value)]
-fn join_multiplieds(
+fn join_factors(
     alloc: Global,
     subst: &mut Subst,
     names: Names<'_, '_>,
     uses: &mut Vec<FoundUse>,
     n: u64,
-    multiplieds: &[Multiplied],
+    factors: &[Multiplied],
 ) -> Result<bool, Memory>
     requires seen { IsSeen subst.old names uses.old.items }
     requires inside { n < length subst.old.types }
-    ensures typed { IfOk result (λ yes. AreJoined subst.old subst.new (env_of names.entry) (listed (map view_multiplied multiplieds.now)) n (founds uses.old.items) (founds uses.new.items) yes) }
-    ensures order { IfOk result (λ yes. AreAddedWhere names.entry (tokens_used (listed (map view_multiplied multiplieds.now))) (founds uses.old.items) (founds uses.new.items) yes) }
+    ensures typed { IfOk result (λ yes. AreJoined subst.old subst.new (env_of names.entry) (listed (map view_multiplied factors.now)) n (founds uses.old.items) (founds uses.new.items) yes) }
+    ensures order { IfOk result (λ yes. AreAddedWhere names.entry (tokens_used (listed (map view_multiplied factors.now))) (founds uses.old.items) (founds uses.new.items) yes) }
 {
-    for multiplied in multiplieds {
+    for multiplied in factors {
         let joined = join_multiplied(alloc, subst, names, uses, n, multiplied)?;
         if !joined {
             return Ok(false);

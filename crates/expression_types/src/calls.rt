@@ -3,18 +3,18 @@ ghost use Rattle.std.specs.Prelude.{◌≡◌, length, map, option_map, IfOk, So
 ghost use Rattle.name_scope.specs.Seen.{seen_parameter};
 ghost use Rattle.script_grammar.specs.declared.tree.Call.{out-Call};
 ghost use Rattle.script_grammar.specs.View.{listed, view_arg, view_call};
-ghost use Rattle.type_schemes.specs.Schemes.{open_numbers};
+ghost use Rattle.general_types.specs.Schemes.{open_numbers};
 ghost use Rattle.type_steps.specs.Fitting.{seen_argument};
 ghost use Rattle.type_steps.specs.Flow.{AreGivenOf, IsTypeOf};
-ghost use Rattle.type_scope.specs.Seen.{IsCalled, IsSeen, called_scheme, env_of, founds};
+ghost use Rattle.name_types.specs.Seen.{IsCalled, IsSeen, called_scheme, env_of, founds};
 ghost use Rattle.expression_types.specs.Order.{AreAddedIf, kinds_count, tokens_used};
 
 use crate::values::type_full;
 use liq_base::Memory;
 use name_scope::{Parameter, builtin_params};
+use name_types::{Called, FoundUse, Names, begin_call, some_if};
 use script_grammar::tree::{Arg, Call};
 use std::alloc::Global;
-use type_scope::{Called, FoundUse, Names, begin_call, some_if};
 use type_steps::{Argument, fit};
 use type_terms::Subst;
 use typing_rules::Target;

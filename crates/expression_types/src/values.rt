@@ -1,18 +1,18 @@
 // The types of full values and operands.
 ghost use Rattle.std.specs.Prelude.{length, map, option_map, IfOk, ◌<◌};
 ghost use Rattle.script_grammar.specs.Tree.{Listed, more, none};
-ghost use Rattle.script_grammar.specs.View.{listed, tuple_of, view_full, view_if, view_prim};
+ghost use Rattle.script_grammar.specs.View.{listed, tuple_of, view_full, view_if, view_operand};
 ghost use Rattle.type_steps.specs.Flow.{AreJoined, AreTypesOf, IsTypeOf};
-ghost use Rattle.type_scope.specs.Seen.{IsSeen, env_of, founds};
+ghost use Rattle.name_types.specs.Seen.{IsSeen, env_of, founds};
 ghost use Rattle.expression_types.specs.Order.{AreAddedIf, AreAddedWhere, tokens_used};
 
 use crate::calls::type_call;
 use crate::logic::type_expr;
 use liq_base::Memory;
+use name_types::{FoundUse, Names, literal_type, some_if, type_name};
 use script_grammar::lone_operand;
 use script_grammar::tree::{Full, If, Operand};
 use std::alloc::Global;
-use type_scope::{FoundUse, Names, literal_type, some_if, type_name};
 use type_steps::{is_truth, new_list, new_tuple, new_type, new_var, same};
 use type_terms::{Subst, Ty};
 
@@ -37,7 +37,7 @@ pub fn type_full(
             Ok(Some(n))
         }
         Full::Plain(expr) => match lone_operand(expr) {
-            Some(prim) => type_prim(alloc, subst, names, uses, prim),
+            Some(operand) => type_operand(alloc, subst, names, uses, operand),
             None => type_expr(alloc, subst, names, uses, expr),
         },
     }
@@ -45,18 +45,18 @@ pub fn type_full(
 
 /// The type of an operand.
 #[cycle(value)]
-pub fn type_prim(
+pub fn type_operand(
     alloc: Global,
     subst: &mut Subst,
     names: Names<'_, '_>,
     uses: &mut Vec<FoundUse>,
-    prim: &Operand,
+    operand: &Operand,
 ) -> Result<Option<u64>, Memory>
     requires seen { IsSeen subst.old names uses.old.items }
-    ensures typed { IfOk result (λ r. IsTypeOf subst.old subst.new (env_of names.entry) (view_prim prim.now) (founds uses.old.items) (founds uses.new.items) r) }
-    ensures order { IfOk result (λ r. AreAddedIf names.entry (tokens_used (view_prim prim.now)) (founds uses.old.items) (founds uses.new.items) r) }
+    ensures typed { IfOk result (λ r. IsTypeOf subst.old subst.new (env_of names.entry) (view_operand operand.now) (founds uses.old.items) (founds uses.new.items) r) }
+    ensures order { IfOk result (λ r. AreAddedIf names.entry (tokens_used (view_operand operand.now)) (founds uses.old.items) (founds uses.new.items) r) }
 {
-    match prim {
+    match operand {
         Operand::Literal { at: _, value } => {
             let n = literal_type(alloc, subst, value)?;
             Ok(Some(n))

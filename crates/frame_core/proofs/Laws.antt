@@ -2,7 +2,7 @@
 use Rattle.std.specs.Prelude.{◌≡◌, ℕ, suc, ◌+◌, ◌<◌, ◌≤◌, Bool, true, false, List, [], ◌∷◌, ◌++◌, length, map, drop, Option, Some, None, refl}
 use Rattle.std.proofs.Common.{sym, ap, ◌∙◌, subst, arith, append_assoc, length-append, append-nil}
 use Rattle.frame_core.specs.Frames.{somes}
-use Rattle.frame_core.specs.Legal.{Legal, IsRun}
+use Rattle.frame_core.specs.Legal.{Legal, IsHistory}
 use Rattle.frame_core.specs.Legal.Legal.{ended, accepted, full, got, empty}
 use Rattle.frame_core.specs.Order.{Move, puts_of, gots_of, Ordered, last_or, Fits, answers_of, left_by}
 use Rattle.frame_core.specs.Order.Move.{Put, Got}
@@ -200,6 +200,6 @@ module _ {X : Type 0} where
 
   -- one window more
   pub run_more : (C : ℕ) (q m r : List X) (windows : List (List (Option X) × List (Option X))) (puts takes : List (Option X))
-      → IsRun C q windows m → Legal C r m puts takes → IsRun C q (windows ++ (puts, takes) ∷ []) r
+      → IsHistory C q windows m → Legal C r m puts takes → IsHistory C q (windows ++ (puts, takes) ∷ []) r
   run_more C q m r [] puts takes run window = (r, subst (λ (l : List X). Legal C r l puts takes) (sym run) window, refl)
   run_more C q m r (w ∷ windows) puts takes run window = (run.0, run.1, run_more C run.0 m r windows puts takes run.2 window)

@@ -15,7 +15,7 @@ pub data Legal {X : Type 0} (capacity : ℕ) (rest : List X) : List X → List (
       Legal capacity rest [] puts takes → Legal capacity rest [] puts (None ∷ takes)
 
 -- Windows one after another, each legal from what the one before it left: from the items `queue` to `rest`.
-abbrev pub IsRun : {X : Type 0} → ℕ → List X → List (List (Option X) × List (Option X)) → List X → Type 0
-IsRun capacity queue [] rest = queue ≡ rest
-IsRun {X} capacity queue (window ∷ windows) rest =
-    (left : List X) × Legal capacity left queue window.0 window.1 × IsRun capacity left windows rest
+abbrev pub IsHistory : {X : Type 0} → ℕ → List X → List (List (Option X) × List (Option X)) → List X → Type 0
+IsHistory capacity queue [] rest = queue ≡ rest
+IsHistory {X} capacity queue (window ∷ windows) rest =
+    (left : List X) × Legal capacity left queue window.0 window.1 × IsHistory capacity left windows rest

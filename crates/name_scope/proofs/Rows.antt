@@ -3,7 +3,7 @@ use Rattle.std.proofs.Common.{◌≡◌, ◌<◌, ◌+◌, ℕ, length, List, []
 use Rattle.std.proofs.lemmas.List.{append-nil, take_more}
 use Rattle.std.specs.Global.{Vec}
 use Rattle.script_grammar.specs.Tree.{Sort, Tree, Many, AFull, Listed}
-use Rattle.script_grammar.specs.View.{listed, tuple_of, view_expr, view_and, view_not, view_compare, view_sum, view_added, view_product, view_multiplied, view_prim, view_full, view_call, view_arg}
+use Rattle.script_grammar.specs.View.{listed, tuple_of, view_expr, view_and, view_not, view_compare, view_sum, view_added, view_product, view_multiplied, view_operand, view_full, view_call, view_arg}
 use Rattle.script_grammar.specs.declared.tree.Full.{Full}
 use Rattle.script_grammar.specs.declared.tree.Expr as expr
 use Rattle.script_grammar.specs.declared.tree.And as and_
@@ -14,7 +14,7 @@ use Rattle.script_grammar.specs.declared.tree.Sum as sum
 use Rattle.script_grammar.specs.declared.tree.Added as added
 use Rattle.script_grammar.specs.declared.tree.Product as product
 use Rattle.script_grammar.specs.declared.tree.Multiplied as multiplied
-use Rattle.script_grammar.specs.declared.tree.Operand as prim
+use Rattle.script_grammar.specs.declared.tree.Operand as operand
 use Rattle.script_grammar.specs.declared.tree.Call as call
 use Rattle.script_grammar.specs.declared.tree.Arg as arg
 use Rattle.script_grammar.proofs.Rows.{and_seen, call_seen, compare_seen, expr_seen, fulls_listed, product_seen, sum_seen}
@@ -58,8 +58,8 @@ and_parts sc e l old a new lis ais nis = two_parts old a new (names sc (view_not
 pub sum_parts : (sc : Scope) (e : sum.Sum) (l : List added.Added) (old a new : Noted) → l ≡ (sum.out-Sum e).rest.items → a ≡ with_names old (names sc (view_product (sum.out-Sum e).first)) → new ≡ with_names a (names_each sc (map view_added l)) → new ≡ with_names old (names sc (view_sum e))
 sum_parts sc e l old a new lis ais nis = two_parts old a new (names sc (view_product (sum.out-Sum e).first)) (names_each sc (map view_added l)) (names sc (view_sum e)) ais nis (ap (names sc) (sum_seen e) ∙ ap (λ (z : List Name). names sc (view_product (sum.out-Sum e).first) ++ z) (each_listed sc (map view_added (sum.out-Sum e).rest.items)) ∙ ap (λ (z : List added.Added). names sc (view_product (sum.out-Sum e).first) ++ names_each sc (map view_added z)) (sym lis))
 
-pub product_parts : (sc : Scope) (e : product.Product) (l : List multiplied.Multiplied) (old a new : Noted) → l ≡ (product.out-Product e).rest.items → a ≡ with_names old (names sc (view_prim (product.out-Product e).first)) → new ≡ with_names a (names_each sc (map view_multiplied l)) → new ≡ with_names old (names sc (view_product e))
-product_parts sc e l old a new lis ais nis = two_parts old a new (names sc (view_prim (product.out-Product e).first)) (names_each sc (map view_multiplied l)) (names sc (view_product e)) ais nis (ap (names sc) (product_seen e) ∙ ap (λ (z : List Name). names sc (view_prim (product.out-Product e).first) ++ z) (each_listed sc (map view_multiplied (product.out-Product e).rest.items)) ∙ ap (λ (z : List multiplied.Multiplied). names sc (view_prim (product.out-Product e).first) ++ names_each sc (map view_multiplied z)) (sym lis))
+pub product_parts : (sc : Scope) (e : product.Product) (l : List multiplied.Multiplied) (old a new : Noted) → l ≡ (product.out-Product e).rest.items → a ≡ with_names old (names sc (view_operand (product.out-Product e).first)) → new ≡ with_names a (names_each sc (map view_multiplied l)) → new ≡ with_names old (names sc (view_product e))
+product_parts sc e l old a new lis ais nis = two_parts old a new (names sc (view_operand (product.out-Product e).first)) (names_each sc (map view_multiplied l)) (names sc (view_product e)) ais nis (ap (names sc) (product_seen e) ∙ ap (λ (z : List Name). names sc (view_operand (product.out-Product e).first) ++ z) (each_listed sc (map view_multiplied (product.out-Product e).rest.items)) ∙ ap (λ (z : List multiplied.Multiplied). names sc (view_operand (product.out-Product e).first) ++ names_each sc (map view_multiplied z)) (sym lis))
 
 abbrev pub call_name : Scope → ℕ → List ℕ → List arg.Arg → Name
 call_name sc at name l = record { at = at; meant = call_meant name (bound name sc); given = tokens_given (listed (map view_arg l)) }
@@ -80,8 +80,8 @@ tuple_listed sc at [] = refl
 tuple_listed sc at (f ∷ []) = sym (append-nil (names sc f))
 tuple_listed sc at (f ∷ g ∷ rest) = ap (λ (z : List Name). names sc f ++ names sc g ++ z) (each_listed sc rest) ∙ append_assoc (names sc f) (names sc g) (names_each sc rest)
 
-pub tuple_names : (sc : Scope) (at : ℕ) (v : Vec Full) → names sc (view_prim (prim.Tuple at v)) ≡ names_each sc (map view_full v.items)
+pub tuple_names : (sc : Scope) (at : ℕ) (v : Vec Full) → names sc (view_operand (operand.Tuple at v)) ≡ names_each sc (map view_full v.items)
 tuple_names sc at v = ap (λ (t : _). names sc (tuple_of at t)) (fulls_listed v) ∙ tuple_listed sc at (map view_full v.items)
 
-pub list_names : (sc : Scope) (at : ℕ) (v : Vec Full) → names sc (view_prim (prim.List at v)) ≡ names_each sc (map view_full v.items)
+pub list_names : (sc : Scope) (at : ℕ) (v : Vec Full) → names sc (view_operand (operand.List at v)) ≡ names_each sc (map view_full v.items)
 list_names sc at v = ap (λ (t : Tree (Many AFull)). names sc (Listed at t)) (fulls_listed v) ∙ each_listed sc (map view_full v.items)

@@ -1,6 +1,6 @@
 // The names that values use: full values, expressions, operands, calls and `if`.
 ghost use Rattle.std.specs.Prelude.{◌≡◌, OnOk, map};
-ghost use Rattle.script_grammar.specs.View.{view_full, view_expr, view_and, view_not, view_compare, view_sum, view_added, view_product, view_multiplied, view_prim, view_call, view_arg, view_if};
+ghost use Rattle.script_grammar.specs.View.{view_full, view_expr, view_and, view_not, view_compare, view_sum, view_added, view_product, view_multiplied, view_operand, view_call, view_arg, view_if};
 ghost use Rattle.typing_rules.specs.Scoping.{names};
 ghost use Rattle.name_scope.specs.Noted.{names_each, noted, with_names};
 ghost use Rattle.name_scope.specs.Seen.{both_scopes};
@@ -160,20 +160,20 @@ fn note_sum(
     ensures { OnOk result (noted notes.new ≡ with_names (noted notes.old) (names (both_scopes scopes.entry) (view_sum sum.now))) }
 {
     note_product(alloc, scopes, notes, &sum.first)?;
-    note_addeds(alloc, scopes, notes, &sum.rest)?;
+    note_addends(alloc, scopes, notes, &sum.rest)?;
     Ok(())
 }
 
 #[cycle(value)]
-fn note_addeds(
+fn note_addends(
     alloc: Global,
     scopes: Scopes<'_, '_>,
     notes: &mut Notes,
-    addeds: &[Added],
+    addends: &[Added],
 ) -> Result<(), Memory>
-    ensures { OnOk result (noted notes.new ≡ with_names (noted notes.old) (names_each (both_scopes scopes.entry) (map view_added addeds.now))) }
+    ensures { OnOk result (noted notes.new ≡ with_names (noted notes.old) (names_each (both_scopes scopes.entry) (map view_added addends.now))) }
 {
-    for added in addeds {
+    for added in addends {
         note_added(alloc, scopes, notes, added)?;
     }
     Ok(())
@@ -200,21 +200,21 @@ fn note_product(
 ) -> Result<(), Memory>
     ensures { OnOk result (noted notes.new ≡ with_names (noted notes.old) (names (both_scopes scopes.entry) (view_product product.now))) }
 {
-    note_prim(alloc, scopes, notes, &product.first)?;
-    note_multiplieds(alloc, scopes, notes, &product.rest)?;
+    note_operand(alloc, scopes, notes, &product.first)?;
+    note_factors(alloc, scopes, notes, &product.rest)?;
     Ok(())
 }
 
 #[cycle(value)]
-fn note_multiplieds(
+fn note_factors(
     alloc: Global,
     scopes: Scopes<'_, '_>,
     notes: &mut Notes,
-    multiplieds: &[Multiplied],
+    factors: &[Multiplied],
 ) -> Result<(), Memory>
-    ensures { OnOk result (noted notes.new ≡ with_names (noted notes.old) (names_each (both_scopes scopes.entry) (map view_multiplied multiplieds.now))) }
+    ensures { OnOk result (noted notes.new ≡ with_names (noted notes.old) (names_each (both_scopes scopes.entry) (map view_multiplied factors.now))) }
 {
-    for multiplied in multiplieds {
+    for multiplied in factors {
         note_multiplied(alloc, scopes, notes, multiplied)?;
     }
     Ok(())
@@ -229,19 +229,19 @@ fn note_multiplied(
 ) -> Result<(), Memory>
     ensures { OnOk result (noted notes.new ≡ with_names (noted notes.old) (names (both_scopes scopes.entry) (view_multiplied multiplied.now))) }
 {
-    note_prim(alloc, scopes, notes, &multiplied.prim)
+    note_operand(alloc, scopes, notes, &multiplied.operand)
 }
 
 #[cycle(value)]
-fn note_prim(
+fn note_operand(
     alloc: Global,
     scopes: Scopes<'_, '_>,
     notes: &mut Notes,
-    prim: &tree::Operand,
+    operand: &tree::Operand,
 ) -> Result<(), Memory>
-    ensures { OnOk result (noted notes.new ≡ with_names (noted notes.old) (names (both_scopes scopes.entry) (view_prim prim.now))) }
+    ensures { OnOk result (noted notes.new ≡ with_names (noted notes.old) (names (both_scopes scopes.entry) (view_operand operand.now))) }
 {
-    match prim {
+    match operand {
         tree::Operand::Literal { at: _, value: _ } => Ok(()),
         tree::Operand::Str { at: _, text: _ } => Ok(()),
         tree::Operand::Bool { at: _, value: _ } => Ok(()),

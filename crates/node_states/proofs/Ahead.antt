@@ -6,7 +6,7 @@ use Rattle.op_leaf.specs.declared.leaf.Cursor.TheVariants.{Track, Silence, Wave,
 use Rattle.op_leaf.specs.Inner.{CursorLiesAhead}
 use Rattle.node_states.specs.declared.state.NodeState.{NodeState}
 use Rattle.node_states.specs.declared.state.NodeState.TheVariants.{Leaf, Select, Turn, Mix, Cross, Read, Idle}
-use Rattle.node_states.specs.Runs.{LiesAhead}
+use Rattle.node_states.specs.Stretches.{LiesAhead}
 
 cursor_less : (library : Sounds) (cursor : Cursor) (count few : ℕ) → few ≤ count → CursorLiesAhead library cursor count → CursorLiesAhead library cursor few
 cursor_less library (Track files) count few less lies = record {

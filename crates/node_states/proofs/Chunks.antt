@@ -175,7 +175,7 @@ has_taken_some stands buffer before a b has = record {
 
 -- no state but a reader's stands for a reader
 pub begun_other : {T : Type 0} (stands : T → List Call → Type 0) (buffer : ℕ) (state : NodeState) (a : T)
-    → ((setting : Setting) (sub : ℕ → ℕ → List Slot) (past : List Moment) (fed i buffer : ℕ) → StateStands setting sub past fed i (Reads buffer) state → ⊥)
+    → ((setting : Setting) (sub : ℕ → ℕ → List Slot) (past : List Moment) (filled i buffer : ℕ) → StateStands setting sub past filled i (Reads buffer) state → ⊥)
     → HasBegun stands buffer state state a a
 begun_other stands buffer state a other = record {
   more = [];

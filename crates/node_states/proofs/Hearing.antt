@@ -23,16 +23,16 @@ use Rattle.stream_meaning.specs.declared.part.Part.{Part}
 use Rattle.stream_meaning.specs.Arithmetic.{Mixing, Adds, Scales, Halves, Doubles, Passes, cells_of, changed_slot, mix_slot, summed_slot}
 use Rattle.stream_meaning.specs.Operators.{Choice, Eligible, Plays, Picks, Mixes, Fades, Reads, child_used, marks_at}
 use Rattle.stream_meaning.specs.Instants.{Setting, Moment, child_at, choices, count, demanded, gives, is_root, last_pick, lies_in, moment_after, offer, offering, part_at, part_by, parts_upto, picked_part, position, reading_after, reading_at, second_at, silent, slots_at, uses_by, uses_from, work_at}
-use Rattle.segment_laws.specs.Stretches.{lane}
-use Rattle.segment_laws.proofs.Demanding.{used_demanded}
-use Rattle.segment_laws.proofs.Following.{AreBelow, at_place, below_from, child_is_below, one_used, place_is, slot_is}
-use Rattle.segment_laws.proofs.Parts.{own_part, part_stays, uses_at}
-use Rattle.segment_laws.proofs.Stretching.{alike_all}
-use Rattle.segment_laws.proofs.Laning.{chosen, faded, mixed, played, read}
-use Rattle.segment_laws.proofs.Works.{pick_offers_there, some_pick}
-use Rattle.node_mixing.specs.Runs.{AreHeard, IsHeard, many_give, offers_in}
+use Rattle.stretch_laws.specs.Stretches.{lane}
+use Rattle.stretch_laws.proofs.Demanding.{used_demanded}
+use Rattle.stretch_laws.proofs.Following.{AreBelow, at_place, below_from, child_is_below, one_used, place_is, slot_is}
+use Rattle.stretch_laws.proofs.Parts.{own_part, part_stays, uses_at}
+use Rattle.stretch_laws.proofs.Stretching.{alike_all}
+use Rattle.stretch_laws.proofs.Laning.{chosen, faded, mixed, played, read}
+use Rattle.stretch_laws.proofs.Works.{pick_offers_there, some_pick}
+use Rattle.op_mix.specs.Stretches.{AreHeard, IsHeard, many_give, offers_in}
 use Rattle.node_states.specs.Passing.{given_part}
-use Rattle.node_states.specs.Runs.{GoesOn}
+use Rattle.node_states.specs.Stretches.{GoesOn}
 
 both : (a b : Bool) → a ≡ true → b ≡ true → (a && b) ≡ true
 both true b d e = e

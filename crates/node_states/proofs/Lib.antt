@@ -1,8 +1,8 @@
 pub mod Offered
 pub mod Stepped
 pub mod Begun
-pub mod Fed
-pub mod FedRun
+pub mod Filled
+pub mod FilledStretch
 pub mod Seconds
 pub mod Chunks
 mod Rested

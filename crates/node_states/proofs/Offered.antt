@@ -4,8 +4,8 @@ use Rattle.frame_core.specs.Slots.{Slot, slot_at}
 use Rattle.op_select.specs.declared.rule.Rule.{Rule}
 use Rattle.op_select.specs.declared.rule.Picked.{Picked}
 use Rattle.op_select.specs.Selection.{Selection, offered, pick_of, picked}
-use Rattle.random_ops.specs.declared.turn.Turn.{Turn as TheTurn}
-use Rattle.random_ops.specs.Turns.{Past, Turning, StandsFor as TurnStandsFor, offered as turn_offered}
+use Rattle.op_turn.specs.declared.turn.Turn.{Turn as TheTurn}
+use Rattle.op_turn.specs.Turns.{Past, Turning, StandsFor as TurnStandsFor, offered as turn_offered}
 use Rattle.op_cross.specs.Crossfade.{cross}
 use Rattle.op_cross.specs.States.{Crossing, StandsFor}
 use Rattle.op_cross.proofs.LeastRuns.{item_of-is}
@@ -16,57 +16,57 @@ use Rattle.node_states.specs.States.{AreLong, IsSettled, StateStands, reading_by
 use Rattle.op_leaf.specs.Readers.{Reader, reader_slot}
 use Rattle.node_states.proofs.Chunks.{reading_open}
 
-pub select_part : (setting : Setting) (sub : ℕ → ℕ → List Slot) (past : List Moment) (fed i : ℕ) (work : Work) (slots : List Slot)
+pub select_part : (setting : Setting) (sub : ℕ → ℕ → List Slot) (past : List Moment) (filled i : ℕ) (work : Work) (slots : List Slot)
     (state : Selection) (marks : List Bool) (second : ℕ) (found : Option Picked) → second ≡ second_at setting (length past)
-    → StateStands setting sub past fed i work (Select state)
+    → StateStands setting sub past filled i work (Select state)
     → ((choice : Choice) (eligible : Eligible) → work ≡ Picks choice eligible → marks ≡ marks_at eligible second (length slots))
     → found ≡ offered state slots marks → picked_part found ≡ part_by setting sub past i work slots
-select_part setting sub past fed i (Plays leaf) slots state marks second found at stands marked is = absurd stands
-select_part setting sub past fed i (Picks (TakesTurns turn) eligible) slots state marks second found at stands marked is = absurd stands
-select_part setting sub past fed i (Picks (Selects rule) eligible) slots state marks second found at stands marked is =
+select_part setting sub past filled i (Plays leaf) slots state marks second found at stands marked is = absurd stands
+select_part setting sub past filled i (Picks (TakesTurns turn) eligible) slots state marks second found at stands marked is = absurd stands
+select_part setting sub past filled i (Picks (Selects rule) eligible) slots state marks second found at stands marked is =
     let last = last_pick past i in
     ap picked_part (is
     ∙ ap (λ (r : Rule). picked slots state.last (pick_of r slots marks state.last)) stands.rule_is
     ∙ ap (λ (l : Option ℕ). picked slots l (pick_of rule slots marks l)) stands.last_is
     ∙ ap (λ (m : List Bool). picked slots last (pick_of rule slots m last)) (marked (Selects rule) eligible refl)
     ∙ ap (λ (s : ℕ). picked slots last (pick_of rule slots (marks_at eligible s (length slots)) last)) at)
-select_part setting sub past fed i (Mixes mixing) slots state marks second found at stands marked is = absurd stands
-select_part setting sub past fed i (Fades overlap) slots state marks second found at stands marked is = absurd stands
-select_part setting sub past fed i (Reads buffer) slots state marks second found at stands marked is = absurd stands
+select_part setting sub past filled i (Mixes mixing) slots state marks second found at stands marked is = absurd stands
+select_part setting sub past filled i (Fades overlap) slots state marks second found at stands marked is = absurd stands
+select_part setting sub past filled i (Reads buffer) slots state marks second found at stands marked is = absurd stands
 
-pub turn_part : (setting : Setting) (sub : ℕ → ℕ → List Slot) (past : List Moment) (fed i : ℕ) (work : Work) (slots : List Slot)
-    (state : Turning) (found : Option Picked) → StateStands setting sub past fed i work (Turn state)
+pub turn_part : (setting : Setting) (sub : ℕ → ℕ → List Slot) (past : List Moment) (filled i : ℕ) (work : Work) (slots : List Slot)
+    (state : Turning) (found : Option Picked) → StateStands setting sub past filled i work (Turn state)
     → ((turn : TheTurn) (behind : Past) → TurnStandsFor turn behind state → found ≡ turn_offered turn behind slots)
     → picked_part found ≡ part_by setting sub past i work slots
-turn_part setting sub past fed i (Plays leaf) slots state found stands is = absurd stands
-turn_part setting sub past fed i (Picks (Selects rule) eligible) slots state found stands is = absurd stands
-turn_part setting sub past fed i (Picks (TakesTurns turn) eligible) slots state found stands is =
+turn_part setting sub past filled i (Plays leaf) slots state found stands is = absurd stands
+turn_part setting sub past filled i (Picks (Selects rule) eligible) slots state found stands is = absurd stands
+turn_part setting sub past filled i (Picks (TakesTurns turn) eligible) slots state found stands is =
     ap picked_part (is turn (record { last = last_pick past i; choices = choices past i }) stands)
-turn_part setting sub past fed i (Mixes mixing) slots state found stands is = absurd stands
-turn_part setting sub past fed i (Fades overlap) slots state found stands is = absurd stands
-turn_part setting sub past fed i (Reads buffer) slots state found stands is = absurd stands
+turn_part setting sub past filled i (Mixes mixing) slots state found stands is = absurd stands
+turn_part setting sub past filled i (Fades overlap) slots state found stands is = absurd stands
+turn_part setting sub past filled i (Reads buffer) slots state found stands is = absurd stands
 
-pub cross_part : (setting : Setting) (sub : ℕ → ℕ → List Slot) (past : List Moment) (fed i : ℕ) (work : Work) (slots : List Slot)
-    (state : Crossing) (slot : Slot) → AreLong sub → StateStands setting sub past fed i work (Cross state) → IsSettled sub past fed i work
+pub cross_part : (setting : Setting) (sub : ℕ → ℕ → List Slot) (past : List Moment) (filled i : ℕ) (work : Work) (slots : List Slot)
+    (state : Crossing) (slot : Slot) → AreLong sub → StateStands setting sub past filled i work (Cross state) → IsSettled sub past filled i work
     → ((list : List Slot) (p : ℕ) → StandsFor state list p → p < length (cross state.overlap list) → slot ≡ slot_at (cross state.overlap list) p)
     → unpicked slot ≡ part_by setting sub past i work slots
-cross_part setting sub past fed i (Plays leaf) slots state slot long stands settled items = absurd stands
-cross_part setting sub past fed i (Picks rule eligible) slots state slot long stands settled items = absurd stands
-cross_part setting sub past fed i (Mixes mixing) slots state slot long stands settled items = absurd stands
-cross_part setting sub past fed i (Fades overlap) slots state slot long stands settled items =
+cross_part setting sub past filled i (Plays leaf) slots state slot long stands settled items = absurd stands
+cross_part setting sub past filled i (Picks rule eligible) slots state slot long stands settled items = absurd stands
+cross_part setting sub past filled i (Mixes mixing) slots state slot long stands settled items = absurd stands
+cross_part setting sub past filled i (Fades overlap) slots state slot long stands settled items =
     let p = position past i in
-    ap unpicked (items (sub i fed) p stands.stands (subst (λ (o : ℕ). p < length (cross o (sub i fed))) (sym stands.overlap_is) settled)
-    ∙ ap (λ (o : ℕ). slot_at (cross o (sub i fed)) p) stands.overlap_is
-    ∙ sym (item_of-is overlap (sub i) p fed (long.each i) settled stands.least))
-cross_part setting sub past fed i (Reads buffer) slots state slot long stands settled items = absurd stands
+    ap unpicked (items (sub i filled) p stands.stands (subst (λ (o : ℕ). p < length (cross o (sub i filled))) (sym stands.overlap_is) settled)
+    ∙ ap (λ (o : ℕ). slot_at (cross o (sub i filled)) p) stands.overlap_is
+    ∙ sym (item_of-is overlap (sub i) p filled (long.each i) settled stands.least))
+cross_part setting sub past filled i (Reads buffer) slots state slot long stands settled items = absurd stands
 
 -- what a reader that has begun offers
-pub read_part : (setting : Setting) (sub : ℕ → ℕ → List Slot) (past : List Moment) (fed i : ℕ) (work : Work) (slots : List Slot)
-    (state : Reader) (slot : Slot) → StateStands setting sub past fed i work (Read state) → IsSettled sub past fed i work
+pub read_part : (setting : Setting) (sub : ℕ → ℕ → List Slot) (past : List Moment) (filled i : ℕ) (work : Work) (slots : List Slot)
+    (state : Reader) (slot : Slot) → StateStands setting sub past filled i work (Read state) → IsSettled sub past filled i work
     → slot ≡ reader_slot state → unpicked slot ≡ part_by setting sub past i work slots
-read_part setting sub past fed i (Plays leaf) slots state slot stands settled is = absurd stands
-read_part setting sub past fed i (Picks rule eligible) slots state slot stands settled is = absurd stands
-read_part setting sub past fed i (Mixes mixing) slots state slot stands settled is = absurd stands
-read_part setting sub past fed i (Fades overlap) slots state slot stands settled is = absurd stands
-read_part setting sub past fed i (Reads buffer) slots state slot stands settled is =
+read_part setting sub past filled i (Plays leaf) slots state slot stands settled is = absurd stands
+read_part setting sub past filled i (Picks rule eligible) slots state slot stands settled is = absurd stands
+read_part setting sub past filled i (Mixes mixing) slots state slot stands settled is = absurd stands
+read_part setting sub past filled i (Fades overlap) slots state slot stands settled is = absurd stands
+read_part setting sub past filled i (Reads buffer) slots state slot stands settled is =
     ap unpicked (is ∙ ap reader_slot (stands ∙ ap (λ (n : ℕ). (reading_by setting i buffer past n).reader) settled ∙ ap (λ (r : Reading). r.reader) (reading_open setting i buffer past)))

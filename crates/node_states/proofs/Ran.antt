@@ -15,24 +15,24 @@ use Rattle.op_cross.specs.Runs.{item_of}
 use Rattle.op_cross.specs.States.{Crossing, StandsFor}
 use Rattle.op_cross.proofs.LeastRuns.{item_of-is}
 use Rattle.op_select.specs.Selection.{Selection}
-use Rattle.random_ops.specs.Turns.{Turning}
-use Rattle.node_mixing.specs.declared.before.Before.{Before}
-use Rattle.node_mixing.specs.declared.mixer.Mixer.{Mixer}
-use Rattle.node_mixing.specs.Mixings.{mixing_of}
-use Rattle.node_mixing.specs.Runs.{AreHeard, many_give, offers_in, samples_of}
+use Rattle.op_turn.specs.Turns.{Turning}
+use Rattle.op_mix.specs.declared.before.Before.{Before}
+use Rattle.op_mix.specs.declared.mixer.Mixer.{Mixer}
+use Rattle.op_mix.specs.Mixings.{mixing_of}
+use Rattle.op_mix.specs.Stretches.{AreHeard, many_give, offers_in, samples_of}
 use Rattle.stream_meaning.specs.Arithmetic.{mix_slot}
 use Rattle.stream_meaning.specs.Operators.{Choice, Eligible, Work, Plays, Picks, Mixes, Fades, Reads}
 use Rattle.stream_meaning.specs.Instants.{Setting, Moment, Reading, choices, count, last_pick, moment_after, position, read_on, reading_after, reading_at, work_at}
-use Rattle.segment_laws.specs.Stretches.{going_on, lane}
+use Rattle.stretch_laws.specs.Stretches.{going_on, lane}
 use Rattle.node_states.specs.declared.state.NodeState.TheVariants.{Leaf, Select, Turn, Mix, Cross, Read, Idle}
-use Rattle.node_states.specs.Runs.{ChildrenGive, GoesOn, fed_on}
+use Rattle.node_states.specs.Stretches.{ChildrenGive, GoesOn, filled_on}
 use Rattle.node_states.specs.States.{HasSelected, HasTurned, StateStands, reading_by, reads}
 use Rattle.node_states.proofs.Chunks.{reading_closed}
 use Rattle.node_states.proofs.Hearing.{are_heard, fade_run, given_child, heard_same, leaf_run, many_same, mix_run, pick_run, read_run, some_offer, the_child}
 use Rattle.node_states.proofs.Rested.{gave_count, gave_position}
 use Rattle.node_states.proofs.Running.{chosen_same, count_later, picked_same, position_later, read_stands}
 
-module _ (setting : Setting) (sub : ℕ → ℕ → List Slot) (clock : NodeClock) (past : List Moment) (many i fed : ℕ) (node : Node) (goes : GoesOn setting sub clock past many i node) where
+module _ (setting : Setting) (sub : ℕ → ℕ → List Slot) (clock : NodeClock) (past : List Moment) (many i filled : ℕ) (node : Node) (goes : GoesOn setting sub clock past many i node) where
   abbrev First : Moment
   First = moment_after setting sub clock past
 
@@ -51,8 +51,8 @@ module _ (setting : Setting) (sub : ℕ → ℕ → List Slot) (clock : NodeCloc
   -- ---- a leaf
 
   pub leaf_stands : (some : 0 < many) (library : Sounds) (old new : LeafState) → setting.library ≡ library → leaf_of new ≡ leaf_of old
-      → ((p : ℕ) → StandsAt library old p → StandsAt library new (p + many)) → (work : Work) → StateStands setting sub Past fed i work (Leaf old)
-      → StateStands setting sub Later (fed_on (reads work) many fed) i work (Leaf new)
+      → ((p : ℕ) → StandsAt library old p → StandsAt library new (p + many)) → (work : Work) → StateStands setting sub Past filled i work (Leaf old)
+      → StateStands setting sub Later (filled_on (reads work) many filled) i work (Leaf new)
   leaf_stands some library old new same leaf_is on (Plays leaf) s = record {
     plays = leaf_is ∙ s.plays;
     stands = subst (λ n. StandsAt setting.library new n) (sym on_count)
@@ -70,7 +70,7 @@ module _ (setting : Setting) (sub : ℕ → ℕ → List Slot) (clock : NodeCloc
   pub leaf_lane : (library : Sounds) (old : LeafState) (left right : List ℤ) → setting.library ≡ library
       → ((p : ℕ) → StandsAt library old p → left ≡ lefts_of (leaf_slot library (leaf_of old)) p many)
       → ((p : ℕ) → StandsAt library old p → right ≡ rights_of (leaf_slot library (leaf_of old)) p many)
-      → (work : Work) → work_at setting i node ≡ work → StateStands setting sub Past fed i work (Leaf old) → IsLane (λ j. Lane j i) many left right
+      → (work : Work) → work_at setting i node ≡ work → StateStands setting sub Past filled i work (Leaf old) → IsLane (λ j. Lane j i) many left right
   leaf_lane library old left right same left_is right_is (Plays leaf) at s =
       let stands : StandsAt library old (count Past i) = subst (λ l. StandsAt l old (count Past i)) same s.stands in
       let gone : count Past i ≡ suc (count past i) = gave_count past First i goes.gave in
@@ -94,16 +94,16 @@ module _ (setting : Setting) (sub : ℕ → ℕ → List Slot) (clock : NodeCloc
   same_choices some = subst (λ n. choices (going_on setting sub clock n past) i ≡ choices Past i) e
       (chosen_same setting sub clock past (suc many) 1 many goes.nodes goes.stretch (omega arith) (omega arith) some i node goes.is goes.gave)
 
-  pub pick_stands : (some : 0 < many) (state : Selection) (work : Work) → StateStands setting sub Past fed i work (Select state)
-      → StateStands setting sub Later (fed_on (reads work) many fed) i work (Select state)
+  pub pick_stands : (some : 0 < many) (state : Selection) (work : Work) → StateStands setting sub Past filled i work (Select state)
+      → StateStands setting sub Later (filled_on (reads work) many filled) i work (Select state)
   pick_stands some state (Plays leaf) s = absurd s
   pick_stands some state (Picks choice eligible) s = subst (λ last. HasSelected choice last state) (sym (same_pick some)) s
   pick_stands some state (Mixes mixing) s = absurd s
   pick_stands some state (Fades overlap) s = absurd s
   pick_stands some state (Reads buffer) s = absurd s
 
-  pub turn_stands : (some : 0 < many) (state : Turning) (work : Work) → StateStands setting sub Past fed i work (Turn state)
-      → StateStands setting sub Later (fed_on (reads work) many fed) i work (Turn state)
+  pub turn_stands : (some : 0 < many) (state : Turning) (work : Work) → StateStands setting sub Past filled i work (Turn state)
+      → StateStands setting sub Later (filled_on (reads work) many filled) i work (Turn state)
   turn_stands some state (Plays leaf) s = absurd s
   turn_stands some state (Picks choice eligible) s =
       subst (λ n. HasTurned choice (last_pick Later i) n state) (sym (same_choices some)) (subst (λ last. HasTurned choice last (choices Past i) state) (sym (same_pick some)) s)
@@ -127,14 +127,14 @@ module _ (setting : Setting) (sub : ℕ → ℕ → List Slot) (clock : NodeCloc
           inner = own.inner;
         })
 
-    pub pick_lane : (state : Selection) (work : Work) → work_at setting i node ≡ work → StateStands setting sub Past fed i work (Select state) → IsLane (λ j. Lane j i) many left right
+    pub pick_lane : (state : Selection) (work : Work) → work_at setting i node ≡ work → StateStands setting sub Past filled i work (Select state) → IsLane (λ j. Lane j i) many left right
     pick_lane state (Plays leaf) at s = absurd s
     pick_lane state (Picks choice eligible) at s = laid choice eligible at
     pick_lane state (Mixes mixing) at s = absurd s
     pick_lane state (Fades overlap) at s = absurd s
     pick_lane state (Reads buffer) at s = absurd s
 
-    pub turn_lane : (state : Turning) (work : Work) → work_at setting i node ≡ work → StateStands setting sub Past fed i work (Turn state) → IsLane (λ j. Lane j i) many left right
+    pub turn_lane : (state : Turning) (work : Work) → work_at setting i node ≡ work → StateStands setting sub Past filled i work (Turn state) → IsLane (λ j. Lane j i) many left right
     turn_lane state (Plays leaf) at s = absurd s
     turn_lane state (Picks choice eligible) at s = laid choice eligible at
     turn_lane state (Mixes mixing) at s = absurd s
@@ -143,8 +143,8 @@ module _ (setting : Setting) (sub : ℕ → ℕ → List Slot) (clock : NodeCloc
 
   -- ---- a mix
 
-  pub mix_stands : (mixer : Mixer) (work : Work) → StateStands setting sub Past fed i work (Mix mixer)
-      → StateStands setting sub Later (fed_on (reads work) many fed) i work (Mix mixer)
+  pub mix_stands : (mixer : Mixer) (work : Work) → StateStands setting sub Past filled i work (Mix mixer)
+      → StateStands setting sub Later (filled_on (reads work) many filled) i work (Mix mixer)
   mix_stands mixer (Plays leaf) s = absurd s
   mix_stands mixer (Picks rule eligible) s = absurd s
   mix_stands mixer (Mixes mixing) s = s
@@ -155,7 +155,7 @@ module _ (setting : Setting) (sub : ℕ → ℕ → List Slot) (clock : NodeCloc
     pub mix_lane : (mixer : Mixer) (left right : List ℤ)
         → ((slots : ℕ → ℕ → Slot) → AreHeard slots (offers_in before.parts.now) (λ child. samples_of before.left.now child many) (λ child. samples_of before.right.now child many) many node.children
         → 0 < many_give (offers_in before.parts.now) node.children → IsLane (λ j. mix_slot (mixing_of mixer) (map (slots j) node.children)) many left right)
-        → (work : Work) → work_at setting i node ≡ work → StateStands setting sub Past fed i work (Mix mixer) → IsLane (λ j. Lane j i) many left right
+        → (work : Work) → work_at setting i node ≡ work → StateStands setting sub Past filled i work (Mix mixer) → IsLane (λ j. Lane j i) many left right
     mix_lane mixer left right made (Plays leaf) at s = absurd s
     mix_lane mixer left right made (Picks rule eligible) at s = absurd s
     mix_lane mixer left right made (Mixes mixing) at s =
@@ -173,13 +173,13 @@ module _ (setting : Setting) (sub : ℕ → ℕ → List Slot) (clock : NodeCloc
   -- ---- a crossfade
 
   pub cross_stands : (some : 0 < many) (old new : Crossing) → new.overlap ≡ old.overlap → ((slots : List Slot) (p : ℕ) → StandsFor old slots p → StandsFor new slots (p + many))
-      → (work : Work) → StateStands setting sub Past fed i work (Cross old) → StateStands setting sub Later (fed_on (reads work) many fed) i work (Cross new)
+      → (work : Work) → StateStands setting sub Past filled i work (Cross old) → StateStands setting sub Later (filled_on (reads work) many filled) i work (Cross new)
   cross_stands some old new same on (Plays leaf) s = absurd s
   cross_stands some old new same on (Picks rule eligible) s = absurd s
   cross_stands some old new same on (Mixes mixing) s = absurd s
   cross_stands some old new same on (Fades overlap) s = record {
     overlap_is = same ∙ s.overlap_is;
-    stands = subst (λ p. StandsFor new (sub i fed) p) (sym on_position) (on (sub i fed) (position Past i) s.stands);
+    stands = subst (λ p. StandsFor new (sub i filled) p) (sym on_position) (on (sub i filled) (position Past i) s.stands);
     least = λ m less. (let l = s.least m less in let p = on_position in omega (arith, l, p));
   }
     where
@@ -191,43 +191,43 @@ module _ (setting : Setting) (sub : ℕ → ℕ → List Slot) (clock : NodeCloc
   pub cross_lane : (old : Crossing) (left right : List ℤ) → ((slots : List Slot) (p : ℕ) → StandsFor old slots p → p + many ≤ length (cross old.overlap slots))
       → ((slots : List Slot) (p : ℕ) → StandsFor old slots p → left ≡ map slot_left (take many (drop p (cross old.overlap slots))))
       → ((slots : List Slot) (p : ℕ) → StandsFor old slots p → right ≡ map slot_right (take many (drop p (cross old.overlap slots))))
-      → (work : Work) → work_at setting i node ≡ work → StateStands setting sub Past fed i work (Cross old) → IsLane (λ j. Lane j i) many left right
+      → (work : Work) → work_at setting i node ≡ work → StateStands setting sub Past filled i work (Cross old) → IsLane (λ j. Lane j i) many left right
   cross_lane old left right settled left_is right_is (Plays leaf) at s = absurd s
   cross_lane old left right settled left_is right_is (Picks rule eligible) at s = absurd s
   cross_lane old left right settled left_is right_is (Mixes mixing) at s = absurd s
   cross_lane old left right settled left_is right_is (Fades overlap) at s =
       let gone : position Past i ≡ suc (position past i) = gave_position past First i goes.gave in
-      let stands : StandsFor old (sub i fed) (suc (position past i)) = subst (λ p. StandsFor old (sub i fed) p) gone s.stands in
-      let there : suc (position past i) + many ≤ length (cross old.overlap (sub i fed)) = settled (sub i fed) (suc (position past i)) stands in
-      fade_run setting sub clock past many i node goes overlap at left right (cross old.overlap (sub i fed))
-      (λ j less. subst (λ most. item_of most (sub i) (suc (position past i) + j) ≡ slot_at (cross old.overlap (sub i fed)) (suc (position past i) + j)) s.overlap_is
-      (item_of-is old.overlap (sub i) (suc (position past i) + j) fed (goes.long.each i) (omega (arith, there, less))
+      let stands : StandsFor old (sub i filled) (suc (position past i)) = subst (λ p. StandsFor old (sub i filled) p) gone s.stands in
+      let there : suc (position past i) + many ≤ length (cross old.overlap (sub i filled)) = settled (sub i filled) (suc (position past i)) stands in
+      fade_run setting sub clock past many i node goes overlap at left right (cross old.overlap (sub i filled))
+      (λ j less. subst (λ most. item_of most (sub i) (suc (position past i) + j) ≡ slot_at (cross old.overlap (sub i filled)) (suc (position past i) + j)) s.overlap_is
+      (item_of-is old.overlap (sub i) (suc (position past i) + j) filled (goes.long.each i) (omega (arith, there, less))
       (λ m low. let l : length (cross old.overlap (sub i m)) ≤ position Past i = subst (λ most. length (cross most (sub i m)) ≤ position Past i) (sym s.overlap_is) (s.least m low) in omega (arith, l, gone))))
-      there (left_is (sub i fed) (suc (position past i)) stands) (right_is (sub i fed) (suc (position past i)) stands)
+      there (left_is (sub i filled) (suc (position past i)) stands) (right_is (sub i filled) (suc (position past i)) stands)
   cross_lane old left right settled left_is right_is (Reads buffer) at s = absurd s
 
   -- ---- a reader
 
   -- what it holds behind the instant before the run
-  holds : (reader : Reader) (buffer : ℕ) → fed ≡ suc (length past) → StateStands setting sub Past fed i (Reads buffer) (Read reader)
+  holds : (reader : Reader) (buffer : ℕ) → filled ≡ suc (length past) → StateStands setting sub Past filled i (Reads buffer) (Read reader)
       → reader ≡ after_cell (reading_at setting buffer (length past) (reading_after setting i buffer past)).reader
   holds reader buffer closed s =
       let now : Reading = reading_at setting buffer (length past) (reading_after setting i buffer past) in
       s ∙ ap (λ (n : ℕ). (reading_by setting i buffer Past n).reader) closed
       ∙ ap (λ (r : Reading). r.reader) (reading_closed setting i buffer Past) ∙ ap (λ (on : Bool). (read_on on now).reader) goes.gave
 
-  pub reader_stands : (some : 0 < many) (old new : Reader) → new ≡ read_by many old → (work : Work) → work_at setting i node ≡ work → (reads work ≡ true → fed ≡ suc (length past))
-      → StateStands setting sub Past fed i work (Read old) → StateStands setting sub Later (fed_on (reads work) many fed) i work (Read new)
+  pub reader_stands : (some : 0 < many) (old new : Reader) → new ≡ read_by many old → (work : Work) → work_at setting i node ≡ work → (reads work ≡ true → filled ≡ suc (length past))
+      → StateStands setting sub Past filled i work (Read old) → StateStands setting sub Later (filled_on (reads work) many filled) i work (Read new)
   reader_stands some old new on (Plays leaf) at closed s = absurd s
   reader_stands some old new on (Picks rule eligible) at closed s = absurd s
   reader_stands some old new on (Mixes mixing) at closed s = absurd s
   reader_stands some old new on (Fades overlap) at closed s = absurd s
   reader_stands some old new on (Reads buffer) at closed s =
-      subst (λ n. StateStands setting sub (going_on setting sub clock n past) (fed + many) i (Reads buffer) (Read new)) e
-      (read_stands setting sub clock past (suc many) 1 many goes.nodes goes.stretch (omega arith) (omega arith) some i node goes.is fed buffer old new at goes.gave (closed refl) on s)
+      subst (λ n. StateStands setting sub (going_on setting sub clock n past) (filled + many) i (Reads buffer) (Read new)) e
+      (read_stands setting sub clock past (suc many) 1 many goes.nodes goes.stretch (omega arith) (omega arith) some i node goes.is filled buffer old new at goes.gave (closed refl) on s)
 
   pub reader_lane : (old : Reader) (left right : List ℤ) → IsLane (λ j. reader_slot (read_by j old)) many left right → (work : Work) → work_at setting i node ≡ work
-      → (reads work ≡ true → fed ≡ suc (length past)) → StateStands setting sub Past fed i work (Read old) → IsLane (λ j. Lane j i) many left right
+      → (reads work ≡ true → filled ≡ suc (length past)) → StateStands setting sub Past filled i work (Read old) → IsLane (λ j. Lane j i) many left right
   reader_lane old left right made (Plays leaf) at closed s = absurd s
   reader_lane old left right made (Picks rule eligible) at closed s = absurd s
   reader_lane old left right made (Mixes mixing) at closed s = absurd s
@@ -237,7 +237,7 @@ module _ (setting : Setting) (sub : ℕ → ℕ → List Slot) (clock : NodeCloc
 
   -- ---- an idle state stands for no past
 
-  pub none_idle : (work : Work) → StateStands setting sub Past fed i work Idle → ⊥
+  pub none_idle : (work : Work) → StateStands setting sub Past filled i work Idle → ⊥
   none_idle (Plays leaf) s = s
   none_idle (Picks rule eligible) s = s
   none_idle (Mixes mixing) s = s

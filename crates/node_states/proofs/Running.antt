@@ -17,13 +17,13 @@ use Rattle.stream_meaning.specs.Operators.{Work, Plays, Picks, Mixes, Fades, Rea
 use Rattle.op_leaf.specs.Readers.{Reader, after_cell, read_by}
 use Rattle.stream_meaning.specs.Instants.{Setting, Moment, Reading, choices, count, gives, last_pick, moment_after, offer, position, reading_after, reading_at, work_at}
 use Rattle.stream_meaning.specs.Calls.{ran_by}
-use Rattle.segment_laws.specs.Stretches.{AreFed, IsNode, IsOn, IsStretch, going_on}
-use Rattle.segment_laws.proofs.Stretching.{on_all}
-use Rattle.segment_laws.proofs.Reaching.{run_more}
+use Rattle.stretch_laws.specs.Stretches.{AreFilled, IsNode, IsOn, IsStretch, going_on}
+use Rattle.stretch_laws.proofs.Stretching.{on_all}
+use Rattle.stretch_laws.proofs.Reaching.{run_more}
 use Rattle.node_states.specs.declared.state.NodeState.{NodeState}
 use Rattle.node_states.specs.declared.state.NodeState.TheVariants.{Leaf, Select, Turn, Mix, Cross, Read}
 use Rattle.node_states.specs.States.{AreLong, CrossStands, HasSelected, HasTurned, LeafStands, StateStands, reading_by, reads}
-use Rattle.node_states.specs.Runs.{fed_on}
+use Rattle.node_states.specs.Stretches.{filled_on}
 use Rattle.node_states.proofs.Chunks.{reading_closed}
 
 -- two pasts are the same to a node of this work
@@ -35,27 +35,27 @@ SamePast setting (Fades overlap) i past later = position later i ≡ position pa
 SamePast setting (Reads buffer) i past later = (reading_after setting i buffer later).reader ≡ (reading_after setting i buffer past).reader
 
 -- a reader that has begun each instant of its past holds what they left
-closed_reader : (setting : Setting) (i buffer : ℕ) (past : List Moment) (fed : ℕ) → fed ≡ length past → (reading_by setting i buffer past fed).reader ≡ (reading_after setting i buffer past).reader
-closed_reader setting i buffer past fed closed =
+closed_reader : (setting : Setting) (i buffer : ℕ) (past : List Moment) (filled : ℕ) → filled ≡ length past → (reading_by setting i buffer past filled).reader ≡ (reading_after setting i buffer past).reader
+closed_reader setting i buffer past filled closed =
     ap (λ (n : ℕ). (reading_by setting i buffer past n).reader) closed ∙ ap (λ (r : Reading). r.reader) (reading_closed setting i buffer past)
 
-pub stands_same : (setting : Setting) (sub : ℕ → ℕ → List Slot) (past later : List Moment) (many fed i : ℕ) (work : Work) (state : NodeState) → SamePast setting work i past later
-    → length later ≡ length past + many → (reads work ≡ true → fed ≡ length past)
-    → StateStands setting sub past fed i work state → StateStands setting sub later (fed_on (reads work) many fed) i work state
-stands_same setting sub past later many fed i (Plays leaf) (Leaf state) same long closed s = subst (λ n. LeafStands setting.library leaf n state) (sym same) s
-stands_same setting sub past later many fed i (Picks choice eligible) (Select state) same long closed s = subst (λ last. HasSelected choice last state) (sym same.0) s
-stands_same setting sub past later many fed i (Picks choice eligible) (Turn state) same long closed s =
+pub stands_same : (setting : Setting) (sub : ℕ → ℕ → List Slot) (past later : List Moment) (many filled i : ℕ) (work : Work) (state : NodeState) → SamePast setting work i past later
+    → length later ≡ length past + many → (reads work ≡ true → filled ≡ length past)
+    → StateStands setting sub past filled i work state → StateStands setting sub later (filled_on (reads work) many filled) i work state
+stands_same setting sub past later many filled i (Plays leaf) (Leaf state) same long closed s = subst (λ n. LeafStands setting.library leaf n state) (sym same) s
+stands_same setting sub past later many filled i (Picks choice eligible) (Select state) same long closed s = subst (λ last. HasSelected choice last state) (sym same.0) s
+stands_same setting sub past later many filled i (Picks choice eligible) (Turn state) same long closed s =
     subst (λ n. HasTurned choice (last_pick later i) n state) (sym same.1) (subst (λ last. HasTurned choice last (choices past i) state) (sym same.0) s)
-stands_same setting sub past later many fed i (Mixes mixing) (Mix mixer) same long closed s = s
-stands_same setting sub past later many fed i (Fades overlap) (Cross state) same long closed s = subst (λ p. CrossStands (sub i) fed p overlap state) (sym same) s
-stands_same setting sub past later many fed i (Reads buffer) (Read reader) same long closed s =
+stands_same setting sub past later many filled i (Mixes mixing) (Mix mixer) same long closed s = s
+stands_same setting sub past later many filled i (Fades overlap) (Cross state) same long closed s = subst (λ p. CrossStands (sub i) filled p overlap state) (sym same) s
+stands_same setting sub past later many filled i (Reads buffer) (Read reader) same long closed s =
     let now = closed refl in
-    s ∙ closed_reader setting i buffer past fed now ∙ sym same ∙ sym (closed_reader setting i buffer later (fed + many) (omega (arith, now, long)))
-stands_same setting sub past later many fed i work state same long closed s = absurd s
+    s ∙ closed_reader setting i buffer past filled now ∙ sym same ∙ sym (closed_reader setting i buffer later (filled + many) (omega (arith, now, long)))
+stands_same setting sub past later many filled i work state same long closed s = absurd s
 
--- no slot more is fed
-pub fed_none : (setting : Setting) (sub : ℕ → ℕ → List Slot) (k n title : ℕ) → AreFed setting sub k n 0 title
-fed_none setting sub k n title = record { cells = []; inner = tt; titled = λ m d low. absurd (omega (arith, low)); long = refl; fed = λ m few. none m few }
+-- no slot more is filled
+pub filled_none : (setting : Setting) (sub : ℕ → ℕ → List Slot) (k n title : ℕ) → AreFilled setting sub k n 0 title
+filled_none setting sub k n title = record { cells = []; inner = tt; titled = λ m d low. absurd (omega (arith, low)); long = refl; filled = λ m few. none m few }
   where
     none : (m : ℕ) → m ≤ 0 → sub k (n + m) ≡ sub k n ++ map Some (take m [])
     none zero few = let e : n + 0 ≡ n = omega arith in ap (sub k) e ∙ sym (append-nil (sub k n))
@@ -96,21 +96,21 @@ module _ (setting : Setting) (sub : ℕ → ℕ → List Slot) (clock : NodeCloc
   same_by (Reads buffer) at not = on_later.unread i node buffer is at (omega (arith, begun)) not ∙ sym (on_now.unread i node buffer is at begun not)
 
   -- a node that does not give keeps its state
-  pub kept_stands : (fed : ℕ) (state : NodeState) → gives First i ≡ false → (reads (work_at setting i node) ≡ true → fed ≡ length Past)
-      → StateStands setting sub Past fed i (work_at setting i node) state
-      → StateStands setting sub Later (fed_on (reads (work_at setting i node)) many fed) i (work_at setting i node) state
-  kept_stands fed state not closed s =
-      stands_same setting sub Past Later many fed i (work_at setting i node) state (same_by (work_at setting i node) refl not) later_long closed s
+  pub kept_stands : (filled : ℕ) (state : NodeState) → gives First i ≡ false → (reads (work_at setting i node) ≡ true → filled ≡ length Past)
+      → StateStands setting sub Past filled i (work_at setting i node) state
+      → StateStands setting sub Later (filled_on (reads (work_at setting i node)) many filled) i (work_at setting i node) state
+  kept_stands filled state not closed s =
+      stands_same setting sub Past Later many filled i (work_at setting i node) state (same_by (work_at setting i node) refl not) later_long closed s
 
   -- a reader that gives holds as many cells less
-  pub read_stands : (fed buffer : ℕ) (old new : Reader) → work_at setting i node ≡ Reads buffer → gives First i ≡ true → fed ≡ length Past → new ≡ read_by many old
-      → StateStands setting sub Past fed i (Reads buffer) (Read old) → StateStands setting sub Later (fed + many) i (Reads buffer) (Read new)
-  read_stands fed buffer old new at gave closed goes s =
+  pub read_stands : (filled buffer : ℕ) (old new : Reader) → work_at setting i node ≡ Reads buffer → gives First i ≡ true → filled ≡ length Past → new ≡ read_by many old
+      → StateStands setting sub Past filled i (Reads buffer) (Read old) → StateStands setting sub Later (filled + many) i (Reads buffer) (Read new)
+  read_stands filled buffer old new at gave closed goes s =
       let R : Reader = (reading_at setting buffer (length past) (reading_after setting i buffer past)).reader in
-      let was : old ≡ read_by m R = s ∙ closed_reader setting i buffer Past fed closed ∙ on_now.read i node buffer is at begun gave in
+      let was : old ≡ read_by m R = s ∙ closed_reader setting i buffer Past filled closed ∙ on_now.read i node buffer is at begun gave in
       let long = later_long in
       goes ∙ ap (read_by many) was ∙ sym (read_more m many R) ∙ sym (on_later.read i node buffer is at (omega (arith, begun)) gave)
-      ∙ sym (closed_reader setting i buffer Later (fed + many) (omega (arith, closed, long)))
+      ∙ sym (closed_reader setting i buffer Later (filled + many) (omega (arith, closed, long)))
 
   -- so do a selection and a mix that give
   pub picked_same : gives First i ≡ true → last_pick Later i ≡ last_pick Past i
@@ -150,44 +150,44 @@ module _ (setting : Setting) (sub : ℕ → ℕ → List Slot) (clock : NodeCloc
       let there = stretch.items i node overlap 1 is at (omega arith) (omega (arith, begun, within, some)) in
       ran_at (m + many) overlap (omega (arith, begun)) ∙ ap (run_of overlap (sub i)) (position_kept not there ∙ sym (position_first not there)) ∙ sym (ran_at m overlap begun)
 
-  module _ (fed overlap : ℕ) (state : Crossing) (long : AreLong sub) (stands : CrossStands (sub i) fed (position Past i) overlap state) where
+  module _ (filled overlap : ℕ) (state : Crossing) (long : AreLong sub) (stands : CrossStands (sub i) filled (position Past i) overlap state) where
     -- where items are ready, it asks for no more
-    pub needed_ready : gives First i ≡ true → position Past i + many ≤ length (cross overlap (sub i fed)) → ran_by sub i overlap Later ≡ fed
+    pub needed_ready : gives First i ≡ true → position Past i + many ≤ length (cross overlap (sub i filled)) → ran_by sub i overlap Later ≡ filled
     needed_ready gave ready =
         ran_at (m + many) overlap (omega (arith, begun)) ∙ ap (run_of overlap (sub i)) (position_last gave)
-        ∙ run_of-is overlap (sub i) (position Past i + (many - 1)) fed (long.each i) (omega (arith, ready, some))
+        ∙ run_of-is overlap (sub i) (position Past i + (many - 1)) filled (long.each i) (omega (arith, ready, some))
         (λ k less. let l = stands.least k less in omega (arith, l))
 
     -- where cells pass, for as many more
-    pub needed_through : (below : ℕ) → gives First i ≡ true → AreFed setting sub i fed many below → IsCrossing state → passes state ≡ true → AllInner state.cells → ran_by sub i overlap Later ≡ fed + many
+    pub needed_through : (below : ℕ) → gives First i ≡ true → AreFilled setting sub i filled many below → IsCrossing state → passes state ≡ true → AllInner state.cells → ran_by sub i overlap Later ≡ filled + many
     needed_through below gave are is_crossing through plain =
         let e : suc (many - 1) ≡ many = omega (arith, some) in
         ran_at (m + many) overlap (omega (arith, begun)) ∙ ap (run_of overlap (sub i)) (position_last gave)
         ∙ ap (λ most. run_of most (sub i) (position Past i + (many - 1))) (sym stands.overlap_is)
-        ∙ run_more setting sub i fed many (position Past i) below state (long.each i) are is_crossing stands.stands (passing state through) plain
+        ∙ run_more setting sub i filled many (position Past i) below state (long.each i) are is_crossing stands.stands (passing state through) plain
         (λ k less. subst (λ most. length (cross most (sub i k)) ≤ position Past i) (sym stands.overlap_is) (stands.least k less)) (many - 1) (omega (arith, some))
-        ∙ ap (λ n. fed + n) e
+        ∙ ap (λ n. filled + n) e
 
     -- and the state behind `pass`
     pub passed_stands : (new : Crossing) (cells : List Cell) → gives First i ≡ true → new.overlap ≡ state.overlap → length cells ≡ many
-        → ((k : ℕ) → k ≤ many → sub i (fed + k) ≡ sub i fed ++ map Some (take k cells))
+        → ((k : ℕ) → k ≤ many → sub i (filled + k) ≡ sub i filled ++ map Some (take k cells))
         → ((slots : List Slot) (p : ℕ) → StandsFor state slots p → StandsFor new (slots ++ map Some cells) (p + many))
         → ((slots : List Slot) (p k : ℕ) → StandsFor state slots p → k ≤ many → length (cross state.overlap (slots ++ map Some (take k cells))) ≡ p + k)
-        → CrossStands (sub i) (fed + many) (position Later i) overlap new
-    passed_stands new cells gave same many_cells fed_cells goes least = record {
+        → CrossStands (sub i) (filled + many) (position Later i) overlap new
+    passed_stands new cells gave same many_cells filled_cells goes least = record {
       overlap_is = same ∙ stands.overlap_is;
-      stands = subst (λ p. StandsFor new (sub i (fed + many)) p) (sym (position_later gave))
+      stands = subst (λ p. StandsFor new (sub i (filled + many)) p) (sym (position_later gave))
           (subst (λ slots. StandsFor new slots (position Past i + many))
-          (sym (fed_cells many (omega arith) ∙ ap (λ l. sub i fed ++ map Some l) (take_all many cells (omega (arith, many_cells)))))
-          (goes (sub i fed) (position Past i) stands.stands));
-      least = λ k less. elim (cases_lt k fed) [
+          (sym (filled_cells many (omega arith) ∙ ap (λ l. sub i filled ++ map Some l) (take_all many cells (omega (arith, many_cells)))))
+          (goes (sub i filled) (position Past i) stands.stands));
+      least = λ k less. elim (cases_lt k filled) [
         | inl low ↦ (let l = stands.least k low in let p = position_later gave in omega (arith, l, p))
-        | inr high ↦ (let e : fed + (k - fed) ≡ k = omega (arith, high) in
-            let few : k - fed ≤ many = omega (arith, high, less) in
-            let count : length (cross overlap (sub i k)) ≡ position Past i + (k - fed) =
-            ap (λ n. length (cross overlap (sub i n))) (sym e) ∙ ap (λ slots. length (cross overlap slots)) (fed_cells (k - fed) few)
-            ∙ ap (λ most. length (cross most (sub i fed ++ map Some (take (k - fed) cells)))) (sym stands.overlap_is)
-            ∙ least (sub i fed) (position Past i) (k - fed) stands.stands few in
+        | inr high ↦ (let e : filled + (k - filled) ≡ k = omega (arith, high) in
+            let few : k - filled ≤ many = omega (arith, high, less) in
+            let count : length (cross overlap (sub i k)) ≡ position Past i + (k - filled) =
+            ap (λ n. length (cross overlap (sub i n))) (sym e) ∙ ap (λ slots. length (cross overlap slots)) (filled_cells (k - filled) few)
+            ∙ ap (λ most. length (cross most (sub i filled ++ map Some (take (k - filled) cells)))) (sym stands.overlap_is)
+            ∙ least (sub i filled) (position Past i) (k - filled) stands.stands few in
             let p = position_later gave in omega (arith, count, p, few))
       ];
     }

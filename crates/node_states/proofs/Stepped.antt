@@ -5,8 +5,8 @@ use Rattle.std.proofs.lemmas.Bool.{false≢true}
 use Rattle.frame_core.specs.Slots.{Slot, is_first, slot_at}
 use Rattle.op_select.specs.declared.rule.Picked.{Picked}
 use Rattle.op_select.specs.Selection.{Selection, pick_of, picked}
-use Rattle.random_ops.specs.declared.turn.Turn.{Turn as TheTurn}
-use Rattle.random_ops.specs.Turns.{Past, Turning, StandsFor as TurnStandsFor, past_given, used_child, words_left}
+use Rattle.op_turn.specs.declared.turn.Turn.{Turn as TheTurn}
+use Rattle.op_turn.specs.Turns.{Past, Turning, StandsFor as TurnStandsFor, past_given, used_child, words_left}
 use Rattle.op_cross.specs.Crossfade.{cross}
 use Rattle.op_cross.specs.States.{Crossing, StandsFor, position_after}
 use Rattle.op_cross.proofs.LeastRuns.{item_of-is}
@@ -42,16 +42,16 @@ last_by : (gave : Bool) (old new : Selection) (pick : Option ℕ) → (gave ≡ 
 last_by true old new pick used unused = used refl
 last_by false old new pick used unused = ap (λ (s : Selection). s.last) (unused refl)
 
-pub select_step : (setting : Setting) (sub : ℕ → ℕ → List Slot) (past : List Moment) (moment : Moment) (fed i : ℕ) (work : Work) (slots : List Slot)
+pub select_step : (setting : Setting) (sub : ℕ → ℕ → List Slot) (past : List Moment) (moment : Moment) (filled i : ℕ) (work : Work) (slots : List Slot)
     (children : ℕ) (old new : Selection) (part : Part) (mark gave : Bool) → length slots ≡ children → gave ≡ (mark && is_some part.slot)
     → new.rule ≡ old.rule
     → ((child : ℕ) → gave ≡ true → part.pick ≡ Some child → child < children → new.last ≡ part.pick)
     → (gave ≡ false → new ≡ old)
-    → StateStands setting sub past fed i work (Select old) → part ≡ part_by setting sub past i work slots → HasPart moment i part mark
-    → StateStands setting sub (moment ∷ past) fed i work (Select new)
-select_step setting sub past moment fed i (Plays leaf) slots children old new part mark gave long gave_is same_rule used unused stands is had = absurd stands
-select_step setting sub past moment fed i (Picks (TakesTurns turn) eligible) slots children old new part mark gave long gave_is same_rule used unused stands is had = absurd stands
-select_step setting sub past moment fed i (Picks (Selects rule) eligible) slots children old new part mark gave long gave_is same_rule used unused stands is had = record {
+    → StateStands setting sub past filled i work (Select old) → part ≡ part_by setting sub past i work slots → HasPart moment i part mark
+    → StateStands setting sub (moment ∷ past) filled i work (Select new)
+select_step setting sub past moment filled i (Plays leaf) slots children old new part mark gave long gave_is same_rule used unused stands is had = absurd stands
+select_step setting sub past moment filled i (Picks (TakesTurns turn) eligible) slots children old new part mark gave long gave_is same_rule used unused stands is had = absurd stands
+select_step setting sub past moment filled i (Picks (Selects rule) eligible) slots children old new part mark gave long gave_is same_rule used unused stands is had = record {
   rule_is = same_rule ∙ stands.rule_is;
   last_is = last_by gave old new part.pick now unused
       ∙ ap (λ (l : Option ℕ). cond gave part.pick l) stands.last_is
@@ -66,9 +66,9 @@ select_step setting sub past moment fed i (Picks (Selects rule) eligible) slots 
         let found : is_some (picked_part (picked slots last pick)).slot ≡ true = ap (λ (p : Part). is_some p.slot) (sym is) ∙ second_of mark (is_some part.slot) (sym gave_is ∙ e) in
         let one = picked_child (picked slots last pick) found in
         used one.0 e (ap (λ (p : Part). p.pick) is ∙ one.1) (subst (λ (n : ℕ). one.0 < n) long (picked_within slots last pick one.0 one.1))
-select_step setting sub past moment fed i (Mixes mixing) slots children old new part mark gave long gave_is same_rule used unused stands is had = absurd stands
-select_step setting sub past moment fed i (Fades overlap) slots children old new part mark gave long gave_is same_rule used unused stands is had = absurd stands
-select_step setting sub past moment fed i (Reads buffer) slots children old new part mark gave long gave_is same_rule used unused stands is had = absurd stands
+select_step setting sub past moment filled i (Mixes mixing) slots children old new part mark gave long gave_is same_rule used unused stands is had = absurd stands
+select_step setting sub past moment filled i (Fades overlap) slots children old new part mark gave long gave_is same_rule used unused stands is had = absurd stands
+select_step setting sub past moment filled i (Reads buffer) slots children old new part mark gave long gave_is same_rule used unused stands is had = absurd stands
 
 -- what a node that takes turns has behind it
 abbrev turned : List Moment → ℕ → Past
@@ -96,16 +96,16 @@ turn_kept turn past moment i state gave s = record {
   words = s.words ∙ ap (words_left turn) (sym (ap (λ (g : Bool). cond (g && is_first (offer moment i)) (suc (choices past i)) (choices past i)) gave));
 }
 
-pub turn_step : (setting : Setting) (sub : ℕ → ℕ → List Slot) (past : List Moment) (moment : Moment) (fed i : ℕ) (work : Work) (slots : List Slot)
+pub turn_step : (setting : Setting) (sub : ℕ → ℕ → List Slot) (past : List Moment) (moment : Moment) (filled i : ℕ) (work : Work) (slots : List Slot)
     (children : ℕ) (old new : Turning) (part : Part) (mark gave : Bool) → length slots ≡ children → gave ≡ (mark && is_some part.slot)
     → ((turn : TheTurn) (behind : Past) (pick : Picked) → gave ≡ true → part.pick ≡ Some pick.child → part.slot ≡ Some pick.cell → pick.child < children
     → TurnStandsFor turn behind old → TurnStandsFor turn (past_given behind pick) new)
     → (gave ≡ false → new ≡ old)
-    → StateStands setting sub past fed i work (Turn old) → part ≡ part_by setting sub past i work slots → HasPart moment i part mark
-    → StateStands setting sub (moment ∷ past) fed i work (Turn new)
-turn_step setting sub past moment fed i (Plays leaf) slots children old new part mark gave long gave_is goes stays stands is had = absurd stands
-turn_step setting sub past moment fed i (Picks (Selects rule) eligible) slots children old new part mark gave long gave_is goes stays stands is had = absurd stands
-turn_step setting sub past moment fed i (Picks (TakesTurns turn) eligible) slots children old new part mark gave long gave_is goes stays stands is had = by gave refl
+    → StateStands setting sub past filled i work (Turn old) → part ≡ part_by setting sub past i work slots → HasPart moment i part mark
+    → StateStands setting sub (moment ∷ past) filled i work (Turn new)
+turn_step setting sub past moment filled i (Plays leaf) slots children old new part mark gave long gave_is goes stays stands is had = absurd stands
+turn_step setting sub past moment filled i (Picks (Selects rule) eligible) slots children old new part mark gave long gave_is goes stays stands is had = absurd stands
+turn_step setting sub past moment filled i (Picks (TakesTurns turn) eligible) slots children old new part mark gave long gave_is goes stays stands is had = by gave refl
   where
     last : Option ℕ
     last = last_pick past i
@@ -125,9 +125,9 @@ turn_step setting sub past moment fed i (Picks (TakesTurns turn) eligible) slots
         turn_gave turn past moment i one.0 new (now ∙ e) (had.part_is ∙ whole)
         (goes turn (turned past i) one.0 e (ap (λ (p : Part). p.pick) whole) (ap (λ (p : Part). p.slot) whole) few stands)
     by false e = turn_kept turn past moment i new (now ∙ e) (subst (λ (s : Turning). TurnStandsFor turn (turned past i) s) (sym (stays e)) stands)
-turn_step setting sub past moment fed i (Mixes mixing) slots children old new part mark gave long gave_is goes stays stands is had = absurd stands
-turn_step setting sub past moment fed i (Fades overlap) slots children old new part mark gave long gave_is goes stays stands is had = absurd stands
-turn_step setting sub past moment fed i (Reads buffer) slots children old new part mark gave long gave_is goes stays stands is had = absurd stands
+turn_step setting sub past moment filled i (Mixes mixing) slots children old new part mark gave long gave_is goes stays stands is had = absurd stands
+turn_step setting sub past moment filled i (Fades overlap) slots children old new part mark gave long gave_is goes stays stands is had = absurd stands
+turn_step setting sub past moment filled i (Reads buffer) slots children old new part mark gave long gave_is goes stays stands is had = absurd stands
 
 -- the next item, by whether the node gave
 next_item : (gave : Bool) (mark : Bool) (slot : Slot) (p : ℕ) → gave ≡ (mark && is_some slot)
@@ -145,48 +145,48 @@ read_reader : (gave : Bool) (reading : Reading) → cond gave (after_cell readin
 read_reader true reading = refl
 read_reader false reading = refl
 
-pub cross_step : (setting : Setting) (sub : ℕ → ℕ → List Slot) (past : List Moment) (moment : Moment) (fed i : ℕ) (work : Work) (slots : List Slot)
+pub cross_step : (setting : Setting) (sub : ℕ → ℕ → List Slot) (past : List Moment) (moment : Moment) (filled i : ℕ) (work : Work) (slots : List Slot)
     (old new : Crossing) (part : Part) (mark gave : Bool) → AreLong sub → gave ≡ (mark && is_some part.slot) → new.overlap ≡ old.overlap
     → ((list : List Slot) (p : ℕ) → StandsFor old list p → p < length (cross old.overlap list) → StandsFor new list (position_after gave (slot_at (cross old.overlap list) p) p))
-    → StateStands setting sub past fed i work (Cross old) → IsSettled sub past fed i work → part ≡ part_by setting sub past i work slots → HasPart moment i part mark
-    → StateStands setting sub (moment ∷ past) fed i work (Cross new)
-cross_step setting sub past moment fed i (Plays leaf) slots old new part mark gave long gave_is same steps stands settled is had = absurd stands
-cross_step setting sub past moment fed i (Picks rule eligible) slots old new part mark gave long gave_is same steps stands settled is had = absurd stands
-cross_step setting sub past moment fed i (Mixes mixing) slots old new part mark gave long gave_is same steps stands settled is had = absurd stands
-cross_step setting sub past moment fed i (Fades overlap) slots old new part mark gave long gave_is same steps stands settled is had = record {
+    → StateStands setting sub past filled i work (Cross old) → IsSettled sub past filled i work → part ≡ part_by setting sub past i work slots → HasPart moment i part mark
+    → StateStands setting sub (moment ∷ past) filled i work (Cross new)
+cross_step setting sub past moment filled i (Plays leaf) slots old new part mark gave long gave_is same steps stands settled is had = absurd stands
+cross_step setting sub past moment filled i (Picks rule eligible) slots old new part mark gave long gave_is same steps stands settled is had = absurd stands
+cross_step setting sub past moment filled i (Mixes mixing) slots old new part mark gave long gave_is same steps stands settled is had = absurd stands
+cross_step setting sub past moment filled i (Fades overlap) slots old new part mark gave long gave_is same steps stands settled is had = record {
   overlap_is = same ∙ stands.overlap_is;
-  stands = subst (λ (n : ℕ). StandsFor new (sub i fed) n) next
-      (steps (sub i fed) (position past i) stands.stands (subst (λ (o : ℕ). position past i < length (cross o (sub i fed))) (sym stands.overlap_is) settled));
+  stands = subst (λ (n : ℕ). StandsFor new (sub i filled) n) next
+      (steps (sub i filled) (position past i) stands.stands (subst (λ (o : ℕ). position past i < length (cross o (sub i filled))) (sym stands.overlap_is) settled));
   least = λ m below.
       let few = stands.least m below in
       let later = not_before (gives moment i || not (is_some (part_at moment.parts i).slot)) (position past i) in
       omega (arith, few, later);
 }
   where
-    item : slot_at (cross old.overlap (sub i fed)) (position past i) ≡ part.slot
+    item : slot_at (cross old.overlap (sub i filled)) (position past i) ≡ part.slot
     item =
-        ap (λ (o : ℕ). slot_at (cross o (sub i fed)) (position past i)) stands.overlap_is
-        ∙ sym (item_of-is overlap (sub i) (position past i) fed (long.each i) settled stands.least)
+        ap (λ (o : ℕ). slot_at (cross o (sub i filled)) (position past i)) stands.overlap_is
+        ∙ sym (item_of-is overlap (sub i) (position past i) filled (long.each i) settled stands.least)
         ∙ ap (λ (q : Part). q.slot) (sym is)
 
-    next : position_after gave (slot_at (cross old.overlap (sub i fed)) (position past i)) (position past i) ≡ position (moment ∷ past) i
+    next : position_after gave (slot_at (cross old.overlap (sub i filled)) (position past i)) (position past i) ≡ position (moment ∷ past) i
     next =
         ap (λ (s : Slot). position_after gave s (position past i)) item
         ∙ next_item gave mark part.slot (position past i) gave_is
         ∙ ap (λ (g : Bool). cond (g || not (is_some part.slot)) (suc (position past i)) (position past i)) (gave_is ∙ sym (given moment i part mark had))
         ∙ ap (λ (q : Part). cond (gives moment i || not (is_some q.slot)) (suc (position past i)) (position past i)) (sym had.part_is)
-cross_step setting sub past moment fed i (Reads buffer) slots old new part mark gave long gave_is same steps stands settled is had = absurd stands
+cross_step setting sub past moment filled i (Reads buffer) slots old new part mark gave long gave_is same steps stands settled is had = absurd stands
 
 -- a reader that has begun, behind the instant
-pub read_step : (setting : Setting) (sub : ℕ → ℕ → List Slot) (past : List Moment) (moment : Moment) (fed i : ℕ) (work : Work) (slots : List Slot)
+pub read_step : (setting : Setting) (sub : ℕ → ℕ → List Slot) (past : List Moment) (moment : Moment) (filled i : ℕ) (work : Work) (slots : List Slot)
     (old new : Reader) (part : Part) (mark gave : Bool) → gave ≡ (mark && is_some part.slot) → new ≡ cond gave (after_cell old) old
-    → StateStands setting sub past fed i work (Read old) → IsSettled sub past fed i work → HasPart moment i part mark
-    → StateStands setting sub (moment ∷ past) fed i work (Read new)
-read_step setting sub past moment fed i (Plays leaf) slots old new part mark gave gave_is steps stands settled had = absurd stands
-read_step setting sub past moment fed i (Picks rule eligible) slots old new part mark gave gave_is steps stands settled had = absurd stands
-read_step setting sub past moment fed i (Mixes mixing) slots old new part mark gave gave_is steps stands settled had = absurd stands
-read_step setting sub past moment fed i (Fades overlap) slots old new part mark gave gave_is steps stands settled had = absurd stands
-read_step setting sub past moment fed i (Reads buffer) slots old new part mark gave gave_is steps stands settled had =
+    → StateStands setting sub past filled i work (Read old) → IsSettled sub past filled i work → HasPart moment i part mark
+    → StateStands setting sub (moment ∷ past) filled i work (Read new)
+read_step setting sub past moment filled i (Plays leaf) slots old new part mark gave gave_is steps stands settled had = absurd stands
+read_step setting sub past moment filled i (Picks rule eligible) slots old new part mark gave gave_is steps stands settled had = absurd stands
+read_step setting sub past moment filled i (Mixes mixing) slots old new part mark gave gave_is steps stands settled had = absurd stands
+read_step setting sub past moment filled i (Fades overlap) slots old new part mark gave gave_is steps stands settled had = absurd stands
+read_step setting sub past moment filled i (Reads buffer) slots old new part mark gave gave_is steps stands settled had =
     let now : Reading = reading_at setting buffer (length past) (reading_after setting i buffer past) in
     let was : old ≡ now.reader = stands ∙ ap (λ (n : ℕ). (reading_by setting i buffer past n).reader) settled ∙ ap (λ (r : Reading). r.reader) (reading_open setting i buffer past) in
     steps

@@ -4,4 +4,4 @@ pub mod States
 pub mod Takes
 pub mod Ticks
 pub mod Passing
-pub mod Runs
+pub mod Stretches

@@ -8,14 +8,14 @@ use Rattle.op_leaf.specs.declared.leaf.LeafState.{LeafState}
 use Rattle.op_leaf.specs.Standing.{leaf_of, IsPlacedIn, StandsAt}
 use Rattle.op_select.specs.declared.rule.Rule.{Rule}
 use Rattle.op_select.specs.Selection.{Selection}
-use Rattle.random_ops.specs.Turns.{Turning, StandsFor as TurnStandsFor}
+use Rattle.op_turn.specs.Turns.{Turning, StandsFor as TurnStandsFor}
 use Rattle.op_cross.specs.Crossfade.{cross}
 use Rattle.op_cross.specs.Runs.{run_of}
 use Rattle.op_cross.specs.States.{Crossing, StandsFor, track_room, wants as crossing_wants, left as crossing_left}
 use Rattle.stream_meaning.specs.Operators.{Choice, Selects, TakesTurns, Work, Plays, Picks, Mixes, Fades, Reads}
 use Rattle.plan_core.specs.declared.node.Node.{Node}
 use Rattle.stream_meaning.specs.Instants.{Setting, Moment, Reading, choices, count, last_pick, position, reading_after, reading_at, work_at}
-use Rattle.node_mixing.specs.Mixings.{mixing_of}
+use Rattle.op_mix.specs.Mixings.{mixing_of}
 use Rattle.node_states.specs.declared.state.NodeState.{NodeState}
 use Rattle.node_states.specs.declared.state.NodeState.TheVariants.{Leaf, Select, Turn, Mix, Cross, Read, Idle}
 
@@ -39,11 +39,11 @@ abbrev pub HasTurned : Choice → (last : Option ℕ) → (choices : ℕ) → Tu
 HasTurned (Selects rule) last choices state = ⊥
 HasTurned (TakesTurns turn) last choices state = TurnStandsFor turn (record { last = last; choices = choices }) state
 
--- a crossfade was fed the first slots of its child, and no fewer of them settle item p
-pub record CrossStands (slots : ℕ → List Slot) (fed p overlap : ℕ) (state : Crossing) : Type 0 where
+-- a crossfade was filled the first slots of its child, and no fewer of them settle item p
+pub record CrossStands (slots : ℕ → List Slot) (filled p overlap : ℕ) (state : Crossing) : Type 0 where
   pub overlap_is : state.overlap ≡ overlap
-  pub stands : StandsFor state (slots fed) p
-  pub least : (m : ℕ) → m < fed → length (cross overlap (slots m)) ≤ p
+  pub stands : StandsFor state (slots filled) p
+  pub least : (m : ℕ) → m < filled → length (cross overlap (slots m)) ≤ p
 
 -- a reader that has begun so many instants: before the takes of the instant after these, or behind them
 abbrev pub reading_by : Setting → (i buffer : ℕ) → List Moment → (begun : ℕ) → Reading
@@ -51,32 +51,32 @@ reading_by setting i buffer past begun =
     if nat_eq begun (length past) then reading_after setting i buffer past
     else reading_at setting buffer (length past) (reading_after setting i buffer past)
 
--- node i, which does this work, has the state that its past implies, where a crossfade was fed so many slots of its child, and a
+-- node i, which does this work, has the state that its past implies, where a crossfade was filled so many slots of its child, and a
 -- reader has begun so many instants; an idle state stands for no past
-abbrev pub StateStands : Setting → (sub : ℕ → ℕ → List Slot) → List Moment → (fed i : ℕ) → Work → NodeState → Type 0
-StateStands setting sub past fed i (Plays leaf) (Leaf state) = LeafStands setting.library leaf (count past i) state
-StateStands setting sub past fed i (Picks choice eligible) (Select state) = HasSelected choice (last_pick past i) state
-StateStands setting sub past fed i (Picks choice eligible) (Turn state) = HasTurned choice (last_pick past i) (choices past i) state
-StateStands setting sub past fed i (Mixes mixing) (Mix mixer) = mixing_of mixer ≡ mixing
-StateStands setting sub past fed i (Fades overlap) (Cross state) = CrossStands (sub i) fed (position past i) overlap state
-StateStands setting sub past fed i (Reads buffer) (Read reader) = reader ≡ (reading_by setting i buffer past fed).reader
-StateStands setting sub past fed i work state = ⊥
+abbrev pub StateStands : Setting → (sub : ℕ → ℕ → List Slot) → List Moment → (filled i : ℕ) → Work → NodeState → Type 0
+StateStands setting sub past filled i (Plays leaf) (Leaf state) = LeafStands setting.library leaf (count past i) state
+StateStands setting sub past filled i (Picks choice eligible) (Select state) = HasSelected choice (last_pick past i) state
+StateStands setting sub past filled i (Picks choice eligible) (Turn state) = HasTurned choice (last_pick past i) (choices past i) state
+StateStands setting sub past filled i (Mixes mixing) (Mix mixer) = mixing_of mixer ≡ mixing
+StateStands setting sub past filled i (Fades overlap) (Cross state) = CrossStands (sub i) filled (position past i) overlap state
+StateStands setting sub past filled i (Reads buffer) (Read reader) = reader ≡ (reading_by setting i buffer past filled).reader
+StateStands setting sub past filled i work state = ⊥
 
 -- the item of a crossfade with this past is settled by so many slots of its child; a reader has begun the next instant
-abbrev pub IsSettled : (sub : ℕ → ℕ → List Slot) → List Moment → (fed i : ℕ) → Work → Type 0
-IsSettled sub past fed i (Plays leaf) = ⊤
-IsSettled sub past fed i (Picks choice eligible) = ⊤
-IsSettled sub past fed i (Mixes mixing) = ⊤
-IsSettled sub past fed i (Fades overlap) = position past i < length (cross overlap (sub i fed))
-IsSettled sub past fed i (Reads buffer) = fed ≡ suc (length past)
+abbrev pub IsSettled : (sub : ℕ → ℕ → List Slot) → List Moment → (filled i : ℕ) → Work → Type 0
+IsSettled sub past filled i (Plays leaf) = ⊤
+IsSettled sub past filled i (Picks choice eligible) = ⊤
+IsSettled sub past filled i (Mixes mixing) = ⊤
+IsSettled sub past filled i (Fades overlap) = position past i < length (cross overlap (sub i filled))
+IsSettled sub past filled i (Reads buffer) = filled ≡ suc (length past)
 
 -- it is the work of a crossfade whose item with this past asks for more slots than these
-abbrev pub FadesOn : (sub : ℕ → ℕ → List Slot) → List Moment → (fed i : ℕ) → Work → Type 0
-FadesOn sub past fed i (Plays leaf) = ⊥
-FadesOn sub past fed i (Picks choice eligible) = ⊥
-FadesOn sub past fed i (Mixes mixing) = ⊥
-FadesOn sub past fed i (Fades overlap) = fed < run_of overlap (sub i) (position past i)
-FadesOn sub past fed i (Reads buffer) = ⊥
+abbrev pub FadesOn : (sub : ℕ → ℕ → List Slot) → List Moment → (filled i : ℕ) → Work → Type 0
+FadesOn sub past filled i (Plays leaf) = ⊥
+FadesOn sub past filled i (Picks choice eligible) = ⊥
+FadesOn sub past filled i (Mixes mixing) = ⊥
+FadesOn sub past filled i (Fades overlap) = filled < run_of overlap (sub i) (position past i)
+FadesOn sub past filled i (Reads buffer) = ⊥
 
 -- m slots are a list of m, for each crossfade
 pub record AreLong (sub : ℕ → ℕ → List Slot) : Type 0 where

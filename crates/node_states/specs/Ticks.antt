@@ -4,13 +4,13 @@ use Rattle.liq_base.specs.Pieces.{IsPrefix, grown}
 use Rattle.clock_infer.specs.declared.clock_map.NodeClock.{NodeClock}
 use Rattle.frame_core.specs.Slots.{Slot}
 use Rattle.frame_core.specs.Calls.{Call, Answer}
-use Rattle.stream_meaning.specs.Instants.{Setting, Moment, clock_of, history, with_rest}
+use Rattle.stream_meaning.specs.Instants.{Setting, Moment, clock_of, first_instants, with_rest}
 use Rattle.stream_meaning.specs.Sinks.{tick_bytes, ticks_bytes, IsOutput}
 use Rattle.stream_meaning.specs.Calls.{IsBegin, calls_of_tick, after_calls}
 
 -- the instants that node i's clock has made
 abbrev pub past_of : Setting → (sub : ℕ → ℕ → List Slot) → (ran : NodeClock → ℕ) → ℕ → List Moment
-past_of setting sub ran i = history setting sub (clock_of setting i) (ran (clock_of setting i))
+past_of setting sub ran i = first_instants setting sub (clock_of setting i) (ran (clock_of setting i))
 
 -- after tick t, which made these calls: the engine stands for one tick more and for their answers, whatever answers follow;
 -- `held` and `now` are what each sink held before and holds now, where it tells it

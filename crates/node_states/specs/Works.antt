@@ -1,7 +1,7 @@
 -- What the code calls a node's work.
 use Rattle.std.specs.Prelude.{◌≡◌}
 use Rattle.stream_meaning.specs.Operators.{Work, Plays, Picks, Mixes, Fades, Reads, Selects, TakesTurns}
-use Rattle.node_mixing.specs.Mixings.{mixing_of}
+use Rattle.op_mix.specs.Mixings.{mixing_of}
 use Rattle.node_states.specs.declared.task.Task.{Task}
 use Rattle.node_states.specs.declared.task.Task.TheVariants as task
 

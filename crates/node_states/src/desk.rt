@@ -56,10 +56,10 @@ impl Desk {
         requires number { HasChildren node.now.op (length node.now.children) }
         requires few { length node.now.children ≤ MAX_CHILDREN }
         ensures room { self.new ≡ self.old }
-        ensures part { (setting : Setting) (sub : ℕ → ℕ → List Slot) (past : List Moment) (fed i : ℕ)
+        ensures part { (setting : Setting) (sub : ℕ → ℕ → List Slot) (past : List Moment) (filled i : ℕ)
             → setting.library ≡ library.now → at.second ≡ second_at setting (length past) → AreLong sub
-            → StateStands setting sub past fed i (work_at setting i node.now) state.now
-            → IsSettled sub past fed i (work_at setting i node.now)
+            → StateStands setting sub past filled i (work_at setting i node.now) state.now
+            → IsSettled sub past filled i (work_at setting i node.now)
             → result ≡ part_by setting sub past i (work_at setting i node.now) (slots_at parts.now node.now.children) }
     {
         offer_over(
@@ -89,10 +89,10 @@ fn offer_over(
     requires fits { Fits library.now (length node.now.children) state.now }
     requires number { HasChildren node.now.op (length node.now.children) }
     requires few { length node.now.children ≤ MAX_CHILDREN }
-    ensures { (setting : Setting) (sub : ℕ → ℕ → List Slot) (past : List Moment) (fed i : ℕ)
+    ensures { (setting : Setting) (sub : ℕ → ℕ → List Slot) (past : List Moment) (filled i : ℕ)
         → setting.library ≡ library.now → at.second ≡ second_at setting (length past) → AreLong sub
-        → StateStands setting sub past fed i (work_at setting i node.now) state.now
-        → IsSettled sub past fed i (work_at setting i node.now)
+        → StateStands setting sub past filled i (work_at setting i node.now) state.now
+        → IsSettled sub past filled i (work_at setting i node.now)
         → result ≡ part_by setting sub past i (work_at setting i node.now) (slots_at parts.now node.now.children) }
 {
     let children = node.children.as_slice();

@@ -3,7 +3,7 @@
 #![tactic(auto)]
 
 mod desk;
-mod feeding;
+mod filling;
 pub mod laws;
 mod marks;
 mod passing;

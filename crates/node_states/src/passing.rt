@@ -5,8 +5,8 @@ ghost use Rattle.op_cross.specs.Crossfade.{cross};
 ghost use Rattle.op_cross.specs.States.{StandsFor, passes};
 ghost use Rattle.node_states.specs.Passing.{cells_before};
 
-use node_mixing::{Before, samples_of};
 use op_cross::CrossState;
+use op_mix::{Before, samples_of};
 
 /// Takes as many cells of the crossfade's child as the slices are long, which have this title and go on with the track that it
 /// holds, and gives as many items.

@@ -5,16 +5,16 @@ ghost use Rattle.clock_infer.specs.declared.clock_map.NodeClock.{NodeClock as Cl
 ghost use Rattle.frame_core.specs.Slots.{Slot as TheSlot};
 ghost use Rattle.op_leaf.specs.Lanes.{IsLane};
 ghost use Rattle.stream_meaning.specs.Instants.{Setting, Moment, work_at};
-ghost use Rattle.segment_laws.specs.Stretches.{going_on, lane};
-ghost use Rattle.node_mixing.specs.Runs.{samples_of};
+ghost use Rattle.stretch_laws.specs.Stretches.{going_on, lane};
+ghost use Rattle.op_mix.specs.Stretches.{samples_of};
 ghost use Rattle.node_states.specs.Passing.{passes};
-ghost use Rattle.node_states.specs.Runs.{ChildrenGive, GivesOn, LiesAhead, fed_on};
+ghost use Rattle.node_states.specs.Stretches.{ChildrenGive, GivesOn, LiesAhead, filled_on};
 ghost use Rattle.node_states.specs.States.{Fits, StateStands, reads};
 
 use crate::NodeState;
 use crate::passing::pass_child;
 use frame_core::Library;
-use node_mixing::{Before, Sums, samples_of};
+use op_mix::{Before, Sums, samples_of};
 use plan_core::Node;
 
 impl NodeState {
@@ -40,11 +40,11 @@ impl NodeState {
         requires short { length left.old ≤ 1024 }
         requires ahead { LiesAhead library.now self.old (length left.old) }
         ensures fits { Fits library.now (length node.now.children) self.new }
-        ensures stands { (setting : Setting) (sub : ℕ → ℕ → List TheSlot) (clock : Clock) (past : List Moment) (fed i : ℕ)
-            → GivesOn setting sub clock past (length left.old) fed i node.now library.now below before.now self.old
-            → StateStands setting sub (going_on setting sub clock (suc (length left.old)) past) (fed_on (passes self.old || reads (work_at setting i node.now)) (length left.old) fed) i (work_at setting i node.now) self.new }
-        ensures lane { (setting : Setting) (sub : ℕ → ℕ → List TheSlot) (clock : Clock) (past : List Moment) (fed i : ℕ)
-            → GivesOn setting sub clock past (length left.old) fed i node.now library.now below before.now self.old
+        ensures stands { (setting : Setting) (sub : ℕ → ℕ → List TheSlot) (clock : Clock) (past : List Moment) (filled i : ℕ)
+            → GivesOn setting sub clock past (length left.old) filled i node.now library.now below before.now self.old
+            → StateStands setting sub (going_on setting sub clock (suc (length left.old)) past) (filled_on (passes self.old || reads (work_at setting i node.now)) (length left.old) filled) i (work_at setting i node.now) self.new }
+        ensures lane { (setting : Setting) (sub : ℕ → ℕ → List TheSlot) (clock : Clock) (past : List Moment) (filled i : ℕ)
+            → GivesOn setting sub clock past (length left.old) filled i node.now library.now below before.now self.old
             → ChildrenGive setting sub clock past (length left.old) i node.now pick before.now
             → IsLane (λ j. lane setting sub clock past (suc j) i) (length left.old) left.new right.new }
     {

@@ -7,10 +7,10 @@ ghost use Rattle.op_cross.specs.Runs.{run_of};
 ghost use Rattle.plan_core.specs.Plans.{HasChildren, IsInRange};
 ghost use Rattle.op_select.specs.declared.rule.Rule.{Rule as TheRule};
 ghost use Rattle.stream_meaning.specs.Operators.{Work, Eligible, Fades, Picks, Reads, Selects};
-ghost use Rattle.segment_laws.specs.Stretches.{AreFed, NodeGoes, NodeKeeps};
+ghost use Rattle.stretch_laws.specs.Stretches.{AreFilled, NodeGoes, NodeKeeps};
 ghost use Rattle.stream_meaning.specs.Instants.{Setting, Moment, demanded, gives, last_pick, part_at, part_by, position, second_at, work_at};
 ghost use Rattle.node_states.specs.Passing.{asked, passes};
-ghost use Rattle.node_states.specs.Runs.{LiesAhead};
+ghost use Rattle.node_states.specs.Stretches.{LiesAhead};
 ghost use Rattle.node_states.specs.States.{AreLong, FadesOn, Fits, IsSettled, left, StateStands, wants};
 
 use crate::marks::mark_eligible;
@@ -22,12 +22,12 @@ use crate::task::{Task, prefill_of, task_of};
 use fixed_text::WeekSecond;
 use frame_core::{Cell, Library, title_of};
 use liq_base::Memory;
-use node_mixing::Mixer;
 use op_cross::CrossState;
 use op_leaf::{LeafState, ReaderState};
+use op_mix::Mixer;
 use op_select::SelectState;
+use op_turn::TurnState;
 use plan_core::{Node, Plan};
-use random_ops::TurnState;
 use std::alloc::Global;
 use stream_meaning::Part;
 
@@ -94,14 +94,14 @@ impl NodeState {
     pub fn wants(&self) -> bool
         ensures wants { result ≡ wants self.now }
         ensures ends { result ≡ true → 0 < left self.now }
-        ensures settled { (setting : Setting) (sub : ℕ → ℕ → List TheSlot) (past : List Moment) (fed i : ℕ) (work : Work)
-            → StateStands setting sub past fed i work self.now → result ≡ false
-            → ((buffer : ℕ) → work ≡ Reads buffer → fed ≡ suc (length past)) → IsSettled sub past fed i work }
-        ensures more { (setting : Setting) (sub : ℕ → ℕ → List TheSlot) (past : List Moment) (fed i : ℕ) (work : Work) → AreLong sub
-            → StateStands setting sub past fed i work self.now → result ≡ true → FadesOn sub past fed i work }
-        ensures run { (setting : Setting) (sub : ℕ → ℕ → List TheSlot) (past : List Moment) (fed i overlap : ℕ) → AreLong sub
-            → StateStands setting sub past fed i (Fades overlap) self.now → result ≡ false
-            → run_of overlap (sub i) (position past i) ≡ fed }
+        ensures settled { (setting : Setting) (sub : ℕ → ℕ → List TheSlot) (past : List Moment) (filled i : ℕ) (work : Work)
+            → StateStands setting sub past filled i work self.now → result ≡ false
+            → ((buffer : ℕ) → work ≡ Reads buffer → filled ≡ suc (length past)) → IsSettled sub past filled i work }
+        ensures more { (setting : Setting) (sub : ℕ → ℕ → List TheSlot) (past : List Moment) (filled i : ℕ) (work : Work) → AreLong sub
+            → StateStands setting sub past filled i work self.now → result ≡ true → FadesOn sub past filled i work }
+        ensures run { (setting : Setting) (sub : ℕ → ℕ → List TheSlot) (past : List Moment) (filled i overlap : ℕ) → AreLong sub
+            → StateStands setting sub past filled i (Fades overlap) self.now → result ≡ false
+            → run_of overlap (sub i) (position past i) ≡ filled }
     {
         match self {
             NodeState::Cross(state) => state.wants(),
@@ -113,9 +113,9 @@ impl NodeState {
     pub fn feed(&mut self, slot: Option<Cell>)
         requires { wants self.old ≡ true }
         ensures fits { (library : Sounds) (children : ℕ) → Fits library children self.old → Fits library children self.new }
-        ensures fed { (setting : Setting) (sub : ℕ → ℕ → List TheSlot) (past : List Moment) (fed i : ℕ) (work : Work)
-            → StateStands setting sub past fed i work self.old → sub i (suc fed) ≡ sub i fed ++ slot ∷ []
-            → StateStands setting sub past (suc fed) i work self.new }
+        ensures filled { (setting : Setting) (sub : ℕ → ℕ → List TheSlot) (past : List Moment) (filled i : ℕ) (work : Work)
+            → StateStands setting sub past filled i work self.old → sub i (suc filled) ≡ sub i filled ++ slot ∷ []
+            → StateStands setting sub past (suc filled) i work self.new }
         ensures less { left self.new < left self.old }
     {
         if let NodeState::Cross(state) = self {
@@ -140,10 +140,10 @@ impl NodeState {
         requires few { length node.now.children ≤ MAX_CHILDREN }
         requires slots { length slots.now ≡ length node.now.children }
         requires marks { length marks.old ≡ length node.now.children }
-        ensures part { (setting : Setting) (sub : ℕ → ℕ → List TheSlot) (past : List Moment) (fed i : ℕ)
+        ensures part { (setting : Setting) (sub : ℕ → ℕ → List TheSlot) (past : List Moment) (filled i : ℕ)
             → setting.library ≡ library.now → at.second ≡ second_at setting (length past) → AreLong sub
-            → StateStands setting sub past fed i (work_at setting i node.now) self.now
-            → IsSettled sub past fed i (work_at setting i node.now)
+            → StateStands setting sub past filled i (work_at setting i node.now) self.now
+            → IsSettled sub past filled i (work_at setting i node.now)
             → result ≡ part_by setting sub past i (work_at setting i node.now) slots.now }
     {
         match self {
@@ -162,8 +162,8 @@ impl NodeState {
 
     /// The child that a selection used when it last gave.
     pub fn last(&self) -> Option<u32>
-        ensures { (setting : Setting) (sub : ℕ → ℕ → List TheSlot) (past : List Moment) (fed i : ℕ) (rule : TheRule) (eligible : Eligible)
-            → StateStands setting sub past fed i (Picks (Selects rule) eligible) self.now → result ≡ last_pick past i }
+        ensures { (setting : Setting) (sub : ℕ → ℕ → List TheSlot) (past : List Moment) (filled i : ℕ) (rule : TheRule) (eligible : Eligible)
+            → StateStands setting sub past filled i (Picks (Selects rule) eligible) self.now → result ≡ last_pick past i }
     {
         match self {
             NodeState::Select(state) => state.last(),
@@ -189,20 +189,20 @@ impl NodeState {
         ensures within { result ≤ most }
         ensures ahead { gave ≡ true → LiesAhead library.now self.now result }
         ensures through { gave ≡ true → passes self.now ≡ true → result ≤ below }
-        ensures goes { (setting : Setting) (sub : ℕ → ℕ → List TheSlot) (past : List Moment) (moment : Moment) (fed i : ℕ) (work : Work)
-            → setting.library ≡ library.now → AreLong sub → StateStands setting sub (moment ∷ past) fed i work self.now
-            → ((buffer : ℕ) → work ≡ Reads buffer → fed ≡ suc (length past))
-            → part_at moment.parts i ≡ part → gives moment i ≡ gave → (gave ≡ true → passes self.now ≡ true → AreFed setting sub i fed below below_title)
+        ensures goes { (setting : Setting) (sub : ℕ → ℕ → List TheSlot) (past : List Moment) (moment : Moment) (filled i : ℕ) (work : Work)
+            → setting.library ≡ library.now → AreLong sub → StateStands setting sub (moment ∷ past) filled i work self.now
+            → ((buffer : ℕ) → work ≡ Reads buffer → filled ≡ suc (length past))
+            → part_at moment.parts i ≡ part → gives moment i ≡ gave → (gave ≡ true → passes self.now ≡ true → AreFilled setting sub i filled below below_title)
             → NodeGoes setting sub past moment i work begins result }
-        ensures keeps { (setting : Setting) (sub : ℕ → ℕ → List TheSlot) (past : List Moment) (moment : Moment) (fed i : ℕ) (work : Work)
-            → setting.library ≡ library.now → AreLong sub → StateStands setting sub (moment ∷ past) fed i work self.now
-            → ((buffer : ℕ) → work ≡ Reads buffer → fed ≡ suc (length past))
-            → part_at moment.parts i ≡ part → gives moment i ≡ gave → (gave ≡ true → passes self.now ≡ true → AreFed setting sub i fed below below_title)
+        ensures keeps { (setting : Setting) (sub : ℕ → ℕ → List TheSlot) (past : List Moment) (moment : Moment) (filled i : ℕ) (work : Work)
+            → setting.library ≡ library.now → AreLong sub → StateStands setting sub (moment ∷ past) filled i work self.now
+            → ((buffer : ℕ) → work ≡ Reads buffer → filled ≡ suc (length past))
+            → part_at moment.parts i ≡ part → gives moment i ≡ gave → (gave ≡ true → passes self.now ≡ true → AreFilled setting sub i filled below below_title)
             → NodeKeeps setting sub past moment i work result }
-        ensures asks { (setting : Setting) (sub : ℕ → ℕ → List TheSlot) (past : List Moment) (moment : Moment) (fed i overlap j : ℕ)
-            → AreLong sub → StateStands setting sub (moment ∷ past) fed i (Fades overlap) self.now
-            → gives moment i ≡ gave → gave ≡ true → (passes self.now ≡ true → AreFed setting sub i fed below below_title) → j < result
-            → run_of overlap (sub i) (suc (position past i) + j) ≡ fed + asked (passes self.now) j }
+        ensures asks { (setting : Setting) (sub : ℕ → ℕ → List TheSlot) (past : List Moment) (moment : Moment) (filled i overlap j : ℕ)
+            → AreLong sub → StateStands setting sub (moment ∷ past) filled i (Fades overlap) self.now
+            → gives moment i ≡ gave → gave ≡ true → (passes self.now ≡ true → AreFilled setting sub i filled below below_title) → j < result
+            → run_of overlap (sub i) (suc (position past i) + j) ≡ filled + asked (passes self.now) j }
     {
         match self {
             NodeState::Leaf(state) => {
@@ -245,12 +245,12 @@ impl NodeState {
     pub fn next(&mut self, part: Part, is_demanded: bool, library: &Library, children: usize)
         requires fits { Fits library.now children self.old }
         ensures fits { Fits library.now children self.new }
-        ensures stands { (setting : Setting) (sub : ℕ → ℕ → List TheSlot) (past : List Moment) (moment : Moment) (fed i : ℕ)
+        ensures stands { (setting : Setting) (sub : ℕ → ℕ → List TheSlot) (past : List Moment) (moment : Moment) (filled i : ℕ)
             (work : Work) (slots : List TheSlot) → setting.library ≡ library.now → AreLong sub
-            → StateStands setting sub past fed i work self.old → IsSettled sub past fed i work
+            → StateStands setting sub past filled i work self.old → IsSettled sub past filled i work
             → length slots ≡ children → part ≡ part_by setting sub past i work slots
             → part_at moment.parts i ≡ part → demanded moment i ≡ is_demanded
-            → StateStands setting sub (moment ∷ past) fed i work self.new }
+            → StateStands setting sub (moment ∷ past) filled i work self.new }
     {
         let gave = gives(part, is_demanded);
         match self {

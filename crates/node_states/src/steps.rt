@@ -8,8 +8,8 @@ ghost use Rattle.op_leaf.specs.Leaves.{leaf_slot};
 ghost use Rattle.op_leaf.specs.Standing.{IsPlacedIn};
 ghost use Rattle.op_leaf.specs.Readers.{after_cell};
 ghost use Rattle.op_select.specs.declared.rule.Picked.{Picked as ThePicked};
-ghost use Rattle.random_ops.specs.declared.turn.Turn.{Turn};
-ghost use Rattle.random_ops.specs.Turns.{Past, past_given, StandsFor as TurnStandsFor};
+ghost use Rattle.op_turn.specs.declared.turn.Turn.{Turn};
+ghost use Rattle.op_turn.specs.Turns.{Past, past_given, StandsFor as TurnStandsFor};
 ghost use Rattle.stream_meaning.specs.Instants.{picked_part, unpicked};
 ghost use Rattle.node_states.specs.States.{LeafStands};
 
@@ -17,7 +17,7 @@ use frame_core::{Cell, Library};
 use op_cross::CrossState;
 use op_leaf::{LeafState, ReaderState};
 use op_select::{Picked, SelectState};
-use random_ops::TurnState;
+use op_turn::TurnState;
 use stream_meaning::Part;
 
 /// The part of a node that does not choose.

@@ -6,11 +6,11 @@ ghost use Rattle.stream_meaning.specs.Operators.{work_of};
 ghost use Rattle.node_states.specs.Works.{IsTask};
 
 use liq_base::Kind;
-use node_mixing::Mixer;
 use op_leaf::Leaf;
+use op_mix::Mixer;
 use op_select::Rule;
+use op_turn::Turn;
 use plan_core::{Node, Op, Plan};
-use random_ops::Turn;
 
 /// What a node does: it plays, picks among its children by a rule or by turns, mixes them, fades its child's tracks or reads
 /// a buffer.

@@ -1,4 +1,4 @@
--- A state that was fed no more than its item asks for has run the least number of slots.
+-- A state that was filled no more than its item asks for has run the least number of slots.
 use Rattle.std.proofs.Common.{◌≡◌, ◌≢◌, ◌<◌, ◌≤◌, ◌+◌, ◌*◌, ◌∙◌, ℕ, zero, suc, List, length, nat_lt, nat_eq, Bool, true, false, arith, refl, ap, ◌⊎◌, inl, inr}
 use Rattle.std.proofs.lemmas.Bool.Decides.{nat_tests}
 use Rattle.frame_core.specs.Slots.{Slot, slot_at}
@@ -33,21 +33,21 @@ dec_le zero b = inl (omega arith)
 dec_le (suc a) zero = inr (omega arith)
 dec_le (suc a) (suc b) = elim (dec_le a b) [ inl h ↦ inl (omega arith) | inr h ↦ inr (omega arith) ]
 
-pub run_of-is : (overlap : ℕ) (slots : ℕ → List Slot) (p fed : ℕ) → ((m : ℕ) → length (slots m) ≡ m) → p < length (cross overlap (slots fed)) →
-    ((m : ℕ) → m < fed → length (cross overlap (slots m)) ≤ p) → run_of overlap slots p ≡ fed
-run_of-is overlap slots p fed long settled least =
-    least_from-is (λ m. nat_lt p (length (cross overlap (slots m)))) 0 (2 * p + 2 * overlap + 2) fed (omega arith) bound
-    (lt-true p (length (cross overlap (slots fed))) settled) (λ m low below. lt-false p (length (cross overlap (slots m))) (least m below))
+pub run_of-is : (overlap : ℕ) (slots : ℕ → List Slot) (p filled : ℕ) → ((m : ℕ) → length (slots m) ≡ m) → p < length (cross overlap (slots filled)) →
+    ((m : ℕ) → m < filled → length (cross overlap (slots m)) ≤ p) → run_of overlap slots p ≡ filled
+run_of-is overlap slots p filled long settled least =
+    least_from-is (λ m. nat_lt p (length (cross overlap (slots m)))) 0 (2 * p + 2 * overlap + 2) filled (omega arith) bound
+    (lt-true p (length (cross overlap (slots filled))) settled) (λ m low below. lt-false p (length (cross overlap (slots m))) (least m below))
   where
     below_bound : (m : ℕ) → 2 * p + 2 * overlap + 2 ≤ m → p < length (cross overlap (slots m))
     below_bound m high = let is = long m in cross-many overlap (slots m) p (omega (arith, is, high))
 
-    bound : fed ≤ 0 + (2 * p + 2 * overlap + 2)
-    bound = elim (dec_le fed (2 * p + 2 * overlap + 2)) [
+    bound : filled ≤ 0 + (2 * p + 2 * overlap + 2)
+    bound = elim (dec_le filled (2 * p + 2 * overlap + 2)) [
       | inl small ↦ omega (arith, small)
       | inr large ↦ (let few = least (2 * p + 2 * overlap + 2) (omega arith) in let many = below_bound (2 * p + 2 * overlap + 2) (omega arith) in omega (arith, few, many))
     ]
 
-pub item_of-is : (overlap : ℕ) (slots : ℕ → List Slot) (p fed : ℕ) → ((m : ℕ) → length (slots m) ≡ m) → p < length (cross overlap (slots fed)) →
-    ((m : ℕ) → m < fed → length (cross overlap (slots m)) ≤ p) → item_of overlap slots p ≡ slot_at (cross overlap (slots fed)) p
-item_of-is overlap slots p fed long settled least = ap (λ m. slot_at (cross overlap (slots m)) p) (run_of-is overlap slots p fed long settled least)
+pub item_of-is : (overlap : ℕ) (slots : ℕ → List Slot) (p filled : ℕ) → ((m : ℕ) → length (slots m) ≡ m) → p < length (cross overlap (slots filled)) →
+    ((m : ℕ) → m < filled → length (cross overlap (slots m)) ≤ p) → item_of overlap slots p ≡ slot_at (cross overlap (slots filled)) p
+item_of-is overlap slots p filled long settled least = ap (λ m. slot_at (cross overlap (slots m)) p) (run_of-is overlap slots p filled long settled least)

@@ -1,8 +1,8 @@
 pub mod CrossLaws
 pub mod CrossGrows
-pub mod Feeding
+pub mod Filling
 pub mod Standing
-pub mod Fed
+pub mod Filled
 pub mod Longer
 pub mod LeastRuns
 pub mod Stretching

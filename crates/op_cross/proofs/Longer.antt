@@ -5,7 +5,7 @@ use Rattle.frame_core.specs.declared.cell.Cell.{Cell}
 use Rattle.frame_core.specs.Slots.{Slot}
 use Rattle.op_cross.specs.Crossfade.{cross}
 use Rattle.op_cross.specs.States.{AllInner, IsTrack}
-use Rattle.op_cross.proofs.Feeding.{one_settled}
+use Rattle.op_cross.proofs.Filling.{one_settled}
 
 all_inner : (front back : List Cell) → AllInner front → AllInner back → AllInner (front ++ back)
 all_inner [] back inner rest = rest

@@ -9,7 +9,7 @@ use Rattle.cell_ring.specs.Rings.{Ring}
 use Rattle.frame_core.specs.Slots.{Slot}
 use Rattle.op_cross.specs.Crossfade.{cross}
 use Rattle.op_cross.specs.States.{AllInner, Crossing, IsCrossing, StandsFor, left, passes, track_room, wants}
-use Rattle.op_cross.proofs.Fed.{wants_none}
+use Rattle.op_cross.proofs.Filled.{wants_none}
 use Rattle.op_cross.proofs.Running.{Passing, fewer_settle_none, inner_part, passed}
 
 pub long_now : (cells run : List Cell) (ring : Ring) (room n : ℕ) → ring ≡ record { cells = cells ++ run; room = room } → length run ≡ n → n ≤ length ring.cells

@@ -6,15 +6,15 @@ use Rattle.std.proofs.lemmas.List.{get_or-drop}
 use Rattle.frame_core.specs.declared.cell.Cell.{Cell}
 use Rattle.frame_core.specs.Slots.{Slot, slot_at, is_inner}
 use Rattle.op_cross.specs.States.{AllInner, IsTrack}
-use Rattle.op_cross.specs.Stretches.{inner_run, stretch}
+use Rattle.op_cross.specs.Stretches.{inner_count, stretch}
 
-run_by : (cell : Cell) (slots : List Slot) → ((j : ℕ) → j < inner_run slots → is_inner (slot_at slots j) ≡ true) → (first : Bool) → cell.first ≡ first → (j : ℕ)
-    → j < cond first 0 (suc (inner_run slots)) → is_inner (slot_at (Some cell ∷ slots) j) ≡ true
+run_by : (cell : Cell) (slots : List Slot) → ((j : ℕ) → j < inner_count slots → is_inner (slot_at slots j) ≡ true) → (first : Bool) → cell.first ≡ first → (j : ℕ)
+    → j < cond first 0 (suc (inner_count slots)) → is_inner (slot_at (Some cell ∷ slots) j) ≡ true
 run_by cell slots more true e j low = absurd (omega (arith, low))
 run_by cell slots more false e zero low = ap not e
 run_by cell slots more false e (suc j) low = more j (omega (arith, low))
 
-run_inner : (slots : List Slot) (j : ℕ) → j < inner_run slots → is_inner (slot_at slots j) ≡ true
+run_inner : (slots : List Slot) (j : ℕ) → j < inner_count slots → is_inner (slot_at slots j) ≡ true
 run_inner [] j low = absurd (omega (arith, low))
 run_inner (None ∷ slots) j low = absurd (omega (arith, low))
 run_inner (Some cell ∷ slots) j low = run_by cell slots (λ j low. run_inner slots j low) cell.first refl j low

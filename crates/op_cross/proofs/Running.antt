@@ -9,11 +9,11 @@ use Rattle.frame_core.specs.Slots.{Slot, slot_left, slot_right}
 use Rattle.cell_ring.specs.Rings.{inner_cells}
 use Rattle.op_cross.specs.Crossfade.{mixed_cells, cross}
 use Rattle.op_cross.specs.States.{Crossing, StandsFor, IsCrossing, AllInner, IsTrack, BeginsTrack, held, growing, growing_at, gap_of, passes, ready_items, track_room, unsettled, wants}
-use Rattle.op_cross.proofs.Feeding.{mixed_end, nothing_settled, one_settled}
+use Rattle.op_cross.proofs.Filling.{mixed_end, nothing_settled, one_settled}
 use Rattle.op_cross.proofs.Standing.{ready_of, none_ready_items, is_settled}
 use Rattle.op_cross.proofs.PlainStretch.{lefts, rights}
 use Rattle.op_cross.proofs.Longer.{track_goes_on}
-use Rattle.op_cross.proofs.Fed.{Wanting, all_ready, complete_law, growing_some, no_cells, plain_track, wanting, unsettled_is, track_none}
+use Rattle.op_cross.proofs.Filled.{Wanting, all_ready, complete_law, growing_some, no_cells, plain_track, wanting, unsettled_is, track_none}
 
 pub runs_inner : (title : ℕ) (xs ys : List ℤ) → AllInner (inner_cells title xs ys)
 runs_inner title [] ys = tt
@@ -229,7 +229,7 @@ passing s e = by (wants s) (nat_eq (length s.next) 0) (nat_eq (length s.cells) s
     by true false c w n f e = absurd (false≢true e)
     by false b c w n f e = absurd (false≢true e)
 
--- the items of all that was fed
+-- the items of all that was filled
 passed_items : (s : Crossing) (slots : List Slot) (p : ℕ) (run : List Cell) (more : List Slot) → IsCrossing s → (stands : StandsFor s slots p) → Passing s → AllInner run →
     cross s.overlap ((slots ++ map Some run) ++ more)
     ≡ stands.past ++ (map Some (take (length run) (s.cells ++ run)) ++ cross s.overlap (map Some (drop (length run) (s.cells ++ run)) ++ more))

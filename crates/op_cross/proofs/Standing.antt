@@ -9,7 +9,7 @@ use Rattle.frame_core.specs.Slots.{Slot, slot_at}
 use Rattle.op_cross.specs.Crossfade.{mixed_cell, mixed_cells, cross}
 use Rattle.op_cross.specs.States.{Crossing, StandsFor, IsCrossing, AllInner, IsTrack, BeginsTrack, held, growing, growing_at, ready_cells, gap_of, ready_items, unsettled, wants, position_after}
 use Rattle.op_cross.proofs.CrossLaws.{cross-many}
-use Rattle.op_cross.proofs.Feeding.{nothing_settled}
+use Rattle.op_cross.proofs.Filling.{nothing_settled}
 
 -- the cells that are ready, by the parts of the state
 abbrev pub ready_of : ℕ → ℕ → List Cell → List Cell → List Slot

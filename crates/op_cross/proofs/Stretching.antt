@@ -6,24 +6,24 @@ use Rattle.std.proofs.lemmas.List.{length-drop, length-take, drop_at}
 use Rattle.frame_core.specs.declared.cell.Cell.{Cell}
 use Rattle.frame_core.specs.Slots.{Slot}
 use Rattle.op_cross.specs.Crossfade.{mixed_cells, cross}
-use Rattle.op_cross.specs.Stretches.{inner_run, stretch}
+use Rattle.op_cross.specs.Stretches.{inner_count, stretch}
 use Rattle.op_cross.specs.States.{Crossing, StandsFor, IsCrossing, AllInner, IsTrack, gap_of, ready_items, ready_stretch}
 use Rattle.op_cross.proofs.Standing.{is_settled, settled_now, by_less, take_none, none_ready_at}
 
-inner_of : (cells : List Cell) (more : List Slot) → AllInner cells → inner_run more ≡ 0 → inner_run (map Some cells ++ more) ≡ length cells
+inner_of : (cells : List Cell) (more : List Slot) → AllInner cells → inner_count more ≡ 0 → inner_count (map Some cells ++ more) ≡ length cells
 inner_of [] more inner none = none
-inner_of (a ∷ cells) more inner none = ap (λ b. cond b 0 (suc (inner_run (map Some cells ++ more)))) inner.0 ∙ ap suc (inner_of cells more inner.1 none)
+inner_of (a ∷ cells) more inner none = ap (λ b. cond b 0 (suc (inner_count (map Some cells ++ more)))) inner.0 ∙ ap suc (inner_of cells more inner.1 none)
 
-stretch_of_track : (cells : List Cell) (more : List Slot) → IsTrack cells → 0 < length cells → inner_run more ≡ 0 → stretch (map Some cells ++ more) ≡ length cells
+stretch_of_track : (cells : List Cell) (more : List Slot) → IsTrack cells → 0 < length cells → inner_count more ≡ 0 → stretch (map Some cells ++ more) ≡ length cells
 stretch_of_track [] more track some none = absurd (omega (arith, some))
 stretch_of_track (a ∷ cells) more track some none = ap suc (inner_of cells more track none)
 
-gap_ends : (gap : Bool) → inner_run (gap_of gap) ≡ 0
+gap_ends : (gap : Bool) → inner_count (gap_of gap) ≡ 0
 gap_ends true = refl
 gap_ends false = refl
 
 -- a mix that begins ends a stretch
-mix_ends : (from to : List Cell) (whole : ℕ) (gap : Bool) → inner_run (mixed_cells from to 0 whole ++ gap_of gap) ≡ 0
+mix_ends : (from to : List Cell) (whole : ℕ) (gap : Bool) → inner_count (mixed_cells from to 0 whole ++ gap_of gap) ≡ 0
 mix_ends [] to whole gap = gap_ends gap
 mix_ends (a ∷ from) [] whole gap = gap_ends gap
 mix_ends (a ∷ from) (b ∷ to) whole gap = refl
@@ -31,15 +31,15 @@ mix_ends (a ∷ from) (b ∷ to) whole gap = refl
 not_zero : (at : ℕ) → nat_eq (suc at) 0 ≡ false
 not_zero at = grind (arith, nat_tests)
 
-inner_of_mix : (from to : List Cell) (at whole : ℕ) (more : List Slot) → length from ≡ length to → inner_run more ≡ 0 → inner_run (mixed_cells from to (suc at) whole ++ more) ≡ length to
+inner_of_mix : (from to : List Cell) (at whole : ℕ) (more : List Slot) → length from ≡ length to → inner_count more ≡ 0 → inner_count (mixed_cells from to (suc at) whole ++ more) ≡ length to
 inner_of_mix [] [] at whole more same none = none
 inner_of_mix [] (b ∷ to) at whole more same none = absurd (omega (arith, same))
 inner_of_mix (a ∷ from) [] at whole more same none = absurd (omega (arith, same))
 inner_of_mix (a ∷ from) (b ∷ to) at whole more same none =
-    ap (λ t. cond t 0 (suc (inner_run (mixed_cells from to (suc (suc at)) whole ++ more)))) (not_zero at)
+    ap (λ t. cond t 0 (suc (inner_count (mixed_cells from to (suc (suc at)) whole ++ more)))) (not_zero at)
     ∙ ap suc (inner_of_mix from to (suc at) whole more (omega (arith, same)) none)
 
-stretch_of_mix : (from to : List Cell) (at whole : ℕ) (more : List Slot) → length from ≡ length to → 0 < length to → inner_run more ≡ 0 → stretch (mixed_cells from to at whole ++ more) ≡ length to
+stretch_of_mix : (from to : List Cell) (at whole : ℕ) (more : List Slot) → length from ≡ length to → 0 < length to → inner_count more ≡ 0 → stretch (mixed_cells from to at whole ++ more) ≡ length to
 stretch_of_mix from [] at whole more same some none = absurd (omega (arith, some))
 stretch_of_mix [] (b ∷ to) at whole more same some none = absurd (omega (arith, same))
 stretch_of_mix (a ∷ from) (b ∷ to) at whole more same some none = ap suc (inner_of_mix from to at whole more (omega (arith, same)) none)
@@ -50,17 +50,17 @@ nothing_mixed (a ∷ from) at whole = refl
 
 -- behind plain cells the stretch ends
 plain_ends : (s : Crossing) → IsCrossing s → length s.next < s.ready →
-    inner_run (mixed_cells (drop (s.ready - length s.next) (take s.ready s.cells)) s.next (s.whole - length s.next) s.whole ++ gap_of s.gap) ≡ 0
+    inner_count (mixed_cells (drop (s.ready - length s.next) (take s.ready s.cells)) s.next (s.whole - length s.next) s.whole ++ gap_of s.gap) ≡ 0
 plain_ends s is few = by s.next refl
   where
-    by : (next : List Cell) → s.next ≡ next → inner_run (mixed_cells (drop (s.ready - length s.next) (take s.ready s.cells)) s.next (s.whole - length s.next) s.whole ++ gap_of s.gap) ≡ 0
+    by : (next : List Cell) → s.next ≡ next → inner_count (mixed_cells (drop (s.ready - length s.next) (take s.ready s.cells)) s.next (s.whole - length s.next) s.whole ++ gap_of s.gap) ≡ 0
     by [] e =
-        ap (λ l. inner_run (mixed_cells (drop (s.ready - length s.next) (take s.ready s.cells)) l (s.whole - length s.next) s.whole ++ gap_of s.gap)) e
-        ∙ ap (λ l. inner_run (l ++ gap_of s.gap)) (nothing_mixed (drop (s.ready - length s.next) (take s.ready s.cells)) (s.whole - length s.next) s.whole) ∙ gap_ends s.gap
+        ap (λ l. inner_count (mixed_cells (drop (s.ready - length s.next) (take s.ready s.cells)) l (s.whole - length s.next) s.whole ++ gap_of s.gap)) e
+        ∙ ap (λ l. inner_count (l ++ gap_of s.gap)) (nothing_mixed (drop (s.ready - length s.next) (take s.ready s.cells)) (s.whole - length s.next) s.whole) ∙ gap_ends s.gap
     by (b ∷ next) e =
         let long : length s.next ≡ length (b ∷ next) = ap length e in
         let at : s.whole - length s.next ≡ 0 = let begun = is.begun (omega (arith, long)) few in omega (arith, begun) in
-        ap (λ n. inner_run (mixed_cells (drop (s.ready - length s.next) (take s.ready s.cells)) s.next n s.whole ++ gap_of s.gap)) at
+        ap (λ n. inner_count (mixed_cells (drop (s.ready - length s.next) (take s.ready s.cells)) s.next n s.whole ++ gap_of s.gap)) at
         ∙ mix_ends (drop (s.ready - length s.next) (take s.ready s.cells)) s.next s.whole s.gap
 
 less_test : (a b : ℕ) → a < b → nat_lt a b ≡ true
@@ -109,12 +109,12 @@ stretch_is s slots p is stands =
         gap_stretch false = refl
     by (suc n) ready = some_stretch s is stands.plain (omega (arith, ready))
 
-run_within : (slots : List Slot) → inner_run slots ≤ length slots
+run_within : (slots : List Slot) → inner_count slots ≤ length slots
 run_within [] = omega arith
 run_within (None ∷ slots) = omega arith
 run_within (Some cell ∷ slots) = by cell.first (run_within slots)
   where
-    by : (first : Bool) → inner_run slots ≤ length slots → cond first 0 (suc (inner_run slots)) ≤ suc (length slots)
+    by : (first : Bool) → inner_count slots ≤ length slots → cond first 0 (suc (inner_count slots)) ≤ suc (length slots)
     by true few = omega arith
     by false few = omega (arith, few)
 

@@ -8,7 +8,7 @@ use Rattle.frame_core.specs.declared.cell.Cell.{Cell}
 use Rattle.frame_core.specs.Slots.{Slot, slot_at, title_of, goes_on, is_inner}
 use Rattle.cell_ring.specs.Rings.{has_title}
 use Rattle.op_cross.specs.Crossfade.{mixed_cells, cross}
-use Rattle.op_cross.specs.Stretches.{inner_run, stretch, titled_run, titled_stretch}
+use Rattle.op_cross.specs.Stretches.{inner_count, stretch, titled_count, titled_stretch}
 use Rattle.op_cross.specs.States.{Crossing, StandsFor, IsCrossing, gap_of, ready_items, ready_stretch}
 use Rattle.op_cross.proofs.Standing.{settled_now, take_none}
 use Rattle.op_cross.proofs.Stretching.{long_run, short_run, stretch_is}
@@ -59,43 +59,43 @@ or_some false b e = e
 
 -- ---- runs of one title
 
-run_least : (title : ℕ) (slots : List Slot) (m : ℕ) → m ≤ inner_run slots → ((j : ℕ) → j < m → title_of (slot_at slots j) ≡ title) → m ≤ titled_run title slots
+run_least : (title : ℕ) (slots : List Slot) (m : ℕ) → m ≤ inner_count slots → ((j : ℕ) → j < m → title_of (slot_at slots j) ≡ title) → m ≤ titled_count title slots
 run_least title slots zero few same = omega arith
 run_least title [] (suc m) few same = absurd (omega (arith, few))
 run_least title (None ∷ slots) (suc m) few same = absurd (omega (arith, few))
 run_least title (Some cell ∷ slots) (suc m) few same = by cell.first refl (λ more. run_least title slots m more (λ j low. same (suc j) (omega (arith, low))))
   where
-    by : (first : Bool) → cell.first ≡ first → (m ≤ inner_run slots → m ≤ titled_run title slots) → suc m ≤ titled_run title (Some cell ∷ slots)
+    by : (first : Bool) → cell.first ≡ first → (m ≤ inner_count slots → m ≤ titled_count title slots) → suc m ≤ titled_count title (Some cell ∷ slots)
     by true e more =
-        let none : inner_run (Some cell ∷ slots) ≡ 0 = ap (λ b. cond b 0 (suc (inner_run slots))) e in
+        let none : inner_count (Some cell ∷ slots) ≡ 0 = ap (λ b. cond b 0 (suc (inner_count slots))) e in
         absurd (omega (arith, few, none))
     by false e more =
-        let some : inner_run (Some cell ∷ slots) ≡ suc (inner_run slots) = ap (λ b. cond b 0 (suc (inner_run slots))) e in
+        let some : inner_count (Some cell ∷ slots) ≡ suc (inner_count slots) = ap (λ b. cond b 0 (suc (inner_count slots))) e in
         let test : (cell.first || not (nat_eq cell.title title)) ≡ false =
         or_none cell.first (not (nat_eq cell.title title)) e (ap not (eq-eqb cell.title title (same 0 (omega arith)))) in
-        let is : titled_run title (Some cell ∷ slots) ≡ suc (titled_run title slots) = ap (λ b. cond b 0 (suc (titled_run title slots))) test in
+        let is : titled_count title (Some cell ∷ slots) ≡ suc (titled_count title slots) = ap (λ b. cond b 0 (suc (titled_count title slots))) test in
         let rest = more (omega (arith, few, some)) in
         omega (arith, is, rest)
 
-run_most : (title : ℕ) (slots : List Slot) (m : ℕ) → has_title title (slot_at slots m) ≡ false → titled_run title slots ≤ m
+run_most : (title : ℕ) (slots : List Slot) (m : ℕ) → has_title title (slot_at slots m) ≡ false → titled_count title slots ≤ m
 run_most title [] m other = omega arith
 run_most title (None ∷ slots) m other = omega arith
 run_most title (Some cell ∷ slots) zero other =
     let test : (cell.first || not (nat_eq cell.title title)) ≡ true = or_some cell.first (not (nat_eq cell.title title)) (ap not other) in
-    let is : titled_run title (Some cell ∷ slots) ≡ 0 = ap (λ b. cond b 0 (suc (titled_run title slots))) test in
+    let is : titled_count title (Some cell ∷ slots) ≡ 0 = ap (λ b. cond b 0 (suc (titled_count title slots))) test in
     omega (arith, is)
 run_most title (Some cell ∷ slots) (suc m) other = by (cell.first || not (nat_eq cell.title title)) (run_most title slots m other)
   where
-    by : (test : Bool) → titled_run title slots ≤ m → cond test 0 (suc (titled_run title slots)) ≤ suc m
+    by : (test : Bool) → titled_count title slots ≤ m → cond test 0 (suc (titled_count title slots)) ≤ suc m
     by true few = omega arith
     by false few = omega (arith, few)
 
-run_whole : (title : ℕ) (slots : List Slot) → titled_run title slots ≤ inner_run slots
+run_whole : (title : ℕ) (slots : List Slot) → titled_count title slots ≤ inner_count slots
 run_whole title [] = omega arith
 run_whole title (None ∷ slots) = omega arith
 run_whole title (Some cell ∷ slots) = by cell.first (not (nat_eq cell.title title)) (run_whole title slots)
   where
-    by : (first other : Bool) → titled_run title slots ≤ inner_run slots → cond (first || other) 0 (suc (titled_run title slots)) ≤ cond first 0 (suc (inner_run slots))
+    by : (first other : Bool) → titled_count title slots ≤ inner_count slots → cond (first || other) 0 (suc (titled_count title slots)) ≤ cond first 0 (suc (inner_count slots))
     by true other few = omega arith
     by false true few = omega arith
     by false false few = omega (arith, few)
@@ -222,26 +222,26 @@ mixed_counted s slots p most mixed r is stands many all few some same ends =
 
 -- ---- the items of a stretch of one title
 
-run_titles : (title : ℕ) (slots : List Slot) (j : ℕ) → j < titled_run title slots → title_of (slot_at slots j) ≡ title
+run_titles : (title : ℕ) (slots : List Slot) (j : ℕ) → j < titled_count title slots → title_of (slot_at slots j) ≡ title
 run_titles title [] j low = absurd (omega (arith, low))
 run_titles title (None ∷ slots) j low = absurd (omega (arith, low))
 run_titles title (Some cell ∷ slots) j low = by cell.first (nat_eq cell.title title) refl refl (λ i less. run_titles title slots i less) low
   where
-    by : (first same : Bool) → cell.first ≡ first → nat_eq cell.title title ≡ same → ((i : ℕ) → i < titled_run title slots → title_of (slot_at slots i) ≡ title)
-        → j < titled_run title (Some cell ∷ slots) → title_of (slot_at (Some cell ∷ slots) j) ≡ title
+    by : (first same : Bool) → cell.first ≡ first → nat_eq cell.title title ≡ same → ((i : ℕ) → i < titled_count title slots → title_of (slot_at slots i) ≡ title)
+        → j < titled_count title (Some cell ∷ slots) → title_of (slot_at (Some cell ∷ slots) j) ≡ title
     by true same e f more less =
-        let none : titled_run title (Some cell ∷ slots) ≡ 0 = ap (λ b. cond (b || not (nat_eq cell.title title)) 0 (suc (titled_run title slots))) e in
+        let none : titled_count title (Some cell ∷ slots) ≡ 0 = ap (λ b. cond (b || not (nat_eq cell.title title)) 0 (suc (titled_count title slots))) e in
         absurd (omega (arith, less, none))
     by false false e f more less =
-        let none : titled_run title (Some cell ∷ slots) ≡ 0 =
-        ap (λ b. cond b 0 (suc (titled_run title slots))) (or_some cell.first (not (nat_eq cell.title title)) (ap not f)) in
+        let none : titled_count title (Some cell ∷ slots) ≡ 0 =
+        ap (λ b. cond b 0 (suc (titled_count title slots))) (or_some cell.first (not (nat_eq cell.title title)) (ap not f)) in
         absurd (omega (arith, less, none))
     by false true e f more less = at j less
       where
-        is : titled_run title (Some cell ∷ slots) ≡ suc (titled_run title slots)
-        is = ap (λ b. cond b 0 (suc (titled_run title slots))) (or_none cell.first (not (nat_eq cell.title title)) e (ap not f))
+        is : titled_count title (Some cell ∷ slots) ≡ suc (titled_count title slots)
+        is = ap (λ b. cond b 0 (suc (titled_count title slots))) (or_none cell.first (not (nat_eq cell.title title)) e (ap not f))
 
-        at : (j : ℕ) → j < titled_run title (Some cell ∷ slots) → title_of (slot_at (Some cell ∷ slots) j) ≡ title
+        at : (j : ℕ) → j < titled_count title (Some cell ∷ slots) → title_of (slot_at (Some cell ∷ slots) j) ≡ title
         at zero less = grind (arith, nat_tests, f)
         at (suc j) less = more j (let i = is in omega (arith, less, i))
 

@@ -100,7 +100,7 @@ pub record IsCrossing (state : Crossing) : Type 0 where
   pub whole : state.whole ≤ state.overlap
   pub ended : state.gap ≡ true → length state.cells ≡ state.ready
 
--- the state stands for the slots that were fed and for item p: the slots' items are p past ones, those that are ready and
+-- the state stands for the slots that were filled and for item p: the slots' items are p past ones, those that are ready and
 -- whatever comes of what is not settled, with any slots behind it
 pub record StandsFor (state : Crossing) (slots : List Slot) (p : ℕ) : Type 0 where
   pub past : List Slot

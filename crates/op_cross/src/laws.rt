@@ -18,10 +18,10 @@ pub fn settled_items_stay()
 
 /// A child that runs only until item p is settled has run the least number of slots.
 pub fn least_run()
-    ensures run { (overlap : ℕ) (slots : ℕ → List Slot) (p fed : ℕ) → ((m : ℕ) → length (slots m) ≡ m) → p < length (cross overlap (slots fed)) →
-        ((m : ℕ) → m < fed → length (cross overlap (slots m)) ≤ p) → run_of overlap slots p ≡ fed }
-    ensures item { (overlap : ℕ) (slots : ℕ → List Slot) (p fed : ℕ) → ((m : ℕ) → length (slots m) ≡ m) → p < length (cross overlap (slots fed)) →
-        ((m : ℕ) → m < fed → length (cross overlap (slots m)) ≤ p) → item_of overlap slots p ≡ slot_at (cross overlap (slots fed)) p }
+    ensures run { (overlap : ℕ) (slots : ℕ → List Slot) (p filled : ℕ) → ((m : ℕ) → length (slots m) ≡ m) → p < length (cross overlap (slots filled)) →
+        ((m : ℕ) → m < filled → length (cross overlap (slots m)) ≤ p) → run_of overlap slots p ≡ filled }
+    ensures item { (overlap : ℕ) (slots : ℕ → List Slot) (p filled : ℕ) → ((m : ℕ) → length (slots m) ≡ m) → p < length (cross overlap (slots filled)) →
+        ((m : ℕ) → m < filled → length (cross overlap (slots m)) ≤ p) → item_of overlap slots p ≡ slot_at (cross overlap (slots filled)) p }
 {}
 
 /// Where as much of a track is held as overlaps, each further cell of the track settles one item.

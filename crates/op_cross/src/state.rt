@@ -15,7 +15,7 @@ use std::alloc::Global;
 use std::marker::Model;
 
 /// The most cells that are passed on at once.
-pub const MAX_RUN: u32 = 1024;
+pub const MAX_STRETCH: u32 = 1024;
 
 // How many items are mixed at once.
 const BLOCK: usize = 256;
@@ -44,7 +44,7 @@ impl Model for CrossState {
 }
 
 impl CrossState {
-    /// The state of a crossfade that was fed nothing, whose tracks overlap by at most so many samples, from 1 to `MAX_OVERLAP`.
+    /// The state of a crossfade that was filled nothing, whose tracks overlap by at most so many samples, from 1 to `MAX_OVERLAP`.
     /// It reserves room for twice as many cells and one; no other call takes memory. The kind changes nothing, since a
     /// mono cell has 0 on its right, and so has a mix of such cells.
     pub fn new(alloc: Global, overlap: u32, _kind: Kind) -> Result<CrossState, Memory>
@@ -52,7 +52,7 @@ impl CrossState {
         ensures overlap { IfOk result (λ state. state.overlap ≡ overlap) }
         ensures stands { IfOk result (λ state. StandsFor state [] 0) }
     {
-        let cells = CellRing::new(alloc, overlap + 1 + MAX_RUN)?;
+        let cells = CellRing::new(alloc, overlap + 1 + MAX_STRETCH)?;
         let next = CellRing::new(alloc, overlap)?;
         Ok(CrossState {
             overlap,
@@ -78,7 +78,7 @@ impl CrossState {
     pub fn feed(&mut self, slot: Option<Cell>)
         requires { wants self.old ≡ true }
         ensures overlap { self.new.overlap ≡ self.old.overlap }
-        ensures fed { (slots : List Slot) (p : ℕ) → StandsFor self.old slots p → StandsFor self.new (slots ++ slot ∷ []) p }
+        ensures filled { (slots : List Slot) (p : ℕ) → StandsFor self.old slots p → StandsFor self.new (slots ++ slot ∷ []) p }
         ensures less { left self.new < left self.old }
     {
         match slot {
@@ -122,24 +122,24 @@ impl CrossState {
     }
 
     /// Takes the next slots of its source, which are cells of this title and of a track that goes on, no more than settle its item.
-    pub fn feed_run(&mut self, title: u32, lefts: &[i16], rights: &[i16])
+    pub fn fill_stretch(&mut self, title: u32, lefts: &[i16], rights: &[i16])
         requires wants { wants self.old ≡ true }
         requires same { length rights.now ≡ length lefts.now }
         requires few { length lefts.now ≤ track_room self.old }
         ensures overlap { self.new.overlap ≡ self.old.overlap }
-        ensures fed { (slots : List Slot) (p : ℕ) → StandsFor self.old slots p → StandsFor self.new (slots ++ map Some (inner_cells title lefts.now rights.now)) p }
+        ensures filled { (slots : List Slot) (p : ℕ) → StandsFor self.old slots p → StandsFor self.new (slots ++ map Some (inner_cells title lefts.now rights.now)) p }
         ensures least { (slots : List Slot) (p m : ℕ) → StandsFor self.old slots p → m < length lefts.now
             → length (cross self.old.overlap (slots ++ map Some (take m (inner_cells title lefts.now rights.now)))) ≤ p }
         ensures less { 0 < length lefts.now → left self.new < left self.old }
     {
         if self.next.len() > 0 {
-            self.next.push_run(title, lefts, rights);
+            self.next.push_inner(title, lefts, rights);
             if self.next.len() == self.cells.len() {
                 self.whole = self.next.len();
                 self.ready = self.cells.len();
             }
         } else {
-            self.cells.push_run(title, lefts, rights);
+            self.cells.push_inner(title, lefts, rights);
             if self.cells.len() > self.overlap {
                 self.ready = 1;
             }
@@ -177,7 +177,7 @@ impl CrossState {
         ensures right { (slots : List Slot) (p : ℕ) → StandsFor self.old slots p
             → right.new ≡ map slot_right (take (length left.old) (drop p (cross self.old.overlap (slots ++ map Some (inner_cells title from_left.now from_right.now))))) }
     {
-        self.cells.push_run(title, from_left, from_right);
+        self.cells.push_inner(title, from_left, from_right);
         self.cells.take_into(left, right);
     }
 

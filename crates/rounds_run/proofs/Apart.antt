@@ -9,10 +9,10 @@ use Rattle.clock_infer.proofs.MapLaws.{ranks}
 use Rattle.stream_meaning.specs.Instants.{Setting, clock_of}
 use Rattle.stream_meaning.specs.Calls.{IsBelow, IsUnread}
 use Rattle.stream_meaning.proofs.Ranks.{AreNested, deeper}
-use Rattle.engine_instants.proofs.Places.{same_or_other}
-use Rattle.engine_instants.proofs.Reading.{op_of_reads}
-use Rattle.clock_engine.specs.Engines.{AreClocksOf}
-use Rattle.clock_engine.proofs.Mapped.{nested}
+use Rattle.clock_instants.proofs.Places.{same_or_other}
+use Rattle.clock_instants.proofs.Reading.{op_of_reads}
+use Rattle.clock_ticks.specs.Engines.{AreClocksOf}
+use Rattle.clock_ticks.proofs.Mapped.{nested}
 
 abbrev main_of : NodeClock → ℕ
 main_of (Main m) = m

@@ -18,8 +18,8 @@ use Rattle.stream_meaning.specs.Sinks.{ticks_bytes}
 use Rattle.stream_meaning.specs.Calls.{IsBegin}
 use Rattle.stream_meaning.proofs.Answering.{begin_none}
 use Rattle.run_records.specs.Records.{Follows, Window, capacity_of, on as calls_on, rounds_to, setting_in, setting_then}
-use Rattle.clock_engine.specs.declared.engine.ClockEngine.{ClockEngine}
-use Rattle.clock_engine.specs.Engines.{setting_of, held_of}
+use Rattle.clock_ticks.specs.declared.engine.ClockEngine.{ClockEngine}
+use Rattle.clock_ticks.specs.Engines.{setting_of, held_of}
 use Rattle.buffer_ends.specs.Ends.{LocalStands}
 use Rattle.buffer_ends.specs.Local.{Answers, Leads, LocalBuffer, all_answers, closed, closed_windows, counts_of, empty_list, held as list_held, on, planned}
 use Rattle.buffer_ends.specs.Same.{SameBuffers}

@@ -18,13 +18,13 @@ use Rattle.clock_outputs.proofs.Taken.{fell_none, kept_none}
 use Rattle.node_states.proofs.Outputs.{output_moved}
 use Rattle.clock_outputs.specs.Appends.{AreKept, GotOnePiece, NoneFell}
 use Rattle.clock_outputs.proofs.Places.{low_or_high, same_or_other, slice_get-set_other, slice_get-set_same}
-use Rattle.clock_engine.specs.declared.engine.ClockEngine.{ClockEngine}
-use Rattle.clock_engine.specs.declared.fault.TickFault.{TickFault}
-use Rattle.clock_engine.specs.declared.fault.TickFault.TheVariants.{Memory as OutOfMemory, Write as TickWrite}
-use Rattle.clock_engine.specs.Engines.{AreParts, held_of, outputs_of, setting_of}
-use Rattle.clock_engine.specs.Ticks.{GotSomePieces, HasFailed, HasMade, HaveTickRoom, HaveTicksRoom, IsWriteFault, piece_size}
-use Rattle.clock_engine.proofs.Made.{behind_calls, world_is}
-use Rattle.clock_engine.proofs.Pieces.{got_between, got_more, got_none, got_part}
+use Rattle.clock_ticks.specs.declared.engine.ClockEngine.{ClockEngine}
+use Rattle.clock_ticks.specs.declared.fault.TickFault.{TickFault}
+use Rattle.clock_ticks.specs.declared.fault.TickFault.TheVariants.{Memory as OutOfMemory, Write as TickWrite}
+use Rattle.clock_ticks.specs.Engines.{AreParts, held_of, outputs_of, setting_of}
+use Rattle.clock_ticks.specs.Ticks.{GotSomePieces, HasFailed, HasMade, HaveTickRoom, HaveTicksRoom, IsWriteFault, piece_size}
+use Rattle.clock_ticks.proofs.Made.{behind_calls, world_is}
+use Rattle.clock_ticks.proofs.Pieces.{got_between, got_more, got_none, got_part}
 use Rattle.buffer_ends.specs.declared.run_end.End.{End}
 use Rattle.buffer_ends.specs.declared.run_end.End.TheVariants.{Write, Memory as NoMemory}
 use Rattle.rounds_run.specs.Rounds.{AreEngines, AreGoing, AreTurnsUpto, HasRunTurns, HasRunPart, IsWriteEnd, MayRun, RoundsMade, RoundsStopped, made_by, nothing, ticks_by, world}
@@ -67,9 +67,9 @@ module _ {S : Type 0} (held name : S → Option (List ℕ)) (room : S → Option
   }
 
   -- the same run with calls that bring this engine no answers
-  pub run_idle : (calls more : List Call) (t : ℕ) (first now : ClockEngine S) → ((buffer : ℕ) → (answers_in buffer more ≡ []) ⊎ IsUnread (setting_of first.parts) (Main first.parts.clock) buffer)
+  pub run_unbuffered : (calls more : List Call) (t : ℕ) (first now : ClockEngine S) → ((buffer : ℕ) → (answers_in buffer more ≡ []) ⊎ IsUnread (setting_of first.parts) (Main first.parts.clock) buffer)
       → HasRunTurns held name faults appends calls t first now → HasRunTurns held name faults appends (calls ++ more) t first now
-  run_idle calls more t first now apart run = record {
+  run_unbuffered calls more t first now apart run = record {
     setting = run.setting;
     clock = run.clock;
     keeping = run.keeping;
@@ -323,7 +323,7 @@ module _ {S : Type 0} (held name : S → Option (List ℕ)) (room : S → Option
                       let count : suc r ≡ made_by r (m + 1) k = sym made_next ∙ ap (made_by r (m + 1)) same in
                       subst (λ e. HasRunTurns held name faults appends (going.calls ++ made.more) (made_by r (m + 1) k) engine e) (this_at k after same is) (subst (λ n. HasRunTurns held name faults appends (going.calls ++ made.more) n engine new) count run))
                   | inr other ↦ subst (λ n. HasRunTurns held name faults appends (going.calls ++ made.more) n engine after) (sym (made_more k other))
-                      (run_idle going.calls made.more (made_by r m k) engine after (apart_here may before at_first made.more quiet did.fit k engine other at) (going.run.each k engine after at (other_at k after other is)))
+                      (run_unbuffered going.calls made.more (made_by r m k) engine after (apart_here may before at_first made.more quiet did.fit k engine other at) (going.run.each k engine after at (other_at k after other is)))
                 ];
               };
               rooms = λ k left engine is made. elim (same_or_other m k) [
@@ -377,7 +377,7 @@ module _ {S : Type 0} (held name : S → Option (List ℕ)) (room : S → Option
                       | inl same ↦ subst (λ e. HasRunPart held name faults appends (world (setting_of engine.parts) (going.calls ++ failed.made)) (ticks_by total r m k) (ticks_by total r (m + 1) k) engine e) (this_at k after same is)
                           (run_failed r going.calls engine old new (run_here engine (ap (slice_get first) same ∙ at)) stands b c (ticks_by total r m k) (ticks_by total r (m + 1) k) (least_here k same) (most_here k same) failed some fell same_outs kept setting' clock)
                       | inr other ↦ run_part (made_by r m k) (going.calls ++ failed.made) engine after after
-                          (run_idle going.calls failed.made (made_by r m k) engine after (apart_here may before at_first failed.made quiet fit k engine other at) (going.run.each k engine after at (other_at k after other is)))
+                          (run_unbuffered going.calls failed.made (made_by r m k) engine after (apart_here may before at_first failed.made quiet fit k engine other at) (going.run.each k engine after at (other_at k after other is)))
                           (ticks_by total r m k) (ticks_by total r (m + 1) k) (min-le_right total (made_by r m k)) (most_other k other)
                     ]);
               };

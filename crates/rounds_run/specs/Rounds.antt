@@ -9,10 +9,10 @@ use Rattle.stream_meaning.specs.Calls.{IsBegin, IsUnread, answers_in, calls_of_t
 use Rattle.stream_meaning.specs.Sinks.{ticks_bytes, IsOutput}
 use Rattle.node_states.specs.Ticks.{HoldTicks}
 use Rattle.clock_outputs.specs.Appends.{AreKept, NoneFell, RoseAt}
-use Rattle.clock_engine.specs.declared.engine.ClockEngine.{ClockEngine}
-use Rattle.clock_engine.specs.Engines.{EngineStands, held_of, outputs_of, setting_of}
-use Rattle.clock_engine.specs.Ticks.{HaveTicksRoom}
-use Rattle.clock_engine.specs.Pieces.{GotBetween, GotPieces}
+use Rattle.clock_ticks.specs.declared.engine.ClockEngine.{ClockEngine}
+use Rattle.clock_ticks.specs.Engines.{EngineStands, held_of, outputs_of, setting_of}
+use Rattle.clock_ticks.specs.Ticks.{HaveTicksRoom}
+use Rattle.clock_ticks.specs.Pieces.{GotBetween, GotPieces}
 use Rattle.buffer_ends.specs.declared.run_end.End.{End}
 use Rattle.buffer_ends.specs.declared.run_end.End.TheVariants.{Write, Memory as NoMemory}
 

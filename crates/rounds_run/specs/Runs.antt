@@ -9,9 +9,9 @@ use Rattle.stream_meaning.specs.Instants.{Setting, with_rest}
 use Rattle.stream_meaning.specs.Sinks.{ticks_bytes, IsOutput}
 use Rattle.run_records.specs.Records.{AreRoundsBegun, IsRounds, Run, Window, setting_in, setting_then}
 use Rattle.clock_outputs.specs.Appends.{AreKept, NoneFell}
-use Rattle.clock_engine.specs.declared.engine.ClockEngine.{ClockEngine}
-use Rattle.clock_engine.specs.Engines.{EngineStands, held_of, setting_of}
-use Rattle.clock_engine.specs.Pieces.{GotPieces}
+use Rattle.clock_ticks.specs.declared.engine.ClockEngine.{ClockEngine}
+use Rattle.clock_ticks.specs.Engines.{EngineStands, held_of, setting_of}
+use Rattle.clock_ticks.specs.Pieces.{GotPieces}
 use Rattle.buffer_ends.specs.Local.{Answers}
 use Rattle.buffer_ends.specs.declared.counts.Counts.{Counts}
 use Rattle.buffer_ends.specs.declared.run_end.End.{End}

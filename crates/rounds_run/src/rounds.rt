@@ -1,12 +1,12 @@
 // The rounds of all clocks, one after another.
 ghost use Rattle.std.specs.Prelude.{◌≡◌, ◌<◌, ◌≤◌, ◌*◌, ℕ, length, IfErr, OnOk, OnErr};
 ghost use Rattle.stream_meaning.specs.Instants.{Setting};
-ghost use Rattle.clock_engine.specs.declared.fault.TickFault.TheVariants.{Memory as OutOfMemory, Write as TickWrite};
+ghost use Rattle.clock_ticks.specs.declared.fault.TickFault.TheVariants.{Memory as OutOfMemory, Write as TickWrite};
 ghost use Rattle.buffer_ends.specs.declared.run_end.End.TheVariants.{Write, Memory as NoMemory};
 ghost use Rattle.rounds_run.specs.Rounds.{AreEngines, HaveBuffers, KeepNone, RoundsMade, RoundsStopped};
 
 use buffer_ends::End;
-use clock_engine::{ClockEngine, TickFault};
+use clock_ticks::{ClockEngine, TickFault};
 use frame_core::Taps;
 use liq_base::Sink;
 use std::alloc::Global;

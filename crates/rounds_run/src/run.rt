@@ -8,7 +8,7 @@ ghost use Rattle.rounds_run.specs.Runs.{AreOver, HasRunAll, HasRunSome};
 
 use crate::rounds::make_rounds;
 use buffer_ends::{Counts, End, LocalTaps, RunEnd};
-use clock_engine::ClockEngine;
+use clock_ticks::ClockEngine;
 use liq_base::{Memory, Sink};
 use plan_core::Plan;
 use std::alloc::Global;

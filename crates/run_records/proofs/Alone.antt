@@ -23,7 +23,7 @@ use Rattle.stream_meaning.specs.Settings.{IsSetting}
 use Rattle.stream_meaning.specs.Sinks.{ticks_bytes, gaps}
 use Rattle.run_records.specs.Buffers.{feeder, reader}
 use Rattle.frame_core.specs.declared.cell.Cell.{Cell}
-use Rattle.frame_core.specs.Legal.{IsRun}
+use Rattle.frame_core.specs.Legal.{IsHistory}
 use Rattle.std.proofs.lemmas.Bool.{cases_lt}
 use Rattle.run_records.specs.Records.{Window, Run, windows_of, setting_in, capacity_of, on, Follows, rounds_of, IsRounds, calls_in, IsLawful, answers_of}
 use Rattle.run_records.proofs.Running.{rounds_in, own_in, rests_in}
@@ -71,7 +71,7 @@ lawful_rounds setting clock_map is clocks W N run local runs lawful = record {
           legal.0,
           subst (λ (n : ℕ). Follows (capacity_of setting b) [] (on b (joined_upto calls n)) legal.0) lawful.whole
               (windows_follow setting clock_map is (answers_of run) clocks lawful.accepted b (runs b less) rests W N lawful.count (capacity_of setting b) legal.0
-              (subst (λ (ws : List Window). IsRun (capacity_of setting b) [] ws legal.0) (lawful.are b less) legal.1)),
+              (subst (λ (ws : List Window). IsHistory (capacity_of setting b) [] ws legal.0) (lawful.are b less) legal.1)),
         ))
 
     -- what is taken of it, its feeder takes

@@ -4,7 +4,7 @@ use Rattle.std.proofs.lemmas.Bool.{cases_lt, cases_eq}
 use mathlib.Core.Path.{fun_ext}
 use Rattle.clock_infer.specs.declared.clock_map.ClockMap.{ClockMap}
 use Rattle.frame_core.specs.declared.cell.Cell.{Cell}
-use Rattle.frame_core.specs.Legal.{IsRun, Legal}
+use Rattle.frame_core.specs.Legal.{IsHistory, Legal}
 use Rattle.frame_core.specs.Calls.{Call, takes_of, puts_to, Answer}
 use Rattle.stream_meaning.specs.Instants.{Setting, answered}
 use Rattle.stream_meaning.specs.Calls.{joined_upto}
@@ -142,7 +142,7 @@ module _ (setting : Setting) (map : ClockMap) (is : IsSetting setting map) where
         let m = feeder setting b in let l = begun.legal b known in
         let last : Window = (puts_to b (begun.since m), takes_of b (begun.since (reader setting b))) in
         let cut = run_split (capacity_of setting b) [] l.0 (windows_in (setting_then setting run none) map.running begun.accepted b W N begun.closed) last
-        (subst (λ (ws : List Window). IsRun (capacity_of setting b) [] ws l.0) (begun.are none b known) l.1) in
+        (subst (λ (ws : List Window). IsHistory (capacity_of setting b) [] ws l.0) (begun.are none b known) l.1) in
         let before = windows_follow setting map is (λ c. answers_of run c ++ []) map.running begun.accepted b (runs b known) rests W N begun.closed (capacity_of setting b) cut.0 cut.1 in
         let legal : Legal (capacity_of setting b) l.0 cut.0 (puts_to b (begun.since m)) [] =
         subst (λ (ts : List (Option (List Cell))). Legal (capacity_of setting b) l.0 cut.0 (puts_to b (begun.since m)) ts) (ap (takes_of b) (since_rests (reader setting b) rests)) cut.2 in

@@ -8,7 +8,7 @@ use Rattle.plan_core.specs.declared.node.Node.{Node}
 use Rattle.clock_infer.specs.declared.clock_map.NodeClock.TheVariants.{Main}
 use Rattle.op_leaf.specs.Readers.{Reader, after_cell, read_by, reader_slot, takes_of}
 use Rattle.stream_meaning.specs.declared.part.Part.{Part}
-use Rattle.stream_meaning.specs.Instants.{Setting, Moment, Reading, clock_of, gives, offer, history, moment_after, part_by, parts_upto, slots_at, demanded, sub_of, next_answers, started, reading_at, read_on, reading_after}
+use Rattle.stream_meaning.specs.Instants.{Setting, Moment, Reading, clock_of, gives, offer, first_instants, moment_after, part_by, parts_upto, slots_at, demanded, sub_of, next_answers, started, reading_at, read_on, reading_after}
 use Rattle.stream_meaning.proofs.Unfailing.{own_part}
 use Rattle.run_records.specs.Pace.{IsDrawn, ticked, untaken}
 use Rattle.run_records.proofs.Owing.{ticked_sized}
@@ -34,7 +34,7 @@ given_on r false e = ap (λ (x : Reader). record { reader = x; taken = r.taken }
 
 module _ (setting : Setting) (b m i : ℕ) (node : Node) (is : IsDrawn setting b m i node) (some : 1 ≤ setting.plan.frame) where
   abbrev pub Gone : ℕ → List Moment
-  Gone n = history setting (sub_of setting) (Main m) n
+  Gone n = first_instants setting (sub_of setting) (Main m) n
 
   abbrev Next : ℕ → Moment
   Next n = moment_after setting (sub_of setting) (Main m) (Gone n)
@@ -47,11 +47,11 @@ module _ (setting : Setting) (b m i : ℕ) (node : Node) (is : IsDrawn setting b
   long (suc n) = ap suc (long n)
 
   offer_is : (n : ℕ) → offer (Next n) i ≡ reader_slot (reading_at setting b (length (Gone n)) (Before n)).reader
-  offer_is n = subst (λ clock. offer (moment_after setting (sub_of setting) clock (history setting (sub_of setting) clock n)) i
-      ≡ reader_slot (reading_at setting b (length (history setting (sub_of setting) clock n)) (reading_after setting i b (history setting (sub_of setting) clock n))).reader) is.lies
-      (ap (λ (part : Part). part.slot) (own_part setting (sub_of setting) (history setting (sub_of setting) (clock_of setting i) n) i node is.found
-      ∙ ap (λ w. part_by setting (sub_of setting) (history setting (sub_of setting) (clock_of setting i) n) i w
-      (slots_at (parts_upto setting (sub_of setting) (clock_of setting i) (history setting (sub_of setting) (clock_of setting i) n) i) node.children)) is.does))
+  offer_is n = subst (λ clock. offer (moment_after setting (sub_of setting) clock (first_instants setting (sub_of setting) clock n)) i
+      ≡ reader_slot (reading_at setting b (length (first_instants setting (sub_of setting) clock n)) (reading_after setting i b (first_instants setting (sub_of setting) clock n))).reader) is.lies
+      (ap (λ (part : Part). part.slot) (own_part setting (sub_of setting) (first_instants setting (sub_of setting) (clock_of setting i) n) i node is.found
+      ∙ ap (λ w. part_by setting (sub_of setting) (first_instants setting (sub_of setting) (clock_of setting i) n) i w
+      (slots_at (parts_upto setting (sub_of setting) (clock_of setting i) (first_instants setting (sub_of setting) (clock_of setting i) n) i) node.children)) is.does))
 
   gives_is : (n : ℕ) → gives (Next n) i ≡ is_some (reader_slot (reading_at setting b (length (Gone n)) (Before n)).reader)
   gives_is n = and_drawn (demanded (Next n) i) (is_some (offer (Next n) i)) (is.drawn n) ∙ ap is_some (offer_is n)

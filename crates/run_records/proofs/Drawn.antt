@@ -14,7 +14,7 @@ use Rattle.clock_infer.specs.declared.clock_map.NodeClock.TheVariants.{Main, Sub
 use Rattle.op_leaf.specs.Readers as R
 use Rattle.op_cross.specs.Runs.{run_of}
 use Rattle.stream_meaning.specs.Operators.{Work, Plays, Picks, Mixes, Fades, Reads}
-use Rattle.stream_meaning.specs.Instants.{Setting, Moment, same_clock, lies_in, next_answers, reading_after, work_at, history, position, sub_of}
+use Rattle.stream_meaning.specs.Instants.{Setting, Moment, same_clock, lies_in, next_answers, reading_after, work_at, first_instants, position, sub_of}
 use Rattle.stream_meaning.specs.Calls.{joined_upto, takes_by, takes_in, takes_at, fades_by, fades_in, ran_by, calls_at, calls_of, given, give_by, calls_of_tick, takes_of_tick, gives_of_tick}
 use Rattle.stream_meaning.specs.Sinks.{feed_cells}
 use Rattle.run_records.specs.Pace.{IsDrawn}
@@ -119,20 +119,20 @@ module _ (b : ℕ) where
     not_called : (sub : ℕ → ℕ → List Slot) (depth : ℕ) (clock : NodeClock) (past : List Moment) → lies_in setting clock i ≡ false → takes_of b (calls_at setting sub depth clock past) ≡ []
     not_called sub zero clock past off = refl
     not_called sub (suc depth) clock past off =
-        let below : ℕ → ℕ → List Call = λ j n. calls_at setting sub depth (Sub j) (history setting sub (Sub j) n) in
+        let below : ℕ → ℕ → List Call = λ j n. calls_at setting sub depth (Sub j) (first_instants setting sub (Sub j) n) in
         let fades : ℕ → List Call = λ k. fades_in setting sub below (lies_in setting clock k) past k (slice_get setting.plan.nodes k) in
         takes-append b (takes_at setting clock past) (joined_upto fades (length setting.plan.nodes))
         ∙ (λ x. not_at clock past off x ++ joined_none fades (length setting.plan.nodes)
-        (λ k low. not_fades sub below (λ j n. not_called sub depth (Sub j) (history setting sub (Sub j) n) (sub_off j)) (lies_in setting clock k) past k (slice_get setting.plan.nodes k)) x)
+        (λ k low. not_fades sub below (λ j n. not_called sub depth (Sub j) (first_instants setting sub (Sub j) n) (sub_off j)) (lies_in setting clock k) past k (slice_get setting.plan.nodes k)) x)
 
     main_called : (sub : ℕ → ℕ → List Slot) (past : List Moment) → takes_of b (calls_of setting sub (Main m) past) ≡ takes_of b (takes_at setting (Main m) past)
     main_called sub past =
         let depth = length setting.plan.nodes in
-        let below : ℕ → ℕ → List Call = λ j n. calls_at setting sub depth (Sub j) (history setting sub (Sub j) n) in
+        let below : ℕ → ℕ → List Call = λ j n. calls_at setting sub depth (Sub j) (first_instants setting sub (Sub j) n) in
         let fades : ℕ → List Call = λ k. fades_in setting sub below (lies_in setting (Main m) k) past k (slice_get setting.plan.nodes k) in
         takes-append b (takes_at setting (Main m) past) (joined_upto fades (length setting.plan.nodes))
         ∙ ap (λ (l : List Answer). takes_of b (takes_at setting (Main m) past) ++ l) (joined_none fades (length setting.plan.nodes)
-        (λ k low. not_fades sub below (λ j n. not_called sub depth (Sub j) (history setting sub (Sub j) n) (sub_off j)) (lies_in setting (Main m) k) past k (slice_get setting.plan.nodes k)))
+        (λ k low. not_fades sub below (λ j n. not_called sub depth (Sub j) (first_instants setting sub (Sub j) n) (sub_off j)) (lies_in setting (Main m) k) past k (slice_get setting.plan.nodes k)))
         ∙ append-nil (takes_of b (takes_at setting (Main m) past))
 
     -- the takes of the reader where a tick begins
@@ -167,17 +167,17 @@ module _ (b : ℕ) where
     tick_takes accepted t =
         let sub = sub_of setting in
         let first = t * setting.plan.frame in
-        let calls : ℕ → List Call = λ j. calls_of setting sub (Main m) (history setting sub (Main m) (first + j)) in
+        let calls : ℕ → List Call = λ j. calls_of setting sub (Main m) (first_instants setting sub (Main m) (first + j)) in
         let none : first + 0 ≡ first = omega arith in
         takes-append b (takes_of_tick setting m t) (gives_of_tick setting accepted m t)
         ∙ ap (λ (l : List Answer). takes_of b (takes_of_tick setting m t) ++ l) (gives_none setting accepted m t setting.plan.sinks)
         ∙ append-nil (takes_of b (takes_of_tick setting m t))
         ∙ joined_one calls setting.plan.frame 0 (omega (arith, some)) (λ j low off. later j low off)
-        ∙ ap (λ (n : ℕ). takes_of b (calls_of setting (sub_of setting) (Main m) (history setting (sub_of setting) (Main m) n))) none
-        ∙ main_called sub (history setting sub (Main m) first)
-        ∙ main_first (history setting sub (Main m) first) (first_place setting b m i node is some t)
+        ∙ ap (λ (n : ℕ). takes_of b (calls_of setting (sub_of setting) (Main m) (first_instants setting (sub_of setting) (Main m) n))) none
+        ∙ main_called sub (first_instants setting sub (Main m) first)
+        ∙ main_first (first_instants setting sub (Main m) first) (first_place setting b m i node is some t)
       where
-        later : (j : ℕ) → j < setting.plan.frame → (j ≡ 0 → ⊥) → takes_of b (calls_of setting (sub_of setting) (Main m) (history setting (sub_of setting) (Main m) (t * setting.plan.frame + j))) ≡ []
+        later : (j : ℕ) → j < setting.plan.frame → (j ≡ 0 → ⊥) → takes_of b (calls_of setting (sub_of setting) (Main m) (first_instants setting (sub_of setting) (Main m) (t * setting.plan.frame + j))) ≡ []
         later zero low off = absurd (off refl)
-        later (suc j) low off = main_called (sub_of setting) (history setting (sub_of setting) (Main m) (t * setting.plan.frame + suc j))
-            ∙ main_later (history setting (sub_of setting) (Main m) (t * setting.plan.frame + suc j)) (later_place setting b m i node is some t j low)
+        later (suc j) low off = main_called (sub_of setting) (first_instants setting (sub_of setting) (Main m) (t * setting.plan.frame + suc j))
+            ∙ main_later (first_instants setting (sub_of setting) (Main m) (t * setting.plan.frame + suc j)) (later_place setting b m i node is some t j low)

@@ -2,7 +2,7 @@
 use Rattle.std.proofs.Common.{◌≡◌, ◌<◌, ◌≤◌, ℕ, zero, suc, Some, None, List, [], ◌∷◌, Bool, true, false, inl, inr, flat_map, refl, ap, sym, subst, ◌++◌, length, length-append, arith, map, int_eq, true≢false}
 use Rattle.std.specs.Prelude.{Option, pos, ⊤}
 use Rattle.frame_core.specs.declared.cell.Cell.{Cell}
-use Rattle.frame_core.specs.Legal.{Legal, IsRun}
+use Rattle.frame_core.specs.Legal.{Legal, IsHistory}
 use Rattle.frame_core.specs.Calls.{Took, takes_of, puts_to, Answer}
 use Rattle.plan_core.specs.declared.node.Op.TheVariants.{Single, Blank, Fallback, Add, Buffer}
 use Rattle.plan_core.specs.declared.sink.SinkPlan.TheVariants.{Feed}
@@ -54,7 +54,7 @@ filled_is_lawful = record {
   whole = refl;
   tight = one_alone (λ j. start 2 2 j < 2) (omega arith);
   are = one_alone (λ b. windows_of filled b ≡ windows_in (setting_in unread filled) 1 first_only b 2 2 1) refl;
-  legal = one_alone (λ b. (rest : List (List Cell)) × IsRun (capacity_of unread b) [] (windows_of filled b) rest) (one ∷ [], (one ∷ [], Legal.accepted (omega arith) (Legal.full refl Legal.ended), refl));
+  legal = one_alone (λ b. (rest : List (List Cell)) × IsHistory (capacity_of unread b) [] (windows_of filled b) rest) (one ∷ [], (one ∷ [], Legal.accepted (omega arith) (Legal.full refl Legal.ended), refl));
   in_order = one_alone (λ b. feeder unread b ≡ reader unread b → (rest : List (List Cell)) × Follows (capacity_of unread b) [] (on b (joined_upto (calls_in (setting_in unread filled) 1 first_only (feeder unread b)) 2)) rest)
       (λ e. zero_one e);
 }
@@ -75,7 +75,7 @@ late_is_lawful = record {
   whole = refl;
   tight = one_alone (λ j. start 2 2 j < 2) (omega arith);
   are = one_alone (λ b. windows_of late b ≡ windows_in (setting_in joined late) 2 first_only b 2 2 1) refl;
-  legal = one_alone (λ b. (rest : List (List Cell)) × IsRun (capacity_of joined b) [] (windows_of late b) rest)
+  legal = one_alone (λ b. (rest : List (List Cell)) × IsHistory (capacity_of joined b) [] (windows_of late b) rest)
       ([], ([], Legal.empty (Legal.accepted (omega arith) (Legal.full refl (Legal.got Legal.ended))), refl));
   in_order = one_alone (λ b. feeder joined b ≡ reader joined b → (rest : List (List Cell)) × Follows (capacity_of joined b) [] (on b (joined_upto (calls_in (setting_in joined late) 2 first_only (feeder joined b)) 2)) rest)
       (λ e. zero_one e);
@@ -114,7 +114,7 @@ windows_are = record {
   whole = refl;
   tight = two_alone (λ j. start 1 2 j < 2) (omega arith) (omega arith);
   are = one_alone (λ b. windows_of windows b ≡ windows_in (setting_in alone windows) 1 all b 1 2 2) refl;
-  legal = one_alone (λ b. (rest : List (List Cell)) × IsRun (capacity_of alone b) [] (windows_of windows b) rest)
+  legal = one_alone (λ b. (rest : List (List Cell)) × IsHistory (capacity_of alone b) [] (windows_of windows b) rest)
       (two ∷ [], (one ∷ [], Legal.empty (Legal.accepted (omega arith) Legal.ended), (two ∷ [], Legal.got (Legal.accepted (omega arith) Legal.ended), refl)));
   in_order = one_alone (λ b. feeder alone b ≡ reader alone b → (rest : List (List Cell)) × Follows (capacity_of alone b) [] (on b (joined_upto (calls_in (setting_in alone windows) 1 all (feeder alone b)) 2)) rest)
       (λ e. (two ∷ [], (refl, (omega arith, ([], refl, (omega arith, refl))))));
@@ -185,8 +185,8 @@ other = cells_of (new 5 ∷ more 5 ∷ more 5 ∷ more 5 ∷ more 5 ∷ more 5 �
 abbrev turning : List Cell → Run
 turning chunk = record { buffers = ((Some chunk ∷ [], Some chunk ∷ []) ∷ []) ∷ ((Some chunk ∷ [], Some chunk ∷ []) ∷ []) ∷ [] }
 
-once : (chunk : List Cell) → (b : ℕ) → b < 2 → (rest : List (List Cell)) × IsRun (capacity_of ring b) [] (windows_of (turning chunk) b) rest
-once chunk = two_alone (λ b. (rest : List (List Cell)) × IsRun (capacity_of ring b) [] (windows_of (turning chunk) b) rest)
+once : (chunk : List Cell) → (b : ℕ) → b < 2 → (rest : List (List Cell)) × IsHistory (capacity_of ring b) [] (windows_of (turning chunk) b) rest
+once chunk = two_alone (λ b. (rest : List (List Cell)) × IsHistory (capacity_of ring b) [] (windows_of (turning chunk) b) rest)
     ([], ([], Legal.accepted (omega arith) (Legal.got Legal.ended), refl)) ([], ([], Legal.accepted (omega arith) (Legal.got Legal.ended), refl))
 
 turns : (chunk : List Cell) → ((b : ℕ) → b < 2 → windows_of (turning chunk) b ≡ windows_in (setting_in ring (turning chunk)) 2 first_only b 1 1 1) → IsLawful ring 2 1 1 (turning chunk)
@@ -283,8 +283,8 @@ narrow = (Some one ∷ [], None ∷ []) ∷ (None ∷ [], Some one ∷ []) ∷ [
 narrow_keeps_pace : KeepPace 1 0 0 narrow
 narrow_keeps_pace = (omega arith, omega arith, 0, inl refl, (omega arith, omega arith, 0, inr (omega arith), omega arith))
 
-narrow_is_run : IsRun 1 [] narrow []
-narrow_is_run = (one ∷ [], Legal.empty (Legal.accepted (omega arith) Legal.ended), ([], Legal.full refl (Legal.got Legal.ended), refl))
+narrow_is_history : IsHistory 1 [] narrow []
+narrow_is_history = (one ∷ [], Legal.empty (Legal.accepted (omega arith) Legal.ended), ([], Legal.full refl (Legal.got Legal.ended), refl))
 
 narrow_refuses : has_none (flat_map (λ (window : Window). window.0) narrow) ≡ true
 narrow_refuses = refl

@@ -6,7 +6,7 @@ use Rattle.std.specs.List.{count_by}
 use Rattle.std.proofs.lemmas.Grind.{div_ceil_times}
 use Rattle.std.proofs.Math.Nat.{mul-div_cancel, mul-mod_left, suc-mul}
 use Rattle.frame_core.specs.declared.cell.Cell.{Cell}
-use Rattle.frame_core.specs.Legal.{IsRun}
+use Rattle.frame_core.specs.Legal.{IsHistory}
 use Rattle.frame_core.specs.Calls.{Call, puts_to, takes_of, Answer}
 use Rattle.plan_core.specs.declared.node.Node.{Node}
 use Rattle.plan_core.specs.declared.sink.SinkPlan.TheVariants.{Feed}
@@ -64,7 +64,7 @@ whole_ticks_have_room setting W buffer gathers holds frame some pre capacity fit
 
 -- windows that keep pace refuse nothing, and neither does one more of at most W puts
 then_none : (C W D : ℕ) → W + W + D ≤ C → (windows : List Window) (last : Window) (rest : List (List Cell)) → KeepPace W D D windows → length last.0 ≤ W
-    → IsRun C [] (windows ++ last ∷ []) rest → has_none (flat_map (λ (w : Window). w.0) (windows ++ last ∷ [])) ≡ false
+    → IsHistory C [] (windows ++ last ∷ []) rest → has_none (flat_map (λ (w : Window). w.0) (windows ++ last ∷ [])) ≡ false
 then_none C W D wide windows last rest pace few run =
     let parted = run_split C [] rest windows last run in
     let left = most_left C W D wide D [] parted.0 windows (omega arith) pace parted.1 in
@@ -166,7 +166,7 @@ module _ (setting : Setting) (clocks : ClockMap) (is : IsSetting setting clocks)
         let pace = windows_keep_pace D W closed (S.answers b) (new_reading S b).reader
         (record { some = is.plan.frame.0; held = held; low = low; small = small }) D (omega arith, inr (refl, held, refl)) ticks in
         subst (λ (l : List Window). has_none (flat_map (λ (w : Window). w.0) l) ≡ false) (sym windows)
-        (then_none (capacity_of setting b) W D wide closed last legal.0 pace few (subst (λ (l : List Window). IsRun (capacity_of setting b) [] l legal.0) windows legal.1)))
+        (then_none (capacity_of setting b) W D wide closed last legal.0 pace few (subst (λ (l : List Window). IsHistory (capacity_of setting b) [] l legal.0) windows legal.1)))
 
 pub heard_buffers_refuse_nothing : (setting : Setting) (clocks : ClockMap) → IsSetting setting clocks → (W N buffer m : ℕ) (above : List ℕ) (i : ℕ) (run : Run) → ReadsBuffer setting.plan buffer i
     → IsHeard setting m above i → HasRoom setting W buffer → IsLawful setting clocks.running W N run → count_by is_none (puts_of run buffer) ≡ 0

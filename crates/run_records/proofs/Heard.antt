@@ -23,10 +23,10 @@ use Rattle.op_select.specs.Selection.{first_ready, picked}
 use Rattle.stream_meaning.specs.declared.part.Part.{Part}
 use Rattle.stream_meaning.specs.Arithmetic.{Mixing, Adds, Scales, Halves, Doubles, Passes, cells_of, summed_slot, changed_slot, mix_slot}
 use Rattle.stream_meaning.specs.Operators.{Work, Plays, Picks, Mixes, Fades, Reads, Choice, Selects, Eligible, Every, work_of}
-use Rattle.stream_meaning.specs.Instants.{Setting, Moment, answered, child_at, clock_of, demanded, history, is_root, last_pick, lies_in, moment_after, offer, offering, part_at, part_by, parts_upto, picked_part, same_clock, slots_at, sub_of, uses_by, uses_from, work_at}
+use Rattle.stream_meaning.specs.Instants.{Setting, Moment, answered, child_at, clock_of, demanded, first_instants, is_root, last_pick, lies_in, moment_after, offer, offering, part_at, part_by, parts_upto, picked_part, same_clock, slots_at, sub_of, uses_by, uses_from, work_at}
 use Rattle.stream_meaning.specs.Settings.{IsSetting}
-use Rattle.segment_laws.proofs.Demanding.{used_demanded}
-use Rattle.segment_laws.proofs.Parts.{own_part, part_stays, uses_at}
+use Rattle.stretch_laws.proofs.Demanding.{used_demanded}
+use Rattle.stretch_laws.proofs.Parts.{own_part, part_stays, uses_at}
 use Rattle.stream_meaning.proofs.Existence.{clock_there}
 use Rattle.run_records.proofs.Ticking.{reads_op}
 use Rattle.run_records.specs.Buffers.{main_of, main_within, read_from}
@@ -136,7 +136,7 @@ played_by i (sink ∷ sinks) e = by (nat_eq (sink_node sink) i) refl e (λ more.
 
 module _ (setting : Setting) (clocks : ClockMap) (is : IsSetting setting clocks) (m : ℕ) where
   abbrev Past : ℕ → List Moment
-  Past n = history setting (sub_of setting) (Main m) n
+  Past n = first_instants setting (sub_of setting) (Main m) n
 
   abbrev Now : ℕ → Moment
   Now n = moment_after setting (sub_of setting) (Main m) (Past n)

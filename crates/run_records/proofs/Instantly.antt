@@ -13,7 +13,7 @@ use Rattle.op_cross.specs.Runs.{run_of, item_of}
 use Rattle.op_leaf.specs.Readers.{reader_slot}
 use Rattle.stream_meaning.specs.declared.part.Part.{Part}
 use Rattle.stream_meaning.specs.Operators.{Work, Plays, Picks, Mixes, Fades, Reads}
-use Rattle.stream_meaning.specs.Instants.{Setting, Moment, Reading, IsMeaning, answered, clock_of, lies_in, work_at, position, gives, unpicked, slots_at, part_by, part_in, parts_upto, moment_of, moment_after, history, slots_of, crossfaded, read_on, reading_after}
+use Rattle.stream_meaning.specs.Instants.{Setting, Moment, Reading, IsMeaning, answered, clock_of, lies_in, work_at, position, gives, unpicked, slots_at, part_by, part_in, parts_upto, moment_of, moment_after, first_instants, slots_of, crossfaded, read_on, reading_after}
 use Rattle.stream_meaning.specs.Calls.{joined_upto, joined_between, takes_at, ran_by, fades_by, fades_in, calls_at}
 use Rattle.stream_meaning.proofs.Ranks.{AreNested, deeper, rank_below}
 use Rattle.stream_meaning.proofs.Existence.{same_clock-true}
@@ -49,15 +49,15 @@ module _ (base : Setting) (one other : ℕ → List Answer) (sub subs : ℕ → 
     ran = λ m low k overlap at. ran (λ k. alike_first depth (Sub k)) m low k overlap;
   }
     where
-      past : (m : ℕ) → m ≤ 0 → history (answered base one) sub clock m ≡ history (answered base other) subs clock m
+      past : (m : ℕ) → m ≤ 0 → first_instants (answered base one) sub clock m ≡ first_instants (answered base other) subs clock m
       past zero low = refl
       past (suc m) low = absurd (omega (arith, low))
 
-      readings : (m : ℕ) → m ≤ 0 → (i buffer : ℕ) → reading_after (answered base one) i buffer (history (answered base one) sub clock m) ≡ reading_after (answered base other) i buffer (history (answered base one) sub clock m)
+      readings : (m : ℕ) → m ≤ 0 → (i buffer : ℕ) → reading_after (answered base one) i buffer (first_instants (answered base one) sub clock m) ≡ reading_after (answered base other) i buffer (first_instants (answered base one) sub clock m)
       readings zero low i buffer = refl
       readings (suc m) low i buffer = absurd (omega (arith, low))
 
-      ran : ((k : ℕ) → AreAlike base one other sub subs depth (Sub k) 0) → (m : ℕ) → m ≤ 0 → (k overlap : ℕ) → AreAlike base one other sub subs depth (Sub k) (ran_by sub k overlap (history (answered base one) sub clock m))
+      ran : ((k : ℕ) → AreAlike base one other sub subs depth (Sub k) 0) → (m : ℕ) → m ≤ 0 → (k overlap : ℕ) → AreAlike base one other sub subs depth (Sub k) (ran_by sub k overlap (first_instants (answered base one) sub clock m))
       ran first zero low k overlap = first k
       ran first (suc m) low k overlap = absurd (omega (arith, low))
 
@@ -104,17 +104,17 @@ module _ (base : Setting) (one other : ℕ → List Answer) (sub subs : ℕ → 
     -- a crossfade's sub-clock runs on, where each of its instants goes as `step` tells
     module _ (depth k : ℕ) (there : k < length base.plan.nodes) (enough : length base.plan.nodes < depth + suc (rank k)) (overlap : ℕ)
         (step : (n : ℕ) → AreAlike base one other sub subs depth (Sub k) n
-        → Goes (length base.plan.buffers) (calls_at (answered base one) sub depth (Sub k) (history (answered base one) sub (Sub k) n))
-        (calls_at (answered base other) subs depth (Sub k) (history (answered base other) subs (Sub k) n)) (AreAlike base one other sub subs depth (Sub k) (suc n))) where
+        → Goes (length base.plan.buffers) (calls_at (answered base one) sub depth (Sub k) (first_instants (answered base one) sub (Sub k) n))
+        (calls_at (answered base other) subs depth (Sub k) (first_instants (answered base other) subs (Sub k) n)) (AreAlike base one other sub subs depth (Sub k) (suc n))) where
       ran_same : (past : List Moment) → AreAlike base one other sub subs depth (Sub k) (ran_by sub k overlap past) → ran_by sub k overlap past ≡ ran_by subs k overlap past
       ran_same [] is = refl
       ran_same (moment ∷ past) is = run_same overlap (sub k) (subs k) (position past k) (slots_same depth k (run_of overlap (sub k) (position past k)) there enough is)
 
       abbrev of_one : ℕ → List Call
-      of_one n = calls_at (answered base one) sub depth (Sub k) (history (answered base one) sub (Sub k) n)
+      of_one n = calls_at (answered base one) sub depth (Sub k) (first_instants (answered base one) sub (Sub k) n)
 
       abbrev of_other : ℕ → List Call
-      of_other n = calls_at (answered base other) subs depth (Sub k) (history (answered base other) subs (Sub k) n)
+      of_other n = calls_at (answered base other) subs depth (Sub k) (first_instants (answered base other) subs (Sub k) n)
 
       between : (p from : ℕ) → AreAlike base one other sub subs depth (Sub k) from
           → Goes (length base.plan.buffers) (joined_between of_one from (run_of overlap (sub k) p)) (joined_between of_other from (run_of overlap (subs k) p))
@@ -137,21 +137,21 @@ module _ (base : Setting) (one other : ℕ → List Answer) (sub subs : ℕ → 
     -- an instant of a clock, where those of its sub-clocks go
     module _ (depth : ℕ) (clock : NodeClock) (s : ℕ) (has : HasRank base rank clock s) (enough : length base.plan.nodes < suc depth + s)
         (step : (k : ℕ) → k < length base.plan.nodes → length base.plan.nodes < depth + suc (rank k) → (n : ℕ) → AreAlike base one other sub subs depth (Sub k) n
-        → Goes (length base.plan.buffers) (calls_at (answered base one) sub depth (Sub k) (history (answered base one) sub (Sub k) n))
-        (calls_at (answered base other) subs depth (Sub k) (history (answered base other) subs (Sub k) n)) (AreAlike base one other sub subs depth (Sub k) (suc n)))
+        → Goes (length base.plan.buffers) (calls_at (answered base one) sub depth (Sub k) (first_instants (answered base one) sub (Sub k) n))
+        (calls_at (answered base other) subs depth (Sub k) (first_instants (answered base other) subs (Sub k) n)) (AreAlike base one other sub subs depth (Sub k) (suc n)))
         (n : ℕ) (is : AreAlike base one other sub subs (suc depth) clock n) where
       abbrev before : List Moment
-      before = history (answered base one) sub clock n
+      before = first_instants (answered base one) sub clock n
 
       -- the sub-clock of crossfade k has run on
       abbrev RunsOn : ℕ → Type 0
       RunsOn k = (overlap : ℕ) → IsAt base clock k (Fades overlap) → AreAlike base one other sub subs depth (Sub k) (run_of overlap (sub k) (position before k))
 
       abbrev below_one : ℕ → ℕ → List Call
-      below_one k m = calls_at (answered base one) sub depth (Sub k) (history (answered base one) sub (Sub k) m)
+      below_one k m = calls_at (answered base one) sub depth (Sub k) (first_instants (answered base one) sub (Sub k) m)
 
       abbrev below_other : ℕ → ℕ → List Call
-      below_other k m = calls_at (answered base other) subs depth (Sub k) (history (answered base other) subs (Sub k) m)
+      below_other k m = calls_at (answered base other) subs depth (Sub k) (first_instants (answered base other) subs (Sub k) m)
 
       deep : (k : ℕ) → k < length base.plan.nodes → lies_in base clock k ≡ true → length base.plan.nodes < depth + suc (rank k)
       deep k there inside = let same = has.each k there (same_clock-true (clock_of base k) clock inside) in omega (arith, same, enough)
@@ -204,31 +204,31 @@ module _ (base : Setting) (one other : ℕ → List Answer) (sub subs : ℕ → 
       alike_next reads runs = record {
         past = λ m low. (elim (cases_lt m (suc n)) [
           | inl under ↦ is.past m (omega (arith, under))
-          | inr over ↦ (let e : suc n ≡ m = omega (arith, over, low) in subst (λ (m : ℕ). history (answered base one) sub clock m ≡ history (answered base other) subs clock m) e past_next)
+          | inr over ↦ (let e : suc n ≡ m = omega (arith, over, low) in subst (λ (m : ℕ). first_instants (answered base one) sub clock m ≡ first_instants (answered base other) subs clock m) e past_next)
         ]);
         readings = λ m low i buffer at. (elim (cases_lt m (suc n)) [
           | inl under ↦ is.readings m (omega (arith, under)) i buffer at
           | inr over ↦ (let e : suc n ≡ m = omega (arith, over, low) in
-              subst (λ (m : ℕ). reading_after (answered base one) i buffer (history (answered base one) sub clock m) ≡ reading_after (answered base other) i buffer (history (answered base one) sub clock m)) e
+              subst (λ (m : ℕ). reading_after (answered base one) i buffer (first_instants (answered base one) sub clock m) ≡ reading_after (answered base other) i buffer (first_instants (answered base one) sub clock m)) e
               (ap (read_on (gives (moment_after (answered base one) sub clock before) i)) (reads i buffer at)))
         ]);
         ran = λ m low k overlap at. (elim (cases_lt m (suc n)) [
           | inl under ↦ is.ran m (omega (arith, under)) k overlap at
           | inr over ↦ (let e : suc n ≡ m = omega (arith, over, low) in
-              subst (λ (m : ℕ). AreAlike base one other sub subs depth (Sub k) (ran_by sub k overlap (history (answered base one) sub clock m))) e
+              subst (λ (m : ℕ). AreAlike base one other sub subs depth (Sub k) (ran_by sub k overlap (first_instants (answered base one) sub clock m))) e
               (runs k (slice_get_within base.plan.nodes k at.node at.found) overlap at))
         ]);
       }
         where
-          past_next : history (answered base one) sub clock (suc n) ≡ history (answered base other) subs clock (suc n)
+          past_next : first_instants (answered base one) sub clock (suc n) ≡ first_instants (answered base other) subs clock (suc n)
           past_next =
               ap (λ (moment : Moment). moment ∷ before) (moment_same clock before reads (λ k overlap at.
               let there : k < length base.plan.nodes = slice_get_within base.plan.nodes k at.node at.found in
               item_same overlap (sub k) (subs k) (position before k) (slots_same depth k (run_of overlap (sub k) (position before k)) there (deep k there at.inside) (runs k there overlap at))))
               ∙ ap (λ (past : List Moment). moment_after (answered base other) subs clock past ∷ past) (is.past n (omega arith))
 
-      instant_goes : Goes (length base.plan.buffers) (calls_at (answered base one) sub (suc depth) clock (history (answered base one) sub clock n))
-          (calls_at (answered base other) subs (suc depth) clock (history (answered base other) subs clock n)) (AreAlike base one other sub subs (suc depth) clock (suc n))
+      instant_goes : Goes (length base.plan.buffers) (calls_at (answered base one) sub (suc depth) clock (first_instants (answered base one) sub clock n))
+          (calls_at (answered base other) subs (suc depth) clock (first_instants (answered base other) subs clock n)) (AreAlike base one other sub subs (suc depth) clock (suc n))
       instant_goes =
           subst (λ (past : List Moment). Goes (length base.plan.buffers) (calls_at (answered base one) sub (suc depth) clock before)
           (calls_at (answered base other) subs (suc depth) clock past) (AreAlike base one other sub subs (suc depth) clock (suc n))) (is.past n (omega arith))
@@ -242,8 +242,8 @@ module _ (base : Setting) (one other : ℕ → List Answer) (sub subs : ℕ → 
 
     -- an instant of a clock of this rank
     pub instant : (depth : ℕ) (clock : NodeClock) (s : ℕ) → HasRank base rank clock s → length base.plan.nodes < depth + s → (n : ℕ) → AreAlike base one other sub subs depth clock n
-        → Goes (length base.plan.buffers) (calls_at (answered base one) sub depth clock (history (answered base one) sub clock n))
-        (calls_at (answered base other) subs depth clock (history (answered base other) subs clock n)) (AreAlike base one other sub subs depth clock (suc n))
+        → Goes (length base.plan.buffers) (calls_at (answered base one) sub depth clock (first_instants (answered base one) sub clock n))
+        (calls_at (answered base other) subs depth clock (first_instants (answered base other) subs clock n)) (AreAlike base one other sub subs depth clock (suc n))
     instant zero clock s has enough n is = let low = has.low in absurd (omega (arith, low, enough))
     instant (suc depth) clock s has enough n is =
         instant_goes depth clock s has enough (λ k there deep m alike. instant depth (Sub k) (suc (rank k)) (sub_ranked k there) deep m alike) n is

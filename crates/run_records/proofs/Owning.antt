@@ -19,7 +19,7 @@ use Rattle.frame_core.specs.Calls.{Call, Took, Given, Answer}
 use Rattle.op_cross.specs.Runs.{run_of}
 use Rattle.op_leaf.specs.Readers.{takes_of}
 use Rattle.stream_meaning.specs.Operators.{Work, Plays, Picks, Mixes, Fades, Reads}
-use Rattle.stream_meaning.specs.Instants.{Setting, Moment, answered, clock_of, lies_in, work_at, position, next_answers, history, reading_after, sub_of}
+use Rattle.stream_meaning.specs.Instants.{Setting, Moment, answered, clock_of, lies_in, work_at, position, next_answers, first_instants, reading_after, sub_of}
 use Rattle.stream_meaning.specs.Sinks.{feed_cells}
 use Rattle.stream_meaning.specs.Calls.{joined_upto, takes_by, takes_in, takes_at, ran_by, fades_by, fades_in, calls_at, calls_of, given, give_by, calls_of_tick}
 use Rattle.stream_meaning.specs.Settings.{IsSetting}
@@ -175,16 +175,16 @@ module _ (base : Setting) (clocks : ClockMap) (is : IsSetting base clocks) (rank
     own_instant zero clock s has main past = All-nil (IsOwn base m)
     own_instant (suc depth) clock s has main past =
         All-append (IsOwn base m) (takes_at (answered base answers) clock past)
-        (joined_upto (λ k. fades_in (answered base answers) sub (λ j n. calls_at (answered base answers) sub depth (Sub j) (history (answered base answers) sub (Sub j) n)) (lies_in base clock k) past k (slice_get base.plan.nodes k)) (length base.plan.nodes))
+        (joined_upto (λ k. fades_in (answered base answers) sub (λ j n. calls_at (answered base answers) sub depth (Sub j) (first_instants (answered base answers) sub (Sub j) n)) (lies_in base clock k) past k (slice_get base.plan.nodes k)) (length base.plan.nodes))
         (own_takes clock past (reader_is clock s has main))
-        (all_joined (IsOwn base m) (λ k. fades_in (answered base answers) sub (λ j n. calls_at (answered base answers) sub depth (Sub j) (history (answered base answers) sub (Sub j) n)) (lies_in base clock k) past k (slice_get base.plan.nodes k)) (length base.plan.nodes)
-        (λ k. own_fades (λ j n. calls_at (answered base answers) sub depth (Sub j) (history (answered base answers) sub (Sub j) n)) clock past k
+        (all_joined (IsOwn base m) (λ k. fades_in (answered base answers) sub (λ j n. calls_at (answered base answers) sub depth (Sub j) (first_instants (answered base answers) sub (Sub j) n)) (lies_in base clock k) past k (slice_get base.plan.nodes k)) (length base.plan.nodes)
+        (λ k. own_fades (λ j n. calls_at (answered base answers) sub depth (Sub j) (first_instants (answered base answers) sub (Sub j) n)) clock past k
         (λ there of n. own_instant depth (Sub k) (suc (rank k))
         (record {
           low = (let low = rank_below clocks (clock_of base) (length base.plan.nodes) rank deepest nested k there in omega (arith, low));
           each = λ i inside e. deeper clocks (clock_of base) (length base.plan.nodes) rank deepest nested i k inside e;
         })
-        ((λ j. main_within base (has.each k there of j) (of j)) ∙ main) (history (answered base answers) sub (Sub k) n))
+        ((λ j. main_within base (has.each k there of j) (of j)) ∙ main) (first_instants (answered base answers) sub (Sub k) n))
         (lies_in base clock k) refl (slice_get base.plan.nodes k) refl))
 
 module _ (base : Setting) (clocks : ClockMap) (is : IsSetting base clocks) (answers : ℕ → List Answer) (accepted : ℕ → Bool) (m t : ℕ) where
@@ -212,8 +212,8 @@ module _ (base : Setting) (clocks : ClockMap) (is : IsSetting base clocks) (answ
       let nested : AreNested clocks (clock_of base) (length base.plan.nodes) found.0 found.1 = are_nested base clocks is found.0 found.1 found.2 in
       let has : HasRank base found.0 (Main m) 0 = record { low = omega arith; each = λ i there at. nested.ranks.main i m (nested.there i there ∙ ap (λ (c : NodeClock). Some c) at) } in
       All-append (IsOwn base m)
-      (joined_upto (λ j. calls_of (answered base answers) (sub_of (answered base answers)) (Main m) (history (answered base answers) (sub_of (answered base answers)) (Main m) (t * base.plan.frame + j))) base.plan.frame)
+      (joined_upto (λ j. calls_of (answered base answers) (sub_of (answered base answers)) (Main m) (first_instants (answered base answers) (sub_of (answered base answers)) (Main m) (t * base.plan.frame + j))) base.plan.frame)
       (flat_map (give_by (answered base answers) accepted m t) base.plan.sinks)
-      (all_joined (IsOwn base m) (λ j. calls_of (answered base answers) (sub_of (answered base answers)) (Main m) (history (answered base answers) (sub_of (answered base answers)) (Main m) (t * base.plan.frame + j))) base.plan.frame
-      (λ j. own_instant base clocks is found.0 found.1 nested answers (sub_of (answered base answers)) m (suc (length base.plan.nodes)) (Main m) 0 has refl (history (answered base answers) (sub_of (answered base answers)) (Main m) (t * base.plan.frame + j))))
+      (all_joined (IsOwn base m) (λ j. calls_of (answered base answers) (sub_of (answered base answers)) (Main m) (first_instants (answered base answers) (sub_of (answered base answers)) (Main m) (t * base.plan.frame + j))) base.plan.frame
+      (λ j. own_instant base clocks is found.0 found.1 nested answers (sub_of (answered base answers)) m (suc (length base.plan.nodes)) (Main m) 0 has refl (first_instants (answered base answers) (sub_of (answered base answers)) (Main m) (t * base.plan.frame + j))))
       (all_flat (IsOwn base m) (give_by (answered base answers) accepted m t) base.plan.sinks own_give)

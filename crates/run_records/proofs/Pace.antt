@@ -1,7 +1,7 @@
 -- A buffer with room for two windows and what its reader may owe refuses no put.
 use Rattle.std.proofs.Common.{◌≡◌, ◌≤◌, ◌⊎◌, ◌+◌, ℕ, Bool, true, false, Option, Some, None, List, [], ◌∷◌, ◌++◌, length, flat_map, inl, inr, refl, ap, sym, arith, length-append, true≢false}
 use Rattle.frame_core.specs.declared.cell.Cell.{Cell}
-use Rattle.frame_core.specs.Legal.{Legal, IsRun}
+use Rattle.frame_core.specs.Legal.{Legal, IsHistory}
 use Rattle.frame_core.specs.Legal.Legal.{ended, accepted, full, got, empty}
 use Rattle.run_records.specs.Records.{Window}
 use Rattle.run_records.specs.Pace.{has_none, KeepPace}
@@ -62,7 +62,7 @@ module _ (C W D : ℕ) (wide : W + W + D ≤ C) where
   owed_most owed (window ∷ windows) pace = pace.1
 
   pub none_refused : (owed : ℕ) (q rest : List (List Cell)) (windows : List Window) → length q + owed ≤ W + D → KeepPace W D owed windows
-      → IsRun C q windows rest → has_none (flat_map (λ (window : Window). window.0) windows) ≡ false
+      → IsHistory C q windows rest → has_none (flat_map (λ (window : Window). window.0) windows) ≡ false
   none_refused owed q rest [] h pace run = refl
   none_refused owed q rest (window ∷ windows) h pace run =
       has_none-append window.0 (flat_map (λ (w : Window). w.0) windows)
@@ -70,12 +70,12 @@ module _ (C W D : ℕ) (wide : W + W + D ≤ C) where
       (none_refused pace.2 run.0 rest windows (next window.0 window.1 owed pace.2 h pace.0 (owed_most pace.2 windows pace.4) pace.3 run.1) pace.4 run.2)
 
   -- behind windows that keep pace no more than W + D chunks are left
-  pub most_left : (owed : ℕ) (q rest : List (List Cell)) (windows : List Window) → length q + owed ≤ W + D → KeepPace W D owed windows → IsRun C q windows rest → length rest ≤ W + D
+  pub most_left : (owed : ℕ) (q rest : List (List Cell)) (windows : List Window) → length q + owed ≤ W + D → KeepPace W D owed windows → IsHistory C q windows rest → length rest ≤ W + D
   most_left owed q rest [] h pace run = let same = ap (λ (l : List (List Cell)). length l) run in omega (arith, h, same)
   most_left owed q rest (window ∷ windows) h pace run =
       most_left pace.2 run.0 rest windows (next window.0 window.1 owed pace.2 h pace.0 (owed_most pace.2 windows pace.4) pace.3 run.1) pace.4 run.2
 
 -- windows that keep pace, from an empty buffer
-pub paced_windows_refuse_nothing : (capacity W D : ℕ) (windows : List Window) (rest : List (List Cell)) → W + W + D ≤ capacity → KeepPace W D D windows → IsRun capacity [] windows rest
+pub paced_windows_refuse_nothing : (capacity W D : ℕ) (windows : List Window) (rest : List (List Cell)) → W + W + D ≤ capacity → KeepPace W D D windows → IsHistory capacity [] windows rest
     → has_none (flat_map (λ (window : Window). window.0) windows) ≡ false
 paced_windows_refuse_nothing capacity W D windows rest wide pace run = none_refused capacity W D wide D [] rest windows (omega arith) pace run

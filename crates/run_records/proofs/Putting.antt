@@ -12,7 +12,7 @@ use Rattle.clock_infer.specs.declared.clock_map.NodeClock.TheVariants.{Main, Sub
 use Rattle.op_leaf.specs.Readers.{takes_of}
 use Rattle.op_cross.specs.Runs.{run_of}
 use Rattle.stream_meaning.specs.Operators.{Work, Plays, Picks, Mixes, Fades, Reads}
-use Rattle.stream_meaning.specs.Instants.{Setting, Moment, lies_in, next_answers, reading_after, work_at, history, position, sub_of}
+use Rattle.stream_meaning.specs.Instants.{Setting, Moment, lies_in, next_answers, reading_after, work_at, first_instants, position, sub_of}
 use Rattle.stream_meaning.specs.Calls.{joined_upto, joined_between, takes_by, takes_in, takes_at, fades_by, fades_in, ran_by, calls_at, calls_of, given, give_by, calls_of_tick, takes_of_tick, gives_of_tick}
 use Rattle.stream_meaning.specs.Sinks.{feed_cells}
 use Rattle.run_records.specs.Records.{calls_in, ticks_of}
@@ -69,11 +69,11 @@ module _ (b : ℕ) where
     pub none_called : (depth : ℕ) (clock : NodeClock) (past : List Moment) → puts_to b (calls_at setting sub depth clock past) ≡ []
     none_called zero clock past = refl
     none_called (suc depth) clock past =
-        let below : ℕ → ℕ → List Call = λ j m. calls_at setting sub depth (Sub j) (history setting sub (Sub j) m) in
+        let below : ℕ → ℕ → List Call = λ j m. calls_at setting sub depth (Sub j) (first_instants setting sub (Sub j) m) in
         let fades : ℕ → List Call = λ k. fades_in setting sub below (lies_in setting clock k) past k (slice_get setting.plan.nodes k) in
         puts-append b (takes_at setting clock past) (joined_upto fades (length setting.plan.nodes))
         ∙ (λ i. none_at clock past i ++ none_joined fades (length setting.plan.nodes)
-        (λ k. none_fades below (λ j m. none_called depth (Sub j) (history setting sub (Sub j) m)) (lies_in setting clock k) past k (slice_get setting.plan.nodes k)) i)
+        (λ k. none_fades below (λ j m. none_called depth (Sub j) (first_instants setting sub (Sub j) m)) (lies_in setting clock k) past k (slice_get setting.plan.nodes k)) i)
 
   -- the puts of the sinks
   module _ (setting : Setting) (accepted : ℕ → Bool) (m t : ℕ) where
@@ -142,9 +142,9 @@ module _ (b : ℕ) where
       → length (puts_to b (calls_of_tick setting accepted m t)) ≤ 1
   one_put setting accepted m t one =
       let sub = sub_of setting in
-      let takes : ℕ → List Call = λ j. calls_of setting sub (Main m) (history setting sub (Main m) (t * setting.plan.frame + j)) in
+      let takes : ℕ → List Call = λ j. calls_of setting sub (Main m) (first_instants setting sub (Main m) (t * setting.plan.frame + j)) in
       let none : puts_to b (takes_of_tick setting m t) ≡ [] =
-      none_joined takes setting.plan.frame (λ j. none_called setting sub (suc (length setting.plan.nodes)) (Main m) (history setting sub (Main m) (t * setting.plan.frame + j))) in
+      none_joined takes setting.plan.frame (λ j. none_called setting sub (suc (length setting.plan.nodes)) (Main m) (first_instants setting sub (Main m) (t * setting.plan.frame + j))) in
       let split = puts-append b (takes_of_tick setting m t) (gives_of_tick setting accepted m t) in
       let long = length-append (puts_to b (takes_of_tick setting m t)) (puts_to b (gives_of_tick setting accepted m t)) in
       omega (arith, ap (λ (l : List Answer). length l) split, long, ap (λ (l : List Answer). length l) none, one_gives setting accepted m t setting.plan.sinks one)

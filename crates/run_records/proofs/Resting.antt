@@ -5,7 +5,7 @@ use Rattle.std.specs.Prelude.{All, ⊤}
 use Rattle.std.proofs.lemmas.List.Elements.{All-head, All-tail}
 use Rattle.clock_infer.specs.declared.clock_map.ClockMap.{ClockMap}
 use Rattle.frame_core.specs.declared.cell.Cell.{Cell}
-use Rattle.frame_core.specs.Legal.{Legal, IsRun}
+use Rattle.frame_core.specs.Legal.{Legal, IsHistory}
 use Rattle.frame_core.specs.Calls.{Call, Took, Given, takes_of, puts_to, put_of, Answer}
 use Rattle.stream_meaning.specs.Instants.{Setting, answered}
 use Rattle.stream_meaning.specs.Calls.{joined_upto, joined_between}
@@ -57,8 +57,8 @@ follows_then C (Given b chunk true ∷ xs) ys q m r f g = (f.0, follows_then C x
 follows_then C (Given b chunk false ∷ xs) ys q m r f g = (f.0, follows_then C xs ys q m r f.1 g)
 
 -- a run, and its last window
-pub run_split : (C : ℕ) (q r : List (List Cell)) (windows : List Window) (last : Window) → IsRun C q (windows ++ last ∷ []) r
-    → (m : List (List Cell)) × IsRun C q windows m × Legal C r m last.0 last.1
+pub run_split : (C : ℕ) (q r : List (List Cell)) (windows : List Window) (last : Window) → IsHistory C q (windows ++ last ∷ []) r
+    → (m : List (List Cell)) × IsHistory C q windows m × Legal C r m last.0 last.1
 run_split C q r [] last run = (q, refl, subst (λ (l : List (List Cell)). Legal C l q last.0 last.1) run.2 run.1)
 run_split C q r (w ∷ windows) last run = (let s = run_split C run.0 r windows last run.2 in (s.0, (run.0, run.1, s.1), s.2))
 
@@ -91,7 +91,7 @@ module _ (setting : Setting) (map : ClockMap) (is : IsSetting setting map) (answ
   reader_takes_none i = ap (takes_of b) (rests_in world clocks accepted (reader setting b) i rests)
 
   -- its windows in one order
-  pub windows_follow : (W N j : ℕ) (C : ℕ) (r : List (List Cell)) → IsRun C [] (windows_in world clocks accepted b W N j) r → Follows C [] (on b (joined_upto fed (start W N j))) r
+  pub windows_follow : (W N j : ℕ) (C : ℕ) (r : List (List Cell)) → IsHistory C [] (windows_in world clocks accepted b W N j) r → Follows C [] (on b (joined_upto fed (start W N j))) r
   windows_follow W N zero C r run = subst (λ (n : ℕ). Follows C [] (on b (joined_upto fed n)) r) (sym (start_zero W N)) run
   windows_follow W N (suc j) C r run =
       let from = start W N j in let to = start W N (suc j) in

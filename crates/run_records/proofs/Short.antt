@@ -4,14 +4,14 @@ use Rattle.std.specs.List.{range_with_len}
 use Rattle.std.proofs.lemmas.List.FromFn.{length-range_with_len}
 use Rattle.frame_core.specs.declared.cell.Cell.{Cell}
 use Rattle.frame_core.specs.Slots.{Slot}
-use Rattle.frame_core.specs.Legal.{Legal, IsRun}
+use Rattle.frame_core.specs.Legal.{Legal, IsHistory}
 use Rattle.frame_core.specs.Legal.Legal.{ended, accepted, full, got, empty}
 use Rattle.frame_core.specs.Calls.{Call, puts_to, put_of, Answer}
 use Rattle.plan_core.specs.declared.sink.SinkPlan.{SinkPlan}
 use Rattle.plan_core.specs.declared.sink.SinkPlan.TheVariants.{Output, Feed}
 use Rattle.clock_infer.specs.declared.clock_map.NodeClock.TheVariants.{Main}
 use Rattle.stream_meaning.specs.Arithmetic.{cells_of}
-use Rattle.stream_meaning.specs.Instants.{Setting, lies_in, history, sub_of, stream_of}
+use Rattle.stream_meaning.specs.Instants.{Setting, lies_in, first_instants, sub_of, stream_of}
 use Rattle.stream_meaning.specs.Calls.{joined_upto, calls_of, given, give_by, calls_of_tick, takes_of_tick, gives_of_tick}
 use Rattle.stream_meaning.specs.Sinks.{feed_cells, tick_slots}
 use Rattle.run_records.specs.Records.{Window, calls_in, ticks_of}
@@ -51,7 +51,7 @@ module _ (frame : ℕ) where
   got_small all puts (got rest) = let more = got_small all.1 puts rest in ((all.0, more.0), more.1)
   got_small all puts (empty rest) = got_small all puts rest
 
-  pub run_small : (C : ℕ) (q rest : List (List Cell)) (windows : List Window) → AreShort frame q → AreSmall frame (flat_map (λ (w : Window). w.0) windows) → IsRun C q windows rest
+  pub run_small : (C : ℕ) (q rest : List (List Cell)) (windows : List Window) → AreShort frame q → AreSmall frame (flat_map (λ (w : Window). w.0) windows) → IsHistory C q windows rest
       → AreSmall frame (flat_map (λ (w : Window). w.1) windows)
   run_small C q rest [] all puts run = tt
   run_small C q rest (window ∷ windows) all puts run =
@@ -59,7 +59,7 @@ module _ (frame : ℕ) where
       small_append window.1 (flat_map (λ (w : Window). w.1) windows) now.0
       (run_small C run.0 rest windows now.1 (small_right window.0 (flat_map (λ (w : Window). w.0) windows) puts) run.2)
 
-  pub from_empty : (C : ℕ) (rest : List (List Cell)) (windows : List Window) → AreSmall frame (flat_map (λ (w : Window). w.0) windows) → IsRun C [] windows rest
+  pub from_empty : (C : ℕ) (rest : List (List Cell)) (windows : List Window) → AreSmall frame (flat_map (λ (w : Window). w.0) windows) → IsHistory C [] windows rest
       → AreSmall frame (flat_map (λ (w : Window). w.1) windows)
   from_empty C rest windows puts run = run_small C [] rest windows tt puts run
 
@@ -107,9 +107,9 @@ module _ (setting : Setting) (b : ℕ) where
   tick_small : (agreed : ℕ → Bool) (m t : ℕ) → AreSmall setting.plan.frame (puts_to b (calls_of_tick setting agreed m t))
   tick_small agreed m t =
       let sub = sub_of setting in
-      let takes : ℕ → List Call = λ j. calls_of setting sub (Main m) (history setting sub (Main m) (t * setting.plan.frame + j)) in
+      let takes : ℕ → List Call = λ j. calls_of setting sub (Main m) (first_instants setting sub (Main m) (t * setting.plan.frame + j)) in
       let none : puts_to b (takes_of_tick setting m t) ≡ [] =
-      none_joined b takes setting.plan.frame (λ j. none_called b setting sub (suc (length setting.plan.nodes)) (Main m) (history setting sub (Main m) (t * setting.plan.frame + j))) in
+      none_joined b takes setting.plan.frame (λ j. none_called b setting sub (suc (length setting.plan.nodes)) (Main m) (first_instants setting sub (Main m) (t * setting.plan.frame + j))) in
       subst (AreSmall setting.plan.frame) (sym (puts-append b (takes_of_tick setting m t) (gives_of_tick setting agreed m t)
       ∙ ap (λ (l : List Answer). l ++ puts_to b (gives_of_tick setting agreed m t)) none)) (gives_small agreed m t setting.plan.sinks)
 

@@ -7,7 +7,7 @@ use Rattle.plan_core.specs.declared.node.Node.{Node}
 use Rattle.clock_infer.specs.declared.clock_map.NodeClock.TheVariants.{Main}
 use Rattle.stream_meaning.specs.declared.part.Part.{Part}
 use Rattle.stream_meaning.specs.Operators.{Reads}
-use Rattle.stream_meaning.specs.Instants.{Setting, clock_of, demanded, demands_from, history, is_root, is_used, lies_in, moment_after, parts_upto, same_clock, sub_of, uses_from, work_at}
+use Rattle.stream_meaning.specs.Instants.{Setting, clock_of, demanded, demands_from, first_instants, is_root, is_used, lies_in, moment_after, parts_upto, same_clock, sub_of, uses_from, work_at}
 use Rattle.run_records.specs.Buffers.{reader}
 use Rattle.run_records.specs.Pace.{IsDrawn}
 
@@ -30,11 +30,11 @@ uses_long setting parts i (node ∷ nodes) = ap suc (uses_long setting parts (su
 
 -- the node of a sink of a main clock is demanded at each instant
 pub root_is_demanded : (setting : Setting) (m i : ℕ) → i < length setting.plan.nodes → clock_of setting i ≡ Main m → is_root setting (Main m) i ≡ true
-    → (n : ℕ) → demanded (moment_after setting (sub_of setting) (Main m) (history setting (sub_of setting) (Main m) n)) i ≡ true
+    → (n : ℕ) → demanded (moment_after setting (sub_of setting) (Main m) (first_instants setting (sub_of setting) (Main m) n)) i ≡ true
 root_is_demanded setting m i low lies root n =
     let same : nat_eq m m ≡ true = grind (arith, nat_tests) in
     let inside : lies_in setting (Main m) i ≡ true = ap (λ clock. same_clock clock (Main m)) lies ∙ same in
-    let parts = parts_upto setting (sub_of setting) (Main m) (history setting (sub_of setting) (Main m) n) (length setting.plan.nodes) in
+    let parts = parts_upto setting (sub_of setting) (Main m) (first_instants setting (sub_of setting) (Main m) n) (length setting.plan.nodes) in
     let long = uses_long setting parts 0 setting.plan.nodes in
     let none : 0 + i ≡ i = omega arith in
     root_demanded (λ k. lies_in setting (Main m) k && is_root setting (Main m) k) 0 (uses_from setting parts 0 setting.plan.nodes) i (omega (arith, low, long))

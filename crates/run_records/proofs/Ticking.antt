@@ -15,7 +15,7 @@ use Rattle.frame_core.specs.declared.cell.Cell.{Cell}
 use Rattle.frame_core.specs.Calls.{Call, Given, Answer}
 use Rattle.stream_meaning.specs.Operators.{Reads, work_of}
 use Rattle.stream_meaning.specs.Arithmetic.{cells_of}
-use Rattle.stream_meaning.specs.Instants.{Setting, Moment, answered, clock_of, lies_in, offer, moment_after, history, sub_of, stream_of}
+use Rattle.stream_meaning.specs.Instants.{Setting, Moment, answered, clock_of, lies_in, offer, moment_after, first_instants, sub_of, stream_of}
 use Rattle.stream_meaning.specs.Sinks.{slot_block, kind_of, tick_slots, ticks_bytes, feed_cells, gaps, missing}
 use Rattle.stream_meaning.specs.Calls.{joined_upto, calls_of, given, give_by, gives_of_tick, takes_of_tick, calls_of_tick}
 use Rattle.stream_meaning.specs.Settings.{IsSetting}
@@ -94,10 +94,10 @@ module _ (base : Setting) (clocks : ClockMap) (is : IsSetting base clocks) where
     stream_same : (m n k i : ℕ) → AreAlike base one other (sub_of (answered base one)) (sub_of (answered base other)) (suc (length base.plan.nodes)) (Main m) n → k < n → clock_of base i ≡ Main m
         → stream_of (answered base one) i k ≡ stream_of (answered base other) i k
     stream_same m n k i alike low at =
-        let histories : history (answered base one) (sub_of (answered base one)) (Main m) (suc k) ≡ history (answered base other) (sub_of (answered base other)) (Main m) (suc k) = alike.past (suc k) low in
+        let histories : first_instants (answered base one) (sub_of (answered base one)) (Main m) (suc k) ≡ first_instants (answered base other) (sub_of (answered base other)) (Main m) (suc k) = alike.past (suc k) low in
         let any : Moment = record { parts = []; demands = [] } in
-        subst (λ (clock : NodeClock). offer (moment_after (answered base one) (sub_of (answered base one)) clock (history (answered base one) (sub_of (answered base one)) clock k)) i
-        ≡ offer (moment_after (answered base other) (sub_of (answered base other)) clock (history (answered base other) (sub_of (answered base other)) clock k)) i) (sym at)
+        subst (λ (clock : NodeClock). offer (moment_after (answered base one) (sub_of (answered base one)) clock (first_instants (answered base one) (sub_of (answered base one)) clock k)) i
+        ≡ offer (moment_after (answered base other) (sub_of (answered base other)) clock (first_instants (answered base other) (sub_of (answered base other)) clock k)) i) (sym at)
         (ap (λ (l : List Moment). offer (get_or l 0 any) i) histories)
 
     slots_alike : (m t i : ℕ) → IsTickAlike base one other m (suc t) → clock_of base i ≡ Main m → tick_slots (answered base one) i t ≡ tick_slots (answered base other) i t
@@ -139,12 +139,12 @@ module _ (base : Setting) (clocks : ClockMap) (is : IsSetting base clocks) where
           let Is : ℕ → Type 0 = AreAlike base one other (sub_of (answered base one)) (sub_of (answered base other)) (suc (length base.plan.nodes)) (Main m) in
           goes_by (length base.plan.buffers) (takes_of_tick (answered base one) m t) (takes_of_tick (answered base other) m t) (λ now. record { alike = subst Is (sym end) now })
           (goes_equal (length base.plan.buffers)
-          (λ j. calls_of (answered base one) (sub_of (answered base one)) (Main m) (history (answered base one) (sub_of (answered base one)) (Main m) (t * base.plan.frame + j)))
-          (λ j. calls_of (answered base other) (sub_of (answered base other)) (Main m) (history (answered base other) (sub_of (answered base other)) (Main m) (t * base.plan.frame + j)))
+          (λ j. calls_of (answered base one) (sub_of (answered base one)) (Main m) (first_instants (answered base one) (sub_of (answered base one)) (Main m) (t * base.plan.frame + j)))
+          (λ j. calls_of (answered base other) (sub_of (answered base other)) (Main m) (first_instants (answered base other) (sub_of (answered base other)) (Main m) (t * base.plan.frame + j)))
           base.plan.frame (λ j. Is (t * base.plan.frame + j))
           (λ j low now. goes_by (length base.plan.buffers)
-          (calls_of (answered base one) (sub_of (answered base one)) (Main m) (history (answered base one) (sub_of (answered base one)) (Main m) (t * base.plan.frame + j)))
-          (calls_of (answered base other) (sub_of (answered base other)) (Main m) (history (answered base other) (sub_of (answered base other)) (Main m) (t * base.plan.frame + j)))
+          (calls_of (answered base one) (sub_of (answered base one)) (Main m) (first_instants (answered base one) (sub_of (answered base one)) (Main m) (t * base.plan.frame + j)))
+          (calls_of (answered base other) (sub_of (answered base other)) (Main m) (first_instants (answered base other) (sub_of (answered base other)) (Main m) (t * base.plan.frame + j)))
           (λ after. let e : suc (t * base.plan.frame + j) ≡ t * base.plan.frame + suc j = omega arith in subst Is e after)
           (instant base one other (sub_of (answered base one)) (sub_of (answered base other)) (meaning (answered base one) clocks (is_answered one)) (meaning (answered base other) clocks (is_answered other)) known_reads
           clocks found.0 found.1 nested (suc (length base.plan.nodes)) (Main m) 0 has (omega arith) (t * base.plan.frame + j) now))

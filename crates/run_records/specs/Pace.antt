@@ -6,7 +6,7 @@ use Rattle.op_leaf.specs.Readers.{Reader, at_start, read_by, takes_of}
 use Rattle.plan_core.specs.declared.node.Node.{Node}
 use Rattle.clock_infer.specs.declared.clock_map.NodeClock.TheVariants.{Main}
 use Rattle.stream_meaning.specs.Operators.{Reads}
-use Rattle.stream_meaning.specs.Instants.{Setting, clock_of, demanded, history, moment_after, offer, sub_of, work_at}
+use Rattle.stream_meaning.specs.Instants.{Setting, clock_of, demanded, first_instants, moment_after, offer, sub_of, work_at}
 use Rattle.run_records.specs.Buffers.{reader}
 use Rattle.run_records.specs.Records.{Window}
 
@@ -77,5 +77,5 @@ pub record IsDrawn (setting : Setting) (buffer m i : ℕ) (node : Node) : Type 0
   pub does : work_at setting i node ≡ Reads buffer
   pub lies : clock_of setting i ≡ Main m
   pub reads : reader setting buffer ≡ m
-  pub drawn : (n : ℕ) → is_some (offer (moment_after setting (sub_of setting) (Main m) (history setting (sub_of setting) (Main m) n)) i) ≡ true
-      → demanded (moment_after setting (sub_of setting) (Main m) (history setting (sub_of setting) (Main m) n)) i ≡ true
+  pub drawn : (n : ℕ) → is_some (offer (moment_after setting (sub_of setting) (Main m) (first_instants setting (sub_of setting) (Main m) n)) i) ≡ true
+      → demanded (moment_after setting (sub_of setting) (Main m) (first_instants setting (sub_of setting) (Main m) n)) i ≡ true

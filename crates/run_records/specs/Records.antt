@@ -3,7 +3,7 @@ use Rattle.std.specs.Prelude.{◌≡◌, ◌<◌, ◌≤◌, ◌*◌, ℕ, zero,
 use Rattle.std.specs.List.{flat_map}
 use Rattle.std.specs.Option.{option_map_or}
 use Rattle.frame_core.specs.declared.cell.Cell.{Cell}
-use Rattle.frame_core.specs.Legal.{IsRun}
+use Rattle.frame_core.specs.Legal.{IsHistory}
 use Rattle.frame_core.specs.Calls.{Call, takes_of, puts_to, Answer}
 use Rattle.frame_core.specs.Calls.Call.{Took, Given}
 use Rattle.stream_meaning.specs.Instants.{Setting, answered}
@@ -87,7 +87,7 @@ pub record IsLawful (setting : Setting) (clocks W N : ℕ) (run : Run) : Type 0 
   pub whole : start W N count ≡ N
   pub tight : (j : ℕ) → j < count → start W N j < N
   pub are : (buffer : ℕ) → buffer < length setting.plan.buffers → windows_of run buffer ≡ windows_in (setting_in setting run) clocks accepted buffer W N count
-  pub legal : (buffer : ℕ) → buffer < length setting.plan.buffers → (rest : List (List Cell)) × IsRun (capacity_of setting buffer) [] (windows_of run buffer) rest
+  pub legal : (buffer : ℕ) → buffer < length setting.plan.buffers → (rest : List (List Cell)) × IsHistory (capacity_of setting buffer) [] (windows_of run buffer) rest
   pub in_order : (buffer : ℕ) → buffer < length setting.plan.buffers → feeder setting buffer ≡ reader setting buffer
       → (rest : List (List Cell)) × Follows (capacity_of setting buffer) [] (on buffer (joined_upto (calls_in (setting_in setting run) clocks accepted (feeder setting buffer)) N)) rest
 
@@ -158,7 +158,7 @@ pub record AreWindowsBegun (setting : Setting) (clocks W N : ℕ) (run : Run) : 
   pub are : (rest : ℕ → List Answer) (buffer : ℕ) → buffer < length setting.plan.buffers
       → windows_of run buffer
       ≡ windows_in (setting_then setting run rest) clocks accepted buffer W N closed ++ (puts_to buffer (since (feeder setting buffer)), takes_of buffer (since (reader setting buffer))) ∷ []
-  pub legal : (buffer : ℕ) → buffer < length setting.plan.buffers → (chunks : List (List Cell)) × IsRun (capacity_of setting buffer) [] (windows_of run buffer) chunks
+  pub legal : (buffer : ℕ) → buffer < length setting.plan.buffers → (chunks : List (List Cell)) × IsHistory (capacity_of setting buffer) [] (windows_of run buffer) chunks
   pub in_order : (rest : ℕ → List Answer) (buffer : ℕ) → buffer < length setting.plan.buffers → feeder setting buffer ≡ reader setting buffer
       → (chunks : List (List Cell))
       × Follows (capacity_of setting buffer) [] (on buffer (joined_upto (calls_in (setting_then setting run rest) clocks accepted (feeder setting buffer)) (start W N closed) ++ since (feeder setting buffer))) chunks

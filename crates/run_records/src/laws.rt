@@ -8,7 +8,7 @@ ghost use Rattle.run_records.specs.Parting.{AreSameCalls, Goes};
 ghost use Rattle.run_records.specs.Outputs.{HasSameOutputs, first_calls};
 ghost use Rattle.std.specs.List.{count_by, flat_map};
 ghost use Rattle.frame_core.specs.declared.cell.Cell.{Cell as Sample};
-ghost use Rattle.frame_core.specs.Legal.{IsRun};
+ghost use Rattle.frame_core.specs.Legal.{IsHistory};
 ghost use Rattle.plan_core.specs.declared.node.Node.{Node as PlanNode};
 ghost use Rattle.plan_core.specs.Plans.{ReadsBuffer};
 ghost use Rattle.stream_meaning.specs.Calls.{calls_of_tick};
@@ -96,7 +96,7 @@ pub fn broken_rounds_begin_rounds()
 /// refused, whatever the order within a window.
 pub fn paced_windows_refuse_nothing()
     ensures { (capacity W D : ℕ) (windows : List Window) (rest : List (List Sample)) → W + W + D ≤ capacity → KeepPace W D D windows
-        → IsRun capacity [] windows rest → has_none (flat_map (λ (window : Window). window.0) windows) ≡ false }
+        → IsHistory capacity [] windows rest → has_none (flat_map (λ (window : Window). window.0) windows) ≡ false }
 {}
 
 /// A lawful record refuses no put to a buffer that has room for two windows and for D chunks more, where its prefill is at most

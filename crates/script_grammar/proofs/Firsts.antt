@@ -7,7 +7,7 @@ use Rattle.script_lex.specs.declared.token.Symbol.TheVariants as sign
 use Rattle.script_grammar.specs.declared.tree.Literal.TheVariants as literal
 use Rattle.script_grammar.specs.declared.tree.CompareOp.{CompareOp}
 use Rattle.script_grammar.specs.declared.tree.CompareOp.TheVariants as op
-use Rattle.script_grammar.specs.Tree.{Tree, Many, none, more, AFull, AnExpr, AnAnd, ANot, ACompare, ASum, AnAdded, AProduct, AMultiplied, APrim, Negative, Plain, Expr, And, Not, Alone, Compared, Sum, Added, Product, Multiplied, Constant, Quoted, Truth, Named, Called, Chosen, Nothing, Paren, Tuple, Listed, Braces, Format, Call, If}
+use Rattle.script_grammar.specs.Tree.{Tree, Many, none, more, AFull, AnExpr, AnAnd, ANot, ACompare, ASum, AnAdded, AProduct, AMultiplied, AnOperand, Negative, Plain, Expr, And, Not, Alone, Compared, Sum, Added, Product, Multiplied, Constant, Quoted, Truth, Named, Called, Chosen, Nothing, Paren, Tuple, Listed, Braces, Format, Call, If}
 use Rattle.script_grammar.specs.Spelling.{spell, behind, op_token, literal_token}
 use Rattle.script_grammar.specs.Read.{next}
 use Rattle.script_grammar.specs.Kinds.{is_or, is_and, is_not, is_assign, is_semicolon, is_open_round, is_close_round, is_close_square, is_added, is_multiplied, is_minus}
@@ -15,15 +15,15 @@ use Rattle.script_grammar.specs.ReadValue.{binds, opens_name, optional, takes_op
 
 -- ---- no "=" stands behind a part of a value, if none stands behind the value
 
-multiplieds_no : (ts : Tree (Many AMultiplied)) (u : List TokenKind) → next is_assign u ≡ false → next is_assign (spell ts ++ u) ≡ false
-multiplieds_no none u e = e
-multiplieds_no (more (Multiplied at true p) ts) u e = refl
-multiplieds_no (more (Multiplied at false p) ts) u e = refl
+factors_no : (ts : Tree (Many AMultiplied)) (u : List TokenKind) → next is_assign u ≡ false → next is_assign (spell ts ++ u) ≡ false
+factors_no none u e = e
+factors_no (more (Multiplied at true p) ts) u e = refl
+factors_no (more (Multiplied at false p) ts) u e = refl
 
-addeds_no : (ts : Tree (Many AnAdded)) (u : List TokenKind) → next is_assign u ≡ false → next is_assign (spell ts ++ u) ≡ false
-addeds_no none u e = e
-addeds_no (more (Added at true p) ts) u e = refl
-addeds_no (more (Added at false p) ts) u e = refl
+addends_no : (ts : Tree (Many AnAdded)) (u : List TokenKind) → next is_assign u ≡ false → next is_assign (spell ts ++ u) ≡ false
+addends_no none u e = e
+addends_no (more (Added at true p) ts) u e = refl
+addends_no (more (Added at false p) ts) u e = refl
 
 op_no : (o : CompareOp) → is_assign (op_token o) ≡ false
 op_no op.Equal = refl
@@ -43,12 +43,12 @@ nots_no (more t ts) u e = refl
 
 -- ---- what is known of each operand before no "=" is known of each value
 
-module _ (Q : List TokenKind → Type 0) (prims : (p : Tree APrim) (v : List TokenKind) → next is_assign v ≡ false → Q (spell p ++ v)) where
+module _ (Q : List TokenKind → Type 0) (operands : (p : Tree AnOperand) (v : List TokenKind) → next is_assign v ≡ false → Q (spell p ++ v)) where
   product_first : (t : Tree AProduct) (u : List TokenKind) → next is_assign u ≡ false → Q (spell t ++ u)
-  product_first (Product p rest) u e = subst Q (sym (append_assoc (spell p) (spell rest) u)) (prims p (spell rest ++ u) (multiplieds_no rest u e))
+  product_first (Product p rest) u e = subst Q (sym (append_assoc (spell p) (spell rest) u)) (operands p (spell rest ++ u) (factors_no rest u e))
 
   sum_first : (t : Tree ASum) (u : List TokenKind) → next is_assign u ≡ false → Q (spell t ++ u)
-  sum_first (Sum p rest) u e = subst Q (sym (append_assoc (spell p) (spell rest) u)) (product_first p (spell rest ++ u) (addeds_no rest u e))
+  sum_first (Sum p rest) u e = subst Q (sym (append_assoc (spell p) (spell rest) u)) (product_first p (spell rest ++ u) (addends_no rest u e))
 
   pub compare_first : (t : Tree ACompare) (u : List TokenKind) → next is_assign u ≡ false → Q (spell t ++ u)
   compare_first (Alone s) u e = sum_first s u e
@@ -71,114 +71,114 @@ module _ (Q : List TokenKind → Type 0) (prims : (p : Tree APrim) (v : List Tok
 
 -- ---- a name and "=" begin no value before no "="
 
-prim_binds : (p : Tree APrim) (v : List TokenKind) → next is_assign v ≡ false → binds (spell p ++ v) ≡ false
-prim_binds (Constant at (literal.Int x)) v e = refl
-prim_binds (Constant at (literal.Number x)) v e = refl
-prim_binds (Quoted at x) v e = refl
-prim_binds (Truth at true) v e = refl
-prim_binds (Truth at false) v e = refl
-prim_binds (Named at x) v e = e
-prim_binds (Called (Call at x ts)) v e = refl
-prim_binds (Chosen (If at c t f)) v e = refl
-prim_binds (Nothing at) v e = refl
-prim_binds (Paren f) v e = refl
-prim_binds (Tuple at f g rest) v e = refl
-prim_binds (Listed at ts) v e = refl
-prim_binds (Braces at p) v e = refl
-prim_binds (Format at None) v e = refl
-prim_binds (Format at (Some x)) v e = refl
+operand_binds : (p : Tree AnOperand) (v : List TokenKind) → next is_assign v ≡ false → binds (spell p ++ v) ≡ false
+operand_binds (Constant at (literal.Int x)) v e = refl
+operand_binds (Constant at (literal.Number x)) v e = refl
+operand_binds (Quoted at x) v e = refl
+operand_binds (Truth at true) v e = refl
+operand_binds (Truth at false) v e = refl
+operand_binds (Named at x) v e = e
+operand_binds (Called (Call at x ts)) v e = refl
+operand_binds (Chosen (If at c t f)) v e = refl
+operand_binds (Nothing at) v e = refl
+operand_binds (Paren f) v e = refl
+operand_binds (Tuple at f g rest) v e = refl
+operand_binds (Listed at ts) v e = refl
+operand_binds (Braces at p) v e = refl
+operand_binds (Format at None) v e = refl
+operand_binds (Format at (Some x)) v e = refl
 
 pub expr_binds : (t : Tree AnExpr) (u : List TokenKind) → next is_assign u ≡ false → binds (spell t ++ u) ≡ false
-expr_binds = expr_first (λ w. binds w ≡ false) prim_binds (λ v. refl)
+expr_binds = expr_first (λ w. binds w ≡ false) operand_binds (λ v. refl)
 
 pub full_binds : (t : Tree AFull) (u : List TokenKind) → next is_assign u ≡ false → binds (spell t ++ u) ≡ false
-full_binds = full_first (λ w. binds w ≡ false) prim_binds (λ v. refl) (λ v. refl)
+full_binds = full_first (λ w. binds w ≡ false) operand_binds (λ v. refl) (λ v. refl)
 
 -- ---- the first token
 
 -- tokens that an operand begins with
-abbrev begins_prim : TokenKind → Bool
-begins_prim (Int x) = true
-begins_prim (Number x) = true
-begins_prim (Str x) = true
-begins_prim (Name x) = true
-begins_prim (NameOpen x) = true
-begins_prim (Keyword word.True) = true
-begins_prim (Keyword word.False) = true
-begins_prim (Keyword word.If) = true
-begins_prim (Symbol sign.OpenRound) = true
-begins_prim (Symbol sign.OpenSquare) = true
-begins_prim (Symbol sign.OpenCurly) = true
-begins_prim Wav = true
-begins_prim k = false
+abbrev begins_operand : TokenKind → Bool
+begins_operand (Int x) = true
+begins_operand (Number x) = true
+begins_operand (Str x) = true
+begins_operand (Name x) = true
+begins_operand (NameOpen x) = true
+begins_operand (Keyword word.True) = true
+begins_operand (Keyword word.False) = true
+begins_operand (Keyword word.If) = true
+begins_operand (Symbol sign.OpenRound) = true
+begins_operand (Symbol sign.OpenSquare) = true
+begins_operand (Symbol sign.OpenCurly) = true
+begins_operand Wav = true
+begins_operand k = false
 
-prim_begins : (p : Tree APrim) (v : List TokenKind) → next is_assign v ≡ false → next begins_prim (spell p ++ v) ≡ true
-prim_begins (Constant at (literal.Int x)) v e = refl
-prim_begins (Constant at (literal.Number x)) v e = refl
-prim_begins (Quoted at x) v e = refl
-prim_begins (Truth at true) v e = refl
-prim_begins (Truth at false) v e = refl
-prim_begins (Named at x) v e = refl
-prim_begins (Called (Call at x ts)) v e = refl
-prim_begins (Chosen (If at c t f)) v e = refl
-prim_begins (Nothing at) v e = refl
-prim_begins (Paren f) v e = refl
-prim_begins (Tuple at f g rest) v e = refl
-prim_begins (Listed at ts) v e = refl
-prim_begins (Braces at p) v e = refl
-prim_begins (Format at None) v e = refl
-prim_begins (Format at (Some x)) v e = refl
+operand_begins : (p : Tree AnOperand) (v : List TokenKind) → next is_assign v ≡ false → next begins_operand (spell p ++ v) ≡ true
+operand_begins (Constant at (literal.Int x)) v e = refl
+operand_begins (Constant at (literal.Number x)) v e = refl
+operand_begins (Quoted at x) v e = refl
+operand_begins (Truth at true) v e = refl
+operand_begins (Truth at false) v e = refl
+operand_begins (Named at x) v e = refl
+operand_begins (Called (Call at x ts)) v e = refl
+operand_begins (Chosen (If at c t f)) v e = refl
+operand_begins (Nothing at) v e = refl
+operand_begins (Paren f) v e = refl
+operand_begins (Tuple at f g rest) v e = refl
+operand_begins (Listed at ts) v e = refl
+operand_begins (Braces at p) v e = refl
+operand_begins (Format at None) v e = refl
+operand_begins (Format at (Some x)) v e = refl
 
 -- a token that is none of the first tokens of operands is not the first of one
-module _ (is : TokenKind → Bool) (other : (k : TokenKind) → begins_prim k ≡ true → is k ≡ false) where
-  not_next : (w : List TokenKind) → next begins_prim w ≡ true → next is w ≡ false
+module _ (is : TokenKind → Bool) (other : (k : TokenKind) → begins_operand k ≡ true → is k ≡ false) where
+  not_next : (w : List TokenKind) → next begins_operand w ≡ true → next is w ≡ false
   not_next [] e = absurd cc
   not_next (k ∷ w) e = other k e
 
-  prim_not : (p : Tree APrim) (v : List TokenKind) → next is_assign v ≡ false → next is (spell p ++ v) ≡ false
-  prim_not p v e = not_next (spell p ++ v) (prim_begins p v e)
+  operand_not : (p : Tree AnOperand) (v : List TokenKind) → next is_assign v ≡ false → next is (spell p ++ v) ≡ false
+  operand_not p v e = not_next (spell p ++ v) (operand_begins p v e)
 
-no_not : (k : TokenKind) → begins_prim k ≡ true → is_not k ≡ false
+no_not : (k : TokenKind) → begins_operand k ≡ true → is_not k ≡ false
 no_not (Keyword word.Not) e = absurd cc
 no_not k e = refl
 
-no_close_round : (k : TokenKind) → begins_prim k ≡ true → is_close_round k ≡ false
+no_close_round : (k : TokenKind) → begins_operand k ≡ true → is_close_round k ≡ false
 no_close_round (Symbol sign.CloseRound) e = absurd cc
 no_close_round k e = refl
 
-no_close_square : (k : TokenKind) → begins_prim k ≡ true → is_close_square k ≡ false
+no_close_square : (k : TokenKind) → begins_operand k ≡ true → is_close_square k ≡ false
 no_close_square (Symbol sign.CloseSquare) e = absurd cc
 no_close_square k e = refl
 
-no_minus : (k : TokenKind) → begins_prim k ≡ true → is_minus k ≡ false
+no_minus : (k : TokenKind) → begins_operand k ≡ true → is_minus k ≡ false
 no_minus (Symbol sign.Minus) e = absurd cc
 no_minus k e = refl
 
-no_equals : (k : TokenKind) → begins_prim k ≡ true → is_assign k ≡ false
+no_equals : (k : TokenKind) → begins_operand k ≡ true → is_assign k ≡ false
 no_equals (Symbol sign.Assign) e = absurd cc
 no_equals k e = refl
 
-no_semicolon : (k : TokenKind) → begins_prim k ≡ true → is_semicolon k ≡ false
+no_semicolon : (k : TokenKind) → begins_operand k ≡ true → is_semicolon k ≡ false
 no_semicolon (Symbol sign.Semicolon) e = absurd cc
 no_semicolon k e = refl
 
 pub compare_no_not : (t : Tree ACompare) (u : List TokenKind) → next is_assign u ≡ false → next is_not (spell t ++ u) ≡ false
-compare_no_not = compare_first (λ w. next is_not w ≡ false) (prim_not is_not no_not)
+compare_no_not = compare_first (λ w. next is_not w ≡ false) (operand_not is_not no_not)
 
 pub expr_no_minus : (t : Tree AnExpr) (u : List TokenKind) → next is_assign u ≡ false → next is_minus (spell t ++ u) ≡ false
-expr_no_minus = expr_first (λ w. next is_minus w ≡ false) (prim_not is_minus no_minus) (λ v. refl)
+expr_no_minus = expr_first (λ w. next is_minus w ≡ false) (operand_not is_minus no_minus) (λ v. refl)
 
 pub expr_no_assign : (t : Tree AnExpr) (u : List TokenKind) → next is_assign u ≡ false → next is_assign (spell t ++ u) ≡ false
-expr_no_assign = expr_first (λ w. next is_assign w ≡ false) (prim_not is_assign no_equals) (λ v. refl)
+expr_no_assign = expr_first (λ w. next is_assign w ≡ false) (operand_not is_assign no_equals) (λ v. refl)
 
 pub expr_no_semicolon : (t : Tree AnExpr) (u : List TokenKind) → next is_assign u ≡ false → next is_semicolon (spell t ++ u) ≡ false
-expr_no_semicolon = expr_first (λ w. next is_semicolon w ≡ false) (prim_not is_semicolon no_semicolon) (λ v. refl)
+expr_no_semicolon = expr_first (λ w. next is_semicolon w ≡ false) (operand_not is_semicolon no_semicolon) (λ v. refl)
 
 pub full_no_round : (t : Tree AFull) (u : List TokenKind) → next is_assign u ≡ false → next is_close_round (spell t ++ u) ≡ false
-full_no_round = full_first (λ w. next is_close_round w ≡ false) (prim_not is_close_round no_close_round) (λ v. refl) (λ v. refl)
+full_no_round = full_first (λ w. next is_close_round w ≡ false) (operand_not is_close_round no_close_round) (λ v. refl) (λ v. refl)
 
 pub full_no_square : (t : Tree AFull) (u : List TokenKind) → next is_assign u ≡ false → next is_close_square (spell t ++ u) ≡ false
-full_no_square = full_first (λ w. next is_close_square w ≡ false) (prim_not is_close_square no_close_square) (λ v. refl) (λ v. refl)
+full_no_square = full_first (λ w. next is_close_square w ≡ false) (operand_not is_close_square no_close_square) (λ v. refl) (λ v. refl)
 
 -- ---- what may stand behind
 
@@ -258,7 +258,7 @@ stop_assign [] lt = refl
 stop_assign (Symbol sign.Assign ∷ u) lt = absurd (omega (arith, lt))
 stop_assign (k ∷ u) lt = refl
 
-weak : (k : TokenKind) → begins_prim k ≡ true → power k ≡ 0
+weak : (k : TokenKind) → begins_operand k ≡ true → power k ≡ 0
 weak (Int x) e = refl
 weak (Number x) e = refl
 weak (Str x) e = refl
@@ -273,12 +273,12 @@ weak (Symbol sign.OpenCurly) e = refl
 weak Wav e = refl
 weak k e = absurd cc
 
-weak_next : (w : List TokenKind) → next begins_prim w ≡ true → strength w ≡ 0
+weak_next : (w : List TokenKind) → next begins_operand w ≡ true → strength w ≡ 0
 weak_next [] e = absurd cc
 weak_next (k ∷ w) e = weak k e
 
 pub expr_weak : (t : Tree AnExpr) (u : List TokenKind) → next is_assign u ≡ false → strength (spell t ++ u) ≡ 0
-expr_weak = expr_first (λ w. strength w ≡ 0) (λ p v e. weak_next (spell p ++ v) (prim_begins p v e)) (λ v. refl)
+expr_weak = expr_first (λ w. strength w ≡ 0) (λ p v e. weak_next (spell p ++ v) (operand_begins p v e)) (λ v. refl)
 
 -- ---- a value in parentheses is no option
 
@@ -289,24 +289,24 @@ name_or false b e = refl
 by_name : (w : List TokenKind) → binds w ≡ false → optional (Symbol sign.OpenRound ∷ w) ≡ false
 by_name w e = name_or (opens_name w) (binds w) e
 
-prim_optional : (p : Tree APrim) (v : List TokenKind) → next is_assign v ≡ false → optional (spell p ++ v) ≡ false
-prim_optional (Constant at (literal.Int x)) v e = refl
-prim_optional (Constant at (literal.Number x)) v e = refl
-prim_optional (Quoted at x) v e = refl
-prim_optional (Truth at true) v e = refl
-prim_optional (Truth at false) v e = refl
-prim_optional (Named at x) v e = refl
-prim_optional (Called (Call at x ts)) v e = refl
-prim_optional (Chosen (If at c t f)) v e = refl
-prim_optional (Nothing at) v e = refl
-prim_optional (Paren f) v e = by_name ((spell f ++ (Symbol sign.CloseRound ∷ [])) ++ v) (subst (λ (w : List TokenKind). binds w ≡ false) (sym (append_assoc (spell f) (Symbol sign.CloseRound ∷ []) v)) (full_binds f (Symbol sign.CloseRound ∷ v) refl))
-prim_optional (Tuple at f g rest) v e =
+operand_optional : (p : Tree AnOperand) (v : List TokenKind) → next is_assign v ≡ false → optional (spell p ++ v) ≡ false
+operand_optional (Constant at (literal.Int x)) v e = refl
+operand_optional (Constant at (literal.Number x)) v e = refl
+operand_optional (Quoted at x) v e = refl
+operand_optional (Truth at true) v e = refl
+operand_optional (Truth at false) v e = refl
+operand_optional (Named at x) v e = refl
+operand_optional (Called (Call at x ts)) v e = refl
+operand_optional (Chosen (If at c t f)) v e = refl
+operand_optional (Nothing at) v e = refl
+operand_optional (Paren f) v e = by_name ((spell f ++ (Symbol sign.CloseRound ∷ [])) ++ v) (subst (λ (w : List TokenKind). binds w ≡ false) (sym (append_assoc (spell f) (Symbol sign.CloseRound ∷ []) v)) (full_binds f (Symbol sign.CloseRound ∷ v) refl))
+operand_optional (Tuple at f g rest) v e =
     let more_parts = spell g ++ (behind (Symbol sign.Comma) rest ++ (Symbol sign.CloseRound ∷ [])) in
     by_name ((spell f ++ (Symbol sign.Comma ∷ more_parts)) ++ v) (subst (λ (w : List TokenKind). binds w ≡ false) (sym (append_assoc (spell f) (Symbol sign.Comma ∷ more_parts) v)) (full_binds f (Symbol sign.Comma ∷ (more_parts ++ v)) refl))
-prim_optional (Listed at ts) v e = refl
-prim_optional (Braces at p) v e = refl
-prim_optional (Format at None) v e = refl
-prim_optional (Format at (Some x)) v e = refl
+operand_optional (Listed at ts) v e = refl
+operand_optional (Braces at p) v e = refl
+operand_optional (Format at None) v e = refl
+operand_optional (Format at (Some x)) v e = refl
 
 pub expr_optional : (t : Tree AnExpr) (u : List TokenKind) → next is_assign u ≡ false → optional (spell t ++ u) ≡ false
-expr_optional = expr_first (λ w. optional w ≡ false) prim_optional (λ v. refl)
+expr_optional = expr_first (λ w. optional w ≡ false) operand_optional (λ v. refl)

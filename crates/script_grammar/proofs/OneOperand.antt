@@ -5,7 +5,7 @@ use Rattle.std.specs.Prelude.{◌==◌, Bool}
 use Rattle.std.specs.Global.{Vec}
 use Rattle.script_grammar.specs.Lone.{IsLone}
 use Rattle.script_grammar.specs.Tree.{Tree, AnAnd, ANot, AProduct, none, Expr, And, Not, Alone, Sum, Product}
-use Rattle.script_grammar.specs.View.{listed, view_added, view_and, view_compare, view_expr, view_multiplied, view_not, view_prim, view_product, view_sum}
+use Rattle.script_grammar.specs.View.{listed, view_added, view_and, view_compare, view_expr, view_multiplied, view_not, view_operand, view_product, view_sum}
 use Rattle.script_grammar.specs.declared.tree.Full.{Full, size-Full, the_lemmas}
 use Rattle.script_grammar.specs.declared.tree.Full.TheVariants as full
 use Rattle.script_grammar.specs.declared.tree.Expr as expr
@@ -16,7 +16,7 @@ use Rattle.script_grammar.specs.declared.tree.Sum as sum
 use Rattle.script_grammar.specs.declared.tree.Added as added
 use Rattle.script_grammar.specs.declared.tree.Product as product
 use Rattle.script_grammar.specs.declared.tree.Multiplied as multiplied
-use Rattle.script_grammar.specs.declared.tree.Operand as prim
+use Rattle.script_grammar.specs.declared.tree.Operand as operand
 use Rattle.script_grammar.proofs.Rows.{and_seen, compare_alone, expr_seen, not_seen, product_seen, sum_seen}
 
 -- a Vec without items
@@ -35,8 +35,8 @@ not_alone e is = not_seen e ∙ ap (λ (b : Bool). Not b (view_compare (not_.out
 sum_alone : (e : sum.Sum) → (sum.out-Sum e).rest.items ≡ [] → view_sum e ≡ Sum (view_product (sum.out-Sum e).first) none
 sum_alone e is = sum_seen e ∙ ap (λ (l : List added.Added). Sum (view_product (sum.out-Sum e).first) (listed (map view_added l))) is
 
-product_alone : (e : product.Product) → (product.out-Product e).rest.items ≡ [] → view_product e ≡ Product (view_prim (product.out-Product e).first) none
-product_alone e is = product_seen e ∙ ap (λ (l : List multiplied.Multiplied). Product (view_prim (product.out-Product e).first) (listed (map view_multiplied l))) is
+product_alone : (e : product.Product) → (product.out-Product e).rest.items ≡ [] → view_product e ≡ Product (view_operand (product.out-Product e).first) none
+product_alone e is = product_seen e ∙ ap (λ (l : List multiplied.Multiplied). Product (view_operand (product.out-Product e).first) (listed (map view_multiplied l))) is
 
 -- the first parts of an expression, down to its first operand
 abbrev pub and_in : expr.Expr → and_.And
@@ -54,10 +54,10 @@ sum_in e = (compare.out-Compare (compare_in e)).left
 abbrev pub product_in : expr.Expr → product.Product
 product_in e = (sum.out-Sum (sum_in e)).first
 
-abbrev pub operand_in : expr.Expr → prim.Operand
+abbrev pub operand_in : expr.Expr → operand.Operand
 operand_in e = (product.out-Product (product_in e)).first
 
-operand_below : (e : expr.Expr) → prim.size-Operand (operand_in e) < expr.size-Expr e
+operand_below : (e : expr.Expr) → operand.size-Operand (operand_in e) < expr.size-Expr e
 operand_below e =
     let whole = expr.size_is-Expr e in
     let and = and_.size_is-And (and_in e) in
@@ -69,16 +69,16 @@ operand_below e =
 
 pub is_lone : (e : expr.Expr) → (expr.out-Expr e).rest.items ≡ [] → (and_.out-And (and_in e)).rest.items ≡ [] → (not_.out-Not (not_in e)).negated ≡ false →
     (sum.out-Sum (sum_in e)).rest.items ≡ [] → (product.out-Product (product_in e)).rest.items ≡ [] → (compare.out-Compare (compare_in e)).right ≡ None → IsLone e (operand_in e)
-is_lone e ands nots plain addeds multiplieds alone =
-    let products : view_sum (sum_in e) ≡ Sum (Product (view_prim (operand_in e)) none) none = sum_alone (sum_in e) addeds ∙ ap (λ (t : Tree AProduct). Sum t none) (product_alone (product_in e) multiplieds) in
-    let compared : view_not (not_in e) ≡ Not false (Alone (Sum (Product (view_prim (operand_in e)) none) none)) = not_alone (not_in e) plain ∙ ap (Not false) (compare_alone (compare_in e) alone ∙ ap Alone products) in
+is_lone e ands nots plain addends factors alone =
+    let products : view_sum (sum_in e) ≡ Sum (Product (view_operand (operand_in e)) none) none = sum_alone (sum_in e) addends ∙ ap (λ (t : Tree AProduct). Sum t none) (product_alone (product_in e) factors) in
+    let compared : view_not (not_in e) ≡ Not false (Alone (Sum (Product (view_operand (operand_in e)) none) none)) = not_alone (not_in e) plain ∙ ap (Not false) (compare_alone (compare_in e) alone ∙ ap Alone products) in
     record {
       seen = expr_alone e ands ∙ ap (λ (t : Tree AnAnd). Expr t none) (and_alone (and_in e) nots ∙ ap (λ (t : Tree ANot). And t none) compared);
       below = operand_below e;
     }
 
-pub lone_below : (f : Full) (e : expr.Expr) (p : prim.Operand) → f ≡ full.Plain e → IsLone e p → prim.size-Operand p < size-Full f
+pub lone_below : (f : Full) (e : expr.Expr) (p : operand.Operand) → f ≡ full.Plain e → IsLone e p → operand.size-Operand p < size-Full f
 lone_below f e p plain is =
     let whole : expr.size-Expr e < size-Full (full.Plain e) = search (rules, the_lemmas) in
     let part = is.below in
-    subst (λ (g : Full). prim.size-Operand p < size-Full g) (sym plain) (omega (arith, whole, part))
+    subst (λ (g : Full). operand.size-Operand p < size-Full g) (sym plain) (omega (arith, whole, part))

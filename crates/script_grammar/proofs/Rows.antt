@@ -4,7 +4,7 @@ use Rattle.std.specs.Prelude.{map}
 use Rattle.std.specs.Global.{Vec}
 use Rattle.script_grammar.specs.Tree.{more, Expr, And, Not, Alone, Compared as a_comparison, Sum, Added, Product, Call, Listed, POr, PAnd}
 use Rattle.script_grammar.specs.ReadValue.{round_of}
-use Rattle.script_grammar.specs.View.{listed, por_of, pand_of, tuple_of, view_por, view_pands, view_pand, view_pnots, view_pnot, view_expr, view_ands, view_and, view_nots, view_not, view_compare, view_sum, view_addeds, view_added, view_product, view_multiplieds, view_multiplied, view_prim, view_fulls, view_full, view_call, view_args, view_arg}
+use Rattle.script_grammar.specs.View.{listed, por_of, pand_of, tuple_of, view_por, view_pands, view_pand, view_pnots, view_pnot, view_expr, view_ands, view_and, view_nots, view_not, view_compare, view_sum, view_addends, view_added, view_product, view_factors, view_multiplied, view_operand, view_fulls, view_full, view_call, view_args, view_arg}
 use Rattle.script_grammar.specs.declared.tree.Full.{Full}
 use Rattle.script_grammar.specs.declared.tree.Full.TheBlock as block
 use Rattle.script_grammar.specs.declared.predicate.PAtom.TheBlock as pblock
@@ -17,7 +17,7 @@ use Rattle.script_grammar.specs.declared.tree.Sum as sum
 use Rattle.script_grammar.specs.declared.tree.Added as added
 use Rattle.script_grammar.specs.declared.tree.Product as product
 use Rattle.script_grammar.specs.declared.tree.Multiplied as multiplied
-use Rattle.script_grammar.specs.declared.tree.Operand as prim
+use Rattle.script_grammar.specs.declared.tree.Operand as operand
 use Rattle.script_grammar.specs.declared.tree.Call as call
 use Rattle.script_grammar.specs.declared.tree.Arg as arg
 use Rattle.script_grammar.specs.declared.predicate.POr as por
@@ -42,17 +42,17 @@ nots_row : (n : _) (row : and_.Row_of-Not n) → view_nots row ≡ listed (map v
 nots_row n and_.end_of-Not = refl
 nots_row n (and_.more_of-Not a rest) = ap (more (view_not a)) (nots_row _ rest)
 
-addeds_row : (n : _) (row : sum.Row_of-Added n) → view_addeds row ≡ listed (map view_added (sum.items-the_row-Added n row))
-addeds_row n sum.end_of-Added = refl
-addeds_row n (sum.more_of-Added a rest) = ap (more (view_added a)) (addeds_row _ rest)
+addends_row : (n : _) (row : sum.Row_of-Added n) → view_addends row ≡ listed (map view_added (sum.items-the_row-Added n row))
+addends_row n sum.end_of-Added = refl
+addends_row n (sum.more_of-Added a rest) = ap (more (view_added a)) (addends_row _ rest)
 
-multiplieds_row : (n : _) (row : product.Row_of-Multiplied n) → view_multiplieds row ≡ listed (map view_multiplied (product.items-the_row-Multiplied n row))
-multiplieds_row n product.end_of-Multiplied = refl
-multiplieds_row n (product.more_of-Multiplied at divide p rest) = ap (more (view_multiplied (record { at = at; divide = divide; prim = p }))) (multiplieds_row _ rest)
+factors_row : (n : _) (row : product.Row_of-Multiplied n) → view_factors row ≡ listed (map view_multiplied (product.items-the_row-Multiplied n row))
+factors_row n product.end_of-Multiplied = refl
+factors_row n (product.more_of-Multiplied at divide p rest) = ap (more (view_multiplied (record { at = at; divide = divide; operand = p }))) (factors_row _ rest)
 
-fulls_row : (n : _) (row : prim.Row_of-Full n) → view_fulls row ≡ listed (map view_full (prim.items-the_row-Full n row))
-fulls_row n prim.end_of-Full = refl
-fulls_row n (prim.more_of-Full f rest) = ap (more (view_full f)) (fulls_row _ rest)
+fulls_row : (n : _) (row : operand.Row_of-Full n) → view_fulls row ≡ listed (map view_full (operand.items-the_row-Full n row))
+fulls_row n operand.end_of-Full = refl
+fulls_row n (operand.more_of-Full f rest) = ap (more (view_full f)) (fulls_row _ rest)
 
 args_row : (n : _) (row : call.Row_of-Arg n) → view_args row ≡ listed (map view_arg (call.items-the_row-Arg n row))
 args_row n call.end_of-Arg = refl
@@ -72,14 +72,14 @@ ands_listed v = ands_row _ (block.hidden-the_row-And-3 v) ∙ ap (λ (l : List a
 pub nots_listed : (v : Vec not_.Not) → view_nots (block.hidden-the_row-Not-1 v) ≡ listed (map view_not v.items)
 nots_listed v = nots_row _ (block.hidden-the_row-Not-1 v) ∙ ap (λ (l : List not_.Not). listed (map view_not l)) (and_.items_hidden-the_row-Not-1 v)
 
-pub addeds_listed : (v : Vec added.Added) → view_addeds (block.hidden-the_row-Added-5 v) ≡ listed (map view_added v.items)
-addeds_listed v = addeds_row _ (block.hidden-the_row-Added-5 v) ∙ ap (λ (l : List added.Added). listed (map view_added l)) (sum.items_hidden-the_row-Added-5 v)
+pub addends_listed : (v : Vec added.Added) → view_addends (block.hidden-the_row-Added-5 v) ≡ listed (map view_added v.items)
+addends_listed v = addends_row _ (block.hidden-the_row-Added-5 v) ∙ ap (λ (l : List added.Added). listed (map view_added l)) (sum.items_hidden-the_row-Added-5 v)
 
-pub multiplieds_listed : (v : Vec multiplied.Multiplied) → view_multiplieds (block.hidden-the_row-Multiplied-4 v) ≡ listed (map view_multiplied v.items)
-multiplieds_listed v = multiplieds_row _ (block.hidden-the_row-Multiplied-4 v) ∙ ap (λ (l : List multiplied.Multiplied). listed (map view_multiplied l)) (product.items_hidden-the_row-Multiplied-4 v)
+pub factors_listed : (v : Vec multiplied.Multiplied) → view_factors (block.hidden-the_row-Multiplied-4 v) ≡ listed (map view_multiplied v.items)
+factors_listed v = factors_row _ (block.hidden-the_row-Multiplied-4 v) ∙ ap (λ (l : List multiplied.Multiplied). listed (map view_multiplied l)) (product.items_hidden-the_row-Multiplied-4 v)
 
 pub fulls_listed : (v : Vec Full) → view_fulls (block.hidden-the_row-Full-0 v) ≡ listed (map view_full v.items)
-fulls_listed v = fulls_row _ (block.hidden-the_row-Full-0 v) ∙ ap (λ (l : List Full). listed (map view_full l)) (prim.items_hidden-the_row-Full-0 v)
+fulls_listed v = fulls_row _ (block.hidden-the_row-Full-0 v) ∙ ap (λ (l : List Full). listed (map view_full l)) (operand.items_hidden-the_row-Full-0 v)
 
 pub args_listed : (v : Vec arg.Arg) → view_args (block.hidden-the_row-Arg-2 v) ≡ listed (map view_arg v.items)
 args_listed v = args_row _ (block.hidden-the_row-Arg-2 v) ∙ ap (λ (l : List arg.Arg). listed (map view_arg l)) (call.items_hidden-the_row-Arg-2 v)
@@ -93,10 +93,10 @@ pub and_seen : (e : and_.And) → view_and e ≡ And (view_not (and_.out-And e).
 and_seen e = ap view_and (sym (and_.roll-out-And e) ∙ and_.rolls-And' (and_.out-And e)) ∙ ap (And (view_not (and_.out-And e).first)) (nots_listed (and_.out-And e).rest)
 
 pub sum_seen : (e : sum.Sum) → view_sum e ≡ Sum (view_product (sum.out-Sum e).first) (listed (map view_added (sum.out-Sum e).rest.items))
-sum_seen e = ap view_sum (sym (sum.roll-out-Sum e) ∙ sum.rolls-Sum' (sum.out-Sum e)) ∙ ap (Sum (view_product (sum.out-Sum e).first)) (addeds_listed (sum.out-Sum e).rest)
+sum_seen e = ap view_sum (sym (sum.roll-out-Sum e) ∙ sum.rolls-Sum' (sum.out-Sum e)) ∙ ap (Sum (view_product (sum.out-Sum e).first)) (addends_listed (sum.out-Sum e).rest)
 
-pub product_seen : (e : product.Product) → view_product e ≡ Product (view_prim (product.out-Product e).first) (listed (map view_multiplied (product.out-Product e).rest.items))
-product_seen e = ap view_product (sym (product.roll-out-Product e) ∙ product.rolls-Product' (product.out-Product e)) ∙ ap (Product (view_prim (product.out-Product e).first)) (multiplieds_listed (product.out-Product e).rest)
+pub product_seen : (e : product.Product) → view_product e ≡ Product (view_operand (product.out-Product e).first) (listed (map view_multiplied (product.out-Product e).rest.items))
+product_seen e = ap view_product (sym (product.roll-out-Product e) ∙ product.rolls-Product' (product.out-Product e)) ∙ ap (Product (view_operand (product.out-Product e).first)) (factors_listed (product.out-Product e).rest)
 
 pub call_seen : (e : call.Call) → view_call e ≡ Call (call.out-Call e).at (call.out-Call e).name (listed (map view_arg (call.out-Call e).args.items))
 call_seen e = ap view_call (sym (call.roll-out-Call e) ∙ call.rolls-Call' (call.out-Call e)) ∙ ap (Call (call.out-Call e).at (call.out-Call e).name) (args_listed (call.out-Call e).args)
@@ -127,19 +127,19 @@ pub and_made : (f : not_.Not) (v : Vec not_.Not) → view_and (and_.roll-And (re
 and_made f v = ap view_and (and_.rolls-And' (record { first = f; rest = v })) ∙ ap (And (view_not f)) (nots_listed v)
 
 pub sum_made : (f : product.Product) (v : Vec added.Added) → view_sum (sum.roll-Sum (record { first = f; rest = v })) ≡ Sum (view_product f) (listed (map view_added v.items))
-sum_made f v = ap view_sum (sum.rolls-Sum' (record { first = f; rest = v })) ∙ ap (Sum (view_product f)) (addeds_listed v)
+sum_made f v = ap view_sum (sum.rolls-Sum' (record { first = f; rest = v })) ∙ ap (Sum (view_product f)) (addends_listed v)
 
-pub product_made : (f : prim.Operand) (v : Vec multiplied.Multiplied) → view_product (product.roll-Product (record { first = f; rest = v })) ≡ Product (view_prim f) (listed (map view_multiplied v.items))
-product_made f v = ap view_product (product.rolls-Product' (record { first = f; rest = v })) ∙ ap (Product (view_prim f)) (multiplieds_listed v)
+pub product_made : (f : operand.Operand) (v : Vec multiplied.Multiplied) → view_product (product.roll-Product (record { first = f; rest = v })) ≡ Product (view_operand f) (listed (map view_multiplied v.items))
+product_made f v = ap view_product (product.rolls-Product' (record { first = f; rest = v })) ∙ ap (Product (view_operand f)) (factors_listed v)
 
 pub call_made : (at : ℕ) (name : List ℕ) (v : Vec arg.Arg) → view_call (call.roll-Call (record { at = at; name = name; args = v })) ≡ Call at name (listed (map view_arg v.items))
 call_made at name v = ap view_call (call.rolls-Call' (record { at = at; name = name; args = v })) ∙ ap (Call at name) (args_listed v)
 
-pub list_made : (at : ℕ) (v : Vec Full) → view_prim (prim.List at v) ≡ Listed at (listed (map view_full v.items))
+pub list_made : (at : ℕ) (v : Vec Full) → view_operand (operand.List at v) ≡ Listed at (listed (map view_full v.items))
 list_made at v = ap (Listed at) (fulls_listed v)
 
 -- a tuple of a first part and the others
-pub tuple_made : (at : ℕ) (f : Full) (fs : List Full) (v : Vec Full) → 0 < length fs → v.items ≡ f ∷ fs → view_prim (prim.Tuple at v) ≡ round_of at (view_full f) (listed (map view_full fs))
+pub tuple_made : (at : ℕ) (f : Full) (fs : List Full) (v : Vec Full) → 0 < length fs → v.items ≡ f ∷ fs → view_operand (operand.Tuple at v) ≡ round_of at (view_full f) (listed (map view_full fs))
 tuple_made at f [] v lt e = absurd (omega arith)
 tuple_made at f (g ∷ fs) v lt e = ap (tuple_of at) (fulls_listed v ∙ ap (λ (l : List Full). listed (map view_full l)) e)
 

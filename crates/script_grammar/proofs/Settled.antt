@@ -37,7 +37,7 @@ mutual
   spell_bare (Sum first rest) = rw (spell_bare first, spell_bare rest) refl
   spell_bare (Added at minus product) = rw (spell_bare product) refl
   spell_bare (Product first rest) = rw (spell_bare first, spell_bare rest) refl
-  spell_bare (Multiplied at divide prim) = rw (spell_bare prim) refl
+  spell_bare (Multiplied at divide operand) = rw (spell_bare operand) refl
   spell_bare (Constant at value) = refl
   spell_bare (Quoted at text) = refl
   spell_bare (Truth at value) = refl
@@ -123,7 +123,7 @@ abbrev mutual
   settle i (Sum first rest) = Sum (settle i first) (settle (i + length (spell first)) rest)
   settle i (Added at minus product) = Added i minus (settle (i + 1) product)
   settle i (Product first rest) = Product (settle i first) (settle (i + length (spell first)) rest)
-  settle i (Multiplied at divide prim) = Multiplied i divide (settle (i + 1) prim)
+  settle i (Multiplied at divide operand) = Multiplied i divide (settle (i + 1) operand)
   settle i (Constant at value) = Constant i value
   settle i (Quoted at text) = Quoted i text
   settle i (Truth at value) = Truth i value
@@ -191,7 +191,7 @@ mutual
   settles i (Sum first rest) p = rw (spell_bare first, settles i first p.0, settles (i + length (spell first)) rest p.1) refl
   settles i (Added at minus product) p = rw (p.0, settles (i + 1) product p.1) refl
   settles i (Product first rest) p = rw (spell_bare first, settles i first p.0, settles (i + length (spell first)) rest p.1) refl
-  settles i (Multiplied at divide prim) p = rw (p.0, settles (i + 1) prim p.1) refl
+  settles i (Multiplied at divide operand) p = rw (p.0, settles (i + 1) operand p.1) refl
   settles i (Constant at value) p = rw p refl
   settles i (Quoted at text) p = rw p refl
   settles i (Truth at value) p = rw p refl

@@ -11,12 +11,12 @@ use Rattle.script_grammar.specs.declared.tree.Literal.{Literal}
 use Rattle.script_grammar.specs.declared.tree.Literal.TheVariants as literal
 use Rattle.script_grammar.specs.declared.tree.CompareOp.{CompareOp}
 use Rattle.script_grammar.specs.declared.tree.CompareOp.TheVariants as op
-use Rattle.script_grammar.specs.Tree.{Tree, Many, none, more, AFull, AnExpr, AnAnd, ANot, ACompare, ASum, AProduct, APrim, AnArg, Negative, Plain, Expr, And, Not, Alone, Compared, Sum, Added, Product, Multiplied, Constant, Quoted, Truth, Named, Called, Chosen, Listed, Braces, Format, Call, Arg, If}
+use Rattle.script_grammar.specs.Tree.{Tree, Many, none, more, AFull, AnExpr, AnAnd, ANot, ACompare, ASum, AProduct, AnOperand, AnArg, Negative, Plain, Expr, And, Not, Alone, Compared, Sum, Added, Product, Multiplied, Constant, Quoted, Truth, Named, Called, Chosen, Listed, Braces, Format, Call, Arg, If}
 use Rattle.script_grammar.specs.Spelling.{spell, behind, with_commas, literal_token, op_token, option_name, token_if, wav_tokens}
 use Rattle.script_grammar.specs.Placed.{IsPlaced, IsApart}
 use Rattle.script_grammar.specs.Read.{Read, Reader, ◌>>=◌, made, both, next, expect}
 use Rattle.script_grammar.specs.Kinds.{is_or, is_and, is_not, is_assign, is_open_round, is_close_round, is_close_square, is_close_curly, is_then, is_else, is_end, is_added, is_multiplied, op_of}
-use Rattle.script_grammar.specs.ReadValue.{takes_option, digits, whole_number, the_name, size, wav, arg, args, round_or_unit, choice, call, prim, multiplied, product, added, sum, next_op, behind_op, compare, not_, and_, expr, full_step, full_by}
+use Rattle.script_grammar.specs.ReadValue.{takes_option, digits, whole_number, the_name, size, wav, arg, args, round_or_unit, choice, call, operand, multiplied, product, added, sum, next_op, behind_op, compare, not_, and_, expr, full_step, full_by}
 use Rattle.script_grammar.proofs.SoundRules.{Here, Outcome, found, stopped, Sound, nowhere, one, pair_at, here, first, later, begun_behind, refused, behind_front, made_of, both_sound, expect_sound, perhaps_sound, pick, row_sound, chain_sound, closed_sound}
 use Rattle.script_grammar.proofs.SoundPredicate.{only_or, only_and, only_not, only_close_round, por_sound}
 
@@ -61,11 +61,11 @@ only_op k o e = absurd cc
 
 -- ---- one tree of each level
 
-some_prim : Tree APrim
-some_prim = Truth 0 true
+some_operand : Tree AnOperand
+some_operand = Truth 0 true
 
 some_product : Tree AProduct
-some_product = Product some_prim none
+some_product = Product some_operand none
 
 some_sum : Tree ASum
 some_sum = Sum some_product none
@@ -196,42 +196,42 @@ module _ {stamp : ℕ → ℕ} {total : ℕ} where
     choice_sound = record { outcome = choice_out }
 
     module _ (loose : Bool) where
-      prim_out : (w : List TokenKind) → Outcome stamp total spell IsPlaced w (prim loose stamp full w)
-      unfolding prim
-      prim_out (Int n ∷ r) = found (Constant (stamp (suc (length r))) (literal.Int n)) r refl (λ i h. first h)
-      prim_out (Number d ∷ r) = found (Constant (stamp (suc (length r))) (literal.Number d)) r refl (λ i h. first h)
-      prim_out (Str x ∷ r) = found (Quoted (stamp (suc (length r))) x) r refl (λ i h. first h)
-      prim_out (Keyword word.True ∷ r) = found (Truth (stamp (suc (length r))) true) r refl (λ i h. first h)
-      prim_out (Keyword word.False ∷ r) = found (Truth (stamp (suc (length r))) false) r refl (λ i h. first h)
-      prim_out (Name x ∷ r) = found (Named (stamp (suc (length r))) x) r refl (λ i h. first h)
-      prim_out (NameOpen x ∷ r) = behind_front (λ y. Called (Call (stamp (suc (length r))) x y)) (NameOpen x ∷ []) refl (λ a. refl) (λ i a h p. (first h, p (i + 1) (omega arith))) (args_sound.outcome r)
-      prim_out (Keyword word.If ∷ r) = made_of Chosen (λ a. refl) (λ i a h p. p) (choice_out (Keyword word.If ∷ r))
-      prim_out (Symbol sign.OpenRound ∷ r) =
+      operand_out : (w : List TokenKind) → Outcome stamp total spell IsPlaced w (operand loose stamp full w)
+      unfolding operand
+      operand_out (Int n ∷ r) = found (Constant (stamp (suc (length r))) (literal.Int n)) r refl (λ i h. first h)
+      operand_out (Number d ∷ r) = found (Constant (stamp (suc (length r))) (literal.Number d)) r refl (λ i h. first h)
+      operand_out (Str x ∷ r) = found (Quoted (stamp (suc (length r))) x) r refl (λ i h. first h)
+      operand_out (Keyword word.True ∷ r) = found (Truth (stamp (suc (length r))) true) r refl (λ i h. first h)
+      operand_out (Keyword word.False ∷ r) = found (Truth (stamp (suc (length r))) false) r refl (λ i h. first h)
+      operand_out (Name x ∷ r) = found (Named (stamp (suc (length r))) x) r refl (λ i h. first h)
+      operand_out (NameOpen x ∷ r) = behind_front (λ y. Called (Call (stamp (suc (length r))) x y)) (NameOpen x ∷ []) refl (λ a. refl) (λ i a h p. (first h, p (i + 1) (omega arith))) (args_sound.outcome r)
+      operand_out (Keyword word.If ∷ r) = made_of Chosen (λ a. refl) (λ i a h p. p) (choice_out (Keyword word.If ∷ r))
+      operand_out (Symbol sign.OpenRound ∷ r) =
           behind_front (round_or_unit (stamp (suc (length r)))) (Symbol sign.OpenRound ∷ []) refl (λ ts. round_spelled (stamp (suc (length r))) ts) (λ i ts h p. round_placed i (stamp (suc (length r))) ts (first h) (p (i + 1) (omega arith)))
           ((closed_sound is_close_round (Symbol sign.CloseRound) only_close_round some_full lf).outcome r)
-      prim_out (Symbol sign.OpenSquare ∷ r) =
+      operand_out (Symbol sign.OpenSquare ∷ r) =
           behind_front (Listed (stamp (suc (length r)))) (Symbol sign.OpenSquare ∷ []) refl (λ ts. refl) (λ i ts h p. (first h, p (i + 1) (omega arith)))
           ((closed_sound is_close_square (Symbol sign.CloseSquare) only_close_square some_full lf).outcome r)
-      prim_out (Symbol sign.OpenCurly ∷ r) =
+      operand_out (Symbol sign.OpenCurly ∷ r) =
           behind_front (λ x. Braces (stamp (suc (length r))) x.0) (Symbol sign.OpenCurly ∷ []) refl (λ x. refl) (λ i x h p. first h)
           ((both_sound tt por_sound (expect_sound is_close_curly (Symbol sign.CloseCurly) only_close_curly)).outcome r)
-      prim_out (Wav ∷ r) = behind_front (Format (stamp (suc (length r)))) (Wav ∷ []) refl (λ o. wav_spelled o) (λ i o h p. first h) (wav_out loose r)
-      prim_out w = refused w some_prim
+      operand_out (Wav ∷ r) = behind_front (Format (stamp (suc (length r)))) (Wav ∷ []) refl (λ o. wav_spelled o) (λ i o h p. first h) (wav_out loose r)
+      operand_out w = refused w some_operand
 
-      prim_sound : Sound stamp total (prim loose stamp full) spell IsPlaced
-      prim_sound = record { outcome = prim_out }
+      operand_sound : Sound stamp total (operand loose stamp full) spell IsPlaced
+      operand_sound = record { outcome = operand_out }
 
       -- ---- products, sums, comparisons
 
       multiplied_out : (w : List TokenKind) → Outcome stamp total spell IsPlaced w (multiplied loose stamp full w)
       unfolding multiplied
-      multiplied_out (Symbol sign.Star ∷ r) = behind_front (Multiplied (stamp (suc (length r))) false) (Symbol sign.Star ∷ []) refl (λ a. refl) (λ i a h p. (first h, p (i + 1) (omega arith))) (prim_out r)
-      multiplied_out (Symbol sign.Slash ∷ r) = behind_front (Multiplied (stamp (suc (length r))) true) (Symbol sign.Slash ∷ []) refl (λ a. refl) (λ i a h p. (first h, p (i + 1) (omega arith))) (prim_out r)
-      multiplied_out w = refused w (Multiplied 0 false some_prim)
+      multiplied_out (Symbol sign.Star ∷ r) = behind_front (Multiplied (stamp (suc (length r))) false) (Symbol sign.Star ∷ []) refl (λ a. refl) (λ i a h p. (first h, p (i + 1) (omega arith))) (operand_out r)
+      multiplied_out (Symbol sign.Slash ∷ r) = behind_front (Multiplied (stamp (suc (length r))) true) (Symbol sign.Slash ∷ []) refl (λ a. refl) (λ i a h p. (first h, p (i + 1) (omega arith))) (operand_out r)
+      multiplied_out w = refused w (Multiplied 0 false some_operand)
 
       product_sound : Sound stamp total (product loose stamp full) spell IsPlaced
       unfolding product
-      product_sound = record { outcome = λ w. made_of (λ x. Product x.0 x.1) (λ x. refl) (λ i x h p. (p.0, p.1 (i + length (spell x.0)) refl)) ((both_sound none prim_sound (row_sound (next is_multiplied) (record { outcome = multiplied_out }))).outcome w) }
+      product_sound = record { outcome = λ w. made_of (λ x. Product x.0 x.1) (λ x. refl) (λ i x h p. (p.0, p.1 (i + length (spell x.0)) refl)) ((both_sound none operand_sound (row_sound (next is_multiplied) (record { outcome = multiplied_out }))).outcome w) }
 
       added_out : (w : List TokenKind) → Outcome stamp total spell IsPlaced w (added loose stamp full w)
       unfolding added

@@ -10,7 +10,7 @@ use Rattle.script_lex.specs.declared.token.Symbol.TheVariants as sign
 use Rattle.script_grammar.specs.Tree.{Sort, Tree, Many, APAnd, APNot, AFull}
 use Rattle.script_grammar.specs.Spelling.{spell, behind, with_commas}
 use Rattle.script_grammar.specs.Pieces.{each, each_behind, between_commas, in_brackets, por_parts, pand_parts}
-use Rattle.script_grammar.specs.View.{listed, por_of, pand_of, tuple_of, view_por, view_pand, view_pnot, view_expr, view_and, view_not, view_sum, view_added, view_product, view_multiplied, view_prim, view_full, view_call, view_arg}
+use Rattle.script_grammar.specs.View.{listed, por_of, pand_of, tuple_of, view_por, view_pand, view_pnot, view_expr, view_and, view_not, view_sum, view_added, view_product, view_multiplied, view_operand, view_full, view_call, view_arg}
 use Rattle.script_grammar.specs.declared.tree.Full.{Full}
 use Rattle.script_grammar.specs.declared.tree.Expr as expr
 use Rattle.script_grammar.specs.declared.tree.And as and_
@@ -19,7 +19,7 @@ use Rattle.script_grammar.specs.declared.tree.Sum as sum
 use Rattle.script_grammar.specs.declared.tree.Added as added
 use Rattle.script_grammar.specs.declared.tree.Product as product
 use Rattle.script_grammar.specs.declared.tree.Multiplied as multiplied
-use Rattle.script_grammar.specs.declared.tree.Operand as prim
+use Rattle.script_grammar.specs.declared.tree.Operand as operand
 use Rattle.script_grammar.specs.declared.tree.Call as call
 use Rattle.script_grammar.specs.declared.tree.Arg as arg
 use Rattle.script_grammar.specs.declared.predicate.POr as por
@@ -79,10 +79,10 @@ sum_parts r e l old a new lis ais nis =
     let whole : spell (view_sum e) ≡ spell (view_product (sum.out-Sum e).first) ++ each (map view_added l) = ap spell (sum_seen e) ∙ ap (λ (z : List TokenKind). spell (view_product (sum.out-Sum e).first) ++ z) (each_listed (map view_added (sum.out-Sum e).rest.items)) ∙ ap (λ (z : List added.Added). spell (view_product (sum.out-Sum e).first) ++ each (map view_added z)) (sym lis) in
     two_parts r old a new (spell (view_product (sum.out-Sum e).first)) (each (map view_added l)) (spell (view_sum e)) ais nis whole
 
-pub product_parts : {E : Type 0} (r : Result (Unit {0}) E) (e : product.Product) (l : List multiplied.Multiplied) (old a new : List TokenKind) → l ≡ (product.out-Product e).rest.items → a ≡ old ++ spell (view_prim (product.out-Product e).first) → OnOk r (new ≡ a ++ each (map view_multiplied l)) → OnOk r (new ≡ old ++ spell (view_product e))
+pub product_parts : {E : Type 0} (r : Result (Unit {0}) E) (e : product.Product) (l : List multiplied.Multiplied) (old a new : List TokenKind) → l ≡ (product.out-Product e).rest.items → a ≡ old ++ spell (view_operand (product.out-Product e).first) → OnOk r (new ≡ a ++ each (map view_multiplied l)) → OnOk r (new ≡ old ++ spell (view_product e))
 product_parts r e l old a new lis ais nis =
-    let whole : spell (view_product e) ≡ spell (view_prim (product.out-Product e).first) ++ each (map view_multiplied l) = ap spell (product_seen e) ∙ ap (λ (z : List TokenKind). spell (view_prim (product.out-Product e).first) ++ z) (each_listed (map view_multiplied (product.out-Product e).rest.items)) ∙ ap (λ (z : List multiplied.Multiplied). spell (view_prim (product.out-Product e).first) ++ each (map view_multiplied z)) (sym lis) in
-    two_parts r old a new (spell (view_prim (product.out-Product e).first)) (each (map view_multiplied l)) (spell (view_product e)) ais nis whole
+    let whole : spell (view_product e) ≡ spell (view_operand (product.out-Product e).first) ++ each (map view_multiplied l) = ap spell (product_seen e) ∙ ap (λ (z : List TokenKind). spell (view_operand (product.out-Product e).first) ++ z) (each_listed (map view_multiplied (product.out-Product e).rest.items)) ∙ ap (λ (z : List multiplied.Multiplied). spell (view_operand (product.out-Product e).first) ++ each (map view_multiplied z)) (sym lis) in
+    two_parts r old a new (spell (view_operand (product.out-Product e).first)) (each (map view_multiplied l)) (spell (view_product e)) ais nis whole
 
 pub call_parts : {E : Type 0} (r : Result (Unit {0}) E) (e : call.Call) (l : List arg.Arg) (old a b new : List TokenKind) → l ≡ (call.out-Call e).args.items → a ≡ old ++ (NameOpen (call.out-Call e).name ∷ []) → b ≡ a ++ between_commas (map view_arg l) → OnOk r (new ≡ b ++ (Symbol sign.CloseRound ∷ [])) → OnOk r (new ≡ old ++ spell (view_call e))
 call_parts r e l old a b new lis ais bis nis =
@@ -96,8 +96,8 @@ por_spelled e l lis = ap (λ (z : por.POr). spell (view_por z)) (sym (por.roll-o
 pub pand_spelled : (e : pand.PAnd) (l : List pnot.PNot) → l ≡ (pand.out-PAnd e).parts.items → spell (view_pand e) ≡ pand_parts (map view_pnot l)
 pand_spelled e l lis = ap (λ (z : pand.PAnd). spell (view_pand z)) (sym (pand.roll-out-PAnd e) ∙ pand.rolls-PAnd' (pand.out-PAnd e)) ∙ ap (λ (z : _). spell (pand_of z)) (pnots_listed (pand.out-PAnd e).parts) ∙ pand_listed (map view_pnot (pand.out-PAnd e).parts.items) ∙ ap (λ (z : List pnot.PNot). pand_parts (map view_pnot z)) (sym lis)
 
-pub tuple_spelled : (at : ℕ) (v : Vec Full) → spell (view_prim (prim.Tuple at v)) ≡ in_brackets sign.OpenRound (map view_full v.items) sign.CloseRound
+pub tuple_spelled : (at : ℕ) (v : Vec Full) → spell (view_operand (operand.Tuple at v)) ≡ in_brackets sign.OpenRound (map view_full v.items) sign.CloseRound
 tuple_spelled at v = ap (λ (t : _). spell (tuple_of at t)) (fulls_listed v) ∙ tuple_listed at (map view_full v.items)
 
-pub list_spelled : (at : ℕ) (v : Vec Full) → spell (view_prim (prim.List at v)) ≡ in_brackets sign.OpenSquare (map view_full v.items) sign.CloseSquare
+pub list_spelled : (at : ℕ) (v : Vec Full) → spell (view_operand (operand.List at v)) ≡ in_brackets sign.OpenSquare (map view_full v.items) sign.CloseSquare
 list_spelled at v = ap (λ (t : Tree (Many AFull)). Symbol sign.OpenSquare ∷ (with_commas t ++ (Symbol sign.CloseSquare ∷ []))) (fulls_listed v) ∙ ap (λ (z : List TokenKind). Symbol sign.OpenSquare ∷ (z ++ (Symbol sign.CloseSquare ∷ []))) (commas_listed (map view_full v.items))

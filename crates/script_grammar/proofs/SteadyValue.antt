@@ -7,12 +7,12 @@ use Rattle.script_lex.specs.declared.token.Keyword.TheVariants as word
 use Rattle.script_lex.specs.declared.token.Symbol.TheVariants as sign
 use Rattle.script_grammar.specs.declared.tree.Literal.TheVariants as literal
 use Rattle.script_grammar.specs.declared.tree.CompareOp.{CompareOp}
-use Rattle.script_grammar.specs.Tree.{Tree, Many, none, more, AFull, AnAnd, ANot, ACompare, ASum, AnAdded, AProduct, AMultiplied, APrim, APOr, Negative, Plain, Expr, And, Not, Alone, Compared, Sum, Added, Product, Multiplied, Constant, Quoted, Truth, Named, Called, Chosen, Listed, Braces, Format, Call, Arg, If}
+use Rattle.script_grammar.specs.Tree.{Tree, Many, none, more, AFull, AnAnd, ANot, ACompare, ASum, AnAdded, AProduct, AMultiplied, AnOperand, APOr, Negative, Plain, Expr, And, Not, Alone, Compared, Sum, Added, Product, Multiplied, Constant, Quoted, Truth, Named, Called, Chosen, Listed, Braces, Format, Call, Arg, If}
 use Rattle.script_grammar.specs.Spelling.{option_name}
 use Rattle.script_grammar.specs.Bare.{bare}
 use Rattle.script_grammar.specs.Read.{Read, Reader, ◌>>=◌, made, both, next, expect, perhaps, many, behind, chain, closed}
 use Rattle.script_grammar.specs.Kinds.{is_or, is_and, is_not, is_minus, is_assign, is_comma, is_close_round, is_close_square, is_close_curly, is_open_round, is_then, is_else, is_end, is_added, is_multiplied, op_of}
-use Rattle.script_grammar.specs.ReadValue.{binds, optional, takes_option, digits, whole_number, the_name, size, wav, arg, args, round_or_unit, choice, call, prim, multiplied, product, added, sum, next_op, behind_op, compare, not_, and_, expr, full_step, full_by}
+use Rattle.script_grammar.specs.ReadValue.{binds, optional, takes_option, digits, whole_number, the_name, size, wav, arg, args, round_or_unit, choice, call, operand, multiplied, product, added, sum, next_op, behind_op, compare, not_, and_, expr, full_step, full_by}
 use Rattle.script_grammar.specs.ReadScript.{no_place}
 use Rattle.script_grammar.specs.Steady.{peek}
 use Rattle.script_grammar.proofs.SteadyRules.{left, Alike, Lock, ok, past, Steady, same, pair_core, decide, peeked, peek_front, next_same, quiet, alike_is, lock_eq, lock_loose, left_made, left_bind, lock_made, steady_eq, loosen, cut, given, made_at, seq_by, both_near, both_by, fails, gives, Arm, fault, idle, reads, by_first, branch}
@@ -300,32 +300,32 @@ module _ (stamp : ℕ → ℕ) (full full' : Reader (Tree AFull)) (n n' : ℕ) (
   choice_reads = made_at (λ l (x : IfParts). If (stamp (suc l)) x.0 x.1.1.0 x.1.1.1.1.0) (λ (x : IfParts). If 0 x.0 x.1.1.0 x.1.1.1.1.0) (λ l x. refl) parts_steady
 
   module _ (loose : Bool) where
-    prim_arm : (k : TokenKind) → Arm bare loose n n' (prim loose stamp full) (prim loose no_place full') k
-    unfolding prim
-    prim_arm (Int x) = reads (given (λ l. Constant (stamp (suc l)) (literal.Int x)) (Constant 0 (literal.Int x)) (λ l. refl))
-    prim_arm (Number d) = reads (given (λ l. Constant (stamp (suc l)) (literal.Number d)) (Constant 0 (literal.Number d)) (λ l. refl))
-    prim_arm (Str x) = reads (given (λ l. Quoted (stamp (suc l)) x) (Quoted 0 x) (λ l. refl))
-    prim_arm (Keyword word.True) = reads (given (λ l. Truth (stamp (suc l)) true) (Truth 0 true) (λ l. refl))
-    prim_arm (Keyword word.False) = reads (given (λ l. Truth (stamp (suc l)) false) (Truth 0 false) (λ l. refl))
-    prim_arm (Name x) = reads (given (λ l. Named (stamp (suc l)) x) (Named 0 x) (λ l. refl))
-    prim_arm (NameOpen x) = reads (made_at (λ l y. Called (Call (stamp (suc l)) x y)) (λ y. Called (Call 0 x y)) (λ l a. refl) args_steady)
-    prim_arm (Keyword word.If) = reads (made_at (λ l. Chosen) Chosen (λ l a. refl) choice_reads)
-    prim_arm (Symbol sign.OpenRound) = reads (made_at (λ l. round_or_unit (stamp (suc l))) (round_or_unit 0) (λ l a. round_bare (stamp (suc l)) a) (closed_steady is_comma is_close_round loud_comma lf))
-    prim_arm (Symbol sign.OpenSquare) = reads (made_at (λ l. Listed (stamp (suc l))) (Listed 0) (λ l a. refl) (closed_steady is_comma is_close_square loud_comma lf))
-    prim_arm (Symbol sign.OpenCurly) = reads (made_at (λ l (x : Tree APOr × Unit {0}). Braces (stamp (suc l)) x.0) (λ (x : Tree APOr × Unit {0}). Braces 0 x.0) (λ l a. refl) (both_near por_steady (expect_steady is_close_curly)))
-    prim_arm Wav = reads (made_at (λ l. Format (stamp (suc l))) (Format 0) (λ l a. refl) wav_steady)
-    prim_arm k = fault (λ u. refl) (λ u. refl)
+    operand_arm : (k : TokenKind) → Arm bare loose n n' (operand loose stamp full) (operand loose no_place full') k
+    unfolding operand
+    operand_arm (Int x) = reads (given (λ l. Constant (stamp (suc l)) (literal.Int x)) (Constant 0 (literal.Int x)) (λ l. refl))
+    operand_arm (Number d) = reads (given (λ l. Constant (stamp (suc l)) (literal.Number d)) (Constant 0 (literal.Number d)) (λ l. refl))
+    operand_arm (Str x) = reads (given (λ l. Quoted (stamp (suc l)) x) (Quoted 0 x) (λ l. refl))
+    operand_arm (Keyword word.True) = reads (given (λ l. Truth (stamp (suc l)) true) (Truth 0 true) (λ l. refl))
+    operand_arm (Keyword word.False) = reads (given (λ l. Truth (stamp (suc l)) false) (Truth 0 false) (λ l. refl))
+    operand_arm (Name x) = reads (given (λ l. Named (stamp (suc l)) x) (Named 0 x) (λ l. refl))
+    operand_arm (NameOpen x) = reads (made_at (λ l y. Called (Call (stamp (suc l)) x y)) (λ y. Called (Call 0 x y)) (λ l a. refl) args_steady)
+    operand_arm (Keyword word.If) = reads (made_at (λ l. Chosen) Chosen (λ l a. refl) choice_reads)
+    operand_arm (Symbol sign.OpenRound) = reads (made_at (λ l. round_or_unit (stamp (suc l))) (round_or_unit 0) (λ l a. round_bare (stamp (suc l)) a) (closed_steady is_comma is_close_round loud_comma lf))
+    operand_arm (Symbol sign.OpenSquare) = reads (made_at (λ l. Listed (stamp (suc l))) (Listed 0) (λ l a. refl) (closed_steady is_comma is_close_square loud_comma lf))
+    operand_arm (Symbol sign.OpenCurly) = reads (made_at (λ l (x : Tree APOr × Unit {0}). Braces (stamp (suc l)) x.0) (λ (x : Tree APOr × Unit {0}). Braces 0 x.0) (λ l a. refl) (both_near por_steady (expect_steady is_close_curly)))
+    operand_arm Wav = reads (made_at (λ l. Format (stamp (suc l))) (Format 0) (λ l a. refl) wav_steady)
+    operand_arm k = fault (λ u. refl) (λ u. refl)
 
-    prim_steady : Steady bare loose (suc n) (suc n') (prim loose stamp full) (prim loose no_place full')
-    unfolding prim
-    prim_steady = by_first (fails refl refl) prim_arm
+    operand_steady : Steady bare loose (suc n) (suc n') (operand loose stamp full) (operand loose no_place full')
+    unfolding operand
+    operand_steady = by_first (fails refl refl) operand_arm
 
     -- products
 
     multiplied_arm : (k : TokenKind) → Arm bare loose (suc n) (suc n') (multiplied loose stamp full) (multiplied loose no_place full') k
     unfolding multiplied
-    multiplied_arm (Symbol sign.Star) = reads (made_at (λ l. Multiplied (stamp (suc l)) false) (Multiplied 0 false) (λ l a. refl) prim_steady)
-    multiplied_arm (Symbol sign.Slash) = reads (made_at (λ l. Multiplied (stamp (suc l)) true) (Multiplied 0 true) (λ l a. refl) prim_steady)
+    multiplied_arm (Symbol sign.Star) = reads (made_at (λ l. Multiplied (stamp (suc l)) false) (Multiplied 0 false) (λ l a. refl) operand_steady)
+    multiplied_arm (Symbol sign.Slash) = reads (made_at (λ l. Multiplied (stamp (suc l)) true) (Multiplied 0 true) (λ l a. refl) operand_steady)
     multiplied_arm k = fault (λ u. refl) (λ u. refl)
 
     multiplied_steady : Steady bare loose (suc n) (suc n') (multiplied loose stamp full) (multiplied loose no_place full')
@@ -334,17 +334,17 @@ module _ (stamp : ℕ → ℕ) (full full' : Reader (Tree AFull)) (n n' : ℕ) (
 
     multiplied_eats : (w : List TokenKind) → Eaten (multiplied loose stamp full w) (length w)
     unfolding multiplied
-    multiplied_eats (Symbol sign.Star ∷ u) = eaten_left (multiplied loose stamp full (Symbol sign.Star ∷ u)) (suc (length u)) (let same_left = left_made (Multiplied (stamp (suc (length u))) false) (prim loose stamp full u) in let short = prim_steady.within u in omega arith)
-    multiplied_eats (Symbol sign.Slash ∷ u) = eaten_left (multiplied loose stamp full (Symbol sign.Slash ∷ u)) (suc (length u)) (let same_left = left_made (Multiplied (stamp (suc (length u))) true) (prim loose stamp full u) in let short = prim_steady.within u in omega arith)
+    multiplied_eats (Symbol sign.Star ∷ u) = eaten_left (multiplied loose stamp full (Symbol sign.Star ∷ u)) (suc (length u)) (let same_left = left_made (Multiplied (stamp (suc (length u))) false) (operand loose stamp full u) in let short = operand_steady.within u in omega arith)
+    multiplied_eats (Symbol sign.Slash ∷ u) = eaten_left (multiplied loose stamp full (Symbol sign.Slash ∷ u)) (suc (length u)) (let same_left = left_made (Multiplied (stamp (suc (length u))) true) (operand loose stamp full u) in let short = operand_steady.within u in omega arith)
     multiplied_eats w = tt
 
-    multiplieds_steady : Steady bare loose (suc n) (suc n') (many (next is_multiplied) (multiplied loose stamp full)) (many (next is_multiplied) (multiplied loose no_place full'))
-    multiplieds_steady = many_next is_multiplied loose (λ w w' pk e. alike_is loose is_multiplied loud_multiplied w w' pk e) (multiplied loose stamp full) (multiplied loose no_place full') multiplied_eats (suc n) (suc n') multiplied_steady
+    factors_steady : Steady bare loose (suc n) (suc n') (many (next is_multiplied) (multiplied loose stamp full)) (many (next is_multiplied) (multiplied loose no_place full'))
+    factors_steady = many_next is_multiplied loose (λ w w' pk e. alike_is loose is_multiplied loud_multiplied w w' pk e) (multiplied loose stamp full) (multiplied loose no_place full') multiplied_eats (suc n) (suc n') multiplied_steady
 
     product_steady : Steady bare loose (suc n) (suc n') (product loose stamp full) (product loose no_place full')
     unfolding product
-    product_steady = made_at (λ l (x : Tree APrim × Tree (Many AMultiplied)). Product x.0 x.1) (λ (x : Tree APrim × Tree (Many AMultiplied)). Product x.0 x.1) (λ l x. refl)
-        (both_by is_multiplied loud_multiplied none (λ w e. many_false (next is_multiplied) (multiplied loose stamp full) w e) (λ w e. many_false (next is_multiplied) (multiplied loose no_place full') w e) prim_steady multiplieds_steady)
+    product_steady = made_at (λ l (x : Tree AnOperand × Tree (Many AMultiplied)). Product x.0 x.1) (λ (x : Tree AnOperand × Tree (Many AMultiplied)). Product x.0 x.1) (λ l x. refl)
+        (both_by is_multiplied loud_multiplied none (λ w e. many_false (next is_multiplied) (multiplied loose stamp full) w e) (λ w e. many_false (next is_multiplied) (multiplied loose no_place full') w e) operand_steady factors_steady)
 
     -- sums
 
@@ -364,13 +364,13 @@ module _ (stamp : ℕ → ℕ) (full full' : Reader (Tree AFull)) (n n' : ℕ) (
     added_eats (Symbol sign.Minus ∷ u) = eaten_left (added loose stamp full (Symbol sign.Minus ∷ u)) (suc (length u)) (let same_left = left_made (Added (stamp (suc (length u))) true) (product loose stamp full u) in let short = product_steady.within u in omega arith)
     added_eats w = tt
 
-    addeds_steady : Steady bare loose (suc n) (suc n') (many (next is_added) (added loose stamp full)) (many (next is_added) (added loose no_place full'))
-    addeds_steady = many_next is_added loose (λ w w' pk e. alike_is loose is_added loud_added w w' pk e) (added loose stamp full) (added loose no_place full') added_eats (suc n) (suc n') added_steady
+    addends_steady : Steady bare loose (suc n) (suc n') (many (next is_added) (added loose stamp full)) (many (next is_added) (added loose no_place full'))
+    addends_steady = many_next is_added loose (λ w w' pk e. alike_is loose is_added loud_added w w' pk e) (added loose stamp full) (added loose no_place full') added_eats (suc n) (suc n') added_steady
 
     sum_steady : Steady bare loose (suc n) (suc n') (sum loose stamp full) (sum loose no_place full')
     unfolding sum
     sum_steady = made_at (λ l (x : Tree AProduct × Tree (Many AnAdded)). Sum x.0 x.1) (λ (x : Tree AProduct × Tree (Many AnAdded)). Sum x.0 x.1) (λ l x. refl)
-        (both_by is_added loud_added none (λ w e. many_false (next is_added) (added loose stamp full) w e) (λ w e. many_false (next is_added) (added loose no_place full') w e) product_steady addeds_steady)
+        (both_by is_added loud_added none (λ w e. many_false (next is_added) (added loose stamp full) w e) (λ w e. many_false (next is_added) (added loose no_place full') w e) product_steady addends_steady)
 
     -- comparisons
 
@@ -422,25 +422,25 @@ module _ (stamp : ℕ → ℕ) (full full' : Reader (Tree AFull)) (n n' : ℕ) (
 
     -- a value takes what its first constant takes
 
-    product_left : (w : List TokenKind) (l : ℕ) → left (prim loose stamp full w) ≤ l → left (product loose stamp full w) ≤ l
+    product_left : (w : List TokenKind) (l : ℕ) → left (operand loose stamp full w) ≤ l → left (product loose stamp full w) ≤ l
     unfolding product
     product_left w l e =
-        let same_left = left_made (λ (x : Tree APrim × Tree (Many AMultiplied)). Product x.0 x.1) (both (prim loose stamp full) (many (next is_multiplied) (multiplied loose stamp full)) w) in
-        let short = both_left (prim loose stamp full) (many (next is_multiplied) (multiplied loose stamp full)) multiplieds_steady.within w l e in omega arith
+        let same_left = left_made (λ (x : Tree AnOperand × Tree (Many AMultiplied)). Product x.0 x.1) (both (operand loose stamp full) (many (next is_multiplied) (multiplied loose stamp full)) w) in
+        let short = both_left (operand loose stamp full) (many (next is_multiplied) (multiplied loose stamp full)) factors_steady.within w l e in omega arith
 
-    sum_left : (w : List TokenKind) (l : ℕ) → left (prim loose stamp full w) ≤ l → left (sum loose stamp full w) ≤ l
+    sum_left : (w : List TokenKind) (l : ℕ) → left (operand loose stamp full w) ≤ l → left (sum loose stamp full w) ≤ l
     unfolding sum
     sum_left w l e =
         let same_left = left_made (λ (x : Tree AProduct × Tree (Many AnAdded)). Sum x.0 x.1) (both (product loose stamp full) (many (next is_added) (added loose stamp full)) w) in
-        let short = both_left (product loose stamp full) (many (next is_added) (added loose stamp full)) addeds_steady.within w l (product_left w l e) in omega arith
+        let short = both_left (product loose stamp full) (many (next is_added) (added loose stamp full)) addends_steady.within w l (product_left w l e) in omega arith
 
-    compare_left : (w : List TokenKind) (l : ℕ) → left (prim loose stamp full w) ≤ l → left (compare loose stamp full w) ≤ l
+    compare_left : (w : List TokenKind) (l : ℕ) → left (operand loose stamp full w) ≤ l → left (compare loose stamp full w) ≤ l
     unfolding compare
     compare_left w l e =
         let short = sum_left w l e in
         let fall = left_bind (λ (x : Tree ASum × List TokenKind). tail x.0 x.1) (λ x. (tail_steady x.0).within x.1) (sum loose stamp full w) in omega arith
 
-    not_left : (w : List TokenKind) (l : ℕ) → next is_not w ≡ false → left (prim loose stamp full w) ≤ l → left (not_ loose stamp full w) ≤ l
+    not_left : (w : List TokenKind) (l : ℕ) → next is_not w ≡ false → left (operand loose stamp full w) ≤ l → left (not_ loose stamp full w) ≤ l
     unfolding not_
     not_left w l no_not e =
         let same_left = left_made (λ (x : Bool × Tree ACompare). Not x.0 x.1) (both (perhaps is_not) (compare loose stamp full) w) in
@@ -450,29 +450,29 @@ module _ (stamp : ℕ → ℕ) (full full' : Reader (Tree AFull)) (n n' : ℕ) (
         let same_again : left (compare loose stamp full w >>= made negated) ≡ left (compare loose stamp full w) = left_made negated (compare loose stamp full w) in
         let short = compare_left w l e in omega arith
 
-    and_left : (w : List TokenKind) (l : ℕ) → next is_not w ≡ false → left (prim loose stamp full w) ≤ l → left (and_ loose stamp full w) ≤ l
+    and_left : (w : List TokenKind) (l : ℕ) → next is_not w ≡ false → left (operand loose stamp full w) ≤ l → left (and_ loose stamp full w) ≤ l
     unfolding and_ chain
     and_left w l no_not e =
         let same_left = left_made (λ (x : Tree ANot × Tree (Many ANot)). And x.0 x.1) (chain is_and (not_ loose stamp full) w) in
         let short = both_left (not_ loose stamp full) (many (next is_and) (behind is_and (not_ loose stamp full))) (others_steady is_and loud_and not_steady).within w l (not_left w l no_not e) in omega arith
 
-    expr_left : (w : List TokenKind) (l : ℕ) → next is_not w ≡ false → left (prim loose stamp full w) ≤ l → left (expr loose stamp full w) ≤ l
+    expr_left : (w : List TokenKind) (l : ℕ) → next is_not w ≡ false → left (operand loose stamp full w) ≤ l → left (expr loose stamp full w) ≤ l
     unfolding expr chain
     expr_left w l no_not e =
         let same_left = left_made (λ (x : Tree AnAnd × Tree (Many AnAnd)). Expr x.0 x.1) (chain is_or (and_ loose stamp full) w) in
         let short = both_left (and_ loose stamp full) (many (next is_or) (behind is_or (and_ loose stamp full))) (others_steady is_or loud_or and_steady).within w l (and_left w l no_not e) in omega arith
 
     pub expr_name : (x : List ℕ) (u : List TokenKind) → left (expr loose stamp full (Name x ∷ u)) ≤ length u
-    unfolding prim
+    unfolding operand
     expr_name x u = expr_left (Name x ∷ u) (length u) refl (omega arith)
 
-    prim_open : (u : List TokenKind) → left (prim loose stamp full (Symbol sign.OpenRound ∷ u)) ≡ left (closed is_comma is_close_round full u)
-    unfolding prim
-    prim_open u = left_made (round_or_unit (stamp (suc (length u)))) (closed is_comma is_close_round full u)
+    operand_open : (u : List TokenKind) → left (operand loose stamp full (Symbol sign.OpenRound ∷ u)) ≡ left (closed is_comma is_close_round full u)
+    unfolding operand
+    operand_open u = left_made (round_or_unit (stamp (suc (length u)))) (closed is_comma is_close_round full u)
 
     pub expr_open : (u : List TokenKind) → left (expr loose stamp full (Symbol sign.OpenRound ∷ u)) ≤ length u
     expr_open u =
-        let opened = prim_open u in
+        let opened = operand_open u in
         let inside : Steady bare false n n' (closed is_comma is_close_round full) (closed is_comma is_close_round full') = closed_steady is_comma is_close_round loud_comma lf in
         let short = inside.within u in
         expr_left (Symbol sign.OpenRound ∷ u) (length u) refl (omega arith)
@@ -491,7 +491,7 @@ module _ (stamp : ℕ → ℕ) (full full' : Reader (Tree AFull)) (n n' : ℕ) (
 
     pub expr_open_name : (x : List ℕ) (u : List TokenKind) → suc (length u) < n → left (expr loose stamp full (Symbol sign.OpenRound ∷ Name x ∷ u)) ≤ length u
     expr_open_name x u s =
-        let opened = prim_open (Name x ∷ u) in
+        let opened = operand_open (Name x ∷ u) in
         let short = closed_name x u s in
         expr_left (Symbol sign.OpenRound ∷ Name x ∷ u) (length u) refl (omega arith)
 

@@ -8,14 +8,14 @@ use Rattle.script_lex.specs.declared.token.Symbol.TheVariants as sign
 use Rattle.script_grammar.specs.declared.tree.Literal.TheVariants as literal
 use Rattle.script_grammar.specs.declared.tree.CompareOp.{CompareOp}
 use Rattle.script_grammar.specs.declared.tree.CompareOp.TheVariants as op
-use Rattle.script_grammar.specs.Tree.{Tree, Many, none, more, AFull, AnExpr, AnAnd, ANot, ACompare, ASum, AnAdded, AProduct, AMultiplied, APrim, ACall, AnArg, AnIf, Negative, Plain, Expr, And, Not, Alone, Compared, Sum, Added, Product, Multiplied, Constant, Quoted, Truth, Named, Called, Chosen, Nothing, Paren, Tuple, Listed, Braces, Format, Call, Arg, If}
+use Rattle.script_grammar.specs.Tree.{Tree, Many, none, more, AFull, AnExpr, AnAnd, ANot, ACompare, ASum, AnAdded, AProduct, AMultiplied, AnOperand, ACall, AnArg, AnIf, Negative, Plain, Expr, And, Not, Alone, Compared, Sum, Added, Product, Multiplied, Constant, Quoted, Truth, Named, Called, Chosen, Nothing, Paren, Tuple, Listed, Braces, Format, Call, Arg, If}
 use Rattle.script_grammar.specs.Spelling.{spell, behind, with_commas, op_token, option_name}
 use Rattle.script_grammar.specs.Bare.{bare}
 use Rattle.script_grammar.specs.Read.{Read, Reader, ◌>>=◌, made, both, next, expect, many, closed}
 use Rattle.script_grammar.specs.Kinds.{is_or, is_and, is_not, is_minus, is_assign, is_comma, is_close_round, is_close_square, is_close_curly, is_then, is_else, is_end, is_added, is_multiplied, op_of}
 use Rattle.script_grammar.specs.ReadPredicate.{por}
 use Rattle.script_grammar.specs.ReadScript.{no_place}
-use Rattle.script_grammar.specs.ReadValue.{binds, takes_option, digits, whole_number, the_name, size, wav, arg, args, round_or_unit, choice, call, prim, multiplied, product, added, sum, next_op, behind_op, compare, not_, and_, expr, full_step, full_by}
+use Rattle.script_grammar.specs.ReadValue.{binds, takes_option, digits, whole_number, the_name, size, wav, arg, args, round_or_unit, choice, call, operand, multiplied, product, added, sum, next_op, behind_op, compare, not_, and_, expr, full_step, full_by}
 use Rattle.script_grammar.proofs.Rules.{Reads, Anything, same, lift, pair_sp, pair_pl, both_reads, expect_reads, perhaps_reads, many_reads, chain_reads, closed_reads}
 use Rattle.script_grammar.proofs.Firsts.{Ends, no_option, no_op, stop_or, stop_and, stop_added, stop_multiplied, stop_assign, compare_no_not, expr_no_minus, full_binds, full_no_round, full_no_square}
 use Rattle.script_grammar.proofs.PredicateRead.{por_reads}
@@ -61,9 +61,9 @@ multiplied_long : (t : Tree AMultiplied) → 0 < length (spell t)
 multiplied_long (Multiplied at true p) = omega arith
 multiplied_long (Multiplied at false p) = omega arith
 
-multiplieds_end : (loose : Bool) (ts : Tree (Many AMultiplied)) (u : List TokenKind) → Ends loose 6 u → Ends loose 6 (spell ts ++ u)
-multiplieds_end loose none u e = e
-multiplieds_end loose (more t ts) u e = subst (Ends loose 6) (sym (append_assoc (spell t) (spell ts) u)) (multiplied_ends loose t (spell ts ++ u))
+factors_end : (loose : Bool) (ts : Tree (Many AMultiplied)) (u : List TokenKind) → Ends loose 6 u → Ends loose 6 (spell ts ++ u)
+factors_end loose none u e = e
+factors_end loose (more t ts) u e = subst (Ends loose 6) (sym (append_assoc (spell t) (spell ts) u)) (multiplied_ends loose t (spell ts ++ u))
 
 added_ends : (loose : Bool) (t : Tree AnAdded) (u : List TokenKind) → Ends loose 5 (spell t ++ u)
 added_ends loose (Added at true p) u = (omega arith, no_option loose (Symbol sign.Minus ∷ (spell p ++ u)) refl)
@@ -77,9 +77,9 @@ added_long : (t : Tree AnAdded) → 0 < length (spell t)
 added_long (Added at true p) = omega arith
 added_long (Added at false p) = omega arith
 
-addeds_end : (loose : Bool) (ts : Tree (Many AnAdded)) (u : List TokenKind) → Ends loose 5 u → Ends loose 5 (spell ts ++ u)
-addeds_end loose none u e = e
-addeds_end loose (more t ts) u e = subst (Ends loose 5) (sym (append_assoc (spell t) (spell ts) u)) (added_ends loose t (spell ts ++ u))
+addends_end : (loose : Bool) (ts : Tree (Many AnAdded)) (u : List TokenKind) → Ends loose 5 u → Ends loose 5 (spell ts ++ u)
+addends_end loose none u e = e
+addends_end loose (more t ts) u e = subst (Ends loose 5) (sym (append_assoc (spell t) (spell ts) u)) (added_ends loose t (spell ts ++ u))
 
 arg_plain : (full : Reader (Tree AFull)) (w : List TokenKind) → binds w ≡ false → arg no_place full w ≡ (full w >>= made (Arg 0 None))
 unfolding arg
@@ -137,49 +137,49 @@ module _ (full : Reader (Tree AFull)) (n : ℕ) (lf : Reads full spell bare (End
   braces_reads = both_reads (por_reads n) (expect_reads is_close_curly (Symbol sign.CloseCurly) refl) (λ b u e. omega arith)
 
   module _ (loose : Bool) where
-    round_again : (ts : Tree (Many AFull)) (w u : List TokenKind) → w ≡ with_commas ts ++ (Symbol sign.CloseRound ∷ []) → length (w ++ u) < n → prim loose no_place full (Symbol sign.OpenRound ∷ (w ++ u)) ≡ Ok (round_or_unit 0 (bare ts), u)
-    unfolding prim
+    round_again : (ts : Tree (Many AFull)) (w u : List TokenKind) → w ≡ with_commas ts ++ (Symbol sign.CloseRound ∷ []) → length (w ++ u) < n → operand loose no_place full (Symbol sign.OpenRound ∷ (w ++ u)) ≡ Ok (round_or_unit 0 (bare ts), u)
+    unfolding operand
     round_again ts w u e short =
         let short' : length ((with_commas ts ++ (Symbol sign.CloseRound ∷ [])) ++ u) < n = subst (λ (z : List TokenKind). length (z ++ u) < n) e short in
-        ap (λ (z : List TokenKind). prim loose no_place full (Symbol sign.OpenRound ∷ (z ++ u))) e ∙ lift (rounds_reads.again ts u tt short') (round_or_unit 0)
+        ap (λ (z : List TokenKind). operand loose no_place full (Symbol sign.OpenRound ∷ (z ++ u))) e ∙ lift (rounds_reads.again ts u tt short') (round_or_unit 0)
 
-    prim_again : (t : Tree APrim) (u : List TokenKind) → Ends loose 6 u → length (spell t ++ u) < suc n → prim loose no_place full (spell t ++ u) ≡ Ok (bare t, u)
-    unfolding prim args
-    prim_again (Constant at (literal.Int x)) u e short = refl
-    prim_again (Constant at (literal.Number x)) u e short = refl
-    prim_again (Quoted at x) u e short = refl
-    prim_again (Truth at true) u e short = refl
-    prim_again (Truth at false) u e short = refl
-    prim_again (Named at x) u e short = refl
-    prim_again (Called (Call at x ts)) u e short = lift (args_reads.again ts u tt (omega arith)) (λ y. Called (Call 0 x y))
-    prim_again (Chosen (If at c t f)) u e short = lift (choice_again (If at c t f) u tt short) Chosen
-    prim_again (Nothing at) u e short = round_again none (Symbol sign.CloseRound ∷ []) u refl (omega arith)
-    prim_again (Paren f) u e short = round_again (more f none) (spell f ++ (Symbol sign.CloseRound ∷ [])) u (ap (λ (z : List TokenKind). z ++ (Symbol sign.CloseRound ∷ [])) (sym (append-nil (spell f)))) (omega arith)
-    prim_again (Tuple at f g rest) u e short =
+    operand_again : (t : Tree AnOperand) (u : List TokenKind) → Ends loose 6 u → length (spell t ++ u) < suc n → operand loose no_place full (spell t ++ u) ≡ Ok (bare t, u)
+    unfolding operand args
+    operand_again (Constant at (literal.Int x)) u e short = refl
+    operand_again (Constant at (literal.Number x)) u e short = refl
+    operand_again (Quoted at x) u e short = refl
+    operand_again (Truth at true) u e short = refl
+    operand_again (Truth at false) u e short = refl
+    operand_again (Named at x) u e short = refl
+    operand_again (Called (Call at x ts)) u e short = lift (args_reads.again ts u tt (omega arith)) (λ y. Called (Call 0 x y))
+    operand_again (Chosen (If at c t f)) u e short = lift (choice_again (If at c t f) u tt short) Chosen
+    operand_again (Nothing at) u e short = round_again none (Symbol sign.CloseRound ∷ []) u refl (omega arith)
+    operand_again (Paren f) u e short = round_again (more f none) (spell f ++ (Symbol sign.CloseRound ∷ [])) u (ap (λ (z : List TokenKind). z ++ (Symbol sign.CloseRound ∷ [])) (sym (append-nil (spell f)))) (omega arith)
+    operand_again (Tuple at f g rest) u e short =
         let b = behind (Symbol sign.Comma) rest in
         let k = Symbol sign.CloseRound ∷ [] in
         round_again (more f (more g rest)) (spell f ++ (Symbol sign.Comma ∷ (spell g ++ (b ++ k)))) u (sym (append_assoc (spell f) (Symbol sign.Comma ∷ (spell g ++ b)) k ∙ ap (λ (z : List TokenKind). spell f ++ (Symbol sign.Comma ∷ z)) (append_assoc (spell g) b k))) (omega arith)
-    prim_again (Listed at ts) u e short = lift (squares_reads.again ts u tt (omega arith)) (Listed 0)
-    prim_again (Braces at p) u e short = lift (braces_reads.again (p, tt) u tt (omega arith)) (λ x. Braces 0 x.0)
-    prim_again (Format at None) u e short = lift (wav_none loose u e.1) (Format 0)
-    prim_again (Format at (Some x)) u e short = lift (wav_some loose x u) (Format 0)
+    operand_again (Listed at ts) u e short = lift (squares_reads.again ts u tt (omega arith)) (Listed 0)
+    operand_again (Braces at p) u e short = lift (braces_reads.again (p, tt) u tt (omega arith)) (λ x. Braces 0 x.0)
+    operand_again (Format at None) u e short = lift (wav_none loose u e.1) (Format 0)
+    operand_again (Format at (Some x)) u e short = lift (wav_some loose x u) (Format 0)
 
-    prim_reads : Reads (prim loose no_place full) spell bare (Ends loose 6) (suc n)
-    prim_reads = record { again = prim_again }
+    operand_reads : Reads (operand loose no_place full) spell bare (Ends loose 6) (suc n)
+    operand_reads = record { again = operand_again }
 
     -- ---- products, sums, comparisons
 
     multiplied_again : (t : Tree AMultiplied) (u : List TokenKind) → Ends loose 6 u → length (spell t ++ u) < suc n → multiplied loose no_place full (spell t ++ u) ≡ Ok (bare t, u)
     unfolding multiplied
-    multiplied_again (Multiplied at true p) u e short = lift (prim_again p u e (omega arith)) (Multiplied 0 true)
-    multiplied_again (Multiplied at false p) u e short = lift (prim_again p u e (omega arith)) (Multiplied 0 false)
+    multiplied_again (Multiplied at true p) u e short = lift (operand_again p u e (omega arith)) (Multiplied 0 true)
+    multiplied_again (Multiplied at false p) u e short = lift (operand_again p u e (omega arith)) (Multiplied 0 false)
 
-    multiplieds_reads : Reads (many (next is_multiplied) (multiplied loose no_place full)) (λ (ts : Tree (Many AMultiplied)). spell ts) bare (λ u. Ends loose 6 u × (next is_multiplied u ≡ false)) (suc n)
-    multiplieds_reads = many_reads (next is_multiplied) (multiplied loose no_place full) spell (Ends loose 6) (suc n) (record { again = multiplied_again }) (λ (ts : Tree (Many AMultiplied)). spell ts) refl (λ t ts. refl) multiplied_starts (multiplied_ends loose) multiplied_long
+    factors_reads : Reads (many (next is_multiplied) (multiplied loose no_place full)) (λ (ts : Tree (Many AMultiplied)). spell ts) bare (λ u. Ends loose 6 u × (next is_multiplied u ≡ false)) (suc n)
+    factors_reads = many_reads (next is_multiplied) (multiplied loose no_place full) spell (Ends loose 6) (suc n) (record { again = multiplied_again }) (λ (ts : Tree (Many AMultiplied)). spell ts) refl (λ t ts. refl) multiplied_starts (multiplied_ends loose) multiplied_long
 
     product_again : (t : Tree AProduct) (u : List TokenKind) → Ends loose 5 u → length (spell t ++ u) < suc n → product loose no_place full (spell t ++ u) ≡ Ok (bare t, u)
     unfolding product
-    product_again (Product p rest) u e short = lift ((both_reads prim_reads multiplieds_reads (λ ts u e. multiplieds_end loose ts u e.0)).again (p, rest) u ((omega (arith, e.0), e.1), stop_multiplied u e.0) short) (λ x. Product x.0 x.1)
+    product_again (Product p rest) u e short = lift ((both_reads operand_reads factors_reads (λ ts u e. factors_end loose ts u e.0)).again (p, rest) u ((omega (arith, e.0), e.1), stop_multiplied u e.0) short) (λ x. Product x.0 x.1)
 
     product_reads : Reads (product loose no_place full) spell bare (Ends loose 5) (suc n)
     product_reads = record { again = product_again }
@@ -189,12 +189,12 @@ module _ (full : Reader (Tree AFull)) (n : ℕ) (lf : Reads full spell bare (End
     added_again (Added at true p) u e short = lift (product_again p u e (omega arith)) (Added 0 true)
     added_again (Added at false p) u e short = lift (product_again p u e (omega arith)) (Added 0 false)
 
-    addeds_reads : Reads (many (next is_added) (added loose no_place full)) (λ (ts : Tree (Many AnAdded)). spell ts) bare (λ u. Ends loose 5 u × (next is_added u ≡ false)) (suc n)
-    addeds_reads = many_reads (next is_added) (added loose no_place full) spell (Ends loose 5) (suc n) (record { again = added_again }) (λ (ts : Tree (Many AnAdded)). spell ts) refl (λ t ts. refl) added_starts (added_ends loose) added_long
+    addends_reads : Reads (many (next is_added) (added loose no_place full)) (λ (ts : Tree (Many AnAdded)). spell ts) bare (λ u. Ends loose 5 u × (next is_added u ≡ false)) (suc n)
+    addends_reads = many_reads (next is_added) (added loose no_place full) spell (Ends loose 5) (suc n) (record { again = added_again }) (λ (ts : Tree (Many AnAdded)). spell ts) refl (λ t ts. refl) added_starts (added_ends loose) added_long
 
     sum_again : (t : Tree ASum) (u : List TokenKind) → Ends loose 4 u → length (spell t ++ u) < suc n → sum loose no_place full (spell t ++ u) ≡ Ok (bare t, u)
     unfolding sum
-    sum_again (Sum p rest) u e short = lift ((both_reads product_reads addeds_reads (λ ts u e. addeds_end loose ts u e.0)).again (p, rest) u ((omega (arith, e.0), e.1), stop_added u e.0) short) (λ x. Sum x.0 x.1)
+    sum_again (Sum p rest) u e short = lift ((both_reads product_reads addends_reads (λ ts u e. addends_end loose ts u e.0)).again (p, rest) u ((omega (arith, e.0), e.1), stop_added u e.0) short) (λ x. Sum x.0 x.1)
 
     compare_again : (t : Tree ACompare) (u : List TokenKind) → Ends loose 3 u → length (spell t ++ u) < suc n → compare loose no_place full (spell t ++ u) ≡ Ok (bare t, u)
     unfolding compare

@@ -5,7 +5,7 @@ use Rattle.std.specs.List.{All, AllByRecursion}
 use Rattle.std.specs.Global.{Vec}
 use Rattle.std.proofs.lemmas.List.Elements.{All-cons, recursion_from_All}
 use Rattle.script_grammar.specs.View.{view_pand, view_pnot, view_full, listed}
-use Rattle.script_grammar.specs.Whole.{HasPart, HasTwo, IsWholePOr, AreWholePAnds, IsWholePAnd, AreWholePNots, IsWholePNot, IsWholeExpr, AreWholeAnds, IsWholeAnd, AreWholeNots, IsWholeNot, IsWholeSum, AreWholeAddeds, IsWholeAdded, IsWholeProduct, AreWholeMultiplieds, IsWholeMultiplied, IsWholePrim, AreWholeFulls, IsWholeFull, IsWholeCall, AreWholeArgs, IsWholeArg}
+use Rattle.script_grammar.specs.Whole.{HasPart, HasTwo, IsWholePOr, AreWholePAnds, IsWholePAnd, AreWholePNots, IsWholePNot, IsWholeExpr, AreWholeAnds, IsWholeAnd, AreWholeNots, IsWholeNot, IsWholeSum, AreWholeAddends, IsWholeAdded, IsWholeProduct, AreWholeFactors, IsWholeMultiplied, IsWholeOperand, AreWholeFulls, IsWholeFull, IsWholeCall, AreWholeArgs, IsWholeArg}
 use Rattle.script_grammar.specs.declared.tree.Full.{Full}
 use Rattle.script_grammar.specs.declared.tree.Full.TheBlock as block
 use Rattle.script_grammar.specs.declared.predicate.PAtom.TheBlock as pblock
@@ -16,7 +16,7 @@ use Rattle.script_grammar.specs.declared.tree.Sum as sum
 use Rattle.script_grammar.specs.declared.tree.Added as added
 use Rattle.script_grammar.specs.declared.tree.Product as product
 use Rattle.script_grammar.specs.declared.tree.Multiplied as multiplied
-use Rattle.script_grammar.specs.declared.tree.Operand as prim
+use Rattle.script_grammar.specs.declared.tree.Operand as operand
 use Rattle.script_grammar.specs.declared.tree.Call as call
 use Rattle.script_grammar.specs.declared.tree.Arg as arg
 use Rattle.script_grammar.specs.declared.predicate.POr as por
@@ -42,17 +42,17 @@ nots_row : (n : _) (row : and_.Row_of-Not n) → AllByRecursion IsWholeNot (and_
 nots_row n and_.end_of-Not h = tt
 nots_row n (and_.more_of-Not a rest) h = (h.0, nots_row _ rest h.1)
 
-addeds_row : (n : _) (row : sum.Row_of-Added n) → AllByRecursion IsWholeAdded (sum.items-the_row-Added n row) → AreWholeAddeds row
-addeds_row n sum.end_of-Added h = tt
-addeds_row n (sum.more_of-Added a rest) h = (h.0, addeds_row _ rest h.1)
+addends_row : (n : _) (row : sum.Row_of-Added n) → AllByRecursion IsWholeAdded (sum.items-the_row-Added n row) → AreWholeAddends row
+addends_row n sum.end_of-Added h = tt
+addends_row n (sum.more_of-Added a rest) h = (h.0, addends_row _ rest h.1)
 
-multiplieds_row : (n : _) (row : product.Row_of-Multiplied n) → AllByRecursion IsWholeMultiplied (product.items-the_row-Multiplied n row) → AreWholeMultiplieds row
-multiplieds_row n product.end_of-Multiplied h = tt
-multiplieds_row n (product.more_of-Multiplied at divide p rest) h = (h.0, multiplieds_row _ rest h.1)
+factors_row : (n : _) (row : product.Row_of-Multiplied n) → AllByRecursion IsWholeMultiplied (product.items-the_row-Multiplied n row) → AreWholeFactors row
+factors_row n product.end_of-Multiplied h = tt
+factors_row n (product.more_of-Multiplied at divide p rest) h = (h.0, factors_row _ rest h.1)
 
-fulls_row : (n : _) (row : prim.Row_of-Full n) → AllByRecursion IsWholeFull (prim.items-the_row-Full n row) → AreWholeFulls row
-fulls_row n prim.end_of-Full h = tt
-fulls_row n (prim.more_of-Full f rest) h = (h.0, fulls_row _ rest h.1)
+fulls_row : (n : _) (row : operand.Row_of-Full n) → AllByRecursion IsWholeFull (operand.items-the_row-Full n row) → AreWholeFulls row
+fulls_row n operand.end_of-Full h = tt
+fulls_row n (operand.more_of-Full f rest) h = (h.0, fulls_row _ rest h.1)
 
 args_row : (n : _) (row : call.Row_of-Arg n) → AllByRecursion IsWholeArg (call.items-the_row-Arg n row) → AreWholeArgs row
 args_row n call.end_of-Arg h = tt
@@ -72,14 +72,14 @@ ands_vec v h = ands_row _ (block.hidden-the_row-And-3 v) (subst (AllByRecursion 
 nots_vec : (v : Vec not_.Not) → All IsWholeNot v.items → AreWholeNots (block.hidden-the_row-Not-1 v)
 nots_vec v h = nots_row _ (block.hidden-the_row-Not-1 v) (subst (AllByRecursion IsWholeNot) (sym (and_.items_hidden-the_row-Not-1 v)) (recursion_from_All IsWholeNot v.items h))
 
-addeds_vec : (v : Vec added.Added) → All IsWholeAdded v.items → AreWholeAddeds (block.hidden-the_row-Added-5 v)
-addeds_vec v h = addeds_row _ (block.hidden-the_row-Added-5 v) (subst (AllByRecursion IsWholeAdded) (sym (sum.items_hidden-the_row-Added-5 v)) (recursion_from_All IsWholeAdded v.items h))
+addends_vec : (v : Vec added.Added) → All IsWholeAdded v.items → AreWholeAddends (block.hidden-the_row-Added-5 v)
+addends_vec v h = addends_row _ (block.hidden-the_row-Added-5 v) (subst (AllByRecursion IsWholeAdded) (sym (sum.items_hidden-the_row-Added-5 v)) (recursion_from_All IsWholeAdded v.items h))
 
-multiplieds_vec : (v : Vec multiplied.Multiplied) → All IsWholeMultiplied v.items → AreWholeMultiplieds (block.hidden-the_row-Multiplied-4 v)
-multiplieds_vec v h = multiplieds_row _ (block.hidden-the_row-Multiplied-4 v) (subst (AllByRecursion IsWholeMultiplied) (sym (product.items_hidden-the_row-Multiplied-4 v)) (recursion_from_All IsWholeMultiplied v.items h))
+factors_vec : (v : Vec multiplied.Multiplied) → All IsWholeMultiplied v.items → AreWholeFactors (block.hidden-the_row-Multiplied-4 v)
+factors_vec v h = factors_row _ (block.hidden-the_row-Multiplied-4 v) (subst (AllByRecursion IsWholeMultiplied) (sym (product.items_hidden-the_row-Multiplied-4 v)) (recursion_from_All IsWholeMultiplied v.items h))
 
 fulls_vec : (v : Vec Full) → All IsWholeFull v.items → AreWholeFulls (block.hidden-the_row-Full-0 v)
-fulls_vec v h = fulls_row _ (block.hidden-the_row-Full-0 v) (subst (AllByRecursion IsWholeFull) (sym (prim.items_hidden-the_row-Full-0 v)) (recursion_from_All IsWholeFull v.items h))
+fulls_vec v h = fulls_row _ (block.hidden-the_row-Full-0 v) (subst (AllByRecursion IsWholeFull) (sym (operand.items_hidden-the_row-Full-0 v)) (recursion_from_All IsWholeFull v.items h))
 
 args_vec : (v : Vec arg.Arg) → All IsWholeArg v.items → AreWholeArgs (block.hidden-the_row-Arg-2 v)
 args_vec v h = args_row _ (block.hidden-the_row-Arg-2 v) (subst (AllByRecursion IsWholeArg) (sym (call.items_hidden-the_row-Arg-2 v)) (recursion_from_All IsWholeArg v.items h))
@@ -93,22 +93,22 @@ pub and_whole : (f : not_.Not) (v : Vec not_.Not) → IsWholeNot f → All IsWho
 and_whole f v a h = subst IsWholeAnd (sym (and_.rolls-And' (record { first = f; rest = v }))) (a, nots_vec v h)
 
 pub sum_whole : (f : product.Product) (v : Vec added.Added) → IsWholeProduct f → All IsWholeAdded v.items → IsWholeSum (sum.roll-Sum (record { first = f; rest = v }))
-sum_whole f v a h = subst IsWholeSum (sym (sum.rolls-Sum' (record { first = f; rest = v }))) (a, addeds_vec v h)
+sum_whole f v a h = subst IsWholeSum (sym (sum.rolls-Sum' (record { first = f; rest = v }))) (a, addends_vec v h)
 
-pub product_whole : (f : prim.Operand) (v : Vec multiplied.Multiplied) → IsWholePrim f → All IsWholeMultiplied v.items → IsWholeProduct (product.roll-Product (record { first = f; rest = v }))
-product_whole f v a h = subst IsWholeProduct (sym (product.rolls-Product' (record { first = f; rest = v }))) (a, multiplieds_vec v h)
+pub product_whole : (f : operand.Operand) (v : Vec multiplied.Multiplied) → IsWholeOperand f → All IsWholeMultiplied v.items → IsWholeProduct (product.roll-Product (record { first = f; rest = v }))
+product_whole f v a h = subst IsWholeProduct (sym (product.rolls-Product' (record { first = f; rest = v }))) (a, factors_vec v h)
 
 pub call_whole : (at : ℕ) (name : List ℕ) (v : Vec arg.Arg) → All IsWholeArg v.items → IsWholeCall (call.roll-Call (record { at = at; name = name; args = v }))
 call_whole at name v h = subst IsWholeCall (sym (call.rolls-Call' (record { at = at; name = name; args = v }))) (args_vec v h)
 
-pub list_whole : (at : ℕ) (v : Vec Full) → All IsWholeFull v.items → IsWholePrim (prim.List at v)
+pub list_whole : (at : ℕ) (v : Vec Full) → All IsWholeFull v.items → IsWholeOperand (operand.List at v)
 list_whole at v h = fulls_vec v h
 
 two_parts : (f : Full) (fs : List Full) → 0 < length fs → HasTwo (listed (map view_full (f ∷ fs)))
 two_parts f [] lt = absurd (omega arith)
 two_parts f (g ∷ fs) lt = tt
 
-pub tuple_whole : (at : ℕ) (f : Full) (fs : List Full) (v : Vec Full) → 0 < length fs → v.items ≡ f ∷ fs → IsWholeFull f → All IsWholeFull fs → IsWholePrim (prim.Tuple at v)
+pub tuple_whole : (at : ℕ) (f : Full) (fs : List Full) (v : Vec Full) → 0 < length fs → v.items ≡ f ∷ fs → IsWholeFull f → All IsWholeFull fs → IsWholeOperand (operand.Tuple at v)
 tuple_whole at f fs v lt e a h = (
   subst HasTwo (sym (fulls_listed v ∙ ap (λ (l : List Full). listed (map view_full l)) e)) (two_parts f fs lt),
   fulls_vec v (subst (All IsWholeFull) (sym e) (All-cons IsWholeFull f fs a h)),

@@ -6,7 +6,7 @@ use Rattle.script_lex.specs.declared.token.TokenKind.{TokenKind}
 use Rattle.script_lex.specs.declared.token.TokenKind.TheVariants.{Name, NameOpen, Keyword, Symbol}
 use Rattle.script_lex.specs.declared.token.Keyword.TheVariants as word
 use Rattle.script_lex.specs.declared.token.Symbol.TheVariants as sign
-use Rattle.script_grammar.specs.Tree.{Sort, Tree, Many, AStmt, APrim, ASum, ACompare, AnAnd, AFull, none, more, Stmt, BindPart, DefPart, CallPart, IfPart, Bind, Def, Inner, Param, Labelled, Optional, Negative, Plain, Expr, And, Not, Alone, Compared, Sum, Added, Product, Multiplied, Constant, Quoted, Truth, Named, Called, Chosen, Nothing, Paren, Tuple, Listed, Braces, Format, Call, Arg, If, POr, PAnd, PNot, Always, Never, Mark, Between, Grouped}
+use Rattle.script_grammar.specs.Tree.{Sort, Tree, Many, AStmt, AnOperand, ASum, ACompare, AnAnd, AFull, none, more, Stmt, BindPart, DefPart, CallPart, IfPart, Bind, Def, Inner, Param, Labelled, Optional, Negative, Plain, Expr, And, Not, Alone, Compared, Sum, Added, Product, Multiplied, Constant, Quoted, Truth, Named, Called, Chosen, Nothing, Paren, Tuple, Listed, Braces, Format, Call, Arg, If, POr, PAnd, PNot, Always, Never, Mark, Between, Grouped}
 use Rattle.script_grammar.specs.Spelling.{spell, behind, with_commas, token_if, label, literal_token, truth_token, op_token, wav_tokens, added_token, multiplied_token}
 use Rattle.script_grammar.specs.Placed.{IsPlaced, IsBehind, IsApart}
 use Rattle.script_grammar.specs.Ats.{ats}
@@ -18,24 +18,24 @@ some_token (Stmt (CallPart (Call at name args)) semicolon) = omega arith
 some_token (Stmt (IfPart (If at c t e)) semicolon) = omega arith
 
 -- so has each expression
-prim_some : (t : Tree APrim) → 0 < length (spell t)
-prim_some (Constant at value) = omega arith
-prim_some (Quoted at text) = omega arith
-prim_some (Truth at value) = omega arith
-prim_some (Named at name) = omega arith
-prim_some (Called (Call at name args)) = omega arith
-prim_some (Chosen (If at c t e)) = omega arith
-prim_some (Nothing at) = omega arith
-prim_some (Paren f) = omega arith
-prim_some (Tuple at f g rest) = omega arith
-prim_some (Listed at parts) = omega arith
-prim_some (Braces at pred) = omega arith
-prim_some (Format at None) = omega arith
-prim_some (Format at (Some size)) = omega arith
+operand_some : (t : Tree AnOperand) → 0 < length (spell t)
+operand_some (Constant at value) = omega arith
+operand_some (Quoted at text) = omega arith
+operand_some (Truth at value) = omega arith
+operand_some (Named at name) = omega arith
+operand_some (Called (Call at name args)) = omega arith
+operand_some (Chosen (If at c t e)) = omega arith
+operand_some (Nothing at) = omega arith
+operand_some (Paren f) = omega arith
+operand_some (Tuple at f g rest) = omega arith
+operand_some (Listed at parts) = omega arith
+operand_some (Braces at pred) = omega arith
+operand_some (Format at None) = omega arith
+operand_some (Format at (Some size)) = omega arith
 
 sum_some : (t : Tree ASum) → 0 < length (spell t)
 sum_some (Sum (Product p ms) rest) =
-    let a = prim_some p in
+    let a = operand_some p in
     let n = length-append (spell p) (spell ms) in
     let m = length-append (spell p ++ spell ms) (spell rest) in
     omega (arith, a, n, m)

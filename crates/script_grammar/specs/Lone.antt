@@ -1,14 +1,14 @@
 -- An expression that is one operand, behind `not` or not.
 use Rattle.std.specs.Prelude.{◌≡◌, ◌<◌, Bool, false}
-use Rattle.script_grammar.specs.Tree.{Tree, AnExpr, APrim, none, Expr, And, Not, Alone, Sum, Product}
-use Rattle.script_grammar.specs.View.{view_expr, view_prim}
+use Rattle.script_grammar.specs.Tree.{Tree, AnExpr, AnOperand, none, Expr, And, Not, Alone, Sum, Product}
+use Rattle.script_grammar.specs.View.{view_expr, view_operand}
 use Rattle.script_grammar.specs.declared.tree.Expr as expr
-use Rattle.script_grammar.specs.declared.tree.Operand as prim
+use Rattle.script_grammar.specs.declared.tree.Operand as operand
 
-abbrev pub lone : Bool → Tree APrim → Tree AnExpr
+abbrev pub lone : Bool → Tree AnOperand → Tree AnExpr
 lone negated p = Expr (And (Not negated (Alone (Sum (Product p none) none))) none) none
 
 -- the expression is no more than the operand, which lies inside it
-pub record IsLone (e : expr.Expr) (p : prim.Operand) : Type 0 where
-  pub seen : view_expr e ≡ lone false (view_prim p)
-  pub below : prim.size-Operand p < expr.size-Expr e
+pub record IsLone (e : expr.Expr) (p : operand.Operand) : Type 0 where
+  pub seen : view_expr e ≡ lone false (view_operand p)
+  pub below : operand.size-Operand p < expr.size-Expr e

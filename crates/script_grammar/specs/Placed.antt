@@ -37,7 +37,7 @@ abbrev mutual
   IsPlaced i (Sum first rest) = IsPlaced i first × IsPlaced (i + length (spell first)) rest
   IsPlaced i (Added at minus product) = (at ≡ i) × IsPlaced (i + 1) product
   IsPlaced i (Product first rest) = IsPlaced i first × IsPlaced (i + length (spell first)) rest
-  IsPlaced i (Multiplied at divide prim) = (at ≡ i) × IsPlaced (i + 1) prim
+  IsPlaced i (Multiplied at divide operand) = (at ≡ i) × IsPlaced (i + 1) operand
   IsPlaced i (Constant at value) = at ≡ i
   IsPlaced i (Quoted at text) = at ≡ i
   IsPlaced i (Truth at value) = at ≡ i

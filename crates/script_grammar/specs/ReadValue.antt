@@ -8,7 +8,7 @@ use Rattle.script_lex.specs.declared.token.Symbol.TheVariants as sign
 use Rattle.script_grammar.specs.declared.tree.Literal.{Literal}
 use Rattle.script_grammar.specs.declared.tree.Literal.TheVariants as literal
 use Rattle.script_grammar.specs.declared.tree.CompareOp.{CompareOp}
-use Rattle.script_grammar.specs.Tree.{Tree, Many, none, more, AFull, AnExpr, AnAnd, ANot, ACompare, ASum, AnAdded, AProduct, AMultiplied, APrim, ACall, AnArg, AnIf, Negative, Plain, Expr, And, Not, Alone, Compared, Sum, Added, Product, Multiplied, Constant, Quoted, Truth, Named, Called, Chosen, Nothing, Paren, Tuple, Listed, Braces, Format, Call, Arg, If}
+use Rattle.script_grammar.specs.Tree.{Tree, Many, none, more, AFull, AnExpr, AnAnd, ANot, ACompare, ASum, AnAdded, AProduct, AMultiplied, AnOperand, ACall, AnArg, AnIf, Negative, Plain, Expr, And, Not, Alone, Compared, Sum, Added, Product, Multiplied, Constant, Quoted, Truth, Named, Called, Chosen, Nothing, Paren, Tuple, Listed, Braces, Format, Call, Arg, If}
 use Rattle.script_grammar.specs.Spelling.{option_name}
 use Rattle.script_grammar.specs.Read.{Reader, ◌>>=◌, made, both, next, expect, perhaps, many, chain, closed}
 use Rattle.script_grammar.specs.Kinds.{is_or, is_and, is_not, is_assign, is_comma, is_close_round, is_close_square, is_close_curly, is_open_round, is_then, is_else, is_end, is_added, is_multiplied, op_of}
@@ -72,11 +72,11 @@ unfoldable pub args : (ℕ → ℕ) → Reader (Tree AFull) → Reader (Tree (Ma
 args stamp full w = closed is_comma is_close_round (arg stamp full) w
 
 -- one value in parentheses, or a tuple
-abbrev pub round_of : ℕ → Tree AFull → Tree (Many AFull) → Tree APrim
+abbrev pub round_of : ℕ → Tree AFull → Tree (Many AFull) → Tree AnOperand
 round_of at f none = Paren f
 round_of at f (more g rest) = Tuple at f g rest
 
-abbrev pub round_or_unit : ℕ → Tree (Many AFull) → Tree APrim
+abbrev pub round_or_unit : ℕ → Tree (Many AFull) → Tree AnOperand
 round_or_unit at none = Nothing at
 round_or_unit at (more f rest) = round_of at f rest
 
@@ -88,28 +88,28 @@ unfoldable pub call : (ℕ → ℕ) → Reader (Tree AFull) → Reader (Tree ACa
 call stamp full (NameOpen n ∷ r) = args stamp full r >>= made (Call (stamp (suc (length r))) n)
 call stamp full w = Err (length w)
 
-unfoldable pub prim : Bool → (ℕ → ℕ) → Reader (Tree AFull) → Reader (Tree APrim)
-prim loose stamp full (Int n ∷ r) = Ok (Constant (stamp (suc (length r))) (literal.Int n), r)
-prim loose stamp full (Number d ∷ r) = Ok (Constant (stamp (suc (length r))) (literal.Number d), r)
-prim loose stamp full (Str x ∷ r) = Ok (Quoted (stamp (suc (length r))) x, r)
-prim loose stamp full (Keyword word.True ∷ r) = Ok (Truth (stamp (suc (length r))) true, r)
-prim loose stamp full (Keyword word.False ∷ r) = Ok (Truth (stamp (suc (length r))) false, r)
-prim loose stamp full (Name x ∷ r) = Ok (Named (stamp (suc (length r))) x, r)
-prim loose stamp full (NameOpen x ∷ r) = args stamp full r >>= made (λ y. Called (Call (stamp (suc (length r))) x y))
-prim loose stamp full (Keyword word.If ∷ r) = choice stamp full (Keyword word.If ∷ r) >>= made Chosen
-prim loose stamp full (Symbol sign.OpenRound ∷ r) = closed is_comma is_close_round full r >>= made (round_or_unit (stamp (suc (length r))))
-prim loose stamp full (Symbol sign.OpenSquare ∷ r) = closed is_comma is_close_square full r >>= made (Listed (stamp (suc (length r))))
-prim loose stamp full (Symbol sign.OpenCurly ∷ r) = both por (expect is_close_curly) r >>= made (λ x. Braces (stamp (suc (length r))) x.0)
-prim loose stamp full (Wav ∷ r) = wav loose r >>= made (Format (stamp (suc (length r))))
-prim loose stamp full w = Err (length w)
+unfoldable pub operand : Bool → (ℕ → ℕ) → Reader (Tree AFull) → Reader (Tree AnOperand)
+operand loose stamp full (Int n ∷ r) = Ok (Constant (stamp (suc (length r))) (literal.Int n), r)
+operand loose stamp full (Number d ∷ r) = Ok (Constant (stamp (suc (length r))) (literal.Number d), r)
+operand loose stamp full (Str x ∷ r) = Ok (Quoted (stamp (suc (length r))) x, r)
+operand loose stamp full (Keyword word.True ∷ r) = Ok (Truth (stamp (suc (length r))) true, r)
+operand loose stamp full (Keyword word.False ∷ r) = Ok (Truth (stamp (suc (length r))) false, r)
+operand loose stamp full (Name x ∷ r) = Ok (Named (stamp (suc (length r))) x, r)
+operand loose stamp full (NameOpen x ∷ r) = args stamp full r >>= made (λ y. Called (Call (stamp (suc (length r))) x y))
+operand loose stamp full (Keyword word.If ∷ r) = choice stamp full (Keyword word.If ∷ r) >>= made Chosen
+operand loose stamp full (Symbol sign.OpenRound ∷ r) = closed is_comma is_close_round full r >>= made (round_or_unit (stamp (suc (length r))))
+operand loose stamp full (Symbol sign.OpenSquare ∷ r) = closed is_comma is_close_square full r >>= made (Listed (stamp (suc (length r))))
+operand loose stamp full (Symbol sign.OpenCurly ∷ r) = both por (expect is_close_curly) r >>= made (λ x. Braces (stamp (suc (length r))) x.0)
+operand loose stamp full (Wav ∷ r) = wav loose r >>= made (Format (stamp (suc (length r))))
+operand loose stamp full w = Err (length w)
 
 unfoldable pub multiplied : Bool → (ℕ → ℕ) → Reader (Tree AFull) → Reader (Tree AMultiplied)
-multiplied loose stamp full (Symbol sign.Star ∷ r) = prim loose stamp full r >>= made (Multiplied (stamp (suc (length r))) false)
-multiplied loose stamp full (Symbol sign.Slash ∷ r) = prim loose stamp full r >>= made (Multiplied (stamp (suc (length r))) true)
+multiplied loose stamp full (Symbol sign.Star ∷ r) = operand loose stamp full r >>= made (Multiplied (stamp (suc (length r))) false)
+multiplied loose stamp full (Symbol sign.Slash ∷ r) = operand loose stamp full r >>= made (Multiplied (stamp (suc (length r))) true)
 multiplied loose stamp full w = Err (length w)
 
 unfoldable pub product : Bool → (ℕ → ℕ) → Reader (Tree AFull) → Reader (Tree AProduct)
-product loose stamp full w = both (prim loose stamp full) (many (next is_multiplied) (multiplied loose stamp full)) w >>= made (λ x. Product x.0 x.1)
+product loose stamp full w = both (operand loose stamp full) (many (next is_multiplied) (multiplied loose stamp full)) w >>= made (λ x. Product x.0 x.1)
 
 unfoldable pub added : Bool → (ℕ → ℕ) → Reader (Tree AFull) → Reader (Tree AnAdded)
 added loose stamp full (Symbol sign.Plus ∷ r) = product loose stamp full r >>= made (Added (stamp (suc (length r))) false)

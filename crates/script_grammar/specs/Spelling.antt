@@ -77,7 +77,7 @@ abbrev mutual
   spell (Sum first rest) = spell first ++ spell rest
   spell (Added at minus product) = added_token minus ∷ spell product
   spell (Product first rest) = spell first ++ spell rest
-  spell (Multiplied at divide prim) = multiplied_token divide ∷ spell prim
+  spell (Multiplied at divide operand) = multiplied_token divide ∷ spell operand
   spell (Constant at value) = literal_token value ∷ []
   spell (Quoted at text) = Str text ∷ []
   spell (Truth at value) = truth_token value ∷ []

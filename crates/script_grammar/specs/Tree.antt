@@ -21,7 +21,7 @@ pub data Sort : Type 0 where
   AnAdded : Sort
   AProduct : Sort
   AMultiplied : Sort
-  APrim : Sort
+  AnOperand : Sort
   ACall : Sort
   AnArg : Sort
   AnIf : Sort
@@ -67,23 +67,23 @@ pub data Tree : Sort → Type 0 where
   Sum : Tree AProduct → Tree (Many AnAdded) → Tree ASum
   Added : (at : ℕ) → (minus : Bool) → Tree AProduct → Tree AnAdded
   -- Product = Operand (("*" | "/") Operand)*
-  Product : Tree APrim → Tree (Many AMultiplied) → Tree AProduct
-  Multiplied : (at : ℕ) → (divide : Bool) → Tree APrim → Tree AMultiplied
+  Product : Tree AnOperand → Tree (Many AMultiplied) → Tree AProduct
+  Multiplied : (at : ℕ) → (divide : Bool) → Tree AnOperand → Tree AMultiplied
   -- Operand = Int | Number | Str | "true" | "false" | Name | Call | If
-  Constant : (at : ℕ) → Literal → Tree APrim
-  Quoted : (at : ℕ) → (text : List ℕ) → Tree APrim
-  Truth : (at : ℕ) → Bool → Tree APrim
-  Named : (at : ℕ) → (name : List ℕ) → Tree APrim
-  Called : Tree ACall → Tree APrim
-  Chosen : Tree AnIf → Tree APrim
+  Constant : (at : ℕ) → Literal → Tree AnOperand
+  Quoted : (at : ℕ) → (text : List ℕ) → Tree AnOperand
+  Truth : (at : ℕ) → Bool → Tree AnOperand
+  Named : (at : ℕ) → (name : List ℕ) → Tree AnOperand
+  Called : Tree ACall → Tree AnOperand
+  Chosen : Tree AnIf → Tree AnOperand
   --      | "(" ")" | "(" Full ")" | "(" Full "," Full ("," Full)* ")" | "[" (Full ("," Full)*)? "]"
-  Nothing : (at : ℕ) → Tree APrim
-  Paren : Tree AFull → Tree APrim
-  Tuple : (at : ℕ) → Tree AFull → Tree AFull → Tree (Many AFull) → Tree APrim
-  Listed : (at : ℕ) → Tree (Many AFull) → Tree APrim
+  Nothing : (at : ℕ) → Tree AnOperand
+  Paren : Tree AFull → Tree AnOperand
+  Tuple : (at : ℕ) → Tree AFull → Tree AFull → Tree (Many AFull) → Tree AnOperand
+  Listed : (at : ℕ) → Tree (Many AFull) → Tree AnOperand
   --      | "{" POr "}" | "%wav" ("(" Name "=" Int ")")?
-  Braces : (at : ℕ) → Tree APOr → Tree APrim
-  Format : (at : ℕ) → (size : Option ℤ) → Tree APrim
+  Braces : (at : ℕ) → Tree APOr → Tree AnOperand
+  Format : (at : ℕ) → (size : Option ℤ) → Tree AnOperand
   -- Call = NameOpen (Arg ("," Arg)*)? ")"
   Call : (at : ℕ) → (name : List ℕ) → Tree (Many AnArg) → Tree ACall
   -- Arg = Full | Name "=" Full

@@ -1,6 +1,6 @@
 -- The tree that a program's tree stands for.
 use Rattle.std.specs.Prelude.{ℕ, map, List, [], ◌∷◌, false}
-use Rattle.script_grammar.specs.Tree.{Sort, Tree, AStmt, APart, ABind, ADef, AnInner, AParam, AFull, AnExpr, AnAnd, ANot, ACompare, ASum, AnAdded, AProduct, AMultiplied, APrim, ACall, AnArg, AnIf, APOr, APAnd, APNot, APAtom, Many, none, more, Stmt, BindPart, DefPart, CallPart, IfPart, Bind, Def, Inner, Param, Labelled, Optional, Negative, Plain, Expr, And, Not, Alone, Compared, Sum, Added, Product, Multiplied, Constant, Quoted, Truth, Named, Called, Chosen, Nothing, Paren, Tuple, Listed, Braces, Format, Call, Arg, If, POr, PAnd, PNot, Always, Never, Mark, Between, Grouped, Script}
+use Rattle.script_grammar.specs.Tree.{Sort, Tree, AStmt, APart, ABind, ADef, AnInner, AParam, AFull, AnExpr, AnAnd, ANot, ACompare, ASum, AnAdded, AProduct, AMultiplied, AnOperand, ACall, AnArg, AnIf, APOr, APAnd, APNot, APAtom, Many, none, more, Stmt, BindPart, DefPart, CallPart, IfPart, Bind, Def, Inner, Param, Labelled, Optional, Negative, Plain, Expr, And, Not, Alone, Compared, Sum, Added, Product, Multiplied, Constant, Quoted, Truth, Named, Called, Chosen, Nothing, Paren, Tuple, Listed, Braces, Format, Call, Arg, If, POr, PAnd, PNot, Always, Never, Mark, Between, Grouped, Script}
 use Rattle.script_grammar.specs.declared.tree.Full.{Full}
 use Rattle.script_grammar.specs.declared.tree.Full.TheVariants as full
 use Rattle.script_grammar.specs.declared.tree.Expr as expr
@@ -12,7 +12,7 @@ use Rattle.script_grammar.specs.declared.tree.Sum as sum
 use Rattle.script_grammar.specs.declared.tree.Added as added
 use Rattle.script_grammar.specs.declared.tree.Product as product
 use Rattle.script_grammar.specs.declared.tree.Multiplied as multiplied
-use Rattle.script_grammar.specs.declared.tree.Operand as prim
+use Rattle.script_grammar.specs.declared.tree.Operand as operand
 use Rattle.script_grammar.specs.declared.tree.Call as call
 use Rattle.script_grammar.specs.declared.tree.Arg as arg
 use Rattle.script_grammar.specs.declared.tree.If as if_
@@ -46,7 +46,7 @@ por_of none = POr (PAnd (PNot false Never) none) none
 por_of (more p rest) = POr p rest
 
 -- The parts in parentheses. A tuple of one part or none, which no tree of the grammar has, stands for what it looks like.
-abbrev pub tuple_of : ℕ → Tree (Many AFull) → Tree APrim
+abbrev pub tuple_of : ℕ → Tree (Many AFull) → Tree AnOperand
 tuple_of at none = Nothing at
 tuple_of at (more f none) = Paren f
 tuple_of at (more f (more g rest)) = Tuple at f g rest
@@ -103,39 +103,39 @@ abbrev mutual
   view_compare (compare.Compare' left (compare.Some' (compared.Compared' at o right))) = Compared (view_sum left) at o (view_sum right)
 
   pub view_sum : sum.Sum → Tree ASum
-  view_sum (sum.Sum' first shape rest) = Sum (view_product first) (view_addeds rest)
+  view_sum (sum.Sum' first shape rest) = Sum (view_product first) (view_addends rest)
 
-  pub view_addeds : {m : _} → sum.Row_of-Added m → Tree (Many AnAdded)
-  view_addeds sum.end_of-Added = none
-  view_addeds (sum.more_of-Added a rest) = more (view_added a) (view_addeds rest)
+  pub view_addends : {m : _} → sum.Row_of-Added m → Tree (Many AnAdded)
+  view_addends sum.end_of-Added = none
+  view_addends (sum.more_of-Added a rest) = more (view_added a) (view_addends rest)
 
   pub view_added : added.Added → Tree AnAdded
   view_added (added.Added' at minus p) = Added at minus (view_product p)
 
   pub view_product : product.Product → Tree AProduct
-  view_product (product.Product' first shape rest) = Product (view_prim first) (view_multiplieds rest)
+  view_product (product.Product' first shape rest) = Product (view_operand first) (view_factors rest)
 
-  pub view_multiplieds : {m : _} → product.Row_of-Multiplied m → Tree (Many AMultiplied)
-  view_multiplieds product.end_of-Multiplied = none
-  view_multiplieds (product.more_of-Multiplied at divide p rest) = more (Multiplied at divide (view_prim p)) (view_multiplieds rest)
+  pub view_factors : {m : _} → product.Row_of-Multiplied m → Tree (Many AMultiplied)
+  view_factors product.end_of-Multiplied = none
+  view_factors (product.more_of-Multiplied at divide p rest) = more (Multiplied at divide (view_operand p)) (view_factors rest)
 
-  pub view_prim : prim.Operand → Tree APrim
-  view_prim (prim.Literal at value) = Constant at value
-  view_prim (prim.Str at text) = Quoted at text
-  view_prim (prim.Bool at value) = Truth at value
-  view_prim (prim.Name at name) = Named at name
-  view_prim (prim.Call c) = Called (view_call c)
-  view_prim (prim.If' at p condition q then_part r else_part) = Chosen (If at (view_full condition) (view_full then_part) (view_full else_part))
-  view_prim (prim.Unit at) = Nothing at
-  view_prim (prim.Paren' p f) = Paren (view_full f)
-  view_prim (prim.Tuple' at shape parts) = tuple_of at (view_fulls parts)
-  view_prim (prim.List' at shape parts) = Listed at (view_fulls parts)
-  view_prim (prim.Braces at pred) = Braces at (view_por pred)
-  view_prim (prim.Wav at size) = Format at size
+  pub view_operand : operand.Operand → Tree AnOperand
+  view_operand (operand.Literal at value) = Constant at value
+  view_operand (operand.Str at text) = Quoted at text
+  view_operand (operand.Bool at value) = Truth at value
+  view_operand (operand.Name at name) = Named at name
+  view_operand (operand.Call c) = Called (view_call c)
+  view_operand (operand.If' at p condition q then_part r else_part) = Chosen (If at (view_full condition) (view_full then_part) (view_full else_part))
+  view_operand (operand.Unit at) = Nothing at
+  view_operand (operand.Paren' p f) = Paren (view_full f)
+  view_operand (operand.Tuple' at shape parts) = tuple_of at (view_fulls parts)
+  view_operand (operand.List' at shape parts) = Listed at (view_fulls parts)
+  view_operand (operand.Braces at pred) = Braces at (view_por pred)
+  view_operand (operand.Wav at size) = Format at size
 
-  pub view_fulls : {m : _} → prim.Row_of-Full m → Tree (Many AFull)
-  view_fulls prim.end_of-Full = none
-  view_fulls (prim.more_of-Full f rest) = more (view_full f) (view_fulls rest)
+  pub view_fulls : {m : _} → operand.Row_of-Full m → Tree (Many AFull)
+  view_fulls operand.end_of-Full = none
+  view_fulls (operand.more_of-Full f rest) = more (view_full f) (view_fulls rest)
 
   pub view_call : call.Call → Tree ACall
   view_call (call.Call' at name shape args) = Call at name (view_args args)
@@ -145,7 +145,7 @@ abbrev mutual
   view_args (call.more_of-Arg at name f rest) = more (Arg at name (view_full f)) (view_args rest)
 
 abbrev pub view_multiplied : multiplied.Multiplied → Tree AMultiplied
-view_multiplied m = Multiplied m.at m.divide (view_prim m.prim)
+view_multiplied m = Multiplied m.at m.divide (view_operand m.operand)
 
 abbrev pub view_arg : arg.Arg → Tree AnArg
 view_arg a = Arg a.at a.label (view_full a.value)

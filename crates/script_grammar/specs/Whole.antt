@@ -13,7 +13,7 @@ use Rattle.script_grammar.specs.declared.tree.Sum as sum
 use Rattle.script_grammar.specs.declared.tree.Added as added
 use Rattle.script_grammar.specs.declared.tree.Product as product
 use Rattle.script_grammar.specs.declared.tree.Multiplied as multiplied
-use Rattle.script_grammar.specs.declared.tree.Operand as prim
+use Rattle.script_grammar.specs.declared.tree.Operand as operand
 use Rattle.script_grammar.specs.declared.tree.Call as call
 use Rattle.script_grammar.specs.declared.tree.Arg as arg
 use Rattle.script_grammar.specs.declared.tree.If as if_
@@ -90,34 +90,34 @@ abbrev mutual
   IsWholeCompare (compare.Compare' left (compare.Some' (compared.Compared' at o right))) = IsWholeSum left × IsWholeSum right
 
   pub IsWholeSum : sum.Sum → Type 0
-  IsWholeSum (sum.Sum' first shape rest) = IsWholeProduct first × AreWholeAddeds rest
+  IsWholeSum (sum.Sum' first shape rest) = IsWholeProduct first × AreWholeAddends rest
 
-  pub AreWholeAddeds : {m : _} → sum.Row_of-Added m → Type 0
-  AreWholeAddeds sum.end_of-Added = Unit {0}
-  AreWholeAddeds (sum.more_of-Added a rest) = IsWholeAdded a × AreWholeAddeds rest
+  pub AreWholeAddends : {m : _} → sum.Row_of-Added m → Type 0
+  AreWholeAddends sum.end_of-Added = Unit {0}
+  AreWholeAddends (sum.more_of-Added a rest) = IsWholeAdded a × AreWholeAddends rest
 
   pub IsWholeAdded : added.Added → Type 0
   IsWholeAdded (added.Added' at minus p) = IsWholeProduct p
 
   pub IsWholeProduct : product.Product → Type 0
-  IsWholeProduct (product.Product' first shape rest) = IsWholePrim first × AreWholeMultiplieds rest
+  IsWholeProduct (product.Product' first shape rest) = IsWholeOperand first × AreWholeFactors rest
 
-  pub AreWholeMultiplieds : {m : _} → product.Row_of-Multiplied m → Type 0
-  AreWholeMultiplieds product.end_of-Multiplied = Unit {0}
-  AreWholeMultiplieds (product.more_of-Multiplied at divide p rest) = IsWholePrim p × AreWholeMultiplieds rest
+  pub AreWholeFactors : {m : _} → product.Row_of-Multiplied m → Type 0
+  AreWholeFactors product.end_of-Multiplied = Unit {0}
+  AreWholeFactors (product.more_of-Multiplied at divide p rest) = IsWholeOperand p × AreWholeFactors rest
 
-  pub IsWholePrim : prim.Operand → Type 0
-  IsWholePrim (prim.Call c) = IsWholeCall c
-  IsWholePrim (prim.If' at p condition q then_part r else_part) = IsWholeFull condition × IsWholeFull then_part × IsWholeFull else_part
-  IsWholePrim (prim.Paren' p f) = IsWholeFull f
-  IsWholePrim (prim.Tuple' at shape parts) = HasTwo (view_fulls parts) × AreWholeFulls parts
-  IsWholePrim (prim.List' at shape parts) = AreWholeFulls parts
-  IsWholePrim (prim.Braces at pred) = IsWholePOr pred
-  IsWholePrim p = Unit {0}
+  pub IsWholeOperand : operand.Operand → Type 0
+  IsWholeOperand (operand.Call c) = IsWholeCall c
+  IsWholeOperand (operand.If' at p condition q then_part r else_part) = IsWholeFull condition × IsWholeFull then_part × IsWholeFull else_part
+  IsWholeOperand (operand.Paren' p f) = IsWholeFull f
+  IsWholeOperand (operand.Tuple' at shape parts) = HasTwo (view_fulls parts) × AreWholeFulls parts
+  IsWholeOperand (operand.List' at shape parts) = AreWholeFulls parts
+  IsWholeOperand (operand.Braces at pred) = IsWholePOr pred
+  IsWholeOperand p = Unit {0}
 
-  pub AreWholeFulls : {m : _} → prim.Row_of-Full m → Type 0
-  AreWholeFulls prim.end_of-Full = Unit {0}
-  AreWholeFulls (prim.more_of-Full f rest) = IsWholeFull f × AreWholeFulls rest
+  pub AreWholeFulls : {m : _} → operand.Row_of-Full m → Type 0
+  AreWholeFulls operand.end_of-Full = Unit {0}
+  AreWholeFulls (operand.more_of-Full f rest) = IsWholeFull f × AreWholeFulls rest
 
   pub IsWholeCall : call.Call → Type 0
   IsWholeCall (call.Call' at name shape args) = AreWholeArgs args
@@ -127,7 +127,7 @@ abbrev mutual
   AreWholeArgs (call.more_of-Arg at name f rest) = IsWholeFull f × AreWholeArgs rest
 
 abbrev pub IsWholeMultiplied : multiplied.Multiplied → Type 0
-IsWholeMultiplied m = IsWholePrim m.prim
+IsWholeMultiplied m = IsWholeOperand m.operand
 
 abbrev pub IsWholeArg : arg.Arg → Type 0
 IsWholeArg a = IsWholeFull a.value

@@ -1,9 +1,9 @@
 // Nodes that hold a list, made of their parts.
 ghost use Rattle.std.specs.Prelude.{◌≡◌, IfOk, map};
 ghost use Rattle.script_grammar.specs.Tree.{Expr as an_expr, And as an_and, Sum as a_sum, Product as a_product, Call as a_call, POr as a_por, PAnd as a_pand, Listed as a_list};
-ghost use Rattle.script_grammar.specs.View.{listed, view_expr, view_and, view_not, view_sum, view_product, view_added, view_prim, view_multiplied, view_full, view_call, view_arg, view_por, view_pand, view_pnot};
+ghost use Rattle.script_grammar.specs.View.{listed, view_expr, view_and, view_not, view_sum, view_product, view_added, view_operand, view_multiplied, view_full, view_call, view_arg, view_por, view_pand, view_pnot};
 ghost use Rattle.script_grammar.specs.ReadValue.{round_of};
-ghost use Rattle.script_grammar.specs.Whole.{IsWholeExpr, IsWholeAnd, IsWholeNot, IsWholeSum, IsWholeAdded, IsWholeProduct, IsWholeMultiplied, IsWholePrim, IsWholeFull, IsWholeCall, IsWholeArg, IsWholePOr, IsWholePAnd, IsWholePNot};
+ghost use Rattle.script_grammar.specs.Whole.{IsWholeExpr, IsWholeAnd, IsWholeNot, IsWholeSum, IsWholeAdded, IsWholeProduct, IsWholeMultiplied, IsWholeOperand, IsWholeFull, IsWholeCall, IsWholeArg, IsWholePOr, IsWholePAnd, IsWholePNot};
 ghost use Rattle.std.specs.List.{All};
 
 use crate::predicate::{PAnd, PNot, POr};
@@ -37,8 +37,8 @@ pub fn sum(first: Product, rest: Vec<Added>) -> Sum
 
 /// A first operand and those behind a `*` or `/`.
 pub fn product(first: tree::Operand, rest: Vec<Multiplied>) -> Product
-    ensures made { view_product result ≡ a_product (view_prim first) (listed (map view_multiplied rest.items)) }
-    ensures whole { IsWholePrim first → All IsWholeMultiplied rest.items → IsWholeProduct result }
+    ensures made { view_product result ≡ a_product (view_operand first) (listed (map view_multiplied rest.items)) }
+    ensures whole { IsWholeOperand first → All IsWholeMultiplied rest.items → IsWholeProduct result }
 {
     Product { first, rest }
 }
@@ -53,16 +53,16 @@ pub fn call(at: u32, name: Text, args: Vec<Arg>) -> Call
 
 /// Values in square brackets.
 pub fn list(at: u32, parts: Vec<Full>) -> tree::Operand
-    ensures made { view_prim result ≡ a_list at (listed (map view_full parts.items)) }
-    ensures whole { All IsWholeFull parts.items → IsWholePrim result }
+    ensures made { view_operand result ≡ a_list at (listed (map view_full parts.items)) }
+    ensures whole { All IsWholeFull parts.items → IsWholeOperand result }
 {
     tree::Operand::List { at, parts }
 }
 
 /// Values in parentheses: a first one alone, or a tuple of it and the others.
 pub fn round(alloc: Global, at: u32, first: Full, rest: Vec<Full>) -> Result<tree::Operand, Memory>
-    ensures made { IfOk result (λ p. view_prim p ≡ round_of at (view_full first) (listed (map view_full rest.items))) }
-    ensures whole { IfOk result (λ p. IsWholeFull first → All IsWholeFull rest.items → IsWholePrim p) }
+    ensures made { IfOk result (λ p. view_operand p ≡ round_of at (view_full first) (listed (map view_full rest.items))) }
+    ensures whole { IfOk result (λ p. IsWholeFull first → All IsWholeFull rest.items → IsWholeOperand p) }
 {
     if rest.is_empty() {
         Ok(tree::Operand::Paren(Box::new(alloc, first)?))

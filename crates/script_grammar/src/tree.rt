@@ -167,7 +167,7 @@ pub struct Product {
 pub struct Multiplied {
     pub at: u32,
     pub divide: bool,
-    pub prim: Operand,
+    pub operand: Operand,
 }
 
 /// An operand.

@@ -5,7 +5,7 @@ ghost use Rattle.script_lex.specs.declared.token.Keyword.TheVariants as word;
 ghost use Rattle.script_lex.specs.declared.token.Symbol.TheVariants as sign;
 ghost use Rattle.script_grammar.specs.Spelling.{spell, behind, literal_token, truth_token, op_token, added_token, multiplied_token, label, wav_tokens, option_name};
 ghost use Rattle.script_grammar.specs.Pieces.{each, each_behind, between_commas, in_brackets};
-ghost use Rattle.script_grammar.specs.View.{listed, tuple_of, view_full, view_expr, view_and, view_not, view_compare, view_sum, view_added, view_product, view_multiplied, view_prim, view_call, view_arg, view_if};
+ghost use Rattle.script_grammar.specs.View.{listed, tuple_of, view_full, view_expr, view_and, view_not, view_compare, view_sum, view_added, view_product, view_multiplied, view_operand, view_call, view_arg, view_if};
 
 use crate::predicate_tokens::{put, put_if, put_por};
 use crate::tree::{
@@ -172,14 +172,14 @@ fn put_sum(alloc: Global, out: &mut Vec<TokenKind>, sum: &Sum) -> Result<(), Mem
     ensures { OnOk result (out.new.items ≡ out.old.items ++ spell (view_sum sum.now)) }
 {
     put_product(alloc, out, &sum.first)?;
-    put_addeds(alloc, out, &sum.rest)
+    put_addends(alloc, out, &sum.rest)
 }
 
 #[cycle(value)]
-fn put_addeds(alloc: Global, out: &mut Vec<TokenKind>, addeds: &[Added]) -> Result<(), Memory>
-    ensures { OnOk result (out.new.items ≡ out.old.items ++ each (map view_added addeds.now)) }
+fn put_addends(alloc: Global, out: &mut Vec<TokenKind>, addends: &[Added]) -> Result<(), Memory>
+    ensures { OnOk result (out.new.items ≡ out.old.items ++ each (map view_added addends.now)) }
 {
-    for added in addeds {
+    for added in addends {
         put_added(alloc, out, added)?;
     }
     Ok(())
@@ -197,19 +197,19 @@ fn put_added(alloc: Global, out: &mut Vec<TokenKind>, added: &Added) -> Result<(
 fn put_product(alloc: Global, out: &mut Vec<TokenKind>, product: &Product) -> Result<(), Memory>
     ensures { OnOk result (out.new.items ≡ out.old.items ++ spell (view_product product.now)) }
 {
-    put_prim(alloc, out, &product.first)?;
-    put_multiplieds(alloc, out, &product.rest)
+    put_operand(alloc, out, &product.first)?;
+    put_factors(alloc, out, &product.rest)
 }
 
 #[cycle(value)]
-fn put_multiplieds(
+fn put_factors(
     alloc: Global,
     out: &mut Vec<TokenKind>,
-    multiplieds: &[Multiplied],
+    factors: &[Multiplied],
 ) -> Result<(), Memory>
-    ensures { OnOk result (out.new.items ≡ out.old.items ++ each (map view_multiplied multiplieds.now)) }
+    ensures { OnOk result (out.new.items ≡ out.old.items ++ each (map view_multiplied factors.now)) }
 {
-    for multiplied in multiplieds {
+    for multiplied in factors {
         put_multiplied(alloc, out, multiplied)?;
     }
     Ok(())
@@ -224,14 +224,18 @@ fn put_multiplied(
     ensures { OnOk result (out.new.items ≡ out.old.items ++ spell (view_multiplied multiplied.now)) }
 {
     put(out, multiplied_token(multiplied.divide))?;
-    put_prim(alloc, out, &multiplied.prim)
+    put_operand(alloc, out, &multiplied.operand)
 }
 
 #[cycle(value)]
-fn put_prim(alloc: Global, out: &mut Vec<TokenKind>, prim: &tree::Operand) -> Result<(), Memory>
-    ensures { OnOk result (out.new.items ≡ out.old.items ++ spell (view_prim prim.now)) }
+fn put_operand(
+    alloc: Global,
+    out: &mut Vec<TokenKind>,
+    operand: &tree::Operand,
+) -> Result<(), Memory>
+    ensures { OnOk result (out.new.items ≡ out.old.items ++ spell (view_operand operand.now)) }
 {
-    match prim {
+    match operand {
         tree::Operand::Literal { at: _, value } => { put(out, literal_token(*value)) }
         tree::Operand::Str { at: _, text } => { put(out, TokenKind::Str(text.copy(alloc)?)) }
         tree::Operand::Bool { at: _, value } => { put(out, truth_token(*value)) }

@@ -14,7 +14,7 @@ use Rattle.stations.specs.Cues.{cue_name, cue_names_in}
 use Rattle.stations.specs.Outputs.{HoldsUpto, with_outputs}
 use Rattle.stations.proofs.Making.{front_made, then_closed, then_front, then_made}
 use Rattle.stations.proofs.Parts.{upto_all}
-use Rattle.clock_engine.specs.declared.cues.CueMark.{CueMark}
+use Rattle.clock_ticks.specs.declared.cues.CueMark.{CueMark}
 use Rattle.station_render.specs.Marks.{cue_file, cue_files_with, cue_of, cues_of}
 use Rattle.station_render.specs.Sinks.{lists_of}
 use Rattle.station_render.proofs.Lists.{got, mapped}

@@ -10,8 +10,8 @@ use Rattle.stream_meaning.proofs.Answering.{begin_none}
 use Rattle.stream_meaning.specs.Sinks.{IsOutput}
 use Rattle.clock_outputs.specs.Appends.{RoseAt}
 use Rattle.run_records.specs.Records.{AreRoundsBegun, Follows, IsRounds, Run, Window, calls_in, capacity_of, made_by, on, setting_in, setting_then, ticks_by}
-use Rattle.clock_engine.specs.declared.engine.ClockEngine.{ClockEngine}
-use Rattle.clock_engine.specs.Engines.{setting_of}
+use Rattle.clock_ticks.specs.declared.engine.ClockEngine.{ClockEngine}
+use Rattle.clock_ticks.specs.Engines.{setting_of}
 use Rattle.buffer_queue.specs.Window.{is_chunk}
 use Rattle.buffer_ends.specs.Local.{Answers, puts_of, takes_of_window, yes}
 use Rattle.buffer_ends.specs.declared.counts.Counts.{Counts}
@@ -19,7 +19,7 @@ use Rattle.buffer_ends.specs.declared.run_end.End.{End}
 use Rattle.rounds_run.specs.Rounds.{HaveRunPart}
 use Rattle.run_records.specs.Buffers.{feeder}
 use Rattle.run_records.proofs.Flattening.{start_zero}
-use Rattle.frame_core.specs.Legal.{Legal, IsRun}
+use Rattle.frame_core.specs.Legal.{Legal, IsHistory}
 use Rattle.stream_meaning.specs.Calls.{IsBegin, joined_between, joined_upto}
 use Rattle.std.proofs.lemmas.Bool.{le-ltb}
 use Rattle.rounds_run.specs.Runs.{HaveRunTicks, counts_of_windows}
@@ -95,7 +95,7 @@ not_begun setting clocks ticks (InWindows window) may = record {
     whole = λ rest m. subst (λ n. IsBegin (joined_between (calls_in (setting_then setting (run_of (length setting.plan.buffers) []) rest) clocks (λ m t buffer. true) m) n 0) []) (sym (start_zero window ticks)) (begin_none []);
     begun = λ rest m. begin_none _;
     are = λ rest. window_at (length setting.plan.buffers) [];
-    legal = λ buffer low. ([], subst (λ (ws : List Window). IsRun (capacity_of setting buffer) [] ws []) (sym (window_at (length setting.plan.buffers) [] buffer low)) ([], Legal.ended, refl));
+    legal = λ buffer low. ([], subst (λ (ws : List Window). IsHistory (capacity_of setting buffer) [] ws []) (sym (window_at (length setting.plan.buffers) [] buffer low)) ([], Legal.ended, refl));
     in_order = λ rest buffer low one. (
       [],
       subst (λ n. Follows (capacity_of setting buffer) [] (on buffer (joined_upto (calls_in (setting_then setting (run_of (length setting.plan.buffers) []) rest) clocks (λ m t buffer. true) (feeder setting buffer)) n ++ [])) [])

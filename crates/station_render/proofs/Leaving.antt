@@ -9,7 +9,7 @@ use Rattle.plan_core.specs.declared.sink.SinkPlan.{SinkPlan}
 use Rattle.plan_core.specs.declared.sink.SinkPlan.TheVariants.{Output, Feed}
 use Rattle.stream_meaning.specs.Instants.{Setting}
 use Rattle.stream_meaning.specs.Sinks.{cues}
-use Rattle.clock_engine.specs.declared.cues.CueMark.{CueMark}
+use Rattle.clock_ticks.specs.declared.cues.CueMark.{CueMark}
 use Rattle.buffer_ends.specs.Local.{Answers}
 use Rattle.trace_log.specs.Values.{TraceValue}
 use Rattle.stations.specs.Cues.{cue_files, cues_if, cues_in, marks_if, marks_in}

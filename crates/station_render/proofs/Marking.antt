@@ -7,8 +7,8 @@ use Rattle.plan_core.specs.declared.sink.SinkPlan.{SinkPlan}
 use Rattle.plan_core.specs.declared.sink.SinkPlan.TheVariants.{Output, Feed}
 use Rattle.stream_meaning.specs.Instants.{Setting}
 use Rattle.stream_meaning.specs.Sinks.{Cue, cues}
-use Rattle.clock_engine.specs.declared.cues.CueMark.{CueMark}
-use Rattle.clock_engine.specs.Cues.{mark_of}
+use Rattle.clock_ticks.specs.declared.cues.CueMark.{CueMark}
+use Rattle.clock_ticks.specs.Cues.{mark_of}
 use Rattle.stations.specs.Cues.{marks_in}
 use Rattle.station_render.specs.Marks.{cue_of, cues_of}
 use Rattle.station_render.specs.Sinks.{lists_of}

@@ -3,7 +3,7 @@ use Rattle.std.proofs.Common.{◌≡◌, ◌<◌, ◌≤◌, ◌+◌, ◌∙◌,
 use Rattle.std.specs.Prelude.{Vec}
 use Rattle.std.specs.declared.alloc.Global.{Global}
 use Rattle.std.proofs.lemmas.List.{map-append, length-append}
-use Rattle.clock_engine.specs.declared.engine.ClockEngine.{ClockEngine}
+use Rattle.clock_ticks.specs.declared.engine.ClockEngine.{ClockEngine}
 use Rattle.stream_meaning.specs.Instants.{Setting}
 use Rattle.station_render.specs.Sinks.{lists_of}
 use Rattle.station_render.specs.Engines.{AreAt, AreEmptyBelow, AreKeeping, IsAt, outs_of, pooled}

@@ -17,12 +17,12 @@ use Rattle.stream_meaning.specs.Sinks.{block_length, cues, gaps, is_wide, kind_o
 use Rattle.frame_core.specs.Calls.{Answer}
 use Rattle.clock_infer.specs.declared.clock_map.ClockMap.{ClockMap}
 use Rattle.stream_meaning.proofs.Existence.{same_clock-true}
-use Rattle.clock_engine.specs.declared.engine.ClockEngine.{ClockEngine}
-use Rattle.clock_engine.specs.Engines.{EngineStands, held_in, held_of, outputs_from, outputs_of, setting_of}
-use Rattle.clock_engine.specs.Ticks.{HaveTicksRoom, piece_size}
-use Rattle.clock_engine.specs.Cues.{mark_of}
-use Rattle.clock_engine.specs.declared.cues.CueMark.{CueMark}
-use Rattle.clock_engine.proofs.Numbered.{are_there}
+use Rattle.clock_ticks.specs.declared.engine.ClockEngine.{ClockEngine}
+use Rattle.clock_ticks.specs.Engines.{EngineStands, held_in, held_of, outputs_from, outputs_of, setting_of}
+use Rattle.clock_ticks.specs.Ticks.{HaveTicksRoom, piece_size}
+use Rattle.clock_ticks.specs.Cues.{mark_of}
+use Rattle.clock_ticks.specs.declared.cues.CueMark.{CueMark}
+use Rattle.clock_ticks.proofs.Numbered.{are_there}
 use Rattle.rounds_run.specs.Rounds.{AreEngines, HasRunPart, HaveRunPart}
 use Rattle.rounds_run.specs.Runs.{HasRunTicks, HaveRunTicks}
 use Rattle.stations.specs.Streams.{body_size, header_for}

@@ -3,7 +3,7 @@ use Rattle.std.proofs.Common.{◌≡◌, ◌<◌, ◌+◌, ℕ, List, length, ge
 use Rattle.std.specs.Prelude.{Option, Result, Err, OnOk, IfOk}
 use Rattle.liq_base.specs.Files.{Closing, Files}
 use Rattle.stream_meaning.specs.Instants.{Setting}
-use Rattle.clock_engine.specs.declared.engine.ClockEngine.{ClockEngine}
+use Rattle.clock_ticks.specs.declared.engine.ClockEngine.{ClockEngine}
 use Rattle.buffer_ends.specs.declared.run_end.RunEnd.{RunEnd}
 use Rattle.buffer_ends.specs.declared.run_end.End.TheVariants.{Done, Write}
 use Rattle.clock_threads.specs.ThreadRuns as threads

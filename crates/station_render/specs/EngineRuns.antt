@@ -9,7 +9,7 @@ use Rattle.buffer_ends.specs.Local.{Answers}
 use Rattle.buffer_ends.specs.declared.counts.Counts.{Counts}
 use Rattle.buffer_ends.specs.declared.run_end.End.{End}
 use Rattle.buffer_ends.specs.declared.run_end.End.TheVariants.{Write}
-use Rattle.clock_engine.specs.declared.engine.ClockEngine.{ClockEngine}
+use Rattle.clock_ticks.specs.declared.engine.ClockEngine.{ClockEngine}
 use Rattle.buffer_sides.specs.Logs.{told}
 use Rattle.rounds_run.specs.Rounds.{HaveRunPart}
 use Rattle.rounds_run.specs.Runs.{HaveRunTicks, counts_of_run}

@@ -1,8 +1,8 @@
 -- The engines of all clocks, which hold the sinks of the outputs.
 use Rattle.std.specs.Prelude.{◌≡◌, ◌<◌, ℕ, Bool, true, List, [], ◌∷◌, Some, map, slice_get}
 use Rattle.stream_meaning.specs.Instants.{Setting, with_rest}
-use Rattle.clock_engine.specs.declared.engine.ClockEngine.{ClockEngine}
-use Rattle.clock_engine.specs.Engines.{EngineStands, setting_of}
+use Rattle.clock_ticks.specs.declared.engine.ClockEngine.{ClockEngine}
+use Rattle.clock_ticks.specs.Engines.{EngineStands, setting_of}
 use Rattle.frame_core.specs.Calls.{Answer}
 use Rattle.rounds_run.specs.Rounds.{nothing}
 

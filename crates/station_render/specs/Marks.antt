@@ -5,7 +5,7 @@ use Rattle.frame_core.specs.Library.{Sounds}
 use Rattle.plan_core.specs.declared.sink.SinkPlan.{SinkPlan}
 use Rattle.plan_core.specs.declared.sink.SinkPlan.TheVariants.{Output, Feed}
 use Rattle.stream_meaning.specs.Sinks.{Cue}
-use Rattle.clock_engine.specs.declared.cues.CueMark.{CueMark}
+use Rattle.clock_ticks.specs.declared.cues.CueMark.{CueMark}
 use Rattle.stations.specs.Cues.{cue_name, cue_text}
 use Rattle.stations.specs.Outputs.{OutputFile}
 use Rattle.station_render.specs.Sinks.{lists_of}

@@ -5,7 +5,7 @@ use Rattle.stations.specs.Creations.{names_in}
 use Rattle.stations.specs.Stations.{Way}
 use Rattle.buffer_ends.specs.declared.run_end.RunEnd.{RunEnd}
 use Rattle.buffer_ends.specs.declared.run_end.End.TheVariants.{Done}
-use Rattle.clock_engine.specs.declared.engine.ClockEngine.{ClockEngine}
+use Rattle.clock_ticks.specs.declared.engine.ClockEngine.{ClockEngine}
 use Rattle.rounds_run.specs.Runs.{AreOver}
 use Rattle.station_render.specs.Engines.{AreAt, AreKeeping, outs_of}
 use Rattle.station_render.specs.EngineRuns.{AreOpened, RanAll, RanSome}

@@ -9,7 +9,7 @@ ghost use Rattle.station_render.specs.Renders.{written};
 
 use crate::files::write_file;
 use crate::{Job, RenderFault};
-use clock_engine::CueMark;
+use clock_ticks::CueMark;
 use frame_core::Library;
 use liq_base::Shelf;
 use plan_core::{Plan, SinkPlan};

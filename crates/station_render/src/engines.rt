@@ -2,7 +2,7 @@
 ghost use Rattle.std.specs.Prelude.{◌≡◌, ◌<◌, ◌≤◌, ◌^◌, [], ◌∷◌, ℕ, List, length, map, slice_get, Some, true, IfOk, OnOk, OnErr, IsErrOf};
 ghost use Rattle.std.specs.List.{slice_set};
 ghost use Rattle.buffer_ends.specs.declared.run_end.End.TheVariants.{Done, Write as WriteEnd};
-ghost use Rattle.clock_engine.specs.Engines.{EngineStands, outputs_of, setting_of};
+ghost use Rattle.clock_ticks.specs.Engines.{EngineStands, outputs_of, setting_of};
 ghost use Rattle.rounds_run.specs.Rounds.{nothing};
 ghost use Rattle.stream_meaning.specs.Instants.{Setting};
 ghost use Rattle.stations.specs.Cues.{marks_if as marks_wanted, marks_in};
@@ -17,8 +17,8 @@ ghost use Rattle.station_render.specs.Runs.{IsFitting, setting_by};
 use crate::headers::clock_of;
 use crate::{Job, RenderFault, Rendered};
 use buffer_ends::{End, RunEnd};
-use clock_engine::{ClockEngine, CueMark};
 use clock_infer::ClockMap;
+use clock_ticks::{ClockEngine, CueMark};
 use liq_base::{Memory, Sink};
 use plan_core::{Plan, SinkPlan};
 use std::alloc::{AllocError, Global};

@@ -20,7 +20,7 @@ use crate::engines::make_engines;
 use crate::output_sink::OutputSink;
 use crate::sinks::no_sinks;
 use crate::{Job, RenderFault};
-use clock_engine::ClockEngine;
+use clock_ticks::ClockEngine;
 use liq_base::Shelf;
 use std::alloc::Global;
 

@@ -1,6 +1,6 @@
 // What is told of a rendering.
 use buffer_ends::{BufferLog, Counts};
-use clock_engine::CueMark;
+use clock_ticks::CueMark;
 
 /// What is told of a rendering: of each output, in sink order, at how many instants its node offered nothing; of each
 /// buffer how its puts and takes were answered, in numbers and one by one, window after window; and of each output, where cue

@@ -24,7 +24,7 @@ use crate::ticks::{tick_again, tick_by_threads, tick_in_rounds};
 use crate::traces::leave_trace;
 use crate::{Job, RenderFault, Rendered, Threading};
 use buffer_ends::RunEnd;
-use clock_engine::ClockEngine;
+use clock_ticks::ClockEngine;
 use liq_base::{Gate, Shelf};
 use std::alloc::Global;
 use std::sync::Wait;

@@ -9,8 +9,8 @@ ghost use Rattle.trace_replay.specs.Traces.{IsAccepted};
 
 use crate::Job;
 use buffer_ends::RunEnd;
-use clock_engine::ClockEngine;
 use clock_threads::run_threads;
+use clock_ticks::ClockEngine;
 use liq_base::{Gate, Sink};
 use rounds_run::run_rounds;
 use std::alloc::Global;

@@ -11,7 +11,7 @@ use Rattle.frame_core.specs.Slots.{Slot}
 use Rattle.frame_core.specs.Calls.{Call}
 use Rattle.op_cross.specs.Runs.{run_of}
 use Rattle.stream_meaning.specs.Operators.{Work, Plays, Picks, Mixes, Fades, Reads}
-use Rattle.stream_meaning.specs.Instants.{Setting, Moment, clock_of, lies_in, position, work_at, history}
+use Rattle.stream_meaning.specs.Instants.{Setting, Moment, clock_of, lies_in, position, work_at, first_instants}
 use Rattle.stream_meaning.specs.Calls.{joined_upto, joined_between, takes_at, ran_by, fades_by, fades_in, calls_at, calls_of}
 use Rattle.stream_meaning.specs.Settings.{IsSetting}
 use Rattle.stream_meaning.proofs.Ranks.{AreNested, deeper, rank_below}
@@ -49,31 +49,31 @@ module _ (setting : Setting) (sub : ℕ → ℕ → List Slot) (clocks : ClockMa
   calls_at-more zero clock s past has enough = let low = has.low in absurd (omega (arith, low, enough))
   calls_at-more (suc depth) clock s past has enough =
       ap (λ (f : ℕ → List Call). takes_at setting clock past ++ joined_upto f (length setting.plan.nodes)) (fun_ext (λ k.
-      fades_in-same setting sub (λ j m. calls_at setting sub depth (Sub j) (history setting sub (Sub j) m))
-      (λ j m. calls_at setting sub (suc depth) (Sub j) (history setting sub (Sub j) m))
+      fades_in-same setting sub (λ j m. calls_at setting sub depth (Sub j) (first_instants setting sub (Sub j) m))
+      (λ j m. calls_at setting sub (suc depth) (Sub j) (first_instants setting sub (Sub j) m))
       (lies_in setting clock k) past k (slice_get setting.plan.nodes k)
       (λ inside node found. fun_ext (λ m.
       let there = slice_get_within setting.plan.nodes k node found in
       let same = has.each k there (same_clock-true (clock_of setting k) clock inside) in
-      calls_at-more depth (Sub k) (suc (rank k)) (history setting sub (Sub k) m) (sub_ranked k there) (omega (arith, same, enough))))))
+      calls_at-more depth (Sub k) (suc (rank k)) (first_instants setting sub (Sub k) m) (sub_ranked k there) (omega (arith, same, enough))))))
 
   -- the calls of an instant, with those of the sub-clocks' instants at the same depth
   pub calls_are : (clock : NodeClock) (past : List Moment) → ((k : ℕ) → k < length setting.plan.nodes → clock_of setting k ≡ clock → length setting.plan.nodes < length setting.plan.nodes + suc (rank k))
-      → calls_of setting sub clock past ≡ takes_at setting clock past ++ joined_upto (λ k. fades_in setting sub (λ j m. calls_of setting sub (Sub j) (history setting sub (Sub j) m))
+      → calls_of setting sub clock past ≡ takes_at setting clock past ++ joined_upto (λ k. fades_in setting sub (λ j m. calls_of setting sub (Sub j) (first_instants setting sub (Sub j) m))
       (lies_in setting clock k) past k (slice_get setting.plan.nodes k)) (length setting.plan.nodes)
   calls_are clock past enough =
       ap (λ (f : ℕ → List Call). takes_at setting clock past ++ joined_upto f (length setting.plan.nodes)) (fun_ext (λ k.
-      fades_in-same setting sub (λ j m. calls_at setting sub (length setting.plan.nodes) (Sub j) (history setting sub (Sub j) m))
-      (λ j m. calls_of setting sub (Sub j) (history setting sub (Sub j) m))
+      fades_in-same setting sub (λ j m. calls_at setting sub (length setting.plan.nodes) (Sub j) (first_instants setting sub (Sub j) m))
+      (λ j m. calls_of setting sub (Sub j) (first_instants setting sub (Sub j) m))
       (lies_in setting clock k) past k (slice_get setting.plan.nodes k)
       (λ inside node found. fun_ext (λ m.
       let there = slice_get_within setting.plan.nodes k node found in
-      calls_at-more (length setting.plan.nodes) (Sub k) (suc (rank k)) (history setting sub (Sub k) m) (sub_ranked k there)
+      calls_at-more (length setting.plan.nodes) (Sub k) (suc (rank k)) (first_instants setting sub (Sub k) m) (sub_ranked k there)
       (enough k there (same_clock-true (clock_of setting k) clock inside))))))
 
 -- the calls of an instant of a clock are its readers' takes, and then for each of its crossfades those of the instants of its sub-clock
 pub calls_of-is : (setting : Setting) (clocks : ClockMap) → IsSetting setting clocks → (sub : ℕ → ℕ → List Slot) (clock : NodeClock) (past : List Moment)
-    → calls_of setting sub clock past ≡ takes_at setting clock past ++ joined_upto (λ k. fades_in setting sub (λ j m. calls_of setting sub (Sub j) (history setting sub (Sub j) m))
+    → calls_of setting sub clock past ≡ takes_at setting clock past ++ joined_upto (λ k. fades_in setting sub (λ j m. calls_of setting sub (Sub j) (first_instants setting sub (Sub j) m))
     (lies_in setting clock k) past k (slice_get setting.plan.nodes k)) (length setting.plan.nodes)
 calls_of-is setting clocks is sub clock past =
     let found = ranks setting.plan clocks is.map in

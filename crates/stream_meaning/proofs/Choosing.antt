@@ -6,10 +6,10 @@ use Rattle.frame_core.specs.declared.cell.Cell.{Cell}
 use Rattle.frame_core.specs.Slots.{Slot, slot_at, is_first}
 use Rattle.op_select.specs.declared.rule.Picked.{Picked}
 use Rattle.op_select.specs.Selection.{first_ready, first_offering, goes_on, first_pick, turn_pick, picked_cell, picked}
-use Rattle.random_ops.specs.declared.turn.Turn.{Turn}
-use Rattle.random_ops.specs.Turns.{Past, offered}
-use Rattle.random_ops.proofs.Offering.{some_offers}
-use Rattle.random_ops.proofs.Standing.{some_offered}
+use Rattle.op_turn.specs.declared.turn.Turn.{Turn}
+use Rattle.op_turn.specs.Turns.{Past, offered}
+use Rattle.op_turn.proofs.Offering.{some_offers}
+use Rattle.op_turn.proofs.Standing.{some_offered}
 use Rattle.stream_meaning.specs.Instants.{picked_part}
 
 -- the child at a place offers; places are counted from this one

@@ -1,5 +1,5 @@
 pub mod Answering
-pub mod Bufferless
+pub mod Unbuffered
 pub mod Ranks
 pub mod Existence
 pub mod Calling

@@ -18,7 +18,7 @@ use Rattle.op_leaf.proofs.Positions.{joined-within, sounds_in}
 use Rattle.op_leaf.proofs.Cursors.{sounds-at}
 use Rattle.stream_meaning.specs.Arithmetic.{Adds, Scales, Halves, Doubles, Passes}
 use Rattle.stream_meaning.specs.Operators.{work_of}
-use Rattle.random_ops.specs.declared.turn.Turn.TheVariants.{Rotate as Rotates, Random as Draws}
+use Rattle.op_turn.specs.declared.turn.Turn.TheVariants.{Rotate as Rotates, Random as Draws}
 use Rattle.stream_meaning.specs.Instants.{Setting, Moment, choices, second_at, position, last_pick, part_by}
 use Rattle.stream_meaning.proofs.Crossed.{AreCells, item_cell}
 use Rattle.stream_meaning.proofs.Choosing.{picked_some, first_picked, turn_picked, turn_some}

@@ -3,13 +3,13 @@ use Rattle.std.proofs.Common.{◌≡◌, ℕ, List, [], ◌∷◌, map, true, fa
 use Rattle.plan_core.specs.declared.node.Op.TheVariants.{Single, Playlist, Blank, Fallback, Sequence, Add, Crossfade}
 use Rattle.clock_infer.specs.declared.clock_map.NodeClock.TheVariants.{Main, Sub}
 use Rattle.frame_core.specs.Slots.{title_of}
-use Rattle.stream_meaning.specs.Instants.{Setting, history, slots_of, sub_of}
+use Rattle.stream_meaning.specs.Instants.{Setting, first_instants, slots_of, sub_of}
 use Rattle.stream_meaning.specs.Sinks.{Cue, cues}
 use Rattle.stream_meaning.proofs.Plans.{file, node, out, setting}
 
 -- the titles of the first n slots of node i, in main clock 0
 abbrev titles : Setting → (i n : ℕ) → List ℕ
-titles world i n = map title_of (slots_of (history world (sub_of world) (Main 0) n) i)
+titles world i n = map title_of (slots_of (first_instants world (sub_of world) (Main 0) n) i)
 
 abbrev mark : ℕ → ℕ → Cue
 mark at title = record { at = at; title = title }

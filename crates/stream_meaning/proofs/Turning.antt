@@ -9,12 +9,12 @@ use Rattle.plan_core.proofs.Paths.{child_below}
 use Rattle.clock_infer.proofs.Exact.{there_more}
 use Rattle.frame_core.specs.Slots.{Slot, is_first}
 use Rattle.op_select.specs.declared.rule.Picked.{Picked}
-use Rattle.random_ops.specs.declared.turn.Turn.{Turn}
-use Rattle.random_ops.specs.Turns.{Past, offered, past_behind, past_of}
-use Rattle.random_ops.proofs.Standing.{given_is}
+use Rattle.op_turn.specs.declared.turn.Turn.{Turn}
+use Rattle.op_turn.specs.Turns.{Past, offered, past_behind, past_of}
+use Rattle.op_turn.proofs.Standing.{given_is}
 use Rattle.stream_meaning.specs.declared.part.Part.{Part}
 use Rattle.stream_meaning.specs.Operators.{Eligible, Picks, TakesTurns}
-use Rattle.stream_meaning.specs.Instants.{Setting, Moment, clock_of, demanded, gives, history, moment_after, offer, part_at, part_by, parts_upto, picked_part, slots_at, work_at}
+use Rattle.stream_meaning.specs.Instants.{Setting, Moment, clock_of, demanded, gives, first_instants, moment_after, offer, part_at, part_by, parts_upto, picked_part, slots_at, work_at}
 use Rattle.stream_meaning.specs.Choices.{gave_over, turned}
 use Rattle.stream_meaning.proofs.Unfailing.{own_part, parts_are}
 
@@ -33,7 +33,7 @@ module _ (setting : Setting) (sub : ℕ → ℕ → List Slot) (i : ℕ) (node :
     (there : slice_get setting.plan.nodes i ≡ Some node) (work : work_at setting i node ≡ Picks (TakesTurns turn) eligible) where
   -- the first n instants of its clock, and the one behind them with its children's slots
   abbrev Gone : ℕ → List Moment
-  Gone n = history setting sub (clock_of setting i) n
+  Gone n = first_instants setting sub (clock_of setting i) n
 
   abbrev Next : ℕ → Moment
   Next n = moment_after setting sub (clock_of setting i) (Gone n)

@@ -11,7 +11,7 @@ use Rattle.frame_core.specs.Calls.{Call, Answer}
 use Rattle.op_cross.specs.Runs.{run_of}
 use Rattle.op_leaf.specs.Readers.{takes_of}
 use Rattle.stream_meaning.specs.Operators.{Work, Plays, Picks, Mixes, Fades, Reads}
-use Rattle.stream_meaning.specs.Instants.{Setting, Moment, clock_of, lies_in, position, next_answers, reading_after, work_at, history, sub_of}
+use Rattle.stream_meaning.specs.Instants.{Setting, Moment, clock_of, lies_in, position, next_answers, reading_after, work_at, first_instants, sub_of}
 use Rattle.stream_meaning.specs.Sinks.{feed_cells}
 use Rattle.stream_meaning.specs.Calls.{IsBelow, IsUnread, answers_in, calls_at, calls_of_tick, fades_by, fades_in, give_by, given, joined_upto, ran_by, takes_at, takes_by, takes_in}
 use Rattle.stream_meaning.proofs.Answering.{answers_in-append, answers_in-other}
@@ -70,12 +70,12 @@ no_faded_in setting sub below past k buffer true (Some node) none = no_faded_by 
 pub no_called : (setting : Setting) (sub : ℕ → ℕ → List Slot) (buffer depth : ℕ) (clock : NodeClock) (past : List Moment) → IsUnread setting clock buffer → answers_in buffer (calls_at setting sub depth clock past) ≡ []
 no_called setting sub buffer zero clock past unread = refl
 no_called setting sub buffer (suc depth) clock past unread =
-    let fades : (k : ℕ) → answers_in buffer (fades_in setting sub (λ j m. calls_at setting sub depth (Sub j) (history setting sub (Sub j) m)) (lies_in setting clock k) past k (slice_get setting.plan.nodes k)) ≡ [] =
-    λ k. no_faded_in setting sub (λ j m. calls_at setting sub depth (Sub j) (history setting sub (Sub j) m)) past k buffer (lies_in setting clock k) (slice_get setting.plan.nodes k)
-    (λ inside m. no_called setting sub buffer depth (Sub k) (history setting sub (Sub k) m) (unread_below setting clock k buffer (same_clock-true (clock_of setting k) clock inside) unread)) in
-    answers_in-append buffer (takes_at setting clock past) (joined_upto (λ k. fades_in setting sub (λ j m. calls_at setting sub depth (Sub j) (history setting sub (Sub j) m)) (lies_in setting clock k) past k (slice_get setting.plan.nodes k)) (length setting.plan.nodes))
-    ∙ ap (λ (answers : List Answer). answers ++ answers_in buffer (joined_upto (λ k. fades_in setting sub (λ j m. calls_at setting sub depth (Sub j) (history setting sub (Sub j) m)) (lies_in setting clock k) past k (slice_get setting.plan.nodes k)) (length setting.plan.nodes))) (no_taken setting clock past buffer unread)
-    ∙ none_in_joined buffer (λ k. fades_in setting sub (λ j m. calls_at setting sub depth (Sub j) (history setting sub (Sub j) m)) (lies_in setting clock k) past k (slice_get setting.plan.nodes k)) fades (length setting.plan.nodes)
+    let fades : (k : ℕ) → answers_in buffer (fades_in setting sub (λ j m. calls_at setting sub depth (Sub j) (first_instants setting sub (Sub j) m)) (lies_in setting clock k) past k (slice_get setting.plan.nodes k)) ≡ [] =
+    λ k. no_faded_in setting sub (λ j m. calls_at setting sub depth (Sub j) (first_instants setting sub (Sub j) m)) past k buffer (lies_in setting clock k) (slice_get setting.plan.nodes k)
+    (λ inside m. no_called setting sub buffer depth (Sub k) (first_instants setting sub (Sub k) m) (unread_below setting clock k buffer (same_clock-true (clock_of setting k) clock inside) unread)) in
+    answers_in-append buffer (takes_at setting clock past) (joined_upto (λ k. fades_in setting sub (λ j m. calls_at setting sub depth (Sub j) (first_instants setting sub (Sub j) m)) (lies_in setting clock k) past k (slice_get setting.plan.nodes k)) (length setting.plan.nodes))
+    ∙ ap (λ (answers : List Answer). answers ++ answers_in buffer (joined_upto (λ k. fades_in setting sub (λ j m. calls_at setting sub depth (Sub j) (first_instants setting sub (Sub j) m)) (lies_in setting clock k) past k (slice_get setting.plan.nodes k)) (length setting.plan.nodes))) (no_taken setting clock past buffer unread)
+    ∙ none_in_joined buffer (λ k. fades_in setting sub (λ j m. calls_at setting sub depth (Sub j) (first_instants setting sub (Sub j) m)) (lies_in setting clock k) past k (slice_get setting.plan.nodes k)) fades (length setting.plan.nodes)
 
 pub no_given : (buffer to : ℕ) (cells : List Cell) (accepted : Bool) → answers_in buffer (given to cells accepted) ≡ []
 no_given buffer to [] accepted = refl
@@ -99,8 +99,8 @@ no_gives setting accepted m t buffer (sink ∷ sinks) =
 -- a tick takes from no other buffer
 pub no_tick_takes : (setting : Setting) (accepted : ℕ → Bool) (m t buffer : ℕ) → IsUnread setting (Main m) buffer → answers_in buffer (calls_of_tick setting accepted m t) ≡ []
 no_tick_takes setting accepted m t buffer unread =
-    answers_in-append buffer (joined_upto (λ j. calls_at setting (sub_of setting) (suc (length setting.plan.nodes)) (Main m) (history setting (sub_of setting) (Main m) (t * setting.plan.frame + j))) setting.plan.frame) (flat_map (give_by setting accepted m t) setting.plan.sinks)
+    answers_in-append buffer (joined_upto (λ j. calls_at setting (sub_of setting) (suc (length setting.plan.nodes)) (Main m) (first_instants setting (sub_of setting) (Main m) (t * setting.plan.frame + j))) setting.plan.frame) (flat_map (give_by setting accepted m t) setting.plan.sinks)
     ∙ ap (λ (answers : List Answer). answers ++ answers_in buffer (flat_map (give_by setting accepted m t) setting.plan.sinks))
-    (none_in_joined buffer (λ j. calls_at setting (sub_of setting) (suc (length setting.plan.nodes)) (Main m) (history setting (sub_of setting) (Main m) (t * setting.plan.frame + j)))
-    (λ j. no_called setting (sub_of setting) buffer (suc (length setting.plan.nodes)) (Main m) (history setting (sub_of setting) (Main m) (t * setting.plan.frame + j)) unread) setting.plan.frame)
+    (none_in_joined buffer (λ j. calls_at setting (sub_of setting) (suc (length setting.plan.nodes)) (Main m) (first_instants setting (sub_of setting) (Main m) (t * setting.plan.frame + j)))
+    (λ j. no_called setting (sub_of setting) buffer (suc (length setting.plan.nodes)) (Main m) (first_instants setting (sub_of setting) (Main m) (t * setting.plan.frame + j)) unread) setting.plan.frame)
     ∙ no_gives setting accepted m t buffer setting.plan.sinks

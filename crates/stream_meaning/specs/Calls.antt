@@ -12,7 +12,7 @@ use Rattle.frame_core.specs.Calls.{Call, Took, Given, Answer}
 use Rattle.op_cross.specs.Runs.{run_of}
 use Rattle.op_leaf.specs.Readers.{takes_of}
 use Rattle.stream_meaning.specs.Operators.{Work, Plays, Picks, Mixes, Fades, Reads}
-use Rattle.stream_meaning.specs.Instants.{Setting, Moment, clock_of, lies_in, position, next_answers, reading_after, work_at, history, sub_of}
+use Rattle.stream_meaning.specs.Instants.{Setting, Moment, clock_of, lies_in, position, next_answers, reading_after, work_at, first_instants, sub_of}
 use Rattle.stream_meaning.specs.Sinks.{feed_cells}
 
 -- the calls of 0 to n - 1, one after another
@@ -70,7 +70,7 @@ abbrev pub calls_at : Setting → (sub : ℕ → ℕ → List Slot) → (depth :
 calls_at setting sub zero clock past = []
 calls_at setting sub (suc depth) clock past =
     takes_at setting clock past
-    ++ joined_upto (λ k. fades_in setting sub (λ j m. calls_at setting sub depth (Sub j) (history setting sub (Sub j) m))
+    ++ joined_upto (λ k. fades_in setting sub (λ j m. calls_at setting sub depth (Sub j) (first_instants setting sub (Sub j) m))
     (lies_in setting clock k) past k (slice_get setting.plan.nodes k)) (length setting.plan.nodes)
 
 -- the calls of the instant of a clock after these: sub-clocks nest no deeper than there are nodes
@@ -92,7 +92,7 @@ gives_of_tick setting accepted m t = flat_map (give_by setting accepted m t) set
 
 abbrev pub takes_of_tick : Setting → (m t : ℕ) → List Call
 takes_of_tick setting m t = joined_upto
-    (λ j. calls_of setting (sub_of setting) (Main m) (history setting (sub_of setting) (Main m) (t * setting.plan.frame + j)))
+    (λ j. calls_of setting (sub_of setting) (Main m) (first_instants setting (sub_of setting) (Main m) (t * setting.plan.frame + j)))
     setting.plan.frame
 
 -- the calls of tick t of main clock m
@@ -122,7 +122,7 @@ pub record IsBegin (made calls : List Call) : Type 0 where
 -- the calls of each instant of each clock go by those of the sub-clocks' instants
 pub record GoDown (setting : Setting) (sub : ℕ → ℕ → List Slot) : Type 0 where
   pub each : (clock : NodeClock) (past : List Moment) → calls_of setting sub clock past
-      ≡ takes_at setting clock past ++ joined_upto (λ k. fades_in setting sub (λ j m. calls_of setting sub (Sub j) (history setting sub (Sub j) m))
+      ≡ takes_at setting clock past ++ joined_upto (λ k. fades_in setting sub (λ j m. calls_of setting sub (Sub j) (first_instants setting sub (Sub j) m))
       (lies_in setting clock k) past k (slice_get setting.plan.nodes k)) (length setting.plan.nodes)
 
 -- node i lies in a clock, or in a sub-clock so many ranks below it

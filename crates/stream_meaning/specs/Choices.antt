@@ -1,7 +1,7 @@
 -- What lies behind a rotate or a random at an instant, by the instants at which it gave.
 use Rattle.std.specs.Prelude.{List, [], ◌∷◌, ℕ, if◌then◌else◌}
 use Rattle.frame_core.specs.Slots.{Slot}
-use Rattle.random_ops.specs.Turns.{Past}
+use Rattle.op_turn.specs.Turns.{Past}
 use Rattle.stream_meaning.specs.Instants.{Moment, choices, gives, last_pick, slots_at}
 
 -- what these children offered at those of these instants at which node i gave, the latest first

@@ -233,10 +233,10 @@ abbrev pub moment_after : Setting → (sub : ℕ → ℕ → List Slot) → Node
 moment_after setting sub clock past = moment_of setting clock (parts_upto setting sub clock past (length setting.plan.nodes))
 
 -- the first n instants of a clock, the latest first
-abbrev pub history : Setting → (sub : ℕ → ℕ → List Slot) → NodeClock → ℕ → List Moment
-history setting sub clock zero = []
-history setting sub clock (suc n) =
-    let past = history setting sub clock n in moment_after setting sub clock past ∷ past
+abbrev pub first_instants : Setting → (sub : ℕ → ℕ → List Slot) → NodeClock → ℕ → List Moment
+first_instants setting sub clock zero = []
+first_instants setting sub clock (suc n) =
+    let past = first_instants setting sub clock n in moment_after setting sub clock past ∷ past
 
 -- the slots of node i at these instants, the earliest first
 abbrev pub slots_of : List Moment → ℕ → List Slot
@@ -245,12 +245,12 @@ slots_of (moment ∷ past) i = slots_of past i ++ offer moment i ∷ []
 
 -- `sub` is the meaning of the sub-clocks: the first m slots of each crossfade's child in the crossfade's own sub-clock
 abbrev pub IsMeaning : Setting → (sub : ℕ → ℕ → List Slot) → Type 0
-IsMeaning setting sub = (k m : ℕ) → sub k m ≡ slots_of (history setting sub (Sub k) m) (crossfaded setting.plan.nodes k)
+IsMeaning setting sub = (k m : ℕ) → sub k m ≡ slots_of (first_instants setting sub (Sub k) m) (crossfaded setting.plan.nodes k)
 
 -- these slots, for sub-clocks that nest no deeper than this
 abbrev pub sub_within : Setting → (depth : ℕ) → ℕ → ℕ → List Slot
 sub_within setting zero k m = []
-sub_within setting (suc depth) k m = slots_of (history setting (sub_within setting depth) (Sub k) m) (crossfaded setting.plan.nodes k)
+sub_within setting (suc depth) k m = slots_of (first_instants setting (sub_within setting depth) (Sub k) m) (crossfaded setting.plan.nodes k)
 
 -- the slots of the sub-clocks: they nest no deeper than there are nodes
 abbrev pub sub_of : Setting → ℕ → ℕ → List Slot
@@ -258,4 +258,4 @@ sub_of setting = sub_within setting (suc (length setting.plan.nodes))
 
 -- the slot of node i at instant n of its clock
 abbrev pub stream_of : Setting → ℕ → ℕ → Slot
-stream_of setting i n = offer (moment_after setting (sub_of setting) (clock_of setting i) (history setting (sub_of setting) (clock_of setting i) n)) i
+stream_of setting i n = offer (moment_after setting (sub_of setting) (clock_of setting i) (first_instants setting (sub_of setting) (clock_of setting i) n)) i

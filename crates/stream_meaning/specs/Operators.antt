@@ -11,9 +11,9 @@ use Rattle.op_select.specs.declared.rule.Rule.{Rule}
 use Rattle.op_select.specs.declared.rule.Rule.TheVariants.{First, Turns}
 use Rattle.op_select.specs.Selection.{pick_of}
 use Rattle.frame_core.specs.Slots.{Slot}
-use Rattle.random_ops.specs.declared.turn.Turn.{Turn}
-use Rattle.random_ops.specs.declared.turn.Turn.TheVariants.{Rotate as Rotates, Random as Draws}
-use Rattle.random_ops.specs.Turns.{used_child}
+use Rattle.op_turn.specs.declared.turn.Turn.{Turn}
+use Rattle.op_turn.specs.declared.turn.Turn.TheVariants.{Rotate as Rotates, Random as Draws}
+use Rattle.op_turn.specs.Turns.{used_child}
 use Rattle.stream_meaning.specs.Arithmetic.{Mixing, Adds, Scales, Halves, Doubles, Passes}
 
 -- which children are eligible: every one, or those whose predicates hold

@@ -8,11 +8,11 @@ ghost use Rattle.plan_core.specs.declared.node.Node.{Node as TheNode};
 ghost use Rattle.plan_core.specs.declared.plan.Plan.{Plan as ThePlan};
 ghost use Rattle.fallible_infer.specs.Infallible.{IsMarking};
 ghost use Rattle.frame_core.specs.Slots.{Slot as TheSlot};
-ghost use Rattle.random_ops.specs.declared.turn.Turn.{Turn as TheTurn};
-ghost use Rattle.random_ops.specs.Turns.{past_of};
+ghost use Rattle.op_turn.specs.declared.turn.Turn.{Turn as TheTurn};
+ghost use Rattle.op_turn.specs.Turns.{past_of};
 ghost use Rattle.stream_meaning.specs.Choices.{gave_over, turned};
 ghost use Rattle.stream_meaning.specs.Operators.{Eligible, Picks, TakesTurns};
-ghost use Rattle.stream_meaning.specs.Instants.{Setting, Moment, IsMeaning, clock_of, sub_of, stream_of, history, lies_in, work_at};
+ghost use Rattle.stream_meaning.specs.Instants.{Setting, Moment, IsMeaning, clock_of, sub_of, stream_of, first_instants, lies_in, work_at};
 ghost use Rattle.stream_meaning.specs.Calls.{calls_of, calls_of_tick, fades_in, joined_upto, takes_at};
 ghost use Rattle.stream_meaning.specs.Settings.{IsSetting, HasNoBuffers};
 ghost use Rattle.stream_meaning.specs.Sinks.{gaps};
@@ -38,14 +38,14 @@ pub fn infallible_nodes_offer()
 pub fn turns_go_by_choices()
     ensures { (setting : Setting) (sub : ℕ → ℕ → List TheSlot) (i n : ℕ) (node : TheNode) (turn : TheTurn) (eligible : Eligible)
         → AreNodes setting.plan.nodes → slice_get setting.plan.nodes i ≡ Some node → work_at setting i node ≡ Picks (TakesTurns turn) eligible
-        → turned (history setting sub (clock_of setting i) n) i ≡ past_of turn (gave_over (history setting sub (clock_of setting i) n) i node.children) }
+        → turned (first_instants setting sub (clock_of setting i) n) i ≡ past_of turn (gave_over (first_instants setting sub (clock_of setting i) n) i node.children) }
 {}
 
 /// The calls of an instant are the takes of its clock's readers, and then those of the instants that its sub-clocks make.
 pub fn calls_go_by_sub_clocks()
     ensures { (setting : Setting) (clocks : Map) → IsSetting setting clocks
         → (sub : ℕ → ℕ → List TheSlot) (clock : Clock) (past : List Moment)
-        → calls_of setting sub clock past ≡ takes_at setting clock past ++ joined_upto (λ k. fades_in setting sub (λ j m. calls_of setting sub (InSub j) (history setting sub (InSub j) m)) (lies_in setting clock k) past k (slice_get setting.plan.nodes k)) (length setting.plan.nodes) }
+        → calls_of setting sub clock past ≡ takes_at setting clock past ++ joined_upto (λ k. fades_in setting sub (λ j m. calls_of setting sub (InSub j) (first_instants setting sub (InSub j) m)) (lies_in setting clock k) past k (slice_get setting.plan.nodes k)) (length setting.plan.nodes) }
 {}
 
 /// A plan without readers and feeds makes no calls, whatever the setting; a well-formed plan that counts no buffer is one.

@@ -7,7 +7,7 @@ use Rattle.plan_core.specs.declared.sink.SinkPlan.{SinkPlan}
 use Rattle.plan_core.specs.declared.sink.SinkPlan.TheVariants.{Output, Feed}
 use Rattle.frame_core.specs.Calls.{Call}
 use Rattle.stream_meaning.specs.Instants.{Setting}
-use Rattle.clock_engine.specs.Engines.{outputs_from}
+use Rattle.clock_ticks.specs.Engines.{outputs_from}
 use Rattle.run_records.specs.Buffers.{feeder, reader}
 use Rattle.trace_replay.specs.Clocks.{Log}
 use Rattle.trace_replay.specs.Answering.{AllStand, BufferState, SameBuffers, StandsFor, begun, chunks_at}

@@ -1,7 +1,7 @@
 -- Windows that are legal as they are told are legal with their chunks.
 use Rattle.std.proofs.Common.{◌≡◌, ◌≤◌, ◌+◌, ◌-◌, ◌∙◌, ◌++◌, ◌&&◌, ℕ, suc, Bool, true, false, is_some, Option, Some, None, List, [], ◌∷◌, length, map, flat_map, refl, ap, sym, subst, arith, append_assoc, append-nil, length-append, true≢false}
 use Rattle.frame_core.specs.Frames.{somes}
-use Rattle.frame_core.specs.Legal.{IsRun}
+use Rattle.frame_core.specs.Legal.{IsHistory}
 use Rattle.frame_core.proofs.Lanes.{somes-append}
 use Rattle.frame_core.proofs.Laws.{legal_whole}
 use Rattle.trace_replay.specs.Told.{are_legal, is_legal, yes}
@@ -36,7 +36,7 @@ module _ {X : Type 0} where
 
   -- windows that are told as legal ones, whose chunks come out in the order in which they went in
   pub told_run : (C : ℕ) (q rest : List X) (windows : List (List (Option X) × List (Option X))) → 1 ≤ C → length q ≤ C → are_legal C (length q) (map told_by windows) ≡ true
-      → q ++ somes (flat_map (λ w. w.0) windows) ≡ somes (flat_map (λ w. w.1) windows) ++ rest → IsRun C q windows rest
+      → q ++ somes (flat_map (λ w. w.0) windows) ≡ somes (flat_map (λ w. w.1) windows) ++ rest → IsHistory C q windows rest
   told_run C q rest [] some low legal whole = sym (append-nil q) ∙ whole
   told_run C q rest (w ∷ windows) some low legal whole =
       let puts : List (Option X) = flat_map (λ w. w.0) windows in
@@ -62,7 +62,7 @@ module _ {X : Type 0} where
       )
 
   -- and legal windows are told as such
-  pub run_told : (C : ℕ) (q rest : List X) (windows : List (List (Option X) × List (Option X))) → length q ≤ C → IsRun C q windows rest → are_legal C (length q) (map told_by windows) ≡ true
+  pub run_told : (C : ℕ) (q rest : List X) (windows : List (List (Option X) × List (Option X))) → length q ≤ C → IsHistory C q windows rest → are_legal C (length q) (map told_by windows) ≡ true
   run_told C q rest [] low run = refl
   run_told C q rest (w ∷ windows) low run =
       let fits = legal_fits run.1 low in

@@ -10,9 +10,9 @@ use Rattle.stream_meaning.specs.Instants.{Setting}
 use Rattle.stream_meaning.specs.Sinks.{ticks_bytes}
 use Rattle.buffer_ends.specs.declared.run_end.End.{End}
 use Rattle.buffer_ends.specs.declared.run_end.End.TheVariants.{Done, Write, Memory as NoMemory}
-use Rattle.clock_engine.specs.declared.engine.ClockEngine.{ClockEngine}
-use Rattle.clock_engine.specs.Engines.{held_of, outputs_of, setting_of}
-use Rattle.clock_engine.proofs.Pieces.{got_between, got_none}
+use Rattle.clock_ticks.specs.declared.engine.ClockEngine.{ClockEngine}
+use Rattle.clock_ticks.specs.Engines.{held_of, outputs_of, setting_of}
+use Rattle.clock_ticks.proofs.Pieces.{got_between, got_none}
 use Rattle.rounds_run.specs.Rounds.{HasRunPart, IsWriteEnd}
 use Rattle.rounds_run.specs.Runs.{HasRunTicks, HaveRunTicks}
 use Rattle.rounds_run.proofs.Fronts.{grown_nothing, itself}

@@ -15,13 +15,13 @@ use Rattle.stream_meaning.specs.Settings.{IsSetting}
 use Rattle.stream_meaning.specs.Sinks.{ticks_bytes}
 use Rattle.stream_meaning.proofs.Unread.{no_tick_takes, none_in_joined}
 use Rattle.run_records.specs.Outputs.{first_calls}
-use Rattle.engine_instants.proofs.Reading.{op_of_reads}
+use Rattle.clock_instants.proofs.Reading.{op_of_reads}
 use Rattle.run_records.specs.Buffers.{feeder, reader}
 use Rattle.run_records.specs.Owning.{IsOwn}
 use Rattle.run_records.specs.Records.{IsLawful, Run, Window, answers_of, calls_in, setting_in}
 use Rattle.run_records.proofs.Flattening.{takes-append}
-use Rattle.clock_engine.specs.declared.engine.ClockEngine.{ClockEngine}
-use Rattle.clock_engine.specs.Engines.{held_of, setting_of}
+use Rattle.clock_ticks.specs.declared.engine.ClockEngine.{ClockEngine}
+use Rattle.clock_ticks.specs.Engines.{held_of, setting_of}
 use Rattle.rounds_run.specs.Rounds.{HasRunPart, HasRunTurns, MayRun, world}
 use Rattle.rounds_run.specs.Runs.{HasRunTicks}
 use Rattle.rounds_run.proofs.Going.{none_read}

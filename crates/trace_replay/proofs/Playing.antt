@@ -11,9 +11,9 @@ use Rattle.stream_meaning.proofs.Answering.{answers_in-append}
 use Rattle.run_records.specs.Outputs.{first_calls}
 use Rattle.run_records.specs.Records.{start}
 use Rattle.node_states.specs.Ticks.{HasTicked}
-use Rattle.clock_engine.specs.declared.engine.EngineParts.{EngineParts}
-use Rattle.clock_engine.specs.Engines.{EngineStands, held_in, outputs_of, setting_of}
-use Rattle.clock_engine.specs.Ticks.{HasMade}
+use Rattle.clock_ticks.specs.declared.engine.EngineParts.{EngineParts}
+use Rattle.clock_ticks.specs.Engines.{EngineStands, held_in, outputs_of, setting_of}
+use Rattle.clock_ticks.specs.Ticks.{HasMade}
 use Rattle.trace_replay.specs.declared.course.Course.{Course}
 use Rattle.trace_replay.specs.declared.course.Course.TheVariants.{Goes, Waits, Fails}
 use Rattle.trace_replay.specs.declared.ends.Ends.{Ends}

@@ -3,8 +3,8 @@ use Rattle.std.proofs.Common.{◌≡◌, ◌∙◌, ℕ, List, [], length, Resul
 use Rattle.clock_infer.specs.declared.clock_map.ClockMap.{ClockMap}
 use Rattle.stream_meaning.specs.Instants.{Setting}
 use Rattle.stream_meaning.specs.Settings.{IsSetting}
-use Rattle.clock_engine.specs.declared.engine.EngineParts.{EngineParts}
-use Rattle.clock_engine.specs.Engines.{EngineStands, setting_of}
+use Rattle.clock_ticks.specs.declared.engine.EngineParts.{EngineParts}
+use Rattle.clock_ticks.specs.Engines.{EngineStands, setting_of}
 use Rattle.trace_replay.specs.declared.ends.Ends.{Ends}
 use Rattle.trace_replay.specs.declared.turn.Turn.{Turn}
 use Rattle.trace_replay.specs.declared.turn.Turn.TheVariants.{Made, Refused}

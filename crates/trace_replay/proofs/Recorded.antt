@@ -8,7 +8,7 @@ use Rattle.std.proofs.lemmas.List.Elements.{All-head, All-tail, All-append, All-
 use Rattle.clock_infer.specs.declared.clock_map.ClockMap.{ClockMap}
 use Rattle.frame_core.specs.declared.cell.Cell.{Cell}
 use Rattle.frame_core.specs.Frames.{somes}
-use Rattle.frame_core.specs.Legal.{IsRun}
+use Rattle.frame_core.specs.Legal.{IsHistory}
 use Rattle.frame_core.proofs.Lanes.{somes-append}
 use Rattle.frame_core.proofs.Laws.{legal_whole}
 use Rattle.frame_core.specs.Calls.{Call, Took, Given, takes_of, puts_to, put_of, Answer}
@@ -28,7 +28,7 @@ use Rattle.trace_replay.specs.Clocks.{AreAnswered, AreInOrder, AreWhole, HasRepl
 use Rattle.trace_replay.proofs.Fronts.{front_all, front_none}
 
 -- what was got of a queue and what is left are what it held and what it accepted
-pub run_whole : {X : Type 0} (C : ℕ) (q rest : List X) (windows : List (List (Option X) × List (Option X))) → IsRun C q windows rest
+pub run_whole : {X : Type 0} (C : ℕ) (q rest : List X) (windows : List (List (Option X) × List (Option X))) → IsHistory C q windows rest
     → q ++ somes (flat_map (λ w. w.0) windows) ≡ somes (flat_map (λ w. w.1) windows) ++ rest
 run_whole C q rest [] run = append-nil q ∙ run
 run_whole {X} C q rest (w ∷ windows) run =

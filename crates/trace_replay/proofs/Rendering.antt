@@ -9,11 +9,11 @@ use Rattle.run_records.specs.Outputs.{first_calls}
 use Rattle.node_states.specs.Ticks.{HasStopped, HasTicked}
 use Rattle.clock_outputs.specs.Appends.{AreKept, GotOnePiece, NoneFell}
 use Rattle.clock_outputs.proofs.Since.{rose_since}
-use Rattle.clock_engine.specs.declared.engine.ClockEngine.{ClockEngine}
-use Rattle.clock_engine.specs.declared.fault.TickFault.{TickFault}
-use Rattle.clock_engine.specs.declared.fault.TickFault.TheVariants.{Write as TickWrite}
-use Rattle.clock_engine.specs.Engines.{AreParts, EngineStands, held_in, outputs_of, setting_of}
-use Rattle.clock_engine.specs.Ticks.{GotSomePieces, HasFailed as TickFailed, HasMade, HaveTickRoom, HaveTicksRoom, IsWriteFault, piece_size}
+use Rattle.clock_ticks.specs.declared.engine.ClockEngine.{ClockEngine}
+use Rattle.clock_ticks.specs.declared.fault.TickFault.{TickFault}
+use Rattle.clock_ticks.specs.declared.fault.TickFault.TheVariants.{Write as TickWrite}
+use Rattle.clock_ticks.specs.Engines.{AreParts, EngineStands, held_in, outputs_of, setting_of}
+use Rattle.clock_ticks.specs.Ticks.{GotSomePieces, HasFailed as TickFailed, HasMade, HaveTickRoom, HaveTicksRoom, IsWriteFault, piece_size}
 use Rattle.rounds_run.proofs.Going.{run_failed, run_more, run_none}
 use Rattle.trace_replay.specs.declared.course.Course.{Course}
 use Rattle.trace_replay.specs.declared.course.Course.TheVariants.{Goes, Waits, Fails}

@@ -12,7 +12,7 @@ use Rattle.op_cross.specs.Runs.{run_of}
 use Rattle.op_leaf.specs.Readers.{takes_of as takes_of_reader}
 use Rattle.run_records.proofs.Flattening.{puts-append, takes-append}
 use Rattle.stream_meaning.specs.Operators.{Work, Plays, Picks, Mixes, Fades, Reads}
-use Rattle.stream_meaning.specs.Instants.{Setting, Moment, lies_in, position, next_answers, reading_after, work_at, history, sub_of}
+use Rattle.stream_meaning.specs.Instants.{Setting, Moment, lies_in, position, next_answers, reading_after, work_at, first_instants, sub_of}
 use Rattle.stream_meaning.specs.Sinks.{feed_cells}
 use Rattle.stream_meaning.specs.Calls.{calls_at, calls_of, fades_by, fades_in, give_by, given, gives_of_tick, joined_upto, ran_by, takes_at, takes_by, takes_in, takes_of_tick}
 
@@ -61,16 +61,16 @@ none_faded_in setting sub below past k b true (Some node) none = none_faded_by s
 none_called : (setting : Setting) (sub : ℕ → ℕ → List Slot) (b depth : ℕ) (clock : NodeClock) (past : List Moment) → puts_to b (calls_at setting sub depth clock past) ≡ []
 none_called setting sub b zero clock past = refl
 none_called setting sub b (suc depth) clock past =
-    let fades : (k : ℕ) → puts_to b (fades_in setting sub (λ j m. calls_at setting sub depth (Sub j) (history setting sub (Sub j) m)) (lies_in setting clock k) past k (slice_get setting.plan.nodes k)) ≡ [] =
-    λ k. none_faded_in setting sub (λ j m. calls_at setting sub depth (Sub j) (history setting sub (Sub j) m)) past k b (lies_in setting clock k) (slice_get setting.plan.nodes k)
-    (λ m. none_called setting sub b depth (Sub k) (history setting sub (Sub k) m)) in
-    puts-append b (takes_at setting clock past) (joined_upto (λ k. fades_in setting sub (λ j m. calls_at setting sub depth (Sub j) (history setting sub (Sub j) m)) (lies_in setting clock k) past k (slice_get setting.plan.nodes k)) (length setting.plan.nodes))
-    ∙ ap (λ (l : List Answer). l ++ puts_to b (joined_upto (λ k. fades_in setting sub (λ j m. calls_at setting sub depth (Sub j) (history setting sub (Sub j) m)) (lies_in setting clock k) past k (slice_get setting.plan.nodes k)) (length setting.plan.nodes))) (none_at setting clock past b)
-    ∙ none_joined b (λ k. fades_in setting sub (λ j m. calls_at setting sub depth (Sub j) (history setting sub (Sub j) m)) (lies_in setting clock k) past k (slice_get setting.plan.nodes k)) fades (length setting.plan.nodes)
+    let fades : (k : ℕ) → puts_to b (fades_in setting sub (λ j m. calls_at setting sub depth (Sub j) (first_instants setting sub (Sub j) m)) (lies_in setting clock k) past k (slice_get setting.plan.nodes k)) ≡ [] =
+    λ k. none_faded_in setting sub (λ j m. calls_at setting sub depth (Sub j) (first_instants setting sub (Sub j) m)) past k b (lies_in setting clock k) (slice_get setting.plan.nodes k)
+    (λ m. none_called setting sub b depth (Sub k) (first_instants setting sub (Sub k) m)) in
+    puts-append b (takes_at setting clock past) (joined_upto (λ k. fades_in setting sub (λ j m. calls_at setting sub depth (Sub j) (first_instants setting sub (Sub j) m)) (lies_in setting clock k) past k (slice_get setting.plan.nodes k)) (length setting.plan.nodes))
+    ∙ ap (λ (l : List Answer). l ++ puts_to b (joined_upto (λ k. fades_in setting sub (λ j m. calls_at setting sub depth (Sub j) (first_instants setting sub (Sub j) m)) (lies_in setting clock k) past k (slice_get setting.plan.nodes k)) (length setting.plan.nodes))) (none_at setting clock past b)
+    ∙ none_joined b (λ k. fades_in setting sub (λ j m. calls_at setting sub depth (Sub j) (first_instants setting sub (Sub j) m)) (lies_in setting clock k) past k (slice_get setting.plan.nodes k)) fades (length setting.plan.nodes)
 
 pub takes_put_none : (setting : Setting) (b m t : ℕ) → puts_to b (takes_of_tick setting m t) ≡ []
-takes_put_none setting b m t = none_joined b (λ j. calls_of setting (sub_of setting) (Main m) (history setting (sub_of setting) (Main m) (t * setting.plan.frame + j)))
-    (λ j. none_called setting (sub_of setting) b (suc (length setting.plan.nodes)) (Main m) (history setting (sub_of setting) (Main m) (t * setting.plan.frame + j))) setting.plan.frame
+takes_put_none setting b m t = none_joined b (λ j. calls_of setting (sub_of setting) (Main m) (first_instants setting (sub_of setting) (Main m) (t * setting.plan.frame + j)))
+    (λ j. none_called setting (sub_of setting) b (suc (length setting.plan.nodes)) (Main m) (first_instants setting (sub_of setting) (Main m) (t * setting.plan.frame + j))) setting.plan.frame
 
 given_takes : (b buffer : ℕ) (cells : List Cell) (accepted : Bool) → takes_of b (given buffer cells accepted) ≡ []
 given_takes b buffer [] accepted = refl

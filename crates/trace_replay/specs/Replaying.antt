@@ -6,9 +6,9 @@ use Rattle.stream_meaning.specs.Calls.{answers_in}
 use Rattle.stream_meaning.specs.Settings.{IsSetting}
 use Rattle.run_records.specs.Outputs.{first_calls}
 use Rattle.clock_outputs.specs.Appends.{RoseAt}
-use Rattle.clock_engine.specs.declared.engine.ClockEngine.{ClockEngine}
-use Rattle.clock_engine.specs.Engines.{EngineStands, outputs_of, setting_of}
-use Rattle.clock_engine.specs.Ticks.{HaveTicksRoom}
+use Rattle.clock_ticks.specs.declared.engine.ClockEngine.{ClockEngine}
+use Rattle.clock_ticks.specs.Engines.{EngineStands, outputs_of, setting_of}
+use Rattle.clock_ticks.specs.Ticks.{HaveTicksRoom}
 use Rattle.rounds_run.specs.Rounds.{HasRunPart, HasRunTurns, world}
 use Rattle.trace_replay.specs.Clocks.{HasReplayed, IsFront}
 use Rattle.trace_replay.specs.Passes.{IsMadeBy}

@@ -7,7 +7,7 @@ use Rattle.buffer_ends.specs.Local.{Answers}
 use Rattle.buffer_ends.specs.declared.counts.Counts.{Counts}
 use Rattle.buffer_ends.specs.declared.run_end.End.{End}
 use Rattle.buffer_ends.specs.declared.run_end.End.TheVariants.{Write}
-use Rattle.clock_engine.specs.declared.engine.ClockEngine.{ClockEngine}
+use Rattle.clock_ticks.specs.declared.engine.ClockEngine.{ClockEngine}
 use Rattle.rounds_run.specs.Rounds.{HasRunPart, HaveRunPart, IsWriteEnd}
 use Rattle.rounds_run.specs.Runs.{HasRunTicks, HaveRunTicks, counts_of_run, logs_of_run}
 use Rattle.trace_log.specs.Values.{TraceValue}

@@ -6,8 +6,8 @@ use Rattle.stream_meaning.specs.Instants.{Setting, same_clock}
 use Rattle.stream_meaning.specs.Calls.{answers_in}
 use Rattle.run_records.specs.Buffers.{feeder, reader}
 use Rattle.run_records.specs.Records.{capacity_of}
-use Rattle.clock_engine.specs.declared.engine.EngineParts.{EngineParts}
-use Rattle.clock_engine.specs.Engines.{EngineStands, setting_of}
+use Rattle.clock_ticks.specs.declared.engine.EngineParts.{EngineParts}
+use Rattle.clock_ticks.specs.Engines.{EngineStands, setting_of}
 use Rattle.plan_core.specs.declared.plan.Plan.{Plan}
 use Rattle.plan_core.specs.declared.sink.SinkPlan.{SinkPlan}
 use Rattle.plan_core.specs.declared.sink.SinkPlan.TheVariants.{Output, Feed}

@@ -1,8 +1,8 @@
 // The engines of a replay, one after another.
 ghost use Rattle.std.specs.Prelude.{◌≡◌, ◌≤◌, ◌<◌, ℕ, OnOk, OnErr, IfErr, length};
 ghost use Rattle.buffer_ends.specs.declared.run_end.End.TheVariants.{Done, Memory as NoMemory, Write as WriteEnd};
-ghost use Rattle.clock_engine.specs.declared.fault.TickFault.TheVariants.{Memory as OutOfMemory, Write as TickWrite};
-ghost use Rattle.clock_engine.specs.Engines.{setting_of};
+ghost use Rattle.clock_ticks.specs.declared.fault.TickFault.TheVariants.{Memory as OutOfMemory, Write as TickWrite};
+ghost use Rattle.clock_ticks.specs.Engines.{setting_of};
 ghost use Rattle.stream_meaning.specs.Settings.{IsSetting};
 ghost use Rattle.run_records.specs.Records.{Run, setting_in};
 ghost use Rattle.rounds_run.specs.Rounds.{AreEngines, MayRun};
@@ -19,7 +19,7 @@ use crate::parts::ticks_of;
 use crate::station::{Sides, Station};
 use crate::taps::{ToldTaps, begin_run};
 use buffer_ends::End;
-use clock_engine::{ClockEngine, TickFault};
+use clock_ticks::{ClockEngine, TickFault};
 use liq_base::Sink;
 use std::alloc::Global;
 use trace_log::Trace;

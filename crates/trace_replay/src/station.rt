@@ -2,7 +2,7 @@
 ghost use Rattle.std.specs.Prelude.{◌≡◌, length, slice_index_or, IfOk};
 ghost use Rattle.clock_infer.specs.declared.clock_map.NodeClock.TheVariants.{Main as InMain};
 ghost use Rattle.stream_meaning.specs.Instants.{Setting, same_clock};
-ghost use Rattle.clock_engine.specs.Engines.{outputs_of};
+ghost use Rattle.clock_ticks.specs.Engines.{outputs_of};
 ghost use Rattle.trace_replay.specs.Turns.{is_output_in, outputs_in};
 
 use crate::turn::NoSink;

@@ -13,7 +13,7 @@ use crate::course::Course;
 use crate::ends::{Ends, course_of};
 use crate::station::{Sides, Station, sinks_of};
 use crate::taps::{ToldTaps, begin_run};
-use clock_engine::ClockEngine;
+use clock_ticks::ClockEngine;
 use liq_base::{Failed, Memory, Sink};
 use std::alloc::Global;
 

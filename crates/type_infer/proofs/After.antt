@@ -10,8 +10,8 @@ use Rattle.type_terms.specs.Table.{Table}
 use Rattle.type_terms.specs.Term.{Term, variable}
 use Rattle.typing_rules.specs.Scoping.{names}
 use Rattle.typing_rules.specs.Scripts.{Targets}
-use Rattle.type_schemes.specs.Holding.{AreThere as AreHeldThere, HeldVariables}
-use Rattle.type_schemes.specs.Schemes.{scheme_of}
+use Rattle.general_types.specs.Holding.{AreThere as AreHeldThere, HeldVariables}
+use Rattle.general_types.specs.Schemes.{scheme_of}
 use Rattle.type_steps.specs.Environment.{Env, Found, IsEnvOver, Known, function, value}
 use Rattle.type_steps.specs.Flow.{HasNoType, Infers, IsTypeOf}
 use Rattle.type_steps.specs.Counts.{AreCounted, IsTextCounted}
@@ -21,13 +21,13 @@ use Rattle.type_steps.specs.Whole.{AreWhole, IsDoneCounted}
 use Rattle.type_steps.proofs.Appended.{known_more, whole_more}
 use Rattle.type_steps.proofs.Going.{no_bound, no_call, no_def, no_if, typings_bound, typings_call, typings_def, typings_if}
 use Rattle.type_steps.proofs.Wholes.{whole_apart}
-use Rattle.type_scope.specs.Seen.{DefIs, IsSeen, def_seen, env_of, founds, newest_first, types_seen}
-use Rattle.type_scope.specs.declared.environment.FoundUse.{FoundUse}
-use Rattle.type_scope.specs.declared.environment.Known.{Known as AKnown}
-use Rattle.type_scope.specs.declared.environment.Known.TheVariants as known
-use Rattle.type_scope.specs.declared.environment.KnownDef.{KnownDef}
-use Rattle.type_scope.specs.declared.environment.Names.{Names}
-use Rattle.type_scope.specs.declared.environment.TypedName.{TypedName}
+use Rattle.name_types.specs.Seen.{DefIs, IsSeen, def_seen, env_of, founds, newest_first, types_seen}
+use Rattle.name_types.specs.declared.environment.FoundUse.{FoundUse}
+use Rattle.name_types.specs.declared.environment.Known.{Known as AKnown}
+use Rattle.name_types.specs.declared.environment.Known.TheVariants as known
+use Rattle.name_types.specs.declared.environment.KnownDef.{KnownDef}
+use Rattle.name_types.specs.declared.environment.Names.{Names}
+use Rattle.name_types.specs.declared.environment.TypedName.{TypedName}
 use Rattle.expression_types.specs.Order.{AreAdded, said_at, said_of, tokens_used}
 use Rattle.def_types.specs.Answers.{AreSaidAs, IsNumberedDef, IsTypedDef, text_of}
 use Rattle.def_types.specs.Scope.{AreSeenDefs}

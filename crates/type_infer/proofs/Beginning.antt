@@ -4,7 +4,7 @@ use Rattle.script_grammar.specs.Tree.{none}
 use Rattle.type_terms.specs.Extends.{HasDefaults}
 use Rattle.type_terms.specs.Table.{Table}
 use Rattle.typing_rules.specs.Scripts.{Targets}
-use Rattle.type_schemes.specs.Holding.{HeldVariables, IsHeldBy}
+use Rattle.general_types.specs.Holding.{HeldVariables, IsHeldBy}
 use Rattle.type_steps.proofs.Going.{typings_none}
 use Rattle.type_infer.specs.States.{IsAfter}
 use Rattle.type_infer.specs.declared.steps.Typing.{Typing}

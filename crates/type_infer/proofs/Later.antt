@@ -7,7 +7,7 @@ use Rattle.type_terms.specs.Table.{IsOver, Table}
 use Rattle.type_terms.specs.Term.{Term, meaning, term_of, variable}
 use Rattle.type_terms.specs.declared.ty.Ty.TheVariants as ty
 use Rattle.type_terms.proofs.Views.{term_Var}
-use Rattle.type_schemes.specs.Holding.{AreThere, HeldVariables, IsHeldBy}
+use Rattle.general_types.specs.Holding.{AreThere, HeldVariables, IsHeldBy}
 use Rattle.type_steps.specs.Environment.{Known, value}
 use Rattle.type_steps.proofs.Tables.{follows_both, follows_same}
 use Rattle.type_steps.specs.Defs.{HoldsBefore, terms_before}

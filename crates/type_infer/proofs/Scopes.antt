@@ -20,7 +20,7 @@ use Rattle.typing_rules.specs.Scripts.{Entry, Places, Targets, behind, calls_of,
 use Rattle.typing_rules.specs.Typing.{DefHas}
 use Rattle.typing_rules.proofs.TypedScripts.{call_typed, typed_call}
 use Rattle.typing_rules.proofs.Shift.{text_comes, text_goes}
-use Rattle.type_schemes.specs.Schemes.{IsInstance, IsSchemeOver, Scheme, scheme_of}
+use Rattle.general_types.specs.Schemes.{IsInstance, IsSchemeOver, Scheme, scheme_of}
 use Rattle.name_scope.specs.Seen.{seen_parameter}
 use Rattle.type_steps.specs.Environment.{AreKnownOver, CallTakes, Known, Takes, TextTakes, TextUse, Texts, entries_under, function, settled_use, texts_under, value}
 use Rattle.type_steps.specs.Flow.{IsCallable}
@@ -28,11 +28,11 @@ use Rattle.type_steps.proofs.Tables.{env_later}
 use Rattle.type_steps.specs.Counts.{count_at, text_count}
 use Rattle.type_steps.specs.Defs.{IsTypingOf, outside}
 use Rattle.type_steps.specs.Statements.{IsNewDef}
-use Rattle.type_scope.specs.Seen.{DefIs, def_known, def_seen, known_seen, newest_first}
-use Rattle.type_scope.specs.declared.environment.Known.{Known as AKnown}
-use Rattle.type_scope.specs.declared.environment.Known.TheVariants as known
-use Rattle.type_scope.specs.declared.environment.KnownDef.{KnownDef}
-use Rattle.type_scope.specs.declared.environment.TypedName.{TypedName}
+use Rattle.name_types.specs.Seen.{DefIs, def_known, def_seen, known_seen, newest_first}
+use Rattle.name_types.specs.declared.environment.Known.{Known as AKnown}
+use Rattle.name_types.specs.declared.environment.Known.TheVariants as known
+use Rattle.name_types.specs.declared.environment.KnownDef.{KnownDef}
+use Rattle.name_types.specs.declared.environment.TypedName.{TypedName}
 use Rattle.def_types.specs.Answers.{text_of}
 use Rattle.def_types.specs.Scope.{AreAmong, AreSeenDefs}
 

@@ -5,7 +5,7 @@ use Rattle.type_terms.specs.Agrees.{Follows}
 use Rattle.type_terms.specs.Ground.{Assignment}
 use Rattle.type_terms.specs.Table.{Solves, Table}
 use Rattle.type_terms.specs.Term.{Term, variable}
-use Rattle.type_schemes.specs.Holding.{HeldVariables, IsHeldBy, SameTypes}
+use Rattle.general_types.specs.Holding.{HeldVariables, IsHeldBy, SameTypes}
 use Rattle.type_steps.specs.Environment.{Known, texts_under}
 use Rattle.type_steps.specs.Defs.{terms_before}
 

@@ -5,11 +5,11 @@ use Rattle.typing_rules.specs.declared.uses.Target.TheVariants as target
 use Rattle.typing_rules.specs.Scoping.{Meaning}
 use Rattle.typing_rules.specs.Scripts.{Targets}
 use Rattle.typing_rules.specs.Table.{signature}
-use Rattle.type_schemes.specs.Schemes.{scheme_of}
+use Rattle.general_types.specs.Schemes.{scheme_of}
 use Rattle.type_steps.specs.Environment.{Found, Known, TextUse}
 use Rattle.type_steps.specs.Counts.{count_at, scheme_count}
-use Rattle.type_scope.specs.Seen.{def_seen}
-use Rattle.type_scope.specs.declared.environment.KnownDef.{KnownDef}
+use Rattle.name_types.specs.Seen.{def_seen}
+use Rattle.name_types.specs.declared.environment.KnownDef.{KnownDef}
 
 -- a token, and what the name there means
 abbrev pub aimed : Targets → ℕ → Meaning

@@ -14,10 +14,10 @@ use Rattle.type_steps.specs.Environment.{Env, Known}
 use Rattle.type_steps.specs.Flow.{HasNoType, Infers}
 use Rattle.type_steps.specs.Statements.{AreTypings, Done, HasNoTypings, found_said, known_of, scope_after, uses_under, with_last}
 use Rattle.type_steps.specs.Whole.{AreWhole}
-use Rattle.type_scope.specs.Seen.{founds, newest_first}
-use Rattle.type_scope.specs.declared.environment.FoundUse.{FoundUse}
-use Rattle.type_scope.specs.declared.environment.Known.TheVariants as known
-use Rattle.type_scope.specs.declared.environment.KnownDef.{KnownDef}
+use Rattle.name_types.specs.Seen.{founds, newest_first}
+use Rattle.name_types.specs.declared.environment.FoundUse.{FoundUse}
+use Rattle.name_types.specs.declared.environment.Known.TheVariants as known
+use Rattle.name_types.specs.declared.environment.KnownDef.{KnownDef}
 use Rattle.expression_types.specs.Order.{tokens_used}
 use Rattle.def_types.specs.Scope.{AreSeenDefs}
 use Rattle.type_infer.specs.Later.{HoldsLater}

@@ -4,8 +4,8 @@ use Rattle.std.specs.List.{flat_map}
 use Rattle.script_grammar.specs.View.{view_def}
 use Rattle.type_terms.specs.Term.{variable}
 use Rattle.type_steps.specs.Statements.{Done, bound, defined, ran}
-use Rattle.type_scope.specs.Seen.{founds}
-use Rattle.type_scope.specs.declared.environment.KnownDef.{KnownDef}
+use Rattle.name_types.specs.Seen.{founds}
+use Rattle.name_types.specs.declared.environment.KnownDef.{KnownDef}
 use Rattle.def_types.specs.Answers.{text_of}
 use Rattle.type_infer.specs.declared.steps.Step.{Step}
 use Rattle.type_infer.specs.declared.steps.Step.TheVariants as step

@@ -2,7 +2,7 @@
 use Rattle.std.proofs.Common.{◌≡◌, ◌∙◌, sym, ap, subst, refl, ℕ, zero, suc, ◌+◌, ◌<◌, ◌≤◌, length, List, [], ◌∷◌, ◌++◌, map, take, drop, get_or, arith, Some, None, Option, Bool, true, false}
 use Rattle.std.proofs.lemmas.List.{take_more, take_all, map-append}
 use Rattle.script_grammar.specs.View.{listed, tuple_of, view_not, view_compare, view_sum, view_product, view_added, view_full, view_arg}
-use Rattle.script_grammar.specs.Tree.{Sort, Tree, Many, AFull, AnArg, APrim, ASum, none, more, Not, Alone, Compared, Added, Arg, If, Listed, Tuple, Paren, Nothing}
+use Rattle.script_grammar.specs.Tree.{Sort, Tree, Many, AFull, AnArg, AnOperand, ASum, none, more, Not, Alone, Compared, Added, Arg, If, Listed, Tuple, Paren, Nothing}
 use Rattle.script_grammar.specs.Tree as tree
 use Rattle.script_grammar.specs.declared.tree.Full.{Full}
 use Rattle.script_grammar.specs.declared.tree.Not as not_
@@ -37,7 +37,7 @@ added_done s s' env a n old new made f = subst (λ x. AreJoined s s' env (more x
   operator true f = record { uses = f.uses; follows = f.follows; sound = f.sound; complete = f.complete }
   operator false f = f
 
-pub factor_done : (s s' : Table) (env : Env) (at : ℕ) (divide : Bool) (x : Tree APrim) (n : ℕ) (old new : List Found) (made : Bool) → AreJoined s s' env (more x none) n old new made → AreJoined s s' env (more (tree.Multiplied at divide x) none) n old new made
+pub factor_done : (s s' : Table) (env : Env) (at : ℕ) (divide : Bool) (x : Tree AnOperand) (n : ℕ) (old new : List Found) (made : Bool) → AreJoined s s' env (more x none) n old new made → AreJoined s s' env (more (tree.Multiplied at divide x) none) n old new made
 factor_done s s' env at divide x n old new true f = record { uses = f.uses; follows = f.follows; sound = f.sound; complete = f.complete }
 factor_done s s' env at divide x n old new false f = f
 

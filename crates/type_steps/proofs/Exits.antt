@@ -1,6 +1,6 @@
 -- What the program's functions answer, from what their calls answered.
 use Rattle.std.proofs.Common.{◌≡◌, ◌∙◌, sym, ap, subst, refl, ℕ, suc, length, List, [], ◌∷◌, map, Option, Bool, true, false}
-use Rattle.script_grammar.specs.View.{listed, view_expr, view_and, view_not, view_sum, view_product, view_added, view_multiplied, view_prim}
+use Rattle.script_grammar.specs.View.{listed, view_expr, view_and, view_not, view_sum, view_product, view_added, view_multiplied, view_operand}
 use Rattle.script_grammar.specs.Tree.{Sort, Tree, Expr, And, Sum, Product}
 use Rattle.script_grammar.specs.declared.tree.Expr as expr
 use Rattle.script_grammar.specs.declared.tree.And as and_
@@ -119,21 +119,21 @@ pub sum_first : (e : sum.Sum) (s : Table) (env : Env) (old : List Found) → Has
 sum_first e s env old n a m k v p q = n a m k v (subst (λ x. Has (sight_under env a k) x v) (sum_seen e) p).0 q
 
 module _ (e : product.Product) (l : List multiplied.Multiplied) (lis : l ≡ (product.out-Product e).rest.items) (s : Table) (env : Env) (old : List Found) (o : IsEnvOver s env) where
-  product_at : view_product e ≡ Product (view_prim (product.out-Product e).first) (listed (map view_multiplied l))
-  product_at = product_seen e ∙ ap (λ (k : List multiplied.Multiplied). Product (view_prim (product.out-Product e).first) (listed (map view_multiplied k))) (sym lis)
+  product_at : view_product e ≡ Product (view_operand (product.out-Product e).first) (listed (map view_multiplied l))
+  product_at = product_seen e ∙ ap (λ (k : List multiplied.Multiplied). Product (view_operand (product.out-Product e).first) (listed (map view_multiplied k))) (sym lis)
 
-  to_product : (z : Sight) (g : Ground) → Has z (view_prim (product.out-Product e).first) g → EachHas z (listed (map view_multiplied l)) g → IfAny (listed (map view_multiplied l)) (IsNumber g) → Has z (view_product e) g
+  to_product : (z : Sight) (g : Ground) → Has z (view_operand (product.out-Product e).first) g → EachHas z (listed (map view_multiplied l)) g → IfAny (listed (map view_multiplied l)) (IsNumber g) → Has z (view_product e) g
   to_product z g a b c = subst (λ x. Has z x g) (sym product_at) (a, b, c)
 
-  of_product : (z : Sight) (g : Ground) → Has z (view_product e) g → Has z (view_prim (product.out-Product e).first) g × EachHas z (listed (map view_multiplied l)) g × IfAny (listed (map view_multiplied l)) (IsNumber g)
+  of_product : (z : Sight) (g : Ground) → Has z (view_product e) g → Has z (view_operand (product.out-Product e).first) g × EachHas z (listed (map view_multiplied l)) g × IfAny (listed (map view_multiplied l)) (IsNumber g)
   of_product z g h = subst (λ x. Has z x g) product_at h
 
-  pub product_others : (s1 : Table) (n : ℕ) (mid : List Found) → Infers s s1 env (view_prim (product.out-Product e).first) (variable n) old mid → HaveNoType s1 env (listed (map view_multiplied l)) (variable n) mid → HasNoType s env (view_product e) old
-  product_others s1 n mid f h = chain_others (view_product e) (view_prim (product.out-Product e).first) (listed (map view_multiplied l)) IsNumber to_product of_product s s1 env (variable n) old mid o f h
+  pub product_others : (s1 : Table) (n : ℕ) (mid : List Found) → Infers s s1 env (view_operand (product.out-Product e).first) (variable n) old mid → HaveNoType s1 env (listed (map view_multiplied l)) (variable n) mid → HasNoType s env (view_product e) old
+  product_others s1 n mid f h = chain_others (view_product e) (view_operand (product.out-Product e).first) (listed (map view_multiplied l)) IsNumber to_product of_product s s1 env (variable n) old mid o f h
 
-  pub product_done : (s1 s2 s3 : Table) (n : ℕ) (mid new : List Found) (made : Bool) (count : ℕ) (answer : Option ℕ) → count ≡ length l → answer ≡ if_yes made n → Infers s s1 env (view_prim (product.out-Product e).first) (variable n) old mid → InfersEach s1 s2 env (listed (map view_multiplied l)) (variable n) mid new →
+  pub product_done : (s1 s2 s3 : Table) (n : ℕ) (mid new : List Found) (made : Bool) (count : ℕ) (answer : Option ℕ) → count ≡ length l → answer ≡ if_yes made n → Infers s s1 env (view_operand (product.out-Product e).first) (variable n) old mid → InfersEach s1 s2 env (listed (map view_multiplied l)) (variable n) mid new →
       IsMade made s2 s3 (λ a. IfMany count (IsNumber (a.type_of n))) → IsTypeOf s s3 env (view_product e) old new answer
-  product_done s1 s2 s3 n mid new made count answer is answers f g h = chain_done (view_product e) (view_prim (product.out-Product e).first) (map view_multiplied l) IsNumber to_product of_product s s1 s2 s3 env n old mid new o made count answer (is ∙ sym (map_length view_multiplied l)) answers f g h
+  product_done s1 s2 s3 n mid new made count answer is answers f g h = chain_done (view_product e) (view_operand (product.out-Product e).first) (map view_multiplied l) IsNumber to_product of_product s s1 s2 s3 env n old mid new o made count answer (is ∙ sym (map_length view_multiplied l)) answers f g h
 
-pub product_first : (e : product.Product) (s : Table) (env : Env) (old : List Found) → HasNoType s env (view_prim (product.out-Product e).first) old → HasNoType s env (view_product e) old
+pub product_first : (e : product.Product) (s : Table) (env : Env) (old : List Found) → HasNoType s env (view_operand (product.out-Product e).first) old → HasNoType s env (view_product e) old
 product_first e s env old n a m k v p q = n a m k v (subst (λ x. Has (sight_under env a k) x v) (product_seen e) p).0 q

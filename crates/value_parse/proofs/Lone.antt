@@ -5,10 +5,10 @@ use Rattle.script_lex.specs.declared.token.TokenKind.TheVariants.{Keyword, Symbo
 use Rattle.script_lex.specs.declared.token.Keyword.TheVariants as word
 use Rattle.script_lex.specs.declared.token.Symbol.TheVariants as sign
 use Rattle.script_grammar.specs.declared.tree.CompareOp.{CompareOp}
-use Rattle.script_grammar.specs.Tree.{Sort, Tree, Many, none, AFull, AnAnd, ANot, ACompare, ASum, AnAdded, AProduct, AMultiplied, APrim, Expr, And, Not, Alone, Sum, Product}
+use Rattle.script_grammar.specs.Tree.{Sort, Tree, Many, none, AFull, AnAnd, ANot, ACompare, ASum, AnAdded, AProduct, AMultiplied, AnOperand, Expr, And, Not, Alone, Sum, Product}
 use Rattle.script_grammar.specs.Kinds.{is_or, is_and, is_not, is_added, is_multiplied}
 use Rattle.script_grammar.specs.Read.{Reader, Read, ◌>>=◌, made, both, next, perhaps, repeat, many, behind, chain}
-use Rattle.script_grammar.specs.ReadValue.{full_by, full_step, expr, and_, not_, compare, behind_op, next_op, sum, added, product, multiplied, prim}
+use Rattle.script_grammar.specs.ReadValue.{full_by, full_step, expr, and_, not_, compare, behind_op, next_op, sum, added, product, multiplied, operand}
 use Rattle.parse_base.specs.declared.fault.Fault.{Fault}
 use Rattle.parse_base.specs.declared.fault.Fault.TheVariants as faults
 use Rattle.parse_base.specs.Gives.{Fails}
@@ -60,43 +60,43 @@ first_alone : {A : Type 0} {s : Sort} (first : Reader A) (test : List TokenKind 
 first_alone first test item w r a read over = both_goes first (many test item) w r r a none read (no_others test item r over)
 
 module _ (loose : Bool) (stamp : ℕ → ℕ) (full : Reader (Tree AFull)) where
-  product_alone : (w r : List TokenKind) (p : Tree APrim) → prim loose stamp full w ≡ Ok (p, r) → next is_operator r ≡ false → product loose stamp full w ≡ Ok (Product p none, r)
+  product_alone : (w r : List TokenKind) (p : Tree AnOperand) → operand loose stamp full w ≡ Ok (p, r) → next is_operator r ≡ false → product loose stamp full w ≡ Ok (Product p none, r)
   unfolding product
   product_alone w r p read over =
-      ap (λ (x : Read (Tree APrim × Tree (Many AMultiplied))). x >>= made (λ y. Product y.0 y.1)) (first_alone (prim loose stamp full) (next is_multiplied) (multiplied loose stamp full) w r p read (not_multiplied r over))
+      ap (λ (x : Read (Tree AnOperand × Tree (Many AMultiplied))). x >>= made (λ y. Product y.0 y.1)) (first_alone (operand loose stamp full) (next is_multiplied) (multiplied loose stamp full) w r p read (not_multiplied r over))
 
-  sum_alone : (w r : List TokenKind) (p : Tree APrim) → prim loose stamp full w ≡ Ok (p, r) → next is_operator r ≡ false → sum loose stamp full w ≡ Ok (Sum (Product p none) none, r)
+  sum_alone : (w r : List TokenKind) (p : Tree AnOperand) → operand loose stamp full w ≡ Ok (p, r) → next is_operator r ≡ false → sum loose stamp full w ≡ Ok (Sum (Product p none) none, r)
   unfolding sum
   sum_alone w r p read over =
       ap (λ (x : Read (Tree AProduct × Tree (Many AnAdded))). x >>= made (λ y. Sum y.0 y.1)) (first_alone (product loose stamp full) (next is_added) (added loose stamp full) w r (Product p none) (product_alone w r p read over) (not_added r over))
 
-  compare_alone : (w r : List TokenKind) (p : Tree APrim) → prim loose stamp full w ≡ Ok (p, r) → next is_operator r ≡ false → compare loose stamp full w ≡ Ok (Alone (Sum (Product p none) none), r)
+  compare_alone : (w r : List TokenKind) (p : Tree AnOperand) → operand loose stamp full w ≡ Ok (p, r) → next is_operator r ≡ false → compare loose stamp full w ≡ Ok (Alone (Sum (Product p none) none), r)
   unfolding compare
   compare_alone w r p read over =
       ap (λ (x : Read (Tree ASum)). x >>= λ y. behind_op loose stamp full y.0 (next_op y.1) y.1) (sum_alone w r p read over)
       ∙ ap (λ (op : Option CompareOp). behind_op loose stamp full (Sum (Product p none) none) op r) (not_compared r over)
 
-  not_alone : (w inner r : List TokenKind) (negated : Bool) (p : Tree APrim) → perhaps is_not w ≡ Ok (negated, inner) → prim loose stamp full inner ≡ Ok (p, r) → next is_operator r ≡ false → not_ loose stamp full w ≡ Ok (Not negated (Alone (Sum (Product p none) none)), r)
+  not_alone : (w inner r : List TokenKind) (negated : Bool) (p : Tree AnOperand) → perhaps is_not w ≡ Ok (negated, inner) → operand loose stamp full inner ≡ Ok (p, r) → next is_operator r ≡ false → not_ loose stamp full w ≡ Ok (Not negated (Alone (Sum (Product p none) none)), r)
   unfolding not_
   not_alone w inner r negated p lead read over =
       ap (λ (x : Read (Bool × Tree ACompare)). x >>= made (λ y. Not y.0 y.1)) (both_goes (perhaps is_not) (compare loose stamp full) w inner r negated (Alone (Sum (Product p none) none)) lead (compare_alone inner r p read over))
 
-  and_alone : (w inner r : List TokenKind) (negated : Bool) (p : Tree APrim) → perhaps is_not w ≡ Ok (negated, inner) → prim loose stamp full inner ≡ Ok (p, r) → next is_operator r ≡ false → and_ loose stamp full w ≡ Ok (And (Not negated (Alone (Sum (Product p none) none))) none, r)
+  and_alone : (w inner r : List TokenKind) (negated : Bool) (p : Tree AnOperand) → perhaps is_not w ≡ Ok (negated, inner) → operand loose stamp full inner ≡ Ok (p, r) → next is_operator r ≡ false → and_ loose stamp full w ≡ Ok (And (Not negated (Alone (Sum (Product p none) none))) none, r)
   unfolding and_ chain
   and_alone w inner r negated p lead read over =
       ap (λ (x : Read (Tree ANot × Tree (Many ANot))). x >>= made (λ y. And y.0 y.1)) (first_alone (not_ loose stamp full) (next is_and) (behind is_and (not_ loose stamp full)) w r (Not negated (Alone (Sum (Product p none) none))) (not_alone w inner r negated p lead read over) (not_and r over))
 
-  expr_alone : (w inner r : List TokenKind) (negated : Bool) (p : Tree APrim) → perhaps is_not w ≡ Ok (negated, inner) → prim loose stamp full inner ≡ Ok (p, r) → next is_operator r ≡ false → expr loose stamp full w ≡ Ok (Expr (And (Not negated (Alone (Sum (Product p none) none))) none) none, r)
+  expr_alone : (w inner r : List TokenKind) (negated : Bool) (p : Tree AnOperand) → perhaps is_not w ≡ Ok (negated, inner) → operand loose stamp full inner ≡ Ok (p, r) → next is_operator r ≡ false → expr loose stamp full w ≡ Ok (Expr (And (Not negated (Alone (Sum (Product p none) none))) none) none, r)
   unfolding expr chain
   expr_alone w inner r negated p lead read over =
       ap (λ (x : Read (Tree AnAnd × Tree (Many AnAnd))). x >>= made (λ y. Expr y.0 y.1)) (first_alone (and_ loose stamp full) (next is_or) (behind is_or (and_ loose stamp full)) w r (And (Not negated (Alone (Sum (Product p none) none))) none) (and_alone w inner r negated p lead read over) (not_or r over))
 
   -- a value is the operand alone
-  pub lone_goes : (w inner r : List TokenKind) (negated : Bool) (p : Tree APrim) → perhaps is_not w ≡ Ok (negated, inner) → prim loose stamp full inner ≡ Ok (p, r) → next is_operator r ≡ false → plain loose stamp full w ≡ Ok (lone negated p, r)
+  pub lone_goes : (w inner r : List TokenKind) (negated : Bool) (p : Tree AnOperand) → perhaps is_not w ≡ Ok (negated, inner) → operand loose stamp full inner ≡ Ok (p, r) → next is_operator r ≡ false → plain loose stamp full w ≡ Ok (lone negated p, r)
   lone_goes w inner r negated p lead read over = ap as_plain (expr_alone w inner r negated p lead read over)
 
   -- and no value, where its first operand is none
-  pub operand_fails : (w inner : List TokenKind) (negated : Bool) (e : Fault) → perhaps is_not w ≡ Ok (negated, inner) → Fails e (prim loose stamp full inner) → Fails e (plain loose stamp full w)
+  pub operand_fails : (w inner : List TokenKind) (negated : Bool) (e : Fault) → perhaps is_not w ≡ Ok (negated, inner) → Fails e (operand loose stamp full inner) → Fails e (plain loose stamp full w)
   unfolding expr and_ not_ compare sum product chain
   operand_fails w inner negated faults.Memory lead fault = tt
   operand_fails w inner negated (faults.Syntax left) lead fault = rw (lead, fault) refl

@@ -3,9 +3,9 @@ use Rattle.std.proofs.Common.{◌≡◌, ℕ, List, [], ◌∷◌, length, Bool,
 use Rattle.script_lex.specs.declared.token.TokenKind.{TokenKind}
 use Rattle.script_lex.specs.declared.token.TokenKind.TheVariants.{Symbol}
 use Rattle.script_lex.specs.declared.token.Symbol.TheVariants as sign
-use Rattle.script_grammar.specs.Tree.{Tree, AFull, AProduct, APrim, Added, Multiplied}
+use Rattle.script_grammar.specs.Tree.{Tree, AFull, AProduct, AnOperand, Added, Multiplied}
 use Rattle.script_grammar.specs.Read.{Reader, Read, ◌>>=◌, made}
-use Rattle.script_grammar.specs.ReadValue.{product, added, prim, multiplied}
+use Rattle.script_grammar.specs.ReadValue.{product, added, operand, multiplied}
 use Rattle.parse_base.specs.declared.fault.Fault.{Fault}
 use Rattle.parse_base.specs.declared.fault.Fault.TheVariants as faults
 use Rattle.parse_base.specs.Gives.{Fails}
@@ -18,7 +18,7 @@ added_by_sign loose stamp full (Symbol sign.Plus ∷ r) = refl
 added_by_sign loose stamp full (Symbol sign.Minus ∷ r) = refl
 added_by_sign loose stamp full (k ∷ r) = refl
 
-multiplied_by_sign : (loose : Bool) (stamp : ℕ → ℕ) (full : Reader (Tree AFull)) (w : List TokenKind) → multiplied loose stamp full w ≡ (product_sign w >>= λ x. prim loose stamp full x.1 >>= made (Multiplied (stamp (length w)) x.0))
+multiplied_by_sign : (loose : Bool) (stamp : ℕ → ℕ) (full : Reader (Tree AFull)) (w : List TokenKind) → multiplied loose stamp full w ≡ (product_sign w >>= λ x. operand loose stamp full x.1 >>= made (Multiplied (stamp (length w)) x.0))
 unfolding multiplied
 multiplied_by_sign loose stamp full [] = refl
 multiplied_by_sign loose stamp full (Symbol sign.Star ∷ r) = refl
@@ -46,18 +46,18 @@ added_goes loose stamp full w at minus r r' p place found is =
 
 pub multiplied_fails : (loose : Bool) (stamp : ℕ → ℕ) (full : Reader (Tree AFull)) (w : List TokenKind) (e : Fault) → Fails e (product_sign w) → Fails e (multiplied loose stamp full w)
 multiplied_fails loose stamp full w faults.Memory is = tt
-multiplied_fails loose stamp full w (faults.Syntax k) is = multiplied_by_sign loose stamp full w ∙ ap (λ (s : Read Bool). s >>= λ x. prim loose stamp full x.1 >>= made (Multiplied (stamp (length w)) x.0)) is
+multiplied_fails loose stamp full w (faults.Syntax k) is = multiplied_by_sign loose stamp full w ∙ ap (λ (s : Read Bool). s >>= λ x. operand loose stamp full x.1 >>= made (Multiplied (stamp (length w)) x.0)) is
 
-pub multiplied_part_fails : (loose : Bool) (stamp : ℕ → ℕ) (full : Reader (Tree AFull)) (w : List TokenKind) (e : Fault) (divide : Bool) (r : List TokenKind) → product_sign w ≡ Ok (divide, r) → Fails e (prim loose stamp full r) → Fails e (multiplied loose stamp full w)
+pub multiplied_part_fails : (loose : Bool) (stamp : ℕ → ℕ) (full : Reader (Tree AFull)) (w : List TokenKind) (e : Fault) (divide : Bool) (r : List TokenKind) → product_sign w ≡ Ok (divide, r) → Fails e (operand loose stamp full r) → Fails e (multiplied loose stamp full w)
 multiplied_part_fails loose stamp full w faults.Memory divide r found is = tt
 multiplied_part_fails loose stamp full w (faults.Syntax k) divide r found is =
     multiplied_by_sign loose stamp full w
-    ∙ ap (λ (s : Read Bool). s >>= λ x. prim loose stamp full x.1 >>= made (Multiplied (stamp (length w)) x.0)) found
-    ∙ ap (λ (p : Read (Tree APrim)). p >>= made (Multiplied (stamp (length w)) divide)) is
+    ∙ ap (λ (s : Read Bool). s >>= λ x. operand loose stamp full x.1 >>= made (Multiplied (stamp (length w)) x.0)) found
+    ∙ ap (λ (p : Read (Tree AnOperand)). p >>= made (Multiplied (stamp (length w)) divide)) is
 
-pub multiplied_goes : (loose : Bool) (stamp : ℕ → ℕ) (full : Reader (Tree AFull)) (w : List TokenKind) (at : ℕ) (divide : Bool) (r r' : List TokenKind) (p : Tree APrim) → at ≡ stamp (length w) → product_sign w ≡ Ok (divide, r) → prim loose stamp full r ≡ Ok (p, r') → multiplied loose stamp full w ≡ Ok (Multiplied at divide p, r')
+pub multiplied_goes : (loose : Bool) (stamp : ℕ → ℕ) (full : Reader (Tree AFull)) (w : List TokenKind) (at : ℕ) (divide : Bool) (r r' : List TokenKind) (p : Tree AnOperand) → at ≡ stamp (length w) → product_sign w ≡ Ok (divide, r) → operand loose stamp full r ≡ Ok (p, r') → multiplied loose stamp full w ≡ Ok (Multiplied at divide p, r')
 multiplied_goes loose stamp full w at divide r r' p place found is =
     multiplied_by_sign loose stamp full w
-    ∙ ap (λ (s : Read Bool). s >>= λ x. prim loose stamp full x.1 >>= made (Multiplied (stamp (length w)) x.0)) found
-    ∙ ap (λ (p : Read (Tree APrim)). p >>= made (Multiplied (stamp (length w)) divide)) is
+    ∙ ap (λ (s : Read Bool). s >>= λ x. operand loose stamp full x.1 >>= made (Multiplied (stamp (length w)) x.0)) found
+    ∙ ap (λ (p : Read (Tree AnOperand)). p >>= made (Multiplied (stamp (length w)) divide)) is
     ∙ ap (λ (k : ℕ). Ok (Multiplied k divide p, r')) (sym place)

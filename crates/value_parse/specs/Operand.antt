@@ -10,7 +10,7 @@ use Rattle.parse_base.specs.declared.fault.Fault.{Fault}
 use Rattle.parse_base.specs.declared.fault.Fault.TheVariants as faults
 use Rattle.parse_base.specs.Gives.{kinds, Fails}
 use Rattle.script_grammar.specs.Lone.{lone as lone_expr}
-use Rattle.script_grammar.specs.Tree.{Sort, Tree, Many, more, AFull, AnExpr, ANot, ACompare, APrim, ACall, AnArg, AnIf, Plain, Not, Braces, Listed, Call, Arg, If}
+use Rattle.script_grammar.specs.Tree.{Sort, Tree, Many, more, AFull, AnExpr, ANot, ACompare, AnOperand, ACall, AnArg, AnIf, Plain, Not, Braces, Listed, Call, Arg, If}
 use Rattle.script_grammar.specs.Read.{Read, Reader, ◌>>=◌, made, both, expect, chain}
 use Rattle.script_grammar.specs.Kinds.{is_close_curly, is_then, is_else, is_end}
 use Rattle.script_grammar.specs.ReadPredicate.{por}
@@ -29,7 +29,7 @@ abbrev pub no_value : Reader (Tree AFull)
 no_value w = Err (length w)
 
 -- a predicate and the bracket behind it
-abbrev pub braces_at : ℕ → Reader (Tree APrim)
+abbrev pub braces_at : ℕ → Reader (Tree AnOperand)
 braces_at at w = both por (expect is_close_curly) w >>= made (λ x. Braces at x.0)
 
 -- one item or several, with one token between
@@ -37,10 +37,10 @@ abbrev pub chained : {s : Sort} → (TokenKind → Bool) → Reader (Tree s) →
 chained comma item w = chain comma item w >>= made (λ x. more x.0 x.1)
 
 -- the operand that the values of a bracket make
-abbrev pub as_round : ℕ → Read (Tree (Many AFull)) → Read (Tree APrim)
+abbrev pub as_round : ℕ → Read (Tree (Many AFull)) → Read (Tree AnOperand)
 as_round at read = read >>= made (round_or_unit at)
 
-abbrev pub as_list : ℕ → Read (Tree (Many AFull)) → Read (Tree APrim)
+abbrev pub as_list : ℕ → Read (Tree (Many AFull)) → Read (Tree AnOperand)
 as_list at read = read >>= made (Listed at)
 
 -- the call that arguments make
@@ -104,7 +104,7 @@ is_bare (Keyword word.Not ∷ r) = false
 is_bare w = true
 
 -- a value that is one operand, behind `not` or not
-abbrev pub lone : Bool → Tree APrim → Tree AFull
+abbrev pub lone : Bool → Tree AnOperand → Tree AFull
 lone negated p = Plain (lone_expr negated p)
 
 -- what was read, behind what was read before

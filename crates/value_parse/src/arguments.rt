@@ -4,10 +4,10 @@ ghost use Rattle.std.specs.List.{All};
 ghost use Rattle.script_grammar.specs.Kinds.{is_comma, is_not};
 ghost use Rattle.script_grammar.specs.Read.{Read, behind, perhaps};
 ghost use Rattle.script_grammar.specs.Tree.{Tree, Many, AFull, AnArg, Arg as an_argument};
-ghost use Rattle.script_grammar.specs.ReadValue.{full_by, call, args, arg, prim};
-ghost use Rattle.script_grammar.specs.View.{listed, view_full, view_call, view_arg, view_prim};
+ghost use Rattle.script_grammar.specs.ReadValue.{full_by, call, args, arg, operand};
+ghost use Rattle.script_grammar.specs.View.{listed, view_full, view_call, view_arg, view_operand};
 ghost use Rattle.script_grammar.specs.declared.tree.Arg.{Arg};
-ghost use Rattle.script_grammar.specs.Whole.{IsWholeFull, IsWholeCall, IsWholeArg, IsWholePrim};
+ghost use Rattle.script_grammar.specs.Whole.{IsWholeFull, IsWholeCall, IsWholeArg, IsWholeOperand};
 ghost use Rattle.parse_base.specs.Gives.{kinds, Gives, places};
 ghost use Rattle.value_parse.specs.Operand.{as_call, chained, labelled, as_argument, is_bare, lone, plain, Pushes};
 
@@ -235,8 +235,8 @@ fn push_operand<'a>(
     requires lead { perhaps is_not (kinds tokens.now) ≡ Ok (false, kinds tokens.now) }
     requires room { vec_len items.old < vec_capacity items.old }
     requires shorter { IfOk read (λ x. length x.1.now < length tokens.now) }
-    requires gives { Gives (λ x. (view_prim x.0, kinds x.1.now)) read (prim false (places total) (full_by levels (places total)) (kinds tokens.now)) }
-    requires whole { IfOk read (λ x. IsWholePrim x.0) }
+    requires gives { Gives (λ x. (view_operand x.0, kinds x.1.now)) read (operand false (places total) (full_by levels (places total)) (kinds tokens.now)) }
+    requires whole { IfOk read (λ x. IsWholeOperand x.0) }
     ensures shorter { IfOk result (λ rest. length rest.now < length tokens.now) }
     ensures gives { Pushes view_arg items.old.items items.new.items result (as_argument at label (plain false (places total) (full_by levels (places total)) (kinds tokens.now))) }
     ensures whole { IfOk result (λ _. All IsWholeArg items.old.items → All IsWholeArg items.new.items) }
@@ -255,8 +255,8 @@ fn push_operand<'a>(
 // An argument that is one operand.
 fn push_lone(alloc: Global, at: u32, label: Option<Text>, items: &mut Vec<Arg>, operand: Operand)
     requires room { vec_len items.old < vec_capacity items.old }
-    ensures pushed { (x : Arg) × (items.new.items ≡ items.old.items ++ x ∷ []) × (view_arg x ≡ an_argument at label (lone false (view_prim operand))) }
-    ensures whole { IsWholePrim operand → All IsWholeArg items.old.items → All IsWholeArg items.new.items }
+    ensures pushed { (x : Arg) × (items.new.items ≡ items.old.items ++ x ∷ []) × (view_arg x ≡ an_argument at label (lone false (view_operand operand))) }
+    ensures whole { IsWholeOperand operand → All IsWholeArg items.old.items → All IsWholeArg items.new.items }
 {
     items.push_reserved(argument(at, label, lone(alloc, false, operand)));
 }

@@ -3,9 +3,9 @@ ghost use Rattle.std.specs.Prelude.{◌<◌, ◌≤◌, ◌^◌, IfOk, length, m
 ghost use Rattle.std.specs.List.{All};
 ghost use Rattle.script_grammar.specs.Kinds.{is_added, is_multiplied};
 ghost use Rattle.script_grammar.specs.Read.{next, many};
-ghost use Rattle.script_grammar.specs.ReadValue.{full_by, compare, behind_op, next_op, sum, added, product, multiplied, prim};
-ghost use Rattle.script_grammar.specs.View.{listed, view_compare, view_sum, view_added, view_product, view_multiplied, view_prim};
-ghost use Rattle.script_grammar.specs.Whole.{IsWholeCompare, IsWholeSum, IsWholeAdded, IsWholeProduct, IsWholeMultiplied, IsWholePrim};
+ghost use Rattle.script_grammar.specs.ReadValue.{full_by, compare, behind_op, next_op, sum, added, product, multiplied, operand};
+ghost use Rattle.script_grammar.specs.View.{listed, view_compare, view_sum, view_added, view_product, view_multiplied, view_operand};
+ghost use Rattle.script_grammar.specs.Whole.{IsWholeCompare, IsWholeSum, IsWholeAdded, IsWholeProduct, IsWholeMultiplied, IsWholeOperand};
 ghost use Rattle.parse_base.specs.Gives.{kinds, Gives, places};
 
 use crate::items::keep;
@@ -99,13 +99,13 @@ pub fn sum_of<'a>(
     ensures whole { IfOk result (λ x. IsWholeSum x.0) }
 {
     let (first, rest) = read?;
-    let (others, rest) = addeds(alloc, total, levels, loose, rest)?;
+    let (others, rest) = addends(alloc, total, levels, loose, rest)?;
     Ok((make::sum(first, others), rest))
 }
 
 // ((`+` | `-`) product)*
 #[cycle(value)]
-fn addeds(
+fn addends(
     alloc: Global,
     total: usize,
     levels: usize,
@@ -172,20 +172,20 @@ pub fn product_of<'a>(
     requires within { length _tokens.now ≤ total }
     requires small { total < 2 ^ 32 }
     requires shorter { IfOk read (λ x. length x.1.now < length _tokens.now) }
-    requires gives { Gives (λ x. (view_prim x.0, kinds x.1.now)) read (prim loose (places total) (full_by levels (places total)) (kinds _tokens.now)) }
-    requires whole { IfOk read (λ x. IsWholePrim x.0) }
+    requires gives { Gives (λ x. (view_operand x.0, kinds x.1.now)) read (operand loose (places total) (full_by levels (places total)) (kinds _tokens.now)) }
+    requires whole { IfOk read (λ x. IsWholeOperand x.0) }
     ensures shorter { IfOk result (λ x. length x.1.now < length _tokens.now) }
     ensures gives { Gives (λ x. (view_product x.0, kinds x.1.now)) result (product loose (places total) (full_by levels (places total)) (kinds _tokens.now)) }
     ensures whole { IfOk result (λ x. IsWholeProduct x.0) }
 {
     let (first, rest) = read?;
-    let (others, rest) = multiplieds(alloc, total, levels, loose, rest)?;
+    let (others, rest) = factors(alloc, total, levels, loose, rest)?;
     Ok((make::product(first, others), rest))
 }
 
 // ((`*` | `/`) operand)*
 #[cycle(value)]
-fn multiplieds(
+fn factors(
     alloc: Global,
     total: usize,
     levels: usize,
@@ -224,6 +224,13 @@ fn multiplied(
 {
     let at = place(total, tokens);
     let (divide, rest) = product_sign(tokens)?;
-    let (prim, rest) = operand(alloc, total, levels, loose, rest)?;
-    Ok((Multiplied { at, divide, prim }, rest))
+    let (operand, rest) = operand(alloc, total, levels, loose, rest)?;
+    Ok((
+        Multiplied {
+            at,
+            divide,
+            operand,
+        },
+        rest,
+    ))
 }

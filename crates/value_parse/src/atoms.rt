@@ -1,10 +1,10 @@
 // Operands that hold no value: numbers, texts, truth values, names, predicates and `%wav`.
 ghost use Rattle.std.specs.Prelude.{◌≡◌, ◌<◌, ◌≤◌, ◌^◌, IfOk, length, false};
 ghost use Rattle.script_grammar.specs.Read.{next};
-ghost use Rattle.script_grammar.specs.ReadValue.{prim};
-ghost use Rattle.script_grammar.specs.View.{view_full, view_if, view_prim};
+ghost use Rattle.script_grammar.specs.ReadValue.{operand};
+ghost use Rattle.script_grammar.specs.View.{view_full, view_if, view_operand};
 ghost use Rattle.script_grammar.specs.Tree.{If as an_if};
-ghost use Rattle.script_grammar.specs.Whole.{IsWholeFull, IsWholeIf, IsWholePrim};
+ghost use Rattle.script_grammar.specs.Whole.{IsWholeFull, IsWholeIf, IsWholeOperand};
 ghost use Rattle.parse_base.specs.Gives.{kinds, Gives, places};
 ghost use Rattle.value_parse.specs.Operand.{braces_at, holds_values, no_value};
 
@@ -16,7 +16,7 @@ use script_lex::{Keyword, Symbol, Token, TokenKind};
 use std::alloc::Global;
 
 /// An operand that holds no value.
-#[tactic(auto, unfolding(script_grammar::specs::ReadValue::prim))]
+#[tactic(auto, unfolding(script_grammar::specs::ReadValue::operand))]
 pub fn atom(
     alloc: Global,
     total: usize,
@@ -27,8 +27,8 @@ pub fn atom(
     requires small { total < 2 ^ 32 }
     requires closed { next holds_values (kinds tokens.now) ≡ false }
     ensures shorter { IfOk result (λ x. length x.1.now < length tokens.now) }
-    ensures gives { Gives (λ x. (view_prim x.0, kinds x.1.now)) result (prim loose (places total) no_value (kinds tokens.now)) }
-    ensures whole { IfOk result (λ x. IsWholePrim x.0) }
+    ensures gives { Gives (λ x. (view_operand x.0, kinds x.1.now)) result (operand loose (places total) no_value (kinds tokens.now)) }
+    ensures whole { IfOk result (λ x. IsWholeOperand x.0) }
 {
     let at = place(total, tokens);
     match tokens {
@@ -122,8 +122,8 @@ pub fn make_choice(at: u32, condition: Box<Full>, then_part: Box<Full>, else_par
 
 fn braces(alloc: Global, at: u32, tokens: &[Token]) -> Result<(tree::Operand, &[Token]), Fault>
     ensures shorter { IfOk result (λ x. length x.1.now < length tokens.now) }
-    ensures gives { Gives (λ x. (view_prim x.0, kinds x.1.now)) result (braces_at at (kinds tokens.now)) }
-    ensures whole { IfOk result (λ x. IsWholePrim x.0) }
+    ensures gives { Gives (λ x. (view_operand x.0, kinds x.1.now)) result (braces_at at (kinds tokens.now)) }
+    ensures whole { IfOk result (λ x. IsWholeOperand x.0) }
 {
     let (pred, rest) = predicate(alloc, tokens)?;
     let ((), rest) = token::expect(rest, Class::CloseCurly)?;

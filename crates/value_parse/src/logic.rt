@@ -4,9 +4,9 @@ ghost use Rattle.std.specs.List.{All};
 ghost use Rattle.script_grammar.specs.Kinds.{is_or, is_and, is_not};
 ghost use Rattle.script_grammar.specs.Read.{Read, next, many, behind, perhaps};
 ghost use Rattle.script_grammar.specs.Tree.{Tree, ACompare};
-ghost use Rattle.script_grammar.specs.ReadValue.{full_by, expr, and_, not_, compare, prim};
-ghost use Rattle.script_grammar.specs.View.{listed, view_expr, view_and, view_not, view_compare, view_prim};
-ghost use Rattle.script_grammar.specs.Whole.{IsWholeExpr, IsWholeAnd, IsWholeNot, IsWholeCompare, IsWholePrim};
+ghost use Rattle.script_grammar.specs.ReadValue.{full_by, expr, and_, not_, compare, operand};
+ghost use Rattle.script_grammar.specs.View.{listed, view_expr, view_and, view_not, view_compare, view_operand};
+ghost use Rattle.script_grammar.specs.Whole.{IsWholeExpr, IsWholeAnd, IsWholeNot, IsWholeCompare, IsWholeOperand};
 ghost use Rattle.parse_base.specs.Gives.{kinds, Gives, places};
 ghost use Rattle.value_parse.specs.Operand.{behind_not};
 
@@ -66,8 +66,8 @@ pub fn expr_from<'a>(
     requires inside { length inner.now ≤ length tokens.now }
     requires lead { perhaps is_not (kinds tokens.now) ≡ Ok (negated, kinds inner.now) }
     requires shorter { IfOk read (λ x. length x.1.now < length inner.now) }
-    requires gives { Gives (λ x. (view_prim x.0, kinds x.1.now)) read (prim loose (places total) (full_by levels (places total)) (kinds inner.now)) }
-    requires whole { IfOk read (λ x. IsWholePrim x.0) }
+    requires gives { Gives (λ x. (view_operand x.0, kinds x.1.now)) read (operand loose (places total) (full_by levels (places total)) (kinds inner.now)) }
+    requires whole { IfOk read (λ x. IsWholeOperand x.0) }
     ensures shorter { IfOk result (λ x. length x.1.now < length tokens.now) }
     ensures gives { Gives (λ x. (view_expr x.0, kinds x.1.now)) result (expr loose (places total) (full_by levels (places total)) (kinds tokens.now)) }
     ensures whole { IfOk result (λ x. IsWholeExpr x.0) }
@@ -276,8 +276,8 @@ fn negation_of<'a>(
     requires within { length tokens.now ≤ total }
     requires small { total < 2 ^ 32 }
     requires shorter { IfOk read (λ x. length x.1.now < length tokens.now) }
-    requires gives { Gives (λ x. (view_prim x.0, kinds x.1.now)) read (prim loose (places total) (full_by levels (places total)) (kinds tokens.now)) }
-    requires whole { IfOk read (λ x. IsWholePrim x.0) }
+    requires gives { Gives (λ x. (view_operand x.0, kinds x.1.now)) read (operand loose (places total) (full_by levels (places total)) (kinds tokens.now)) }
+    requires whole { IfOk read (λ x. IsWholeOperand x.0) }
     ensures shorter { IfOk result (λ x. length x.1.now < length tokens.now) }
     ensures gives { Gives (λ x. (view_not x.0, kinds x.1.now)) result (behind_not negated (compare loose (places total) (full_by levels (places total)) (kinds tokens.now))) }
     ensures whole { IfOk result (λ x. IsWholeNot x.0) }

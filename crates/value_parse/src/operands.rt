@@ -4,9 +4,9 @@ ghost use Rattle.std.specs.List.{All};
 ghost use Rattle.script_grammar.specs.Kinds.{is_comma, is_close_round, is_close_square};
 ghost use Rattle.script_grammar.specs.Read.{Read, behind, closed};
 ghost use Rattle.script_grammar.specs.Tree.{Tree, Many, AFull};
-ghost use Rattle.script_grammar.specs.ReadValue.{full_by, prim, round_or_unit};
-ghost use Rattle.script_grammar.specs.View.{listed, view_full, view_prim};
-ghost use Rattle.script_grammar.specs.Whole.{IsWholeFull, IsWholePrim};
+ghost use Rattle.script_grammar.specs.ReadValue.{full_by, operand, round_or_unit};
+ghost use Rattle.script_grammar.specs.View.{listed, view_full, view_operand};
+ghost use Rattle.script_grammar.specs.Whole.{IsWholeFull, IsWholeOperand};
 ghost use Rattle.parse_base.specs.Classes.{is_in};
 ghost use Rattle.parse_base.specs.Gives.{kinds, Gives, places};
 ghost use Rattle.value_parse.specs.Operand.{as_round, as_list, chained};
@@ -26,7 +26,7 @@ use std::alloc::Global;
 
 /// operand: call | if | `(` .. `)` | `[` .. `]` | one that holds no value
 #[cycle(value)]
-#[tactic(auto, unfolding(script_grammar::specs::ReadValue::prim, script_grammar::specs::ReadValue::call))]
+#[tactic(auto, unfolding(script_grammar::specs::ReadValue::operand, script_grammar::specs::ReadValue::call))]
 pub fn operand(
     alloc: Global,
     total: usize,
@@ -37,8 +37,8 @@ pub fn operand(
     requires within { length tokens.now ≤ total }
     requires small { total < 2 ^ 32 }
     ensures shorter { IfOk result (λ x. length x.1.now < length tokens.now) }
-    ensures gives { Gives (λ x. (view_prim x.0, kinds x.1.now)) result (prim loose (places total) (full_by levels (places total)) (kinds tokens.now)) }
-    ensures whole { IfOk result (λ x. IsWholePrim x.0) }
+    ensures gives { Gives (λ x. (view_operand x.0, kinds x.1.now)) result (operand loose (places total) (full_by levels (places total)) (kinds tokens.now)) }
+    ensures whole { IfOk result (λ x. IsWholeOperand x.0) }
 {
     match tokens {
         [
@@ -91,8 +91,8 @@ fn round(
     requires within { length tokens.now ≤ total }
     requires small { total < 2 ^ 32 }
     ensures shorter { IfOk result (λ x. length x.1.now < length tokens.now) }
-    ensures gives { Gives (λ x. (view_prim x.0, kinds x.1.now)) result (as_round at (closed is_comma is_close_round (full_by levels (places total)) (kinds tokens.now))) }
-    ensures whole { IfOk result (λ x. IsWholePrim x.0) }
+    ensures gives { Gives (λ x. (view_operand x.0, kinds x.1.now)) result (as_round at (closed is_comma is_close_round (full_by levels (places total)) (kinds tokens.now))) }
+    ensures whole { IfOk result (λ x. IsWholeOperand x.0) }
 {
     let mut parts = Vec::new(alloc);
     let read = fulls(alloc, total, levels, Class::CloseRound, &mut parts, tokens);
@@ -111,8 +111,8 @@ fn list(
     requires within { length tokens.now ≤ total }
     requires small { total < 2 ^ 32 }
     ensures shorter { IfOk result (λ x. length x.1.now < length tokens.now) }
-    ensures gives { Gives (λ x. (view_prim x.0, kinds x.1.now)) result (as_list at (closed is_comma is_close_square (full_by levels (places total)) (kinds tokens.now))) }
-    ensures whole { IfOk result (λ x. IsWholePrim x.0) }
+    ensures gives { Gives (λ x. (view_operand x.0, kinds x.1.now)) result (as_list at (closed is_comma is_close_square (full_by levels (places total)) (kinds tokens.now))) }
+    ensures whole { IfOk result (λ x. IsWholeOperand x.0) }
 {
     let mut parts = Vec::new(alloc);
     let read = fulls(alloc, total, levels, Class::CloseSquare, &mut parts, tokens);
@@ -196,8 +196,8 @@ fn round_of<'a>(
     read: Result<&'a [Token], Fault>,
 ) -> Result<(tree::Operand, &'a [Token]), Fault>
     ensures shorter { (n : ℕ) → IfOk read.entry (λ rest. length rest.now < n) → IfOk result (λ x. length x.1.now < n) }
-    ensures gives { (r : Read (Tree (Many AFull))) → Gives (λ rest. (listed (map view_full parts.items), kinds rest.now)) read.entry r → Gives (λ x. (view_prim x.0, kinds x.1.now)) result (as_round at r) }
-    ensures whole { IfOk read.entry (λ _. All IsWholeFull parts.items) → IfOk result (λ x. IsWholePrim x.0) }
+    ensures gives { (r : Read (Tree (Many AFull))) → Gives (λ rest. (listed (map view_full parts.items), kinds rest.now)) read.entry r → Gives (λ x. (view_operand x.0, kinds x.1.now)) result (as_round at r) }
+    ensures whole { IfOk read.entry (λ _. All IsWholeFull parts.items) → IfOk result (λ x. IsWholeOperand x.0) }
 {
     let rest = read?;
     Ok((in_round(alloc, at, parts)?, rest))
@@ -211,8 +211,8 @@ fn list_of<'a>(
     read: Result<&'a [Token], Fault>,
 ) -> Result<(tree::Operand, &'a [Token]), Fault>
     ensures shorter { (n : ℕ) → IfOk read.entry (λ rest. length rest.now < n) → IfOk result (λ x. length x.1.now < n) }
-    ensures gives { (r : Read (Tree (Many AFull))) → Gives (λ rest. (listed (map view_full parts.items), kinds rest.now)) read.entry r → Gives (λ x. (view_prim x.0, kinds x.1.now)) result (as_list at r) }
-    ensures whole { IfOk read.entry (λ _. All IsWholeFull parts.items) → IfOk result (λ x. IsWholePrim x.0) }
+    ensures gives { (r : Read (Tree (Many AFull))) → Gives (λ rest. (listed (map view_full parts.items), kinds rest.now)) read.entry r → Gives (λ x. (view_operand x.0, kinds x.1.now)) result (as_list at r) }
+    ensures whole { IfOk read.entry (λ _. All IsWholeFull parts.items) → IfOk result (λ x. IsWholeOperand x.0) }
 {
     let rest = read?;
     Ok((make::list(at, parts), rest))
@@ -220,8 +220,8 @@ fn list_of<'a>(
 
 // No value, one, or a tuple in parentheses.
 fn in_round(alloc: Global, at: u32, parts: Vec<Full>) -> Result<tree::Operand, Memory>
-    ensures made { IfOk result (λ p. view_prim p ≡ round_or_unit at (listed (map view_full parts.items))) }
-    ensures whole { IfOk result (λ p. All IsWholeFull parts.items → IsWholePrim p) }
+    ensures made { IfOk result (λ p. view_operand p ≡ round_or_unit at (listed (map view_full parts.items))) }
+    ensures whole { IfOk result (λ p. All IsWholeFull parts.items → IsWholeOperand p) }
 {
     if parts.len() > 1 {
         return Ok(tree::Operand::Tuple { at, parts });

@@ -11,9 +11,9 @@ ghost use Rattle.std.specs.Prelude.{◌≡◌, ◌<◌, ◌≤◌, ◌^◌, IfOk
 ghost use Rattle.script_grammar.specs.Kinds.{is_not};
 ghost use Rattle.script_grammar.specs.Read.{Read, perhaps};
 ghost use Rattle.script_grammar.specs.Tree.{Tree, AFull, AnExpr};
-ghost use Rattle.script_grammar.specs.ReadValue.{full_by, full_step, prim};
-ghost use Rattle.script_grammar.specs.View.{view_full, view_expr, view_prim};
-ghost use Rattle.script_grammar.specs.Whole.{IsWholeFull, IsWholeExpr, IsWholePrim};
+ghost use Rattle.script_grammar.specs.ReadValue.{full_by, full_step, operand};
+ghost use Rattle.script_grammar.specs.View.{view_full, view_expr, view_operand};
+ghost use Rattle.script_grammar.specs.Whole.{IsWholeFull, IsWholeExpr, IsWholeOperand};
 ghost use Rattle.parse_base.specs.Gives.{kinds, Gives, places};
 ghost use Rattle.value_parse.specs.Operand.{plain, as_plain, lone};
 
@@ -145,8 +145,8 @@ fn plain_of<'a>(
     requires inside { length inner.now ≤ length tokens.now }
     requires lead { perhaps is_not (kinds tokens.now) ≡ Ok (negated, kinds inner.now) }
     requires shorter { IfOk read (λ x. length x.1.now < length inner.now) }
-    requires gives { Gives (λ x. (view_prim x.0, kinds x.1.now)) read (prim loose (places total) (full_by levels (places total)) (kinds inner.now)) }
-    requires whole { IfOk read (λ x. IsWholePrim x.0) }
+    requires gives { Gives (λ x. (view_operand x.0, kinds x.1.now)) read (operand loose (places total) (full_by levels (places total)) (kinds inner.now)) }
+    requires whole { IfOk read (λ x. IsWholeOperand x.0) }
     ensures shorter { IfOk result (λ x. length x.1.now < length tokens.now) }
     ensures gives { Gives (λ x. (view_full x.0, kinds x.1.now)) result (plain loose (places total) (full_by levels (places total)) (kinds tokens.now)) }
     ensures whole { IfOk result (λ x. IsWholeFull x.0) }
@@ -162,8 +162,8 @@ fn plain_of<'a>(
 
 /// A value that is one operand, behind `not` or not.
 pub fn lone(alloc: Global, negated: bool, operand: Operand) -> Full
-    ensures made { view_full result ≡ lone negated (view_prim operand) }
-    ensures whole { IsWholePrim operand → IsWholeFull result }
+    ensures made { view_full result ≡ lone negated (view_operand operand) }
+    ensures whole { IsWholeOperand operand → IsWholeFull result }
 {
     Full::Plain(Expr {
         first: And {

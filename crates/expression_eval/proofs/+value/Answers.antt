@@ -4,7 +4,7 @@ use Rattle.std.specs.Prelude.{map}
 use Rattle.std.specs.Global.{Vec}
 use Rattle.std.specs.Vec.Iter.{into_iter_items, into_iter_len}
 use Rattle.script_grammar.specs.Tree.{Tree, ADef}
-use Rattle.script_grammar.specs.View.{listed, view_full, view_and, view_not, view_call, view_compare, view_if, view_sum, view_added, view_product, view_multiplied, view_prim, view_arg, view_param, view_inner}
+use Rattle.script_grammar.specs.View.{listed, view_full, view_and, view_not, view_call, view_compare, view_if, view_sum, view_added, view_product, view_multiplied, view_operand, view_arg, view_param, view_inner}
 use Rattle.script_grammar.specs.declared.tree.Added as added
 use Rattle.script_grammar.specs.declared.tree.And as and_
 use Rattle.script_grammar.specs.declared.tree.Call as call
@@ -35,7 +35,7 @@ use Rattle.script_values.specs.Views.{view_given, view_slot}
 use Rattle.expression_eval.specs.declared.steps.Operator.TheVariants as operator
 use Rattle.expression_eval.proofs.Joins.{plus_means, times_means}
 use Rattle.expression_eval.proofs.Loops.{turn, stops, ends}
-use Rattle.expression_eval.proofs.Productions.{expr_means, conj_means, sum_means, product_means, call_means, ors_steps, ands_steps, addeds_steps, multiplieds_steps, fulls_steps, arguments_steps, inners_steps, with_last, went, ors_none, ands_none, addeds_none, multiplieds_none, fulls_none, arguments_none, inners_none, first_fails, pair_means, as_list, as_tuple, not_means, plain_means, alone_means, compared_means, argued_means, call_counted, choice_counted, paren_counted, tuple_counted, list_counted, calls_end, calls_turn}
+use Rattle.expression_eval.proofs.Productions.{expr_means, conjunction_means, sum_means, product_means, call_means, ors_steps, ands_steps, addends_steps, factors_steps, fulls_steps, arguments_steps, inners_steps, with_last, went, ors_none, ands_none, addends_none, factors_none, fulls_none, arguments_none, inners_none, first_fails, pair_means, as_list, as_tuple, not_means, plain_means, alone_means, compared_means, argued_means, call_counted, choice_counted, paren_counted, tuple_counted, list_counted, calls_end, calls_turn}
 use Rattle.expression_eval.proofs.Putting.{behind_gives, choice_fails, choice_goes, compare_stops, failed_gives, failed_means, failed_same, failed_stops, full_same, gives_same, goes_means, goes_same, joins_goes, kept_off, kept_on, left_ends, left_starts, left_stops, left_turns, made_gives, plain_last}
 use Rattle.expression_eval.proofs.Singles.{full_lone}
 use Rattle.expression_eval.proofs.Slots.{filled_by, filled_none, filled_steps, from_taken, next_taken, none_fails, none_left, one_less, parameters_filled, slot_fails, slot_went}
@@ -66,47 +66,47 @@ logic::ands-returns-then-is_err t c = left_stops (λ v. meaning.ands (scope_of c
 pub logic::ands-returns : goal.logic::ands-returns
 logic::ands-returns t c = left_ends view_not (meaning.ands (scope_of c.args.scope.now)) c.args.parts.now c.turns.part-index c.args.out.now c.turns.out c.turns.machine (λ v. meaning.ands (scope_of c.args.scope.now) (listed (map view_not c.args.parts.now)) v c.args.machine.now) c.turns.invariant c.turns-test.false (λ v. ands_none (scope_of c.args.scope.now) v c.turns.machine)
 
-pub arithmetic::addeds-turns-init : goal.arithmetic::addeds-turns-init
-arithmetic::addeds-turns-init t c = left_starts (λ v. meaning.addeds (scope_of c.args.scope.now) (listed (map view_added c.args.parts.now)) v c.args.machine.now) (meaning.addeds (scope_of c.args.scope.now) (listed (map view_added c.args.parts.now))) c.args.out.now c.args.machine.now (λ v. refl)
+pub arithmetic::addends-turns-init : goal.arithmetic::addends-turns-init
+arithmetic::addends-turns-init t c = left_starts (λ v. meaning.addends (scope_of c.args.scope.now) (listed (map view_added c.args.parts.now)) v c.args.machine.now) (meaning.addends (scope_of c.args.scope.now) (listed (map view_added c.args.parts.now))) c.args.out.now c.args.machine.now (λ v. refl)
 
-pub arithmetic::addeds-turns-preserved : goal.arithmetic::addeds-turns-preserved
-arithmetic::addeds-turns-preserved t c = left_turns view_added (addeds_steps (scope_of c.args.scope.now)) c.args.parts.now c.turns.part-index c.part-item.result c.args.out.now c.turns.out c.added.new.out c.turns.machine c.added.new.machine (λ v. meaning.addeds (scope_of c.args.scope.now) (listed (map view_added c.args.parts.now)) v c.args.machine.now) c.turns.invariant c.turns-test.true c.part-item.is c.added.ensures
+pub arithmetic::addends-turns-preserved : goal.arithmetic::addends-turns-preserved
+arithmetic::addends-turns-preserved t c = left_turns view_added (addends_steps (scope_of c.args.scope.now)) c.args.parts.now c.turns.part-index c.part-item.result c.args.out.now c.turns.out c.added.new.out c.turns.machine c.added.new.machine (λ v. meaning.addends (scope_of c.args.scope.now) (listed (map view_added c.args.parts.now)) v c.args.machine.now) c.turns.invariant c.turns-test.true c.part-item.is c.added.ensures
 
-pub arithmetic::addeds-returns-then-is_err : goal.arithmetic::addeds-returns-then-is_err
-arithmetic::addeds-returns-then-is_err t c = left_stops (λ v. meaning.addeds (scope_of c.args.scope.now) (listed (map view_added c.args.parts.now)) v c.args.machine.now) (meaning.addeds (scope_of c.args.scope.now) (listed (map view_added (drop c.turns.part-index c.args.parts.now)))) c.args.out.now c.turns.out c.turns.machine c.turns.invariant (sym c.if-is_err.ensures.value)
+pub arithmetic::addends-returns-then-is_err : goal.arithmetic::addends-returns-then-is_err
+arithmetic::addends-returns-then-is_err t c = left_stops (λ v. meaning.addends (scope_of c.args.scope.now) (listed (map view_added c.args.parts.now)) v c.args.machine.now) (meaning.addends (scope_of c.args.scope.now) (listed (map view_added (drop c.turns.part-index c.args.parts.now)))) c.args.out.now c.turns.out c.turns.machine c.turns.invariant (sym c.if-is_err.ensures.value)
 
-pub arithmetic::addeds-returns : goal.arithmetic::addeds-returns
-arithmetic::addeds-returns t c = left_ends view_added (meaning.addeds (scope_of c.args.scope.now)) c.args.parts.now c.turns.part-index c.args.out.now c.turns.out c.turns.machine (λ v. meaning.addeds (scope_of c.args.scope.now) (listed (map view_added c.args.parts.now)) v c.args.machine.now) c.turns.invariant c.turns-test.false (λ v. addeds_none (scope_of c.args.scope.now) v c.turns.machine)
+pub arithmetic::addends-returns : goal.arithmetic::addends-returns
+arithmetic::addends-returns t c = left_ends view_added (meaning.addends (scope_of c.args.scope.now)) c.args.parts.now c.turns.part-index c.args.out.now c.turns.out c.turns.machine (λ v. meaning.addends (scope_of c.args.scope.now) (listed (map view_added c.args.parts.now)) v c.args.machine.now) c.turns.invariant c.turns-test.false (λ v. addends_none (scope_of c.args.scope.now) v c.turns.machine)
 
-pub arithmetic::multiplieds-turns-init : goal.arithmetic::multiplieds-turns-init
-arithmetic::multiplieds-turns-init t c = left_starts (λ v. meaning.multiplieds (scope_of c.args.scope.now) (listed (map view_multiplied c.args.parts.now)) v c.args.machine.now) (meaning.multiplieds (scope_of c.args.scope.now) (listed (map view_multiplied c.args.parts.now))) c.args.out.now c.args.machine.now (λ v. refl)
+pub arithmetic::factors-turns-init : goal.arithmetic::factors-turns-init
+arithmetic::factors-turns-init t c = left_starts (λ v. meaning.factors (scope_of c.args.scope.now) (listed (map view_multiplied c.args.parts.now)) v c.args.machine.now) (meaning.factors (scope_of c.args.scope.now) (listed (map view_multiplied c.args.parts.now))) c.args.out.now c.args.machine.now (λ v. refl)
 
-pub arithmetic::multiplieds-turns-preserved : goal.arithmetic::multiplieds-turns-preserved
-arithmetic::multiplieds-turns-preserved t c = left_turns view_multiplied (multiplieds_steps (scope_of c.args.scope.now)) c.args.parts.now c.turns.part-index c.part-item.result c.args.out.now c.turns.out c.multiplied.new.out c.turns.machine c.multiplied.new.machine (λ v. meaning.multiplieds (scope_of c.args.scope.now) (listed (map view_multiplied c.args.parts.now)) v c.args.machine.now) c.turns.invariant c.turns-test.true c.part-item.is c.multiplied.ensures
+pub arithmetic::factors-turns-preserved : goal.arithmetic::factors-turns-preserved
+arithmetic::factors-turns-preserved t c = left_turns view_multiplied (factors_steps (scope_of c.args.scope.now)) c.args.parts.now c.turns.part-index c.part-item.result c.args.out.now c.turns.out c.multiplied.new.out c.turns.machine c.multiplied.new.machine (λ v. meaning.factors (scope_of c.args.scope.now) (listed (map view_multiplied c.args.parts.now)) v c.args.machine.now) c.turns.invariant c.turns-test.true c.part-item.is c.multiplied.ensures
 
-pub arithmetic::multiplieds-returns-then-is_err : goal.arithmetic::multiplieds-returns-then-is_err
-arithmetic::multiplieds-returns-then-is_err t c = left_stops (λ v. meaning.multiplieds (scope_of c.args.scope.now) (listed (map view_multiplied c.args.parts.now)) v c.args.machine.now) (meaning.multiplieds (scope_of c.args.scope.now) (listed (map view_multiplied (drop c.turns.part-index c.args.parts.now)))) c.args.out.now c.turns.out c.turns.machine c.turns.invariant (sym c.if-is_err.ensures.value)
+pub arithmetic::factors-returns-then-is_err : goal.arithmetic::factors-returns-then-is_err
+arithmetic::factors-returns-then-is_err t c = left_stops (λ v. meaning.factors (scope_of c.args.scope.now) (listed (map view_multiplied c.args.parts.now)) v c.args.machine.now) (meaning.factors (scope_of c.args.scope.now) (listed (map view_multiplied (drop c.turns.part-index c.args.parts.now)))) c.args.out.now c.turns.out c.turns.machine c.turns.invariant (sym c.if-is_err.ensures.value)
 
-pub arithmetic::multiplieds-returns : goal.arithmetic::multiplieds-returns
-arithmetic::multiplieds-returns t c = left_ends view_multiplied (meaning.multiplieds (scope_of c.args.scope.now)) c.args.parts.now c.turns.part-index c.args.out.now c.turns.out c.turns.machine (λ v. meaning.multiplieds (scope_of c.args.scope.now) (listed (map view_multiplied c.args.parts.now)) v c.args.machine.now) c.turns.invariant c.turns-test.false (λ v. multiplieds_none (scope_of c.args.scope.now) v c.turns.machine)
+pub arithmetic::factors-returns : goal.arithmetic::factors-returns
+arithmetic::factors-returns t c = left_ends view_multiplied (meaning.factors (scope_of c.args.scope.now)) c.args.parts.now c.turns.part-index c.args.out.now c.turns.out c.turns.machine (λ v. meaning.factors (scope_of c.args.scope.now) (listed (map view_multiplied c.args.parts.now)) v c.args.machine.now) c.turns.invariant c.turns-test.false (λ v. factors_none (scope_of c.args.scope.now) v c.turns.machine)
 
 pub logic::expr-returns : goal.logic::expr-returns
-logic::expr-returns t c = goes_means c.conj.new.out c.ors.new.out c.conj.new.machine c.ors.new.machine _ (meaning.conj (scope_of c.args.scope.now) (view_and (expr.out-Expr c.args.node.now).first) c.args.machine.now) (λ x. meaning.ors (scope_of c.args.scope.now) (listed (map view_and c.deref.result.now)) x.0 x.1) (expr_means (scope_of c.args.scope.now) c.args.node.now c.deref.result.now c.args.machine.now c.deref.ensures.value) c.conj.ensures c.ors.ensures
+logic::expr-returns t c = goes_means c.conjunction.new.out c.ors.new.out c.conjunction.new.machine c.ors.new.machine _ (meaning.conjunction (scope_of c.args.scope.now) (view_and (expr.out-Expr c.args.node.now).first) c.args.machine.now) (λ x. meaning.ors (scope_of c.args.scope.now) (listed (map view_and c.deref.result.now)) x.0 x.1) (expr_means (scope_of c.args.scope.now) c.args.node.now c.deref.result.now c.args.machine.now c.deref.ensures.value) c.conjunction.ensures c.ors.ensures
 
-pub logic::conj-returns : goal.logic::conj-returns
-logic::conj-returns t c = goes_means c.nega.new.out c.ands.new.out c.nega.new.machine c.ands.new.machine _ (meaning.nega (scope_of c.args.scope.now) (view_not (and_.out-And c.args.node.now).first) c.args.machine.now) (λ x. meaning.ands (scope_of c.args.scope.now) (listed (map view_not c.deref.result.now)) x.0 x.1) (conj_means (scope_of c.args.scope.now) c.args.node.now c.deref.result.now c.args.machine.now c.deref.ensures.value) c.nega.ensures c.ands.ensures
+pub logic::conjunction-returns : goal.logic::conjunction-returns
+logic::conjunction-returns t c = goes_means c.negation.new.out c.ands.new.out c.negation.new.machine c.ands.new.machine _ (meaning.negation (scope_of c.args.scope.now) (view_not (and_.out-And c.args.node.now).first) c.args.machine.now) (λ x. meaning.ands (scope_of c.args.scope.now) (listed (map view_not c.deref.result.now)) x.0 x.1) (conjunction_means (scope_of c.args.scope.now) c.args.node.now c.deref.result.now c.args.machine.now c.deref.ensures.value) c.negation.ensures c.ands.ensures
 
 pub arithmetic::sum-returns : goal.arithmetic::sum-returns
-arithmetic::sum-returns t c = goes_means c.product.new.out c.addeds.new.out c.product.new.machine c.addeds.new.machine _ (meaning.product (scope_of c.args.scope.now) (view_product (sum.out-Sum c.args.node.now).first) c.args.machine.now) (λ x. meaning.addeds (scope_of c.args.scope.now) (listed (map view_added c.deref.result.now)) x.0 x.1) (sum_means (scope_of c.args.scope.now) c.args.node.now c.deref.result.now c.args.machine.now c.deref.ensures.value) c.product.ensures c.addeds.ensures
+arithmetic::sum-returns t c = goes_means c.product.new.out c.addends.new.out c.product.new.machine c.addends.new.machine _ (meaning.product (scope_of c.args.scope.now) (view_product (sum.out-Sum c.args.node.now).first) c.args.machine.now) (λ x. meaning.addends (scope_of c.args.scope.now) (listed (map view_added c.deref.result.now)) x.0 x.1) (sum_means (scope_of c.args.scope.now) c.args.node.now c.deref.result.now c.args.machine.now c.deref.ensures.value) c.product.ensures c.addends.ensures
 
 pub arithmetic::product-returns : goal.arithmetic::product-returns
-arithmetic::product-returns t c = goes_means c.operand.new.out c.multiplieds.new.out c.operand.new.machine c.multiplieds.new.machine _ (meaning.prim (scope_of c.args.scope.now) (view_prim (product.out-Product c.args.node.now).first) c.args.machine.now) (λ x. meaning.multiplieds (scope_of c.args.scope.now) (listed (map view_multiplied c.deref.result.now)) x.0 x.1) (product_means (scope_of c.args.scope.now) c.args.node.now c.deref.result.now c.args.machine.now c.deref.ensures.value) c.operand.ensures c.multiplieds.ensures
+arithmetic::product-returns t c = goes_means c.operand.new.out c.factors.new.out c.operand.new.machine c.factors.new.machine _ (meaning.operand (scope_of c.args.scope.now) (view_operand (product.out-Product c.args.node.now).first) c.args.machine.now) (λ x. meaning.factors (scope_of c.args.scope.now) (listed (map view_multiplied c.deref.result.now)) x.0 x.1) (product_means (scope_of c.args.scope.now) c.args.node.now c.deref.result.now c.args.machine.now c.deref.ensures.value) c.operand.ensures c.factors.ensures
 
 pub logic::or_one-returns : goal.logic::or_one-returns
-logic::or_one-returns t c = joins_goes operator.Or c.args.out.now c.operate.new.out c.conj.new.out c.conj.new.machine c.operate.new.machine (meaning.conj (scope_of c.args.scope.now) (view_and c.args.part.now) c.args.machine.now) c.conj.ensures c.operate.ensures
+logic::or_one-returns t c = joins_goes operator.Or c.args.out.now c.operate.new.out c.conjunction.new.out c.conjunction.new.machine c.operate.new.machine (meaning.conjunction (scope_of c.args.scope.now) (view_and c.args.part.now) c.args.machine.now) c.conjunction.ensures c.operate.ensures
 
 pub logic::and_one-returns : goal.logic::and_one-returns
-logic::and_one-returns t c = joins_goes operator.And c.args.out.now c.operate.new.out c.nega.new.out c.nega.new.machine c.operate.new.machine (meaning.nega (scope_of c.args.scope.now) (view_not c.args.part.now) c.args.machine.now) c.nega.ensures c.operate.ensures
+logic::and_one-returns t c = joins_goes operator.And c.args.out.now c.operate.new.out c.negation.new.out c.negation.new.machine c.operate.new.machine (meaning.negation (scope_of c.args.scope.now) (view_not c.args.part.now) c.args.machine.now) c.negation.ensures c.operate.ensures
 
 pub arithmetic::compare_with-returns : goal.arithmetic::compare_with-returns
 arithmetic::compare_with-returns t c = joins_goes (operator.Comparison c.args.op) c.args.out.now c.operate.new.out c.sum.new.out c.sum.new.machine c.operate.new.machine (meaning.sum (scope_of c.args.scope.now) (view_sum c.args.right.now) c.args.machine.now) c.sum.ensures c.operate.ensures
@@ -117,13 +117,13 @@ arithmetic::added-returns t c =
 
 pub arithmetic::multiplied-returns : goal.arithmetic::multiplied-returns
 arithmetic::multiplied-returns t c =
-    goes_same c.args.out.now c.operate.new.out c.operate.new.machine _ _ (λ v. times_means (scope_of c.args.scope.now) c.args.part.now v c.args.machine.now) (joins_goes (operator.Product c.args.part.now.divide c.args.part.now.at) c.args.out.now c.operate.new.out c.operand.new.out c.operand.new.machine c.operate.new.machine (meaning.prim (scope_of c.args.scope.now) (view_prim c.args.part.now.prim) c.args.machine.now) c.operand.ensures c.operate.ensures)
+    goes_same c.args.out.now c.operate.new.out c.operate.new.machine _ _ (λ v. times_means (scope_of c.args.scope.now) c.args.part.now v c.args.machine.now) (joins_goes (operator.Product c.args.part.now.divide c.args.part.now.at) c.args.out.now c.operate.new.out c.operand.new.out c.operand.new.machine c.operate.new.machine (meaning.operand (scope_of c.args.scope.now) (view_operand c.args.part.now.operand) c.args.machine.now) c.operand.ensures c.operate.ensures)
 
-pub logic::nega-returns-then-node : goal.logic::nega-returns-then-node
-logic::nega-returns-then-node t c = goes_means c.compare.new.out c.negate.new.out c.compare.new.machine c.negate.new.machine _ (meaning.compare (scope_of c.args.scope.now) (view_compare (not_.out-Not c.args.node.now).inner) c.args.machine.now) (λ x. after_count (opposite x.0) x.1) (not_means (scope_of c.args.scope.now) c.args.node.now c.args.machine.now c.if-node.true) c.compare.ensures c.negate.ensures
+pub logic::negation-returns-then-node : goal.logic::negation-returns-then-node
+logic::negation-returns-then-node t c = goes_means c.compare.new.out c.negate.new.out c.compare.new.machine c.negate.new.machine _ (meaning.compare (scope_of c.args.scope.now) (view_compare (not_.out-Not c.args.node.now).inner) c.args.machine.now) (λ x. after_count (opposite x.0) x.1) (not_means (scope_of c.args.scope.now) c.args.node.now c.args.machine.now c.if-node.true) c.compare.ensures c.negate.ensures
 
-pub logic::nega-returns-else-node : goal.logic::nega-returns-else-node
-logic::nega-returns-else-node t c = gives_same c.compare.new.out c.compare.new.machine _ _ (plain_means (scope_of c.args.scope.now) c.args.node.now c.args.machine.now c.if-node.false) c.compare.ensures
+pub logic::negation-returns-else-node : goal.logic::negation-returns-else-node
+logic::negation-returns-else-node t c = gives_same c.compare.new.out c.compare.new.machine _ _ (plain_means (scope_of c.args.scope.now) c.args.node.now c.args.machine.now c.if-node.false) c.compare.ensures
 
 pub arithmetic::compare-returns-in-None : goal.arithmetic::compare-returns-in-None
 arithmetic::compare-returns-in-None t c = gives_same c.sum.new.out c.sum.new.machine _ _ (alone_means (scope_of c.args.scope.now) c.args.node.now c.args.machine.now c.in-None.is) c.sum.ensures
@@ -215,7 +215,7 @@ calls::arguments-returns t c = ends view_arg (meaning.arguments (scope_of c.args
 
 pub values::put_full-returns-in-Some : goal.values::put_full-returns-in-Some
 values::put_full-returns-in-Some t c =
-    gives_same c.operand.new.out c.operand.new.machine _ _ (full_lone (scope_of c.args.scope.now) c.args.node.now c.in-Plain.inside (view_prim c.in-Some.lone.now) c.args.machine.now c.in-Plain.is c.in-Some.ensures.seen) c.operand.ensures
+    gives_same c.operand.new.out c.operand.new.machine _ _ (full_lone (scope_of c.args.scope.now) c.args.node.now c.in-Plain.inside (view_operand c.in-Some.lone.now) c.args.machine.now c.in-Plain.is c.in-Some.ensures.seen) c.operand.ensures
 
 pub bodies::inners-returns-in_err-slot : goal.bodies::inners-returns-in_err-slot
 bodies::inners-returns-in_err-slot t c =

@@ -2,7 +2,7 @@ use Rattle.std.proofs.Common.{◌≡◌, ◌+◌, ◌*◌, drop, length, []}
 use Rattle.std.specs.Vec.Iter.{into_iter_items, into_iter_len}
 use Rattle.std.specs.Prelude.{map}
 use Rattle.script_grammar.specs.View.{listed, view_full, view_and, view_not, view_added, view_multiplied, view_arg, view_param, view_inner}
-use Rattle.eval_meaning.specs.Meaning.{ors, ands, addeds, multiplieds, fulls, arguments, inners}
+use Rattle.eval_meaning.specs.Meaning.{ors, ands, addends, factors, fulls, arguments, inners}
 use Rattle.expression_eval.specs.Parameters.{all_filled, view_taken}
 use Rattle.eval_scope.specs.Scopes.{scope_of, base_of}
 use Rattle.script_values.specs.Views.{view_given, view_slot}
@@ -73,8 +73,8 @@ decreases-operands::operand l = 30 * l.left + 11
 abbrev pub decreases-arithmetic::multiplied : goal.decreases-arithmetic::multiplied
 decreases-arithmetic::multiplied l = 30 * l.left + 12
 
-abbrev pub decreases-arithmetic::multiplieds : goal.decreases-arithmetic::multiplieds
-decreases-arithmetic::multiplieds l = 30 * l.left + 13
+abbrev pub decreases-arithmetic::factors : goal.decreases-arithmetic::factors
+decreases-arithmetic::factors l = 30 * l.left + 13
 
 abbrev pub decreases-arithmetic::product : goal.decreases-arithmetic::product
 decreases-arithmetic::product l = 30 * l.left + 14
@@ -82,8 +82,8 @@ decreases-arithmetic::product l = 30 * l.left + 14
 abbrev pub decreases-arithmetic::added : goal.decreases-arithmetic::added
 decreases-arithmetic::added l = 30 * l.left + 15
 
-abbrev pub decreases-arithmetic::addeds : goal.decreases-arithmetic::addeds
-decreases-arithmetic::addeds l = 30 * l.left + 16
+abbrev pub decreases-arithmetic::addends : goal.decreases-arithmetic::addends
+decreases-arithmetic::addends l = 30 * l.left + 16
 
 abbrev pub decreases-arithmetic::sum : goal.decreases-arithmetic::sum
 decreases-arithmetic::sum l = 30 * l.left + 17
@@ -94,8 +94,8 @@ decreases-arithmetic::compare_with l = 30 * l.left + 18
 abbrev pub decreases-arithmetic::compare : goal.decreases-arithmetic::compare
 decreases-arithmetic::compare l = 30 * l.left + 19
 
-abbrev pub decreases-logic::nega : goal.decreases-logic::nega
-decreases-logic::nega l = 30 * l.left + 20
+abbrev pub decreases-logic::negation : goal.decreases-logic::negation
+decreases-logic::negation l = 30 * l.left + 20
 
 abbrev pub decreases-logic::and_one : goal.decreases-logic::and_one
 decreases-logic::and_one l = 30 * l.left + 21
@@ -103,8 +103,8 @@ decreases-logic::and_one l = 30 * l.left + 21
 abbrev pub decreases-logic::ands : goal.decreases-logic::ands
 decreases-logic::ands l = 30 * l.left + 22
 
-abbrev pub decreases-logic::conj : goal.decreases-logic::conj
-decreases-logic::conj l = 30 * l.left + 23
+abbrev pub decreases-logic::conjunction : goal.decreases-logic::conjunction
+decreases-logic::conjunction l = 30 * l.left + 23
 
 abbrev pub decreases-logic::or_one : goal.decreases-logic::or_one
 decreases-logic::or_one l = 30 * l.left + 24
@@ -121,11 +121,11 @@ invariant-logic::ors-turns l = Left (λ v. ors (scope_of l.scope) (listed (map v
 abbrev pub invariant-logic::ands-turns : goal.invariant-logic::ands-turns
 invariant-logic::ands-turns l = Left (λ v. ands (scope_of l.scope) (listed (map view_not l.parts)) v l.fn.machine) (ands (scope_of l.scope) (listed (map view_not (drop l.part-index l.parts)))) l.fn.out l.out l.machine
 
-abbrev pub invariant-arithmetic::addeds-turns : goal.invariant-arithmetic::addeds-turns
-invariant-arithmetic::addeds-turns l = Left (λ v. addeds (scope_of l.scope) (listed (map view_added l.parts)) v l.fn.machine) (addeds (scope_of l.scope) (listed (map view_added (drop l.part-index l.parts)))) l.fn.out l.out l.machine
+abbrev pub invariant-arithmetic::addends-turns : goal.invariant-arithmetic::addends-turns
+invariant-arithmetic::addends-turns l = Left (λ v. addends (scope_of l.scope) (listed (map view_added l.parts)) v l.fn.machine) (addends (scope_of l.scope) (listed (map view_added (drop l.part-index l.parts)))) l.fn.out l.out l.machine
 
-abbrev pub invariant-arithmetic::multiplieds-turns : goal.invariant-arithmetic::multiplieds-turns
-invariant-arithmetic::multiplieds-turns l = Left (λ v. multiplieds (scope_of l.scope) (listed (map view_multiplied l.parts)) v l.fn.machine) (multiplieds (scope_of l.scope) (listed (map view_multiplied (drop l.part-index l.parts)))) l.fn.out l.out l.machine
+abbrev pub invariant-arithmetic::factors-turns : goal.invariant-arithmetic::factors-turns
+invariant-arithmetic::factors-turns l = Left (λ v. factors (scope_of l.scope) (listed (map view_multiplied l.parts)) v l.fn.machine) (factors (scope_of l.scope) (listed (map view_multiplied (drop l.part-index l.parts)))) l.fn.out l.out l.machine
 
 abbrev pub invariant-values::fulls-turns : goal.invariant-values::fulls-turns
 invariant-values::fulls-turns l = fulls (scope_of l.scope) (listed (map view_full (drop l.part-index l.parts))) (map view_value l.values.items) l.machine ≡ fulls (scope_of l.scope) (listed (map view_full l.parts)) [] l.fn.machine

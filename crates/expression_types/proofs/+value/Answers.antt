@@ -2,7 +2,7 @@ use Rattle.std.proofs.Common.{rules, arith, ◌≡◌, ◌∙◌, sym, ap, subst
 use Rattle.std.proofs.lemmas.List.{map-append}
 use Rattle.std.specs.Prelude.{option_map}
 use Rattle.script_grammar.specs.Tree.{Quoted, Truth, Called, Chosen, Nothing, Paren, Plain, Braces, Format}
-use Rattle.script_grammar.specs.View.{listed, view_added, view_and, view_arg, view_call, view_expr, view_full, view_if, view_multiplied, view_not, view_por, view_prim, view_product, view_sum}
+use Rattle.script_grammar.specs.View.{listed, view_added, view_and, view_arg, view_call, view_expr, view_full, view_if, view_multiplied, view_not, view_por, view_operand, view_product, view_sum}
 use Rattle.script_grammar.specs.declared.tree.Added.{out-Added, size-Added}
 use Rattle.script_grammar.specs.declared.tree.And.{size-And, size_is-And}
 use Rattle.script_grammar.specs.declared.tree.Call.{out-Call, size_is-Call}
@@ -26,15 +26,15 @@ use Rattle.type_steps.proofs.Forms.{one_none}
 use Rattle.type_steps.proofs.Exits.{and_done, and_first, and_others, expr_done, expr_first, expr_others, product_done, product_first, product_others, sum_done, sum_first, sum_others}
 use Rattle.type_steps.proofs.Shapes.{choice_condition, choice_first, choice_untrue, list_infers, list_none}
 use Rattle.type_steps.proofs.Ends.{added_done, alone_infers, args_end, args_stop, branches_done, comparison_done, factor_done, fulls_end, fulls_stop, join_done, joins_end, joins_stop, leaf_infers, left_none, not_done, not_none, not_plain, numbers_never, right_none, tuple_done, tuple_empty, tuple_never, tuple_one}
-use Rattle.type_scope.specs.Seen.{called_scheme, def_seen, env_of, founds}
-use Rattle.type_scope.proofs.Calling.{args_none, builtin_called, call_done, call_no_def, call_none, call_value}
-use Rattle.type_scope.proofs.Seeing.{seen_later}
+use Rattle.name_types.specs.Seen.{called_scheme, def_seen, env_of, founds}
+use Rattle.name_types.proofs.Calling.{args_none, builtin_called, call_done, call_no_def, call_none, call_value}
+use Rattle.name_types.proofs.Seeing.{seen_later}
 use Rattle.expression_types.specs.Order.{tokens_used}
 use Rattle.expression_types.proofs.Adding.{added_if, added_where, all_added, alone_added, and_added, branches_added, call_added, compared_added, empty_added, expr_added, name_answered, none_added, not_added, part_added, product_added, sum_added, term_added, tuple_added, use_added}
 use Rattle.script_grammar.proofs.OneOperand.{lone_below}
 use Rattle.expression_types.proofs.Alone.{lone_added, lone_typed}
 use Rattle.expression_types.proofs.Applying.{begun_seen, builtin_counted, def_called, def_counted, def_not_called, terms_later}
-use Rattle.expression_types.proofs.Operands.{answered_as, constant_infers, negative_infers, prim_list, prim_tuple}
+use Rattle.expression_types.proofs.Operands.{answered_as, constant_infers, negative_infers, operand_list, operand_tuple}
 use Rattle.expression_types.proofs.Sizes.{arg_below, compared_below, else_below, item_below, then_below}
 use Rattle.expression_types.proofs.Turns.{next_given, next_joined, next_typed, none_given, none_joined, none_typed}
 use Rattle.expression_types.proofs.+value.Goals as goal
@@ -99,8 +99,8 @@ pub logic::type_and-returns-in_ok-yes-in-Some-clause-order : goal.logic::type_an
 logic::type_and-returns-in_ok-yes-in-Some-clause-order t c =
     and_added c.args.names (founds c.args.uses.now.items) (founds c.type_not.new.uses.items) (founds c.join_nots.new.uses.items) c.in_ok-yes-in-Some.yes c.in-Some.n c.some_if.result c.some_if.ensures c.args.and.now c.deref.result.now c.deref.ensures.value (rw c.in-Some.is at c.in_ok-type_not.ensures.order) (rw c.if-not-joined.false at c.in_ok-joined-in-Some.ensures.order)
 
-pub arithmetic::type_sum-join_addeds-requires : goal.arithmetic::type_sum-join_addeds-requires
-arithmetic::type_sum-join_addeds-requires t c =
+pub arithmetic::type_sum-join_addends-requires : goal.arithmetic::type_sum-join_addends-requires
+arithmetic::type_sum-join_addends-requires t c =
     let f = rw c.in-Some.is at c.in_ok-type_product.ensures.typed in
     let size = size_is-Sum c.args.sum.now in
     (rw c.deref.ensures.value (omega (arith, c.decreases, size)), (seen_later c.args.subst.now c.type_product.new.subst c.args.names c.args.uses.now.items c.type_product.new.uses.items c.requires.seen f.follows f.uses, f.over))
@@ -109,7 +109,7 @@ pub arithmetic::type_sum-is_number_of_many-requires : goal.arithmetic::type_sum-
 arithmetic::type_sum-is_number_of_many-requires t c =
     let f = rw c.in-Some.is at c.in_ok-type_product.ensures.typed in
     let g = rw c.if-not-joined.false at c.in_ok-joined-in-Some.ensures.typed in
-    record { inside = over_later c.type_product.new.subst c.join_addeds.new.subst (variable c.in-Some.n) g.follows f.over }
+    record { inside = over_later c.type_product.new.subst c.join_addends.new.subst (variable c.in-Some.n) g.follows f.over }
 
 pub arithmetic::type_sum-returns-in-None-clause-typed : goal.arithmetic::type_sum-returns-in-None-clause-typed
 arithmetic::type_sum-returns-in-None-clause-typed t c = sum_first c.args.sum.now c.args.subst.now (env_of c.args.names) (founds c.args.uses.now.items) (rw c.in-None.is at c.in_ok-type_product.ensures.typed)
@@ -123,41 +123,41 @@ pub arithmetic::type_sum-returns-in_ok-yes-in-Some-clause-typed : goal.arithmeti
 arithmetic::type_sum-returns-in_ok-yes-in-Some-clause-typed t c =
     let f = rw c.in-Some.is at c.in_ok-type_product.ensures.typed in
     let g = rw c.if-not-joined.false at c.in_ok-joined-in-Some.ensures.typed in
-    sum_done c.args.sum.now c.deref.result.now c.deref.ensures.value c.args.subst.now (env_of c.args.names) (founds c.args.uses.now.items) c.requires.seen.over c.type_product.new.subst c.join_addeds.new.subst c.is_number_of_many.new.subst c.in-Some.n (founds c.type_product.new.uses.items) (founds c.join_addeds.new.uses.items) c.in_ok-yes-in-Some.yes _ c.some_if.result (search rules) c.some_if.ensures f g c.in_ok-yes-in-Some.ensures
+    sum_done c.args.sum.now c.deref.result.now c.deref.ensures.value c.args.subst.now (env_of c.args.names) (founds c.args.uses.now.items) c.requires.seen.over c.type_product.new.subst c.join_addends.new.subst c.is_number_of_many.new.subst c.in-Some.n (founds c.type_product.new.uses.items) (founds c.join_addends.new.uses.items) c.in_ok-yes-in-Some.yes _ c.some_if.result (search rules) c.some_if.ensures f g c.in_ok-yes-in-Some.ensures
 
 pub arithmetic::type_sum-returns-in_ok-yes-in-Some-clause-order : goal.arithmetic::type_sum-returns-in_ok-yes-in-Some-clause-order
 arithmetic::type_sum-returns-in_ok-yes-in-Some-clause-order t c =
-    sum_added c.args.names (founds c.args.uses.now.items) (founds c.type_product.new.uses.items) (founds c.join_addeds.new.uses.items) c.in_ok-yes-in-Some.yes c.in-Some.n c.some_if.result c.some_if.ensures c.args.sum.now c.deref.result.now c.deref.ensures.value (rw c.in-Some.is at c.in_ok-type_product.ensures.order) (rw c.if-not-joined.false at c.in_ok-joined-in-Some.ensures.order)
+    sum_added c.args.names (founds c.args.uses.now.items) (founds c.type_product.new.uses.items) (founds c.join_addends.new.uses.items) c.in_ok-yes-in-Some.yes c.in-Some.n c.some_if.result c.some_if.ensures c.args.sum.now c.deref.result.now c.deref.ensures.value (rw c.in-Some.is at c.in_ok-type_product.ensures.order) (rw c.if-not-joined.false at c.in_ok-joined-in-Some.ensures.order)
 
-pub arithmetic::type_product-join_multiplieds-requires : goal.arithmetic::type_product-join_multiplieds-requires
-arithmetic::type_product-join_multiplieds-requires t c =
-    let f = rw c.in-Some.is at c.in_ok-type_prim.ensures.typed in
+pub arithmetic::type_product-join_factors-requires : goal.arithmetic::type_product-join_factors-requires
+arithmetic::type_product-join_factors-requires t c =
+    let f = rw c.in-Some.is at c.in_ok-type_operand.ensures.typed in
     let size = size_is-Product c.args.product.now in
-    (rw c.deref.ensures.value (omega (arith, c.decreases, size)), (seen_later c.args.subst.now c.type_prim.new.subst c.args.names c.args.uses.now.items c.type_prim.new.uses.items c.requires.seen f.follows f.uses, f.over))
+    (rw c.deref.ensures.value (omega (arith, c.decreases, size)), (seen_later c.args.subst.now c.type_operand.new.subst c.args.names c.args.uses.now.items c.type_operand.new.uses.items c.requires.seen f.follows f.uses, f.over))
 
 pub arithmetic::type_product-is_number_of_many-requires : goal.arithmetic::type_product-is_number_of_many-requires
 arithmetic::type_product-is_number_of_many-requires t c =
-    let f = rw c.in-Some.is at c.in_ok-type_prim.ensures.typed in
+    let f = rw c.in-Some.is at c.in_ok-type_operand.ensures.typed in
     let g = rw c.if-not-joined.false at c.in_ok-joined-in-Some.ensures.typed in
-    record { inside = over_later c.type_prim.new.subst c.join_multiplieds.new.subst (variable c.in-Some.n) g.follows f.over }
+    record { inside = over_later c.type_operand.new.subst c.join_factors.new.subst (variable c.in-Some.n) g.follows f.over }
 
 pub arithmetic::type_product-returns-in-None-clause-typed : goal.arithmetic::type_product-returns-in-None-clause-typed
-arithmetic::type_product-returns-in-None-clause-typed t c = product_first c.args.product.now c.args.subst.now (env_of c.args.names) (founds c.args.uses.now.items) (rw c.in-None.is at c.in_ok-type_prim.ensures.typed)
+arithmetic::type_product-returns-in-None-clause-typed t c = product_first c.args.product.now c.args.subst.now (env_of c.args.names) (founds c.args.uses.now.items) (rw c.in-None.is at c.in_ok-type_operand.ensures.typed)
 
 pub arithmetic::type_product-returns-then-not-joined-clause-typed : goal.arithmetic::type_product-returns-then-not-joined-clause-typed
 arithmetic::type_product-returns-then-not-joined-clause-typed t c =
-    let f = rw c.in-Some.is at c.in_ok-type_prim.ensures.typed in
-    product_others c.args.product.now c.deref.result.now c.deref.ensures.value c.args.subst.now (env_of c.args.names) (founds c.args.uses.now.items) c.requires.seen.over c.type_prim.new.subst c.in-Some.n (founds c.type_prim.new.uses.items) f (rw c.if-not-joined.true at c.in_ok-joined-in-Some.ensures.typed)
+    let f = rw c.in-Some.is at c.in_ok-type_operand.ensures.typed in
+    product_others c.args.product.now c.deref.result.now c.deref.ensures.value c.args.subst.now (env_of c.args.names) (founds c.args.uses.now.items) c.requires.seen.over c.type_operand.new.subst c.in-Some.n (founds c.type_operand.new.uses.items) f (rw c.if-not-joined.true at c.in_ok-joined-in-Some.ensures.typed)
 
 pub arithmetic::type_product-returns-in_ok-yes-in-Some-clause-typed : goal.arithmetic::type_product-returns-in_ok-yes-in-Some-clause-typed
 arithmetic::type_product-returns-in_ok-yes-in-Some-clause-typed t c =
-    let f = rw c.in-Some.is at c.in_ok-type_prim.ensures.typed in
+    let f = rw c.in-Some.is at c.in_ok-type_operand.ensures.typed in
     let g = rw c.if-not-joined.false at c.in_ok-joined-in-Some.ensures.typed in
-    product_done c.args.product.now c.deref.result.now c.deref.ensures.value c.args.subst.now (env_of c.args.names) (founds c.args.uses.now.items) c.requires.seen.over c.type_prim.new.subst c.join_multiplieds.new.subst c.is_number_of_many.new.subst c.in-Some.n (founds c.type_prim.new.uses.items) (founds c.join_multiplieds.new.uses.items) c.in_ok-yes-in-Some.yes _ c.some_if.result (search rules) c.some_if.ensures f g c.in_ok-yes-in-Some.ensures
+    product_done c.args.product.now c.deref.result.now c.deref.ensures.value c.args.subst.now (env_of c.args.names) (founds c.args.uses.now.items) c.requires.seen.over c.type_operand.new.subst c.join_factors.new.subst c.is_number_of_many.new.subst c.in-Some.n (founds c.type_operand.new.uses.items) (founds c.join_factors.new.uses.items) c.in_ok-yes-in-Some.yes _ c.some_if.result (search rules) c.some_if.ensures f g c.in_ok-yes-in-Some.ensures
 
 pub arithmetic::type_product-returns-in_ok-yes-in-Some-clause-order : goal.arithmetic::type_product-returns-in_ok-yes-in-Some-clause-order
 arithmetic::type_product-returns-in_ok-yes-in-Some-clause-order t c =
-    product_added c.args.names (founds c.args.uses.now.items) (founds c.type_prim.new.uses.items) (founds c.join_multiplieds.new.uses.items) c.in_ok-yes-in-Some.yes c.in-Some.n c.some_if.result c.some_if.ensures c.args.product.now c.deref.result.now c.deref.ensures.value (rw c.in-Some.is at c.in_ok-type_prim.ensures.order) (rw c.if-not-joined.false at c.in_ok-joined-in-Some.ensures.order)
+    product_added c.args.names (founds c.args.uses.now.items) (founds c.type_operand.new.uses.items) (founds c.join_factors.new.uses.items) c.in_ok-yes-in-Some.yes c.in-Some.n c.some_if.result c.some_if.ensures c.args.product.now c.deref.result.now c.deref.ensures.value (rw c.in-Some.is at c.in_ok-type_operand.ensures.order) (rw c.if-not-joined.false at c.in_ok-joined-in-Some.ensures.order)
 
 pub logic::join_and-same-requires-clause-left : goal.logic::join_and-same-requires-clause-left
 logic::join_and-same-requires-clause-left t c = let f = rw c.in-Some.is at c.in_ok-type_and.ensures.typed in over_later c.args.subst.now c.type_and.new.subst (variable c.args.n) f.follows c.requires.inside
@@ -229,23 +229,23 @@ arithmetic::join_added-returns-in_ok-yes-in-Some-clause-order t c =
 
 pub arithmetic::join_multiplied-same-requires-clause-left : goal.arithmetic::join_multiplied-same-requires-clause-left
 arithmetic::join_multiplied-same-requires-clause-left t c =
-    let f = rw c.in-Some.is at c.in_ok-type_prim.ensures.typed in over_later c.args.subst.now c.type_prim.new.subst (variable c.args.n) f.follows c.requires.inside
+    let f = rw c.in-Some.is at c.in_ok-type_operand.ensures.typed in over_later c.args.subst.now c.type_operand.new.subst (variable c.args.n) f.follows c.requires.inside
 
 pub arithmetic::join_multiplied-same-requires-clause-right : goal.arithmetic::join_multiplied-same-requires-clause-right
 arithmetic::join_multiplied-same-requires-clause-right t c =
-    let f = rw c.in-Some.is at c.in_ok-type_prim.ensures.typed in f.over
+    let f = rw c.in-Some.is at c.in_ok-type_operand.ensures.typed in f.over
 
 pub arithmetic::join_multiplied-returns-in-None-clause-typed : goal.arithmetic::join_multiplied-returns-in-None-clause-typed
 arithmetic::join_multiplied-returns-in-None-clause-typed t c =
-    factor_done c.args.subst.now c.args.subst.now (env_of c.args.names) c.args.multiplied.now.at c.args.multiplied.now.divide (view_prim c.args.multiplied.now.prim) c.args.n (founds c.args.uses.now.items) (founds c.args.uses.now.items) false (one_none c.args.subst.now (env_of c.args.names) (view_prim c.args.multiplied.now.prim) (variable c.args.n) (founds c.args.uses.now.items) (rw c.in-None.is at c.in_ok-type_prim.ensures.typed))
+    factor_done c.args.subst.now c.args.subst.now (env_of c.args.names) c.args.multiplied.now.at c.args.multiplied.now.divide (view_operand c.args.multiplied.now.operand) c.args.n (founds c.args.uses.now.items) (founds c.args.uses.now.items) false (one_none c.args.subst.now (env_of c.args.names) (view_operand c.args.multiplied.now.operand) (variable c.args.n) (founds c.args.uses.now.items) (rw c.in-None.is at c.in_ok-type_operand.ensures.typed))
 
 pub arithmetic::join_multiplied-returns-in_ok-yes-in-Some-clause-typed : goal.arithmetic::join_multiplied-returns-in_ok-yes-in-Some-clause-typed
 arithmetic::join_multiplied-returns-in_ok-yes-in-Some-clause-typed t c =
-    factor_done c.args.subst.now c.same.new.subst (env_of c.args.names) c.args.multiplied.now.at c.args.multiplied.now.divide (view_prim c.args.multiplied.now.prim) c.args.n (founds c.args.uses.now.items) (founds c.type_prim.new.uses.items) c.in_ok-yes-in-Some.yes (join_done c.args.subst.now c.type_prim.new.subst c.same.new.subst (env_of c.args.names) (view_prim c.args.multiplied.now.prim) c.args.n c.in-Some.other (founds c.args.uses.now.items) (founds c.type_prim.new.uses.items) c.in_ok-yes-in-Some.yes c.requires.seen.over c.requires.seen.uses_over c.requires.inside (rw c.in-Some.is at c.in_ok-type_prim.ensures.typed) c.in_ok-yes-in-Some.ensures)
+    factor_done c.args.subst.now c.same.new.subst (env_of c.args.names) c.args.multiplied.now.at c.args.multiplied.now.divide (view_operand c.args.multiplied.now.operand) c.args.n (founds c.args.uses.now.items) (founds c.type_operand.new.uses.items) c.in_ok-yes-in-Some.yes (join_done c.args.subst.now c.type_operand.new.subst c.same.new.subst (env_of c.args.names) (view_operand c.args.multiplied.now.operand) c.args.n c.in-Some.other (founds c.args.uses.now.items) (founds c.type_operand.new.uses.items) c.in_ok-yes-in-Some.yes c.requires.seen.over c.requires.seen.uses_over c.requires.inside (rw c.in-Some.is at c.in_ok-type_operand.ensures.typed) c.in_ok-yes-in-Some.ensures)
 
 pub arithmetic::join_multiplied-returns-in_ok-yes-in-Some-clause-order : goal.arithmetic::join_multiplied-returns-in_ok-yes-in-Some-clause-order
 arithmetic::join_multiplied-returns-in_ok-yes-in-Some-clause-order t c =
-    added_where c.args.names (tokens_used (view_multiplied c.args.multiplied.now)) (founds c.args.uses.now.items) (founds c.type_prim.new.uses.items) c.in_ok-yes-in-Some.yes (rw c.in-Some.is at c.in_ok-type_prim.ensures.order)
+    added_where c.args.names (tokens_used (view_multiplied c.args.multiplied.now)) (founds c.args.uses.now.items) (founds c.type_operand.new.uses.items) c.in_ok-yes-in-Some.yes (rw c.in-Some.is at c.in_ok-type_operand.ensures.order)
 
 pub values::join_full-same-requires-clause-left : goal.values::join_full-same-requires-clause-left
 values::join_full-same-requires-clause-left t c =
@@ -319,57 +319,57 @@ pub logic::join_nots-returns-clause-order : goal.logic::join_nots-returns-clause
 logic::join_nots-returns-clause-order t c =
     all_added view_not c.args.nots.now c.loop-not.not-index c.loop-not-test.false c.args.names (founds c.args.uses.now.items) (founds c.loop-not.uses.items) c.loop-not.invariant.order
 
-pub arithmetic::join_addeds-join_added-requires : goal.arithmetic::join_addeds-join_added-requires
-arithmetic::join_addeds-join_added-requires t c =
+pub arithmetic::join_addends-join_added-requires : goal.arithmetic::join_addends-join_added-requires
+arithmetic::join_addends-join_added-requires t c =
     let f = c.loop-added.invariant.typed in
-    let size = item_below size-Added c.args.addeds.now c.loop-added.added-index c.added-item.result c.loop-added-test.true c.added-item.is in
+    let size = item_below size-Added c.args.addends.now c.loop-added.added-index c.added-item.result c.loop-added-test.true c.added-item.is in
     (omega (arith, c.decreases, size), (seen_later c.args.subst.now c.loop-added.subst c.args.names c.args.uses.now.items c.loop-added.uses.items c.requires.seen f.follows f.uses, over_later c.args.subst.now c.loop-added.subst (variable c.args.n) f.follows c.requires.inside))
 
-pub arithmetic::join_addeds-loop-added-init : goal.arithmetic::join_addeds-loop-added-init
-arithmetic::join_addeds-loop-added-init t c =
+pub arithmetic::join_addends-loop-added-init : goal.arithmetic::join_addends-loop-added-init
+arithmetic::join_addends-loop-added-init t c =
     none_joined c.args.subst.now c.args.names c.args.n (founds c.args.uses.now.items) c.requires.seen.uses_over
 
-pub arithmetic::join_addeds-returns-then-not-joined-clause-typed : goal.arithmetic::join_addeds-returns-then-not-joined-clause-typed
-arithmetic::join_addeds-returns-then-not-joined-clause-typed t c =
-    joins_stop view_added c.args.addeds.now c.loop-added.added-index c.added-item.result c.loop-added-test.true c.added-item.is c.args.subst.now c.loop-added.subst (env_of c.args.names) c.args.n (founds c.args.uses.now.items) (founds c.loop-added.uses.items) c.requires.seen.over c.requires.inside c.loop-added.invariant.typed (rw c.if-not-joined.true at c.in_ok-joined.ensures.typed)
+pub arithmetic::join_addends-returns-then-not-joined-clause-typed : goal.arithmetic::join_addends-returns-then-not-joined-clause-typed
+arithmetic::join_addends-returns-then-not-joined-clause-typed t c =
+    joins_stop view_added c.args.addends.now c.loop-added.added-index c.added-item.result c.loop-added-test.true c.added-item.is c.args.subst.now c.loop-added.subst (env_of c.args.names) c.args.n (founds c.args.uses.now.items) (founds c.loop-added.uses.items) c.requires.seen.over c.requires.inside c.loop-added.invariant.typed (rw c.if-not-joined.true at c.in_ok-joined.ensures.typed)
 
-pub arithmetic::join_addeds-loop-added-preserved : goal.arithmetic::join_addeds-loop-added-preserved
-arithmetic::join_addeds-loop-added-preserved t c =
-    next_joined view_added c.args.addeds.now c.loop-added.added-index c.added-item.result c.loop-added-test.true c.added-item.is c.args.subst.now c.loop-added.subst c.join_added.new.subst c.args.names c.args.n (founds c.args.uses.now.items) (founds c.loop-added.uses.items) (founds c.join_added.new.uses.items) c.requires.seen.over c.requires.inside c.loop-added.invariant (rw c.if-not-joined.false at c.in_ok-joined.ensures.typed) (rw c.if-not-joined.false at c.in_ok-joined.ensures.order)
+pub arithmetic::join_addends-loop-added-preserved : goal.arithmetic::join_addends-loop-added-preserved
+arithmetic::join_addends-loop-added-preserved t c =
+    next_joined view_added c.args.addends.now c.loop-added.added-index c.added-item.result c.loop-added-test.true c.added-item.is c.args.subst.now c.loop-added.subst c.join_added.new.subst c.args.names c.args.n (founds c.args.uses.now.items) (founds c.loop-added.uses.items) (founds c.join_added.new.uses.items) c.requires.seen.over c.requires.inside c.loop-added.invariant (rw c.if-not-joined.false at c.in_ok-joined.ensures.typed) (rw c.if-not-joined.false at c.in_ok-joined.ensures.order)
 
-pub arithmetic::join_addeds-returns-clause-typed : goal.arithmetic::join_addeds-returns-clause-typed
-arithmetic::join_addeds-returns-clause-typed t c =
-    joins_end view_added c.args.addeds.now c.loop-added.added-index c.args.subst.now c.loop-added.subst (env_of c.args.names) c.args.n (founds c.args.uses.now.items) (founds c.loop-added.uses.items) c.loop-added-test.false c.loop-added.invariant.typed
+pub arithmetic::join_addends-returns-clause-typed : goal.arithmetic::join_addends-returns-clause-typed
+arithmetic::join_addends-returns-clause-typed t c =
+    joins_end view_added c.args.addends.now c.loop-added.added-index c.args.subst.now c.loop-added.subst (env_of c.args.names) c.args.n (founds c.args.uses.now.items) (founds c.loop-added.uses.items) c.loop-added-test.false c.loop-added.invariant.typed
 
-pub arithmetic::join_addeds-returns-clause-order : goal.arithmetic::join_addeds-returns-clause-order
-arithmetic::join_addeds-returns-clause-order t c =
-    all_added view_added c.args.addeds.now c.loop-added.added-index c.loop-added-test.false c.args.names (founds c.args.uses.now.items) (founds c.loop-added.uses.items) c.loop-added.invariant.order
+pub arithmetic::join_addends-returns-clause-order : goal.arithmetic::join_addends-returns-clause-order
+arithmetic::join_addends-returns-clause-order t c =
+    all_added view_added c.args.addends.now c.loop-added.added-index c.loop-added-test.false c.args.names (founds c.args.uses.now.items) (founds c.loop-added.uses.items) c.loop-added.invariant.order
 
-pub arithmetic::join_multiplieds-join_multiplied-requires : goal.arithmetic::join_multiplieds-join_multiplied-requires
-arithmetic::join_multiplieds-join_multiplied-requires t c =
+pub arithmetic::join_factors-join_multiplied-requires : goal.arithmetic::join_factors-join_multiplied-requires
+arithmetic::join_factors-join_multiplied-requires t c =
     let f = c.loop-multiplied.invariant.typed in
-    let size = item_below size-Multiplied c.args.multiplieds.now c.loop-multiplied.multiplied-index c.multiplied-item.result c.loop-multiplied-test.true c.multiplied-item.is in
+    let size = item_below size-Multiplied c.args.factors.now c.loop-multiplied.multiplied-index c.multiplied-item.result c.loop-multiplied-test.true c.multiplied-item.is in
     (omega (arith, c.decreases, size), (seen_later c.args.subst.now c.loop-multiplied.subst c.args.names c.args.uses.now.items c.loop-multiplied.uses.items c.requires.seen f.follows f.uses, over_later c.args.subst.now c.loop-multiplied.subst (variable c.args.n) f.follows c.requires.inside))
 
-pub arithmetic::join_multiplieds-loop-multiplied-init : goal.arithmetic::join_multiplieds-loop-multiplied-init
-arithmetic::join_multiplieds-loop-multiplied-init t c =
+pub arithmetic::join_factors-loop-multiplied-init : goal.arithmetic::join_factors-loop-multiplied-init
+arithmetic::join_factors-loop-multiplied-init t c =
     none_joined c.args.subst.now c.args.names c.args.n (founds c.args.uses.now.items) c.requires.seen.uses_over
 
-pub arithmetic::join_multiplieds-returns-then-not-joined-clause-typed : goal.arithmetic::join_multiplieds-returns-then-not-joined-clause-typed
-arithmetic::join_multiplieds-returns-then-not-joined-clause-typed t c =
-    joins_stop view_multiplied c.args.multiplieds.now c.loop-multiplied.multiplied-index c.multiplied-item.result c.loop-multiplied-test.true c.multiplied-item.is c.args.subst.now c.loop-multiplied.subst (env_of c.args.names) c.args.n (founds c.args.uses.now.items) (founds c.loop-multiplied.uses.items) c.requires.seen.over c.requires.inside c.loop-multiplied.invariant.typed (rw c.if-not-joined.true at c.in_ok-joined.ensures.typed)
+pub arithmetic::join_factors-returns-then-not-joined-clause-typed : goal.arithmetic::join_factors-returns-then-not-joined-clause-typed
+arithmetic::join_factors-returns-then-not-joined-clause-typed t c =
+    joins_stop view_multiplied c.args.factors.now c.loop-multiplied.multiplied-index c.multiplied-item.result c.loop-multiplied-test.true c.multiplied-item.is c.args.subst.now c.loop-multiplied.subst (env_of c.args.names) c.args.n (founds c.args.uses.now.items) (founds c.loop-multiplied.uses.items) c.requires.seen.over c.requires.inside c.loop-multiplied.invariant.typed (rw c.if-not-joined.true at c.in_ok-joined.ensures.typed)
 
-pub arithmetic::join_multiplieds-loop-multiplied-preserved : goal.arithmetic::join_multiplieds-loop-multiplied-preserved
-arithmetic::join_multiplieds-loop-multiplied-preserved t c =
-    next_joined view_multiplied c.args.multiplieds.now c.loop-multiplied.multiplied-index c.multiplied-item.result c.loop-multiplied-test.true c.multiplied-item.is c.args.subst.now c.loop-multiplied.subst c.join_multiplied.new.subst c.args.names c.args.n (founds c.args.uses.now.items) (founds c.loop-multiplied.uses.items) (founds c.join_multiplied.new.uses.items) c.requires.seen.over c.requires.inside c.loop-multiplied.invariant (rw c.if-not-joined.false at c.in_ok-joined.ensures.typed) (rw c.if-not-joined.false at c.in_ok-joined.ensures.order)
+pub arithmetic::join_factors-loop-multiplied-preserved : goal.arithmetic::join_factors-loop-multiplied-preserved
+arithmetic::join_factors-loop-multiplied-preserved t c =
+    next_joined view_multiplied c.args.factors.now c.loop-multiplied.multiplied-index c.multiplied-item.result c.loop-multiplied-test.true c.multiplied-item.is c.args.subst.now c.loop-multiplied.subst c.join_multiplied.new.subst c.args.names c.args.n (founds c.args.uses.now.items) (founds c.loop-multiplied.uses.items) (founds c.join_multiplied.new.uses.items) c.requires.seen.over c.requires.inside c.loop-multiplied.invariant (rw c.if-not-joined.false at c.in_ok-joined.ensures.typed) (rw c.if-not-joined.false at c.in_ok-joined.ensures.order)
 
-pub arithmetic::join_multiplieds-returns-clause-typed : goal.arithmetic::join_multiplieds-returns-clause-typed
-arithmetic::join_multiplieds-returns-clause-typed t c =
-    joins_end view_multiplied c.args.multiplieds.now c.loop-multiplied.multiplied-index c.args.subst.now c.loop-multiplied.subst (env_of c.args.names) c.args.n (founds c.args.uses.now.items) (founds c.loop-multiplied.uses.items) c.loop-multiplied-test.false c.loop-multiplied.invariant.typed
+pub arithmetic::join_factors-returns-clause-typed : goal.arithmetic::join_factors-returns-clause-typed
+arithmetic::join_factors-returns-clause-typed t c =
+    joins_end view_multiplied c.args.factors.now c.loop-multiplied.multiplied-index c.args.subst.now c.loop-multiplied.subst (env_of c.args.names) c.args.n (founds c.args.uses.now.items) (founds c.loop-multiplied.uses.items) c.loop-multiplied-test.false c.loop-multiplied.invariant.typed
 
-pub arithmetic::join_multiplieds-returns-clause-order : goal.arithmetic::join_multiplieds-returns-clause-order
-arithmetic::join_multiplieds-returns-clause-order t c =
-    all_added view_multiplied c.args.multiplieds.now c.loop-multiplied.multiplied-index c.loop-multiplied-test.false c.args.names (founds c.args.uses.now.items) (founds c.loop-multiplied.uses.items) c.loop-multiplied.invariant.order
+pub arithmetic::join_factors-returns-clause-order : goal.arithmetic::join_factors-returns-clause-order
+arithmetic::join_factors-returns-clause-order t c =
+    all_added view_multiplied c.args.factors.now c.loop-multiplied.multiplied-index c.loop-multiplied-test.false c.args.names (founds c.args.uses.now.items) (founds c.loop-multiplied.uses.items) c.loop-multiplied.invariant.order
 
 pub values::join_fulls-join_full-requires : goal.values::join_fulls-join_full-requires
 values::join_fulls-join_full-requires t c =
@@ -608,103 +608,103 @@ calls::type_args-loop-arg-preserved t c =
     ap (map seen_argument) c.in_ok-push-in-Some.ensures.items ∙ map-append seen_argument c.loop-arg.given.items (c.argument_of.result ∷ []) ∙ ap (λ (g : Given ℕ). map seen_argument c.loop-arg.given.items ++ g ∷ []) one in
     next_given c.args.args.now c.loop-arg.arg-index c.arg-item.result c.loop-arg-test.true c.arg-item.is c.args.subst.now c.loop-arg.subst c.type_full.new.subst c.args.names (map seen_argument c.loop-arg.given.items) (map seen_argument c.push.new.self.items) c.in-Some.var (founds c.args.uses.now.items) (founds c.loop-arg.uses.items) (founds c.type_full.new.uses.items) c.requires.seen.over grown c.loop-arg.invariant (rw c.in-Some.is at c.in_ok-type_full.ensures.typed) (rw c.in-Some.is at c.in_ok-type_full.ensures.order)
 
-pub values::type_prim-returns-in_ok-n-in-Literal-clause-typed : goal.values::type_prim-returns-in_ok-n-in-Literal-clause-typed
-values::type_prim-returns-in_ok-n-in-Literal-clause-typed t c =
+pub values::type_operand-returns-in_ok-n-in-Literal-clause-typed : goal.values::type_operand-returns-in_ok-n-in-Literal-clause-typed
+values::type_operand-returns-in_ok-n-in-Literal-clause-typed t c =
     rw c.in-Literal.is (constant_infers c.args.subst.now c.literal_type.new.subst (env_of c.args.names) c.in-Literal.at c.in-Literal.value c.in_ok-n-in-Literal.n (founds c.args.uses.now.items) c.requires.seen.over c.requires.seen.uses_over c.in_ok-n-in-Literal.ensures)
 
-pub values::type_prim-returns-in_ok-n-in-Literal-clause-order : goal.values::type_prim-returns-in_ok-n-in-Literal-clause-order
-values::type_prim-returns-in_ok-n-in-Literal-clause-order t c =
+pub values::type_operand-returns-in_ok-n-in-Literal-clause-order : goal.values::type_operand-returns-in_ok-n-in-Literal-clause-order
+values::type_operand-returns-in_ok-n-in-Literal-clause-order t c =
     rw c.in-Literal.is (none_added c.args.names (founds c.args.uses.now.items))
 
-pub values::type_prim-returns-in_ok-n-in-Str-clause-typed : goal.values::type_prim-returns-in_ok-n-in-Str-clause-typed
-values::type_prim-returns-in_ok-n-in-Str-clause-typed t c =
+pub values::type_operand-returns-in_ok-n-in-Str-clause-typed : goal.values::type_operand-returns-in_ok-n-in-Str-clause-typed
+values::type_operand-returns-in_ok-n-in-Str-clause-typed t c =
     rw c.in-Str.is (leaf_infers c.args.subst.now c.new_type.new.subst (env_of c.args.names) (Quoted c.in-Str.at c.in-Str.text) base.Text c.in_ok-n-in-Str.n (founds c.args.uses.now.items) (λ z. refl) (λ z g h. h) c.requires.seen.over c.requires.seen.uses_over (subst (λ (u : Term). Defines c.args.subst.now c.new_type.new.subst c.in_ok-n-in-Str.n u) (term_Text ty.Text refl) c.in_ok-n-in-Str.ensures))
 
-pub values::type_prim-returns-in_ok-n-in-Str-clause-order : goal.values::type_prim-returns-in_ok-n-in-Str-clause-order
-values::type_prim-returns-in_ok-n-in-Str-clause-order t c =
+pub values::type_operand-returns-in_ok-n-in-Str-clause-order : goal.values::type_operand-returns-in_ok-n-in-Str-clause-order
+values::type_operand-returns-in_ok-n-in-Str-clause-order t c =
     rw c.in-Str.is (none_added c.args.names (founds c.args.uses.now.items))
 
-pub values::type_prim-returns-in_ok-n-in-Bool-clause-typed : goal.values::type_prim-returns-in_ok-n-in-Bool-clause-typed
-values::type_prim-returns-in_ok-n-in-Bool-clause-typed t c =
+pub values::type_operand-returns-in_ok-n-in-Bool-clause-typed : goal.values::type_operand-returns-in_ok-n-in-Bool-clause-typed
+values::type_operand-returns-in_ok-n-in-Bool-clause-typed t c =
     rw c.in-Bool.is (leaf_infers c.args.subst.now c.new_type-in-Bool.new.subst (env_of c.args.names) (Truth c.in-Bool.at c.in-Bool.value) base.Bool c.in_ok-n-in-Bool.n (founds c.args.uses.now.items) (λ z. refl) (λ z g h. h) c.requires.seen.over c.requires.seen.uses_over (subst (λ (u : Term). Defines c.args.subst.now c.new_type-in-Bool.new.subst c.in_ok-n-in-Bool.n u) (term_Bool ty.Bool refl) c.in_ok-n-in-Bool.ensures))
 
-pub values::type_prim-returns-in_ok-n-in-Bool-clause-order : goal.values::type_prim-returns-in_ok-n-in-Bool-clause-order
-values::type_prim-returns-in_ok-n-in-Bool-clause-order t c =
+pub values::type_operand-returns-in_ok-n-in-Bool-clause-order : goal.values::type_operand-returns-in_ok-n-in-Bool-clause-order
+values::type_operand-returns-in_ok-n-in-Bool-clause-order t c =
     rw c.in-Bool.is (none_added c.args.names (founds c.args.uses.now.items))
 
-pub values::type_prim-returns-in_ok-n-in-Unit-clause-typed : goal.values::type_prim-returns-in_ok-n-in-Unit-clause-typed
-values::type_prim-returns-in_ok-n-in-Unit-clause-typed t c =
+pub values::type_operand-returns-in_ok-n-in-Unit-clause-typed : goal.values::type_operand-returns-in_ok-n-in-Unit-clause-typed
+values::type_operand-returns-in_ok-n-in-Unit-clause-typed t c =
     rw c.in-Unit.is (leaf_infers c.args.subst.now c.new_type-in-Unit.new.subst (env_of c.args.names) (Nothing c.in-Unit.at) base.Unit c.in_ok-n-in-Unit.n (founds c.args.uses.now.items) (λ z. refl) (λ z g h. h) c.requires.seen.over c.requires.seen.uses_over (subst (λ (u : Term). Defines c.args.subst.now c.new_type-in-Unit.new.subst c.in_ok-n-in-Unit.n u) (term_Unit ty.Unit refl) c.in_ok-n-in-Unit.ensures))
 
-pub values::type_prim-returns-in_ok-n-in-Unit-clause-order : goal.values::type_prim-returns-in_ok-n-in-Unit-clause-order
-values::type_prim-returns-in_ok-n-in-Unit-clause-order t c =
+pub values::type_operand-returns-in_ok-n-in-Unit-clause-order : goal.values::type_operand-returns-in_ok-n-in-Unit-clause-order
+values::type_operand-returns-in_ok-n-in-Unit-clause-order t c =
     rw c.in-Unit.is (none_added c.args.names (founds c.args.uses.now.items))
 
-pub values::type_prim-returns-in_ok-n-in-Braces-clause-typed : goal.values::type_prim-returns-in_ok-n-in-Braces-clause-typed
-values::type_prim-returns-in_ok-n-in-Braces-clause-typed t c =
+pub values::type_operand-returns-in_ok-n-in-Braces-clause-typed : goal.values::type_operand-returns-in_ok-n-in-Braces-clause-typed
+values::type_operand-returns-in_ok-n-in-Braces-clause-typed t c =
     rw c.in-Braces.is (leaf_infers c.args.subst.now c.new_type-in-Braces.new.subst (env_of c.args.names) (Braces c.in-Braces.at (view_por c.in-Braces.pred)) base.Pred c.in_ok-n-in-Braces.n (founds c.args.uses.now.items) (λ z. refl) (λ z g h. h) c.requires.seen.over c.requires.seen.uses_over (subst (λ (u : Term). Defines c.args.subst.now c.new_type-in-Braces.new.subst c.in_ok-n-in-Braces.n u) (term_Pred ty.Pred refl) c.in_ok-n-in-Braces.ensures))
 
-pub values::type_prim-returns-in_ok-n-in-Braces-clause-order : goal.values::type_prim-returns-in_ok-n-in-Braces-clause-order
-values::type_prim-returns-in_ok-n-in-Braces-clause-order t c =
+pub values::type_operand-returns-in_ok-n-in-Braces-clause-order : goal.values::type_operand-returns-in_ok-n-in-Braces-clause-order
+values::type_operand-returns-in_ok-n-in-Braces-clause-order t c =
     rw c.in-Braces.is (none_added c.args.names (founds c.args.uses.now.items))
 
-pub values::type_prim-returns-in_ok-n-in-Wav-clause-typed : goal.values::type_prim-returns-in_ok-n-in-Wav-clause-typed
-values::type_prim-returns-in_ok-n-in-Wav-clause-typed t c =
+pub values::type_operand-returns-in_ok-n-in-Wav-clause-typed : goal.values::type_operand-returns-in_ok-n-in-Wav-clause-typed
+values::type_operand-returns-in_ok-n-in-Wav-clause-typed t c =
     rw c.in-Wav.is (leaf_infers c.args.subst.now c.new_type-in-Wav.new.subst (env_of c.args.names) (Format c.in-Wav.at c.in-Wav.size) base.Format c.in_ok-n-in-Wav.n (founds c.args.uses.now.items) (λ z. refl) (λ z g h. h) c.requires.seen.over c.requires.seen.uses_over (subst (λ (u : Term). Defines c.args.subst.now c.new_type-in-Wav.new.subst c.in_ok-n-in-Wav.n u) (term_Format ty.Format refl) c.in_ok-n-in-Wav.ensures))
 
-pub values::type_prim-returns-in_ok-n-in-Wav-clause-order : goal.values::type_prim-returns-in_ok-n-in-Wav-clause-order
-values::type_prim-returns-in_ok-n-in-Wav-clause-order t c =
+pub values::type_operand-returns-in_ok-n-in-Wav-clause-order : goal.values::type_operand-returns-in_ok-n-in-Wav-clause-order
+values::type_operand-returns-in_ok-n-in-Wav-clause-order t c =
     rw c.in-Wav.is (none_added c.args.names (founds c.args.uses.now.items))
 
-pub values::type_prim-returns-in-Name-clause-typed : goal.values::type_prim-returns-in-Name-clause-typed
-values::type_prim-returns-in-Name-clause-typed t c =
+pub values::type_operand-returns-in-Name-clause-typed : goal.values::type_operand-returns-in-Name-clause-typed
+values::type_operand-returns-in-Name-clause-typed t c =
     rw c.in-Name.is c.type_name.ensures.typed
 
-pub values::type_prim-returns-in-Name-clause-order : goal.values::type_prim-returns-in-Name-clause-order
-values::type_prim-returns-in-Name-clause-order t c =
+pub values::type_operand-returns-in-Name-clause-order : goal.values::type_operand-returns-in-Name-clause-order
+values::type_operand-returns-in-Name-clause-order t c =
     rw c.in-Name.is (name_answered c.args.names c.in-Name.at (founds c.args.uses.now.items) (founds c.type_name.new.uses.items) c.type_name.result c.type_name.ensures.named)
 
-pub values::type_prim-returns-in-Paren-clause-typed : goal.values::type_prim-returns-in-Paren-clause-typed
-values::type_prim-returns-in-Paren-clause-typed t c =
+pub values::type_operand-returns-in-Paren-clause-typed : goal.values::type_operand-returns-in-Paren-clause-typed
+values::type_operand-returns-in-Paren-clause-typed t c =
     let f = answered_as (view_full c.deref.result.now) (Paren (view_full c.deref.result.now)) (λ z g h. h) (λ z g h. h) c.args.subst.now c.type_full.new.subst (env_of c.args.names) (founds c.args.uses.now.items) (founds c.type_full.new.uses.items) c.type_full.result c.type_full.ensures.typed in
     rw c.in-Paren.is (rw c.deref.ensures at f)
 
-pub values::type_prim-returns-in-Paren-clause-order : goal.values::type_prim-returns-in-Paren-clause-order
-values::type_prim-returns-in-Paren-clause-order t c =
+pub values::type_operand-returns-in-Paren-clause-order : goal.values::type_operand-returns-in-Paren-clause-order
+values::type_operand-returns-in-Paren-clause-order t c =
     let f = c.type_full.ensures.order in
     rw c.in-Paren.is (rw c.deref.ensures at f)
 
-pub values::type_prim-returns-in-Call-clause-typed : goal.values::type_prim-returns-in-Call-clause-typed
-values::type_prim-returns-in-Call-clause-typed t c =
+pub values::type_operand-returns-in-Call-clause-typed : goal.values::type_operand-returns-in-Call-clause-typed
+values::type_operand-returns-in-Call-clause-typed t c =
     rw c.in-Call.is (answered_as (view_call c.in-Call.call) (Called (view_call c.in-Call.call)) (λ z g h. h) (λ z g h. h) c.args.subst.now c.type_call.new.subst (env_of c.args.names) (founds c.args.uses.now.items) (founds c.type_call.new.uses.items) c.type_call.result c.type_call.ensures.typed)
 
-pub values::type_prim-returns-in-Call-clause-order : goal.values::type_prim-returns-in-Call-clause-order
-values::type_prim-returns-in-Call-clause-order t c =
+pub values::type_operand-returns-in-Call-clause-order : goal.values::type_operand-returns-in-Call-clause-order
+values::type_operand-returns-in-Call-clause-order t c =
     rw c.in-Call.is c.type_call.ensures.order
 
-pub values::type_prim-returns-in-If-clause-typed : goal.values::type_prim-returns-in-If-clause-typed
-values::type_prim-returns-in-If-clause-typed t c =
+pub values::type_operand-returns-in-If-clause-typed : goal.values::type_operand-returns-in-If-clause-typed
+values::type_operand-returns-in-If-clause-typed t c =
     rw c.in-If.is (answered_as (view_if c.in-If.choice) (Chosen (view_if c.in-If.choice)) (λ z g h. h) (λ z g h. h) c.args.subst.now c.type_choice.new.subst (env_of c.args.names) (founds c.args.uses.now.items) (founds c.type_choice.new.uses.items) c.type_choice.result c.type_choice.ensures.typed)
 
-pub values::type_prim-returns-in-If-clause-order : goal.values::type_prim-returns-in-If-clause-order
-values::type_prim-returns-in-If-clause-order t c =
+pub values::type_operand-returns-in-If-clause-order : goal.values::type_operand-returns-in-If-clause-order
+values::type_operand-returns-in-If-clause-order t c =
     rw c.in-If.is c.type_choice.ensures.order
 
-pub values::type_prim-returns-in-Tuple-clause-typed : goal.values::type_prim-returns-in-Tuple-clause-typed
-values::type_prim-returns-in-Tuple-clause-typed t c =
-    rw (c.in-Tuple.is, prim_tuple c.in-Tuple.at c.in-Tuple.parts c.deref-in-Tuple.result.now c.deref-in-Tuple.ensures.value) c.type_tuple.ensures.typed
+pub values::type_operand-returns-in-Tuple-clause-typed : goal.values::type_operand-returns-in-Tuple-clause-typed
+values::type_operand-returns-in-Tuple-clause-typed t c =
+    rw (c.in-Tuple.is, operand_tuple c.in-Tuple.at c.in-Tuple.parts c.deref-in-Tuple.result.now c.deref-in-Tuple.ensures.value) c.type_tuple.ensures.typed
 
-pub values::type_prim-returns-in-Tuple-clause-order : goal.values::type_prim-returns-in-Tuple-clause-order
-values::type_prim-returns-in-Tuple-clause-order t c =
-    rw (c.in-Tuple.is, prim_tuple c.in-Tuple.at c.in-Tuple.parts c.deref-in-Tuple.result.now c.deref-in-Tuple.ensures.value) c.type_tuple.ensures.order
+pub values::type_operand-returns-in-Tuple-clause-order : goal.values::type_operand-returns-in-Tuple-clause-order
+values::type_operand-returns-in-Tuple-clause-order t c =
+    rw (c.in-Tuple.is, operand_tuple c.in-Tuple.at c.in-Tuple.parts c.deref-in-Tuple.result.now c.deref-in-Tuple.ensures.value) c.type_tuple.ensures.order
 
-pub values::type_prim-returns-in-List-clause-typed : goal.values::type_prim-returns-in-List-clause-typed
-values::type_prim-returns-in-List-clause-typed t c =
-    rw (c.in-List.is, prim_list c.in-List.at c.in-List.parts c.deref-in-List.result.now c.deref-in-List.ensures.value) c.type_list.ensures.typed
+pub values::type_operand-returns-in-List-clause-typed : goal.values::type_operand-returns-in-List-clause-typed
+values::type_operand-returns-in-List-clause-typed t c =
+    rw (c.in-List.is, operand_list c.in-List.at c.in-List.parts c.deref-in-List.result.now c.deref-in-List.ensures.value) c.type_list.ensures.typed
 
-pub values::type_prim-returns-in-List-clause-order : goal.values::type_prim-returns-in-List-clause-order
-values::type_prim-returns-in-List-clause-order t c =
-    rw (c.in-List.is, prim_list c.in-List.at c.in-List.parts c.deref-in-List.result.now c.deref-in-List.ensures.value) c.type_list.ensures.order
+pub values::type_operand-returns-in-List-clause-order : goal.values::type_operand-returns-in-List-clause-order
+values::type_operand-returns-in-List-clause-order t c =
+    rw (c.in-List.is, operand_list c.in-List.at c.in-List.parts c.deref-in-List.result.now c.deref-in-List.ensures.value) c.type_list.ensures.order
 
 pub values::type_full-returns-in_ok-n-in-Minus-clause-typed : goal.values::type_full-returns-in_ok-n-in-Minus-clause-typed
 values::type_full-returns-in_ok-n-in-Minus-clause-typed t c =
@@ -714,18 +714,18 @@ pub values::type_full-returns-in_ok-n-in-Minus-clause-order : goal.values::type_
 values::type_full-returns-in_ok-n-in-Minus-clause-order t c =
     rw c.in-Minus.is (none_added c.args.names (founds c.args.uses.now.items))
 
-pub values::type_full-type_prim-requires : goal.values::type_full-type_prim-requires
-values::type_full-type_prim-requires t c =
-    let size = lone_below c.args.full.now c.in-Plain.expr c.in-Some.prim.now c.in-Plain.is (rw c.in-Some.is at c.lone_operand.ensures) in
+pub values::type_full-type_operand-requires : goal.values::type_full-type_operand-requires
+values::type_full-type_operand-requires t c =
+    let size = lone_below c.args.full.now c.in-Plain.expr c.in-Some.operand.now c.in-Plain.is (rw c.in-Some.is at c.lone_operand.ensures) in
     (omega (arith, c.decreases, size), c.requires.seen)
 
 pub values::type_full-returns-in-Some-clause-typed : goal.values::type_full-returns-in-Some-clause-typed
 values::type_full-returns-in-Some-clause-typed t c =
-    rw c.in-Plain.is (lone_typed c.in-Plain.expr c.in-Some.prim.now (rw c.in-Some.is at c.lone_operand.ensures) c.args.subst.now c.type_prim.new.subst (env_of c.args.names) (founds c.args.uses.now.items) (founds c.type_prim.new.uses.items) c.type_prim.result c.type_prim.ensures.typed)
+    rw c.in-Plain.is (lone_typed c.in-Plain.expr c.in-Some.operand.now (rw c.in-Some.is at c.lone_operand.ensures) c.args.subst.now c.type_operand.new.subst (env_of c.args.names) (founds c.args.uses.now.items) (founds c.type_operand.new.uses.items) c.type_operand.result c.type_operand.ensures.typed)
 
 pub values::type_full-returns-in-Some-clause-order : goal.values::type_full-returns-in-Some-clause-order
 values::type_full-returns-in-Some-clause-order t c =
-    rw c.in-Plain.is (lone_added c.in-Plain.expr c.in-Some.prim.now (rw c.in-Some.is at c.lone_operand.ensures) c.args.names (founds c.args.uses.now.items) (founds c.type_prim.new.uses.items) c.type_prim.result c.type_prim.ensures.order)
+    rw c.in-Plain.is (lone_added c.in-Plain.expr c.in-Some.operand.now (rw c.in-Some.is at c.lone_operand.ensures) c.args.names (founds c.args.uses.now.items) (founds c.type_operand.new.uses.items) c.type_operand.result c.type_operand.ensures.order)
 
 pub values::type_full-returns-in-None-clause-typed : goal.values::type_full-returns-in-None-clause-typed
 values::type_full-returns-in-None-clause-typed t c =

@@ -12,7 +12,7 @@ use Rattle.std.proofs.lemmas.Result.{err_from_is_err_and}
 use Rattle.script_grammar.specs.Kinds.{is_or, is_and, is_comma, is_added, is_multiplied, is_close_round}
 use Rattle.script_grammar.specs.Read.{Read, next, behind}
 use Rattle.script_grammar.specs.ReadValue.{full_by, expr, and_, not_, added, multiplied, arg, args}
-use Rattle.script_grammar.specs.View.{view_full, view_and, view_not, view_added, view_multiplied, view_arg, view_prim}
+use Rattle.script_grammar.specs.View.{view_full, view_and, view_not, view_added, view_multiplied, view_arg, view_operand}
 use Rattle.script_grammar.specs.Whole.{IsWholeFull, IsWholeAnd, IsWholeNot, IsWholeAdded, IsWholeMultiplied, IsWholeArg}
 use Rattle.parse_base.specs.Gives.{places}
 use Rattle.parse_base.proofs.Turns.{begins, ends}
@@ -56,37 +56,37 @@ logic::nots-turns-preserved t c = keeps_turn view_not IsWholeNot (next is_and) (
 pub logic::nots-returns-clause-gives : goal.logic::nots-returns-clause-gives
 logic::nots-returns-clause-gives t c = ends c.turns.invariant.1 (sym c.next_is.ensures ∙ c.turns-test.false)
 
-pub arithmetic::addeds-turns-init : goal.arithmetic::addeds-turns-init
-arithmetic::addeds-turns-init t c =
+pub arithmetic::addends-turns-init : goal.arithmetic::addends-turns-init
+arithmetic::addends-turns-init t c =
     let none_yet : c.new-items.result.items ≡ [] = cc in
     (omega arith, begins view_added (next is_added) (added c.args.loose (places c.args.total) (full_by c.args.levels (places c.args.total))) c.args.tokens.now c.new-items.result.items cc, rw none_yet (All-nil IsWholeAdded))
 
-pub arithmetic::addeds-returns-in_err-rest-clause-gives : goal.arithmetic::addeds-returns-in_err-rest-clause-gives
-arithmetic::addeds-returns-in_err-rest-clause-gives t c =
+pub arithmetic::addends-returns-in_err-rest-clause-gives : goal.arithmetic::addends-returns-in_err-rest-clause-gives
+arithmetic::addends-returns-in_err-rest-clause-gives t c =
     let p = err_from_is_err_and c.from_residual.result c.from_residual.ensures.1 in
     rw (p.1, p.2) (loses_turn view_added (next is_added) (added c.args.loose (places c.args.total) (full_by c.args.levels (places c.args.total))) c.args.tokens.now c.turns.rest.now c.added.result c.turns.items.items c.in_err-rest.field-0.0 c.turns.invariant.1 refl (sym c.next_is.ensures ∙ c.turns-test.true) c.in_err-rest.ensures.fault c.added.ensures.gives)
 
-pub arithmetic::addeds-turns-preserved : goal.arithmetic::addeds-turns-preserved
-arithmetic::addeds-turns-preserved t c = keeps_turn view_added IsWholeAdded (next is_added) (added c.args.loose (places c.args.total) (full_by c.args.levels (places c.args.total))) c.args.tokens.now c.turns.rest.now c.added.result c.in_ok-rest.rest.now c.turns.items.items c.keep.new.items.items c.turns.invariant (sym c.next_is.ensures ∙ c.turns-test.true) c.added.ensures.gives c.added.ensures.shorter c.added.ensures.whole c.in_ok-rest.ensures.kept
+pub arithmetic::addends-turns-preserved : goal.arithmetic::addends-turns-preserved
+arithmetic::addends-turns-preserved t c = keeps_turn view_added IsWholeAdded (next is_added) (added c.args.loose (places c.args.total) (full_by c.args.levels (places c.args.total))) c.args.tokens.now c.turns.rest.now c.added.result c.in_ok-rest.rest.now c.turns.items.items c.keep.new.items.items c.turns.invariant (sym c.next_is.ensures ∙ c.turns-test.true) c.added.ensures.gives c.added.ensures.shorter c.added.ensures.whole c.in_ok-rest.ensures.kept
 
-pub arithmetic::addeds-returns-clause-gives : goal.arithmetic::addeds-returns-clause-gives
-arithmetic::addeds-returns-clause-gives t c = ends c.turns.invariant.1 (sym c.next_is.ensures ∙ c.turns-test.false)
+pub arithmetic::addends-returns-clause-gives : goal.arithmetic::addends-returns-clause-gives
+arithmetic::addends-returns-clause-gives t c = ends c.turns.invariant.1 (sym c.next_is.ensures ∙ c.turns-test.false)
 
-pub arithmetic::multiplieds-turns-init : goal.arithmetic::multiplieds-turns-init
-arithmetic::multiplieds-turns-init t c =
+pub arithmetic::factors-turns-init : goal.arithmetic::factors-turns-init
+arithmetic::factors-turns-init t c =
     let none_yet : c.new-items.result.items ≡ [] = cc in
     (omega arith, begins view_multiplied (next is_multiplied) (multiplied c.args.loose (places c.args.total) (full_by c.args.levels (places c.args.total))) c.args.tokens.now c.new-items.result.items cc, rw none_yet (All-nil IsWholeMultiplied))
 
-pub arithmetic::multiplieds-returns-in_err-rest-clause-gives : goal.arithmetic::multiplieds-returns-in_err-rest-clause-gives
-arithmetic::multiplieds-returns-in_err-rest-clause-gives t c =
+pub arithmetic::factors-returns-in_err-rest-clause-gives : goal.arithmetic::factors-returns-in_err-rest-clause-gives
+arithmetic::factors-returns-in_err-rest-clause-gives t c =
     let p = err_from_is_err_and c.from_residual.result c.from_residual.ensures.1 in
     rw (p.1, p.2) (loses_turn view_multiplied (next is_multiplied) (multiplied c.args.loose (places c.args.total) (full_by c.args.levels (places c.args.total))) c.args.tokens.now c.turns.rest.now c.multiplied.result c.turns.items.items c.in_err-rest.field-0.0 c.turns.invariant.1 refl (sym c.next_is.ensures ∙ c.turns-test.true) c.in_err-rest.ensures.fault c.multiplied.ensures.gives)
 
-pub arithmetic::multiplieds-turns-preserved : goal.arithmetic::multiplieds-turns-preserved
-arithmetic::multiplieds-turns-preserved t c = keeps_turn view_multiplied IsWholeMultiplied (next is_multiplied) (multiplied c.args.loose (places c.args.total) (full_by c.args.levels (places c.args.total))) c.args.tokens.now c.turns.rest.now c.multiplied.result c.in_ok-rest.rest.now c.turns.items.items c.keep.new.items.items c.turns.invariant (sym c.next_is.ensures ∙ c.turns-test.true) c.multiplied.ensures.gives c.multiplied.ensures.shorter c.multiplied.ensures.whole c.in_ok-rest.ensures.kept
+pub arithmetic::factors-turns-preserved : goal.arithmetic::factors-turns-preserved
+arithmetic::factors-turns-preserved t c = keeps_turn view_multiplied IsWholeMultiplied (next is_multiplied) (multiplied c.args.loose (places c.args.total) (full_by c.args.levels (places c.args.total))) c.args.tokens.now c.turns.rest.now c.multiplied.result c.in_ok-rest.rest.now c.turns.items.items c.keep.new.items.items c.turns.invariant (sym c.next_is.ensures ∙ c.turns-test.true) c.multiplied.ensures.gives c.multiplied.ensures.shorter c.multiplied.ensures.whole c.in_ok-rest.ensures.kept
 
-pub arithmetic::multiplieds-returns-clause-gives : goal.arithmetic::multiplieds-returns-clause-gives
-arithmetic::multiplieds-returns-clause-gives t c = ends c.turns.invariant.1 (sym c.next_is.ensures ∙ c.turns-test.false)
+pub arithmetic::factors-returns-clause-gives : goal.arithmetic::factors-returns-clause-gives
+arithmetic::factors-returns-clause-gives t c = ends c.turns.invariant.1 (sym c.next_is.ensures ∙ c.turns-test.false)
 
 pub values::full-returns-then-levels-eq0-clause-gives : goal.values::full-returns-then-levels-eq0-clause-gives
 values::full-returns-then-levels-eq0-clause-gives t c = full_ends c.args.levels (places c.args.total) c.args.tokens.now (omega arith)
@@ -193,7 +193,7 @@ arguments::push_operand-returns-in_err-operand-clause-gives t c =
 
 pub arguments::push_operand-returns-else-at_operator-clause-gives : goal.arguments::push_operand-returns-else-at_operator-clause-gives
 arguments::push_operand-returns-else-at_operator-clause-gives t c =
-    let goes = lone_goes false (places c.args.total) (full_by c.args.levels (places c.args.total)) (kinds c.args.tokens.now) (kinds c.args.tokens.now) (kinds c.in_ok-operand.rest.now) false (view_prim c.in_ok-operand.operand) c.requires.lead (rw c.in_ok-operand.was at c.requires.gives) (sym c.at_operator.ensures ∙ c.if-at_operator.false) in
+    let goes = lone_goes false (places c.args.total) (full_by c.args.levels (places c.args.total)) (kinds c.args.tokens.now) (kinds c.args.tokens.now) (kinds c.in_ok-operand.rest.now) false (view_operand c.in_ok-operand.operand) c.requires.lead (rw c.in_ok-operand.was at c.requires.gives) (sym c.at_operator.ensures ∙ c.if-at_operator.false) in
     let pushed = c.push_lone.ensures.pushed in
     (pushed.0, pushed.1, ap (as_argument c.args.at c.args.label) goes ∙ ap (λ (a : Tree AnArg). Ok (a, kinds c.in_ok-operand.rest.now)) (sym pushed.2))
 
@@ -230,5 +230,5 @@ values::plain_of-returns-in_err-operand-clause-gives t c =
 
 pub values::plain_of-returns-else-at_operator-clause-gives : goal.values::plain_of-returns-else-at_operator-clause-gives
 values::plain_of-returns-else-at_operator-clause-gives t c =
-    lone_goes c.args.loose (places c.args.total) (full_by c.args.levels (places c.args.total)) (kinds c.args.tokens.now) (kinds c.args.inner.now) (kinds c.in_ok-operand.rest.now) c.args.negated (view_prim c.in_ok-operand.operand) c.requires.lead (rw c.in_ok-operand.was at c.requires.gives) (sym c.at_operator.ensures ∙ c.if-at_operator.false)
+    lone_goes c.args.loose (places c.args.total) (full_by c.args.levels (places c.args.total)) (kinds c.args.tokens.now) (kinds c.args.inner.now) (kinds c.in_ok-operand.rest.now) c.args.negated (view_operand c.in_ok-operand.operand) c.requires.lead (rw c.in_ok-operand.was at c.requires.gives) (sym c.at_operator.ensures ∙ c.if-at_operator.false)
     ∙ ap (λ (f : Tree AFull). Ok (f, kinds c.in_ok-operand.rest.now)) (sym c.lone.ensures.made)

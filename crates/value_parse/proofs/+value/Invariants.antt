@@ -58,14 +58,14 @@ decreases-arithmetic::behind_sum l = 20 * length l.tokens.now
 abbrev pub decreases-arithmetic::added : goal.decreases-arithmetic::added
 decreases-arithmetic::added l = 20 * length l.tokens.now
 
-abbrev pub decreases-arithmetic::addeds : goal.decreases-arithmetic::addeds
-decreases-arithmetic::addeds l = 20 * length l.tokens.now + 1
+abbrev pub decreases-arithmetic::addends : goal.decreases-arithmetic::addends
+decreases-arithmetic::addends l = 20 * length l.tokens.now + 1
 
 abbrev pub decreases-arithmetic::multiplied : goal.decreases-arithmetic::multiplied
 decreases-arithmetic::multiplied l = 20 * length l.tokens.now
 
-abbrev pub decreases-arithmetic::multiplieds : goal.decreases-arithmetic::multiplieds
-decreases-arithmetic::multiplieds l = 20 * length l.tokens.now + 1
+abbrev pub decreases-arithmetic::factors : goal.decreases-arithmetic::factors
+decreases-arithmetic::factors l = 20 * length l.tokens.now + 1
 
 abbrev pub decreases-operands::comma_full : goal.decreases-operands::comma_full
 decreases-operands::comma_full l = 20 * length l.tokens.now
@@ -139,17 +139,17 @@ invariant-logic::nots-turns l = (length l.rest ≤ length l.tokens) × Turning v
 abbrev pub decreases-logic::nots-turns : goal.decreases-logic::nots-turns
 decreases-logic::nots-turns l = length l.rest
 
-abbrev pub invariant-arithmetic::addeds-turns : goal.invariant-arithmetic::addeds-turns
-invariant-arithmetic::addeds-turns l = (length l.rest ≤ length l.tokens) × Turning view_added (next is_added) (added l.loose (places l.total) (full_by l.levels (places l.total))) l.tokens l.rest l.items.items × All IsWholeAdded l.items.items
+abbrev pub invariant-arithmetic::addends-turns : goal.invariant-arithmetic::addends-turns
+invariant-arithmetic::addends-turns l = (length l.rest ≤ length l.tokens) × Turning view_added (next is_added) (added l.loose (places l.total) (full_by l.levels (places l.total))) l.tokens l.rest l.items.items × All IsWholeAdded l.items.items
 
-abbrev pub decreases-arithmetic::addeds-turns : goal.decreases-arithmetic::addeds-turns
-decreases-arithmetic::addeds-turns l = length l.rest
+abbrev pub decreases-arithmetic::addends-turns : goal.decreases-arithmetic::addends-turns
+decreases-arithmetic::addends-turns l = length l.rest
 
-abbrev pub invariant-arithmetic::multiplieds-turns : goal.invariant-arithmetic::multiplieds-turns
-invariant-arithmetic::multiplieds-turns l = (length l.rest ≤ length l.tokens) × Turning view_multiplied (next is_multiplied) (multiplied l.loose (places l.total) (full_by l.levels (places l.total))) l.tokens l.rest l.items.items × All IsWholeMultiplied l.items.items
+abbrev pub invariant-arithmetic::factors-turns : goal.invariant-arithmetic::factors-turns
+invariant-arithmetic::factors-turns l = (length l.rest ≤ length l.tokens) × Turning view_multiplied (next is_multiplied) (multiplied l.loose (places l.total) (full_by l.levels (places l.total))) l.tokens l.rest l.items.items × All IsWholeMultiplied l.items.items
 
-abbrev pub decreases-arithmetic::multiplieds-turns : goal.decreases-arithmetic::multiplieds-turns
-decreases-arithmetic::multiplieds-turns l = length l.rest
+abbrev pub decreases-arithmetic::factors-turns : goal.decreases-arithmetic::factors-turns
+decreases-arithmetic::factors-turns l = length l.rest
 
 abbrev pub invariant-operands::some_fulls-turns : goal.invariant-operands::some_fulls-turns
 invariant-operands::some_fulls-turns l = (length l.rest < length l.tokens) × Chaining view_full is_comma (full_by l.levels (places l.total)) l.tokens l.rest l.parts.items × All IsWholeFull l.parts.items

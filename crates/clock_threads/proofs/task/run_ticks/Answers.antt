@@ -1,5 +1,5 @@
 use Rattle.std.proofs.Common.{◌≡◌, ◌+◌, sym, subst, add-one, arith, rules}
-use Rattle.clock_engine.proofs.Needing.{has_buffers}
+use Rattle.clock_ticks.proofs.Needing.{has_buffers}
 use Rattle.clock_threads.specs.UnbufferedTicks.{with_taps}
 use Rattle.clock_threads.proofs.Running.{Running, running_none, running_more, running_broke, running_all, rooms_fewer, room_one}
 use Rattle.clock_threads.proofs.task.run_ticks.Goals as goal

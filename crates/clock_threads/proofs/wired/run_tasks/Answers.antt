@@ -1,6 +1,6 @@
 use Rattle.std.proofs.Common.{List, map, sym, subst}
 use Rattle.buffer_ends.specs.declared.run_end.End.TheVariants.{Memory}
-use Rattle.clock_engine.specs.declared.engine.ClockEngine.{ClockEngine}
+use Rattle.clock_ticks.specs.declared.engine.ClockEngine.{ClockEngine}
 use Rattle.clock_threads.specs.EngineTasks.{engine_of}
 use Rattle.clock_threads.specs.ThreadRuns.{HasRunSome}
 use Rattle.clock_threads.proofs.Idling.{memory_no_write, none_made}

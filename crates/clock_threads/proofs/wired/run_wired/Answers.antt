@@ -5,7 +5,7 @@ use Rattle.buffer_ends.specs.declared.thread_taps.ThreadTaps.{ThreadTaps}
 use Rattle.clock_threads.specs.declared.task.Task.{Task}
 use Rattle.clock_threads.specs.Logs.{AreCollected, counts_in}
 use Rattle.clock_threads.specs.EngineTasks.{engine_of}
-use Rattle.clock_engine.specs.declared.engine.ClockEngine.{ClockEngine}
+use Rattle.clock_ticks.specs.declared.engine.ClockEngine.{ClockEngine}
 use Rattle.clock_threads.specs.ThreadRuns.{HasRunAll, HasRunSome}
 use Rattle.clock_threads.specs.WiredRuns.{AreFresh}
 use Rattle.clock_threads.proofs.Idling.{memory_no_write, none_made, some_told}

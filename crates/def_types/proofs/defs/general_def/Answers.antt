@@ -1,8 +1,8 @@
 use Rattle.std.proofs.Common.{◌∙◌, sym, ap, subst, refl, length, List, map}
 use Rattle.type_terms.specs.Term.{Term, source_term, term_of, variable}
 use Rattle.type_terms.specs.declared.ty.KindTerm.{KindTerm}
-use Rattle.type_schemes.specs.Schemes.{AreAmong, scheme_of}
-use Rattle.type_scope.specs.Seen.{founds}
+use Rattle.general_types.specs.Schemes.{AreAmong, scheme_of}
+use Rattle.name_types.specs.Seen.{founds}
 use Rattle.def_types.specs.TextUses.{kinds_in}
 use Rattle.def_types.proofs.Answered.{kinds_among, vars_among}
 use Rattle.def_types.proofs.Typings.{general_as}

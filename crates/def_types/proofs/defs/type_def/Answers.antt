@@ -1,6 +1,6 @@
 use Rattle.std.proofs.Common.{◌≡◌, ap, []}
 use Rattle.script_grammar.specs.View.{view_def}
-use Rattle.type_scope.specs.Seen.{env_of, founds}
+use Rattle.name_types.specs.Seen.{env_of, founds}
 use Rattle.expression_types.specs.Order.{tokens_used}
 use Rattle.def_types.proofs.Typings.{is_numbered, is_said, is_typed, no_typing}
 use Rattle.def_types.proofs.defs.type_def.Goals as goal

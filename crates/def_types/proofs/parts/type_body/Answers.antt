@@ -1,7 +1,7 @@
 use Rattle.std.proofs.Common.{map}
 use Rattle.script_grammar.specs.View.{listed, view_expr, view_inner}
-use Rattle.type_scope.specs.Seen.{env_of, founds, types_seen}
-use Rattle.type_scope.proofs.Seeing.{seen_later}
+use Rattle.name_types.specs.Seen.{env_of, founds, types_seen}
+use Rattle.name_types.proofs.Seeing.{seen_later}
 use Rattle.def_types.proofs.Answered.{body_answered, outside_over}
 use Rattle.def_types.proofs.Whole.{body_inners_none}
 use Rattle.def_types.proofs.parts.type_body.Goals as goal

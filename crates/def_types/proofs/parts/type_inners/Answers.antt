@@ -1,5 +1,5 @@
-use Rattle.type_scope.specs.Seen.{founds}
-use Rattle.type_scope.proofs.Seeing.{seen_later}
+use Rattle.name_types.specs.Seen.{founds}
+use Rattle.name_types.proofs.Seeing.{seen_later}
 use Rattle.def_types.proofs.Answered.{outside_over}
 use Rattle.def_types.proofs.Loops.{inners_so_next, inners_so_stop}
 use Rattle.def_types.proofs.parts.type_inners.Goals as goal

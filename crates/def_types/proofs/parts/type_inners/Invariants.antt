@@ -1,6 +1,6 @@
 use Rattle.std.proofs.Common.{map, take}
 use Rattle.script_grammar.specs.View.{listed, view_inner}
-use Rattle.type_scope.specs.Seen.{founds}
+use Rattle.name_types.specs.Seen.{founds}
 use Rattle.def_types.proofs.Loops.{InnersSo}
 use Rattle.def_types.proofs.parts.type_inners.Given as goal
 

@@ -1,4 +1,4 @@
-use Rattle.type_scope.specs.Seen.{env_of, founds}
+use Rattle.name_types.specs.Seen.{env_of, founds}
 use Rattle.def_types.proofs.Answered.{default_answered, labelled_answered, plain_answered}
 use Rattle.def_types.proofs.parts.type_param.Goals as goal
 

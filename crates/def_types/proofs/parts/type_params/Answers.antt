@@ -1,5 +1,5 @@
-use Rattle.type_scope.specs.Seen.{founds}
-use Rattle.type_scope.proofs.Seeing.{seen_later}
+use Rattle.name_types.specs.Seen.{founds}
+use Rattle.name_types.proofs.Seeing.{seen_later}
 use Rattle.def_types.proofs.Answered.{token_seen}
 use Rattle.def_types.proofs.Loops.{params_so_next, params_so_stop}
 use Rattle.def_types.proofs.parts.type_params.Goals as goal

@@ -1,5 +1,5 @@
-use Rattle.type_scope.specs.Seen.{founds}
-use Rattle.type_scope.proofs.Seeing.{seen_later}
+use Rattle.name_types.specs.Seen.{founds}
+use Rattle.name_types.proofs.Seeing.{seen_later}
 use Rattle.def_types.proofs.Answered.{parts_body_none, parts_infer, parts_params_none, vars_typed}
 use Rattle.def_types.proofs.parts.type_parts.Goals as goal
 

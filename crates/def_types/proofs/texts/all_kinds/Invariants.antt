@@ -1,5 +1,5 @@
 use Rattle.std.proofs.Common.{◌≡◌, take}
-use Rattle.type_scope.specs.Seen.{founds}
+use Rattle.name_types.specs.Seen.{founds}
 use Rattle.def_types.specs.TextUses.{kinds_in}
 use Rattle.def_types.proofs.texts.all_kinds.Given as goal
 

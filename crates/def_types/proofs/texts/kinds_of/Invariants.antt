@@ -1,5 +1,5 @@
 use Rattle.std.proofs.Common.{◌≡◌, map, take}
-use Rattle.type_scope.specs.Seen.{pending}
+use Rattle.name_types.specs.Seen.{pending}
 use Rattle.def_types.specs.TextUses.{pending_of}
 use Rattle.def_types.proofs.texts.kinds_of.Given as goal
 

@@ -1,5 +1,5 @@
 use Rattle.std.proofs.Common.{rules, ◌≡◌, [], length, min}
-use Rattle.type_scope.specs.Seen.{founds}
+use Rattle.name_types.specs.Seen.{founds}
 use Rattle.def_types.specs.TextUses.{text_uses}
 use Rattle.def_types.proofs.Chunks.{uses_begin, uses_end, uses_next}
 use Rattle.def_types.proofs.texts.text_of_uses.Goals as goal

@@ -1,5 +1,5 @@
 use Rattle.std.proofs.Common.{◌≡◌, ◌++◌, drop, map}
-use Rattle.type_scope.specs.Seen.{founds, text_use}
+use Rattle.name_types.specs.Seen.{founds, text_use}
 use Rattle.def_types.specs.TextUses.{text_uses}
 use Rattle.def_types.proofs.texts.text_of_uses.Given as goal
 

@@ -1,6 +1,6 @@
 use Rattle.std.proofs.Common.{◌∙◌, List, [], ◌∷◌, ◌++◌, ap}
 use Rattle.liq_base.specs.SinkStates.{SinkState}
-use Rattle.clock_engine.specs.declared.engine.ClockEngine.{ClockEngine}
+use Rattle.clock_ticks.specs.declared.engine.ClockEngine.{ClockEngine}
 use Rattle.engine_tests.proofs.Joined.{both_engines, joined_setting}
 use Rattle.engine_tests.proofs.stopped_clock_tests.both.Goals as goal
 

@@ -13,8 +13,8 @@ invariant-ands_hold-loop-part l = list_any (λ x. holds_call (view_and x)) (take
 abbrev pub invariant-nots_hold-loop-part : goal.invariant-nots_hold-loop-part
 invariant-nots_hold-loop-part l = list_any (λ x. holds_call (view_not x)) (take l.part-index l.parts) ≡ false
 
-abbrev pub invariant-addeds_hold-loop-part : goal.invariant-addeds_hold-loop-part
-invariant-addeds_hold-loop-part l = list_any (λ x. holds_call (view_added x)) (take l.part-index l.parts) ≡ false
+abbrev pub invariant-addends_hold-loop-part : goal.invariant-addends_hold-loop-part
+invariant-addends_hold-loop-part l = list_any (λ x. holds_call (view_added x)) (take l.part-index l.parts) ≡ false
 
-abbrev pub invariant-multiplieds_hold-loop-part : goal.invariant-multiplieds_hold-loop-part
-invariant-multiplieds_hold-loop-part l = list_any (λ x. holds_call (view_multiplied x)) (take l.part-index l.parts) ≡ false
+abbrev pub invariant-factors_hold-loop-part : goal.invariant-factors_hold-loop-part
+invariant-factors_hold-loop-part l = list_any (λ x. holds_call (view_multiplied x)) (take l.part-index l.parts) ≡ false

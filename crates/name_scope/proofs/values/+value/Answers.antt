@@ -19,17 +19,17 @@ note_nots-loop-not-preserved t c = each_next (both_scopes c.args.scopes) view_no
 pub note_nots-returns : goal.note_nots-returns
 note_nots-returns t c = c.loop-not.invariant ∙ ap (λ l. with_names (noted c.args.notes.now) (names_each (both_scopes c.args.scopes) (map view_not l))) (take_all c.loop-not.not-index c.args.nots.now c.loop-not-test.false)
 
-pub note_addeds-loop-added-preserved : goal.note_addeds-loop-added-preserved
-note_addeds-loop-added-preserved t c = each_next (both_scopes c.args.scopes) view_added c.args.addeds.now c.loop-added.added-index c.added-item.result _ _ _ c.loop-added-test.true c.added-item.is c.loop-added.invariant c.in_ok-note_added.ensures
+pub note_addends-loop-added-preserved : goal.note_addends-loop-added-preserved
+note_addends-loop-added-preserved t c = each_next (both_scopes c.args.scopes) view_added c.args.addends.now c.loop-added.added-index c.added-item.result _ _ _ c.loop-added-test.true c.added-item.is c.loop-added.invariant c.in_ok-note_added.ensures
 
-pub note_addeds-returns : goal.note_addeds-returns
-note_addeds-returns t c = c.loop-added.invariant ∙ ap (λ l. with_names (noted c.args.notes.now) (names_each (both_scopes c.args.scopes) (map view_added l))) (take_all c.loop-added.added-index c.args.addeds.now c.loop-added-test.false)
+pub note_addends-returns : goal.note_addends-returns
+note_addends-returns t c = c.loop-added.invariant ∙ ap (λ l. with_names (noted c.args.notes.now) (names_each (both_scopes c.args.scopes) (map view_added l))) (take_all c.loop-added.added-index c.args.addends.now c.loop-added-test.false)
 
-pub note_multiplieds-loop-multiplied-preserved : goal.note_multiplieds-loop-multiplied-preserved
-note_multiplieds-loop-multiplied-preserved t c = each_next (both_scopes c.args.scopes) view_multiplied c.args.multiplieds.now c.loop-multiplied.multiplied-index c.multiplied-item.result _ _ _ c.loop-multiplied-test.true c.multiplied-item.is c.loop-multiplied.invariant c.in_ok-note_multiplied.ensures
+pub note_factors-loop-multiplied-preserved : goal.note_factors-loop-multiplied-preserved
+note_factors-loop-multiplied-preserved t c = each_next (both_scopes c.args.scopes) view_multiplied c.args.factors.now c.loop-multiplied.multiplied-index c.multiplied-item.result _ _ _ c.loop-multiplied-test.true c.multiplied-item.is c.loop-multiplied.invariant c.in_ok-note_multiplied.ensures
 
-pub note_multiplieds-returns : goal.note_multiplieds-returns
-note_multiplieds-returns t c = c.loop-multiplied.invariant ∙ ap (λ l. with_names (noted c.args.notes.now) (names_each (both_scopes c.args.scopes) (map view_multiplied l))) (take_all c.loop-multiplied.multiplied-index c.args.multiplieds.now c.loop-multiplied-test.false)
+pub note_factors-returns : goal.note_factors-returns
+note_factors-returns t c = c.loop-multiplied.invariant ∙ ap (λ l. with_names (noted c.args.notes.now) (names_each (both_scopes c.args.scopes) (map view_multiplied l))) (take_all c.loop-multiplied.multiplied-index c.args.factors.now c.loop-multiplied-test.false)
 
 pub note_fulls-loop-part-preserved : goal.note_fulls-loop-part-preserved
 note_fulls-loop-part-preserved t c = each_next (both_scopes c.args.scopes) view_full c.args.parts.now c.loop-part.part-index c.part-item.result _ _ _ c.loop-part-test.true c.part-item.is c.loop-part.invariant c.in_ok-note_full.ensures
@@ -50,10 +50,10 @@ pub note_and-returns : goal.note_and-returns
 note_and-returns t c = and_parts (both_scopes c.args.scopes) c.args.and.now _ _ _ _ c.deref.ensures.value c.in_ok-note_not.ensures c.in_ok-note_nots.ensures
 
 pub note_sum-returns : goal.note_sum-returns
-note_sum-returns t c = sum_parts (both_scopes c.args.scopes) c.args.sum.now _ _ _ _ c.deref.ensures.value c.in_ok-note_product.ensures c.in_ok-note_addeds.ensures
+note_sum-returns t c = sum_parts (both_scopes c.args.scopes) c.args.sum.now _ _ _ _ c.deref.ensures.value c.in_ok-note_product.ensures c.in_ok-note_addends.ensures
 
 pub note_product-returns : goal.note_product-returns
-note_product-returns t c = product_parts (both_scopes c.args.scopes) c.args.product.now _ _ _ _ c.deref.ensures.value c.in_ok-note_prim.ensures c.in_ok-note_multiplieds.ensures
+note_product-returns t c = product_parts (both_scopes c.args.scopes) c.args.product.now _ _ _ _ c.deref.ensures.value c.in_ok-note_operand.ensures c.in_ok-note_factors.ensures
 
 pub note_call-returns : goal.note_call-returns
 note_call-returns t c = call_parts (both_scopes c.args.scopes) c.args.call.now _ _ _ _ _ c.deref.ensures.value c.deref-2.ensures.value c.in_ok-add_call.ensures.added c.in_ok-note_args.ensures
@@ -68,8 +68,8 @@ note_choice-returns t c =
 pub note_compare-returns-in_ok-note_sum-in-Some : goal.note_compare-returns-in_ok-note_sum-in-Some
 note_compare-returns-in_ok-note_sum-in-Some t c = compare_parts (both_scopes c.args.scopes) c.args.compare.now c.in-Some.right (noted c.args.notes.now) (noted c.note_sum.new.notes) (noted c.note_sum-in-Some.new.notes) c.in-Some.is c.in_ok-note_sum.ensures c.in_ok-note_sum-in-Some.ensures
 
-pub note_prim-returns-in-Tuple : goal.note_prim-returns-in-Tuple
-note_prim-returns-in-Tuple t c = rw (c.in-Tuple.is, tuple_names (both_scopes c.args.scopes) c.in-Tuple.at c.in-Tuple.parts) (search rules)
+pub note_operand-returns-in-Tuple : goal.note_operand-returns-in-Tuple
+note_operand-returns-in-Tuple t c = rw (c.in-Tuple.is, tuple_names (both_scopes c.args.scopes) c.in-Tuple.at c.in-Tuple.parts) (search rules)
 
-pub note_prim-returns-in-List : goal.note_prim-returns-in-List
-note_prim-returns-in-List t c = rw (c.in-List.is, list_names (both_scopes c.args.scopes) c.in-List.at c.in-List.parts) (search rules)
+pub note_operand-returns-in-List : goal.note_operand-returns-in-List
+note_operand-returns-in-List t c = rw (c.in-List.is, list_names (both_scopes c.args.scopes) c.in-List.at c.in-List.parts) (search rules)

@@ -10,11 +10,11 @@ invariant-note_ands-loop-and l = noted l.notes ≡ with_names (noted l.fn.notes)
 abbrev pub invariant-note_nots-loop-not : goal.invariant-note_nots-loop-not
 invariant-note_nots-loop-not l = noted l.notes ≡ with_names (noted l.fn.notes) (names_each (both_scopes l.scopes) (map view_not (take l.not-index l.nots)))
 
-abbrev pub invariant-note_addeds-loop-added : goal.invariant-note_addeds-loop-added
-invariant-note_addeds-loop-added l = noted l.notes ≡ with_names (noted l.fn.notes) (names_each (both_scopes l.scopes) (map view_added (take l.added-index l.addeds)))
+abbrev pub invariant-note_addends-loop-added : goal.invariant-note_addends-loop-added
+invariant-note_addends-loop-added l = noted l.notes ≡ with_names (noted l.fn.notes) (names_each (both_scopes l.scopes) (map view_added (take l.added-index l.addends)))
 
-abbrev pub invariant-note_multiplieds-loop-multiplied : goal.invariant-note_multiplieds-loop-multiplied
-invariant-note_multiplieds-loop-multiplied l = noted l.notes ≡ with_names (noted l.fn.notes) (names_each (both_scopes l.scopes) (map view_multiplied (take l.multiplied-index l.multiplieds)))
+abbrev pub invariant-note_factors-loop-multiplied : goal.invariant-note_factors-loop-multiplied
+invariant-note_factors-loop-multiplied l = noted l.notes ≡ with_names (noted l.fn.notes) (names_each (both_scopes l.scopes) (map view_multiplied (take l.multiplied-index l.factors)))
 
 abbrev pub invariant-note_fulls-loop-part : goal.invariant-note_fulls-loop-part
 invariant-note_fulls-loop-part l = noted l.notes ≡ with_names (noted l.fn.notes) (names_each (both_scopes l.scopes) (map view_full (take l.part-index l.parts)))

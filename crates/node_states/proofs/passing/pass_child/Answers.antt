@@ -2,7 +2,7 @@ use Rattle.std.proofs.Common.{◌≡◌, ◌+◌, ◌∙◌, ◌++◌, Some, map
 use Rattle.std.proofs.lemmas.Option.{get_or_from_slice_get}
 use Rattle.cell_ring.specs.Rings.{inner_cells}
 use Rattle.op_cross.specs.Crossfade.{cross}
-use Rattle.node_mixing.specs.Runs.{samples_of}
+use Rattle.op_mix.specs.Stretches.{samples_of}
 use Rattle.node_states.proofs.passing.pass_child.Goals as goal
 
 pub returns-clause-least : goal.returns-clause-least

@@ -5,8 +5,8 @@ use Rattle.std.proofs.Math.Nat.{suc-mul, mul-le-mul_right}
 use Rattle.std.proofs.lemmas.Option.{slice_get-get_or as read}
 use Rattle.buffer_ends.specs.declared.run_end.End.TheVariants.{Write}
 use Rattle.rounds_run.specs.Rounds.{AreGoing, RoundsMade, made_by}
-use Rattle.clock_engine.specs.declared.fault.TickFault.TheVariants.{Memory as OutOfMemory}
-use Rattle.clock_engine.proofs.Needing.{has_buffers}
+use Rattle.clock_ticks.specs.declared.fault.TickFault.TheVariants.{Memory as OutOfMemory}
+use Rattle.clock_ticks.proofs.Needing.{has_buffers}
 use Rattle.rounds_run.proofs.Going.{all_rounds, begin, fault_is, next_round, tick_failed, tick_more, tick_room, turn, write_end}
 use Rattle.rounds_run.proofs.rounds.make_rounds.Goals as goal
 

@@ -12,11 +12,11 @@ invariant-put_ands-loop-and l = l.out.items ≡ l.fn.out.items ++ each_behind (K
 abbrev pub invariant-put_nots-loop-not : goal.invariant-put_nots-loop-not
 invariant-put_nots-loop-not l = l.out.items ≡ l.fn.out.items ++ each_behind (Keyword word.And) (map view_not (take l.not-index l.nots))
 
-abbrev pub invariant-put_addeds-loop-added : goal.invariant-put_addeds-loop-added
-invariant-put_addeds-loop-added l = l.out.items ≡ l.fn.out.items ++ each (map view_added (take l.added-index l.addeds))
+abbrev pub invariant-put_addends-loop-added : goal.invariant-put_addends-loop-added
+invariant-put_addends-loop-added l = l.out.items ≡ l.fn.out.items ++ each (map view_added (take l.added-index l.addends))
 
-abbrev pub invariant-put_multiplieds-loop-multiplied : goal.invariant-put_multiplieds-loop-multiplied
-invariant-put_multiplieds-loop-multiplied l = l.out.items ≡ l.fn.out.items ++ each (map view_multiplied (take l.multiplied-index l.multiplieds))
+abbrev pub invariant-put_factors-loop-multiplied : goal.invariant-put_factors-loop-multiplied
+invariant-put_factors-loop-multiplied l = l.out.items ≡ l.fn.out.items ++ each (map view_multiplied (take l.multiplied-index l.factors))
 
 abbrev pub invariant-put_fulls-others : goal.invariant-put_fulls-others
 invariant-put_fulls-others l = l.out.items ≡ l.initial.out.items ++ each_behind (Symbol sign.Comma) (map view_full (take l.part-index l.rest))

@@ -1,4 +1,4 @@
-use Rattle.stream_meaning.proofs.Bufferless.{no_calls, has_none}
+use Rattle.stream_meaning.proofs.Unbuffered.{no_calls, has_none}
 use Rattle.stream_meaning.proofs.laws.no_calls_without_buffers.Goals as goal
 
 pub returns-clause-none : goal.returns-clause-none

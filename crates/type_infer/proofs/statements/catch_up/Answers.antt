@@ -1,5 +1,5 @@
 use Rattle.std.proofs.Common.{List, subst, ℕ}
-use Rattle.type_schemes.specs.Holding.{IsHeldBy}
+use Rattle.general_types.specs.Holding.{IsHeldBy}
 use Rattle.type_infer.specs.Later.{terms_since}
 use Rattle.type_infer.proofs.statements.catch_up.Goals as goal
 

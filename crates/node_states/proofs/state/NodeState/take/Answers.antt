@@ -19,24 +19,24 @@ returns-in_err-take_all-in-Read-clause-stopped g c =
 
 pub returns-in-Leaf-clause-took : goal.returns-in-Leaf-clause-took
 returns-in-Leaf-clause-took g c = begun_other g.T.Taps.stands c.args.buffer _ c.args.taps.now
-    (λ setting sub past fed i buffer at. subst (λ (s : NodeState). StateStands setting sub past fed i (Reads buffer) s) c.in-Leaf.is at)
+    (λ setting sub past filled i buffer at. subst (λ (s : NodeState). StateStands setting sub past filled i (Reads buffer) s) c.in-Leaf.is at)
 
 pub returns-in-Select-clause-took : goal.returns-in-Select-clause-took
 returns-in-Select-clause-took g c = begun_other g.T.Taps.stands c.args.buffer _ c.args.taps.now
-    (λ setting sub past fed i buffer at. subst (λ (s : NodeState). StateStands setting sub past fed i (Reads buffer) s) c.in-Select.is at)
+    (λ setting sub past filled i buffer at. subst (λ (s : NodeState). StateStands setting sub past filled i (Reads buffer) s) c.in-Select.is at)
 
 pub returns-in-Turn-clause-took : goal.returns-in-Turn-clause-took
 returns-in-Turn-clause-took g c = begun_other g.T.Taps.stands c.args.buffer _ c.args.taps.now
-    (λ setting sub past fed i buffer at. subst (λ (s : NodeState). StateStands setting sub past fed i (Reads buffer) s) c.in-Turn.is at)
+    (λ setting sub past filled i buffer at. subst (λ (s : NodeState). StateStands setting sub past filled i (Reads buffer) s) c.in-Turn.is at)
 
 pub returns-in-Mix-clause-took : goal.returns-in-Mix-clause-took
 returns-in-Mix-clause-took g c = begun_other g.T.Taps.stands c.args.buffer _ c.args.taps.now
-    (λ setting sub past fed i buffer at. subst (λ (s : NodeState). StateStands setting sub past fed i (Reads buffer) s) c.in-Mix.is at)
+    (λ setting sub past filled i buffer at. subst (λ (s : NodeState). StateStands setting sub past filled i (Reads buffer) s) c.in-Mix.is at)
 
 pub returns-in-Idle-clause-took : goal.returns-in-Idle-clause-took
 returns-in-Idle-clause-took g c = begun_other g.T.Taps.stands c.args.buffer _ c.args.taps.now
-    (λ setting sub past fed i buffer at. subst (λ (s : NodeState). StateStands setting sub past fed i (Reads buffer) s) c.in-Idle.is at)
+    (λ setting sub past filled i buffer at. subst (λ (s : NodeState). StateStands setting sub past filled i (Reads buffer) s) c.in-Idle.is at)
 
 pub returns-in-Cross-clause-took : goal.returns-in-Cross-clause-took
 returns-in-Cross-clause-took g c = begun_other g.T.Taps.stands c.args.buffer _ c.args.taps.now
-    (λ setting sub past fed i buffer at. subst (λ (s : NodeState). StateStands setting sub past fed i (Reads buffer) s) c.in-Cross.is at)
+    (λ setting sub past filled i buffer at. subst (λ (s : NodeState). StateStands setting sub past filled i (Reads buffer) s) c.in-Cross.is at)

@@ -14,16 +14,16 @@ pub take_into-requires-clause-there : goal.take_into-requires-clause-there
 take_into-requires-clause-there c =
     let run = inner_cells c.args.title c.args.from_left.now c.args.from_right.now in
     let long : length run ≡ length c.args.left.now = long_run c.args.title c.args.from_left.now c.args.from_right.now c.requires.from ∙ sym c.requires.same.0 in
-    long_now c.self.inside.cells.cells run c.push_run.new.self c.self.inside.cells.room (length c.args.left.now) c.push_run.ensures long
+    long_now c.self.inside.cells.cells run c.push_inner.new.self c.self.inside.cells.room (length c.args.left.now) c.push_inner.ensures long
 
 pub invariant_of-self : goal.invariant_of-self
 invariant_of-self c =
     let pass : Passing (the_view c.self.inside) = passing (the_view c.self.inside) (subst (λ s. passes s ≡ true) (sym c.self.view_is) c.requires.passes) in
     let run = inner_cells c.args.title c.args.from_left.now c.args.from_right.now in
     let long : length run ≡ length c.args.left.now = long_run c.args.title c.args.from_left.now c.args.from_right.now c.requires.from ∙ sym c.requires.same.0 in
-    let rest = ap (λ (r : Ring). r.cells) c.take_into.ensures.rest ∙ ap (λ (r : Ring). drop (length c.args.left.now) r.cells) c.push_run.ensures in (
+    let rest = ap (λ (r : Ring). r.cells) c.take_into.ensures.rest ∙ ap (λ (r : Ring). drop (length c.args.left.now) r.cells) c.push_inner.ensures in (
       rest_is (the_view c.self.inside) _ c.self.invariant.0 pass refl refl (rest_long c.self.inside.cells.cells run c.take_into.new.self.cells (length c.args.left.now) rest long) refl refl refl refl,
-      ap (λ (r : Ring). r.room) c.take_into.ensures.rest ∙ ap (λ (r : Ring). r.room) c.push_run.ensures ∙ c.self.invariant.1,
+      ap (λ (r : Ring). r.room) c.take_into.ensures.rest ∙ ap (λ (r : Ring). r.room) c.push_inner.ensures ∙ c.self.invariant.1,
       c.self.invariant.2,
     )
 
@@ -32,7 +32,7 @@ returns-clause-passes c =
     let pass : Passing (the_view c.self.inside) = passing (the_view c.self.inside) (subst (λ s. passes s ≡ true) (sym c.self.view_is) c.requires.passes) in
     let run = inner_cells c.args.title c.args.from_left.now c.args.from_right.now in
     let long : length run ≡ length c.args.left.now = long_run c.args.title c.args.from_left.now c.args.from_right.now c.requires.from ∙ sym c.requires.same.0 in
-    let rest = ap (λ (r : Ring). r.cells) c.take_into.ensures.rest ∙ ap (λ (r : Ring). drop (length c.args.left.now) r.cells) c.push_run.ensures in
+    let rest = ap (λ (r : Ring). r.cells) c.take_into.ensures.rest ∙ ap (λ (r : Ring). drop (length c.args.left.now) r.cells) c.push_inner.ensures in
     passes_still (the_view c.self.inside) (the_view record { overlap = c.self.inside.overlap; cells = c.take_into.new.self; next = c.self.inside.next; ready = c.self.inside.ready; whole = c.self.inside.whole; gap = c.self.inside.gap }) pass refl (rest_long c.self.inside.cells.cells run c.take_into.new.self.cells (length c.args.left.now) rest long) refl refl
 
 pub returns-clause-stands : goal.returns-clause-stands
@@ -41,7 +41,7 @@ returns-clause-stands c = λ slots p stands.
     let pass : Passing (the_view c.self.inside) = passing (the_view c.self.inside) (subst (λ s. passes s ≡ true) (sym c.self.view_is) c.requires.passes) in
     let run = inner_cells c.args.title c.args.from_left.now c.args.from_right.now in
     let long : length run ≡ length c.args.from_left.now = long_run c.args.title c.args.from_left.now c.args.from_right.now c.requires.from in
-    let rest = ap (λ (r : Ring). r.cells) c.take_into.ensures.rest ∙ ap (λ (r : Ring). drop (length c.args.left.now) r.cells) c.push_run.ensures
+    let rest = ap (λ (r : Ring). r.cells) c.take_into.ensures.rest ∙ ap (λ (r : Ring). drop (length c.args.left.now) r.cells) c.push_inner.ensures
     ∙ ap (λ n. drop n (c.self.inside.cells.cells ++ run)) c.requires.same.0 in
     passed_by (the_view c.self.inside) (the_view record { overlap = c.self.inside.overlap; cells = c.take_into.new.self; next = c.self.inside.next; ready = c.self.inside.ready; whole = c.self.inside.whole; gap = c.self.inside.gap }) slots p (length c.args.from_left.now) run long c.self.invariant.0 before pass (runs_inner c.args.title c.args.from_left.now c.args.from_right.now) refl rest refl refl refl
 
@@ -62,7 +62,7 @@ returns-clause-left c = λ slots p stands.
     let run = inner_cells c.args.title c.args.from_left.now c.args.from_right.now in
     let same : length c.args.left.now ≡ length run = c.requires.same.0 ∙ sym (long_run c.args.title c.args.from_left.now c.args.from_right.now c.requires.from) in
     c.take_into.ensures.left
-    ∙ ap (λ (r : Ring). map (λ cell. cell.left) (take (length c.args.left.now) r.cells)) c.push_run.ensures
+    ∙ ap (λ (r : Ring). map (λ cell. cell.left) (take (length c.args.left.now) r.cells)) c.push_inner.ensures
     ∙ ap (λ n. map (λ cell. cell.left) (take n (c.self.inside.cells.cells ++ run))) same
     ∙ passed_lefts (the_view c.self.inside) slots p run c.self.invariant.0 before pass (runs_inner c.args.title c.args.from_left.now c.args.from_right.now)
     ∙ ap (λ n. map slot_left (take n (drop p (cross c.self.inside.overlap (slots ++ map Some run))))) (sym same)
@@ -75,7 +75,7 @@ returns-clause-right c = λ slots p stands.
     let run = inner_cells c.args.title c.args.from_left.now c.args.from_right.now in
     let same : length c.args.left.now ≡ length run = c.requires.same.0 ∙ sym (long_run c.args.title c.args.from_left.now c.args.from_right.now c.requires.from) in
     c.take_into.ensures.right
-    ∙ ap (λ (r : Ring). map (λ cell. cell.right) (take (length c.args.left.now) r.cells)) c.push_run.ensures
+    ∙ ap (λ (r : Ring). map (λ cell. cell.right) (take (length c.args.left.now) r.cells)) c.push_inner.ensures
     ∙ ap (λ n. map (λ cell. cell.right) (take n (c.self.inside.cells.cells ++ run))) same
     ∙ passed_rights (the_view c.self.inside) slots p run c.self.invariant.0 before pass (runs_inner c.args.title c.args.from_left.now c.args.from_right.now)
     ∙ ap (λ n. map slot_right (take n (drop p (cross c.self.inside.overlap (slots ++ map Some run))))) (sym same)

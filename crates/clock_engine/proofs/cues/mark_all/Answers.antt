@@ -1,4 +1,0 @@
-use Rattle.clock_engine.proofs.cues.mark_all.Goals as goal
-
-pub returns-clause-kept : goal.returns-clause-kept
-returns-clause-kept c = rw c.if-not-cues.false c.mark_lists.ensures.kept

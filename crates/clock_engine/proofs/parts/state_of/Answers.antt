@@ -1,7 +1,0 @@
-use Rattle.clock_engine.proofs.parts.state_of.Goals as goal
-
-pub returns : goal.returns
-returns c = record {
-  fits = λ library is within. tt;
-  stands = λ setting sub rank under same none. absurd (c.is_driven.ensures c.if-is_driven.false rank under);
-}

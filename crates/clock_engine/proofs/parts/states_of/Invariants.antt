@@ -1,5 +1,0 @@
-use Rattle.clock_engine.specs.Beginnings.{AreNewStates}
-use Rattle.clock_engine.proofs.parts.states_of.Given as goal
-
-abbrev pub invariant-loop-i : goal.invariant-loop-i
-invariant-loop-i l = AreNewStates l.shape.plan.now l.shape.clocks.now l.clock l.i l.states.items

@@ -1,0 +1,57 @@
+use Rattle.std.proofs.Common.{◌≡◌, ◌∙◌, ◌<◌, ◌∷◌, Some, length, slice_get, get_or, arith, refl, ap, sym, subst}
+use Rattle.std.proofs.lemmas.Option.{slice_get_read}
+use Rattle.std.proofs.lemmas.List.{get_or_default}
+use Rattle.plan_core.specs.declared.node.Node.{Node}
+use Rattle.stream_meaning.specs.Instants.{moment_after, part_at, silent, work_at}
+use Rattle.stream_meaning.specs.Operators.{work_of}
+use Rattle.node_states.specs.States.{StateStands}
+use Rattle.clock_instants.specs.Resting.{begins_at}
+use Rattle.clock_instants.specs.States.{over}
+use Rattle.clock_instants.proofs.Stretched.{node_stretches}
+use Rattle.clock_instants.proofs.resting.node_rest.Goals as goal
+
+pub rest-requires : goal.rest-requires
+rest-requires c =
+    let found : slice_get c.args.shape.now.plan.now.nodes c.args.i ≡ Some c.index-as_slice-i.result =
+    slice_get_read _ _ _ _ refl c.requires.within (c.index-as_slice-i.is ∙ ap (λ nodes. get_or nodes c.args.i c.index-as_slice-i.result) c.as_slice.ensures) in
+    record { fits = (length c.index-as_slice-i.result.children, c.requires.fits c.index-as_slice-i.result found) }
+
+pub returns-clause-within : goal.returns-clause-within
+returns-clause-within c = omega (arith, c.rest.ensures.within, c.min-bound.ensures)
+
+pub returns-clause-ahead : goal.returns-clause-ahead
+returns-clause-ahead c = λ gave. c.rest.ensures.ahead (c.is_some-gave.ensures ∙ gave)
+
+pub returns-clause-through : goal.returns-clause-through
+returns-clause-through c = λ gave through. c.rest.ensures.through (c.is_some-gave.ensures ∙ gave) through
+
+pub returns-clause-goes : goal.returns-clause-goes
+returns-clause-goes c = record {
+  goes = λ other sub clock past filled node long is stands parts gave begun are same within.
+      let setting = over c.args.shape.now.plan.now c.args.shape.now.library.now c.args.shape.now.clocks.now other in
+      let found : slice_get c.args.shape.now.plan.now.nodes c.args.i ≡ Some c.index-as_slice-i.result =
+      slice_get_read _ _ _ _ refl c.requires.within (c.index-as_slice-i.is ∙ ap (λ nodes. get_or nodes c.args.i c.index-as_slice-i.result) c.as_slice.ensures) in
+      let one : Some c.index-as_slice-i.result ≡ Some node = sym found ∙ is.there in
+      let read : c.index-as_slice-i.result ≡ node = cc in
+      let in_parts : c.args.i < length c.args.parts.now = omega (arith, c.requires.in_parts, c.requires.within) in
+      let children : c.as_slice-2.result.now ≡ node.children = c.as_slice-2.ensures ∙ ap (λ (n : Node). n.children) read in
+      let first = moment_after setting sub clock past in
+      let part_is = ap (λ ps. part_at ps c.args.i) (sym parts) ∙ get_or_default _ _ silent _ in_parts in
+      node_stretches setting sub clock past c.args.i node c.requires.shape.nodes is c.begins-begins.result c.last.result c.rest.result c.rest.result c.args.second c.args.tick
+      (omega arith)
+      (c.rest.ensures.goes setting sub past first filled c.args.i (work_at setting c.args.i node) refl long stands begun part_is (gave ∙ sym c.is_some-gave.ensures)
+      (λ yes through. are (sym c.is_some-gave.ensures ∙ yes) through))
+      (c.rest.ensures.keeps setting sub past first filled c.args.i (work_at setting c.args.i node) refl long stands begun part_is (gave ∙ sym c.is_some-gave.ensures)
+      (λ yes through. are (sym c.is_some-gave.ensures ∙ yes) through))
+      (λ choice eligible at apart.
+      let is_second = c.border.ensures.second setting.plan.rate c.args.i c.index-as_slice-i.result.kind choice eligible (ap (λ (n : Node). work_of setting.plan.rate c.args.i n.kind n.op) read ∙ at) apart in
+      let low = c.rest.ensures.within in omega (arith, low, c.min-bound.ensures, is_second))
+      (c.begins-begins.ensures ∙ ap (λ ps. begins_at ps c.as_slice-2.result.now c.last.result) parts ∙ ap (λ cs. begins_at first.parts cs c.last.result) children)
+      (λ rule eligible at. c.last.ensures setting sub (first ∷ past) filled c.args.i rule eligible (subst (λ w. StateStands setting sub (first ∷ past) filled c.args.i w c.args.state.now) at stands))
+      (λ buffer at.
+      let is_tick = c.border.ensures.tick setting.plan.rate c.args.i buffer c.index-as_slice-i.result.kind (ap (λ (n : Node). work_of setting.plan.rate c.args.i n.kind n.op) read ∙ at) in
+      let low = c.rest.ensures.within in omega (arith, low, c.min-bound.ensures, is_tick))
+      same within;
+  asks = λ setting sub past moment filled overlap j long stands is gave are less.
+      c.rest.ensures.asks setting sub past moment filled c.args.i overlap j long stands (is ∙ sym c.is_some-gave.ensures) (c.is_some-gave.ensures ∙ gave) are less;
+}

@@ -1,0 +1,17 @@
+-- Which children a demanded node uses: of those that it may use the ones that offer.
+use Rattle.std.specs.Prelude.{◌≡◌, ℕ, List, [], Option, Some, slice_get}
+use Rattle.plan_core.specs.declared.node.Node.{Node}
+use Rattle.stream_meaning.specs.declared.part.Part.{Part}
+use Rattle.stream_meaning.specs.Instants.{child_at, offering, part_at}
+use Rattle.clock_instants.specs.declared.demand.Demand.{Demand}
+use Rattle.clock_instants.specs.declared.demand.Demand.TheVariants.{Nothing, Picked, Offering}
+
+abbrev pub uses_in : Demand → List Part → List ℕ → (pick : Option ℕ) → List ℕ
+uses_in Nothing parts children pick = []
+uses_in Picked parts children pick = offering parts (child_at children pick)
+uses_in Offering parts children pick = offering parts children
+
+-- each node picks a child that offers, or none
+pub record PicksOffer (nodes : List Node) (parts : List Part) : Type 0 where
+  pub each : (i : ℕ) (node : Node) → slice_get nodes i ≡ Some node
+      → offering parts (child_at node.children (part_at parts i).pick) ≡ child_at node.children (part_at parts i).pick

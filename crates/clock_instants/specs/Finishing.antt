@@ -1,0 +1,36 @@
+-- An instant of a clock whose crossfades are settled.
+use Rattle.std.specs.Prelude.{◌≡◌, ℕ, Bool, List, ◌∷◌, length}
+use Rattle.clock_infer.specs.declared.clock_map.NodeClock.{NodeClock}
+use Rattle.frame_core.specs.Slots.{Slot}
+use Rattle.stream_meaning.specs.declared.part.Part.{Part}
+use Rattle.stream_meaning.specs.Instants.{Setting, Moment, moment_after, second_at}
+use Rattle.node_states.specs.declared.state.NodeState.{NodeState}
+use Rattle.node_states.specs.States.{AreLong}
+use Rattle.clock_instants.specs.declared.shape.Shape.{Shape}
+use Rattle.clock_instants.specs.Held.{IsHeld}
+use Rattle.clock_instants.specs.Shapes.{setting_over}
+use Rattle.clock_instants.specs.States.{AreRoots, AreSettled, ClockStands}
+
+-- the instant after these lies in this second, the states stand for these, the items of the clock's crossfades are settled, and the marks
+-- tell which of its nodes it demands of themselves
+pub record CanFinish (setting : Setting) (sub : ℕ → ℕ → List Slot) (clock : NodeClock) (past : List Moment) (filled : ℕ → ℕ)
+    (own : List Bool) (second : ℕ) (states : List NodeState) : Type 0 where
+  pub at : second ≡ second_at setting (length past)
+  pub long : AreLong sub
+  pub stands : ClockStands setting sub clock past filled states
+  pub settled : AreSettled setting sub clock past filled
+  pub roots : AreRoots setting clock own
+
+-- the instant after these was made: these are its parts, what was given is held, and the states stand for it too
+pub record HasFinished (setting : Setting) (sub : ℕ → ℕ → List Slot) (clock : NodeClock) (past : List Moment) (filled : ℕ → ℕ)
+    (states : List NodeState) (parts held : List Part) : Type 0 where
+  pub parts_are : parts ≡ (moment_after setting sub clock past).parts
+  pub held_are : IsHeld setting sub clock past held
+  pub stands : ClockStands setting sub clock (moment_after setting sub clock past ∷ past) filled states
+
+-- an instant of a clock was made in this second, whatever instants the states stood for
+pub record InstantFinished (shape : Shape) (own : List Bool) (clock : NodeClock) (second : ℕ) (old new : List NodeState)
+    (parts held : List Part) : Type 0 where
+  pub made : (other : Setting) (sub : ℕ → ℕ → List Slot) (past : List Moment) (filled : ℕ → ℕ) →
+      let setting = setting_over shape other in
+      CanFinish setting sub clock past filled own second old → HasFinished setting sub clock past filled new parts held

@@ -1,0 +1,9 @@
+pub mod States
+pub mod Takes
+pub mod Demands
+pub mod Nodes
+pub mod Resting
+pub mod Held
+pub mod Stretches
+pub mod Shapes
+pub mod Finishing

@@ -1,0 +1,49 @@
+-- What the states of a clock's nodes stand for.
+use Rattle.std.specs.Prelude.{◌≡◌, ◌<◌, ◌≤◌, ℕ, Bool, true, false, List, Some, length, slice_get, slice_index_or}
+use Rattle.plan_core.specs.declared.node.Node.{Node}
+use Rattle.plan_core.specs.declared.plan.Plan.{Plan}
+use Rattle.clock_infer.specs.declared.clock_map.NodeClock.{NodeClock}
+use Rattle.frame_core.specs.Slots.{Slot}
+use Rattle.frame_core.specs.Library.{Sounds}
+use Rattle.stream_meaning.specs.Instants.{Setting, Moment, lies_in, is_root, work_at}
+use Rattle.node_states.specs.declared.state.NodeState.{NodeState}
+use Rattle.node_states.specs.States.{Fits, IsSettled, StateStands}
+
+-- a setting with this plan, these files and these clocks, and all else as in another one
+abbrev pub over : Plan → Sounds → List NodeClock → Setting → Setting
+over plan library clocks setting = record {
+  plan = plan;
+  library = library;
+  clocks = clocks;
+  start = setting.start;
+  answers = setting.answers;
+}
+
+-- a node of this clock
+pub record IsIn (setting : Setting) (clock : NodeClock) (i : ℕ) (node : Node) : Type 0 where
+  pub there : slice_get setting.plan.nodes i ≡ Some node
+  pub inside : lies_in setting clock i ≡ true
+
+-- the states of a clock's nodes stand for these instants of it, where crossfade i was filled `filled i` slots
+pub record ClockStands (setting : Setting) (sub : ℕ → ℕ → List Slot) (clock : NodeClock) (past : List Moment) (filled : ℕ → ℕ)
+    (states : List NodeState) : Type 0 where
+  pub each : (i : ℕ) (node : Node) (state : NodeState) → IsIn setting clock i node → slice_get states i ≡ Some state
+      → StateStands setting sub past (filled i) i (work_at setting i node) state
+
+-- the items of a clock's crossfades are settled
+pub record AreSettled (setting : Setting) (sub : ℕ → ℕ → List Slot) (clock : NodeClock) (past : List Moment) (filled : ℕ → ℕ) : Type 0 where
+  pub each : (i : ℕ) (node : Node) → IsIn setting clock i node → IsSettled sub past (filled i) i (work_at setting i node)
+
+-- each state is one of its node of a plan
+pub record AllFit (plan : Plan) (library : Sounds) (states : List NodeState) : Type 0 where
+  pub size : length states ≡ length plan.nodes
+  pub each : (i : ℕ) (node : Node) (state : NodeState) → slice_get plan.nodes i ≡ Some node → slice_get states i ≡ Some state
+      → Fits library (length node.children) state
+
+-- there is room for the children of each node of a plan
+pub record HasRoomFor (plan : Plan) (room : ℕ) : Type 0 where
+  pub each : (i : ℕ) (node : Node) → slice_get plan.nodes i ≡ Some node → length node.children ≤ room
+
+-- these marks tell of each node of a clock whether it is demanded of itself
+pub record AreRoots (setting : Setting) (clock : NodeClock) (own : List Bool) : Type 0 where
+  pub each : (i : ℕ) → i < length setting.plan.nodes → lies_in setting clock i ≡ true → slice_index_or own i false ≡ is_root setting clock i

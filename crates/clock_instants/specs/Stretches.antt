@@ -1,0 +1,183 @@
+-- Instants that go on as the latest one of a clock did, made at once.
+use Rattle.std.specs.Prelude.{◌≡◌, ◌<◌, ◌≤◌, ◌&&◌, ◌||◌, Bool, true, Some, List, ◌∷◌, ℕ, ℤ, suc, length, slice_get}
+use Rattle.plan_core.specs.declared.node.Node.{Node}
+use Rattle.clock_infer.specs.declared.clock_map.NodeClock.{NodeClock}
+use Rattle.frame_core.specs.Slots.{Slot, title_of}
+use Rattle.frame_core.specs.Library.{Sounds}
+use Rattle.op_leaf.specs.Lanes.{IsLane}
+use Rattle.stream_meaning.specs.declared.part.Part.{Part}
+use Rattle.stream_meaning.specs.Instants.{Setting, Moment, crossfaded, gives, lies_in, moment_after, part_at, silent, work_at}
+use Rattle.stretch_laws.specs.Stretches.{IsNode, IsStretch, going_on, lane}
+use Rattle.op_mix.specs.Stretches.{HasLane, Lanes, samples_of}
+use Rattle.node_states.specs.declared.state.NodeState.{NodeState}
+use Rattle.node_states.specs.declared.state.NodeState.TheVariants.{Idle}
+use Rattle.node_states.specs.declared.time.WeekTime.{WeekTime}
+use Rattle.node_states.specs.Passing.{LaneFills, given_part, passes}
+use Rattle.node_states.specs.Stretches.{LiesAhead, filled_on}
+use Rattle.node_states.specs.States.{AreLong, StateStands, reads, reads_at}
+use Rattle.node_states.specs.Times.{TimeStands}
+use Rattle.clock_instants.specs.declared.runs.Runs.{Runs}
+use Rattle.clock_instants.specs.declared.runs.Spare.{Spare}
+use Rattle.clock_instants.specs.declared.shape.Shape.{Shape}
+use Rattle.clock_instants.specs.Held.{AllAsk, AreFilledOn, AreSupplied, IsHeld, gave_at, goes_through}
+use Rattle.clock_instants.specs.Nodes.{lies_at}
+use Rattle.clock_instants.specs.Resting.{AreReadTo}
+use Rattle.clock_instants.specs.Shapes.{setting_over}
+use Rattle.clock_instants.specs.States.{ClockStands}
+
+-- node i has a lane on each side, with room for any run
+pub record HasLanes (left right : Lanes) (i : ℕ) : Type 0 where
+  pub on_left : HasLane left i
+  pub on_right : HasLane right i
+
+-- room for any run on each side
+pub record IsSpare (spare : Spare) : Type 0 where
+  pub on_left : 1024 ≤ length spare.left.items
+  pub on_right : 1024 ≤ length spare.right.items
+
+-- room for the runs of so many nodes, of which some have lanes; between two runs no node has a part
+pub record HasStretchRoom (nodes : ℕ) (runs : Runs) : Type 0 where
+  pub in_left : length runs.left.items ≡ nodes
+  pub in_right : length runs.right.items ≡ nodes
+  pub in_spare : IsSpare runs.spare
+  pub in_held : length runs.held.items ≡ nodes
+  pub in_rests : length runs.rests.items ≡ nodes
+  pub in_parts : length runs.parts.items ≡ nodes
+  pub clear : (j : ℕ) → part_at runs.parts.items j ≡ silent
+
+-- of the first nodes, as many as there are lanes, each one whose state is not idle has a lane
+pub record HaveLanes (states : List NodeState) (count : ℕ) (lanes : Lanes) : Type 0 where
+  pub size : length lanes ≡ count
+  pub each : (i : ℕ) (state : NodeState) → i < count → slice_get states i ≡ Some state → (state ≡ Idle → ⊥) → HasLane lanes i
+
+-- so many cells or items of each node of a clock that gave, of those below this one, are there and begin no track, but where cells pass
+pub record AllLieAhead (library : Sounds) (clocks : List NodeClock) (clock : NodeClock) (held : List Part) (states : List NodeState)
+    (below count : ℕ) : Type 0 where
+  pub each : (i : ℕ) (state : NodeState) → i < below → lies_at clocks clock i ≡ true → slice_get states i ≡ Some state
+      → gave_at held i ≡ true → LiesAhead library state count
+
+-- the same of all nodes of a clock
+abbrev pub AllLieAheadOver : Shape → NodeClock → List Part → List NodeState → (count : ℕ) → Type 0
+AllLieAheadOver shape clock held states count = AllLieAhead shape.library.now shape.clocks.now clock held states (length shape.clocks.now) count
+
+-- the latest instant of a clock is the one after these, at this time: these are its parts, what was given there is held, and the states
+-- stand for it too; and sub-clocks go on for so long
+pub record IsBehind (setting : Setting) (sub : ℕ → ℕ → List Slot) (clock : NodeClock) (past : List Moment) (filled : ℕ → ℕ) (time : WeekTime)
+    (parts held : List Part) (states : List NodeState) (rests : List ℕ) : Type 0 where
+  pub long : AreLong sub
+  pub stands : ClockStands setting sub clock (moment_after setting sub clock past ∷ past) filled states
+  pub parts_are : parts ≡ (moment_after setting sub clock past).parts
+  pub held_are : IsHeld setting sub clock past held
+  pub begun : AreReadTo setting clock filled (suc (length past))
+  pub time_is : TimeStands setting.start (length past) time
+  pub filled_on : AreFilledOn setting sub clock past filled held states rests
+
+-- so many instants go on as the latest one of a clock did, whatever instants the states stood for: they are a stretch with it, and for them
+-- each crossfade that gave asks for a slot an instant where cells pass, else for none
+pub record ClockGoesOn (shape : Shape) (clock : NodeClock) (time : WeekTime) (parts held : List Part) (states : List NodeState) (rests : List ℕ)
+    (rest : ℕ) : Type 0 where
+  pub stretch : (other : Setting) (sub : ℕ → ℕ → List Slot) (past : List Moment) (filled : ℕ → ℕ) →
+      let setting = setting_over shape other in
+      IsBehind setting sub clock past filled time parts held states rests → IsStretch setting sub clock past (suc rest)
+  pub asks : (other : Setting) (sub : ℕ → ℕ → List Slot) (past : List Moment) (filled : ℕ → ℕ) →
+      let setting = setting_over shape other in
+      IsBehind setting sub clock past filled time parts held states rests → AllAsk setting sub clock past filled states (length shape.clocks.now) rest
+
+-- what was given at the instant after these is held, with which so many instants are a stretch, the states stand for it too, the nodes of
+-- the clock have lanes, and the crossfades through which cells pass have the samples of their children
+pub record IsGoing (setting : Setting) (sub : ℕ → ℕ → List Slot) (clock : NodeClock) (past : List Moment) (many : ℕ) (filled : ℕ → ℕ)
+    (held : List Part) (states : List NodeState) (left right : Lanes) : Type 0 where
+  pub long : AreLong sub
+  pub stretch : IsStretch setting sub clock past (suc many)
+  pub stands : ClockStands setting sub clock (moment_after setting sub clock past ∷ past) filled states
+  pub held_are : IsHeld setting sub clock past held
+  pub begun : AreReadTo setting clock filled (suc (length past))
+  pub laned : (i : ℕ) (node : Node) → IsNode setting clock i node → HasLanes left right i
+  pub supplied : AreSupplied setting sub clock past many filled held states left right
+
+-- what the nodes of a clock have begun or were filled, where its readers have begun so many instants more, and its crossfades through which
+-- cells pass were filled so many slots more
+abbrev pub begun_on : Setting → NodeClock → (through : ℕ → Bool) → (many : ℕ) → (filled : ℕ → ℕ) → ℕ → ℕ
+begun_on setting clock through many filled i = filled_on (lies_in setting clock i && (through i || reads_at setting i)) many (filled i)
+
+-- so many instants go on as the instant after these did, from these states on: the states stand for them too, and the nodes that give
+-- have left their samples
+pub record HasGoneOn (setting : Setting) (sub : ℕ → ℕ → List Slot) (clock : NodeClock) (past : List Moment) (many : ℕ) (filled : ℕ → ℕ)
+    (old : List NodeState) (left right : Lanes) (states : List NodeState) : Type 0 where
+  pub stands : ClockStands setting sub clock (going_on setting sub clock (suc many) past)
+      (begun_on setting clock (goes_through (moment_after setting sub clock past) old) many filled) states
+  pub lanes : (i : ℕ) → gives (moment_after setting sub clock past) i ≡ true
+      → IsLane (λ j. lane setting sub clock past (suc j) i) many (samples_of left i many) (samples_of right i many)
+
+-- a stretch of so many instants behind the one after these, as node i sees it before its run: what it and the nodes before it gave, and
+-- the samples of those that give; `held` is what all nodes gave
+pub record NodeGivesOn (setting : Setting) (sub : ℕ → ℕ → List Slot) (clock : NodeClock) (past : List Moment) (many filled i : ℕ) (node : Node)
+    (held parts : List Part) (left right : Lanes) (state : NodeState) : Type 0 where
+  pub long : AreLong sub
+  pub stretch : IsStretch setting sub clock past (suc many)
+  pub is : IsNode setting clock i node
+  pub laned : HasLanes left right i
+  pub given : (k : ℕ) → k ≤ i → part_at parts k ≡ given_part (moment_after setting sub clock past) k
+  pub begun : reads (work_at setting i node) ≡ true → filled ≡ suc (length past)
+  pub stands : StateStands setting sub (moment_after setting sub clock past ∷ past) filled i (work_at setting i node) state
+  pub lanes : (k : ℕ) → k < i → gives (moment_after setting sub clock past) k ≡ true
+      → IsLane (λ j. lane setting sub clock past (suc j) k) many (samples_of left k many) (samples_of right k many)
+  pub supplied : gives (moment_after setting sub clock past) i ≡ true → passes state ≡ true
+      → LaneFills (sub i) filled many (title_of (part_at held (crossfaded setting.plan.nodes i)).slot) (samples_of left (crossfaded setting.plan.nodes i) many) (samples_of right (crossfaded setting.plan.nodes i) many)
+
+-- and behind it
+pub record NodeHasGone (setting : Setting) (sub : ℕ → ℕ → List Slot) (clock : NodeClock) (past : List Moment) (many filled i : ℕ) (node : Node)
+    (old : NodeState) (left right : Lanes) (state : NodeState) : Type 0 where
+  pub stands : StateStands setting sub (going_on setting sub clock (suc many) past)
+      (filled_on ((gives (moment_after setting sub clock past) i && passes old) || reads (work_at setting i node)) many filled) i (work_at setting i node) state
+  pub lane_is : gives (moment_after setting sub clock past) i ≡ true
+      → IsLane (λ j. lane setting sub clock past (suc j) i) many (samples_of left i many) (samples_of right i many)
+
+-- the same of a node that gave, whose samples are these
+pub record NodeHasMade (setting : Setting) (sub : ℕ → ℕ → List Slot) (clock : NodeClock) (past : List Moment) (many filled i : ℕ) (node : Node)
+    (old : NodeState) (left right : List ℤ) (state : NodeState) : Type 0 where
+  pub gave : gives (moment_after setting sub clock past) i ≡ true
+  pub stands : StateStands setting sub (going_on setting sub clock (suc many) past) (filled_on (passes old || reads (work_at setting i node)) many filled) i (work_at setting i node) state
+  pub lane_is : IsLane (λ j. lane setting sub clock past (suc j) i) many left right
+
+-- so many instants are made at once: one at least, and no more than a run has
+pub record AreAtOnce (many : ℕ) : Type 0 where
+  pub some : 0 < many
+  pub short : many ≤ 1024
+
+-- node i has the samples that it had
+pub record HasKeptSamples (left_old right_old left right : Lanes) (many i : ℕ) : Type 0 where
+  pub on_left : samples_of left i many ≡ samples_of left_old i many
+  pub on_right : samples_of right i many ≡ samples_of right_old i many
+
+-- what was held of so many nodes, no part of any, their lanes, and spare ones
+pub record HasRoomToRun (nodes : ℕ) (held parts : List Part) (left right : Lanes) (spare : Spare) : Type 0 where
+  pub in_held : length held ≡ nodes
+  pub in_parts : length parts ≡ nodes
+  pub clear : (j : ℕ) → part_at parts j ≡ silent
+  pub in_left : length left ≡ nodes
+  pub in_right : length right ≡ nodes
+  pub in_spare : IsSpare spare
+
+-- the nodes of a clock have made so many instants that go on as its latest one, whatever instants the states stood for
+pub record NodesRun (shape : Shape) (clock : NodeClock) (many : ℕ) (held : List Part) (old : List NodeState) (left_old right_old left right : Lanes)
+    (states : List NodeState) : Type 0 where
+  pub run : (other : Setting) (sub : ℕ → ℕ → List Slot) (past : List Moment) (filled : ℕ → ℕ) →
+      let setting = setting_over shape other in
+      IsGoing setting sub clock past many filled held old left_old right_old → HasGoneOn setting sub clock past many filled old left right states
+
+-- node i has made them, whatever instants its state stood for
+pub record NodeRun (shape : Shape) (i many : ℕ) (held parts : List Part) (old : NodeState) (left_old right_old left right : Lanes)
+    (state : NodeState) : Type 0 where
+  pub run : (other : Setting) (sub : ℕ → ℕ → List Slot) (clock : NodeClock) (past : List Moment) (filled : ℕ) (node : Node) →
+      let setting = setting_over shape other in
+      NodeGivesOn setting sub clock past many filled i node held parts left_old right_old old
+      → NodeHasGone setting sub clock past many filled i node old left right state
+
+-- node i, which gave, has made these samples of them
+pub record NodeMade (shape : Shape) (i many : ℕ) (held parts : List Part) (old : NodeState) (left_old right_old : Lanes) (left right : List ℤ)
+    (state : NodeState) : Type 0 where
+  pub made : (other : Setting) (sub : ℕ → ℕ → List Slot) (clock : NodeClock) (past : List Moment) (filled : ℕ) (node : Node) →
+      let setting = setting_over shape other in
+      NodeGivesOn setting sub clock past many filled i node held parts left_old right_old old
+      → NodeHasMade setting sub clock past many filled i node old left right state

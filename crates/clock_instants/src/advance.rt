@@ -1,0 +1,45 @@
+// The states of a clock's nodes go on by an instant.
+ghost use Rattle.std.specs.Prelude.{◌≡◌, ℕ, List, ◌∷◌, false, length, slice_get, slice_index_or};
+ghost use Rattle.clock_infer.specs.declared.clock_map.NodeClock.TheVariants.{Main as InMain};
+ghost use Rattle.frame_core.specs.Slots.{Slot as TheSlot};
+ghost use Rattle.stream_meaning.specs.Instants.{Setting, Moment, parts_upto, same_clock};
+ghost use Rattle.node_states.specs.States.{AreLong};
+ghost use Rattle.clock_instants.specs.Nodes.{AreNodesOf};
+ghost use Rattle.clock_instants.specs.Shapes.{AllFitOver, IsShape, setting_over};
+ghost use Rattle.clock_instants.specs.States.{AreSettled, ClockStands};
+
+use crate::{ClockNodes, Shape};
+use clock_infer::NodeClock;
+use node_states::NodeState;
+use stream_meaning::Part;
+
+/// Takes the nodes of a clock on by an instant at which they did this and these were demanded.
+pub fn advance_all(
+    shape: &Shape<'_>,
+    nodes: &ClockNodes,
+    clock: NodeClock,
+    parts: &[Part],
+    marks: &[bool],
+    states: &mut [NodeState],
+)
+    requires shape { IsShape shape.now }
+    requires chains { AreNodesOf shape.now.clocks.now nodes.now }
+    requires in_parts { length parts.now ≡ length shape.now.plan.now.nodes }
+    requires in_marks { length marks.now ≡ length shape.now.plan.now.nodes }
+    requires fit { AllFitOver shape.now states.old }
+    ensures fit { AllFitOver shape.now states.new }
+    ensures others { (i : ℕ) → same_clock (slice_index_or shape.now.clocks.now i (InMain 0)) clock ≡ false → slice_get states.new i ≡ slice_get states.old i }
+    ensures stand { (setting : Setting) (sub : ℕ → ℕ → List TheSlot) (past : List Moment) (moment : Moment) (filled : ℕ → ℕ) →
+        let setting = setting_over shape.now setting in
+        AreLong sub → ClockStands setting sub clock past filled states.old → AreSettled setting sub clock past filled
+        → parts.now ≡ parts_upto setting sub clock past (length shape.now.plan.now.nodes)
+        → moment.parts ≡ parts.now → moment.demands ≡ marks.now
+        → ClockStands setting sub clock (moment ∷ past) filled states.new }
+{
+    let mut i = nodes.first(clock);
+    while i < shape.clocks.len() {
+        let children = shape.plan.nodes.as_slice()[i].children.len();
+        states[i].next(parts[i], marks[i], shape.library, children);
+        i = nodes.after(i);
+    }
+}

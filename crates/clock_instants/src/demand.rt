@@ -1,0 +1,128 @@
+// Which nodes are demanded at an instant.
+ghost use Rattle.std.specs.Prelude.{◌≡◌, ◌<◌, ◌||◌, ℕ, List, Option, None, All, nat_eq, length, false, slice_index_or};
+ghost use Rattle.std.specs.List.{list_any};
+ghost use Rattle.liq_base.specs.declared.memory.Kind.{Kind as TheKind};
+ghost use Rattle.clock_infer.specs.declared.clock_map.NodeClock.{NodeClock as Clock};
+ghost use Rattle.frame_core.specs.Library.{Sounds};
+ghost use Rattle.stream_meaning.specs.Operators.{work_of};
+ghost use Rattle.stream_meaning.specs.Instants.{Setting, child_at, demands_from, offering, part_at, silent, uses_by, uses_from};
+ghost use Rattle.clock_instants.specs.Demands.{PicksOffer, uses_in};
+ghost use Rattle.clock_instants.specs.Nodes.{AreNodesOf, lies_at};
+ghost use Rattle.clock_instants.specs.Shapes.{IsShape};
+ghost use Rattle.clock_instants.specs.States.{over};
+
+use crate::{ClockNodes, Shape};
+use clock_infer::NodeClock;
+use plan_core::Op;
+use stream_meaning::Part;
+
+// Which children a demanded node uses.
+#[derive(Clone, Copy, Debug, PartialEq, Eq)]
+pub enum Demand {
+    Nothing,
+    Picked,
+    Offering,
+}
+
+/// Finds the demanded nodes of a clock, over marks that are set at those that are demanded of themselves. Nodes of other
+/// clocks do nothing and stay unmarked.
+pub fn find_demanded(
+    shape: &Shape<'_>,
+    nodes: &ClockNodes,
+    clock: NodeClock,
+    parts: &[Part],
+    marks: &mut [bool],
+)
+    requires shape { IsShape shape.now }
+    requires chains { AreNodesOf shape.now.clocks.now nodes.now }
+    requires in_parts { length parts.now ≡ length shape.now.plan.now.nodes }
+    requires in_marks { length marks.old ≡ length shape.now.plan.now.nodes }
+    requires parts { (j : ℕ) → lies_at shape.now.clocks.now clock j ≡ false → part_at parts.now j ≡ silent }
+    requires marks { (j : ℕ) → lies_at shape.now.clocks.now clock j ≡ false → slice_index_or marks.old j false ≡ false }
+    ensures others { (j : ℕ) → lies_at shape.now.clocks.now clock j ≡ false → slice_index_or marks.new j false ≡ false }
+    ensures demands { (library : Sounds) (clocks : List Clock) (setting : Setting) → PicksOffer shape.now.plan.now.nodes parts.now
+        → marks.new ≡ demands_from (λ j. slice_index_or marks.old j false) 0 (uses_from (over shape.now.plan.now library clocks setting) parts.now 0 shape.now.plan.now.nodes) }
+{
+    let all = shape.plan.nodes.as_slice();
+    let mut i = nodes.end(clock);
+    while i > 0 {
+        let at = i - 1;
+        i = nodes.before(at);
+        if marks[at] {
+            let node = &all[at];
+            demand_used(
+                demand_of(&node.op),
+                node.children.as_slice(),
+                parts,
+                parts[at].pick,
+                &mut marks[..at],
+            );
+        }
+    }
+}
+
+// Which children a demanded node of this operator uses.
+fn demand_of(op: &Op) -> Demand
+    ensures { (rate i : ℕ) (kind : TheKind) (parts : List Part) (children : List ℕ) (pick : Option ℕ)
+        → offering parts (child_at children pick) ≡ child_at children pick
+        → uses_by parts (work_of rate i kind op.now) children pick ≡ uses_in result parts children pick }
+{
+    match op {
+        Op::Single(_) | Op::Playlist { .. } | Op::Blank { .. } | Op::Square { .. } | Op::Fail =>
+            Demand::Nothing,
+        Op::Fallback { .. } | Op::Switch { .. } | Op::Sequence => Demand::Picked,
+        Op::Rotate | Op::Random { .. } => Demand::Picked,
+        Op::Add { .. } | Op::Amplify { .. } | Op::Mean | Op::Stereo | Op::Clock(_) =>
+            Demand::Offering,
+        Op::Crossfade { .. } | Op::Buffer(_) => Demand::Nothing,
+    }
+}
+
+// Marks the child at a place, if it offers.
+fn demand_picked(children: &[u32], parts: &[Part], pick: Option<u32>, marks: &mut [bool])
+    requires in_marks { All (λ child. child < length marks.old) children.now }
+    requires in_parts { All (λ child. child < length parts.now) children.now }
+    ensures { (j : ℕ) → slice_index_or marks.new j false ≡ (slice_index_or marks.old j false || list_any (nat_eq j) (uses_in Demand.Picked parts.now children.now pick)) }
+{
+    let Some(place) = pick else {
+        return;
+    };
+    let Some(child) = children.get(place as usize) else {
+        return;
+    };
+    if parts[*child as usize].slot.is_some() {
+        marks[*child as usize] = true;
+    }
+}
+
+// Marks the children that offer.
+fn demand_offering(children: &[u32], parts: &[Part], marks: &mut [bool])
+    requires in_marks { All (λ child. child < length marks.old) children.now }
+    requires in_parts { All (λ child. child < length parts.now) children.now }
+    ensures { (j : ℕ) → slice_index_or marks.new j false ≡ (slice_index_or marks.old j false || list_any (nat_eq j) (uses_in Demand.Offering parts.now children.now None)) }
+{
+    for child in children {
+        if parts[*child as usize].slot.is_some() {
+            marks[*child as usize] = true;
+        }
+    }
+}
+
+// Marks the children that a demanded node uses.
+fn demand_used(
+    demand: Demand,
+    children: &[u32],
+    parts: &[Part],
+    pick: Option<u32>,
+    marks: &mut [bool],
+)
+    requires in_marks { All (λ child. child < length marks.old) children.now }
+    requires in_parts { All (λ child. child < length parts.now) children.now }
+    ensures { (j : ℕ) → slice_index_or marks.new j false ≡ (slice_index_or marks.old j false || list_any (nat_eq j) (uses_in demand parts.now children.now pick)) }
+{
+    match demand {
+        Demand::Nothing => {}
+        Demand::Picked => demand_picked(children, parts, pick, marks),
+        Demand::Offering => demand_offering(children, parts, marks),
+    }
+}

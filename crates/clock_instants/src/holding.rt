@@ -1,0 +1,47 @@
+// What the nodes of a clock gave at its latest instant.
+ghost use Rattle.std.specs.Prelude.{◌≡◌, ◌<◌, ℕ, true, false, length, slice_index_or};
+ghost use Rattle.stream_meaning.specs.Instants.{part_at};
+ghost use Rattle.clock_instants.specs.Held.{given_by};
+ghost use Rattle.clock_instants.specs.Nodes.{AreNodesOf, lies_at};
+
+use crate::{ClockNodes, Shape};
+use clock_infer::NodeClock;
+use node_states::gives;
+use stream_meaning::Part;
+
+/// Holds what the nodes of a clock gave at an instant at which they had these parts and marks.
+pub fn hold(
+    shape: &Shape<'_>,
+    nodes: &ClockNodes,
+    clock: NodeClock,
+    parts: &[Part],
+    marks: &[bool],
+    held: &mut [Part],
+)
+    requires chains { AreNodesOf shape.now.clocks.now nodes.now }
+    requires in_parts { length parts.now ≡ length shape.now.clocks.now }
+    requires in_marks { length marks.now ≡ length shape.now.clocks.now }
+    requires in_held { length held.old ≡ length shape.now.clocks.now }
+    ensures given { (i : ℕ) → i < length shape.now.clocks.now → lies_at shape.now.clocks.now clock i ≡ true
+        → part_at held.new i ≡ given_by (slice_index_or marks.now i false) (part_at parts.now i) }
+    ensures kept { (i : ℕ) → lies_at shape.now.clocks.now clock i ≡ false → part_at held.new i ≡ part_at held.old i }
+{
+    let mut i = nodes.first(clock);
+    while i < shape.clocks.len() {
+        held[i] = given(parts[i], marks[i]);
+        i = nodes.after(i);
+    }
+}
+
+// A part, where it was given.
+fn given(part: Part, marked: bool) -> Part
+    ensures { result ≡ given_by marked part }
+{
+    if gives(part, marked) {
+        return part;
+    }
+    Part {
+        slot: None,
+        pick: None,
+    }
+}

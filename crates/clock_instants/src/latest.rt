@@ -1,0 +1,94 @@
+// The latest instant of a clock: what its nodes did, and how the next one is made once its crossfades are settled.
+ghost use Rattle.std.specs.Prelude.{◌≡◌, ℕ, false, length, slice_get, slice_index_or};
+ghost use Rattle.stream_meaning.specs.Instants.{part_at, silent};
+ghost use Rattle.clock_instants.specs.Finishing.{InstantFinished};
+ghost use Rattle.clock_instants.specs.Nodes.{AreNodesOf, IsLatest, lies_at};
+ghost use Rattle.clock_instants.specs.Shapes.{AllFitOver, IsShape};
+ghost use Rattle.clock_instants.specs.States.{HasRoomFor};
+
+use crate::advance::advance_all;
+use crate::demand::find_demanded;
+use crate::holding::hold;
+use crate::offers::make_parts;
+use crate::roots::demand_roots;
+use crate::{ClockNodes, Shape};
+use clock_infer::NodeClock;
+use fixed_text::WeekSecond;
+use node_states::{Desk, NodeState};
+use stream_meaning::Part;
+
+/// The latest instant that was made: of which clock, what each node of the plan did, and who was demanded. Nodes of other
+/// clocks do nothing at it, and are not demanded.
+#[derive(Drop)]
+pub struct Latest {
+    pub clock: NodeClock,
+    pub parts: Vec<Part>,
+    pub marks: Vec<bool>,
+}
+
+impl Latest {
+    /// One instant of a clock, at a second of the week: it becomes the latest one, what each node does and who is demanded, and
+    /// the states of the clock's nodes go on, and what they gave is held. `own` tells of each node whether its own clock demands it of
+    /// itself, and `desk` has room for the children of a node. Nodes of other clocks are not looked at, but for those of the clock whose instant was
+    /// the latest one before. Whatever instants the states stood for, they stand for one more.
+    pub fn finish_instant(
+        &mut self,
+        shape: &Shape<'_>,
+        nodes: &ClockNodes,
+        clock: NodeClock,
+        at: WeekSecond,
+        own: &[bool],
+        states: &mut [NodeState],
+        held: &mut [Part],
+        desk: &mut Desk,
+    )
+        requires shape { IsShape shape.now }
+        requires chains { AreNodesOf shape.now.clocks.now nodes.now }
+        requires in_own { length own.now ≡ length shape.now.plan.now.nodes }
+        requires latest { IsLatest shape.now.clocks.now self.old }
+        requires fit { AllFitOver shape.now states.old }
+        requires room { HasRoomFor shape.now.plan.now desk.old }
+        requires in_held { length held.old ≡ length shape.now.plan.now.nodes }
+        ensures room { desk.new ≡ desk.old }
+        ensures latest { IsLatest shape.now.clocks.now self.new }
+        ensures fit { AllFitOver shape.now states.new }
+        ensures others { (i : ℕ) → lies_at shape.now.clocks.now clock i ≡ false → slice_get states.new i ≡ slice_get states.old i }
+        ensures kept { (i : ℕ) → lies_at shape.now.clocks.now clock i ≡ false → part_at held.new i ≡ part_at held.old i }
+        ensures finished { InstantFinished shape.now own.now clock at.second states.old states.new self.new.parts.items held.new }
+    {
+        clear(shape, nodes, self.clock, &mut self.parts, &mut self.marks);
+        self.clock = clock;
+        make_parts(shape, nodes, clock, states, at, &mut self.parts, desk);
+        demand_roots(shape, nodes, clock, own, &mut self.marks);
+        find_demanded(shape, nodes, clock, &self.parts, &mut self.marks);
+        hold(shape, nodes, clock, &self.parts, &self.marks, held);
+        advance_all(shape, nodes, clock, &self.parts, &self.marks, states);
+    }
+}
+
+// Takes back what the nodes of a clock did, where no other node did anything.
+fn clear(
+    shape: &Shape<'_>,
+    nodes: &ClockNodes,
+    clock: NodeClock,
+    parts: &mut [Part],
+    marks: &mut [bool],
+)
+    requires chains { AreNodesOf shape.now.clocks.now nodes.now }
+    requires in_parts { length parts.old ≡ length shape.now.clocks.now }
+    requires in_marks { length marks.old ≡ length shape.now.clocks.now }
+    requires parts { (j : ℕ) → lies_at shape.now.clocks.now clock j ≡ false → part_at parts.old j ≡ silent }
+    requires marks { (j : ℕ) → lies_at shape.now.clocks.now clock j ≡ false → slice_index_or marks.old j false ≡ false }
+    ensures parts { (j : ℕ) → part_at parts.new j ≡ silent }
+    ensures marks { (j : ℕ) → slice_index_or marks.new j false ≡ false }
+{
+    let mut i = nodes.first(clock);
+    while i < shape.clocks.len() {
+        parts[i] = Part {
+            slot: None,
+            pick: None,
+        };
+        marks[i] = false;
+        i = nodes.after(i);
+    }
+}

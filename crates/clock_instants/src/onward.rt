@@ -1,0 +1,227 @@
+// Instants that go on as the latest one of a clock did, made at once.
+ghost use Rattle.std.specs.Prelude.{◌≡◌, ◌<◌, ◌≤◌, is_some, ℕ, true, false, Some, length, slice_get, take};
+ghost use Rattle.plan_core.specs.declared.node.Node.{Node as PlanNode};
+ghost use Rattle.stream_meaning.specs.Instants.{part_at, silent};
+ghost use Rattle.op_mix.specs.Stretches.{HasLane, samples_of};
+ghost use Rattle.node_states.specs.Stretches.{LiesAhead};
+ghost use Rattle.node_states.specs.States.{Fits};
+ghost use Rattle.clock_instants.specs.Nodes.{AreNodesOf, lies_at};
+ghost use Rattle.clock_instants.specs.Stretches.{AllLieAheadOver, AreAtOnce, HasKeptSamples, HasLanes, HasRoomToRun, HasStretchRoom, IsSpare, NodeMade, NodeRun, NodesRun};
+ghost use Rattle.clock_instants.specs.Shapes.{AllFitOver, IsShape};
+
+use crate::held::title_below;
+use crate::{ClockNodes, Runs, Shape, Spare};
+use clock_infer::NodeClock;
+use node_states::{NodeState, gives};
+use op_mix::{Before, MAX_STRETCH, Sums};
+use std::mem;
+use stream_meaning::Part;
+
+/// Makes so many instants of a clock that go on as its latest one did. The sub-clocks of its crossfades through which cells pass
+/// have gone on by as many already, and left the samples of the crossfades' children in `runs`. The states of the clock's nodes
+/// go on, and each that gives leaves its samples there.
+pub fn run_nodes(
+    shape: &Shape<'_>,
+    nodes: &ClockNodes,
+    clock: NodeClock,
+    states: &mut [NodeState],
+    runs: &mut Runs,
+    many: u32,
+)
+    requires shape { IsShape shape.now }
+    requires chains { AreNodesOf shape.now.clocks.now nodes.now }
+    requires room { HasStretchRoom (length shape.now.plan.now.nodes) runs.old }
+    requires some { 0 < many }
+    requires short { many ≤ 1024 }
+    requires fit { AllFitOver shape.now states.old }
+    requires ahead { AllLieAheadOver shape.now clock runs.old.held.items states.old many }
+    ensures fit { AllFitOver shape.now states.new }
+    ensures room { HasStretchRoom (length shape.now.plan.now.nodes) runs.new }
+    ensures held { runs.new.held ≡ runs.old.held }
+    ensures rests { runs.new.rests ≡ runs.old.rests }
+    ensures others { (i : ℕ) → lies_at shape.now.clocks.now clock i ≡ false → slice_get states.new i ≡ slice_get states.old i }
+    ensures left { (i : ℕ) → lies_at shape.now.clocks.now clock i ≡ false → samples_of runs.new.left.items i many ≡ samples_of runs.old.left.items i many }
+    ensures right { (i : ℕ) → lies_at shape.now.clocks.now clock i ≡ false → samples_of runs.new.right.items i many ≡ samples_of runs.old.right.items i many }
+    ensures laned { (i : ℕ) → HasLanes runs.old.left.items runs.old.right.items i → HasLanes runs.new.left.items runs.new.right.items i }
+    ensures run { NodesRun shape.now clock many runs.old.held.items states.old runs.old.left.items runs.old.right.items runs.new.left.items runs.new.right.items states.new }
+{
+    run_each(
+        shape,
+        nodes,
+        clock,
+        &runs.held,
+        &mut runs.parts,
+        states,
+        &mut runs.left,
+        &mut runs.right,
+        &mut runs.spare,
+        many,
+    );
+    forget(shape, nodes, clock, &mut runs.parts);
+}
+
+// The same, over the parts of no node, which become those of the clock's nodes.
+fn run_each(
+    shape: &Shape<'_>,
+    nodes: &ClockNodes,
+    clock: NodeClock,
+    held: &[Part],
+    parts: &mut [Part],
+    states: &mut [NodeState],
+    left: &mut [Vec<i16>],
+    right: &mut [Vec<i16>],
+    spare: &mut Spare,
+    many: u32,
+)
+    requires shape { IsShape shape.now }
+    requires chains { AreNodesOf shape.now.clocks.now nodes.now }
+    requires room { HasRoomToRun (length shape.now.plan.now.nodes) held.now parts.old left.old right.old spare.old }
+    requires many { AreAtOnce many }
+    requires fit { AllFitOver shape.now states.old }
+    requires ahead { AllLieAheadOver shape.now clock held.now states.old many }
+    ensures fit { AllFitOver shape.now states.new }
+    ensures outside { (j : ℕ) → lies_at shape.now.clocks.now clock j ≡ false → part_at parts.new j ≡ silent }
+    ensures others { (i : ℕ) → lies_at shape.now.clocks.now clock i ≡ false → slice_get states.new i ≡ slice_get states.old i }
+    ensures samples { (i : ℕ) → lies_at shape.now.clocks.now clock i ≡ false → HasKeptSamples left.old right.old left.new right.new many i }
+    ensures laned { (i : ℕ) → HasLanes left.old right.old i → HasLanes left.new right.new i }
+    ensures spare { IsSpare spare.new }
+    ensures run { NodesRun shape.now clock many held.now states.old left.old right.old left.new right.new states.new }
+{
+    let mut i = nodes.first(clock);
+    while i < shape.clocks.len() {
+        parts[i] = held[i];
+        run_node(
+            shape,
+            i,
+            held,
+            parts,
+            &mut states[i],
+            left,
+            right,
+            spare,
+            many as usize,
+        );
+        i = nodes.after(i);
+    }
+}
+
+// Makes so many instants more of node i, over what it and the nodes before it gave; `held` is what all nodes gave. Its samples are made in the
+// spare lanes, which are then exchanged with its own. A node without lanes is not of the clocks that the engine drives.
+fn run_node(
+    shape: &Shape<'_>,
+    i: usize,
+    held: &[Part],
+    parts: &[Part],
+    state: &mut NodeState,
+    left: &mut [Vec<i16>],
+    right: &mut [Vec<i16>],
+    spare: &mut Spare,
+    count: usize,
+)
+    requires shape { IsShape shape.now }
+    requires within { i < length shape.now.plan.now.nodes }
+    requires in_parts { length parts.now ≡ length shape.now.plan.now.nodes }
+    requires in_left { length left.old ≡ length shape.now.plan.now.nodes }
+    requires in_right { length right.old ≡ length shape.now.plan.now.nodes }
+    requires spare { IsSpare spare.old }
+    requires count { AreAtOnce count }
+    requires fits { (node : PlanNode) → slice_get shape.now.plan.now.nodes i ≡ Some node → Fits shape.now.library.now (length node.children) state.old }
+    requires ahead { is_some (part_at parts.now i).slot ≡ true → LiesAhead shape.now.library.now state.old count }
+    ensures fits { (node : PlanNode) → slice_get shape.now.plan.now.nodes i ≡ Some node → Fits shape.now.library.now (length node.children) state.new }
+    ensures samples { (k : ℕ) → (k ≡ i → ⊥) → HasKeptSamples left.old right.old left.new right.new count k }
+    ensures laned { (k : ℕ) → HasLanes left.old right.old k → HasLanes left.new right.new k }
+    ensures spare { IsSpare spare.new }
+    ensures run { NodeRun shape.now i count held.now parts.now state.old left.old right.old left.new right.new state.new }
+{
+    let part = parts[i];
+    if !gives(part, true) {
+        return;
+    }
+    if !has_lane(left, i) {
+        return;
+    }
+    if !has_lane(right, i) {
+        return;
+    }
+    make_samples(
+        shape,
+        i,
+        held,
+        parts,
+        state,
+        left,
+        right,
+        &mut spare.sums,
+        &mut spare.left,
+        &mut spare.right,
+        count,
+    );
+    mem::swap(&mut left[i], &mut spare.left);
+    mem::swap(&mut right[i], &mut spare.right);
+}
+
+// Makes so many instants more of node i, which gave: its samples are made at the front of `own_left` and `own_right`.
+fn make_samples(
+    shape: &Shape<'_>,
+    i: usize,
+    held: &[Part],
+    parts: &[Part],
+    state: &mut NodeState,
+    left: &[Vec<i16>],
+    right: &[Vec<i16>],
+    sums: &mut Sums,
+    own_left: &mut [i16],
+    own_right: &mut [i16],
+    count: usize,
+)
+    requires shape { IsShape shape.now }
+    requires within { i < length shape.now.plan.now.nodes }
+    requires in_parts { length parts.now ≡ length shape.now.plan.now.nodes }
+    requires own_left { 1024 ≤ length own_left.old }
+    requires own_right { 1024 ≤ length own_right.old }
+    requires count { AreAtOnce count }
+    requires fits { (node : PlanNode) → slice_get shape.now.plan.now.nodes i ≡ Some node → Fits shape.now.library.now (length node.children) state.old }
+    requires gave { is_some (part_at parts.now i).slot ≡ true }
+    requires ahead { LiesAhead shape.now.library.now state.old count }
+    ensures fits { (node : PlanNode) → slice_get shape.now.plan.now.nodes i ≡ Some node → Fits shape.now.library.now (length node.children) state.new }
+    ensures made { NodeMade shape.now i count held.now parts.now state.old left.now right.now (take count own_left.new) (take count own_right.new) state.new }
+{
+    let below = title_below(shape.plan.nodes.as_slice(), held, i);
+    let node = &shape.plan.nodes.as_slice()[i];
+    state.run(
+        node,
+        parts[i].pick,
+        &Before { parts, left, right },
+        below,
+        shape.library,
+        sums,
+        &mut own_left[..count],
+        &mut own_right[..count],
+    );
+}
+
+// Whether node i has a lane with room for any run.
+fn has_lane(lanes: &[Vec<i16>], i: usize) -> bool
+    requires within { i < length lanes.now }
+    ensures there { result ≡ true → HasLane lanes.now i }
+    ensures gone { result ≡ false → HasLane lanes.now i → ⊥ }
+{
+    lanes[i].len() >= MAX_STRETCH as usize
+}
+
+// Takes back the parts of a clock's nodes, where no other node has any.
+fn forget(shape: &Shape<'_>, nodes: &ClockNodes, clock: NodeClock, parts: &mut [Part])
+    requires chains { AreNodesOf shape.now.clocks.now nodes.now }
+    requires in_parts { length parts.old ≡ length shape.now.clocks.now }
+    requires outside { (j : ℕ) → lies_at shape.now.clocks.now clock j ≡ false → part_at parts.old j ≡ silent }
+    ensures { (j : ℕ) → part_at parts.new j ≡ silent }
+{
+    let mut i = nodes.first(clock);
+    while i < shape.clocks.len() {
+        parts[i] = Part {
+            slot: None,
+            pick: None,
+        };
+        i = nodes.after(i);
+    }
+}

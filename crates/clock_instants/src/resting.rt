@@ -1,0 +1,141 @@
+// How many instants go on as the latest one of a clock did.
+ghost use Rattle.std.specs.Prelude.{◌≡◌, ◌<◌, ◌≤◌, is_some, ℕ, true, Some, length, slice_get};
+ghost use Rattle.liq_base.specs.declared.memory.Kind.{Kind as TheKind};
+ghost use Rattle.plan_core.specs.declared.node.Node.{Node as PlanNode};
+ghost use Rattle.stream_meaning.specs.Operators.{Choice, Eligible, Every, Picks, Reads, work_of};
+ghost use Rattle.node_states.specs.Passing.{passes};
+ghost use Rattle.node_states.specs.Stretches.{LiesAhead};
+ghost use Rattle.node_states.specs.States.{Fits};
+ghost use Rattle.clock_instants.specs.Held.{AllPassOnOver};
+ghost use Rattle.clock_instants.specs.Nodes.{AreNodesOf};
+ghost use Rattle.clock_instants.specs.Resting.{NodeGoesOn, begins_at};
+ghost use Rattle.clock_instants.specs.Stretches.{AllLieAheadOver, ClockGoesOn};
+ghost use Rattle.clock_instants.specs.Shapes.{AllFitOver, IsShape};
+
+use crate::held::title_below;
+use crate::{ClockNodes, Shape};
+use clock_infer::NodeClock;
+use node_states::{NodeState, WeekTime};
+use plan_core::Op;
+use stream_meaning::Part;
+
+/// How many instants, at most so many and no more than a second has, go on as the latest one of a clock did, at which its
+/// nodes had these parts and gave what is held: they are a stretch with it. `time` is its time. A crossfade goes on for the items
+/// that it has ready, or where cells pass for as long as its sub-clock does, by `rests`.
+pub fn rest_of(
+    shape: &Shape<'_>,
+    nodes: &ClockNodes,
+    clock: NodeClock,
+    parts: &[Part],
+    held: &[Part],
+    states: &[NodeState],
+    rests: &[u32],
+    time: WeekTime,
+    most: u32,
+) -> u32
+    requires shape { IsShape shape.now }
+    requires rate { time.rate ≡ shape.now.plan.now.rate }
+    requires frame { time.frame ≡ shape.now.plan.now.frame }
+    requires chains { AreNodesOf shape.now.clocks.now nodes.now }
+    requires in_parts { length parts.now ≡ length shape.now.plan.now.nodes }
+    requires in_held { length held.now ≡ length shape.now.plan.now.nodes }
+    requires in_rests { length rests.now ≡ length shape.now.plan.now.nodes }
+    requires fit { AllFitOver shape.now states.now }
+    ensures within { result ≤ most }
+    ensures later { result ≤ time.rate }
+    ensures ahead { AllLieAheadOver shape.now clock held.now states.now result }
+    ensures through { AllPassOnOver shape.now clock held.now states.now rests.now result }
+    ensures goes { ClockGoesOn shape.now clock time parts.now held.now states.now rests.now result }
+{
+    let second = time.second_left();
+    let tick = time.tick_left();
+    let mut rest = most.min(time.rate);
+    let mut i = nodes.first(clock);
+    while i < shape.clocks.len() {
+        let below_title = title_below(shape.plan.nodes.as_slice(), held, i);
+        rest = node_rest(
+            shape,
+            parts,
+            held[i],
+            &states[i],
+            i,
+            rests[i],
+            below_title,
+            second,
+            tick,
+            rest,
+        );
+        i = nodes.after(i);
+    }
+    rest
+}
+
+// How many of these instants node i goes on, which has this state and gave this; and its sub-clock goes on for so many, under the title
+// `below_title`.
+fn node_rest(
+    shape: &Shape<'_>,
+    parts: &[Part],
+    held: Part,
+    state: &NodeState,
+    i: usize,
+    below: u32,
+    below_title: u32,
+    second: u32,
+    tick: u32,
+    most: u32,
+) -> u32
+    requires shape { IsShape shape.now }
+    requires in_parts { length parts.now ≡ length shape.now.plan.now.nodes }
+    requires within { i < length shape.now.plan.now.nodes }
+    requires fits { (node : PlanNode) → slice_get shape.now.plan.now.nodes i ≡ Some node → Fits shape.now.library.now (length node.children) state.now }
+    ensures within { result ≤ most }
+    ensures ahead { is_some held.slot ≡ true → LiesAhead shape.now.library.now state.now result }
+    ensures through { is_some held.slot ≡ true → passes state.now ≡ true → result ≤ below }
+    ensures goes { NodeGoesOn shape.now i parts.now held state.now below below_title second tick result }
+{
+    let node = &shape.plan.nodes.as_slice()[i];
+    let gave = held.slot.is_some();
+    let begins = begins(parts, node.children.as_slice(), state.last());
+    let bound = border(&node.op, second, tick, most).min(most);
+    state.rest(
+        parts[i],
+        gave,
+        begins,
+        shape.library,
+        below,
+        below_title,
+        bound,
+    )
+}
+
+// How many instants behind this one a node goes on without a new second or a new tick, where it has to do with one.
+fn border(op: &Op, second: u32, tick: u32, most: u32) -> u32
+    ensures second { (rate i : ℕ) (kind : TheKind) (choice : Choice) (eligible : Eligible) → work_of rate i kind op.now ≡ Picks choice eligible
+        → (eligible ≡ Every → ⊥) → result ≡ second }
+    ensures tick { (rate i buffer : ℕ) (kind : TheKind) → work_of rate i kind op.now ≡ Reads buffer → result ≡ tick }
+{
+    match op {
+        Op::Switch { .. } => second,
+        Op::Buffer(_) => tick,
+        _ => most,
+    }
+}
+
+// Whether the child at a place begins a track.
+fn begins(parts: &[Part], children: &[u32], place: Option<u32>) -> bool
+    ensures { result ≡ begins_at parts.now children.now place }
+{
+    let Some(place) = place else {
+        return false;
+    };
+    let Some(child) = children.get(place as usize) else {
+        return false;
+    };
+    let Some(part) = parts.get(*child as usize) else {
+        return false;
+    };
+    match part.slot {
+        Some(cell) => cell.first,
+        None => false,
+    }
+}

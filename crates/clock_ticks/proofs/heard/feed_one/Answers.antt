@@ -1,0 +1,31 @@
+use Rattle.std.proofs.Common.{◌≡◌, ◌<◌, ◌≤◌, ◌+◌, ◌^◌, ◌∙◌, suc, length, ap, subst, sym}
+use Rattle.clock_outputs.specs.Feeds.{with_slots_from}
+use Rattle.stream_meaning.specs.Instants.{part_at}
+use Rattle.clock_outputs.specs.Segments.{segment_slots}
+use Rattle.op_mix.specs.Stretches.{samples_of}
+use Rattle.clock_ticks.proofs.heard.feed_one.Goals as goal
+
+pub hear-requires-clause-same : goal.hear-requires-clause-same
+hear-requires-clause-same c = c.right_of.ensures.long ∙ sym c.left_of.ensures.long
+
+pub hear-requires-clause-there : goal.hear-requires-clause-there
+hear-requires-clause-there c =
+    let long : length c.left_of.result.now ≡ c.args.many = c.left_of.ensures.long in
+    subst (λ n. c.args.at + suc n ≤ length c.args.feed.now.frame) (sym long) c.requires.there
+
+pub hear-requires-clause-fits : goal.hear-requires-clause-fits
+hear-requires-clause-fits c =
+    let long : length c.left_of.result.now ≡ c.args.many = c.left_of.ensures.long in
+    subst (λ n. c.args.at + suc n < 2 ^ 32) (sym long) c.requires.fits
+
+pub returns : goal.returns
+returns c =
+    let runs = c.args.lanes.now.runs in
+    let long : length c.left_of.result.now ≡ c.args.many = c.left_of.ensures.long in
+    let feed = c.args.feed.now in
+    let slot = c.slot_of-slot.ensures ∙ ap (λ ps. (part_at ps feed.node).slot) c.deref.ensures.value in
+    c.hear.ensures
+    ∙ ap (λ n. with_slots_from c.args.at (segment_slots c.slot_of-slot.result n c.left_of.result.now c.right_of.result.now) feed) long
+    ∙ ap (λ s. with_slots_from c.args.at (segment_slots s c.args.many c.left_of.result.now c.right_of.result.now) feed) slot
+    ∙ ap (λ xs. with_slots_from c.args.at (segment_slots (part_at c.args.lanes.now.latest.parts.items feed.node).slot c.args.many xs c.right_of.result.now) feed) c.left_of.ensures.is
+    ∙ ap (λ xs. with_slots_from c.args.at (segment_slots (part_at c.args.lanes.now.latest.parts.items feed.node).slot c.args.many (samples_of runs.left.items feed.node c.args.many) xs) feed) c.right_of.ensures.is

@@ -1,0 +1,149 @@
+-- What the outputs and feeds of a clock hear in a tick.
+use Rattle.std.specs.Prelude.{◌≡◌, ◌<◌, ◌^◌, ℕ, suc, ◌+◌, All, Bool, true, false, Some, List, ◌++◌, drop, length, map, slice_get, slice_index_or}
+use Rattle.std.specs.List.{range_with_len}
+use Rattle.plan_core.specs.declared.plan.Plan.{Plan}
+use Rattle.clock_infer.specs.declared.clock_map.NodeClock.{NodeClock}
+use Rattle.frame_core.specs.Slots.{Slot}
+use Rattle.frame_core.specs.Library.{Sounds}
+use Rattle.frame_core.specs.Calls.{Adds, Call, Answer}
+use Rattle.stream_meaning.specs.Instants.{Setting, IsMeaning, first_instants, moment_after, offer, part_at}
+use Rattle.stream_meaning.specs.Calls.{GoDown, HasAnswers, IsBegin, after_calls, calls_of, joined_upto}
+use Rattle.clock_outputs.specs.declared.port.Port.{Port}
+use Rattle.clock_outputs.specs.declared.feed.FeedPort.{FeedPort}
+use Rattle.clock_outputs.specs.Ports.{AllHaveRoomLeft, after_slots, emptied}
+use Rattle.clock_outputs.specs.Segments.{segment_slots}
+use Rattle.clock_instants.specs.declared.shape.Shape.{Shape}
+use Rattle.clock_instants.specs.States.{over}
+use Rattle.clock_instants.specs.Takes.{HasOwnReaders}
+use Rattle.op_mix.specs.Stretches.{samples_of}
+use Rattle.nested_instants.specs.Clocks.{AreOwnRoots}
+use Rattle.nested_instants.specs.declared.clock_states.ClockStates.{ClockStates}
+use Rattle.clock_ticks.specs.declared.clock_state.ClockState.{ClockState}
+use Rattle.clock_ticks.specs.declared.cues.CueList.{CueList}
+use Rattle.clock_ticks.specs.declared.cues.Cues.{Cues}
+use Rattle.clock_ticks.specs.Cues.{HasMarked, HasMarkedSome, marks_if}
+use Rattle.clock_ticks.specs.Standing.{ClockStateStands}
+
+-- what holds of a setting, whatever its answers are
+pub record IsMeant (setting : Setting) (sub : ℕ → ℕ → List Slot) (own : List Bool) : Type 0 where
+  pub meaning : IsMeaning setting sub
+  pub down : GoDown setting sub
+  pub readers : HasOwnReaders setting
+  pub roots : AreOwnRoots setting own
+
+-- the slot of node i at instant n of a clock
+abbrev pub slot_in : Setting → (sub : ℕ → ℕ → List Slot) → NodeClock → (i n : ℕ) → Slot
+slot_in setting sub clock i n = offer (moment_after setting sub clock (first_instants setting sub clock n)) i
+
+-- the calls of so many instants from n on
+abbrev pub calls_from : Setting → (sub : ℕ → ℕ → List Slot) → NodeClock → (n count : ℕ) → List Call
+calls_from setting sub clock n count = joined_upto (λ j. calls_of setting sub clock (first_instants setting sub clock (n + j))) count
+
+-- the buffer and the node of a feed
+abbrev pub feed_key : FeedPort → ℕ × ℕ
+feed_key feed = (feed.buffer, feed.node)
+
+-- a feed whose node had these slots in the tick so far
+abbrev pub with_slots : FeedPort → List Slot → FeedPort
+with_slots feed slots = record { buffer = feed.buffer; node = feed.node; frame = slots ++ drop (length slots) feed.frame }
+
+-- what lanes stand for after so many instants more, where these were the calls, and the slots of the nodes that their own clock demands of
+-- itself
+pub record HasMadeInstants (setting : Setting) (sub : ℕ → ℕ → List Slot) (own : List Bool) (clock : NodeClock) (n count : ℕ) (slots : ℕ → List Slot) (front : ℕ → List Answer)
+    (more : List Call) (lanes : ClockState) : Type 0 where
+  pub lanes_stand : ClockStateStands setting sub clock (n + count) (after_calls front more) lanes
+  pub slots_are : (i : ℕ) → slice_index_or own i false ≡ true → slots i ≡ map (slot_in setting sub clock i) (range_with_len n count)
+  pub calls : more ≡ calls_from setting sub clock n count
+
+-- the lanes, the outputs, the feeds and the marks of a clock, the first instant of the tick, and its taps
+pub record Scene (T : Type 0) : Type 0 where
+  pub lanes : ClockState
+  pub ports : List Port
+  pub feeds : List FeedPort
+  pub cues : Cues
+  pub start : ℕ
+  pub taps : T
+
+-- such a scene
+abbrev pub scene : {T : Type 0} → ClockState → List Port → List FeedPort → Cues → (start : ℕ) → T → Scene T
+scene lanes ports feeds cues start taps = record { lanes = lanes; ports = ports; feeds = feeds; cues = cues; start = start; taps = taps }
+
+-- the outputs and feeds of a clock have room for a tick that begins at this instant, are of nodes of the plan, and each output has its marks
+pub record CanHear (shape : Shape) (ports : List Port) (feeds : List FeedPort) (cues : Cues) (start : ℕ) : Type 0 where
+  pub heard : All (λ port. port.node < length shape.plan.now.nodes) ports
+  pub fed : All (λ feed. feed.node < length shape.plan.now.nodes) feeds
+  pub room : AllHaveRoomLeft shape.plan.now.frame (map emptied ports)
+  pub frames : All (λ feed. length feed.frame ≡ shape.plan.now.frame) feeds
+  pub marks : length cues.lists.items ≡ length ports
+  pub late : start + shape.plan.now.frame < 2 ^ 64
+
+-- so many instants of a tick were made, by these calls, and the outputs, feeds and marks have heard the slots of their nodes; whatever instants the
+-- lanes stood for, these are the next ones
+pub record Heard {T : Type 0} (stands : T → List Call → Type 0) (plan : Plan) (library : Sounds) (clocks : List NodeClock) (clock : NodeClock) (own : List Bool) (count : ℕ)
+    (before after : Scene T) : Type 0 where
+  pub slots : ℕ → List Slot
+  pub long : (i : ℕ) → length (slots i) ≡ count
+  pub ports_are : after.ports ≡ map (λ port. after_slots (emptied port) (slots port.node)) before.ports
+  pub feeds_are : after.feeds ≡ map (λ feed. with_slots feed (slots feed.node)) before.feeds
+  pub keeping : after.cues.keeping ≡ before.cues.keeping
+  pub lists : length after.cues.lists.items ≡ length before.cues.lists.items
+  pub cues_are : (k : ℕ) (port : Port) (old new : CueList) → slice_get before.ports k ≡ Some port → slice_get before.cues.lists.items k ≡ Some old
+      → slice_get after.cues.lists.items k ≡ Some new → HasMarked (marks_if before.cues.keeping before.start (slots port.node)) old new
+  pub more : List Call
+  pub taps : Adds stands before.taps after.taps more
+  pub run : (other : Setting) (sub : ℕ → ℕ → List Slot) (n : ℕ) (front : ℕ → List Answer) → IsMeant (over plan library clocks other) sub own
+      → HasAnswers (over plan library clocks other) (after_calls front more) → ClockStateStands (over plan library clocks other) sub clock n front before.lanes
+      → HasMadeInstants (over plan library clocks other) sub own clock n count slots front more after.lanes
+
+-- the same over a shape
+abbrev pub HeardOver : {T : Type 0} → (T → List Call → Type 0) → Shape → NodeClock → List Bool → (count : ℕ) → (before after : Scene T) → Type 0
+HeardOver stands shape clock own count before after = Heard stands shape.plan.now shape.library.now shape.clocks.now clock own count before after
+
+-- memory was refused within a tick of so many instants: these are its first calls
+pub record HeardSome {T : Type 0} (stands : T → List Call → Type 0) (plan : Plan) (library : Sounds) (clocks : List NodeClock) (clock : NodeClock) (own : List Bool) (total : ℕ)
+    (before after : Scene T) : Type 0 where
+  pub slots : ℕ → List Slot
+  pub ports_are : after.ports ≡ map (λ port. after_slots (emptied port) (slots port.node)) before.ports
+  pub keeping : after.cues.keeping ≡ before.cues.keeping
+  pub lists : length after.cues.lists.items ≡ length before.cues.lists.items
+  pub cues_are : (k : ℕ) (old new : CueList) → slice_get before.cues.lists.items k ≡ Some old → slice_get after.cues.lists.items k ≡ Some new → HasMarkedSome old new
+  pub made : List Call
+  pub taps : Adds stands before.taps after.taps made
+  pub begins : (other : Setting) (sub : ℕ → ℕ → List Slot) (n : ℕ) (front : ℕ → List Answer) → IsMeant (over plan library clocks other) sub own
+      → HasAnswers (over plan library clocks other) (after_calls front made) → ClockStateStands (over plan library clocks other) sub clock n front before.lanes
+      → IsBegin made (calls_from (over plan library clocks other) sub clock n total)
+
+-- the same over a shape
+abbrev pub HeardSomeOver : {T : Type 0} → (T → List Call → Type 0) → Shape → NodeClock → List Bool → (total : ℕ) → (before after : Scene T) → Type 0
+HeardSomeOver stands shape clock own total before after = HeardSome stands shape.plan.now shape.library.now shape.clocks.now clock own total before after
+
+-- the slots of node i in the latest segment, which had so many instants behind its first one
+abbrev pub segment_of : ClockStates → (many i : ℕ) → List Slot
+segment_of lanes many i =
+    segment_slots (part_at lanes.latest.parts.items i).slot many (samples_of lanes.runs.left.items i many) (samples_of lanes.runs.right.items i many)
+
+-- a segment was made: an instant, and so many that go on as it did
+pub record SegmentMade {T : Type 0} (stands : T → List Call → Type 0) (plan : Plan) (library : Sounds) (clocks : List NodeClock) (clock : NodeClock) (own : List Bool)
+    (many : ℕ) (old new : ClockState) (taps_old taps_new : T) : Type 0 where
+  pub more : List Call
+  pub taps : Adds stands taps_old taps_new more
+  pub run : (other : Setting) (sub : ℕ → ℕ → List Slot) (n : ℕ) (front : ℕ → List Answer) → IsMeant (over plan library clocks other) sub own
+      → HasAnswers (over plan library clocks other) (after_calls front more) → ClockStateStands (over plan library clocks other) sub clock n front old
+      → HasMadeInstants (over plan library clocks other) sub own clock n (suc many) (segment_of new.clocks many) front more new
+
+-- the same over a shape
+abbrev pub SegmentRunOver : {T : Type 0} → (T → List Call → Type 0) → Shape → NodeClock → List Bool → (many : ℕ) → (old new : ClockState) → (taps_old taps_new : T) → Type 0
+SegmentRunOver stands shape clock own many old new taps_old taps_new = SegmentMade stands shape.plan.now shape.library.now shape.clocks.now clock own many old new taps_old taps_new
+
+-- memory was refused in its first instant
+pub record SegmentBroken {T : Type 0} (stands : T → List Call → Type 0) (plan : Plan) (library : Sounds) (clocks : List NodeClock) (clock : NodeClock) (own : List Bool)
+    (old : ClockState) (taps_old taps_new : T) : Type 0 where
+  pub made : List Call
+  pub taps : Adds stands taps_old taps_new made
+  pub begins : (other : Setting) (sub : ℕ → ℕ → List Slot) (n : ℕ) (front : ℕ → List Answer) → IsMeant (over plan library clocks other) sub own
+      → HasAnswers (over plan library clocks other) (after_calls front made) → ClockStateStands (over plan library clocks other) sub clock n front old
+      → IsBegin made (calls_of (over plan library clocks other) sub clock (first_instants (over plan library clocks other) sub clock n))
+
+-- the same over a shape
+abbrev pub SegmentBrokenOver : {T : Type 0} → (T → List Call → Type 0) → Shape → NodeClock → List Bool → ClockState → (taps_old taps_new : T) → Type 0
+SegmentBrokenOver stands shape clock own old taps_old taps_new = SegmentBroken stands shape.plan.now shape.library.now shape.clocks.now clock own old taps_old taps_new

@@ -1,0 +1,7 @@
+pub mod Engines
+pub mod Ticks
+pub mod Beginnings
+pub mod Standing
+pub mod Hearings
+pub mod Cues
+pub mod Pieces

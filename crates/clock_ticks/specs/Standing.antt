@@ -1,0 +1,49 @@
+-- What changes from instant to instant, and what it stands for.
+use Rattle.std.specs.Prelude.{◌≡◌, ℕ, Bool, List, length}
+use Rattle.plan_core.specs.declared.plan.Plan.{Plan}
+use Rattle.clock_infer.specs.declared.clock_map.NodeClock.{NodeClock}
+use Rattle.clock_infer.specs.declared.clock_map.NodeClock.TheVariants.{Sub}
+use Rattle.frame_core.specs.Slots.{Slot}
+use Rattle.frame_core.specs.Library.{Sounds}
+use Rattle.frame_core.specs.Calls.{Answer}
+use Rattle.stream_meaning.specs.Instants.{Setting}
+use Rattle.node_states.specs.Times.{TimeStands}
+use Rattle.clock_instants.specs.declared.shape.Shape.{Shape}
+use Rattle.clock_instants.specs.Shapes.{IsShape}
+use Rattle.nested_instants.specs.Clocks.{AreClockStates, HasLevels, HasRanks, RanAsNeeded, Stand}
+use Rattle.clock_ticks.specs.declared.clock_state.ClockState.{ClockState}
+
+-- it is no sub-clock
+abbrev pub IsMain : NodeClock → Type 0
+IsMain clock = (k : ℕ) → clock ≡ Sub k → ⊥
+
+-- lanes for the nodes of this plan, with these files and these clocks of its nodes
+pub record IsClockState (plan : Plan) (library : Sounds) (clocks : List NodeClock) (lanes : ClockState) : Type 0 where
+  pub below : AreClockStates plan library clocks lanes.clocks
+  pub rate : lanes.time.rate ≡ plan.rate
+  pub frame : lanes.time.frame ≡ plan.frame
+
+-- the same over a shape
+abbrev pub IsClockStateOver : Shape → ClockState → Type 0
+IsClockStateOver shape lanes = IsClockState shape.plan.now shape.library.now shape.clocks.now lanes
+
+-- a clock can make instants: these are the lanes of the nodes, it is no sub-clock, sub-clocks nest no deeper than there are nodes, and each
+-- node has a mark for whether its own clock demands it of itself
+pub record CanMake (shape : Shape) (clock : NodeClock) (own : List Bool) (lanes : ClockState) : Type 0 where
+  pub shape_is : IsShape shape
+  pub in_own : length own ≡ length shape.plan.now.nodes
+  pub main : IsMain clock
+  pub levels : HasLevels shape.clocks.now clock (length shape.plan.now.nodes)
+  pub lanes_are : IsClockStateOver shape lanes
+
+-- they stand for the first n instants of a clock, and for as many of the sub-clocks below it as its crossfades asked for; all readers
+-- have taken these answers by them
+pub record ClockStateStands (setting : Setting) (sub : ℕ → ℕ → List Slot) (clock : NodeClock) (n : ℕ) (front : ℕ → List Answer) (lanes : ClockState) : Type 0 where
+  pub rank : NodeClock → ℕ
+  pub ran : NodeClock → ℕ
+  pub fed : ℕ → ℕ
+  pub ranks : HasRanks setting.clocks rank
+  pub made : ran clock ≡ n
+  pub stand : Stand setting sub rank (rank clock) ran fed front lanes.clocks
+  pub needed : RanAsNeeded setting sub rank (rank clock) ran fed
+  pub time : TimeStands setting.start n lanes.time

@@ -1,0 +1,408 @@
+// The engine of one clock.
+ghost use Rattle.clock_ticks.specs.declared.fault.TickFault.{TickFault as Fault};
+ghost use Rattle.clock_ticks.specs.declared.fault.TickFault.TheVariants.{Memory as OutOfMemory, Write};
+ghost use Rattle.frame_core.specs.Calls.{Call, Answer};
+ghost use Rattle.clock_outputs.specs.Feeds.{HaveGiven, HaveGivenSome};
+ghost use Rattle.std.specs.Prelude.{◌≡◌, ◌<◌, ◌+◌, ◌⊎◌, ℕ, Some, None, true, List, [], All, map, length, IfOk, OnOk, OnErr, IfErr};
+ghost use Rattle.plan_core.specs.Plans.{IsWellFormed};
+ghost use Rattle.clock_infer.specs.Answers.{IsClockMap};
+ghost use Rattle.frame_core.specs.Library.{IsLibrary};
+ghost use Rattle.clock_ticks.specs.Standing.{IsClockStateOver};
+ghost use Rattle.clock_ticks.specs.Hearings.{HeardOver, HeardSomeOver};
+ghost use Rattle.clock_infer.specs.declared.clock_map.NodeClock.TheVariants.{Main as InMain};
+ghost use Rattle.clock_ticks.specs.Engines.{AreClocksOf, AreParts, EngineStands, EngineStopped, IsWhole, after_tick, feed_of, outputs_of, scene_of, setting_of};
+ghost use Rattle.clock_outputs.specs.Appends.{AreKept, GotOnePiece, NoneFell};
+ghost use Rattle.stream_meaning.specs.Sinks.{cues, gaps, IsOutput};
+ghost use Rattle.clock_ticks.specs.Cues.{mark_of};
+ghost use Rattle.stream_meaning.specs.Instants.{with_rest};
+ghost use Rattle.clock_instants.specs.Takes.{HasReader};
+ghost use Rattle.clock_ticks.specs.Ticks.{GotSomePieces, HasEnds, HasFailed, HasMade, HaveTickRoom, HaveTicksRoom, IsWriteFault, RoomsFell};
+
+use crate::TickFault;
+use crate::clock_state::ClockState;
+use crate::cues::{CueMark, Cues, cues_of, whole_marks};
+use crate::outputs::{feeds_of, ports_of};
+use crate::parts::{most_children, own_roots, states_of, times_of};
+use crate::run::run_tick;
+use clock_infer::{ClockMap, NodeClock};
+use clock_instants::{ClockNodes, Latest, Runs, Shape};
+use clock_outputs::{FeedPort, Port, append_all, give_all};
+use fixed_text::WeekSecond;
+use frame_core::{Library, Taps};
+use liq_base::{Memory, Sink};
+use nested_instants::ClockStates;
+use node_states::{Desk, WeekTime};
+use plan_core::Plan;
+use std::alloc::Global;
+use std::marker::Model;
+use stream_meaning::Part;
+
+/// What an engine runs over and what changes from tick to tick, but for its sinks.
+#[derive(Drop)]
+pub struct EngineParts<'a> {
+    pub shape: Shape<'a>,
+
+    /// The number of its main clock.
+    pub clock: u32,
+    pub start: WeekSecond,
+
+    /// For each node, whether its own clock demands it of itself: the nodes of sinks, and the children of crossfades.
+    pub own: Vec<bool>,
+    pub state: ClockState,
+
+    /// The outputs of the clock, in sink order.
+    pub ports: Vec<Port>,
+
+    /// The feeds of the clock, in sink order.
+    pub feeds: Vec<FeedPort>,
+
+    /// The marks of the outputs.
+    pub cues: Cues,
+
+    /// How many ticks were made.
+    pub ticks: u64,
+    pub stopped: Option<TickFault>,
+}
+
+/// The engine of one main clock, with the sinks of its outputs, in sink order. Contracts see an `Engine`: its parts and the list
+/// of its sinks. Each one is whole: its parts fit together, and it has a sink for each output of the clock.
+pub struct ClockEngine<'a, O> {
+    parts: EngineParts<'a>,
+    outs: Vec<O>,
+}
+
+impl<'a, O> Model for ClockEngine<'a, O> {
+    ghost use Rattle.std.specs.Coded.{codes};
+    ghost use Rattle.time_pred.specs.Stored.{predicate_code};
+    ghost use Rattle.clock_ticks.specs.Engines.{Engine, IsWhole};
+
+    ghost Value = { Engine O };
+
+    ghost coded = { Prim.hlevel (codes, predicate_code) };
+
+    ghost view = { λ e. record { parts = e.parts; outs = e.outs.items } };
+
+    ghost invariant = { λ e. IsWhole (record { parts = e.parts; outs = e.outs.items }) };
+}
+
+// The parts of a new engine.
+fn make_parts<'a>(
+    alloc: Global,
+    shape: Shape<'a>,
+    clock: u32,
+    start: WeekSecond,
+) -> Result<EngineParts<'a>, Memory>
+    requires plan { IsWellFormed shape.plan.now }
+    requires in_clocks { length shape.clocks.now ≡ length shape.plan.now.nodes }
+    requires clocks { AreClocksOf shape.plan.now shape.clocks.now }
+    requires library { IsLibrary shape.library.now }
+    requires leaves { length shape.library.now.leaves ≡ length shape.plan.now.nodes }
+    ensures parts { IfOk result AreParts }
+    ensures setting { IfOk result (λ parts. setting_of parts ≡ record { plan = shape.entry.plan.now; library = shape.entry.library.now; clocks = shape.entry.clocks.now; start = start.second; answers = λ buffer. [] }) }
+    ensures clock { IfOk result (λ parts. parts.clock ≡ clock) }
+    ensures stands { IfOk result (λ parts. EngineStands parts 0 (λ buffer. [])) }
+{
+    let states = states_of(alloc, &shape, clock)?;
+    let silent = Part {
+        slot: None,
+        pick: None,
+    };
+    let time = WeekTime::new(start, shape.plan.rate, shape.plan.frame);
+    let times = times_of(alloc, time, states.len())?;
+    let silence = vec![in alloc; silent; states.len()]?;
+    let marks = vec![in alloc; false; states.len()]?;
+    let nodes = ClockNodes::new(alloc, shape.clocks)?;
+    let desk = Desk::new(alloc, most_children(shape.plan))?;
+    let runs = Runs::new(alloc, &states)?;
+    let own = own_roots(alloc, &shape)?;
+    let ports = ports_of(alloc, &shape, clock)?;
+    let feeds = feeds_of(alloc, &shape, clock)?;
+    let cues = cues_of(alloc, ports.len())?;
+    Ok(EngineParts {
+        shape,
+        clock,
+        start,
+        own,
+        state: ClockState {
+            clocks: ClockStates {
+                states,
+                times,
+                latest: Latest {
+                    clock: NodeClock::Main(clock),
+                    parts: silence,
+                    marks,
+                },
+                nodes,
+                desk,
+                runs,
+            },
+            time,
+            segments: 0,
+        },
+        ports,
+        feeds,
+        cues,
+        ticks: 0,
+        stopped: None,
+    })
+}
+
+// Makes the instants of a tick.
+fn run_parts<T: Taps>(parts: &mut EngineParts<'_>, taps: &mut T) -> Result<(), Memory>
+    requires parts { AreParts parts.old }
+    requires few { parts.old.ticks < 1000000000 }
+    requires buffers { T.buffers taps.old ≡ length parts.old.shape.plan.now.buffers }
+    ensures kept { parts.new ≡ after_tick parts.old parts.new parts.old.ticks parts.old.stopped }
+    ensures state { IsClockStateOver parts.old.shape parts.new.state }
+    ensures frames { All (λ feed. length feed.frame ≡ parts.old.shape.plan.now.frame) parts.new.feeds.items }
+    ensures feeds { map feed_of parts.new.feeds.items ≡ map feed_of parts.old.feeds.items }
+    ensures buffers { T.buffers taps.new ≡ T.buffers taps.old }
+    ensures same { T.same taps.old taps.new }
+    ensures heard { OnOk result (HeardOver T.stands parts.old.shape (InMain parts.old.clock) parts.old.own.items parts.old.shape.plan.now.frame
+        (scene_of parts.old taps.old) (scene_of parts.new taps.new)) }
+    ensures stopped { OnErr result (HeardSomeOver T.stands parts.old.shape (InMain parts.old.clock) parts.old.own.items parts.old.shape.plan.now.frame
+        (scene_of parts.old taps.old) (scene_of parts.new taps.new)) }
+    ensures cues { parts.new.cues.keeping ≡ parts.old.cues.keeping }
+    ensures needs { OnErr result (HasReader parts.old.shape.plan.now parts.old.shape.clocks.now (InMain parts.old.clock) ⊎ (parts.old.cues.keeping ≡ true)) }
+{
+    let clock = NodeClock::Main(parts.clock);
+    let start = parts.ticks * parts.shape.plan.frame as u64;
+    run_tick(
+        &parts.shape,
+        clock,
+        &parts.own,
+        &mut parts.state,
+        &mut parts.ports,
+        &mut parts.feeds,
+        &mut parts.cues,
+        start,
+        taps,
+    )
+}
+
+// The same, and a fault stops the engine.
+fn run_or_stop<T: Taps>(parts: &mut EngineParts<'_>, taps: &mut T) -> Result<(), TickFault>
+    requires parts { AreParts parts.old }
+    requires few { parts.old.ticks < 1000000000 }
+    requires buffers { T.buffers taps.old ≡ length parts.old.shape.plan.now.buffers }
+    ensures kept { OnOk result (parts.new ≡ after_tick parts.old parts.new parts.old.ticks parts.old.stopped) }
+    ensures ended { IfErr result (λ fault. (fault ≡ OutOfMemory) × (parts.new ≡ after_tick parts.old parts.new parts.old.ticks (Some OutOfMemory))) }
+    ensures state { IsClockStateOver parts.old.shape parts.new.state }
+    ensures frames { All (λ feed. length feed.frame ≡ parts.old.shape.plan.now.frame) parts.new.feeds.items }
+    ensures feeds { map feed_of parts.new.feeds.items ≡ map feed_of parts.old.feeds.items }
+    ensures buffers { T.buffers taps.new ≡ T.buffers taps.old }
+    ensures same { T.same taps.old taps.new }
+    ensures heard { OnOk result (HeardOver T.stands parts.old.shape (InMain parts.old.clock) parts.old.own.items parts.old.shape.plan.now.frame
+        (scene_of parts.old taps.old) (scene_of parts.new taps.new)) }
+    ensures stopped { OnErr result (HeardSomeOver T.stands parts.old.shape (InMain parts.old.clock) parts.old.own.items parts.old.shape.plan.now.frame
+        (scene_of parts.old taps.old) (scene_of parts.new taps.new)) }
+    ensures cues { parts.new.cues.keeping ≡ parts.old.cues.keeping }
+    ensures needs { OnErr result (HasReader parts.old.shape.plan.now parts.old.shape.clocks.now (InMain parts.old.clock) ⊎ (parts.old.cues.keeping ≡ true)) }
+{
+    match run_parts(parts, taps) {
+        Ok(()) => Ok(()),
+        Err(_) => {
+            parts.stopped = Some(TickFault::Memory);
+            Err(TickFault::Memory)
+        }
+    }
+}
+
+// Gives the chunks of the tick; a fault stops the engine.
+fn give_or_stop<T: Taps>(
+    alloc: Global,
+    parts: &mut EngineParts<'_>,
+    taps: &mut T,
+) -> Result<(), TickFault>
+    requires { All (λ feed. feed.buffer < T.buffers taps.old) parts.old.feeds.items }
+    ensures kept { OnOk result (parts.new ≡ parts.old) }
+    ensures ended { IfErr result (λ fault. (fault ≡ OutOfMemory) × (parts.new ≡ after_tick parts.old parts.old parts.old.ticks (Some OutOfMemory))) }
+    ensures buffers { T.buffers taps.new ≡ T.buffers taps.old }
+    ensures same { T.same taps.old taps.new }
+    ensures given { OnOk result (HaveGiven T.stands parts.old.feeds.items (length parts.old.feeds.items) taps.old taps.new) }
+    ensures stopped { OnErr result (HaveGivenSome T.stands parts.old.feeds.items taps.old taps.new) }
+    ensures feeds { OnErr result (0 < length parts.old.feeds.items) }
+{
+    match give_all(alloc, &parts.feeds, taps) {
+        Ok(()) => Ok(()),
+        Err(_) => {
+            parts.stopped = Some(TickFault::Memory);
+            Err(TickFault::Memory)
+        }
+    }
+}
+
+// The gaps of an output in whole ticks, where a fault may have stopped the engine.
+fn whole_gaps(port: &Port, stopped: Option<TickFault>) -> u64
+    ensures runs { stopped ≡ None → result ≡ port.now.gaps }
+    ensures stopped { (fault : Fault) → stopped ≡ Some fault → result ≡ port.now.gaps_before }
+{
+    match stopped {
+        None => port.gaps,
+        Some(_) => port.gaps_before,
+    }
+}
+
+impl<'a, O: Sink> ClockEngine<'a, O> {
+    /// An engine of a running main clock that made no tick: over a plan, its clocks, its
+    /// files, and one sink for each output of the clock, in sink order. Where memory is refused the sinks come back.
+    pub fn new(
+        alloc: Global,
+        plan: &'a Plan,
+        clocks: &'a ClockMap,
+        clock: u32,
+        library: &'a Library,
+        outs: Vec<O>,
+        start: WeekSecond,
+    ) -> Result<ClockEngine<'a, O>, (Vec<O>, Memory)>
+        requires plan { IsWellFormed plan.now }
+        requires clocks { IsClockMap plan.now clocks.now }
+        requires library { IsLibrary library.now }
+        requires leaves { length library.now.leaves ≡ length plan.now.nodes }
+        requires outs { length outs.items ≡ length (outputs_of (record { plan = plan.now; library = library.now; clocks = clocks.now.of; start = start.second; answers = λ buffer. [] }) clock) }
+        ensures setting { IfOk result (λ engine. setting_of engine.parts ≡ record { plan = plan.now; library = library.now; clocks = clocks.now.of; start = start.second; answers = λ buffer. [] }) }
+        ensures clock { IfOk result (λ engine. engine.parts.clock ≡ clock) }
+        ensures stands { IfOk result (λ engine. EngineStands engine.parts 0 (λ buffer. [])) }
+        ensures outs { IfOk result (λ engine. engine.outs ≡ outs.items) }
+        ensures back { IfErr result (λ refused. refused.0.items ≡ outs.items) }
+    {
+        let shape = Shape {
+            plan,
+            library,
+            clocks: clocks.of.as_slice(),
+        };
+        match make_parts(alloc, shape, clock, start) {
+            Ok(parts) => Ok(ClockEngine { parts, outs }),
+            Err(refused) => Err((outs, refused)),
+        }
+    }
+
+    /// Makes a tick: its readers take from the taps, each output of the clock takes its bytes, in one piece and in sink order,
+    /// and then each feed gives its chunk, in sink order. A fault stops the engine.
+    pub fn tick<T: Taps>(&mut self, alloc: Global, taps: &mut T) -> Result<(), TickFault>
+        requires runs { self.old.parts.stopped ≡ None }
+        requires few { self.old.parts.ticks < 1000000000 }
+        requires room { HaveTickRoom O.room self.old.parts self.old.outs }
+        requires buffers { T.buffers taps.old ≡ length self.old.parts.shape.plan.now.buffers }
+        ensures whole { IsWhole self.old }
+        ensures outs { length self.new.outs ≡ length self.old.outs }
+        ensures setting { setting_of self.new.parts ≡ setting_of self.old.parts }
+        ensures clock { self.new.parts.clock ≡ self.old.parts.clock }
+        ensures faults { NoneFell O.faults self.old.outs self.new.outs }
+        ensures room { OnOk result ((ticks : ℕ) → HaveTicksRoom O.room self.old.parts self.old.outs (ticks + 1) → HaveTicksRoom O.room self.new.parts self.new.outs ticks) }
+        ensures ticked { OnOk result (HasMade O.held T.stands self.old.parts self.new.parts self.old.outs self.new.outs taps.old taps.new) }
+        ensures stopped { OnErr result (HasFailed O.held T.stands self.old.parts self.new.parts self.old.outs self.new.outs taps.old taps.new) }
+        ensures taps { T.same taps.old taps.new }
+        ensures buffers { T.buffers taps.new ≡ T.buffers taps.old }
+        ensures once { OnOk result (GotOnePiece O.appends (length self.old.outs) self.old.outs self.new.outs) }
+        ensures once_upto { OnErr result (GotSomePieces O.appends self.old.outs self.new.outs) }
+        ensures kept { AreKept O.name O.faults self.old.outs self.new.outs }
+        ensures rooms { OnOk result (RoomsFell O.room self.old.parts self.old.outs self.new.outs) }
+        ensures cause { IfErr result (λ fault. (sink : ℕ) → fault ≡ Write sink → IsWriteFault O.faults O.appends self.old.parts self.old.outs self.new.outs fault) }
+        ensures memory { IfErr result (λ fault. fault ≡ OutOfMemory → HasEnds self.old.parts) }
+        ensures fault { IfErr result (λ fault. self.new.parts.stopped ≡ Some fault) }
+        ensures runs { OnOk result (self.new.parts.stopped ≡ None) }
+        ensures keeping { self.new.parts.cues.keeping ≡ self.old.parts.cues.keeping }
+    {
+        run_or_stop(&mut self.parts, taps)?;
+        if let Err(place) = append_all(&mut self.outs, &self.parts.ports) {
+            let fault = TickFault::Write {
+                sink: self.parts.ports[place].sink,
+            };
+            self.parts.stopped = Some(fault);
+            return Err(fault);
+        }
+        give_or_stop(alloc, &mut self.parts, taps)?;
+        self.parts.ticks += 1;
+        Ok(())
+    }
+
+    /// Lets an engine that made no tick keep the marks of its outputs.
+    pub fn keep_cues(&mut self)
+        requires new { self.old.parts.ticks ≡ 0 }
+        ensures keeping { self.new.parts.cues.keeping ≡ true }
+        ensures outs { self.new.outs ≡ self.old.outs }
+        ensures setting { setting_of self.new.parts ≡ setting_of self.old.parts }
+        ensures clock { self.new.parts.clock ≡ self.old.parts.clock }
+        ensures stopped { self.new.parts.stopped ≡ self.old.parts.stopped }
+        ensures stands { (ticks : ℕ) (answers : ℕ → List Answer) → EngineStands self.old.parts ticks answers → EngineStands self.new.parts ticks answers }
+    {
+        self.parts.cues.keeping = true;
+    }
+
+    /// At how many instants of the ticks made the node of this output, which is one of the clock, offered nothing. A tick
+    /// that stopped the engine is not among them.
+    pub fn gaps(&self, sink: u32) -> u64
+        requires output { (node : ℕ) × IsOutput (setting_of self.now.parts) self.now.parts.clock sink node }
+        ensures made { (ticks : ℕ) (answers rest : ℕ → List Answer) (node : ℕ) → EngineStands self.now.parts ticks answers
+            → IsOutput (setting_of self.now.parts) self.now.parts.clock sink node → result ≡ gaps (with_rest (setting_of self.now.parts) answers rest) node ticks }
+        ensures stopped { (ticks : ℕ) (answers rest : ℕ → List Answer) (made : List Call) (node : ℕ) → EngineStopped self.now.parts ticks answers made
+            → IsOutput (setting_of self.now.parts) self.now.parts.clock sink node → result ≡ gaps (with_rest (setting_of self.now.parts) answers rest) node ticks }
+    {
+        for port in &self.parts.ports {
+            if port.sink == sink {
+                return whole_gaps(port, self.parts.stopped);
+            }
+        }
+        0
+    }
+
+    /// The marks of this output, which is one of the clock: each instant of the ticks made at which its node offered a cell that
+    /// begins a track, and its title. A tick that stopped the engine is not among them. An engine that keeps no marks has none.
+    pub fn cues(&self, sink: u32) -> &[CueMark]
+        requires output { (node : ℕ) × IsOutput (setting_of self.now.parts) self.now.parts.clock sink node }
+        ensures made { (ticks : ℕ) (answers rest : ℕ → List Answer) (node : ℕ) → EngineStands self.now.parts ticks answers
+            → self.now.parts.cues.keeping ≡ true → IsOutput (setting_of self.now.parts) self.now.parts.clock sink node
+            → result.now ≡ map mark_of (cues (with_rest (setting_of self.now.parts) answers rest) node ticks) }
+        ensures stopped { (ticks : ℕ) (answers rest : ℕ → List Answer) (made : List Call) (node : ℕ) → EngineStopped self.now.parts ticks answers made
+            → self.now.parts.cues.keeping ≡ true → IsOutput (setting_of self.now.parts) self.now.parts.clock sink node
+            → result.now ≡ map mark_of (cues (with_rest (setting_of self.now.parts) answers rest) node ticks) }
+    {
+        for k in 0..self.parts.ports.len() {
+            if self.parts.ports[k].sink == sink {
+                return whole_marks(&self.parts.cues.lists[k], self.parts.stopped);
+            }
+        }
+        &[]
+    }
+
+    /// The sinks of its outputs, in sink order.
+    pub fn into_outs(self) -> Vec<O>
+        ensures { result.items ≡ self.entry.outs }
+    {
+        let ClockEngine { parts, outs } = self;
+        drop(parts);
+        outs
+    }
+}
+
+impl<'a, O> ClockEngine<'a, O> {
+    /// The number of its main clock.
+    pub fn clock(&self) -> u32
+        ensures { result ≡ self.now.parts.clock }
+    {
+        self.parts.clock
+    }
+
+    /// The fault that stopped the engine.
+    pub fn stopped(&self) -> Option<TickFault>
+        ensures { result ≡ self.now.parts.stopped }
+    {
+        self.parts.stopped
+    }
+
+    /// How many ticks were made. A tick that stopped the engine is not among them.
+    pub fn ticks(&self) -> u64
+        ensures { result ≡ self.now.parts.ticks }
+    {
+        self.parts.ticks
+    }
+
+    /// How many segments were made: an instant of the clock each, and behind it a run of instants that were made at once, as they
+    /// go on as it did.
+    pub fn segments(&self) -> u64
+        ensures { result ≡ self.now.parts.state.segments }
+    {
+        self.parts.state.segments
+    }
+}

@@ -1,0 +1,103 @@
+// The outputs of a new engine.
+ghost use Rattle.std.specs.Prelude.{◌≡◌, ◌<◌, ◌≤◌, ◌^◌, All, map, length, IfOk};
+ghost use Rattle.plan_core.specs.Plans.{sink_node};
+ghost use Rattle.stream_meaning.specs.Instants.{Setting};
+ghost use Rattle.stream_meaning.specs.Sinks.{is_wide};
+ghost use Rattle.clock_ticks.specs.Beginnings.{IsNewFeed, IsNewPort};
+ghost use Rattle.clock_ticks.specs.Engines.{feed_of, feeds_of, output_of, outputs_of};
+ghost use Rattle.clock_instants.specs.Shapes.{setting_over};
+
+use crate::parts::is_main;
+use clock_instants::Shape;
+use clock_outputs::{FeedPort, Piece, Port, block_size};
+use frame_core::Frame;
+use liq_base::Memory;
+use plan_core::SinkPlan;
+use std::alloc::Global;
+
+/// The outputs of a main clock, in sink order.
+pub fn ports_of(alloc: Global, shape: &Shape<'_>, clock: u32) -> Result<Vec<Port>, Memory>
+    requires in_clocks { length shape.now.clocks.now ≡ length shape.now.plan.now.nodes }
+    requires frame { shape.now.plan.now.frame ≤ 65536 }
+    requires sinks { All (λ sink. sink_node sink < length shape.now.plan.now.nodes) shape.now.plan.now.sinks }
+    requires few { length shape.now.plan.now.sinks < 2 ^ 32 }
+    ensures outputs { IfOk result (λ ports. (other : Setting) → map output_of ports.items ≡ outputs_of (setting_over shape.now other) clock) }
+    ensures new { IfOk result (λ ports. (other : Setting) → All (IsNewPort (setting_over shape.now other)) ports.items) }
+{
+    let sinks = shape.plan.sinks.as_slice();
+    let mut ports = Vec::with_capacity(alloc, sinks.len())?;
+    for i in 0..sinks.len() {
+        let SinkPlan::Output { node, wide, .. } = &sinks[i] else {
+            continue;
+        };
+        if !is_main(shape.clocks[*node as usize], clock) {
+            continue;
+        }
+        ports.push(port_of(alloc, shape, i as u32, *node, *wide)?)?;
+    }
+    Ok(ports)
+}
+
+// The output of a node, wide or not, as the plan's sink of this number says.
+fn port_of(
+    alloc: Global,
+    shape: &Shape<'_>,
+    sink: u32,
+    node: u32,
+    wide: bool,
+) -> Result<Port, Memory>
+    requires within { node < length shape.now.plan.now.nodes }
+    requires frame { shape.now.plan.now.frame ≤ 65536 }
+    requires width { (other : Setting) → wide ≡ is_wide (setting_over shape.now other) sink }
+    ensures output { IfOk result (λ port. output_of port ≡ (sink, node)) }
+    ensures new { IfOk result (λ port. (other : Setting) → IsNewPort (setting_over shape.now other) port) }
+{
+    let kind = shape.plan.nodes.as_slice()[node as usize].kind;
+    let room = shape.plan.frame as usize * block_size(wide, kind);
+    let piece = Piece::new(alloc, room)?;
+    Ok(Port {
+        sink,
+        node,
+        kind,
+        wide,
+        piece,
+        gaps: 0,
+        gaps_before: 0,
+    })
+}
+
+/// The feeds of a main clock, in sink order.
+pub fn feeds_of(alloc: Global, shape: &Shape<'_>, clock: u32) -> Result<Vec<FeedPort>, Memory>
+    requires in_clocks { length shape.now.clocks.now ≡ length shape.now.plan.now.nodes }
+    requires frame { shape.now.plan.now.frame ≤ 65536 }
+    requires sinks { All (λ sink. sink_node sink < length shape.now.plan.now.nodes) shape.now.plan.now.sinks }
+    ensures feeds { IfOk result (λ feeds. (other : Setting) → map feed_of feeds.items ≡ feeds_of (setting_over shape.now other) clock) }
+    ensures new { IfOk result (λ feeds. All (IsNewFeed shape.now.plan.now.frame) feeds.items) }
+{
+    let sinks = shape.plan.sinks.as_slice();
+    let mut feeds = Vec::with_capacity(alloc, sinks.len())?;
+    for i in 0..sinks.len() {
+        let SinkPlan::Feed { buffer, node } = &sinks[i] else {
+            continue;
+        };
+        if !is_main(shape.clocks[*node as usize], clock) {
+            continue;
+        }
+        feeds.push(feed_port(alloc, shape, *buffer, *node)?)?;
+    }
+    Ok(feeds)
+}
+
+// The feed of a node.
+fn feed_port(alloc: Global, shape: &Shape<'_>, buffer: u32, node: u32) -> Result<FeedPort, Memory>
+    requires frame { shape.now.plan.now.frame ≤ 65536 }
+    ensures feed { IfOk result (λ feed. feed_of feed ≡ (buffer, node)) }
+    ensures new { IfOk result (IsNewFeed shape.now.plan.now.frame) }
+{
+    let frame = Frame::new(alloc, shape.plan.frame)?;
+    Ok(FeedPort {
+        buffer,
+        node,
+        frame,
+    })
+}

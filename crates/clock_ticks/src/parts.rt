@@ -1,0 +1,177 @@
+// The parts of a new engine.
+ghost use Rattle.std.specs.Prelude.{◌≡◌, ◌<◌, ◌≤◌, ◌||◌, ℕ, Some, All, false, nat_eq, length, slice_get, slice_index_or, IfOk};
+ghost use Rattle.std.specs.List.{list_any};
+ghost use Rattle.liq_base.specs.declared.limits.TheConstants.{MAX_CHILDREN, MAX_NODES};
+ghost use Rattle.plan_core.specs.Plans.{AreNodes, IsInRange, sink_node};
+ghost use Rattle.clock_infer.specs.declared.clock_map.NodeClock.TheVariants.{Main as InMain};
+ghost use Rattle.stream_meaning.specs.Instants.{Setting, is_root, same_clock};
+ghost use Rattle.node_states.specs.declared.time.WeekTime.{WeekTime as Time};
+ghost use Rattle.clock_instants.specs.States.{HasRoomFor};
+ghost use Rattle.clock_instants.specs.Takes.{IsUnder};
+ghost use Rattle.nested_instants.specs.Clocks.{AreOwnRoots};
+ghost use Rattle.clock_ticks.specs.Beginnings.{AreNewStates, IsNewState};
+ghost use Rattle.clock_instants.specs.Shapes.{setting_over};
+
+use clock_infer::NodeClock;
+use clock_instants::Shape;
+use liq_base::Memory;
+use nested_instants::child_of;
+use node_states::{NodeState, WeekTime};
+use plan_core::{Node, Plan, SinkPlan};
+use std::alloc::Global;
+
+/// The states of the nodes before the first instant, where those that the main clock of this number does not drive are idle.
+pub fn states_of(alloc: Global, shape: &Shape<'_>, clock: u32) -> Result<Vec<NodeState>, Memory>
+    requires rate { 0 < shape.now.plan.now.rate }
+    requires nodes { AreNodes shape.now.plan.now.nodes }
+    requires few { length shape.now.plan.now.nodes ≤ MAX_NODES }
+    ensures { IfOk result (λ states. AreNewStates shape.now.plan.now shape.now.clocks.now clock (length shape.now.plan.now.nodes) states.items) }
+{
+    let nodes = shape.plan.nodes.as_slice();
+    let mut states = Vec::with_capacity(alloc, nodes.len())?;
+    for i in 0..nodes.len() {
+        states.push(state_of(alloc, shape, clock, &nodes[i], i as u32)?)?;
+    }
+    Ok(states)
+}
+
+// Whether this is the main clock of this number.
+pub fn is_main(of: NodeClock, clock: u32) -> bool
+    ensures { result ≡ same_clock of (InMain clock) }
+{
+    match of {
+        NodeClock::Main(m) => m == clock,
+        NodeClock::Sub(_) => false,
+    }
+}
+
+/// For each node, whether its own clock demands it of itself.
+pub fn own_roots(alloc: Global, shape: &Shape<'_>) -> Result<Vec<bool>, Memory>
+    requires in_clocks { length shape.now.clocks.now ≡ length shape.now.plan.now.nodes }
+    requires sinks { All (λ sink. sink_node sink < length shape.now.plan.now.nodes) shape.now.plan.now.sinks }
+    ensures size { IfOk result (λ own. length own.items ≡ length shape.now.plan.now.nodes) }
+    ensures roots { IfOk result (λ own. (other : Setting) → AreOwnRoots (setting_over shape.now other) own.items) }
+{
+    let mut own = vec![in alloc; false; shape.clocks.len()]?;
+    demand_roots(shape, &mut own);
+    Ok(own)
+}
+
+/// The times of so many sub-clocks before their first instant.
+pub fn times_of(alloc: Global, first: WeekTime, count: usize) -> Result<Vec<WeekTime>, Memory>
+    ensures size { IfOk result (λ times. length times.items ≡ count) }
+    ensures each { IfOk result (λ times. (k : ℕ) (time : Time) → slice_get times.items k ≡ Some time → time ≡ first) }
+{
+    let times = vec![in alloc; first; count]?;
+    Ok(times)
+}
+
+/// Room for the children of each node.
+pub fn most_children(plan: &Plan) -> usize
+    ensures { HasRoomFor plan.now result }
+{
+    let mut most = 0;
+    for node in plan.nodes.as_slice() {
+        most = node.children.len().max(most);
+    }
+    most
+}
+
+// The state of node i. One that the clock does not drive takes no memory.
+fn state_of(
+    alloc: Global,
+    shape: &Shape<'_>,
+    clock: u32,
+    node: &Node,
+    i: u32,
+) -> Result<NodeState, Memory>
+    requires rate { 0 < shape.now.plan.now.rate }
+    requires range { IsInRange node.now.op }
+    requires few { length node.now.children ≤ MAX_CHILDREN }
+    ensures { IfOk result (λ state. IsNewState shape.now.plan.now shape.now.clocks.now clock i node.now state) }
+{
+    if is_driven(shape.clocks, clock, i) {
+        return NodeState::new(alloc, shape.plan, node, i);
+    }
+    Ok(NodeState::Idle)
+}
+
+// Whether a main clock drives node i, which lies in it or in a sub-clock below it. It goes up by as many clocks as there are
+// nodes, which is more than nest in any plan.
+fn is_driven(clocks: &[NodeClock], clock: u32, i: u32) -> bool
+    ensures { result ≡ false → (rank : ℕ) → IsUnder clocks.now (InMain clock) rank i → ⊥ }
+{
+    let mut at = i;
+    for _ in 0..clocks.len() {
+        match clock_at(clocks, at) {
+            NodeClock::Main(m) => return m == clock,
+            NodeClock::Sub(k) => at = k,
+        }
+    }
+    true
+}
+
+// The clock of a node.
+fn clock_at(clocks: &[NodeClock], i: u32) -> NodeClock
+    ensures { result ≡ slice_index_or clocks.now i (InMain 0) }
+{
+    match clocks.get(i as usize) {
+        Some(clock) => *clock,
+        None => NodeClock::Main(0),
+    }
+}
+
+// The node of a sink.
+fn node_of(sink: &SinkPlan) -> u32
+    ensures { result ≡ sink_node sink.now }
+{
+    match sink {
+        SinkPlan::Output { node, .. } => *node,
+        SinkPlan::Feed { node, .. } => *node,
+    }
+}
+
+// The same as marks, of which none is set before.
+fn demand_roots(shape: &Shape<'_>, own: &mut [bool])
+    requires in_clocks { length shape.now.clocks.now ≡ length own.old }
+    requires sinks { All (λ sink. sink_node sink < length own.old) shape.now.plan.now.sinks }
+    requires none { (i : ℕ) → slice_index_or own.old i false ≡ false }
+    ensures { (other : Setting) (i : ℕ) → i < length own.old
+        → slice_index_or own.new i false ≡ is_root (setting_over shape.now other) (slice_index_or shape.now.clocks.now i (InMain 0)) i }
+{
+    demand_sinks(shape.plan.sinks.as_slice(), own);
+    keep_roots(shape, own);
+}
+
+// Marks the nodes of sinks.
+fn demand_sinks(sinks: &[SinkPlan], marks: &mut [bool])
+    requires { All (λ sink. sink_node sink < length marks.old) sinks.now }
+    ensures { (i : ℕ) → slice_index_or marks.new i false ≡ (slice_index_or marks.old i false || list_any (λ sink. nat_eq (sink_node sink) i) sinks.now) }
+{
+    for sink in sinks {
+        marks[node_of(sink) as usize] = true;
+    }
+}
+
+// Of marks for the nodes of sinks, makes those for what each node's own clock demands of itself.
+fn keep_roots(shape: &Shape<'_>, own: &mut [bool])
+    requires in_clocks { length shape.now.clocks.now ≡ length own.old }
+    requires marks { (i : ℕ) → slice_index_or own.old i false ≡ list_any (λ sink. nat_eq (sink_node sink) i) shape.now.plan.now.sinks }
+    ensures { (other : Setting) (i : ℕ) → i < length own.old
+        → slice_index_or own.new i false ≡ is_root (setting_over shape.now other) (slice_index_or shape.now.clocks.now i (InMain 0)) i }
+{
+    for i in 0..shape.clocks.len() {
+        own[i] = is_own_root(shape, shape.clocks[i], i, own[i]);
+    }
+}
+
+// Whether its own clock demands node i of itself: a main clock the nodes of sinks, a sub-clock its crossfade's child.
+fn is_own_root(shape: &Shape<'_>, of: NodeClock, i: usize, has_sink: bool) -> bool
+    requires { has_sink ≡ list_any (λ sink. nat_eq (sink_node sink) i) shape.now.plan.now.sinks }
+    ensures { (other : Setting) → result ≡ is_root (setting_over shape.now other) of i }
+{
+    match of {
+        NodeClock::Main(_) => has_sink,
+        NodeClock::Sub(k) => child_of(shape.plan.nodes.as_slice(), k) as usize == i,
+    }
+}

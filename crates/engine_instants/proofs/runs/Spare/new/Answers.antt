@@ -1,9 +1,0 @@
-use Rattle.std.proofs.Common.{◌≡◌, ◌∙◌, length, pos, arith, ap}
-use Rattle.std.proofs.lemmas.List.{length-replicate}
-use Rattle.engine_instants.proofs.runs.Spare.new.Goals as goal
-
-pub returns : goal.returns
-returns c = record {
-  on_left = (let long : length c.in_ok-left.left.items ≡ 1024 = ap length (c.in_ok-left.ensures.items_if_clones_equal (λ y e. e)) ∙ length-replicate 1024 (pos 0) in omega (arith, long));
-  on_right = (let long : length c.in_ok-right.right.items ≡ 1024 = ap length (c.in_ok-right.ensures.items_if_clones_equal (λ y e. e)) ∙ length-replicate 1024 (pos 0) in omega (arith, long));
-}

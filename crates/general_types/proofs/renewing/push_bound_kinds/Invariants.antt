@@ -1,0 +1,7 @@
+use Rattle.std.proofs.Common.{◌≡◌, None, take}
+use Rattle.type_terms.specs.Table.{kind_at}
+use Rattle.general_types.specs.Renewing.{FindsBut}
+use Rattle.general_types.proofs.renewing.push_bound_kinds.Given as goal
+
+abbrev pub invariant-loop-number : goal.invariant-loop-number
+invariant-loop-number l = FindsBut (λ k. kind_at l.subst.kinds k ≡ None) (take l.number-index l.numbers) l.found.items

@@ -1,0 +1,20 @@
+use Rattle.general_types.specs.Walks.{held_of}
+use Rattle.general_types.proofs.Members.{number_there}
+use Rattle.general_types.proofs.Names.{renews_kinds, renews_next_kind, renews_none}
+use Rattle.general_types.proofs.renewing.renew_kinds.Goals as goal
+
+pub renew_kind-requires : goal.renew_kind-requires
+renew_kind-requires c = record { inside = c.requires.there _ (number_there c.args.numbers.now c.loop-number.number-index c.loop-number-test.true) }
+
+pub loop-number-init : goal.loop-number-init
+loop-number-init c = renews_none c.args.subst.now (held_of c.args.reached.now)
+
+pub loop-number-preserved : goal.loop-number-preserved
+loop-number-preserved c =
+    renews_next_kind c.args.subst.now c.args.numbers.now c.loop-number.number-index
+    (held_of c.args.reached.now) (held_of c.loop-number.reached) (held_of c.renew_kind.new.reached)
+    c.loop-number-test.true c.loop-number.invariant c.in_ok-renew_kind.ensures
+
+pub returns : goal.returns
+returns c =
+    renews_kinds c.args.subst.now c.args.numbers.now c.loop-number.number-index (held_of c.args.reached.now) (held_of c.loop-number.reached) c.loop-number-test.false c.loop-number.invariant

@@ -1,0 +1,49 @@
+-- When a scheme is the general type of a text that was typed under a substitution.
+use Rattle.std.specs.Prelude.{◌≡◌, ◌<◌, ⊤, ℕ, List, [], ◌∷◌, length, map, Some}
+use Rattle.std.specs.List.{flat_map}
+use Rattle.liq_base.specs.declared.memory.Kind.{Kind}
+use Rattle.type_terms.specs.Ground.{Ground, Assignment}
+use Rattle.type_terms.specs.Table.{Table, Solves}
+use Rattle.type_terms.specs.Term.{InKind, Term, meaning, kind_meaning}
+use Rattle.type_terms.specs.declared.ty.KindTerm.{KindTerm}
+use Rattle.typing_rules.specs.Kinds.{counted, kinds_of}
+use Rattle.typing_rules.specs.declared.uses.KindOf.{KindOf}
+use Rattle.typing_rules.specs.declared.uses.KindOf.TheVariants.{Fixed, Given}
+use Rattle.general_types.specs.declared.general.TextKind.{TextKind}
+use Rattle.general_types.specs.declared.general.TextKind.TheVariants.{Open, Outer}
+use Rattle.general_types.specs.Holding.{SameTypes}
+use Rattle.general_types.specs.Schemes.{Scheme, IsInstance, open_numbers}
+
+-- a kind of a text, where the variables outside of it are as in `a`
+abbrev pub settled : Assignment → TextKind → KindOf
+settled a (Outer k) = Fixed (kind_meaning a k)
+settled a (Open j) = Given j
+
+-- the kinds of a text with these open kinds are the values of the kind terms under `b`
+abbrev pub AreKindsOf : Assignment → List TextKind → List Kind → List KindTerm → Assignment → Type 0
+AreKindsOf a text opens kinds b = kinds_of opens (map (settled a) text) ≡ Some (map (kind_meaning b) kinds)
+
+-- At each solution the instances of the scheme are what the types and kinds of the text are at the solutions that give the names the same types.
+pub record IsGeneral (s : Table) (names params : List Term) (result : Term) (kinds : List KindTerm) (g : Scheme) (text : List TextKind) : Type 0 where
+  pub sound : (a : Assignment) → Solves a s → (ts : List Ground) (r : Ground) (opens : List Kind) → IsInstance g a ts r opens →
+      (b : Assignment) × Solves b s × SameTypes names a b × (map (meaning b) params ≡ ts) × (meaning b result ≡ r) × AreKindsOf a text opens kinds b
+  pub complete : (a b : Assignment) → Solves a s → Solves b s → SameTypes names a b →
+      (opens : List Kind) × IsInstance g a (map (meaning b) params) (meaning b result) opens × AreKindsOf a text opens kinds b
+
+-- the numbers of open kinds in a text, in its order
+abbrev pub open_of : TextKind → List ℕ
+open_of (Outer k) = []
+open_of (Open j) = j ∷ []
+
+-- The open kinds of a text have the numbers from 0 in the order of first mention, and are as many as the scheme has.
+abbrev pub IsNumberedText : Scheme → List TextKind → Type 0
+IsNumberedText g text = counted 0 (flat_map open_of text) ≡ Some (length (open_numbers 0 g.kinds))
+
+-- the kinds of a text from outside are there
+abbrev pub IsTextKindOver : Table → TextKind → Type 0
+IsTextKindOver s (Outer k) = InKind (λ n. n < length s.kinds) k
+IsTextKindOver s (Open j) = ⊤
+
+abbrev pub AreTextKindsOver : Table → List TextKind → Type 0
+AreTextKindsOver s [] = ⊤
+AreTextKindsOver s (k ∷ ks) = IsTextKindOver s k × AreTextKindsOver s ks

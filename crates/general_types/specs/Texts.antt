@@ -1,0 +1,64 @@
+-- The kinds in the text of a def. No contract of a public call cites this.
+use Rattle.std.specs.Prelude.{◌≡◌, ℕ, ◌<◌, ◌≤◌, List, length, map, take, Option, Some, None, slice_get}
+use Rattle.std.specs.List.{flat_map}
+use Rattle.type_terms.specs.Naming.{instance}
+use Rattle.type_terms.specs.Resolved.{IsResolved}
+use Rattle.type_terms.specs.Table.{Table}
+use Rattle.type_terms.specs.Term.{Term, InTerm, InTerms, source_term, terms_of}
+use Rattle.type_terms.specs.declared.ty.KindTerm.{KindTerm}
+use Rattle.type_terms.specs.declared.ty.KindTerm.TheVariants.{Fixed, Var}
+use Rattle.typing_rules.specs.Kinds.{counted}
+use Rattle.general_types.specs.declared.general.KindParameter.{KindParameter}
+use Rattle.general_types.specs.declared.general.KindParameter.TheVariants.{Open as OpenKind, Unread, Outer as OuterKind}
+use Rattle.general_types.specs.declared.general.TextKind.{TextKind}
+use Rattle.general_types.specs.declared.general.TextKind.TheVariants.{Open, Outer}
+use Rattle.general_types.specs.Holding.{HeldVariables}
+use Rattle.general_types.specs.Numbering.{AreSettled, IsFront, kind_parameters, place_of, type_parameter}
+use Rattle.general_types.specs.Schemes.{Scheme, open_numbers}
+
+-- variable i, of which this is known, in a text; so many open ones are before it
+abbrev pub variable_in_text : ℕ → ℕ → Option KindParameter → TextKind
+variable_in_text i before None = Outer (Var i)
+variable_in_text i before (Some OpenKind) = Open before
+variable_in_text i before (Some Unread) = Outer (Var i)
+variable_in_text i before (Some (OuterKind n)) = Outer (Var n)
+
+abbrev pub text_kind : List KindParameter → KindTerm → TextKind
+text_kind ps (Fixed k) = Outer (Fixed k)
+text_kind ps (Var i) = variable_in_text i (length (open_numbers 0 (take i ps))) (slice_get ps i)
+
+-- types over the variables of these numbers, seen at their places
+pub record AreOpened (s : Table) (ts ks : List ℕ) (xs us : List Term) : Type 0 where
+  pub settled : List Term
+  pub are : AreSettled s xs settled
+  pub inside : InTerms (λ n. n < length ts) (λ n. n < length ks) (terms_of us)
+  pub same : map (instance ts ks) us ≡ settled
+
+pub record IsOpened (s : Table) (ts ks : List ℕ) (x u : Term) : Type 0 where
+  pub settled : Term
+  pub is : IsResolved s x settled
+  pub inside : InTerm (λ n. n < length ts) (λ n. n < length ks) u
+  pub same : instance ts ks u ≡ settled
+
+-- the same, where the lists of the numbers grew
+pub record OpenMore (s : Table) (ts ks ts' ks' : List ℕ) (xs us : List Term) : Type 0 where
+  pub types : IsFront ts ts'
+  pub kinds : IsFront ks ks'
+  pub are : AreOpened s ts' ks' xs us
+
+pub record OpensOne (s : Table) (ts ks ts' ks' : List ℕ) (x u : Term) : Type 0 where
+  pub types : IsFront ts ts'
+  pub kinds : IsFront ks ks'
+  pub is : IsOpened s ts' ks' x u
+
+-- all types of a def, and the kinds of its text, over the variables of these numbers; the text names the first n kinds, in their order
+pub record OpensDef (s : Table) (xs : List Term) (x : Term) (kinds : List KindTerm) (ts ks : List ℕ) (n : ℕ) (us : List Term) (u : Term) (cs : List KindTerm) : Type 0 where
+  pub params : AreOpened s ts ks xs us
+  pub result : IsOpened s ts ks x u
+  pub sources : AreOpened s ts ks (map source_term kinds) (map source_term cs)
+  pub order : counted 0 (flat_map place_of cs) ≡ Some n
+  pub few : n ≤ length ks
+
+-- the scheme over the variables of these numbers
+abbrev pub scheme_with : Table → HeldVariables → List ℕ → List ℕ → ℕ → List Term → Term → Scheme
+scheme_with s h ts ks n us u = record { params = us; result = u; types = map (type_parameter s h) ts; kinds = kind_parameters h n ks }

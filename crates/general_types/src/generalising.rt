@@ -1,0 +1,261 @@
+// The general type of a def.
+ghost use Rattle.std.specs.Prelude.{◌≡◌, ◌++◌, ◌≤◌, List, [], length, map, IfOk, OnOk};
+ghost use Rattle.type_terms.specs.Table.{IsOver};
+ghost use Rattle.type_terms.specs.Term.{Term, source_term, term_of};
+ghost use Rattle.general_types.specs.Generals.{AreTextKindsOver, IsGeneral, IsNumberedText};
+ghost use Rattle.general_types.specs.Holding.{IsHeldBy};
+ghost use Rattle.general_types.specs.Numbering.{kind_parameter, kind_parameters as the_kind_parameters, type_parameter};
+ghost use Rattle.general_types.specs.Schemes.{AreAmong, IsSchemeOver, open_numbers, scheme_of};
+ghost use Rattle.general_types.specs.Texts.{text_kind as the_text_kind};
+
+use crate::general::{General, KindParameter, TextKind, TypeParameter};
+use crate::holding::Held;
+use crate::numbering::number_def;
+use indexmap::IndexSet;
+use liq_base::Memory;
+use std::alloc::Global;
+use type_terms::{KindTerm, Subst, Ty};
+
+/// What a def is to its calls: its general type, and the kinds at the uses of its text, in their order.
+///
+/// The open kinds are those that the text names, and are numbered in the order in which it names them first.
+#[derive(Debug, Drop)]
+pub struct DefType {
+    pub general: General,
+    pub text: Vec<TextKind>,
+}
+
+/// Makes the types of a def general in all variables that are bound to nothing and that earlier names do not hold.
+///
+/// `params` and `answer` are what the types of its parameters and of its result were found to be, and `kinds` the kinds at the uses of its text.
+/// It takes time that grows with these alone, as they are with all that is bound put in.
+pub fn generalise(
+    alloc: Global,
+    subst: &Subst,
+    held: &Held,
+    params: &[Ty],
+    answer: &Ty,
+    kinds: &[KindTerm],
+) -> Result<DefType, Memory>
+    requires params { AreAmong (length subst.now.types) (length subst.now.kinds) (map term_of params.now) }
+    requires answer { IsOver subst.now (term_of answer.now) }
+    requires kinds { AreAmong (length subst.now.types) (length subst.now.kinds) (map source_term kinds.now) }
+    ensures over { IfOk result (λ d. (names : List Term) → IsHeldBy subst.now names held.now → IsSchemeOver subst.now (scheme_of d.general)) }
+    ensures numbered { IfOk result (λ d. IsNumberedText (scheme_of d.general) d.text.items) }
+    ensures text_over { IfOk result (λ d. (names : List Term) → IsHeldBy subst.now names held.now → AreTextKindsOver subst.now d.text.items) }
+    ensures general { IfOk result (λ d. (names : List Term) → IsHeldBy subst.now names held.now → IsGeneral subst.now names (map term_of params.now) (term_of answer.now) kinds.now (scheme_of d.general) d.text.items) }
+{
+    let mut type_numbers = IndexSet::new(alloc);
+    let mut kind_numbers = IndexSet::new(alloc);
+    generalise_with(
+        alloc,
+        subst,
+        held,
+        &mut type_numbers,
+        &mut kind_numbers,
+        params,
+        answer,
+        kinds,
+    )
+}
+
+/// The same with the sets of the numbers of its variables, both empty at first.
+fn generalise_with(
+    alloc: Global,
+    subst: &Subst,
+    held: &Held,
+    type_numbers: &mut IndexSet<u64>,
+    kind_numbers: &mut IndexSet<u64>,
+    params: &[Ty],
+    answer: &Ty,
+    kinds: &[KindTerm],
+) -> Result<DefType, Memory>
+    requires params { AreAmong (length subst.now.types) (length subst.now.kinds) (map term_of params.now) }
+    requires answer { IsOver subst.now (term_of answer.now) }
+    requires kinds { AreAmong (length subst.now.types) (length subst.now.kinds) (map source_term kinds.now) }
+    requires kind_numbers { length kind_numbers.old.keys ≡ 0 }
+    ensures over { IfOk result (λ d. (names : List Term) → IsHeldBy subst.now names held.now → IsSchemeOver subst.now (scheme_of d.general)) }
+    ensures numbered { IfOk result (λ d. IsNumberedText (scheme_of d.general) d.text.items) }
+    ensures text_over { IfOk result (λ d. (names : List Term) → IsHeldBy subst.now names held.now → AreTextKindsOver subst.now d.text.items) }
+    ensures general { IfOk result (λ d. (names : List Term) → IsHeldBy subst.now names held.now → IsGeneral subst.now names (map term_of params.now) (term_of answer.now) kinds.now (scheme_of d.general) d.text.items) }
+{
+    subst.extends_each_assignment();
+    let mut named = Vec::new(alloc);
+    let opened = number_def(
+        alloc,
+        subst,
+        type_numbers,
+        kind_numbers,
+        &mut named,
+        params,
+        answer,
+        kinds,
+    )?;
+    let mut types = Vec::new(alloc);
+    let mut kinds = Vec::new(alloc);
+    let mut text = Vec::new(alloc);
+    say_parameters(
+        subst,
+        held,
+        type_numbers.as_slice(),
+        kind_numbers.as_slice(),
+        opened.read,
+        &named,
+        &mut types,
+        &mut kinds,
+        &mut text,
+    )?;
+    Ok(DefType {
+        general: General {
+            params: opened.params,
+            result: opened.answer,
+            types,
+            kinds,
+        },
+        text,
+    })
+}
+
+/// Says what the variables of these numbers may stand for, and the text over them. The three lists are empty at first.
+fn say_parameters(
+    subst: &Subst,
+    held: &Held,
+    type_numbers: &[u64],
+    kind_numbers: &[u64],
+    read: usize,
+    named: &[KindTerm],
+    types: &mut Vec<TypeParameter>,
+    kinds: &mut Vec<KindParameter>,
+    text: &mut Vec<TextKind>,
+) -> Result<(), Memory>
+    requires within { read ≤ length kind_numbers.now }
+    requires types { types.old.items ≡ [] }
+    requires kinds { kinds.old.items ≡ [] }
+    requires text { text.old.items ≡ [] }
+    ensures types { OnOk result (types.new.items ≡ map (type_parameter subst.now held.now) type_numbers.now) }
+    ensures kinds { OnOk result (kinds.new.items ≡ the_kind_parameters held.now read kind_numbers.now) }
+    ensures text { OnOk result (text.new.items ≡ map (the_text_kind kinds.new.items) named.now) }
+{
+    push_types(types, subst, held, type_numbers)?;
+    push_kinds(kinds, held, kind_numbers, read)?;
+    push_text(text, kinds.as_slice(), named)?;
+    Ok(())
+}
+
+/// What a variable of this number may stand for.
+fn type_parameter_of(subst: &Subst, held: &Held, number: u64) -> TypeParameter
+    ensures { result ≡ type_parameter subst.now held.now number }
+{
+    if held.holds_type(number) {
+        TypeParameter::Outer(number)
+    } else if subst.is_number(number) {
+        TypeParameter::Number
+    } else {
+        TypeParameter::Any
+    }
+}
+
+/// Adds what the variables of these numbers may stand for to an empty list.
+fn push_types(
+    parameters: &mut Vec<TypeParameter>,
+    subst: &Subst,
+    held: &Held,
+    numbers: &[u64],
+) -> Result<(), Memory>
+    requires { parameters.old.items ≡ [] }
+    ensures { OnOk result (parameters.new.items ≡ map (type_parameter subst.now held.now) numbers.now) }
+{
+    for number in numbers {
+        parameters.push(type_parameter_of(subst, held, *number))?;
+    }
+    Ok(())
+}
+
+/// What a kind variable of this number may stand for; `free` if it is not held.
+fn kind_parameter_of(held: &Held, free: KindParameter, number: u64) -> KindParameter
+    ensures { result ≡ kind_parameter held.now free number }
+{
+    if held.holds_kind(number) {
+        KindParameter::Outer(number)
+    } else {
+        free
+    }
+}
+
+/// Adds what the kind variables of these numbers may stand for; `free` for each that is not held.
+fn push_parameters(
+    parameters: &mut Vec<KindParameter>,
+    held: &Held,
+    free: KindParameter,
+    numbers: &[u64],
+) -> Result<(), Memory>
+    ensures { OnOk result (parameters.new.items ≡ parameters.old.items ++ map (kind_parameter held.now free) numbers.now) }
+{
+    for number in numbers {
+        parameters.push(kind_parameter_of(held, free, *number))?;
+    }
+    Ok(())
+}
+
+/// Adds what the kind variables of these numbers may stand for to an empty list. The text names the first `read` of them.
+fn push_kinds(
+    parameters: &mut Vec<KindParameter>,
+    held: &Held,
+    numbers: &[u64],
+    read: usize,
+) -> Result<(), Memory>
+    requires within { read ≤ length numbers.now }
+    requires none { parameters.old.items ≡ [] }
+    ensures { OnOk result (parameters.new.items ≡ the_kind_parameters held.now read numbers.now) }
+{
+    let (named, others) = numbers.split_at(read);
+    push_parameters(parameters, held, KindParameter::Open, named)?;
+    push_parameters(parameters, held, KindParameter::Unread, others)?;
+    Ok(())
+}
+
+/// How many of the parameters are open.
+fn open_count(parameters: &[KindParameter]) -> u64
+    ensures { result ≡ length (open_numbers 0 parameters.now) }
+{
+    let mut count = 0;
+    for parameter in parameters {
+        match parameter {
+            KindParameter::Open => count += 1,
+            KindParameter::Unread => continue,
+            KindParameter::Outer(_) => continue,
+        }
+    }
+    count
+}
+
+/// A kind of the general type, as the text of the def has it.
+fn text_kind(parameters: &[KindParameter], kind: KindTerm) -> TextKind
+    ensures { result ≡ the_text_kind parameters.now kind }
+{
+    let KindTerm::Var(number) = kind else {
+        return TextKind::Outer(kind);
+    };
+    match parameters.get(number as usize) {
+        Some(KindParameter::Outer(outer)) => TextKind::Outer(KindTerm::Var(*outer)),
+        Some(KindParameter::Open) => TextKind::Open(open_count(&parameters[..number as usize])),
+        // A text names no others.
+        Some(KindParameter::Unread) => TextKind::Outer(kind),
+        None => TextKind::Outer(kind),
+    }
+}
+
+/// Adds kinds of the general type, as the text of the def has them, to an empty list.
+fn push_text(
+    text: &mut Vec<TextKind>,
+    parameters: &[KindParameter],
+    kinds: &[KindTerm],
+) -> Result<(), Memory>
+    requires { text.old.items ≡ [] }
+    ensures { OnOk result (text.new.items ≡ map (the_text_kind parameters.now) kinds.now) }
+{
+    for kind in kinds {
+        text.push(text_kind(parameters, *kind))?;
+    }
+    Ok(())
+}

@@ -1,0 +1,238 @@
+// Types whose variables are numbered anew, in the order of first mention.
+ghost use Rattle.std.specs.Prelude.{◌≡◌, ◌∷◌, ℕ, List, [], Some, length, map, slice_get, IfOk, OnOk};
+ghost use Rattle.std.specs.List.{flat_map};
+ghost use Rattle.type_terms.specs.Table.{IsOver};
+ghost use Rattle.type_terms.specs.Term.{source_term, term_of};
+ghost use Rattle.typing_rules.specs.Kinds.{counted};
+ghost use Rattle.general_types.specs.Texts.{OpenMore, OpensDef, OpensOne};
+ghost use Rattle.general_types.specs.Numbering.{AreNumbered, AreSettled, IsFront, IsNumbered, place_of};
+ghost use Rattle.general_types.specs.Schemes.{AreAmong};
+
+use indexmap::IndexSet;
+use liq_base::Memory;
+use std::alloc::Global;
+use type_terms::{KindTerm, Subst, Ty, resolved};
+
+/// How many levels a type may have whose variables are numbered anew.
+const MOST_LEVELS: u32 = 1000;
+
+/// The types of a def over variables of their own, and how many kind variables its text names.
+#[derive(Drop)]
+pub struct OpenedDef {
+    pub params: Vec<Ty>,
+    pub answer: Ty,
+    pub read: usize,
+}
+
+/// The types of a def over variables of their own, in the order of first mention: the kinds of its text first.
+///
+/// The numbers of these in the substitution are put into the sets, and the kinds of the text into the list, all empty at first.
+/// The text names the first `read` of the kind variables, in their order.
+pub fn number_def(
+    alloc: Global,
+    subst: &Subst,
+    types: &mut IndexSet<u64>,
+    places: &mut IndexSet<u64>,
+    text: &mut Vec<KindTerm>,
+    params: &[Ty],
+    answer: &Ty,
+    kinds: &[KindTerm],
+) -> Result<OpenedDef, Memory>
+    requires params { AreAmong (length subst.now.types) (length subst.now.kinds) (map term_of params.now) }
+    requires answer { IsOver subst.now (term_of answer.now) }
+    requires kinds { AreAmong (length subst.now.types) (length subst.now.kinds) (map source_term kinds.now) }
+    requires places { length places.old.keys ≡ 0 }
+    requires text { text.old.items ≡ [] }
+    ensures { IfOk result (λ o. OpensDef subst.now (map term_of params.now) (term_of answer.now) kinds.now types.new.keys places.new.keys o.read (map term_of o.params.items) (term_of o.answer) text.new.items) }
+{
+    push_opened_kinds(alloc, text, subst, places, kinds)?;
+    let read = places.len();
+    let params = opened(alloc, subst, types, places, params)?;
+    let answer = opened_one(alloc, subst, types, places, answer)?;
+    Ok(OpenedDef {
+        params,
+        answer,
+        read,
+    })
+}
+
+/// The place of a number, which is added if it is not there.
+fn place(numbers: &mut IndexSet<u64>, number: u64) -> Result<u64, Memory>
+    ensures there { IfOk result (λ i. slice_get numbers.new.keys i ≡ Some number) }
+    ensures front { OnOk result (IsFront numbers.old.keys numbers.new.keys) }
+    ensures next { IfOk result (λ i. counted (length numbers.old.keys) (i ∷ []) ≡ Some (length numbers.new.keys)) }
+{
+    let (place, _) = numbers.insert_full(number)?;
+    Ok(place as u64)
+}
+
+/// The kind with the place of its variable for its number.
+fn kind_place(kinds: &mut IndexSet<u64>, kind: KindTerm) -> Result<KindTerm, Memory>
+    ensures numbered { IfOk result (λ k. (ts : List ℕ) → IsNumbered ts kinds.old.keys ts kinds.new.keys (source_term kind) (source_term k)) }
+    ensures next { IfOk result (λ k. counted (length kinds.old.keys) (place_of k) ≡ Some (length kinds.new.keys)) }
+{
+    match kind {
+        KindTerm::Fixed(fixed) => Ok(KindTerm::Fixed(fixed)),
+        KindTerm::Var(number) => {
+            let place = place(kinds, number)?;
+            Ok(KindTerm::Var(place))
+        }
+    }
+}
+
+/// The type with the places of its variables for their numbers, if it has at most so many levels.
+#[cycle(numbering)]
+fn numbered(
+    alloc: Global,
+    types: &mut IndexSet<u64>,
+    kinds: &mut IndexSet<u64>,
+    ty: &Ty,
+    levels: u32,
+) -> Result<Ty, Memory>
+    ensures { IfOk result (λ u. IsNumbered types.old.keys kinds.old.keys types.new.keys kinds.new.keys (term_of ty.now) (term_of u)) }
+{
+    let below = levels.checked_sub(1).ok_or(Memory)?;
+    match ty {
+        Ty::Int => Ok(Ty::Int),
+        Ty::Decimal => Ok(Ty::Decimal),
+        Ty::Text => Ok(Ty::Text),
+        Ty::Bool => Ok(Ty::Bool),
+        Ty::Unit => Ok(Ty::Unit),
+        Ty::Format => Ok(Ty::Format),
+        Ty::Pred => Ok(Ty::Pred),
+        Ty::Source(kind) => {
+            let kind = kind_place(kinds, *kind)?;
+            Ok(Ty::Source(kind))
+        }
+        Ty::Var(number) => {
+            let place = place(types, *number)?;
+            Ok(Ty::Var(place))
+        }
+        Ty::List(item) => {
+            let item = numbered(alloc, types, kinds, item, below)?;
+            let item = Box::new(alloc, item)?;
+            Ok(Ty::List(item))
+        }
+        Ty::Tuple(parts) => {
+            let parts = all_numbered(alloc, types, kinds, parts, below)?;
+            Ok(Ty::Tuple(parts))
+        }
+    }
+}
+
+/// The types with the places of their variables for their numbers.
+#[cycle(numbering)]
+fn all_numbered(
+    alloc: Global,
+    types: &mut IndexSet<u64>,
+    kinds: &mut IndexSet<u64>,
+    tys: &[Ty],
+    levels: u32,
+) -> Result<Vec<Ty>, Memory>
+    ensures { IfOk result (λ us. AreNumbered types.old.keys kinds.old.keys types.new.keys kinds.new.keys (map term_of tys.now) (map term_of us.items)) }
+{
+    let mut places = Vec::new(alloc);
+    for ty in tys {
+        let next = numbered(alloc, types, kinds, ty, levels)?;
+        places.push(next)?;
+    }
+    Ok(places)
+}
+
+/// The types with all that is bound put in.
+fn all_resolved(alloc: Global, subst: &Subst, tys: &[Ty]) -> Result<Vec<Ty>, Memory>
+    requires over { AreAmong (length subst.now.types) (length subst.now.kinds) (map term_of tys.now) }
+    ensures { IfOk result (λ us. AreSettled subst.now (map term_of tys.now) (map term_of us.items)) }
+{
+    let mut settled = Vec::new(alloc);
+    for ty in tys {
+        let next = resolved(alloc, subst, ty)?;
+        settled.push(next)?;
+    }
+    Ok(settled)
+}
+
+/// Sources of these kinds.
+fn sources(alloc: Global, kinds: &[KindTerm]) -> Result<Vec<Ty>, Memory>
+    ensures { IfOk result (λ us. map term_of us.items ≡ map source_term kinds.now) }
+{
+    let mut types = Vec::new(alloc);
+    for kind in kinds {
+        types.push(Ty::Source(*kind))?;
+    }
+    Ok(types)
+}
+
+/// The types with all that is bound put in, and the places of their variables for their numbers.
+fn opened(
+    alloc: Global,
+    subst: &Subst,
+    types: &mut IndexSet<u64>,
+    kinds: &mut IndexSet<u64>,
+    tys: &[Ty],
+) -> Result<Vec<Ty>, Memory>
+    requires over { AreAmong (length subst.now.types) (length subst.now.kinds) (map term_of tys.now) }
+    ensures { IfOk result (λ us. OpenMore subst.now types.old.keys kinds.old.keys types.new.keys kinds.new.keys (map term_of tys.now) (map term_of us.items)) }
+{
+    let settled = all_resolved(alloc, subst, tys)?;
+    all_numbered(alloc, types, kinds, &settled, MOST_LEVELS)
+}
+
+/// The same of one type.
+fn opened_one(
+    alloc: Global,
+    subst: &Subst,
+    types: &mut IndexSet<u64>,
+    kinds: &mut IndexSet<u64>,
+    ty: &Ty,
+) -> Result<Ty, Memory>
+    requires over { IsOver subst.now (term_of ty.now) }
+    ensures { IfOk result (λ u. OpensOne subst.now types.old.keys kinds.old.keys types.new.keys kinds.new.keys (term_of ty.now) (term_of u)) }
+{
+    let settled = resolved(alloc, subst, ty)?;
+    numbered(alloc, types, kinds, &settled, MOST_LEVELS)
+}
+
+/// Adds the kinds of sources with the places of their variables for their numbers to an empty list.
+///
+/// New numbers come in the order of first mention.
+fn push_places(
+    places: &mut Vec<KindTerm>,
+    kinds: &mut IndexSet<u64>,
+    sources: &[Ty],
+) -> Result<(), Memory>
+    requires { places.old.items ≡ [] }
+    ensures numbered { OnOk result ((ts : List ℕ) → AreNumbered ts kinds.old.keys ts kinds.new.keys (map term_of sources.now) (map source_term places.new.items)) }
+    ensures next { OnOk result (counted (length kinds.old.keys) (flat_map place_of places.new.items) ≡ Some (length kinds.new.keys)) }
+{
+    for source in sources {
+        match source {
+            Ty::Source(kind) => {
+                let place = kind_place(kinds, *kind)?;
+                places.push(place)?;
+            }
+            // No other types are given.
+            _ => return Err(Memory),
+        }
+    }
+    Ok(())
+}
+
+/// Adds the kinds with all that is bound put in, and the places of their variables for their numbers, to an empty list.
+fn push_opened_kinds(
+    alloc: Global,
+    places: &mut Vec<KindTerm>,
+    subst: &Subst,
+    kinds: &mut IndexSet<u64>,
+    given: &[KindTerm],
+) -> Result<(), Memory>
+    requires over { AreAmong (length subst.now.types) (length subst.now.kinds) (map source_term given.now) }
+    requires none { places.old.items ≡ [] }
+    ensures opened { OnOk result ((ts : List ℕ) → OpenMore subst.now ts kinds.old.keys ts kinds.new.keys (map source_term given.now) (map source_term places.new.items)) }
+    ensures next { OnOk result (counted (length kinds.old.keys) (flat_map place_of places.new.items) ≡ Some (length kinds.new.keys)) }
+{
+    let given = sources(alloc, given)?;
+    let settled = all_resolved(alloc, subst, &given)?;
+    push_places(places, kinds, &settled)?;
+    Ok(())
+}

@@ -1,0 +1,131 @@
+// A walk through types that finds the variables in them, behind each bound variable once.
+ghost use Rattle.std.specs.Prelude.{◌≡◌, ◌<◌, ◌++◌, ◌∷◌, Some, [], length, map, OnOk};
+ghost use Rattle.type_terms.specs.Nested.{terms};
+ghost use Rattle.type_terms.specs.Table.{Table, IsOver, bound_at};
+ghost use Rattle.type_terms.specs.Term.{source_term, term_of, variable};
+ghost use Rattle.general_types.specs.Walks.{AddsKind, Every, Leads, held_of};
+
+use indexmap::IndexSet;
+use liq_base::Memory;
+use type_terms::{KindTerm, Subst, Ty, resolved_kind};
+
+/// How many steps a walk may take. One that takes more is given up as if memory had run out.
+const MOST_STEPS: u64 = 4_194_304;
+
+/// The variables that walks have come to: those that are bound to nothing, and the bound ones behind which they went.
+#[derive(Drop)]
+pub struct Reached {
+    pub types: IndexSet<u64>,
+    pub kinds: IndexSet<u64>,
+    pub passed: IndexSet<u64>,
+}
+
+/// Adds the variable that a kind is, if it is one that is bound to nothing in the end.
+pub fn add_kind(subst: &Subst, kinds: &mut IndexSet<u64>, kind: KindTerm) -> Result<(), Memory>
+    requires over { IsOver subst.now (source_term kind) }
+    ensures { OnOk result (AddsKind subst.now kind kinds.old.keys kinds.new.keys) }
+{
+    match resolved_kind(subst, kind) {
+        KindTerm::Var(number) => {
+            kinds.insert(number)?;
+            Ok(())
+        }
+        KindTerm::Fixed(_) => Ok(()),
+    }
+}
+
+/// Puts what a variable is bound to on the stack, if that was not done before.
+///
+/// A variable that is bound to a variable is not noted: what that leads to is.
+fn push_bound<'a>(
+    work: &mut Vec<&'a Ty>,
+    reached: &mut Reached,
+    number: u64,
+    bound: &'a Ty,
+) -> Result<(), Memory>
+    ensures { OnOk result ((s : Table) → IsOver s (term_of bound.now) → bound_at s.types number ≡ Some (term_of bound.now) → Leads s (terms work.old.items ++ variable number ∷ []) (terms work.new.items) (held_of reached.old) (held_of reached.new)) }
+{
+    match bound {
+        Ty::Var(_) => {
+            work.push(bound)?;
+            Ok(())
+        }
+        _ => {
+            if !reached.passed.insert(number)? {
+                return Ok(());
+            }
+            work.push(bound)?;
+            Ok(())
+        }
+    }
+}
+
+/// Adds a variable that is bound to nothing; of one that is bound, puts what it is bound to on the stack.
+pub fn visit_variable<'a>(
+    work: &mut Vec<&'a Ty>,
+    subst: &'a Subst,
+    reached: &mut Reached,
+    number: u64,
+) -> Result<(), Memory>
+    requires inside { number < length subst.now.types }
+    ensures { OnOk result (Leads subst.now (terms work.old.items ++ variable number ∷ []) (terms work.new.items) (held_of reached.old) (held_of reached.new)) }
+{
+    subst.is_sound();
+    match subst.bound(number) {
+        None => {
+            reached.types.insert(number)?;
+            Ok(())
+        }
+        Some(bound) => push_bound(work, reached, number, bound),
+    }
+}
+
+/// Puts the parts of a tuple on the stack.
+fn push_parts<'a>(work: &mut Vec<&'a Ty>, parts: &'a [Ty]) -> Result<(), Memory>
+    ensures { OnOk result (terms work.new.items ≡ terms work.old.items ++ map term_of parts.now) }
+{
+    for part in parts {
+        work.push(part)?;
+    }
+    Ok(())
+}
+
+/// One step of the walk: a type that stood on top of the stack.
+fn visit<'a>(
+    work: &mut Vec<&'a Ty>,
+    subst: &'a Subst,
+    reached: &mut Reached,
+    ty: &'a Ty,
+) -> Result<(), Memory>
+    requires over { IsOver subst.now (term_of ty.now) }
+    ensures { OnOk result (Leads subst.now (terms work.old.items ++ term_of ty.now ∷ []) (terms work.new.items) (held_of reached.old) (held_of reached.new)) }
+{
+    match ty {
+        Ty::Var(number) => visit_variable(work, subst, reached, *number),
+        Ty::Source(kind) => add_kind(subst, &mut reached.kinds, *kind),
+        Ty::List(item) => {
+            work.push(item)?;
+            Ok(())
+        }
+        Ty::Tuple(parts) => push_parts(work, parts),
+        _ => Ok(()),
+    }
+}
+
+/// Adds the variables of the types on the stack.
+pub fn walk<'a>(
+    work: &mut Vec<&'a Ty>,
+    subst: &'a Subst,
+    reached: &mut Reached,
+) -> Result<(), Memory>
+    requires over { Every (IsOver subst.now) (terms work.old.items) }
+    ensures { OnOk result (Leads subst.now (terms work.old.items) [] (held_of reached.old) (held_of reached.new)) }
+{
+    for _step in 0..MOST_STEPS {
+        let Some(next) = work.pop() else {
+            return Ok(());
+        };
+        visit(work, subst, reached, next)?;
+    }
+    Err(Memory)
+}

@@ -1,0 +1,166 @@
+-- The runs of a clock's sub-clocks, one node after another, whatever the lanes stood for.
+use Rattle.std.proofs.Common.{◌≡◌, ◌<◌, ◌≤◌, ◌+◌, ◌&&◌, ◌∙◌, ℕ, suc, Bool, true, false, Some, List, length, slice_get, arith, refl, ap, sym, subst}
+use Rattle.std.specs.Prelude.{is_some, slice_index_or}
+use Rattle.std.specs.Option.{option_map_or}
+use Rattle.std.proofs.lemmas.Bool.{true≢false}
+use Rattle.plan_core.specs.declared.plan.Plan.{Plan}
+use Rattle.clock_infer.specs.declared.clock_map.NodeClock.{NodeClock}
+use Rattle.clock_infer.specs.declared.clock_map.NodeClock.TheVariants.{Main, Sub}
+use Rattle.frame_core.specs.Library.{Sounds}
+use Rattle.stream_meaning.specs.Instants.{gives, first_instants, moment_after, part_at}
+use Rattle.stream_meaning.proofs.Existence.{same_clock-true}
+use Rattle.node_states.specs.declared.time.WeekTime.{WeekTime}
+use Rattle.node_states.specs.Passing.{passes}
+use Rattle.node_states.specs.Times.{TimeStands}
+use Rattle.clock_instants.specs.Held.{AllPassOn, gave_at, goes_through, passes_at}
+use Rattle.clock_instants.specs.Nodes.{IsFirst, lies_at}
+use Rattle.clock_instants.specs.Stretches.{AllLieAhead}
+use Rattle.clock_instants.specs.States.{over}
+use Rattle.clock_instants.proofs.Ahead.{ahead_less, ahead_same, through_less, through_same}
+use Rattle.clock_instants.proofs.Kept.{held_gives}
+use Rattle.nested_instants.specs.declared.clock_states.ClockStates.{ClockStates}
+use Rattle.nested_instants.proofs.Levels.{lanes_same}
+use Rattle.clock_instants.specs.Stretches.{HasLanes}
+use Rattle.nested_instants.specs.Clocks.{AreLeft, AreResting, HasRanks, IsIdle, clock_at, is_in, is_node, is_none, is_upto, rest_at}
+use Rattle.nested_instants.specs.Stretches.{AreAbove, AreSamplesLeft, ClockMade, SubClockMade, SubClocksMade, SubsMade}
+use Rattle.op_mix.specs.Stretches.{samples_of}
+use Rattle.nested_instants.proofs.Above.{above_then, samples_then}
+use Rattle.nested_instants.proofs.Equal.{are_same}
+use Rattle.nested_instants.proofs.SubRuns.{subs_none, subs_skip, subs_step, subs_upto}
+
+-- node i is passed, and those of other clocks behind it
+pub above_step : (clocks : List NodeClock) (rank : NodeClock → ℕ) (clock : NodeClock) (i n : ℕ) (a b c : ClockStates) → clock_at clocks i ≡ clock → IsFirst clocks clock (suc i) n
+    → AreAbove clocks rank (rank clock) (is_upto clocks clock i) a b → AreAbove clocks rank (rank (clock_at clocks i)) (is_node i) b c → AreAbove clocks rank (rank clock) (is_upto clocks clock n) a c
+above_step clocks rank clock i n a b c here next one two =
+    let low = next.low in
+    above_then clocks rank (rank clock) (rank (clock_at clocks i)) (is_upto clocks clock n) (is_upto clocks clock i) (is_node i) a b c (let e : rank (clock_at clocks i) ≡ rank clock = ap rank here in omega (arith, e))
+    (λ j level upto. let less = upto.0 in (omega (arith, less, low), upto.1)) (λ j level same. (omega (arith, same, low), ap (clock_at clocks) same ∙ here)) one two
+
+module _ (plan : Plan) (library : Sounds) (clocks : List NodeClock) (in_clocks : length clocks ≡ length plan.nodes) (clock : NodeClock) (many : ℕ) (first : ClockStates) where
+  pub subs_start : (n : ℕ) → IsFirst clocks clock 0 n → SubClocksMade plan library clocks clock many n first first
+  subs_start n start = record {
+    run = λ other sub rank ran filled front own m can.
+        let S = over plan library clocks other in
+        let T = goes_through (moment_after S sub clock (first_instants S sub clock m)) first.states.items in
+        subs_upto S sub rank own can.world in_clocks clock many T ran filled front 0 n first (omega arith)
+        (λ k up low inside. true≢false (sym (are_same (clock_at clocks k) clock inside) ∙ start.skips k up low))
+        (subs_none S sub rank own can.world in_clocks clock many T ran filled front first can.stand);
+  }
+
+  pub subs_next : (old new : ClockStates) (i n : ℕ) → i < length plan.nodes → clock_at clocks i ≡ clock → IsFirst clocks clock (suc i) n
+      → ((rank : NodeClock → ℕ) → HasRanks clocks rank → AreAbove clocks rank (rank clock) (is_upto clocks clock i) first old)
+      → SubClocksMade plan library clocks clock many i first old → SubClockMade plan library clocks i many old new → SubClocksMade plan library clocks clock many n first new
+  subs_next old new i n within here next above before one = record {
+    run = λ other sub rank ran filled front own m can.
+        let S = over plan library clocks other in
+        let T = goes_through (moment_after S sub clock (first_instants S sub clock m)) first.states.items in
+        let s = before.run other sub rank ran filled front own m can in
+        let a = above rank can.world.ranks in
+        let low : rank (clock_at clocks i) ≤ rank clock = (let e : rank (clock_at clocks i) ≡ rank clock = ap rank here in omega (arith, e)) in
+        let gave : gives (moment_after S sub clock (first_instants S sub clock m)) i ≡ gave_at old.runs.held.items i =
+        sym (held_gives S sub clock (first_instants S sub clock m) first.runs.held.items i can.goes.held_is within (are_same (clock_at clocks i) clock here))
+        ∙ sym (ap (λ p. is_some p.slot) (a.held i low)) in
+        let test : T i ≡ (gave_at old.runs.held.items i && passes_at old.states.items i) =
+        ap (λ (b : Bool). b && passes_at first.states.items i) gave ∙ ap (λ found. gave_at old.runs.held.items i && option_map_or passes found false) (sym (a.states i low)) in
+        subs_upto S sub rank own can.world in_clocks clock many T ran filled front (suc i) n new next.low
+        (λ k up less inside. true≢false (sym (are_same (clock_at clocks k) clock inside) ∙ next.skips k up less))
+        (subst (λ c. SubsMade S sub rank c many T (suc i) ran filled front new) here
+        (one.step other sub rank ran filled front own T can.world test
+        (subst (λ c. SubsMade S sub rank c many T i ran filled front old) (sym here) s)));
+  }
+
+module _ (plan : Plan) (library : Sounds) (clocks : List NodeClock) (in_clocks : length clocks ≡ length plan.nodes) (i many : ℕ) (within : i < length plan.nodes) where
+  -- node i is no such crossfade
+  pub sub_skipped : (lanes : ClockStates) → (gave_at lanes.runs.held.items i && passes_at lanes.states.items i) ≡ false → SubClockMade plan library clocks i many lanes lanes
+  sub_skipped lanes not = record {
+    step = λ other sub rank ran filled front own through world is s.
+        subs_skip (over plan library clocks other) sub rank own world in_clocks (clock_at clocks i) many through ran filled front i lanes (λ inside. is ∙ not) s;
+  }
+
+  -- it is one
+  pub sub_run : (lanes kept mid new : ClockStates) → (gave_at lanes.runs.held.items i && passes_at lanes.states.items i) ≡ true → 0 < many → many ≤ rest_at lanes i
+      → kept.states ≡ lanes.states → kept.times ≡ lanes.times → kept.runs.held ≡ lanes.runs.held → kept.runs.left ≡ lanes.runs.left → kept.runs.right ≡ lanes.runs.right
+      → rest_at kept i ≡ 0 → ((k : ℕ) → (k ≡ i → ⊥) → rest_at kept k ≡ rest_at lanes k)
+      → ClockMade plan library clocks (Sub i) many kept mid → mid.runs.held ≡ kept.runs.held
+      → ((rank : NodeClock → ℕ) → HasRanks clocks rank → AreLeft clocks rank (rank (Sub i)) (is_in clocks (Sub i)) kept mid)
+      → ((rank : NodeClock → ℕ) → HasRanks clocks rank → AreSamplesLeft clocks rank (rank (Sub i)) (is_in clocks (Sub i)) many kept mid)
+      → new.states ≡ mid.states → new.runs ≡ mid.runs → ((k : ℕ) → (k ≡ i → ⊥) → slice_get new.times.items k ≡ slice_get mid.times.items k)
+      → ((start n : ℕ) (before after : WeekTime) → slice_get mid.times.items i ≡ Some before → slice_get new.times.items i ≡ Some after → TimeStands start n before → TimeStands start (n + many) after)
+      → length mid.times.items ≡ length plan.nodes → length new.times.items ≡ length plan.nodes → SubClockMade plan library clocks i many lanes new
+  sub_run lanes kept mid new so some rest states times held left right none others run held_mid leaves samples new_states new_runs new_times later in_mid in_new = record {
+    step = λ other sub rank ran filled front own through world is s.
+        let S = over plan library clocks other in
+        subs_step S sub rank own world in_clocks (clock_at clocks i) many through ran filled front i within refl (is ∙ so) some lanes kept mid new s rest states times held left right none others
+        (λ n can. run.run other sub rank s.ran_now s.filled_now front own n can) held_mid (leaves rank world.ranks) (samples rank world.ranks) new_states new_runs new_times (later S.start) in_mid in_new;
+  }
+
+-- what the sub-clock's run asks of the lanes of which no instants of it are kept any more
+module _ (library : Sounds) (clocks : List NodeClock) (i many : ℕ) (lanes kept : ClockStates) (resting : AreResting library clocks lanes) (some : 0 < many) (rest : many ≤ rest_at lanes i)
+    (states : kept.states ≡ lanes.states) (held : kept.runs.held ≡ lanes.runs.held) where
+  pub sub_ahead : AllLieAhead library clocks (Sub i) kept.runs.held.items kept.states.items (length clocks) many
+  sub_ahead =
+      ahead_same library clocks (Sub i) lanes.runs.held.items kept.runs.held.items lanes.states.items kept.states.items (length clocks) many
+      (λ k inside. ap (λ ps. is_some (part_at ps.items k).slot) held) (λ k inside. ap (λ xs. slice_get xs.items k) states)
+      (ahead_less library clocks (Sub i) lanes.runs.held.items lanes.states.items (length clocks) (rest_at lanes i) many rest (resting.ahead i (omega (arith, some, rest))))
+
+  pub sub_through : (rank : NodeClock → ℕ) → HasRanks clocks rank → i < length clocks → ((k : ℕ) → (k ≡ i → ⊥) → rest_at kept k ≡ rest_at lanes k)
+      → AllPassOn clocks (Sub i) kept.runs.held.items kept.states.items kept.runs.rests.items (length clocks) many
+  sub_through rank ranks within others =
+      through_same clocks (Sub i) lanes.runs.held.items kept.runs.held.items lanes.states.items kept.states.items lanes.runs.rests.items kept.runs.rests.items (length clocks) many
+      (λ k inside. ap (λ ps. is_some (part_at ps.items k).slot) held) (λ k inside. ap (λ xs. slice_get xs.items k) states)
+      (λ k inside. others k (λ e. absurd (apart k inside e)))
+      (through_less clocks (Sub i) lanes.runs.held.items lanes.states.items lanes.runs.rests.items (length clocks) (rest_at lanes i) many rest (resting.through i (omega (arith, some, rest))))
+    where
+      apart : (k : ℕ) → lies_at clocks (Sub i) k ≡ true → k ≡ i → ⊥
+      apart k inside e =
+          let here = sym (same_clock-true (clock_at clocks k) (Sub i) inside) ∙ ap (clock_at clocks) e in
+          let up = ranks.deeper i within in let same : rank (Sub i) ≡ rank (clock_at clocks i) = ap rank here in omega (arith, up, same)
+
+-- and its clock
+pub sub_idle : (i : ℕ) (kept : ClockStates) → rest_at kept i ≡ 0 → IsIdle (Sub i) kept
+sub_idle i kept none = record { none = λ k e. ap (rest_at kept) (sym (number_same i k e)) ∙ none }
+  where
+    number : NodeClock → ℕ
+    number (Main m) = 0
+    number (Sub k) = k
+
+    number_same : (a b : ℕ) → Sub a ≡ Sub b → a ≡ b
+    number_same a b e = ap number e
+
+-- the samples of a clock's nodes and of those in clocks of a lower rank
+pub samples_step : (clocks : List NodeClock) (rank : NodeClock → ℕ) (clock : NodeClock) (i many : ℕ) (a b c : ClockStates) → HasRanks clocks rank → i < length clocks → clock_at clocks i ≡ clock
+    → AreSamplesLeft clocks rank (rank clock) is_none many a b → AreSamplesLeft clocks rank (rank (Sub i)) (is_in clocks (Sub i)) many b c → AreSamplesLeft clocks rank (rank clock) is_none many a c
+samples_step clocks rank clock i many a b c ranks within here one two =
+    let up = ranks.deeper i within in
+    let level : rank (clock_at clocks i) ≡ rank clock = ap rank here in
+    samples_then clocks rank (rank clock) (rank (Sub i)) is_none is_none (is_in clocks (Sub i)) many a b c (omega (arith, up, level)) (λ j low none. none)
+    (λ j low inside. let e : rank (clock_at clocks j) ≡ rank (Sub i) = ap rank inside in omega (arith, e, up, level, low)) one two
+
+-- the run of node i's sub-clock leaves what lies above it
+pub above_sub : (clocks : List NodeClock) (rank : NodeClock → ℕ) (i : ℕ) (lanes kept mid new : ClockStates) → HasRanks clocks rank → i < length clocks
+    → kept.states ≡ lanes.states → kept.times ≡ lanes.times → kept.runs.held ≡ lanes.runs.held → ((k : ℕ) → (k ≡ i → ⊥) → rest_at kept k ≡ rest_at lanes k)
+    → kept.runs.left ≡ lanes.runs.left → kept.runs.right ≡ lanes.runs.right → AreLeft clocks rank (rank (Sub i)) (is_in clocks (Sub i)) kept mid
+    → new.states ≡ mid.states → new.runs ≡ mid.runs → ((k : ℕ) → (k ≡ i → ⊥) → slice_get new.times.items k ≡ slice_get mid.times.items k)
+    → AreAbove clocks rank (rank (clock_at clocks i)) (is_node i) lanes new
+above_sub clocks rank i lanes kept mid new ranks within states times held rests kept_left kept_right left new_states new_runs new_times = record {
+  states = λ k low. ap (λ xs. slice_get xs.items k) new_states ∙ left.states k (apart k low) (deep k low) ∙ ap (λ xs. slice_get xs.items k) states;
+  held = λ k low. ap (λ r. part_at r.held.items k) new_runs ∙ left.held k (apart k low) (deep k low) ∙ ap (λ ps. part_at ps.items k) held;
+  times = λ k other low. new_times k other ∙ left.times k (apart k low) (deep k low) ∙ ap (λ xs. slice_get xs.items k) times;
+  rests = λ k other low. ap (λ r. slice_index_or r.rests.items k 0) new_runs ∙ left.rests k (apart k low) (deep k low) ∙ rests k other;
+  laned = λ k has. subst (λ r. HasLanes r.left.items r.right.items k) (sym new_runs) (left.laned k (lanes_same lanes kept kept_left kept_right k has));
+}
+  where
+    deep : (k : ℕ) → rank (clock_at clocks k) ≤ rank (clock_at clocks i) → rank (clock_at clocks k) ≤ rank (Sub i)
+    deep k low = let up = ranks.deeper i within in omega (arith, up, low)
+
+    apart : (k : ℕ) → rank (clock_at clocks k) ≤ rank (clock_at clocks i) → clock_at clocks k ≡ Sub i → ⊥
+    apart k low e = let up = ranks.deeper i within in let same : rank (clock_at clocks k) ≡ rank (Sub i) = ap rank e in omega (arith, up, same, low)
+
+-- and the samples of other clocks' nodes
+pub samples_sub : (clocks : List NodeClock) (rank : NodeClock → ℕ) (i many : ℕ) (lanes kept mid new : ClockStates)
+    → kept.runs.left ≡ lanes.runs.left → kept.runs.right ≡ lanes.runs.right → AreSamplesLeft clocks rank (rank (Sub i)) (is_in clocks (Sub i)) many kept mid
+    → new.runs ≡ mid.runs → AreSamplesLeft clocks rank (rank (Sub i)) (is_in clocks (Sub i)) many lanes new
+samples_sub clocks rank i many lanes kept mid new left right samples runs = record {
+  left = λ k other low. ap (λ r. samples_of r.left.items k many) runs ∙ samples.left k other low ∙ ap (λ xs. samples_of xs.items k many) left;
+  right = λ k other low. ap (λ r. samples_of r.right.items k many) runs ∙ samples.right k other low ∙ ap (λ xs. samples_of xs.items k many) right;
+}

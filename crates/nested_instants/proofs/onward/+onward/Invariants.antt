@@ -1,0 +1,31 @@
+use Rattle.std.proofs.Common.{◌≡◌, ◌<◌, ◌≤◌, ◌+◌, ◌-◌, ◌*◌, ℕ, true, length}
+use Rattle.clock_infer.specs.declared.clock_map.NodeClock.{NodeClock}
+use Rattle.clock_instants.specs.Nodes.{lies_at}
+use Rattle.nested_instants.specs.Clocks.{AreClockStates, HasRanks, is_none, is_upto}
+use Rattle.nested_instants.specs.Stretches.{AreAbove, AreSamplesLeft, SubClocksMade}
+use Rattle.nested_instants.proofs.onward.+onward.Given as goal
+
+abbrev pub decreases-run_sub : goal.decreases-run_sub
+decreases-run_sub l = 3 * l.levels
+
+abbrev pub decreases-run_subs : goal.decreases-run_subs
+decreases-run_subs l = 3 * l.levels + 1
+
+abbrev pub decreases-run_clock : goal.decreases-run_clock
+decreases-run_clock l = 3 * l.levels + 2
+
+abbrev pub invariant-run_subs-loop-i : goal.invariant-run_subs-loop-i
+invariant-run_subs-loop-i l = record {
+  high : l.i ≤ length l.shape.clocks.now;
+  own : l.i < length l.shape.clocks.now → lies_at l.shape.clocks.now l.fn.clock l.i ≡ true;
+  lanes : AreClockStates l.shape.plan.now l.shape.library.now l.shape.clocks.now l.lanes;
+  latest : l.lanes.latest ≡ l.initial.lanes.latest;
+  held : l.lanes.runs.held ≡ l.initial.lanes.runs.held;
+  above : (rank : NodeClock → ℕ) → HasRanks l.shape.clocks.now rank
+      → AreAbove l.shape.clocks.now rank (rank l.fn.clock) (is_upto l.shape.clocks.now l.fn.clock l.i) l.initial.lanes l.lanes;
+  samples : (rank : NodeClock → ℕ) → HasRanks l.shape.clocks.now rank → AreSamplesLeft l.shape.clocks.now rank (rank l.fn.clock) is_none l.many l.initial.lanes l.lanes;
+  run : SubClocksMade l.shape.plan.now l.shape.library.now l.shape.clocks.now l.fn.clock l.many l.i l.initial.lanes l.lanes;
+}
+
+abbrev pub decreases-run_subs-loop-i : goal.decreases-run_subs-loop-i
+decreases-run_subs-loop-i l = length l.shape.clocks.now - l.i

@@ -1,0 +1,44 @@
+use Rattle.std.proofs.Common.{◌≡◌, ◌∙◌, List, length, slice_get, arith, ap, sym, subst}
+use Rattle.std.proofs.lemmas.List.{with_items_is}
+use Rattle.std.specs.Prelude.{slice_index_or}
+use Rattle.stream_meaning.specs.Instants.{part_at}
+use Rattle.node_states.specs.declared.state.NodeState.{NodeState}
+use Rattle.clock_instants.specs.Stretches.{HasGoneOn, IsGoing}
+use Rattle.clock_instants.specs.States.{AllFit, over}
+use Rattle.nested_instants.proofs.Restful.{resting_own}
+use Rattle.nested_instants.proofs.onward.run_own.Goals as goal
+
+pub returns-clause-lanes : goal.returns-clause-lanes
+returns-clause-lanes c =
+    let many : length c.run_nodes.new.states ≡ c.args.lanes.now.states.len = omega (arith, c.deref_mut.ensures.len) in
+    let items = with_items_is c.args.lanes.now.states c.run_nodes.new.states many in
+    record {
+      fit = subst (AllFit c.args.shape.now.plan.now c.args.shape.now.library.now) (sym items) c.run_nodes.ensures.fit;
+      in_times = c.requires.lanes.in_times;
+      chains = c.requires.lanes.chains;
+      latest = c.requires.lanes.latest;
+      room = c.requires.lanes.room;
+      runs = c.run_nodes.ensures.room;
+      resting = resting_own c.args.shape.now.library.now c.args.shape.now.clocks.now c.args.lanes.now _ c.requires.lanes.resting c.args.clock c.requires.idle
+          (λ i. ap (λ r. slice_index_or r.items i 0) c.run_nodes.ensures.rests)
+          (λ i outside. ap (λ xs. slice_get xs i) items ∙ c.run_nodes.ensures.others i outside ∙ ap (λ xs. slice_get xs i) c.deref_mut.ensures.value)
+          (λ i outside. ap (λ h. part_at h.items i) c.run_nodes.ensures.held);
+      rates = c.requires.lanes.rates;
+      frames = c.requires.lanes.frames;
+    }
+
+pub returns-clause-others : goal.returns-clause-others
+returns-clause-others c i outside =
+    let many : length c.run_nodes.new.states ≡ c.args.lanes.now.states.len = omega (arith, c.deref_mut.ensures.len) in
+    ap (λ xs. slice_get xs i) (with_items_is c.args.lanes.now.states c.run_nodes.new.states many)
+    ∙ c.run_nodes.ensures.others i outside ∙ ap (λ xs. slice_get xs i) c.deref_mut.ensures.value
+
+pub returns-clause-run : goal.returns-clause-run
+returns-clause-run c other sub past filled going =
+    let S = over c.args.shape.now.plan.now c.args.shape.now.library.now c.args.shape.now.clocks.now other in
+    let many : length c.run_nodes.new.states ≡ c.args.lanes.now.states.len = omega (arith, c.deref_mut.ensures.len) in
+    let items = with_items_is c.args.lanes.now.states c.run_nodes.new.states many in
+    subst (λ (xs : List NodeState). HasGoneOn S sub c.args.clock past c.args.many filled c.args.lanes.now.states.items c.run_nodes.new.runs.left.items c.run_nodes.new.runs.right.items xs) (sym items)
+    (subst (λ (xs : List NodeState). HasGoneOn S sub c.args.clock past c.args.many filled xs c.run_nodes.new.runs.left.items c.run_nodes.new.runs.right.items c.run_nodes.new.states) c.deref_mut.ensures.value
+    (c.run_nodes.ensures.run.run other sub past filled
+    (subst (λ (xs : List NodeState). IsGoing S sub c.args.clock past c.args.many filled c.args.lanes.now.runs.held.items xs c.args.lanes.now.runs.left.items c.args.lanes.now.runs.right.items) (sym c.deref_mut.ensures.value) going)))

@@ -1,0 +1,373 @@
+-- What the states of all clocks stand for, while a clock and the sub-clocks below it make instants. `ran clock` is how many
+-- instants a clock has made, `filled k` how many slots crossfade k was filled.
+use Rattle.std.specs.Prelude.{◌≡◌, ◌<◌, ◌≤◌, ◌+◌, ℕ, suc, Bool, true, false, List, Option, Some, None, length, slice_get, slice_index_or}
+use Rattle.std.specs.Option.{option_map_or}
+use Rattle.plan_core.specs.declared.node.Node.{Node}
+use Rattle.plan_core.specs.declared.node.Op.TheVariants.{Crossfade}
+use Rattle.plan_core.specs.declared.plan.Plan.{Plan}
+use Rattle.clock_infer.specs.declared.clock_map.NodeClock.{NodeClock}
+use Rattle.clock_infer.specs.declared.clock_map.NodeClock.TheVariants.{Main, Sub}
+use Rattle.frame_core.specs.Library.{Sounds}
+use Rattle.frame_core.specs.Slots.{Slot}
+use Rattle.frame_core.specs.Calls.{Adds, Call, Answer}
+use Rattle.op_cross.specs.Runs.{run_of}
+use Rattle.stream_meaning.specs.Operators.{Work, Plays, Picks, Mixes, Fades, Reads}
+use Rattle.stream_meaning.specs.Instants.{Setting, Moment, IsMeaning, clock_of, crossfaded, gives, first_instants, is_root, lies_in, moment_after, part_at, position, work_at}
+use Rattle.stream_meaning.specs.Calls.{GoDown, HasAnswers, IsBegin, after_calls, calls_of, fades_in, joined_between, joined_upto, ran_by, takes_at}
+use Rattle.stream_meaning.specs.declared.part.Part.{Part}
+use Rattle.stretch_laws.specs.Stretches.{IsStretch}
+use Rattle.node_states.specs.declared.state.NodeState.{NodeState}
+use Rattle.node_states.specs.declared.time.WeekTime.{WeekTime}
+use Rattle.node_states.specs.States.{IsSettled, StateStands, left, reading_by, reads_at, room, wants}
+use Rattle.node_states.specs.Ticks.{past_of}
+use Rattle.node_states.specs.Times.{TimeStands}
+use Rattle.clock_instants.specs.declared.shape.Shape.{Shape}
+use Rattle.clock_instants.specs.Nodes.{AreNodesOf, IsLatest}
+use Rattle.clock_instants.specs.Held.{AllAsk, AllPassOn, IsHeld}
+use Rattle.clock_instants.specs.Stretches.{AllLieAhead, HasLanes, HasStretchRoom}
+use Rattle.clock_instants.specs.States.{AllFit, HasRoomFor, over}
+use Rattle.clock_instants.specs.Takes.{HasOwnReaders, begun_in}
+use Rattle.nested_instants.specs.declared.clock_states.ClockStates.{ClockStates}
+
+-- the clock of node i
+abbrev pub clock_at : List NodeClock → ℕ → NodeClock
+clock_at clocks i = slice_index_or clocks i (Main 0)
+
+-- a rank for each clock: a sub-clock is one rank deeper than the clock of its crossfade. No rank is data of the program
+pub record HasRanks (clocks : List NodeClock) (rank : NodeClock → ℕ) : Type 0 where
+  pub deeper : (k : ℕ) → k < length clocks → rank (Sub k) ≡ suc (rank (clock_at clocks k))
+
+-- sub-clocks nest no deeper below a clock than this
+pub record HasLevels (clocks : List NodeClock) (clock : NodeClock) (levels : ℕ) : Type 0 where
+  pub rank : NodeClock → ℕ
+  pub ranks : HasRanks clocks rank
+  pub enough : (k : ℕ) → k < length clocks → rank (Sub k) ≤ rank clock + levels
+
+-- node i has lanes for its samples
+abbrev pub laned_at : ClockStates → ℕ → Type 0
+laned_at lanes i = HasLanes lanes.runs.left.items lanes.runs.right.items i
+
+-- how many instants go on as the latest one of the sub-clock of crossfade k did, of those that are kept
+abbrev pub rest_at : ClockStates → ℕ → ℕ
+rest_at lanes k = slice_index_or lanes.runs.rests.items k 0
+
+-- the states of a sub-clock's nodes can go on for as many instants as are kept
+pub record AreResting (library : Sounds) (clocks : List NodeClock) (lanes : ClockStates) : Type 0 where
+  pub ahead : (k : ℕ) → 0 < rest_at lanes k → AllLieAhead library clocks (Sub k) lanes.runs.held.items lanes.states.items (length clocks) (rest_at lanes k)
+  pub through : (k : ℕ) → 0 < rest_at lanes k → AllPassOn clocks (Sub k) lanes.runs.held.items lanes.states.items lanes.runs.rests.items (length clocks) (rest_at lanes k)
+
+-- no instants are kept of a clock
+pub record IsIdle (clock : NodeClock) (lanes : ClockStates) : Type 0 where
+  pub none : (k : ℕ) → clock ≡ Sub k → rest_at lanes k ≡ 0
+
+-- lanes for the nodes of this plan, with these files and these clocks of its nodes
+pub record AreClockStates (plan : Plan) (library : Sounds) (clocks : List NodeClock) (lanes : ClockStates) : Type 0 where
+  pub fit : AllFit plan library lanes.states.items
+  pub in_times : length lanes.times.items ≡ length plan.nodes
+  pub chains : AreNodesOf clocks lanes.nodes
+  pub latest : IsLatest clocks lanes.latest
+  pub room : HasRoomFor plan lanes.desk
+  pub runs : HasStretchRoom (length plan.nodes) lanes.runs
+  pub resting : AreResting library clocks lanes
+  pub rates : (k : ℕ) (time : WeekTime) → slice_get lanes.times.items k ≡ Some time → time.rate ≡ plan.rate
+  pub frames : (k : ℕ) (time : WeekTime) → slice_get lanes.times.items k ≡ Some time → time.frame ≡ plan.frame
+
+-- the same over a shape
+abbrev pub AreClockLanesOver : Shape → ClockStates → Type 0
+AreClockLanesOver shape lanes = AreClockStates shape.plan.now shape.library.now shape.clocks.now lanes
+
+-- these marks tell of each node whether its own clock demands it of itself
+pub record AreOwnRoots (setting : Setting) (own : List Bool) : Type 0 where
+  pub each : (i : ℕ) → i < length setting.plan.nodes → slice_index_or own i false ≡ is_root setting (clock_of setting i) i
+
+-- whether the node at a place wants a slot, and how many it asks for at most
+abbrev pub wants_at : List NodeState → ℕ → Bool
+wants_at states k = option_map_or wants (slice_get states k) false
+
+abbrev pub left_at : List NodeState → ℕ → ℕ
+left_at states k = option_map_or left (slice_get states k) 0
+
+-- how many cells of a track that goes on the node at a place takes
+abbrev pub room_at : List NodeState → ℕ → ℕ
+room_at states k = option_map_or room (slice_get states k) 0
+
+-- some of the nodes: one of them, those of a clock, and of these the first ones
+abbrev pub is_none : ℕ → Type 0
+is_none i = ⊥
+
+abbrev pub is_node : ℕ → ℕ → Type 0
+is_node k i = i ≡ k
+
+abbrev pub is_in : List NodeClock → NodeClock → ℕ → Type 0
+is_in clocks clock i = clock_at clocks i ≡ clock
+
+abbrev pub is_upto : List NodeClock → NodeClock → (below : ℕ) → ℕ → Type 0
+is_upto clocks clock below i = (i < below) × (clock_at clocks i ≡ clock)
+
+-- but for some nodes, those in clocks of this rank or a lower one have the states that they had, what is kept of their latest instant,
+-- and their sub-clocks the times and the instants that are kept
+pub record AreLeft (clocks : List NodeClock) (rank : NodeClock → ℕ) (level : ℕ) (touched : ℕ → Type 0) (old new : ClockStates) : Type 0 where
+  pub states : (i : ℕ) → (touched i → ⊥) → rank (clock_at clocks i) ≤ level → slice_get new.states.items i ≡ slice_get old.states.items i
+  pub times : (i : ℕ) → (touched i → ⊥) → rank (clock_at clocks i) ≤ level → slice_get new.times.items i ≡ slice_get old.times.items i
+  pub held : (i : ℕ) → (touched i → ⊥) → rank (clock_at clocks i) ≤ level → part_at new.runs.held.items i ≡ part_at old.runs.held.items i
+  pub rests : (i : ℕ) → (touched i → ⊥) → rank (clock_at clocks i) ≤ level → rest_at new i ≡ rest_at old i
+  -- and each node its lanes
+  pub laned : (i : ℕ) → laned_at old i → laned_at new i
+
+-- whether a node's work is to fade
+abbrev pub is_fade : Work → Bool
+is_fade (Plays leaf) = false
+is_fade (Picks rule eligible) = false
+is_fade (Mixes mixing) = false
+is_fade (Fades overlap) = true
+is_fade (Reads buffer) = false
+
+abbrev pub fade_in : Setting → ℕ → Option Node → Bool
+fade_in setting k None = false
+fade_in setting k (Some node) = is_fade (work_at setting k node)
+
+-- node k is a crossfade
+abbrev pub fade_at : Setting → ℕ → Bool
+fade_at setting k = fade_in setting k (slice_get setting.plan.nodes k)
+
+-- each sub-clock of a crossfade whose clock has this rank or a deeper one has made exactly as many instants as settle the
+-- crossfade's latest item, and no instant more; and each reader in such a clock has begun the instants that its clock has made, and
+-- no instant more
+pub record RanAsNeeded (setting : Setting) (sub : ℕ → ℕ → List Slot) (rank : NodeClock → ℕ) (level : ℕ) (ran : NodeClock → ℕ) (filled : ℕ → ℕ) : Type 0 where
+  pub each : (k overlap : ℕ) (node : Node) → slice_get setting.plan.nodes k ≡ Some node → node.op ≡ Crossfade overlap
+      → level ≤ rank (clock_of setting k) → ran (Sub k) ≡ ran_by sub k overlap (past_of setting sub ran k)
+  pub begun : (i : ℕ) → reads_at setting i ≡ true → level ≤ rank (clock_of setting i) → filled i ≡ ran (clock_of setting i)
+
+-- so many instants go on as the one after these did, of which this is kept; and for them each crossfade of the clock through which cells
+-- pass asks for a slot an instant, and any other one for none
+pub record GoesOnFor (setting : Setting) (sub : ℕ → ℕ → List Slot) (clock : NodeClock) (past : List Moment) (rest : ℕ) (filled : ℕ → ℕ) (held : List Part)
+    (states : List NodeState) : Type 0 where
+  pub stretch : IsStretch setting sub clock past (suc rest)
+  pub held_is : IsHeld setting sub clock past held
+  pub asks : AllAsk setting sub clock past filled states (length setting.clocks) rest
+
+-- so many instants of the sub-clock of crossfade k go on as its latest one did, at which the child gave
+pub record IsOpen (setting : Setting) (sub : ℕ → ℕ → List Slot) (k rest : ℕ) (ran : NodeClock → ℕ) (filled : ℕ → ℕ) (lanes : ClockStates) : Type 0 where
+  pub n : ℕ
+  pub at : ran (Sub k) ≡ suc n
+  pub gave : gives (moment_after setting sub (Sub k) (first_instants setting sub (Sub k) n)) (crossfaded setting.plan.nodes k) ≡ true
+  pub goes : GoesOnFor setting sub (Sub k) (first_instants setting sub (Sub k) n) rest filled lanes.runs.held.items lanes.states.items
+
+-- the readers have taken these answers; in clocks of this rank and deeper ones the states stand for the instants that the clocks have
+-- made, each crossfade was filled what its sub-clock made, and the sub-clock's time is that of its next instant; and clocks deeper than
+-- this ran as needed; and their nodes have lanes. `filled i` is also how many instants reader i has begun. Of states in lower clocks nothing
+-- is said: such may be idle
+pub record Stand (setting : Setting) (sub : ℕ → ℕ → List Slot) (rank : NodeClock → ℕ) (level : ℕ) (ran : NodeClock → ℕ) (filled : ℕ → ℕ)
+    (front : ℕ → List Answer) (lanes : ClockStates) : Type 0 where
+  pub stand : (i : ℕ) (node : Node) (state : NodeState) → slice_get setting.plan.nodes i ≡ Some node → slice_get lanes.states.items i ≡ Some state
+      → level ≤ rank (clock_of setting i) → StateStands setting sub (past_of setting sub ran i) (filled i) i (work_at setting i node) state
+  pub taken : (i buffer : ℕ) (node : Node) → slice_get setting.plan.nodes i ≡ Some node → work_at setting i node ≡ Reads buffer
+      → (reading_by setting i buffer (past_of setting sub ran i) (filled i)).taken ≡ length (front buffer)
+  pub even : (k : ℕ) → fade_at setting k ≡ true → level ≤ rank (clock_of setting k) → filled k ≡ ran (Sub k)
+  pub time : (k : ℕ) (time : WeekTime) → level ≤ rank (clock_of setting k) → slice_get lanes.times.items k ≡ Some time
+      → TimeStands setting.start (ran (Sub k)) time
+  pub needed : RanAsNeeded setting sub rank (suc level) ran filled
+  pub kept : (k : ℕ) → k < length setting.plan.nodes → level ≤ rank (clock_of setting k) → 0 < rest_at lanes k → IsOpen setting sub k (rest_at lanes k) ran filled lanes
+  pub laned : (i : ℕ) → i < length setting.plan.nodes → level ≤ rank (clock_of setting i) → laned_at lanes i
+
+-- the item of node k is settled, if it is a crossfade, by no more slots than it takes
+pub record HasItem (setting : Setting) (sub : ℕ → ℕ → List Slot) (ran : NodeClock → ℕ) (filled : ℕ → ℕ) (k : ℕ) (node : Node) : Type 0 where
+  pub settled : IsSettled sub (past_of setting sub ran k) (filled k) k (work_at setting k node)
+  pub run : (overlap : ℕ) → work_at setting k node ≡ Fades overlap → run_of overlap (sub k) (position (past_of setting sub ran k) k) ≡ filled k
+
+-- some nodes were filled, by these calls, and some of these have their items; no clock of this rank or a lower one has made an instant
+pub record IsReached (setting : Setting) (sub : ℕ → ℕ → List Slot) (rank : NodeClock → ℕ) (level : ℕ) (touched done : ℕ → Type 0)
+    (ran : NodeClock → ℕ) (filled : ℕ → ℕ) (front : ℕ → List Answer) (more : List Call) (lanes : ClockStates) : Type 0 where
+  pub ran_now : NodeClock → ℕ
+  pub filled_now : ℕ → ℕ
+  pub stand : Stand setting sub rank level ran_now filled_now (after_calls front more) lanes
+  pub others : (clock : NodeClock) → rank clock ≤ level → ran_now clock ≡ ran clock
+  pub held : (i : ℕ) → (touched i → ⊥) → rank (clock_of setting i) ≤ level → filled_now i ≡ filled i
+  -- but for crossfades no node was filled, and no reader has begun an instant
+  pub idle : (i : ℕ) → fade_at setting i ≡ false → rank (clock_of setting i) ≤ level → filled_now i ≡ filled i
+  pub items : (i : ℕ) (node : Node) → done i → slice_get setting.plan.nodes i ≡ Some node → HasItem setting sub ran_now filled_now i node
+
+-- the calls of instant m of the sub-clock of crossfade k
+abbrev pub calls_below : Setting → (sub : ℕ → ℕ → List Slot) → (k m : ℕ) → List Call
+calls_below setting sub k m = calls_of setting sub (Sub k) (first_instants setting sub (Sub k) m)
+
+-- node k was filled some slots, by the calls of the instants that its sub-clock made for it
+pub record IsFilling (setting : Setting) (sub : ℕ → ℕ → List Slot) (rank : NodeClock → ℕ) (level k : ℕ) (done : ℕ → Type 0)
+    (ran : NodeClock → ℕ) (filled : ℕ → ℕ) (front : ℕ → List Answer) (more : List Call) (lanes : ClockStates) : Type 0 where
+  pub reached : IsReached setting sub rank level (is_node k) done ran filled front more lanes
+  pub low : filled k ≤ reached.filled_now k
+  pub calls : more ≡ joined_between (calls_below setting sub k) (filled k) (reached.filled_now k)
+
+-- the calls of the sub-clocks of a clock's crossfades below node n, at the instant after these
+abbrev pub calls_upto : Setting → (sub : ℕ → ℕ → List Slot) → NodeClock → List Moment → (n : ℕ) → List Call
+calls_upto setting sub clock past n =
+    joined_upto (λ k. fades_in setting sub (calls_below setting sub) (lies_in setting clock k) past k (slice_get setting.plan.nodes k)) n
+
+-- a clock has made one instant more, by its calls, and no other clock of its rank or a lower one has; below it no clock has made more
+-- than its crossfade asks for
+pub record HasMadeInstant (setting : Setting) (sub : ℕ → ℕ → List Slot) (rank : NodeClock → ℕ) (clock : NodeClock) (ran : NodeClock → ℕ) (filled : ℕ → ℕ)
+    (front : ℕ → List Answer) (more : List Call) (lanes : ClockStates) : Type 0 where
+  pub ran_now : NodeClock → ℕ
+  pub filled_now : ℕ → ℕ
+  pub stand : Stand setting sub rank (rank clock) ran_now filled_now (after_calls front more) lanes
+  pub once : ran_now clock ≡ suc (ran clock)
+  pub others : (other : NodeClock) → (other ≡ clock → ⊥) → rank other ≤ rank clock → ran_now other ≡ ran other
+  pub held : (i : ℕ) → (clock_of setting i ≡ clock → ⊥) → rank (clock_of setting i) ≤ rank clock → filled_now i ≡ filled i
+  pub needed : RanAsNeeded setting sub rank (rank clock) ran_now filled_now
+  pub calls : more ≡ calls_of setting sub clock (first_instants setting sub clock (ran clock))
+  pub parts : lanes.latest.parts.items ≡ (moment_after setting sub clock (first_instants setting sub clock (ran clock))).parts
+  pub keeps : IsHeld setting sub clock (first_instants setting sub clock (ran clock)) lanes.runs.held.items
+
+-- what holds of a setting, whatever its answers are
+pub record IsWorld (setting : Setting) (sub : ℕ → ℕ → List Slot) (rank : NodeClock → ℕ) (own : List Bool) : Type 0 where
+  pub ranks : HasRanks setting.clocks rank
+  pub meaning : IsMeaning setting sub
+  pub down : GoDown setting sub
+  pub readers : HasOwnReaders setting
+  pub roots : AreOwnRoots setting own
+
+-- a clock's instant was made, by these calls: whatever instants the lanes stood for, and whatever answers come behind those of the calls
+pub record InstantMade {T : Type 0} (stands : T → List Call → Type 0) (plan : Plan) (library : Sounds) (clocks : List NodeClock) (own : List Bool)
+    (clock : NodeClock) (time : WeekTime) (old new : ClockStates) (taps_old taps_new : T) : Type 0 where
+  pub more : List Call
+  pub taps : Adds stands taps_old taps_new more
+  pub made : (other : Setting) (sub : ℕ → ℕ → List Slot) (rank ran : NodeClock → ℕ) (filled : ℕ → ℕ) (front : ℕ → List Answer) →
+      let setting = over plan library clocks other in
+      IsWorld setting sub rank own → HasAnswers setting (after_calls front more)
+      → Stand setting sub rank (rank clock) ran filled front old → RanAsNeeded setting sub rank (rank clock) ran filled
+      → TimeStands setting.start (ran clock) time
+      → HasMadeInstant setting sub rank clock ran filled front more new
+
+-- the same over a shape
+abbrev pub InstantMadeOver : {T : Type 0} → (T → List Call → Type 0) → Shape → List Bool → NodeClock → WeekTime → (old new : ClockStates) → (taps_old taps_new : T) → Type 0
+InstantMadeOver stands shape own clock time old new taps_old taps_new = InstantMade stands shape.plan.now shape.library.now shape.clocks.now own clock time old new taps_old taps_new
+
+-- memory was refused: these are the first calls of the instant
+pub record InstantStopped {T : Type 0} (stands : T → List Call → Type 0) (plan : Plan) (library : Sounds) (clocks : List NodeClock) (own : List Bool)
+    (clock : NodeClock) (time : WeekTime) (old : ClockStates) (taps_old taps_new : T) : Type 0 where
+  pub made : List Call
+  pub taps : Adds stands taps_old taps_new made
+  pub begins : (other : Setting) (sub : ℕ → ℕ → List Slot) (rank ran : NodeClock → ℕ) (filled : ℕ → ℕ) (front : ℕ → List Answer) →
+      let setting = over plan library clocks other in
+      IsWorld setting sub rank own → HasAnswers setting (after_calls front made)
+      → Stand setting sub rank (rank clock) ran filled front old → RanAsNeeded setting sub rank (rank clock) ran filled
+      → TimeStands setting.start (ran clock) time
+      → IsBegin made (calls_of setting sub clock (first_instants setting sub clock (ran clock)))
+
+-- the same over a shape
+abbrev pub InstantStoppedOver : {T : Type 0} → (T → List Call → Type 0) → Shape → List Bool → NodeClock → WeekTime → ClockStates → (taps_old taps_new : T) → Type 0
+InstantStoppedOver stands shape own clock time old taps_old taps_new = InstantStopped stands shape.plan.now shape.library.now shape.clocks.now own clock time old taps_old taps_new
+
+-- the readers of a clock have begun, if its instant begins a tick
+pub record Opened (setting : Setting) (sub : ℕ → ℕ → List Slot) (rank : NodeClock → ℕ) (clock : NodeClock) (ran : NodeClock → ℕ) (filled : ℕ → ℕ)
+    (front : ℕ → List Answer) (more : List Call) (lanes : ClockStates) : Type 0 where
+  pub stand : Stand setting sub rank (rank clock) ran (begun_in setting clock filled) (after_calls front more) lanes
+  pub calls : more ≡ takes_at setting clock (first_instants setting sub clock (ran clock))
+
+pub record ClockOpened {T : Type 0} (stands : T → List Call → Type 0) (plan : Plan) (library : Sounds) (clocks : List NodeClock)
+    (clock : NodeClock) (time : WeekTime) (old new : ClockStates) (taps_old taps_new : T) : Type 0 where
+  pub more : List Call
+  pub taps : Adds stands taps_old taps_new more
+  pub opened : (other : Setting) (sub : ℕ → ℕ → List Slot) (rank ran : NodeClock → ℕ) (filled : ℕ → ℕ) (front : ℕ → List Answer) →
+      let setting = over plan library clocks other in
+      HasRanks clocks rank → HasOwnReaders setting → HasAnswers setting (after_calls front more)
+      → Stand setting sub rank (rank clock) ran filled front old → RanAsNeeded setting sub rank (rank clock) ran filled
+      → TimeStands setting.start (ran clock) time
+      → Opened setting sub rank clock ran filled front more new
+
+-- the same over a shape
+abbrev pub ClockOpenedOver : {T : Type 0} → (T → List Call → Type 0) → Shape → NodeClock → WeekTime → (old new : ClockStates) → (taps_old taps_new : T) → Type 0
+ClockOpenedOver stands shape clock time old new taps_old taps_new = ClockOpened stands shape.plan.now shape.library.now shape.clocks.now clock time old new taps_old taps_new
+
+pub record OpeningStopped {T : Type 0} (stands : T → List Call → Type 0) (plan : Plan) (library : Sounds) (clocks : List NodeClock)
+    (clock : NodeClock) (time : WeekTime) (old : ClockStates) (taps_old taps_new : T) : Type 0 where
+  pub made : List Call
+  pub taps : Adds stands taps_old taps_new made
+  pub begins : (other : Setting) (sub : ℕ → ℕ → List Slot) (rank ran : NodeClock → ℕ) (filled : ℕ → ℕ) (front : ℕ → List Answer) →
+      let setting = over plan library clocks other in
+      HasOwnReaders setting → HasAnswers setting (after_calls front made)
+      → Stand setting sub rank (rank clock) ran filled front old → RanAsNeeded setting sub rank (rank clock) ran filled
+      → TimeStands setting.start (ran clock) time
+      → IsBegin made (takes_at setting clock (first_instants setting sub clock (ran clock)))
+
+-- the same over a shape
+abbrev pub OpeningStoppedOver : {T : Type 0} → (T → List Call → Type 0) → Shape → NodeClock → WeekTime → ClockStates → (taps_old taps_new : T) → Type 0
+OpeningStoppedOver stands shape clock time old taps_old taps_new = OpeningStopped stands shape.plan.now shape.library.now shape.clocks.now clock time old taps_old taps_new
+
+-- node k has its item, by these calls
+pub record NodeSettled {T : Type 0} (stands : T → List Call → Type 0) (plan : Plan) (library : Sounds) (clocks : List NodeClock) (own : List Bool)
+    (k : ℕ) (old new : ClockStates) (taps_old taps_new : T) : Type 0 where
+  pub more : List Call
+  pub taps : Adds stands taps_old taps_new more
+  pub settled : (other : Setting) (sub : ℕ → ℕ → List Slot) (rank ran : NodeClock → ℕ) (filled : ℕ → ℕ) (front : ℕ → List Answer) →
+      let setting = over plan library clocks other in
+      IsWorld setting sub rank own → HasAnswers setting (after_calls front more)
+      → Stand setting sub rank (rank (clock_at clocks k)) ran filled front old
+      → (reads_at setting k ≡ true → filled k ≡ suc (ran (clock_at clocks k)))
+      → IsFilling setting sub rank (rank (clock_at clocks k)) k (is_node k) ran filled front more new
+
+-- the same over a shape
+abbrev pub NodeSettledOver : {T : Type 0} → (T → List Call → Type 0) → Shape → List Bool → (k : ℕ) → (old new : ClockStates) → (taps_old taps_new : T) → Type 0
+NodeSettledOver stands shape own k old new taps_old taps_new = NodeSettled stands shape.plan.now shape.library.now shape.clocks.now own k old new taps_old taps_new
+
+-- memory was refused: these are the first calls for the item of node k, which is a crossfade
+pub record IsFillingStopped (setting : Setting) (sub : ℕ → ℕ → List Slot) (ran : NodeClock → ℕ) (filled : ℕ → ℕ) (k : ℕ) (made : List Call) : Type 0 where
+  pub overlap : ℕ
+  pub node : Node
+  pub there : slice_get setting.plan.nodes k ≡ Some node
+  pub fades : work_at setting k node ≡ Fades overlap
+  pub begins : IsBegin made (joined_between (calls_below setting sub k) (filled k) (run_of overlap (sub k) (position (past_of setting sub ran k) k)))
+
+pub record NodeStopped {T : Type 0} (stands : T → List Call → Type 0) (plan : Plan) (library : Sounds) (clocks : List NodeClock) (own : List Bool)
+    (k : ℕ) (old : ClockStates) (taps_old taps_new : T) : Type 0 where
+  pub made : List Call
+  pub taps : Adds stands taps_old taps_new made
+  pub begins : (other : Setting) (sub : ℕ → ℕ → List Slot) (rank ran : NodeClock → ℕ) (filled : ℕ → ℕ) (front : ℕ → List Answer) →
+      let setting = over plan library clocks other in
+      IsWorld setting sub rank own → HasAnswers setting (after_calls front made)
+      → Stand setting sub rank (rank (clock_at clocks k)) ran filled front old
+      → IsFillingStopped setting sub ran filled k made
+
+-- the same over a shape
+abbrev pub NodeStoppedOver : {T : Type 0} → (T → List Call → Type 0) → Shape → List Bool → (k : ℕ) → ClockStates → (taps_old taps_new : T) → Type 0
+NodeStoppedOver stands shape own k old taps_old taps_new = NodeStopped stands shape.plan.now shape.library.now shape.clocks.now own k old taps_old taps_new
+
+-- the crossfades of a clock below a node have their items, by the calls of the instants that their sub-clocks made for them
+pub record AreFilled (setting : Setting) (sub : ℕ → ℕ → List Slot) (rank : NodeClock → ℕ) (clock : NodeClock) (below : ℕ) (ran : NodeClock → ℕ) (filled : ℕ → ℕ)
+    (front : ℕ → List Answer) (more : List Call) (lanes : ClockStates) : Type 0 where
+  pub reached : IsReached setting sub rank (rank clock) (is_upto setting.clocks clock below) (is_upto setting.clocks clock below) ran filled front more lanes
+  pub calls : more ≡ calls_upto setting sub clock (first_instants setting sub clock (ran clock)) below
+
+-- before the crossfades of a clock are settled: they have the items that the instants before took, and the readers have begun
+pub record AreReady (setting : Setting) (sub : ℕ → ℕ → List Slot) (clock : NodeClock) (ran : NodeClock → ℕ) (filled : ℕ → ℕ) : Type 0 where
+  pub each : (k overlap : ℕ) (node : Node) → slice_get setting.plan.nodes k ≡ Some node → work_at setting k node ≡ Fades overlap
+      → clock_of setting k ≡ clock → filled k ≡ ran_by sub k overlap (first_instants setting sub clock (ran clock))
+  pub begun : (i : ℕ) → reads_at setting i ≡ true → clock_of setting i ≡ clock → filled i ≡ suc (ran clock)
+
+pub record AllSettled {T : Type 0} (stands : T → List Call → Type 0) (plan : Plan) (library : Sounds) (clocks : List NodeClock) (own : List Bool)
+    (clock : NodeClock) (below : ℕ) (old new : ClockStates) (taps_old taps_new : T) : Type 0 where
+  pub more : List Call
+  pub taps : Adds stands taps_old taps_new more
+  pub settled : (other : Setting) (sub : ℕ → ℕ → List Slot) (rank ran : NodeClock → ℕ) (filled : ℕ → ℕ) (front : ℕ → List Answer) →
+      let setting = over plan library clocks other in
+      IsWorld setting sub rank own → HasAnswers setting (after_calls front more)
+      → Stand setting sub rank (rank clock) ran filled front old → AreReady setting sub clock ran filled
+      → AreFilled setting sub rank clock below ran filled front more new
+
+-- the same over a shape
+abbrev pub AllSettledOver : {T : Type 0} → (T → List Call → Type 0) → Shape → List Bool → NodeClock → (below : ℕ) → (old new : ClockStates) → (taps_old taps_new : T) → Type 0
+AllSettledOver stands shape own clock below old new taps_old taps_new = AllSettled stands shape.plan.now shape.library.now shape.clocks.now own clock below old new taps_old taps_new
+
+pub record SettlingStopped {T : Type 0} (stands : T → List Call → Type 0) (plan : Plan) (library : Sounds) (clocks : List NodeClock) (own : List Bool)
+    (clock : NodeClock) (old : ClockStates) (taps_old taps_new : T) : Type 0 where
+  pub made : List Call
+  pub taps : Adds stands taps_old taps_new made
+  pub begins : (other : Setting) (sub : ℕ → ℕ → List Slot) (rank ran : NodeClock → ℕ) (filled : ℕ → ℕ) (front : ℕ → List Answer) →
+      let setting = over plan library clocks other in
+      IsWorld setting sub rank own → HasAnswers setting (after_calls front made)
+      → Stand setting sub rank (rank clock) ran filled front old → AreReady setting sub clock ran filled
+      → IsBegin made (calls_upto setting sub clock (first_instants setting sub clock (ran clock)) (length plan.nodes))
+
+-- the same over a shape
+abbrev pub SettlingStoppedOver : {T : Type 0} → (T → List Call → Type 0) → Shape → List Bool → NodeClock → ClockStates → (taps_old taps_new : T) → Type 0
+SettlingStoppedOver stands shape own clock old taps_old taps_new = SettlingStopped stands shape.plan.now shape.library.now shape.clocks.now own clock old taps_old taps_new

@@ -1,0 +1,124 @@
+// The instants of a clock and of the sub-clocks below it.
+ghost use Rattle.std.specs.Prelude.{◌≡◌, ◌<◌, ℕ, length, slice_index_or, OnOk, OnErr};
+ghost use Rattle.clock_infer.specs.declared.clock_map.NodeClock.{NodeClock as Clock};
+ghost use Rattle.clock_infer.specs.declared.clock_map.NodeClock.TheVariants.{Main as InMain};
+ghost use Rattle.clock_instants.specs.Takes.{HasReader, ReadersAreIn};
+ghost use Rattle.nested_instants.specs.Clocks.{AllSettledOver, AreClockLanesOver, AreLeft, HasLevels, HasRanks, InstantMadeOver, InstantStoppedOver, IsIdle, NodeSettledOver, NodeStoppedOver, SettlingStoppedOver, is_in, is_node};
+ghost use Rattle.clock_instants.specs.Shapes.{IsShape};
+
+use crate::ClockStates;
+use crate::filling::{fill_child, fill_on};
+use crate::finishing::finish;
+use crate::keeping::keep;
+use crate::opening::begin_clock;
+use clock_infer::NodeClock;
+use clock_instants::Shape;
+use frame_core::Taps;
+use liq_base::Memory;
+use node_states::WeekTime;
+
+/// Makes one instant of a clock at a time: where it begins a tick its readers take, and then its crossfades run their
+/// sub-clocks until their items are settled, and no instant more. `own` tells of each node whether its own clock demands it
+/// of itself, and `levels` bounds how deep sub-clocks nest below the clock. Whatever instants the lanes stood for, they stand
+/// for one more of this clock. Where memory is refused some of the calls of the instant were made, from the first on.
+#[cycle(clocks)]
+pub fn make_instant<T: Taps>(
+    shape: &Shape<'_>,
+    own: &[bool],
+    lanes: &mut ClockStates,
+    clock: NodeClock,
+    time: WeekTime,
+    levels: usize,
+    taps: &mut T,
+) -> Result<(), Memory>
+    requires shape { IsShape shape.now }
+    requires in_own { length own.now ≡ length shape.now.plan.now.nodes }
+    requires lanes { AreClockLanesOver shape.now lanes.old }
+    requires levels { HasLevels shape.now.clocks.now clock levels }
+    requires idle { IsIdle clock lanes.old }
+    requires rate { time.rate ≡ shape.now.plan.now.rate }
+    requires frame { time.frame ≡ shape.now.plan.now.frame }
+    requires readers { ReadersAreIn shape.now.plan.now (T.buffers taps.old) }
+    ensures lanes { AreClockLanesOver shape.now lanes.new }
+    ensures buffers { T.buffers taps.new ≡ T.buffers taps.old }
+    ensures same { T.same taps.old taps.new }
+    ensures left { OnOk result ((rank : Clock → ℕ) → HasRanks shape.now.clocks.now rank
+        → AreLeft shape.now.clocks.now rank (rank clock) (is_in shape.now.clocks.now clock) lanes.old lanes.new) }
+    ensures made { OnOk result (InstantMadeOver T.stands shape.now own.now clock time lanes.old lanes.new taps.old taps.new) }
+    ensures stopped { OnErr result (InstantStoppedOver T.stands shape.now own.now clock time lanes.old taps.old taps.new) }
+    ensures reads { OnErr result (HasReader shape.now.plan.now shape.now.clocks.now clock) }
+{
+    begin_clock(shape, lanes, clock, time, taps)?;
+    settle_all(shape, own, lanes, clock, levels, taps)?;
+    finish(shape, own, lanes, clock, time.second);
+    Ok(())
+}
+
+// Feeds node k, if it is a crossfade, until its item is settled.
+#[cycle(clocks)]
+fn settle<T: Taps>(
+    shape: &Shape<'_>,
+    own: &[bool],
+    lanes: &mut ClockStates,
+    k: u32,
+    levels: usize,
+    taps: &mut T,
+) -> Result<(), Memory>
+    requires shape { IsShape shape.now }
+    requires in_own { length own.now ≡ length shape.now.plan.now.nodes }
+    requires lanes { AreClockLanesOver shape.now lanes.old }
+    requires levels { HasLevels shape.now.clocks.now (slice_index_or shape.now.clocks.now k (InMain 0)) levels }
+    requires idle { IsIdle (slice_index_or shape.now.clocks.now k (InMain 0)) lanes.old }
+    requires within { k < length shape.now.plan.now.nodes }
+    requires readers { ReadersAreIn shape.now.plan.now (T.buffers taps.old) }
+    ensures lanes { AreClockLanesOver shape.now lanes.new }
+    ensures buffers { T.buffers taps.new ≡ T.buffers taps.old }
+    ensures same { T.same taps.old taps.new }
+    ensures left { OnOk result ((rank : Clock → ℕ) → HasRanks shape.now.clocks.now rank
+        → AreLeft shape.now.clocks.now rank (rank (slice_index_or shape.now.clocks.now k (InMain 0))) (is_node k) lanes.old lanes.new) }
+    ensures settled { OnOk result (NodeSettledOver T.stands shape.now own.now k lanes.old lanes.new taps.old taps.new) }
+    ensures stopped { OnErr result (NodeStoppedOver T.stands shape.now own.now k lanes.old taps.old taps.new) }
+    ensures reads { OnErr result (HasReader shape.now.plan.now shape.now.clocks.now (slice_index_or shape.now.clocks.now k (InMain 0))) }
+{
+    while lanes.states[k as usize].wants() {
+        let time = lanes.times[k as usize];
+        keep(shape, lanes, k, 0);
+        make_instant(shape, own, lanes, NodeClock::Sub(k), time, levels - 1, taps)?;
+        fill_child(shape, lanes, k);
+        fill_on(shape, lanes, k, time, levels);
+    }
+    Ok(())
+}
+
+// Settles the items of all crossfades of a clock.
+#[cycle(clocks)]
+fn settle_all<T: Taps>(
+    shape: &Shape<'_>,
+    own: &[bool],
+    lanes: &mut ClockStates,
+    clock: NodeClock,
+    levels: usize,
+    taps: &mut T,
+) -> Result<(), Memory>
+    requires shape { IsShape shape.now }
+    requires in_own { length own.now ≡ length shape.now.plan.now.nodes }
+    requires lanes { AreClockLanesOver shape.now lanes.old }
+    requires levels { HasLevels shape.now.clocks.now clock levels }
+    requires idle { IsIdle clock lanes.old }
+    requires readers { ReadersAreIn shape.now.plan.now (T.buffers taps.old) }
+    ensures lanes { AreClockLanesOver shape.now lanes.new }
+    ensures buffers { T.buffers taps.new ≡ T.buffers taps.old }
+    ensures same { T.same taps.old taps.new }
+    ensures left { OnOk result ((rank : Clock → ℕ) → HasRanks shape.now.clocks.now rank
+        → AreLeft shape.now.clocks.now rank (rank clock) (is_in shape.now.clocks.now clock) lanes.old lanes.new) }
+    ensures settled { OnOk result (AllSettledOver T.stands shape.now own.now clock (length shape.now.plan.now.nodes) lanes.old lanes.new taps.old taps.new) }
+    ensures stopped { OnErr result (SettlingStoppedOver T.stands shape.now own.now clock lanes.old taps.old taps.new) }
+    ensures reads { OnErr result (HasReader shape.now.plan.now shape.now.clocks.now clock) }
+{
+    let mut i = lanes.nodes.first(clock);
+    while i < shape.clocks.len() {
+        settle(shape, own, lanes, i as u32, levels, taps)?;
+        i = lanes.nodes.after(i);
+    }
+    Ok(())
+}

@@ -1,0 +1,61 @@
+// A crossfade takes a run of its child's cells.
+ghost use Rattle.std.specs.Prelude.{◌≡◌, ◌<◌, ◌≤◌, ◌+◌, ◌++◌, ◌∷◌, ℕ, List, [], suc, length, if◌then◌else◌};
+ghost use Rattle.frame_core.specs.Library.{Sounds};
+ghost use Rattle.frame_core.specs.Slots.{Slot as TheSlot};
+ghost use Rattle.op_cross.specs.States.{track_room, wants as crossing_wants};
+ghost use Rattle.op_leaf.specs.Lanes.{AreTitled, IsLane};
+ghost use Rattle.stream_meaning.specs.Operators.{Work};
+ghost use Rattle.stream_meaning.specs.Instants.{Setting, Moment};
+ghost use Rattle.node_states.specs.Passing.{passes};
+ghost use Rattle.node_states.specs.States.{Fits, StateStands, left, room};
+
+use crate::NodeState;
+use op_cross::CrossState;
+
+impl NodeState {
+    /// How many cells of a track that goes on it still takes: as many settle its item, where it is a crossfade.
+    pub fn room(&self) -> u32
+        ensures { result ≡ room self.now }
+    {
+        match self {
+            NodeState::Cross(state) => room_of(state),
+            _ => 0,
+        }
+    }
+
+    /// Whether cells of a crossfade's child pass through it, one by one: each one more settles one item.
+    pub fn passes(&self) -> bool
+        ensures { result ≡ passes self.now }
+    {
+        match self {
+            NodeState::Cross(state) => state.passes(),
+            _ => false,
+        }
+    }
+
+    /// Takes the next slots of a crossfade's child, which are cells of this title and of a track that goes on.
+    pub fn fill_stretch(&mut self, title: u32, lefts: &[i16], rights: &[i16])
+        requires same { length rights.now ≡ length lefts.now }
+        requires few { length lefts.now ≤ room self.old }
+        ensures fits { (library : Sounds) (children : ℕ) → Fits library children self.old → Fits library children self.new }
+        ensures filled { (setting : Setting) (sub : ℕ → ℕ → List TheSlot) (past : List Moment) (filled i : ℕ) (work : Work) (slots : ℕ → TheSlot)
+            → StateStands setting sub past filled i work self.old → IsLane slots (length lefts.now) lefts.now rights.now → AreTitled slots (length lefts.now) title
+            → ((m : ℕ) → m < length lefts.now → sub i (suc (filled + m)) ≡ sub i (filled + m) ++ slots m ∷ [])
+            → StateStands setting sub past (filled + length lefts.now) i work self.new }
+        ensures less { 0 < length lefts.now → left self.new < left self.old }
+    {
+        if let NodeState::Cross(state) = self {
+            let wanting = state.wants();
+            if wanting {
+                state.fill_stretch(title, lefts, rights);
+            }
+        }
+    }
+}
+
+// How many cells of a track that goes on settle the item of a crossfade; 0 where it is settled.
+fn room_of(state: &CrossState) -> u32
+    ensures { result ≡ (if crossing_wants state.now then track_room state.now else 0) }
+{
+    if state.wants() { state.room() } else { 0 }
+}

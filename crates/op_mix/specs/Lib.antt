@@ -1,0 +1,2 @@
+pub mod Mixings
+pub mod Stretches

@@ -1,0 +1,20 @@
+-- What a mixer stands for.
+use Rattle.std.specs.Prelude.{Some, None, List, [], ◌∷◌}
+use Rattle.frame_core.specs.declared.cell.Cell.{Cell}
+use Rattle.frame_core.specs.Slots.{Slot}
+use Rattle.stream_meaning.specs.Arithmetic.{Mixing}
+use Rattle.stream_meaning.specs.Arithmetic as mixing
+use Rattle.op_mix.specs.declared.mixer.Mixer.{Mixer}
+use Rattle.op_mix.specs.declared.mixer.Mixer.TheVariants.{Adds, Scales, Halves, Doubles, Passes}
+
+abbrev pub mixing_of : Mixer → Mixing
+mixing_of (Adds normalize) = mixing.Adds normalize
+mixing_of (Scales factor) = mixing.Scales factor.millionths
+mixing_of Halves = mixing.Halves
+mixing_of Doubles = mixing.Doubles
+mixing_of Passes = mixing.Passes
+
+-- the first of these cells
+abbrev pub front_of : List Cell → Slot
+front_of [] = None
+front_of (cell ∷ cells) = Some cell

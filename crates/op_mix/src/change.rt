@@ -1,0 +1,60 @@
+// One cell, changed.
+ghost use Rattle.std.specs.Prelude.{◌≡◌};
+ghost use Rattle.stream_meaning.specs.Arithmetic.{amplified, cells_of, doubled, halved};
+ghost use Rattle.op_mix.specs.Mixings.{front_of};
+
+use fixed_text::Decimal;
+use frame_core::Cell;
+use sample_kernels::{halves, scale};
+
+/// The first cell among these slots.
+pub fn first_cell(slots: &[Option<Cell>]) -> Option<Cell>
+    ensures { result ≡ front_of (cells_of slots.now) }
+{
+    for slot in slots {
+        if slot.is_some() {
+            return *slot;
+        }
+    }
+    None
+}
+
+/// Each sample times a factor.
+pub fn amplified(cell: Cell, factor: Decimal) -> Cell
+    ensures { result ≡ amplified factor.millionths cell }
+{
+    let mut samples = [0; 2];
+    scale(factor, &[cell.left, cell.right], &mut samples);
+    let [left, right] = samples;
+    Cell {
+        left,
+        right,
+        first: cell.first,
+        title: cell.title,
+    }
+}
+
+/// Half the sum of both sides, in mono.
+pub fn halved(cell: Cell) -> Cell
+    ensures { result ≡ halved cell }
+{
+    let mut samples = [0];
+    halves(&[cell.left], &[cell.right], &mut samples);
+    let [left] = samples;
+    Cell {
+        left,
+        right: 0,
+        first: cell.first,
+        title: cell.title,
+    }
+}
+
+/// The left sample on both sides.
+pub fn doubled(cell: Cell) -> Cell
+    ensures { result ≡ doubled cell }
+{
+    Cell {
+        right: cell.left,
+        ..cell
+    }
+}

@@ -1,0 +1,65 @@
+// Room for the sums of a run.
+ghost use Rattle.std.specs.Prelude.{◌≡◌, ◌<◌, ◌≤◌, pos, length, replicate};
+ghost use Rattle.op_mix.specs.Stretches.{levels_of, many_give, offers_in, samples_of, summed_lanes};
+
+use crate::lane::sum_lane;
+use liq_base::Memory;
+use std::alloc::Global;
+use std::marker::Model;
+use stream_meaning::Part;
+
+/// The most instants of a run.
+pub const MAX_STRETCH: u32 = 1024;
+
+/// Room for a sum at each instant of a run, and for how many samples it has. Contracts see for how many instants, which is
+/// `MAX_STRETCH`.
+#[derive(Drop)]
+pub struct Sums {
+    sums: Vec<i32>,
+    counts: Vec<u16>,
+}
+
+impl Model for Sums {
+    ghost use Rattle.std.specs.Prelude.{◌≡◌, ℕ, length};
+
+    ghost Value = { ℕ };
+
+    ghost view = { λ s. length s.sums.items };
+
+    ghost invariant = { λ s. (length s.sums.items ≡ 1024) × (length s.counts.items ≡ 1024) };
+}
+
+impl Sums {
+    /// No later call takes memory.
+    pub fn new(alloc: Global) -> Result<Sums, Memory> {
+        let sums = vec![in alloc; 0; MAX_STRETCH as usize]?;
+        let counts = vec![in alloc; 0; MAX_STRETCH as usize]?;
+        Ok(Sums { sums, counts })
+    }
+
+    /// One side of the samples of a sum: that of the children that offer, at each instant. Where none does nothing is written.
+    pub fn sum(
+        &mut self,
+        children: &[u32],
+        parts: &[Part],
+        lanes: &[Vec<i16>],
+        normalize: bool,
+        into: &mut [i16],
+    )
+        requires few { length children.now ≤ 65535 }
+        requires short { length into.old ≤ 1024 }
+        ensures sum { 0 < many_give (offers_in parts.now) children.now
+            → into.new ≡ levels_of normalize (many_give (offers_in parts.now) children.now)
+            (summed_lanes (offers_in parts.now) (λ child. samples_of lanes.now child (length into.old)) (replicate (length into.old) (pos 0)) children.now) }
+    {
+        sum_lane(
+            children,
+            parts,
+            lanes,
+            normalize,
+            &mut self.sums,
+            &mut self.counts,
+            into,
+        );
+    }
+}

@@ -1,5 +1,0 @@
-use Rattle.random_ops.proofs.Standing.{some_offered}
-use Rattle.random_ops.proofs.laws.some_child_is_used.Goals as goal
-
-pub returns : goal.returns
-returns c = λ turn past slots. some_offered turn past slots

@@ -1,0 +1,12 @@
+pub mod Staying
+pub mod Turning
+pub mod Demanding
+pub mod Parts
+pub mod Works
+pub mod Following
+pub mod Stretching
+pub mod Laning
+pub mod Titling
+pub mod Filling
+pub mod Reaching
+pub mod Quiet

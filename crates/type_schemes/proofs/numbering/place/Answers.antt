@@ -1,5 +1,0 @@
-use Rattle.type_schemes.proofs.Ordering.{place_counted}
-use Rattle.type_schemes.proofs.numbering.place.Goals as goal
-
-pub returns-clause-next : goal.returns-clause-next
-returns-clause-next c = place_counted c.args.numbers.now.keys _ c.args.number _ c.in_ok-place.ensures.keys c.in_ok-place.ensures.index
