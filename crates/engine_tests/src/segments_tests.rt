@@ -1,4 +1,4 @@
-//! How many segments a tick has, from the table of `docs/streams.md`, "Segments". No clause says it: `rest` of each node and
+//! How many segments a tick has, from the table of `docs/engine.md`, "Segments". No clause says it: `rest` of each node and
 //! `make_run` are bounds from above. The file has the samples 1, 2 and 3 and is played again and again; a blank has no end. A
 //! crossfade mixes two samples.
 ghost use Rattle.std.specs.Prelude.{◌≡◌, Some, length, IfOk};

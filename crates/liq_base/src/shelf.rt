@@ -49,7 +49,7 @@ impl From<Memory> for ShelfFault {
 }
 
 /// Files under names: they are read whole, and created as sinks that a closing puts under their
-/// names. The rules stand in `docs/outside.md`.
+/// names. The rules stand in `docs/shelves.md`.
 pub trait Shelf {
     /// The sinks that it creates. Those of a shelf that tells its files tell their bytes and name.
     type Out: Sink + Send;

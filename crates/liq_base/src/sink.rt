@@ -17,7 +17,7 @@ impl fmt::Display for Failed {
 
 impl std::error::Error for Failed {}
 
-/// Takes bytes, piece by piece. It takes no memory. The rules stand in `docs/outside.md`.
+/// Takes bytes, piece by piece. It takes no memory. The rules stand in `docs/shelves.md`.
 pub trait Sink {
     /// The bytes that were taken, where it tells them.
     ghost held: { Self → Option (List ℕ) };
