@@ -128,14 +128,15 @@ fn a_sum_goes_by_the_tracks_of_its_children(rt: HostRuntime) -> Result<(), Fail>
     check_tick(&rt, alloc, &plan, 2, &library, 3, &held)
 }
 
-// Two samples are held back, and all that comes passes through, as long as the blank goes on: instants 0 to 7.
+// At instant 0 the crossfade gives the cell that begins the track: two samples are held back behind it, and no further item is settled.
+// From then on it is in the middle of the track, and all that comes passes through, as long as the blank goes on. So instants 0, and 1 to 7.
 #[test]
 fn a_crossfade_passes_on_one_track(rt: HostRuntime) -> Result<(), Fail> {
     let alloc = rt.alloc();
     let library = one_of_two(alloc)?;
     let plan = blank_faded(alloc)?;
     let held = [0; 16];
-    check_tick(&rt, alloc, &plan, 1, &library, 1, &held)
+    check_tick(&rt, alloc, &plan, 1, &library, 2, &held)
 }
 
 // The items are 1, then 2 3 over 1 2 (2, and 5 halves), then 3 over 1, then again 2 3 over 1 2, and so on. Item 0 stands alone: behind
