@@ -1,9 +1,8 @@
 -- A reader that plays, some cells on.
-use Rattle.std.proofs.Common.{◌≡◌, ◌∙◌, ℕ, zero, suc, Bool, true, false, List, [], ◌∷◌, drop, slice_get, refl, ap, add-one}
+use Rattle.std.proofs.Common.{◌≡◌, ◌∙◌, ℕ, zero, suc, true, List, [], ◌∷◌, drop, slice_get, refl, ap, add-one}
 use Rattle.std.proofs.lemmas.List.{drop-drop}
 use Rattle.frame_core.specs.declared.cell.Cell.{Cell}
 use Rattle.op_leaf.specs.Readers.{Reader, after_cell, read_by, reader_slot}
-use Rattle.op_leaf.specs.Stores.{shown}
 
 at_front : (cells : List Cell) (prefill frame : ℕ) → reader_slot (record { cells = cells; playing = true; prefill = prefill; frame = frame }) ≡ slice_get cells 0
 at_front [] prefill frame = refl
@@ -33,10 +32,3 @@ plays_on reader j plays =
 pub one_before : (j : ℕ) (reader : Reader) → read_by j (after_cell reader) ≡ read_by (suc j) reader
 one_before zero reader = refl
 one_before (suc j) reader = ap after_cell (one_before j reader)
-
--- over the cells of its ring
-pub holds_on : (reader : Reader) (cells : List Cell) (playing fresh : Bool) (prefill frame j : ℕ)
-    → reader ≡ record { cells = shown fresh cells; playing = playing; prefill = prefill; frame = frame } → playing ≡ true → fresh ≡ false
-    → reader_slot (read_by j reader) ≡ slice_get cells j
-holds_on reader cells playing fresh prefill frame j is plays old =
-    plays_on reader j (ap (λ (r : Reader). r.playing) is ∙ plays) ∙ ap (λ (r : Reader). slice_get r.cells j) is ∙ ap (λ f. slice_get (shown f cells) j) old

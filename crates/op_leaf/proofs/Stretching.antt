@@ -217,6 +217,29 @@ stretch_inner slots position (suc most) (suc j) here low =
     let f : position + suc j ≡ suc position + j = omega arith in
     ap (λ n. is_inner (slots n)) f ∙ inner_of slots (suc position) most j (omega (arith, low))
 
+going_by : (slots : ℕ → Slot) (title position most : ℕ) → ((j : ℕ) → j < going_from slots title (suc position) most → goes_on title (slots (suc position + j)) ≡ true)
+    → (now : Bool) → goes_on title (slots position) ≡ now → (j : ℕ) → j < cond now (suc (going_from slots title (suc position) most)) zero → goes_on title (slots (position + j)) ≡ true
+going_by slots title position most more false e j low = absurd (omega (arith, low))
+going_by slots title position most more true e zero low = let f : position + 0 ≡ position = omega arith in ap (λ n. goes_on title (slots n)) f ∙ e
+going_by slots title position most more true e (suc j) low =
+    let f : position + suc j ≡ suc position + j = omega arith in
+    ap (λ n. goes_on title (slots n)) f ∙ more j (omega (arith, low))
+
+going_of : (slots : ℕ → Slot) (title position most j : ℕ) → j < going_from slots title position most → goes_on title (slots (position + j)) ≡ true
+going_of slots title position zero j low = absurd (omega (arith, low))
+going_of slots title position (suc most) j low =
+    going_by slots title position most (λ j low. going_of slots title (suc position) most j low) (goes_on title (slots position)) refl j low
+
+-- a stretch of one title, of which the first goes on with this title
+pub titled_going : (slots : ℕ → Slot) (title most j : ℕ) → goes_on title (slots 0) ≡ true → j < titled_stretch slots 0 most → goes_on title (slots j) ≡ true
+titled_going slots title zero j here low = absurd (omega (arith, low))
+titled_going slots title (suc most) zero here low = here
+titled_going slots title (suc most) (suc j) here low =
+    let f : 1 + j ≡ suc j = omega arith in
+    sym (ap (λ n. goes_on title (slots n)) f)
+    ∙ ap (λ t. goes_on t (slots (1 + j))) (sym (going_title title (slots 0) here))
+    ∙ going_of slots (title_of (slots 0)) 1 most j (omega (arith, low))
+
 pub inner_some : (slot : Slot) → is_inner slot ≡ true → IsSome slot
 inner_some None e = absurd (false≢true e)
 inner_some (Some cell) e = refl

@@ -6,7 +6,7 @@ ghost use Rattle.op_leaf.specs.Lanes.{IsLane, IsOneTrack};
 ghost use Rattle.op_leaf.specs.Readers.{after_cell, begun, missing, read_by, Reader, reader_slot, wants};
 
 use cell_ring::ChunkQueue;
-use frame_core::{Cell, Chunk, title_of};
+use frame_core::{Cell, Chunk, goes_on, title_of};
 use liq_base::Memory;
 use std::alloc::Global;
 use std::marker::Model;
@@ -117,10 +117,10 @@ impl ReaderState {
         ensures titled { (j : ℕ) → j < result → title_of (reader_slot (read_by j self.now)) ≡ title }
         ensures within { result ≤ most }
     {
-        if !self.playing || self.fresh {
+        if most == 0 || !goes_on(title, self.offer()) {
             return 0;
         }
-        self.queue.inner(title, 0, most)
+        self.stretch(most)
     }
 
     /// Gives as many cells as the slices are long, which are of one track, and goes on behind them.
