@@ -16,14 +16,9 @@ use fixed_text::WeekSecond;
 use liq_base::{Gate, Memory, Shelf};
 use station_check::check_report;
 use station_render::{Job, Threading, render, render_alone, report};
-use stations::{
-    broken_renderings_begin_those_of_one_thread, infallible_outputs_have_no_gaps,
-    one_thread_has_one_record, threads_render_as_one_thread,
-};
 use std::alloc::Global;
 use std::sync::Wait;
 use std::thread::Threads;
-use trace_replay::onward_records_are_ordered;
 
 /// The report of a check. No file changes.
 pub fn check_job<S: Shelf>(alloc: Global, file: &str, shelf: &mut S) -> Result<String, Halt>
@@ -54,11 +49,11 @@ pub fn alone_job<S: Shelf>(
     ensures order { CreatedFor (Render file.now start.second ticks.count None None cues) (S.files shelf.old) (sinks_of S.created S.closed shelf.old) (sinks_of S.created S.closed shelf.new) result }
 {
     let work = prepare(alloc, file, None, cues, ticks.count, shelf)?;
-    infallible_outputs_have_no_gaps();
-    threads_render_as_one_thread();
-    one_thread_has_one_record();
-    onward_records_are_ordered();
-    broken_renderings_begin_those_of_one_thread();
+    stations::laws::infallible_outputs_have_no_gaps();
+    stations::laws::threads_render_as_one_thread();
+    stations::laws::one_thread_has_one_record();
+    trace_replay::laws::onward_records_are_ordered();
+    stations::laws::broken_renderings_begin_those_of_one_thread();
     let job = Job {
         plan: &work.plan,
         ready: &work.ready,
@@ -86,11 +81,11 @@ pub fn threads_job<S: Shelf, G: Gate + Sync, R: Threads + Wait + Sync>(
 {
     let ticks = asked.ticks.count;
     let work = prepare(alloc, asked.file, asked.trace, asked.cues, ticks, shelf)?;
-    infallible_outputs_have_no_gaps();
-    threads_render_as_one_thread();
-    one_thread_has_one_record();
-    onward_records_are_ordered();
-    broken_renderings_begin_those_of_one_thread();
+    stations::laws::infallible_outputs_have_no_gaps();
+    stations::laws::threads_render_as_one_thread();
+    stations::laws::one_thread_has_one_record();
+    trace_replay::laws::onward_records_are_ordered();
+    stations::laws::broken_renderings_begin_those_of_one_thread();
     let job = Job {
         plan: &work.plan,
         ready: &work.ready,

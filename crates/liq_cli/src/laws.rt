@@ -14,17 +14,14 @@ ghost use Rattle.liq_cli.specs.Call.{Wrote};
 ghost use Rattle.liq_cli.specs.Replays.{HasText};
 ghost use Rattle.liq_cli.specs.Summary.{SumsAsOneThread, summary_of};
 
-use run_records::{lawful_records_are_rounds, rounds_are_one};
-use trace_replay::{onward_traces_are_accepted, replays_are_of_the_run};
-
 /// Where no buffer joins two clocks, the summary of a lawful run is that of rounds on one thread, whatever the length of its windows.
 pub fn sums_are_as_on_one_thread()
     ensures { (made : Files) (station : Station) (run : Run) → IsFit station.plan station.library station.clocks station.ticks
         → station.start < 604800 → IsLawful station run → HasNoJoin (bare station) station.clocks.running
         → SumsAsOneThread made station (summary_of made station run) }
 {
-    lawful_records_are_rounds();
-    rounds_are_one();
+    run_records::laws::lawful_records_are_rounds();
+    run_records::laws::rounds_are_one();
 }
 
 /// A run by threads that wrote a trace left it under its name; and where the main clocks can be listed so that each buffer that joins
@@ -38,6 +35,6 @@ pub fn onward_runs_are_rendered_again()
         → HasText files name (trace_text (trace_of station window run)) → IsPrepared files file None false station.ticks station.plan station.library station.clocks
         → IsRenderedAgain files file name station (trace_of station window run) run }
 {
-    onward_traces_are_accepted();
-    replays_are_of_the_run();
+    trace_replay::laws::onward_traces_are_accepted();
+    trace_replay::laws::replays_are_of_the_run();
 }

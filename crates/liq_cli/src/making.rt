@@ -8,7 +8,7 @@ ghost use Rattle.liq_cli.specs.Words.{Make, made_script};
 
 use crate::halt::Halt;
 use crate::jobs::report_or_halt;
-use crate::laws::sums_are_as_on_one_thread;
+use crate::laws;
 use crate::prepare::prepare;
 use crate::size::Size;
 use crate::summary::summary;
@@ -16,7 +16,6 @@ use fixed_text::WeekSecond;
 use liq_base::{Gate, Memory, SureShelf};
 use plan_core::Plan;
 use station_render::{Job, Threading, render};
-use stations::infallible_outputs_have_no_gaps;
 use std::alloc::Global;
 use std::sync::Wait;
 use std::thread::Threads;
@@ -62,8 +61,8 @@ fn sum_workload<G: Gate + Sync, R: Threads + Wait + Sync>(
     if !is_unbuffered(&work.plan) {
         return Err(Halt::Memory);
     }
-    infallible_outputs_have_no_gaps();
-    sums_are_as_on_one_thread();
+    stations::laws::infallible_outputs_have_no_gaps();
+    laws::sums_are_as_on_one_thread();
     let job = Job {
         plan: &work.plan,
         ready: &work.ready,

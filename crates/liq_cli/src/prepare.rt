@@ -16,7 +16,6 @@ use liq_base::{Fetched, Shelf, ShelfFault};
 use plan_core::Plan;
 use refusal_lines::Fault;
 use script_lex::LexFault;
-use script_plan::laws::one_answer;
 use script_plan::{ScriptFault, plan_of};
 use station_check::{check_clocks, check_plan};
 use stations::Ready;
@@ -55,7 +54,7 @@ pub fn prepare<S: Shelf>(
     ensures closed { S.closed shelf.new ≡ S.closed shelf.old }
 {
     let plan = read_plan(alloc, file, trace, cues, shelf)?;
-    one_answer();
+    script_plan::laws::one_answer();
     let ready = check_plan(alloc, &plan, ticks, shelf)?;
     Ok(Work { plan, ready })
 }
@@ -75,7 +74,7 @@ pub fn prepare_check<S: Shelf>(
     ensures closed { S.closed shelf.new ≡ S.closed shelf.old }
 {
     let plan = read_plan(alloc, file, None, false, shelf)?;
-    one_answer();
+    script_plan::laws::one_answer();
     let clocks = check_clocks(alloc, &plan, 0, shelf)?;
     Ok(CheckedPlan { plan, clocks })
 }
@@ -97,7 +96,7 @@ fn read_plan<S: Shelf>(
     ensures closed { S.closed shelf.new ≡ S.closed shelf.old }
 {
     let script = read_script(alloc, file, shelf)?;
-    one_answer();
+    script_plan::laws::one_answer();
     let plan = plan_of(alloc, &script)?;
     keep_apart(alloc, &plan, trace, cues)?;
     Ok(plan)
@@ -112,7 +111,7 @@ fn read_script<S: Shelf>(alloc: Global, file: &str, shelf: &mut S) -> Result<Vec
     ensures closed { S.closed shelf.new ≡ S.closed shelf.old }
 {
     let mut script = Vec::new(alloc);
-    one_answer();
+    script_plan::laws::one_answer();
     match shelf.read(file, &mut script, MAX_SCRIPT_BYTES) {
         Ok(Fetched::Found) => Ok(script),
         Ok(Fetched::Missing) => Err(Halt::Refused(Fault::NoScript)),

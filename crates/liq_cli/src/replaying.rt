@@ -14,13 +14,7 @@ use crate::traces::find_trace;
 use fixed_text::WeekSecond;
 use liq_base::Shelf;
 use station_render::{Job, render_again, report};
-use stations::{
-    broken_renderings_begin_those_of_one_thread, infallible_outputs_have_no_gaps,
-    one_thread_has_one_record, threads_render_as_one_thread,
-};
 use std::alloc::Global;
-use trace_log::texts_have_one_meaning;
-use trace_replay::onward_records_are_ordered;
 
 /// The report of a replay on one thread, whose outputs are written: those of the record that the trace tells. The trace is read behind
 /// the script and its audio files, and before an output is created, so an output may have its name.
@@ -40,14 +34,14 @@ pub fn replay_job<S: Shelf>(
 {
     let ticks = ticks.count;
     let work = prepare(alloc, file, None, false, ticks, shelf)?;
-    texts_have_one_meaning();
+    trace_log::laws::texts_have_one_meaning();
     let told = find_trace(alloc, &work.plan, &work.ready, start, ticks, trace, shelf)?;
     let chunks = told.chunks;
-    infallible_outputs_have_no_gaps();
-    threads_render_as_one_thread();
-    one_thread_has_one_record();
-    onward_records_are_ordered();
-    broken_renderings_begin_those_of_one_thread();
+    stations::laws::infallible_outputs_have_no_gaps();
+    stations::laws::threads_render_as_one_thread();
+    stations::laws::one_thread_has_one_record();
+    trace_replay::laws::onward_records_are_ordered();
+    stations::laws::broken_renderings_begin_those_of_one_thread();
     let job = Job {
         plan: &work.plan,
         ready: &work.ready,

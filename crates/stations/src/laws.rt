@@ -15,20 +15,13 @@ ghost use Rattle.stations.specs.Streams.{HasNoGaps, body_size, bytes_of, header_
 ghost use Rattle.stream_meaning.specs.Sinks.{kind_of, ticks_bytes};
 ghost use Rattle.wav_io.specs.Header.{block_of, padded};
 
-use run_records::{
-    broken_rounds_begin_rounds, broken_windows_begin_rounds, lawful_records_are_rounds,
-    rounds_are_one,
-};
-use stream_meaning::infallible_nodes_offer;
-use trace_replay::replays_are_of_the_run;
-
 /// Whatever buffers answer, an output of an infallible node has no gap.
 pub fn infallible_outputs_have_no_gaps()
     ensures { (files : Files) (station : Station) (run : Run) → IsWellFormed station.plan
         → IsAccepted files station.plan station.ticks station.library station.clocks → station.start < 604800
         → HasNoGaps station run }
 {
-    infallible_nodes_offer();
+    stream_meaning::laws::infallible_nodes_offer();
 }
 
 /// Where no buffer joins two clocks, a lawful run renders what one thread renders, whatever the length of its windows: also a replay.
@@ -37,8 +30,8 @@ pub fn threads_render_as_one_thread()
         → IsAccepted files station.plan station.ticks station.library station.clocks → station.start < 604800
         → IsLawful station run → HasNoJoin (bare station) station.clocks.running → RendersAsOneThread station run }
 {
-    lawful_records_are_rounds();
-    rounds_are_one();
+    run_records::laws::lawful_records_are_rounds();
+    run_records::laws::rounds_are_one();
 }
 
 /// A rendering on one thread has one record, so it always writes and tells the same: rounds, and the replay of a trace.
@@ -47,8 +40,8 @@ pub fn one_thread_has_one_record()
         → IsAccepted files station.plan station.ticks station.library station.clocks → station.start < 604800
         → IsLawful station run → HasOneRecord station run }
 {
-    rounds_are_one();
-    replays_are_of_the_run();
+    run_records::laws::rounds_are_one();
+    trace_replay::laws::replays_are_of_the_run();
 }
 
 /// A rendering that was broken off begins what one thread renders in rounds, where that is determined: in rounds, or where no buffer joins
@@ -58,10 +51,10 @@ pub fn broken_renderings_begin_those_of_one_thread()
         → IsAccepted files station.plan station.ticks station.library station.clocks → station.start < 604800
         → IsBegun station run → IsDetermined station → BeginsAsOneThread station run }
 {
-    broken_windows_begin_rounds();
-    broken_rounds_begin_rounds();
-    lawful_records_are_rounds();
-    rounds_are_one();
+    run_records::laws::broken_windows_begin_rounds();
+    run_records::laws::broken_rounds_begin_rounds();
+    run_records::laws::lawful_records_are_rounds();
+    run_records::laws::rounds_are_one();
 }
 
 /// The bytes of an output are its header, then those of all ticks, as many as its samples take, and then one zero byte, where these are odd.

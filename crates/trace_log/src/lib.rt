@@ -4,13 +4,12 @@
 mod checking;
 mod cutting;
 mod fault;
-mod laws;
+pub mod laws;
 mod printing;
 mod reading;
 mod trace;
 
 pub use fault::TraceFault;
-pub use laws::texts_have_one_meaning;
 pub use printing::print;
 pub use reading::read;
 pub use trace::Trace;

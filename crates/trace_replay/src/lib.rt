@@ -9,7 +9,7 @@ mod ends;
 mod engines;
 mod find;
 mod flat;
-mod laws;
+pub mod laws;
 mod logs;
 mod parts;
 mod station;
@@ -20,10 +20,5 @@ mod whole;
 mod windows;
 
 pub use accept::accepts;
-pub use laws::{
-    accepted_traces_tell_one_record, logs_of_onward_runs_are_accepted, onward_records_are_ordered,
-    onward_traces_are_accepted, ordered_traces_are_accepted, replays_are_of_the_run,
-    told_windows_are_legal,
-};
 pub use whole::{RecordChunks, find_record, replay};
 pub use windows::is_legal;
