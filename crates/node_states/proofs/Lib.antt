@@ -12,3 +12,4 @@ pub mod Hearing
 mod Ran
 mod Through
 pub mod Outputs
+mod Switching

@@ -15,6 +15,7 @@ mod task;
 mod time;
 
 pub use desk::Desk;
+pub use marks::steady_seconds;
 pub use state::NodeState;
 pub use steps::gives;
 pub use time::WeekTime;

@@ -1,5 +1,5 @@
-// Which children of a node that chooses are eligible.
-ghost use Rattle.std.specs.Prelude.{◌≡◌, ℕ, length, map};
+// Which children of a node that chooses are eligible, and for how long.
+ghost use Rattle.std.specs.Prelude.{◌≡◌, ◌<◌, ◌≤◌, ◌+◌, ◌%◌, ℕ, length, map};
 ghost use Rattle.liq_base.specs.declared.memory.Kind.{Kind};
 ghost use Rattle.plan_core.specs.Plans.{HasChildren};
 ghost use Rattle.stream_meaning.specs.Operators.{Choice, Eligible, marks_at, Picks, work_of};
@@ -9,6 +9,9 @@ ghost use Rattle.time_pred.specs.View.{view_pred};
 use fixed_text::WeekSecond;
 use plan_core::Op;
 use time_pred::Pred;
+
+// The seconds of a week.
+const WEEK: u32 = 604_800;
 
 /// Marks the children that are eligible at this second of the week: of a switch those whose predicate holds, and else each.
 pub fn mark_eligible(op: &Op, at: WeekSecond, marks: &mut [bool])
@@ -30,4 +33,33 @@ fn test_all(preds: &[Pred], at: WeekSecond, marks: &mut [bool])
     for child in 0..preds.len() {
         marks[child] = preds[child].holds(at);
     }
+}
+
+/// For how many seconds from this one on, at least 1 and at most a week, the eligible children of a node that chooses stay
+/// the same.
+pub fn steady_seconds(op: &Op, at: WeekSecond) -> u32
+    ensures some { 0 < result }
+    ensures most { result ≤ 604800 }
+    ensures stays { (rate i : ℕ) (kind : Kind) (choice : Choice) (eligible : Eligible) (j children : ℕ)
+        → work_of rate i kind op.now ≡ Picks choice eligible → j < result
+        → marks_at eligible ((at.second + j) % 604800) children ≡ marks_at eligible at.second children }
+{
+    match op {
+        Op::Switch { preds, .. } => least_steady(preds.as_slice(), at),
+        _ => WEEK,
+    }
+}
+
+// For how many seconds each predicate stays.
+fn least_steady(preds: &[Pred], at: WeekSecond) -> u32
+    ensures some { 0 < result }
+    ensures most { result ≤ 604800 }
+    ensures stays { (j : ℕ) → j < result
+        → map (λ pred. holds (view_pred pred) ((at.second + j) % 604800)) preds.now ≡ map (λ pred. holds (view_pred pred) at.second) preds.now }
+{
+    let mut least = WEEK;
+    for pred in preds {
+        least = pred.steady(at).min(least);
+    }
+    least
 }

@@ -52,11 +52,14 @@ impl WeekTime {
         self.place == 0
     }
 
-    /// How many instants behind this one lie in its second.
-    pub fn second_left(self) -> u32
-        ensures { (start n j : ℕ) → TimeStands start n self → j ≤ result → (n + j) / self.rate ≡ n / self.rate }
+    /// How many instants behind this one lie in its second and the next ones, so many seconds in all, as far as a u32
+    /// counts.
+    pub fn seconds_left(self, seconds: u32) -> u32
+        requires { 0 < seconds }
+        ensures { (start n j : ℕ) → TimeStands start n self → j ≤ result → (n + j) / self.rate < n / self.rate + seconds }
     {
-        self.rate - 1 - self.samples
+        let later = (seconds - 1).saturating_mul(self.rate);
+        (self.rate - 1 - self.samples).saturating_add(later)
     }
 
     /// How many instants behind this one lie in its tick.
