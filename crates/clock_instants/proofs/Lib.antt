@@ -9,6 +9,7 @@ pub mod Demanded
 pub mod Going
 pub mod Beginning
 pub mod Reading
+mod Steadying
 mod Stretched
 pub mod Samples
 pub mod Ahead

@@ -14,7 +14,7 @@ use Rattle.op_leaf.specs.Readers.{read_by, reader_slot}
 use Rattle.op_select.specs.declared.rule.Rule.{Rule}
 use Rattle.op_select.specs.Selection.{pick_of, picked}
 use Rattle.stream_meaning.specs.declared.part.Part.{Part}
-use Rattle.stream_meaning.specs.Operators.{Work, Choice, Selects, TakesTurns, Eligible, Every, Where, Plays, Picks, Mixes, Fades, Reads, marks_at}
+use Rattle.stream_meaning.specs.Operators.{Work, Choice, Selects, TakesTurns, Eligible, Plays, Picks, Mixes, Fades, Reads, marks_at}
 use Rattle.stream_meaning.specs.Instants.{Setting, Moment, count, demanded, gives, last_pick, moment_after, offer, part_at, part_by, parts_upto, picked_part, position, reading_after, reading_at, second_at, slots_at, work_at}
 use Rattle.stretch_laws.specs.Steady.{IsFree}
 use Rattle.stretch_laws.specs.Stretches.{IsNode, IsStretch, KeepsTitle, NodeGoes, NodeKeeps}
@@ -22,7 +22,7 @@ use Rattle.stretch_laws.proofs.Parts.{own_part, part_stays}
 use Rattle.stretch_laws.proofs.Following.{AreBelow, below_from}
 use Rattle.node_states.specs.declared.time.WeekTime.{WeekTime}
 use Rattle.clock_instants.specs.Nodes.{IsFirst}
-use Rattle.clock_instants.specs.Resting.{IsSameSecond, IsSameTick, NodeStretches, begins_at}
+use Rattle.clock_instants.specs.Resting.{IsSameTick, NodeStretches, begins_at}
 use Rattle.clock_instants.proofs.Places.{same_or_other}
 
 pick_some : (slots : List Slot) (last pick : Option ℕ) → is_some (picked_part (picked slots last pick)).slot ≡ true → is_some pick ≡ true
@@ -45,13 +45,14 @@ slots_same before after i (c ∷ children) (here, below) same =
     ∙ ap (λ rest. (part_at after c).slot ∷ rest) (slots_same before after i children below same)
 
 module _ (setting : Setting) (sub : ℕ → ℕ → List Slot) (clock : NodeClock) (past : List Moment) (i : ℕ) (node : Node) (nodes : AreNodes setting.plan.nodes) (is : IsNode setting clock i node)
-    (begins : Bool) (last : Option ℕ) (rest more second tick : ℕ) (few : rest ≤ more) (goes : NodeGoes setting sub past (moment_after setting sub clock past) i (work_at setting i node) begins more)
+    (begins : Bool) (last : Option ℕ) (rest more tick : ℕ) (few : rest ≤ more) (goes : NodeGoes setting sub past (moment_after setting sub clock past) i (work_at setting i node) begins more)
     (keeps : NodeKeeps setting sub past (moment_after setting sub clock past) i (work_at setting i node) more)
-    (steady : (choice : Choice) (eligible : Eligible) → work_at setting i node ≡ Picks choice eligible → (eligible ≡ Every → ⊥) → rest ≤ second)
+    (steady : (choice : Choice) (eligible : Eligible) (j children : ℕ) → work_at setting i node ≡ Picks choice eligible → j ≤ rest
+    → marks_at eligible (second_at setting (length past + j)) children ≡ marks_at eligible (second_at setting (length past)) children)
     (begun : begins ≡ begins_at (moment_after setting sub clock past).parts node.children last)
     (last_is : (rule : Rule) (eligible : Eligible) → work_at setting i node ≡ Picks (Selects rule) eligible → last ≡ last_pick (moment_after setting sub clock past ∷ past) i)
     (border : (buffer : ℕ) → work_at setting i node ≡ Reads buffer → rest ≤ tick)
-    (same : IsSameSecond setting (length past) second) (within : IsSameTick setting (length past) tick) where
+    (within : IsSameTick setting (length past) tick) where
   abbrev First : Moment
   First = moment_after setting sub clock past
 
@@ -92,13 +93,6 @@ module _ (setting : Setting) (sub : ℕ → ℕ → List Slot) (clock : NodeCloc
           let clash : begins ≡ true = begun ∙ ap (begins_at First.parts node.children) used ∙ ap (λ slots. is_first (slot_at slots child)) slots_all ∙ first in
           absurd (false≢true (sym none ∙ clash))
 
-  marks_by : (choice : Choice) (eligible : Eligible) (j children : ℕ) → work_at setting i node ≡ Picks choice eligible → 0 < j → j ≤ rest
-      → marks_at eligible (second_at setting (length past + j)) children ≡ marks_at eligible (second_at setting (length past)) children
-  marks_by choice Every j children at some low = refl
-  marks_by choice (Where preds) j children at some low =
-      let bound = steady choice (Where preds) at (λ e. cc) in
-      ap (λ s. marks_at (Where preds) s children) (same.each j (omega (arith, low, bound)))
-
   to_one : (j : ℕ) → 0 < j → suc (j - 1) ≡ j
   to_one j some = omega (arith, some)
 
@@ -127,7 +121,7 @@ module _ (setting : Setting) (sub : ℕ → ℕ → List Slot) (clock : NodeCloc
     items = λ overlap at some. (goes_at (Fades overlap) at).0 (omega (arith, some, few));
     settled = λ overlap j at some low g. ap (λ n. is_inner (item_of overlap (sub i) n)) (sym (from_one (position past i) j some))
         ∙ (goes_at (Fades overlap) at).1 g (j - 1) (omega (arith, some, low, few));
-    marks = marks_by;
+    marks = λ choice eligible j children at some low. steady choice eligible j children at low;
     free = λ choice eligible at some. free_by choice eligible at some (last_pick past i) refl;
     titles = λ j some low g. titles_by (work_at setting i node) refl j some low g;
   }
@@ -187,13 +181,14 @@ on_all setting sub clock past n rest all go = record {
     at_node : (i : ℕ) (node : Node) → IsNode setting clock i node → NodeStretches setting sub clock past i node rest
     at_node i node is = go.each i node (let low = slice_get_within setting.plan.nodes i node is.there in omega (arith, low, all)) is
 
--- what the time says of the instants behind this one
-pub second_is : (setting : Setting) (n : ℕ) (time : WeekTime) (second : ℕ) → time.rate ≡ setting.plan.rate → ((j : ℕ) → j ≤ second → (n + j) / time.rate ≡ n / time.rate)
-    → IsSameSecond setting n second
-second_is setting n time second rate stays = record {
-  each = λ j within. ap (λ k. (setting.start + k) % 604800) (subst (λ r. (n + j) / r ≡ n / r) rate (stays j within));
-}
+-- no change of what is eligible, in the seconds of the setting
+pub marks_are : (setting : Setting) (n : ℕ) (time : WeekTime) (eligible : Eligible) (j children : ℕ) → time.rate ≡ setting.plan.rate
+    → marks_at eligible ((setting.start + (n + j) / time.rate) % 604800) children ≡ marks_at eligible ((setting.start + n / time.rate) % 604800) children
+    → marks_at eligible (second_at setting (n + j)) children ≡ marks_at eligible (second_at setting n) children
+marks_are setting n time eligible j children rate same =
+    subst (λ r. marks_at eligible ((setting.start + (n + j) / r) % 604800) children ≡ marks_at eligible ((setting.start + n / r) % 604800) children) rate same
 
+-- what the time says of the tick of the instants behind this one
 pub tick_is : (setting : Setting) (n : ℕ) (time : WeekTime) (tick : ℕ) → time.frame ≡ setting.plan.frame
     → ((j : ℕ) → 0 < j → j ≤ tick → nat_eq ((n + j) % time.frame) 0 ≡ false) → IsSameTick setting n tick
 tick_is setting n time tick frame stays = record {

@@ -1,6 +1,8 @@
 -- How far a node goes on behind an instant, and with it its clock.
-use Rattle.std.specs.Prelude.{◌≡◌, ◌<◌, ◌≤◌, ◌+◌, ◌%◌, Bool, true, false, Option, Some, None, List, ◌∷◌, ℕ, suc, length, is_some, nat_eq}
+use Rattle.std.specs.Prelude.{◌≡◌, ◌<◌, ◌≤◌, ◌+◌, ◌/◌, ◌%◌, Bool, true, false, Option, Some, None, List, ◌∷◌, ℕ, suc, length, is_some, nat_eq}
+use Rattle.liq_base.specs.declared.memory.Kind.{Kind}
 use Rattle.plan_core.specs.declared.node.Node.{Node}
+use Rattle.plan_core.specs.declared.node.Op.{Op}
 use Rattle.clock_infer.specs.declared.clock_map.NodeClock.{NodeClock}
 use Rattle.frame_core.specs.Slots.{Slot, slot_at, is_first, title_of, is_inner}
 use Rattle.op_cross.specs.Runs.{item_of, run_of}
@@ -8,13 +10,15 @@ use Rattle.op_leaf.specs.declared.leaf.Leaf.{Leaf}
 use Rattle.op_leaf.specs.Leaves.{leaf_slot}
 use Rattle.op_leaf.specs.Readers.{read_by, reader_slot}
 use Rattle.stream_meaning.specs.declared.part.Part.{Part}
-use Rattle.stream_meaning.specs.Operators.{Choice, Eligible, Plays, Picks, Fades, Reads, marks_at}
+use Rattle.stream_meaning.specs.Operators.{Choice, Eligible, Plays, Picks, Fades, Reads, marks_at, work_of}
 use Rattle.stream_meaning.specs.Instants.{Setting, Moment, count, gives, last_pick, moment_after, offer, parts_upto, position, reading_after, reading_at, second_at, slots_at, work_at}
 use Rattle.stretch_laws.specs.Steady.{IsFree}
 use Rattle.stretch_laws.specs.Stretches.{AreFilled, IsNode, KeepsTitle}
 use Rattle.node_states.specs.declared.state.NodeState.{NodeState}
 use Rattle.node_states.specs.Passing.{asked, passes}
 use Rattle.node_states.specs.States.{AreLong, StateStands}
+use Rattle.node_states.specs.Times.{TimeStands}
+use Rattle.node_states.specs.declared.time.WeekTime.{WeekTime}
 use Rattle.clock_instants.specs.declared.shape.Shape.{Shape}
 use Rattle.clock_instants.specs.Shapes.{setting_over}
 
@@ -45,9 +49,11 @@ pub record NodeStretches (setting : Setting) (sub : ℕ → ℕ → List Slot) (
 pub record AreReadTo (setting : Setting) (clock : NodeClock) (filled : ℕ → ℕ) (n : ℕ) : Type 0 where
   pub each : (i : ℕ) (node : Node) (buffer : ℕ) → IsNode setting clock i node → work_at setting i node ≡ Reads buffer → filled i ≡ n
 
--- so many instants lie behind this one in its second
-pub record IsSameSecond (setting : Setting) (n second : ℕ) : Type 0 where
-  pub each : (j : ℕ) → j ≤ second → second_at setting (n + j) ≡ second_at setting n
+-- for so many instants behind one at this time, the eligible children of a node that chooses stay the same
+pub record MarksStay (op : Op) (time : WeekTime) (rest : ℕ) : Type 0 where
+  pub each : (rate i : ℕ) (kind : Kind) (choice : Choice) (eligible : Eligible) (start n j children : ℕ)
+      → work_of rate i kind op ≡ Picks choice eligible → TimeStands start n time → j ≤ rest
+      → marks_at eligible ((start + (n + j) / time.rate) % 604800) children ≡ marks_at eligible ((start + n / time.rate) % 604800) children
 
 -- so many instants lie behind this one in its tick
 pub record IsSameTick (setting : Setting) (n tick : ℕ) : Type 0 where
@@ -55,14 +61,14 @@ pub record IsSameTick (setting : Setting) (n tick : ℕ) : Type 0 where
 
 -- node i, which has this part and gave this, goes on for so many instants, whatever instants its state stood for; and where it is a crossfade, it
 -- asks for one slot in each of them where cells pass, else for none
-pub record NodeGoesOn (shape : Shape) (i : ℕ) (parts : List Part) (held : Part) (state : NodeState) (below below_title second tick rest : ℕ) : Type 0 where
+pub record NodeGoesOn (shape : Shape) (i : ℕ) (parts : List Part) (held : Part) (state : NodeState) (below below_title : ℕ) (time : WeekTime) (tick rest : ℕ) : Type 0 where
   pub goes : (other : Setting) (sub : ℕ → ℕ → List Slot) (clock : NodeClock) (past : List Moment) (filled : ℕ) (node : Node) →
       let setting = setting_over shape other in
       AreLong sub → IsNode setting clock i node → StateStands setting sub (moment_after setting sub clock past ∷ past) filled i (work_at setting i node) state
       → parts ≡ (moment_after setting sub clock past).parts → gives (moment_after setting sub clock past) i ≡ is_some held.slot
       → ((buffer : ℕ) → work_at setting i node ≡ Reads buffer → filled ≡ suc (length past))
       → (is_some held.slot ≡ true → passes state ≡ true → AreFilled setting sub i filled below below_title)
-      → IsSameSecond setting (length past) second → IsSameTick setting (length past) tick
+      → TimeStands setting.start (length past) time → IsSameTick setting (length past) tick
       → NodeStretches setting sub clock past i node rest
   pub asks : (setting : Setting) (sub : ℕ → ℕ → List Slot) (past : List Moment) (moment : Moment) (filled overlap j : ℕ)
       → AreLong sub → StateStands setting sub (moment ∷ past) filled i (Fades overlap) state → gives moment i ≡ is_some held.slot → is_some held.slot ≡ true

@@ -2,20 +2,20 @@
 ghost use Rattle.std.specs.Prelude.{◌≡◌, ◌<◌, ◌≤◌, is_some, ℕ, true, Some, length, slice_get};
 ghost use Rattle.liq_base.specs.declared.memory.Kind.{Kind as TheKind};
 ghost use Rattle.plan_core.specs.declared.node.Node.{Node as PlanNode};
-ghost use Rattle.stream_meaning.specs.Operators.{Choice, Eligible, Every, Picks, Reads, work_of};
+ghost use Rattle.stream_meaning.specs.Operators.{Reads, work_of};
 ghost use Rattle.node_states.specs.Passing.{passes};
 ghost use Rattle.node_states.specs.Stretches.{LiesAhead};
 ghost use Rattle.node_states.specs.States.{Fits};
 ghost use Rattle.clock_instants.specs.Held.{AllPassOnOver};
 ghost use Rattle.clock_instants.specs.Nodes.{AreNodesOf};
-ghost use Rattle.clock_instants.specs.Resting.{NodeGoesOn, begins_at};
+ghost use Rattle.clock_instants.specs.Resting.{MarksStay, NodeGoesOn, begins_at};
 ghost use Rattle.clock_instants.specs.Stretches.{AllLieAheadOver, ClockGoesOn};
 ghost use Rattle.clock_instants.specs.Shapes.{AllFitOver, IsShape};
 
 use crate::held::title_below;
 use crate::{ClockNodes, Shape};
 use clock_infer::NodeClock;
-use node_states::{NodeState, WeekTime};
+use node_states::{NodeState, WeekTime, steady_seconds};
 use plan_core::Op;
 use stream_meaning::Part;
 
@@ -47,7 +47,6 @@ pub fn rest_of(
     ensures through { AllPassOnOver shape.now clock held.now states.now rests.now result }
     ensures goes { ClockGoesOn shape.now clock time parts.now held.now states.now rests.now result }
 {
-    let second = time.second_left();
     let tick = time.tick_left();
     let mut rest = most.min(time.rate);
     let mut i = nodes.first(clock);
@@ -61,7 +60,7 @@ pub fn rest_of(
             i,
             rests[i],
             below_title,
-            second,
+            time,
             tick,
             rest,
         );
@@ -80,23 +79,24 @@ fn node_rest(
     i: usize,
     below: u32,
     below_title: u32,
-    second: u32,
+    time: WeekTime,
     tick: u32,
     most: u32,
 ) -> u32
     requires shape { IsShape shape.now }
+    requires rate { time.rate ≡ shape.now.plan.now.rate }
     requires in_parts { length parts.now ≡ length shape.now.plan.now.nodes }
     requires within { i < length shape.now.plan.now.nodes }
     requires fits { (node : PlanNode) → slice_get shape.now.plan.now.nodes i ≡ Some node → Fits shape.now.library.now (length node.children) state.now }
     ensures within { result ≤ most }
     ensures ahead { is_some held.slot ≡ true → LiesAhead shape.now.library.now state.now result }
     ensures through { is_some held.slot ≡ true → passes state.now ≡ true → result ≤ below }
-    ensures goes { NodeGoesOn shape.now i parts.now held state.now below below_title second tick result }
+    ensures goes { NodeGoesOn shape.now i parts.now held state.now below below_title time tick result }
 {
     let node = &shape.plan.nodes.as_slice()[i];
     let gave = held.slot.is_some();
     let begins = begins(parts, node.children.as_slice(), state.last());
-    let bound = border(&node.op, second, tick, most).min(most);
+    let bound = border(&node.op, time, tick, most).min(most);
     state.rest(
         parts[i],
         gave,
@@ -108,17 +108,28 @@ fn node_rest(
     )
 }
 
-// How many instants behind this one a node goes on without a new second or a new tick, where it has to do with one.
-fn border(op: &Op, second: u32, tick: u32, most: u32) -> u32
-    ensures second { (rate i : ℕ) (kind : TheKind) (choice : Choice) (eligible : Eligible) → work_of rate i kind op.now ≡ Picks choice eligible
-        → (eligible ≡ Every → ⊥) → result ≡ second }
+// How many instants behind this one a node goes on before its eligible children may change or a tick begins, where it has to
+// do with one.
+fn border(op: &Op, time: WeekTime, tick: u32, most: u32) -> u32
+    ensures marks { MarksStay op.now time result }
     ensures tick { (rate i buffer : ℕ) (kind : TheKind) → work_of rate i kind op.now ≡ Reads buffer → result ≡ tick }
 {
     match op {
-        Op::Switch { .. } => second,
+        Op::Switch { .. } => steady_left(op, time, most),
         Op::Buffer(_) => tick,
         _ => most,
     }
+}
+
+// How many instants behind this one the eligible children of a node stay the same, or so many. Its predicates are asked only
+// where the second ends first.
+fn steady_left(op: &Op, time: WeekTime, most: u32) -> u32
+    ensures { MarksStay op.now time result }
+{
+    if time.seconds_left(1) >= most {
+        return most;
+    }
+    time.seconds_left(steady_seconds(op, time.second))
 }
 
 // Whether the child at a place begins a track.

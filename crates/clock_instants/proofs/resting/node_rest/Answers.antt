@@ -7,7 +7,7 @@ use Rattle.stream_meaning.specs.Operators.{work_of}
 use Rattle.node_states.specs.States.{StateStands}
 use Rattle.clock_instants.specs.Resting.{begins_at}
 use Rattle.clock_instants.specs.States.{over}
-use Rattle.clock_instants.proofs.Stretched.{node_stretches}
+use Rattle.clock_instants.proofs.Stretched.{marks_are, node_stretches}
 use Rattle.clock_instants.proofs.resting.node_rest.Goals as goal
 
 pub rest-requires : goal.rest-requires
@@ -27,7 +27,7 @@ returns-clause-through c = λ gave through. c.rest.ensures.through (c.is_some-ga
 
 pub returns-clause-goes : goal.returns-clause-goes
 returns-clause-goes c = record {
-  goes = λ other sub clock past filled node long is stands parts gave begun are same within.
+  goes = λ other sub clock past filled node long is stands parts gave begun are time_is within.
       let setting = over c.args.shape.now.plan.now c.args.shape.now.library.now c.args.shape.now.clocks.now other in
       let found : slice_get c.args.shape.now.plan.now.nodes c.args.i ≡ Some c.index-as_slice-i.result =
       slice_get_read _ _ _ _ refl c.requires.within (c.index-as_slice-i.is ∙ ap (λ nodes. get_or nodes c.args.i c.index-as_slice-i.result) c.as_slice.ensures) in
@@ -37,21 +37,23 @@ returns-clause-goes c = record {
       let children : c.as_slice-2.result.now ≡ node.children = c.as_slice-2.ensures ∙ ap (λ (n : Node). n.children) read in
       let first = moment_after setting sub clock past in
       let part_is = ap (λ ps. part_at ps c.args.i) (sym parts) ∙ get_or_default _ _ silent _ in_parts in
-      node_stretches setting sub clock past c.args.i node c.requires.shape.nodes is c.begins-begins.result c.last.result c.rest.result c.rest.result c.args.second c.args.tick
+      node_stretches setting sub clock past c.args.i node c.requires.shape.nodes is c.begins-begins.result c.last.result c.rest.result c.rest.result c.args.tick
       (omega arith)
       (c.rest.ensures.goes setting sub past first filled c.args.i (work_at setting c.args.i node) refl long stands begun part_is (gave ∙ sym c.is_some-gave.ensures)
       (λ yes through. are (sym c.is_some-gave.ensures ∙ yes) through))
       (c.rest.ensures.keeps setting sub past first filled c.args.i (work_at setting c.args.i node) refl long stands begun part_is (gave ∙ sym c.is_some-gave.ensures)
       (λ yes through. are (sym c.is_some-gave.ensures ∙ yes) through))
-      (λ choice eligible at apart.
-      let is_second = c.border.ensures.second setting.plan.rate c.args.i c.index-as_slice-i.result.kind choice eligible (ap (λ (n : Node). work_of setting.plan.rate c.args.i n.kind n.op) read ∙ at) apart in
-      let low = c.rest.ensures.within in omega (arith, low, c.min-bound.ensures, is_second))
+      (λ choice eligible j children at low.
+      let bound = c.rest.ensures.within in
+      marks_are setting (length past) c.args.time eligible j children c.requires.rate
+      (c.border.ensures.marks.each setting.plan.rate c.args.i c.index-as_slice-i.result.kind choice eligible other.start (length past) j children
+      (ap (λ (n : Node). work_of setting.plan.rate c.args.i n.kind n.op) read ∙ at) time_is (omega (arith, low, bound, c.min-bound.ensures))))
       (c.begins-begins.ensures ∙ ap (λ ps. begins_at ps c.as_slice-2.result.now c.last.result) parts ∙ ap (λ cs. begins_at first.parts cs c.last.result) children)
       (λ rule eligible at. c.last.ensures setting sub (first ∷ past) filled c.args.i rule eligible (subst (λ w. StateStands setting sub (first ∷ past) filled c.args.i w c.args.state.now) at stands))
       (λ buffer at.
       let is_tick = c.border.ensures.tick setting.plan.rate c.args.i buffer c.index-as_slice-i.result.kind (ap (λ (n : Node). work_of setting.plan.rate c.args.i n.kind n.op) read ∙ at) in
       let low = c.rest.ensures.within in omega (arith, low, c.min-bound.ensures, is_tick))
-      same within;
+      within;
   asks = λ setting sub past moment filled overlap j long stands is gave are less.
       c.rest.ensures.asks setting sub past moment filled c.args.i overlap j long stands (is ∙ sym c.is_some-gave.ensures) (c.is_some-gave.ensures ∙ gave) are less;
 }

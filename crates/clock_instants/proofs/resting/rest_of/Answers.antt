@@ -14,7 +14,7 @@ use Rattle.clock_instants.specs.States.{over}
 use Rattle.clock_instants.proofs.Ahead.{ahead_all, ahead_none, ahead_skip, ahead_step, through_all, through_none, through_skip, through_step}
 use Rattle.clock_instants.proofs.Asking.{asks_all, asks_none, asks_skip, asks_step}
 use Rattle.clock_instants.proofs.Kept.{held_gives}
-use Rattle.clock_instants.proofs.Stretched.{on_all, on_none, on_skip, on_step, second_is, tick_is}
+use Rattle.clock_instants.proofs.Stretched.{on_all, on_none, on_skip, on_step, tick_is}
 use Rattle.clock_instants.proofs.Walking.{next_own}
 use Rattle.clock_instants.proofs.resting.rest_of.Goals as goal
 
@@ -90,8 +90,7 @@ loop-i-preserved c =
           behind.parts_are gave_is
           (λ buffer at. behind.begun.each c.loop-i.i node buffer is at)
           (λ gave through. subst (λ n. AreFilled S sub c.loop-i.i (filled c.loop-i.i) n c.title_below-below_title.result) rest_is (subst (λ t. AreFilled S sub c.loop-i.i (filled c.loop-i.i) (get_or c.args.rests.now c.loop-i.i 0) t) title_is (behind.filled_on.each c.loop-i.i node _ is found (gave_is ∙ gave) through)))
-          (second_is (over c.args.shape.now.plan.now c.args.shape.now.library.now c.args.shape.now.clocks.now other) (length past) c.args.time c.second_left-second.result
-          c.requires.rate (λ j. c.second_left-second.ensures other.start (length past) j behind.time_is))
+          behind.time_is
           (tick_is (over c.args.shape.now.plan.now c.args.shape.now.library.now c.args.shape.now.clocks.now other) (length past) c.args.time c.tick_left-tick.result
           c.requires.frame (λ j. c.tick_left-tick.ensures other.start (length past) j behind.time_is)))
           (c.loop-i.invariant.done other sub past filled behind));
