@@ -11,8 +11,8 @@ use Rattle.clock_instants.specs.Held.{IsHeld}
 use Rattle.clock_instants.specs.Shapes.{setting_over}
 use Rattle.clock_instants.specs.States.{AreRoots, AreSettled, ClockStands}
 
--- the instant after these lies in this second, the states stand for these, the items of the clock's crossfades are settled, and the marks
--- tell which of its nodes it demands of themselves
+-- the instant after these lies in this second, the states stand for these, the items of the clock's crossfades are settled, and `own`
+-- tells which of its nodes it demands of themselves
 pub record CanFinish (setting : Setting) (sub : ℕ → ℕ → List Slot) (clock : NodeClock) (past : List Moment) (filled : ℕ → ℕ)
     (own : List Bool) (second : ℕ) (states : List NodeState) : Type 0 where
   pub at : second ≡ second_at setting (length past)

@@ -40,6 +40,6 @@ pub record AreNodesOf (clocks : List NodeClock) (nodes : ClockNodes) : Type 0 wh
 -- what no node of another clock than the latest instant's does: it offers nothing, and is not demanded
 pub record IsLatest (clocks : List NodeClock) (latest : Latest) : Type 0 where
   pub in_parts : length latest.parts.items ≡ length clocks
-  pub in_marks : length latest.marks.items ≡ length clocks
+  pub in_demanded : length latest.demanded.items ≡ length clocks
   pub parts : (j : ℕ) → lies_at clocks latest.clock j ≡ false → part_at latest.parts.items j ≡ silent
-  pub marks : (j : ℕ) → lies_at clocks latest.clock j ≡ false → slice_index_or latest.marks.items j false ≡ false
+  pub demanded : (j : ℕ) → lies_at clocks latest.clock j ≡ false → slice_index_or latest.demanded.items j false ≡ false

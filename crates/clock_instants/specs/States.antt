@@ -44,6 +44,6 @@ pub record AllFit (plan : Plan) (library : Sounds) (states : List NodeState) : T
 pub record HasRoomFor (plan : Plan) (room : ℕ) : Type 0 where
   pub each : (i : ℕ) (node : Node) → slice_get plan.nodes i ≡ Some node → length node.children ≤ room
 
--- these marks tell of each node of a clock whether it is demanded of itself
+-- these tell of each node of a clock whether it is demanded of itself
 pub record AreRoots (setting : Setting) (clock : NodeClock) (own : List Bool) : Type 0 where
   pub each : (i : ℕ) → i < length setting.plan.nodes → lies_in setting clock i ≡ true → slice_index_or own i false ≡ is_root setting clock i

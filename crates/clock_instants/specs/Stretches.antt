@@ -16,8 +16,8 @@ use Rattle.node_states.specs.Passing.{LaneFills, given_part, passes}
 use Rattle.node_states.specs.Stretches.{LiesAhead, filled_on}
 use Rattle.node_states.specs.States.{AreLong, StateStands, reads, reads_at}
 use Rattle.node_states.specs.Times.{TimeStands}
-use Rattle.clock_instants.specs.declared.runs.Runs.{Runs}
-use Rattle.clock_instants.specs.declared.runs.Spare.{Spare}
+use Rattle.clock_instants.specs.declared.stretch_room.StretchRoom.{StretchRoom}
+use Rattle.clock_instants.specs.declared.stretch_room.Spare.{Spare}
 use Rattle.clock_instants.specs.declared.shape.Shape.{Shape}
 use Rattle.clock_instants.specs.Held.{AllAsk, AreFilledOn, AreSupplied, IsHeld, gave_at, goes_through}
 use Rattle.clock_instants.specs.Nodes.{lies_at}
@@ -25,25 +25,25 @@ use Rattle.clock_instants.specs.Resting.{AreReadTo}
 use Rattle.clock_instants.specs.Shapes.{setting_over}
 use Rattle.clock_instants.specs.States.{ClockStands}
 
--- node i has a lane on each side, with room for any run
+-- node i has a lane on each side, with room for any stretch
 pub record HasLanes (left right : Lanes) (i : ℕ) : Type 0 where
   pub on_left : HasLane left i
   pub on_right : HasLane right i
 
--- room for any run on each side
+-- room for any stretch on each side
 pub record IsSpare (spare : Spare) : Type 0 where
   pub on_left : 1024 ≤ length spare.left.items
   pub on_right : 1024 ≤ length spare.right.items
 
--- room for the runs of so many nodes, of which some have lanes; between two runs no node has a part
-pub record HasStretchRoom (nodes : ℕ) (runs : Runs) : Type 0 where
-  pub in_left : length runs.left.items ≡ nodes
-  pub in_right : length runs.right.items ≡ nodes
-  pub in_spare : IsSpare runs.spare
-  pub in_held : length runs.held.items ≡ nodes
-  pub in_rests : length runs.rests.items ≡ nodes
-  pub in_parts : length runs.parts.items ≡ nodes
-  pub clear : (j : ℕ) → part_at runs.parts.items j ≡ silent
+-- room for the stretches of so many nodes, of which some have lanes; between two stretches no node has a part
+pub record HasStretchRoom (nodes : ℕ) (room : StretchRoom) : Type 0 where
+  pub in_left : length room.left.items ≡ nodes
+  pub in_right : length room.right.items ≡ nodes
+  pub in_spare : IsSpare room.spare
+  pub in_held : length room.held.items ≡ nodes
+  pub in_rests : length room.rests.items ≡ nodes
+  pub in_parts : length room.parts.items ≡ nodes
+  pub clear : (j : ℕ) → part_at room.parts.items j ≡ silent
 
 -- of the first nodes, as many as there are lanes, each one whose state is not idle has a lane
 pub record HaveLanes (states : List NodeState) (count : ℕ) (lanes : Lanes) : Type 0 where

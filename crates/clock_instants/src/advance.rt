@@ -19,13 +19,13 @@ pub fn advance_all(
     nodes: &ClockNodes,
     clock: NodeClock,
     parts: &[Part],
-    marks: &[bool],
+    demanded: &[bool],
     states: &mut [NodeState],
 )
     requires shape { IsShape shape.now }
     requires chains { AreNodesOf shape.now.clocks.now nodes.now }
     requires in_parts { length parts.now ≡ length shape.now.plan.now.nodes }
-    requires in_marks { length marks.now ≡ length shape.now.plan.now.nodes }
+    requires in_demanded { length demanded.now ≡ length shape.now.plan.now.nodes }
     requires fit { AllFitOver shape.now states.old }
     ensures fit { AllFitOver shape.now states.new }
     ensures others { (i : ℕ) → same_clock (slice_index_or shape.now.clocks.now i (InMain 0)) clock ≡ false → slice_get states.new i ≡ slice_get states.old i }
@@ -33,13 +33,13 @@ pub fn advance_all(
         let setting = setting_over shape.now setting in
         AreLong sub → ClockStands setting sub clock past filled states.old → AreSettled setting sub clock past filled
         → parts.now ≡ parts_upto setting sub clock past (length shape.now.plan.now.nodes)
-        → moment.parts ≡ parts.now → moment.demands ≡ marks.now
+        → moment.parts ≡ parts.now → moment.demands ≡ demanded.now
         → ClockStands setting sub clock (moment ∷ past) filled states.new }
 {
     let mut i = nodes.first(clock);
     while i < shape.clocks.len() {
         let children = shape.plan.nodes.as_slice()[i].children.len();
-        states[i].next(parts[i], marks[i], shape.library, children);
+        states[i].next(parts[i], demanded[i], shape.library, children);
         i = nodes.after(i);
     }
 }

@@ -24,38 +24,38 @@ pub enum Demand {
     Offering,
 }
 
-/// Finds the demanded nodes of a clock, over marks that are set at those that are demanded of themselves. Nodes of other
-/// clocks do nothing and stay unmarked.
+/// Finds the demanded nodes of a clock, over those that are demanded of themselves. Nodes of other clocks do nothing, and are
+/// not demanded.
 pub fn find_demanded(
     shape: &Shape<'_>,
     nodes: &ClockNodes,
     clock: NodeClock,
     parts: &[Part],
-    marks: &mut [bool],
+    demanded: &mut [bool],
 )
     requires shape { IsShape shape.now }
     requires chains { AreNodesOf shape.now.clocks.now nodes.now }
     requires in_parts { length parts.now ≡ length shape.now.plan.now.nodes }
-    requires in_marks { length marks.old ≡ length shape.now.plan.now.nodes }
+    requires in_demanded { length demanded.old ≡ length shape.now.plan.now.nodes }
     requires parts { (j : ℕ) → lies_at shape.now.clocks.now clock j ≡ false → part_at parts.now j ≡ silent }
-    requires marks { (j : ℕ) → lies_at shape.now.clocks.now clock j ≡ false → slice_index_or marks.old j false ≡ false }
-    ensures others { (j : ℕ) → lies_at shape.now.clocks.now clock j ≡ false → slice_index_or marks.new j false ≡ false }
+    requires demanded { (j : ℕ) → lies_at shape.now.clocks.now clock j ≡ false → slice_index_or demanded.old j false ≡ false }
+    ensures others { (j : ℕ) → lies_at shape.now.clocks.now clock j ≡ false → slice_index_or demanded.new j false ≡ false }
     ensures demands { (library : Sounds) (clocks : List Clock) (setting : Setting) → PicksOffer shape.now.plan.now.nodes parts.now
-        → marks.new ≡ demands_from (λ j. slice_index_or marks.old j false) 0 (uses_from (over shape.now.plan.now library clocks setting) parts.now 0 shape.now.plan.now.nodes) }
+        → demanded.new ≡ demands_from (λ j. slice_index_or demanded.old j false) 0 (uses_from (over shape.now.plan.now library clocks setting) parts.now 0 shape.now.plan.now.nodes) }
 {
     let all = shape.plan.nodes.as_slice();
     let mut i = nodes.end(clock);
     while i > 0 {
         let at = i - 1;
         i = nodes.before(at);
-        if marks[at] {
+        if demanded[at] {
             let node = &all[at];
             demand_used(
                 demand_of(&node.op),
                 node.children.as_slice(),
                 parts,
                 parts[at].pick,
-                &mut marks[..at],
+                &mut demanded[..at],
             );
         }
     }
@@ -78,11 +78,11 @@ fn demand_of(op: &Op) -> Demand
     }
 }
 
-// Marks the child at a place, if it offers.
-fn demand_picked(children: &[u32], parts: &[Part], pick: Option<u32>, marks: &mut [bool])
-    requires in_marks { All (λ child. child < length marks.old) children.now }
+// Demands the child at a place, if it offers.
+fn demand_picked(children: &[u32], parts: &[Part], pick: Option<u32>, demanded: &mut [bool])
+    requires in_demanded { All (λ child. child < length demanded.old) children.now }
     requires in_parts { All (λ child. child < length parts.now) children.now }
-    ensures { (j : ℕ) → slice_index_or marks.new j false ≡ (slice_index_or marks.old j false || list_any (nat_eq j) (uses_in Demand.Picked parts.now children.now pick)) }
+    ensures { (j : ℕ) → slice_index_or demanded.new j false ≡ (slice_index_or demanded.old j false || list_any (nat_eq j) (uses_in Demand.Picked parts.now children.now pick)) }
 {
     let Some(place) = pick else {
         return;
@@ -91,38 +91,38 @@ fn demand_picked(children: &[u32], parts: &[Part], pick: Option<u32>, marks: &mu
         return;
     };
     if parts[*child as usize].slot.is_some() {
-        marks[*child as usize] = true;
+        demanded[*child as usize] = true;
     }
 }
 
-// Marks the children that offer.
-fn demand_offering(children: &[u32], parts: &[Part], marks: &mut [bool])
-    requires in_marks { All (λ child. child < length marks.old) children.now }
+// Demands the children that offer.
+fn demand_offering(children: &[u32], parts: &[Part], demanded: &mut [bool])
+    requires in_demanded { All (λ child. child < length demanded.old) children.now }
     requires in_parts { All (λ child. child < length parts.now) children.now }
-    ensures { (j : ℕ) → slice_index_or marks.new j false ≡ (slice_index_or marks.old j false || list_any (nat_eq j) (uses_in Demand.Offering parts.now children.now None)) }
+    ensures { (j : ℕ) → slice_index_or demanded.new j false ≡ (slice_index_or demanded.old j false || list_any (nat_eq j) (uses_in Demand.Offering parts.now children.now None)) }
 {
     for child in children {
         if parts[*child as usize].slot.is_some() {
-            marks[*child as usize] = true;
+            demanded[*child as usize] = true;
         }
     }
 }
 
-// Marks the children that a demanded node uses.
+// Demands the children that a demanded node uses.
 fn demand_used(
     demand: Demand,
     children: &[u32],
     parts: &[Part],
     pick: Option<u32>,
-    marks: &mut [bool],
+    demanded: &mut [bool],
 )
-    requires in_marks { All (λ child. child < length marks.old) children.now }
+    requires in_demanded { All (λ child. child < length demanded.old) children.now }
     requires in_parts { All (λ child. child < length parts.now) children.now }
-    ensures { (j : ℕ) → slice_index_or marks.new j false ≡ (slice_index_or marks.old j false || list_any (nat_eq j) (uses_in demand parts.now children.now pick)) }
+    ensures { (j : ℕ) → slice_index_or demanded.new j false ≡ (slice_index_or demanded.old j false || list_any (nat_eq j) (uses_in demand parts.now children.now pick)) }
 {
     match demand {
         Demand::Nothing => {}
-        Demand::Picked => demand_picked(children, parts, pick, marks),
-        Demand::Offering => demand_offering(children, parts, marks),
+        Demand::Picked => demand_picked(children, parts, pick, demanded),
+        Demand::Offering => demand_offering(children, parts, demanded),
     }
 }

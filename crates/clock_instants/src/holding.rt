@@ -9,35 +9,35 @@ use clock_infer::NodeClock;
 use node_states::gives;
 use stream_meaning::Part;
 
-/// Holds what the nodes of a clock gave at an instant at which they had these parts and marks.
+/// Holds what the nodes of a clock gave at an instant at which they had these parts and demands.
 pub fn hold(
     shape: &Shape<'_>,
     nodes: &ClockNodes,
     clock: NodeClock,
     parts: &[Part],
-    marks: &[bool],
+    demanded: &[bool],
     held: &mut [Part],
 )
     requires chains { AreNodesOf shape.now.clocks.now nodes.now }
     requires in_parts { length parts.now ≡ length shape.now.clocks.now }
-    requires in_marks { length marks.now ≡ length shape.now.clocks.now }
+    requires in_demanded { length demanded.now ≡ length shape.now.clocks.now }
     requires in_held { length held.old ≡ length shape.now.clocks.now }
     ensures given { (i : ℕ) → i < length shape.now.clocks.now → lies_at shape.now.clocks.now clock i ≡ true
-        → part_at held.new i ≡ given_by (slice_index_or marks.now i false) (part_at parts.now i) }
+        → part_at held.new i ≡ given_by (slice_index_or demanded.now i false) (part_at parts.now i) }
     ensures kept { (i : ℕ) → lies_at shape.now.clocks.now clock i ≡ false → part_at held.new i ≡ part_at held.old i }
 {
     let mut i = nodes.first(clock);
     while i < shape.clocks.len() {
-        held[i] = given(parts[i], marks[i]);
+        held[i] = given(parts[i], demanded[i]);
         i = nodes.after(i);
     }
 }
 
 // A part, where it was given.
-fn given(part: Part, marked: bool) -> Part
-    ensures { result ≡ given_by marked part }
+fn given(part: Part, demanded: bool) -> Part
+    ensures { result ≡ given_by demanded part }
 {
-    if gives(part, marked) {
+    if gives(part, demanded) {
         return part;
     }
     Part {

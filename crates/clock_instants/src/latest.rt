@@ -23,7 +23,7 @@ use stream_meaning::Part;
 pub struct Latest {
     pub clock: NodeClock,
     pub parts: Vec<Part>,
-    pub marks: Vec<bool>,
+    pub demanded: Vec<bool>,
 }
 
 impl Latest {
@@ -56,13 +56,19 @@ impl Latest {
         ensures kept { (i : ℕ) → lies_at shape.now.clocks.now clock i ≡ false → part_at held.new i ≡ part_at held.old i }
         ensures finished { InstantFinished shape.now own.now clock at.second states.old states.new self.new.parts.items held.new }
     {
-        clear(shape, nodes, self.clock, &mut self.parts, &mut self.marks);
+        clear(
+            shape,
+            nodes,
+            self.clock,
+            &mut self.parts,
+            &mut self.demanded,
+        );
         self.clock = clock;
         make_parts(shape, nodes, clock, states, at, &mut self.parts, desk);
-        demand_roots(shape, nodes, clock, own, &mut self.marks);
-        find_demanded(shape, nodes, clock, &self.parts, &mut self.marks);
-        hold(shape, nodes, clock, &self.parts, &self.marks, held);
-        advance_all(shape, nodes, clock, &self.parts, &self.marks, states);
+        demand_roots(shape, nodes, clock, own, &mut self.demanded);
+        find_demanded(shape, nodes, clock, &self.parts, &mut self.demanded);
+        hold(shape, nodes, clock, &self.parts, &self.demanded, held);
+        advance_all(shape, nodes, clock, &self.parts, &self.demanded, states);
     }
 }
 
@@ -72,15 +78,15 @@ fn clear(
     nodes: &ClockNodes,
     clock: NodeClock,
     parts: &mut [Part],
-    marks: &mut [bool],
+    demanded: &mut [bool],
 )
     requires chains { AreNodesOf shape.now.clocks.now nodes.now }
     requires in_parts { length parts.old ≡ length shape.now.clocks.now }
-    requires in_marks { length marks.old ≡ length shape.now.clocks.now }
+    requires in_demanded { length demanded.old ≡ length shape.now.clocks.now }
     requires parts { (j : ℕ) → lies_at shape.now.clocks.now clock j ≡ false → part_at parts.old j ≡ silent }
-    requires marks { (j : ℕ) → lies_at shape.now.clocks.now clock j ≡ false → slice_index_or marks.old j false ≡ false }
+    requires demanded { (j : ℕ) → lies_at shape.now.clocks.now clock j ≡ false → slice_index_or demanded.old j false ≡ false }
     ensures parts { (j : ℕ) → part_at parts.new j ≡ silent }
-    ensures marks { (j : ℕ) → slice_index_or marks.new j false ≡ false }
+    ensures demanded { (j : ℕ) → slice_index_or demanded.new j false ≡ false }
 {
     let mut i = nodes.first(clock);
     while i < shape.clocks.len() {
@@ -88,7 +94,7 @@ fn clear(
             slot: None,
             pick: None,
         };
-        marks[i] = false;
+        demanded[i] = false;
         i = nodes.after(i);
     }
 }

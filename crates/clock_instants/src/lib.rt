@@ -11,14 +11,14 @@ mod offers;
 mod onward;
 mod resting;
 mod roots;
-mod runs;
 mod shape;
+mod stretch_room;
 mod takes;
 
 pub use latest::Latest;
 pub use nodes::ClockNodes;
 pub use onward::run_nodes;
 pub use resting::rest_of;
-pub use runs::{Runs, Spare};
 pub use shape::Shape;
+pub use stretch_room::{Spare, StretchRoom};
 pub use takes::begin_readers;

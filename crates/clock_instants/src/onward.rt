@@ -10,7 +10,7 @@ ghost use Rattle.clock_instants.specs.Stretches.{AllLieAheadOver, AreAtOnce, Has
 ghost use Rattle.clock_instants.specs.Shapes.{AllFitOver, IsShape};
 
 use crate::held::title_below;
-use crate::{ClockNodes, Runs, Shape, Spare};
+use crate::{ClockNodes, Shape, Spare, StretchRoom};
 use clock_infer::NodeClock;
 use node_states::{NodeState, gives};
 use op_mix::{Before, MAX_STRETCH, Sums};
@@ -18,46 +18,46 @@ use std::mem;
 use stream_meaning::Part;
 
 /// Makes so many instants of a clock that go on as its latest one did. The sub-clocks of its crossfades through which cells pass
-/// have gone on by as many already, and left the samples of the crossfades' children in `runs`. The states of the clock's nodes
+/// have gone on by as many already, and left the samples of the crossfades' children in `stretch_room`. The states of the clock's nodes
 /// go on, and each that gives leaves its samples there.
 pub fn run_nodes(
     shape: &Shape<'_>,
     nodes: &ClockNodes,
     clock: NodeClock,
     states: &mut [NodeState],
-    runs: &mut Runs,
+    stretch_room: &mut StretchRoom,
     many: u32,
 )
     requires shape { IsShape shape.now }
     requires chains { AreNodesOf shape.now.clocks.now nodes.now }
-    requires room { HasStretchRoom (length shape.now.plan.now.nodes) runs.old }
+    requires room { HasStretchRoom (length shape.now.plan.now.nodes) stretch_room.old }
     requires some { 0 < many }
     requires short { many ≤ 1024 }
     requires fit { AllFitOver shape.now states.old }
-    requires ahead { AllLieAheadOver shape.now clock runs.old.held.items states.old many }
+    requires ahead { AllLieAheadOver shape.now clock stretch_room.old.held.items states.old many }
     ensures fit { AllFitOver shape.now states.new }
-    ensures room { HasStretchRoom (length shape.now.plan.now.nodes) runs.new }
-    ensures held { runs.new.held ≡ runs.old.held }
-    ensures rests { runs.new.rests ≡ runs.old.rests }
+    ensures room { HasStretchRoom (length shape.now.plan.now.nodes) stretch_room.new }
+    ensures held { stretch_room.new.held ≡ stretch_room.old.held }
+    ensures rests { stretch_room.new.rests ≡ stretch_room.old.rests }
     ensures others { (i : ℕ) → lies_at shape.now.clocks.now clock i ≡ false → slice_get states.new i ≡ slice_get states.old i }
-    ensures left { (i : ℕ) → lies_at shape.now.clocks.now clock i ≡ false → samples_of runs.new.left.items i many ≡ samples_of runs.old.left.items i many }
-    ensures right { (i : ℕ) → lies_at shape.now.clocks.now clock i ≡ false → samples_of runs.new.right.items i many ≡ samples_of runs.old.right.items i many }
-    ensures laned { (i : ℕ) → HasLanes runs.old.left.items runs.old.right.items i → HasLanes runs.new.left.items runs.new.right.items i }
-    ensures run { NodesRun shape.now clock many runs.old.held.items states.old runs.old.left.items runs.old.right.items runs.new.left.items runs.new.right.items states.new }
+    ensures left { (i : ℕ) → lies_at shape.now.clocks.now clock i ≡ false → samples_of stretch_room.new.left.items i many ≡ samples_of stretch_room.old.left.items i many }
+    ensures right { (i : ℕ) → lies_at shape.now.clocks.now clock i ≡ false → samples_of stretch_room.new.right.items i many ≡ samples_of stretch_room.old.right.items i many }
+    ensures laned { (i : ℕ) → HasLanes stretch_room.old.left.items stretch_room.old.right.items i → HasLanes stretch_room.new.left.items stretch_room.new.right.items i }
+    ensures run { NodesRun shape.now clock many stretch_room.old.held.items states.old stretch_room.old.left.items stretch_room.old.right.items stretch_room.new.left.items stretch_room.new.right.items states.new }
 {
     run_each(
         shape,
         nodes,
         clock,
-        &runs.held,
-        &mut runs.parts,
+        &stretch_room.held,
+        &mut stretch_room.parts,
         states,
-        &mut runs.left,
-        &mut runs.right,
-        &mut runs.spare,
+        &mut stretch_room.left,
+        &mut stretch_room.right,
+        &mut stretch_room.spare,
         many,
     );
-    forget(shape, nodes, clock, &mut runs.parts);
+    forget(shape, nodes, clock, &mut stretch_room.parts);
 }
 
 // The same, over the parts of no node, which become those of the clock's nodes.
@@ -200,7 +200,7 @@ fn make_samples(
     );
 }
 
-// Whether node i has a lane with room for any run.
+// Whether node i has a lane with room for any stretch.
 fn has_lane(lanes: &[Vec<i16>], i: usize) -> bool
     requires within { i < length lanes.now }
     ensures there { result ≡ true → HasLane lanes.now i }

@@ -5,25 +5,25 @@ ghost use Rattle.clock_instants.specs.Nodes.{AreNodesOf, lies_at};
 use crate::{ClockNodes, Shape};
 use clock_infer::NodeClock;
 
-/// Marks the nodes of a clock that are demanded of themselves, where `own` tells it of each node in its own clock and no
-/// mark is set.
+/// Tells which nodes of a clock are demanded of themselves, where `own` tells it of each node in its own clock and none is
+/// demanded before.
 pub fn demand_roots(
     shape: &Shape<'_>,
     nodes: &ClockNodes,
     clock: NodeClock,
     own: &[bool],
-    marks: &mut [bool],
+    demanded: &mut [bool],
 )
     requires chains { AreNodesOf shape.now.clocks.now nodes.now }
     requires in_own { length own.now ≡ length shape.now.clocks.now }
-    requires in_marks { length marks.old ≡ length shape.now.clocks.now }
-    requires none { (j : ℕ) → slice_index_or marks.old j false ≡ false }
-    ensures roots { (j : ℕ) → j < length shape.now.clocks.now → slice_index_or marks.new j false ≡ (lies_at shape.now.clocks.now clock j && slice_index_or own.now j false) }
-    ensures others { (j : ℕ) → lies_at shape.now.clocks.now clock j ≡ false → slice_index_or marks.new j false ≡ false }
+    requires in_demanded { length demanded.old ≡ length shape.now.clocks.now }
+    requires none { (j : ℕ) → slice_index_or demanded.old j false ≡ false }
+    ensures roots { (j : ℕ) → j < length shape.now.clocks.now → slice_index_or demanded.new j false ≡ (lies_at shape.now.clocks.now clock j && slice_index_or own.now j false) }
+    ensures others { (j : ℕ) → lies_at shape.now.clocks.now clock j ≡ false → slice_index_or demanded.new j false ≡ false }
 {
     let mut i = nodes.first(clock);
     while i < shape.clocks.len() {
-        marks[i] = own[i];
+        demanded[i] = own[i];
         i = nodes.after(i);
     }
 }

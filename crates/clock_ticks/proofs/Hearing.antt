@@ -44,24 +44,24 @@ after_slots-node port (first ∷ slots) = after_slots-node (after_slot port firs
 
 -- the slots that were heard before, and those of the latest segment
 abbrev pub more_slots : (ℕ → List Slot) → ClockStates → (many i : ℕ) → List Slot
-more_slots slots lanes many i = slots i ++ segment_of lanes many i
+more_slots slots all many i = slots i ++ segment_of all many i
 
-heard_one : (slots : ℕ → List Slot) (lanes : ClockStates) (many : ℕ) (port : Port)
-    → after_slots (after_slots (emptied port) (slots port.node)) (segment_of lanes many (after_slots (emptied port) (slots port.node)).node)
-    ≡ after_slots (emptied port) (more_slots slots lanes many port.node)
-heard_one slots lanes many port =
-    ap (λ i. after_slots (after_slots (emptied port) (slots port.node)) (segment_of lanes many i)) (after_slots-node (emptied port) (slots port.node))
-    ∙ sym (after_slots-append (emptied port) (slots port.node) (segment_of lanes many port.node))
+heard_one : (slots : ℕ → List Slot) (all : ClockStates) (many : ℕ) (port : Port)
+    → after_slots (after_slots (emptied port) (slots port.node)) (segment_of all many (after_slots (emptied port) (slots port.node)).node)
+    ≡ after_slots (emptied port) (more_slots slots all many port.node)
+heard_one slots all many port =
+    ap (λ i. after_slots (after_slots (emptied port) (slots port.node)) (segment_of all many i)) (after_slots-node (emptied port) (slots port.node))
+    ∙ sym (after_slots-append (emptied port) (slots port.node) (segment_of all many port.node))
 
-heard_all : (slots : ℕ → List Slot) (lanes : ClockStates) (many : ℕ) (first : List Port)
-    → map (λ port. after_slots port (segment_of lanes many port.node)) (map (λ port. after_slots (emptied port) (slots port.node)) first)
-    ≡ map (λ port. after_slots (emptied port) (more_slots slots lanes many port.node)) first
-heard_all slots lanes many [] = refl
-heard_all slots lanes many (port ∷ first) =
-    let here = heard_one slots lanes many port in
-    let rest = heard_all slots lanes many first in
-    ap (λ p. p ∷ map (λ port. after_slots port (segment_of lanes many port.node)) (map (λ port. after_slots (emptied port) (slots port.node)) first)) here
-    ∙ ap (λ ps. after_slots (emptied port) (more_slots slots lanes many port.node) ∷ ps) rest
+heard_all : (slots : ℕ → List Slot) (all : ClockStates) (many : ℕ) (first : List Port)
+    → map (λ port. after_slots port (segment_of all many port.node)) (map (λ port. after_slots (emptied port) (slots port.node)) first)
+    ≡ map (λ port. after_slots (emptied port) (more_slots slots all many port.node)) first
+heard_all slots all many [] = refl
+heard_all slots all many (port ∷ first) =
+    let here = heard_one slots all many port in
+    let rest = heard_all slots all many first in
+    ap (λ p. p ∷ map (λ port. after_slots port (segment_of all many port.node)) (map (λ port. after_slots (emptied port) (slots port.node)) first)) here
+    ∙ ap (λ ps. after_slots (emptied port) (more_slots slots all many port.node) ∷ ps) rest
 
 pub block_long : (wide : Bool) (kind : Kind) (slot : Slot) → length (slot_block wide kind slot) ≡ block_length wide kind
 block_long true Mono None = refl
@@ -141,23 +141,23 @@ filled_more [] back more low = put_front back more (omega (arith, low))
 filled_more (s ∷ front) [] more low = absurd (omega (arith, low))
 filled_more (s ∷ front) (t ∷ back) more low = ap (λ (xs : List Slot). s ∷ xs) (filled_more front back more (omega (arith, low)))
 
-fed_one : (slots : ℕ → List Slot) (lanes : ClockStates) (many at : ℕ) (feed : FeedPort) → length (slots feed.node) ≡ at → at + length (segment_of lanes many feed.node) ≤ length feed.frame
-    → with_slots_from at (segment_of lanes many feed.node) (with_slots feed (slots feed.node)) ≡ with_slots feed (more_slots slots lanes many feed.node)
-fed_one slots lanes many at feed long low =
-    let more : List Slot = segment_of lanes many feed.node in
+fed_one : (slots : ℕ → List Slot) (all : ClockStates) (many at : ℕ) (feed : FeedPort) → length (slots feed.node) ≡ at → at + length (segment_of all many feed.node) ≤ length feed.frame
+    → with_slots_from at (segment_of all many feed.node) (with_slots feed (slots feed.node)) ≡ with_slots feed (more_slots slots all many feed.node)
+fed_one slots all many at feed long low =
+    let more : List Slot = segment_of all many feed.node in
     ap (λ (n : ℕ). with_slots_from n more (with_slots feed (slots feed.node))) (sym long)
     ∙ ap (λ (xs : List Slot). record { buffer = feed.buffer; node = feed.node; frame = xs }) (filled_more (slots feed.node) feed.frame more (omega (arith, long, low)))
 
-fed_all : (slots : ℕ → List Slot) (lanes : ClockStates) (many at : ℕ) (first : List FeedPort) → ((i : ℕ) → length (slots i) ≡ at) → ((i : ℕ) → length (segment_of lanes many i) ≡ suc many)
+fed_all : (slots : ℕ → List Slot) (all : ClockStates) (many at : ℕ) (first : List FeedPort) → ((i : ℕ) → length (slots i) ≡ at) → ((i : ℕ) → length (segment_of all many i) ≡ suc many)
     → All (λ feed. at + suc many ≤ length feed.frame) first
-    → map (λ feed. with_slots_from at (segment_of lanes many feed.node) feed) (map (λ feed. with_slots feed (slots feed.node)) first)
-    ≡ map (λ feed. with_slots feed (more_slots slots lanes many feed.node)) first
-fed_all slots lanes many at [] long size low = refl
-fed_all slots lanes many at (feed ∷ first) long size low =
-    let here : at + length (segment_of lanes many feed.node) ≤ length feed.frame = (let n = size feed.node in let l = low 0 feed (omega arith) in omega (arith, n, l)) in
-    ap (λ f. f ∷ map (λ feed. with_slots_from at (segment_of lanes many feed.node) feed) (map (λ feed. with_slots feed (slots feed.node)) first))
-    (fed_one slots lanes many at feed (long feed.node) here)
-    ∙ ap (λ fs. with_slots feed (more_slots slots lanes many feed.node) ∷ fs) (fed_all slots lanes many at first long size (λ k d h. low (suc k) d (omega (arith, h))))
+    → map (λ feed. with_slots_from at (segment_of all many feed.node) feed) (map (λ feed. with_slots feed (slots feed.node)) first)
+    ≡ map (λ feed. with_slots feed (more_slots slots all many feed.node)) first
+fed_all slots all many at [] long size low = refl
+fed_all slots all many at (feed ∷ first) long size low =
+    let here : at + length (segment_of all many feed.node) ≤ length feed.frame = (let n = size feed.node in let l = low 0 feed (omega arith) in omega (arith, n, l)) in
+    ap (λ f. f ∷ map (λ feed. with_slots_from at (segment_of all many feed.node) feed) (map (λ feed. with_slots feed (slots feed.node)) first))
+    (fed_one slots all many at feed (long feed.node) here)
+    ∙ ap (λ fs. with_slots feed (more_slots slots all many feed.node) ∷ fs) (fed_all slots all many at first long size (λ k d h. low (suc k) d (omega (arith, h))))
 
 -- each feed has room for the slots of a segment of the tick
 pub all_low : (frame upto : ℕ) (feeds : List FeedPort) → upto ≤ frame → All (λ feed. length feed.frame ≡ frame) feeds → All (λ feed. upto ≤ length feed.frame) feeds
@@ -205,12 +205,12 @@ begin_upto calls i n low = elim (cases_lt i n) [
 ]
 
 module _ {T : Type 0} (stands : T → List Call → Type 0) (plan : Plan) (library : Sounds) (clocks : List NodeClock) (clock : NodeClock) (own : List Bool) where
-  pub heard_none : (lanes : ClockState) (first now : List Port) (feeds : List FeedPort) (cues begun : Cues) (start : ℕ) (a : T) → now ≡ map emptied first
+  pub heard_none : (state : ClockState) (first now : List Port) (feeds : List FeedPort) (cues begun : Cues) (start : ℕ) (a : T) → now ≡ map emptied first
       → begun.keeping ≡ cues.keeping → length begun.lists.items ≡ length cues.lists.items
       → ((k : ℕ) (old new : CueList) → slice_get cues.lists.items k ≡ Some old → slice_get begun.lists.items k ≡ Some new → HasMarked [] old new)
-      → Heard stands plan library clocks clock own 0 (record { lanes = lanes; ports = first; feeds = feeds; cues = cues; start = start; taps = a })
-      (record { lanes = lanes; ports = now; feeds = feeds; cues = begun; start = start; taps = a })
-  heard_none lanes first now feeds cues begun start a is keeping lists marked = record {
+      → Heard stands plan library clocks clock own 0 (record { state = state; ports = first; feeds = feeds; cues = cues; start = start; taps = a })
+      (record { state = state; ports = now; feeds = feeds; cues = begun; start = start; taps = a })
+  heard_none state first now feeds cues begun start a is keeping lists marked = record {
     slots = λ i. [];
     long = λ i. refl;
     ports_are = is;
@@ -221,33 +221,33 @@ module _ {T : Type 0} (stands : T → List Call → Type 0) (plan : Plan) (libra
     more = [];
     taps = adds_nothing stands a;
     run = λ other sub n front meant has stand. record {
-      lanes_stand = (let same : n ≡ n + 0 = omega arith in subst (λ m. ClockStateStands (over plan library clocks other) sub clock m (after_calls front []) lanes) same
-          (subst (λ (f : ℕ → List Answer). ClockStateStands (over plan library clocks other) sub clock n f lanes) (sym (after_calls-none front)) stand));
+      state_stands = (let same : n ≡ n + 0 = omega arith in subst (λ m. ClockStateStands (over plan library clocks other) sub clock m (after_calls front []) state) same
+          (subst (λ (f : ℕ → List Answer). ClockStateStands (over plan library clocks other) sub clock n f state) (sym (after_calls-none front)) stand));
       slots_are = λ i marked. refl;
       calls = refl;
     };
   }
 
   -- a segment more
-  module _ (count many upto : ℕ) (before mid after : Scene T) (sum : upto ≡ count + suc many) (one : SegmentMade stands plan library clocks clock own many mid.lanes after.lanes mid.taps after.taps)
-      (is : after.ports ≡ map (λ port. after_slots port (segment_of after.lanes.clocks many port.node)) mid.ports)
+  module _ (count many upto : ℕ) (before mid after : Scene T) (sum : upto ≡ count + suc many) (one : SegmentMade stands plan library clocks clock own many mid.state after.state mid.taps after.taps)
+      (is : after.ports ≡ map (λ port. after_slots port (segment_of after.state.clocks many port.node)) mid.ports)
       (heard : Heard stands plan library clocks clock own count before mid) where
-    ports_now : after.ports ≡ map (λ port. after_slots (emptied port) (more_slots heard.slots after.lanes.clocks many port.node)) before.ports
-    ports_now = is ∙ ap (map (λ port. after_slots port (segment_of after.lanes.clocks many port.node))) heard.ports_are ∙ heard_all heard.slots after.lanes.clocks many before.ports
+    ports_now : after.ports ≡ map (λ port. after_slots (emptied port) (more_slots heard.slots after.state.clocks many port.node)) before.ports
+    ports_now = is ∙ ap (map (λ port. after_slots port (segment_of after.state.clocks many port.node))) heard.ports_are ∙ heard_all heard.slots after.state.clocks many before.ports
 
     run_now : (other : Setting) (sub : ℕ → ℕ → List Slot) (n : ℕ) (front : ℕ → List Answer) → IsMeant (over plan library clocks other) sub own
-        → HasAnswers (over plan library clocks other) (after_calls front (heard.more ++ one.more)) → ClockStateStands (over plan library clocks other) sub clock n front before.lanes
-        → HasMadeInstants (over plan library clocks other) sub own clock n upto (more_slots heard.slots after.lanes.clocks many) front (heard.more ++ one.more) after.lanes
+        → HasAnswers (over plan library clocks other) (after_calls front (heard.more ++ one.more)) → ClockStateStands (over plan library clocks other) sub clock n front before.state
+        → HasMadeInstants (over plan library clocks other) sub own clock n upto (more_slots heard.slots after.state.clocks many) front (heard.more ++ one.more) after.state
     run_now other sub n front meant has stand =
         let S = over plan library clocks other in
         let ran = heard.run other sub n front meant (answers_first S front heard.more one.more has) stand in
-        let done = one.run other sub (n + count) (after_calls front heard.more) meant (answers_then S front heard.more one.more has) ran.lanes_stand in
+        let done = one.run other sub (n + count) (after_calls front heard.more) meant (answers_then S front heard.more one.more has) ran.state_stands in
         let same : n + count + suc many ≡ n + upto = omega (arith, sum) in
         record {
-          lanes_stand = subst (λ m. ClockStateStands S sub clock m (after_calls front (heard.more ++ one.more)) after.lanes) same
-              (subst (λ (f : ℕ → List Answer). ClockStateStands S sub clock (n + count + suc many) f after.lanes) (sym (after_calls-then front heard.more one.more)) done.lanes_stand);
+          state_stands = subst (λ m. ClockStateStands S sub clock m (after_calls front (heard.more ++ one.more)) after.state) same
+              (subst (λ (f : ℕ → List Answer). ClockStateStands S sub clock (n + count + suc many) f after.state) (sym (after_calls-then front heard.more one.more)) done.state_stands);
           slots_are = λ i marked.
-              ap (λ slots. slots ++ segment_of after.lanes.clocks many i) (ran.slots_are i marked)
+              ap (λ slots. slots ++ segment_of after.state.clocks many i) (ran.slots_are i marked)
               ∙ ap (λ slots. map (slot_in S sub clock i) (range_with_len n count) ++ slots) (done.slots_are i marked)
               ∙ mapped_range (slot_in S sub clock i) n count (suc many) upto sum;
           calls = ap (λ (cs : List Call). cs ++ one.more) ran.calls ∙ ap (λ (cs : List Call). calls_from S sub clock n count ++ cs) done.calls
@@ -264,32 +264,32 @@ module _ {T : Type 0} (stands : T → List Call → Type 0) (plan : Plan) (libra
         let within = slice_get_within before.cues.lists.items k old at in
         (get_or mid.cues.lists.items k old, slice_get-get_or mid.cues.lists.items k old (omega (arith, within, lists)))
 
-    pub heard_more : after.feeds ≡ map (λ feed. with_slots_from count (segment_of after.lanes.clocks many feed.node) feed) mid.feeds
-        → ((i : ℕ) → length (segment_of after.lanes.clocks many i) ≡ suc many)
+    pub heard_more : after.feeds ≡ map (λ feed. with_slots_from count (segment_of after.state.clocks many feed.node) feed) mid.feeds
+        → ((i : ℕ) → length (segment_of after.state.clocks many i) ≡ suc many)
         → All (λ feed. count + suc many ≤ length feed.frame) before.feeds
         → after.cues.keeping ≡ mid.cues.keeping → length after.cues.lists.items ≡ length mid.cues.lists.items
         → ((k : ℕ) (port : Port) (old new : CueList) → slice_get after.ports k ≡ Some port → slice_get mid.cues.lists.items k ≡ Some old → slice_get after.cues.lists.items k ≡ Some new
-        → HasKept (marks_if mid.cues.keeping (before.start + count) ((part_at after.lanes.clocks.latest.parts.items port.node).slot ∷ [])) old new)
+        → HasKept (marks_if mid.cues.keeping (before.start + count) ((part_at after.state.clocks.latest.parts.items port.node).slot ∷ [])) old new)
         → Heard stands plan library clocks clock own upto before after
     heard_more filled size low keeping lists kept = record {
-      slots = more_slots heard.slots after.lanes.clocks many;
-      long = λ i. (let both = length-append (heard.slots i) (segment_of after.lanes.clocks many i) in let first = heard.long i in let last = size i in omega (arith, both, first, last, sum));
+      slots = more_slots heard.slots after.state.clocks many;
+      long = λ i. (let both = length-append (heard.slots i) (segment_of after.state.clocks many i) in let first = heard.long i in let last = size i in omega (arith, both, first, last, sum));
       ports_are = ports_now;
-      feeds_are = filled ∙ ap (map (λ feed. with_slots_from count (segment_of after.lanes.clocks many feed.node) feed)) heard.feeds_are
-          ∙ fed_all heard.slots after.lanes.clocks many count before.feeds heard.long size low;
+      feeds_are = filled ∙ ap (map (λ feed. with_slots_from count (segment_of after.state.clocks many feed.node) feed)) heard.feeds_are
+          ∙ fed_all heard.slots after.state.clocks many count before.feeds heard.long size low;
       keeping = keeping ∙ heard.keeping;
       lists = lists ∙ heard.lists;
       cues_are = λ k port old new at_port at_old at_new.
           let was = list_before heard.lists k old at_old in
-          let hear : Port → Port = λ p. after_slots (emptied p) (more_slots heard.slots after.lanes.clocks many p.node) in
+          let hear : Port → Port = λ p. after_slots (emptied p) (more_slots heard.slots after.state.clocks many p.node) in
           let there : slice_get after.ports k ≡ Some (hear port) = ap (λ ps. slice_get ps k) ports_now ∙ got_mapped hear before.ports k port at_port in
-          let node : (hear port).node ≡ port.node = after_slots-node (emptied port) (more_slots heard.slots after.lanes.clocks many port.node) in
-          let slot = (part_at after.lanes.clocks.latest.parts.items port.node).slot in
+          let node : (hear port).node ≡ port.node = after_slots-node (emptied port) (more_slots heard.slots after.state.clocks many port.node) in
+          let slot = (part_at after.state.clocks.latest.parts.items port.node).slot in
           marked_more (marks_if before.cues.keeping before.start (heard.slots port.node)) (marks_if before.cues.keeping (before.start + count) (slot ∷ [])) _ old was.0 new
           (marks_more before.cues.keeping before.start count (before.start + count) (heard.slots port.node) slot many _ _ (heard.long port.node) refl)
           (heard.cues_are k port old was.0 at_port at_old was.1)
           (subst (λ (b : Bool). HasKept (marks_if b (before.start + count) (slot ∷ [])) was.0 new) heard.keeping
-          (subst (λ i. HasKept (marks_if mid.cues.keeping (before.start + count) ((part_at after.lanes.clocks.latest.parts.items i).slot ∷ [])) was.0 new) node
+          (subst (λ i. HasKept (marks_if mid.cues.keeping (before.start + count) ((part_at after.state.clocks.latest.parts.items i).slot ∷ [])) was.0 new) node
           (kept k (hear port) was.0 new there was.1 at_new)));
       more = heard.more ++ one.more;
       taps = adds_more stands before.taps mid.taps after.taps heard.more one.more heard.taps one.taps;
@@ -302,7 +302,7 @@ module _ {T : Type 0} (stands : T → List Call → Type 0) (plan : Plan) (libra
         → (ports : (k : ℕ) (old : CueList) → slice_get before.cues.lists.items k ≡ Some old → (port : Port) × (slice_get before.ports k ≡ Some port))
         → HeardSome stands plan library clocks clock own total before after
     heard_part total low keeping lists grown ports = record {
-      slots = more_slots heard.slots after.lanes.clocks many;
+      slots = more_slots heard.slots after.state.clocks many;
       ports_are = ports_now;
       keeping = keeping ∙ heard.keeping;
       lists = lists ∙ heard.lists;
@@ -318,7 +318,7 @@ module _ {T : Type 0} (stands : T → List Call → Type 0) (plan : Plan) (libra
           (begin_upto (λ j. calls_of S sub clock (first_instants S sub clock (n + j))) upto total low);
     }
 
-  pub heard_broken : (count total : ℕ) (before mid after : Scene T) → count < total → SegmentBroken stands plan library clocks clock own mid.lanes mid.taps after.taps → after.ports ≡ mid.ports
+  pub heard_broken : (count total : ℕ) (before mid after : Scene T) → count < total → SegmentBroken stands plan library clocks clock own mid.state mid.taps after.taps → after.ports ≡ mid.ports
       → after.cues ≡ mid.cues
       → ((k : ℕ) (old : CueList) → slice_get before.cues.lists.items k ≡ Some old → (port : Port) × (slice_get before.ports k ≡ Some port))
       → Heard stands plan library clocks clock own count before mid → HeardSome stands plan library clocks clock own total before after
@@ -337,5 +337,5 @@ module _ {T : Type 0} (stands : T → List Call → Type 0) (plan : Plan) (libra
         let ran = heard.run other sub n front meant (answers_first S front heard.more one.made has) stand in
         subst (λ (cs : List Call). IsBegin (cs ++ one.made) (calls_from S sub clock n total)) (sym ran.calls)
         (begin_joined (λ j. calls_of S sub clock (first_instants S sub clock (n + j))) count total one.made low
-        (one.begins other sub (n + count) (after_calls front heard.more) meant (answers_then S front heard.more one.made has) ran.lanes_stand));
+        (one.begins other sub (n + count) (after_calls front heard.more) meant (answers_then S front heard.more one.made has) ran.state_stands));
   }

@@ -80,7 +80,7 @@ held_of_some stands_for parts other a b heard = record { keeping = heard.keeping
 
 -- an engine whose outputs heard some slots of their nodes
 module _ (parts other : EngineParts) (fit : AreParts parts)
-    (are_lanes : IsClockState parts.shape.plan.now parts.shape.library.now parts.shape.clocks.now other.state)
+    (state_is : IsClockState parts.shape.plan.now parts.shape.library.now parts.shape.clocks.now other.state)
     (slots : ℕ → List Slot) (ports_are : other.ports.items ≡ map (λ port. after_slots (emptied port) (slots port.node)) parts.ports.items) where
   -- an output that has heard its node in the tick
   abbrev hear : Port → Port
@@ -105,7 +105,7 @@ module _ (parts other : EngineParts) (fit : AreParts parts)
     few = fit.few;
     in_clocks = fit.in_clocks;
     clocks = fit.clocks;
-    state = are_lanes;
+    state = state_is;
     in_own = fit.in_own;
     own = record { each = fit.own.each };
     outputs = ap (map output_of) ports_are ∙ heard_outputs slots parts.ports.items ∙ fit.outputs;
@@ -350,8 +350,8 @@ module _ (parts other : EngineParts) (fit : AreParts parts) {T : Type 0} (stands
         ∙ ap (λ i. tick_bytes S found.0.wide i t) its
         ∙ ap (λ w. tick_bytes S w node t) width
 
-    pub lanes_after : ClockStateStands S (sub_of S) (Main parts.clock) (suc t * parts.shape.plan.now.frame) (after_calls answers heard.more) other.state
-    lanes_after = subst (λ n. ClockStateStands S (sub_of S) (Main parts.clock) n (after_calls answers heard.more) other.state) (sym (suc-mul t parts.shape.plan.now.frame)) ran.lanes_stand
+    pub state_after : ClockStateStands S (sub_of S) (Main parts.clock) (suc t * parts.shape.plan.now.frame) (after_calls answers heard.more) other.state
+    state_after = subst (λ n. ClockStateStands S (sub_of S) (Main parts.clock) n (after_calls answers heard.more) other.state) (sym (suc-mul t parts.shape.plan.now.frame)) ran.state_stands
 
     pub takes_are : heard.more ≡ takes_of_tick S parts.clock t
     takes_are = ran.calls
@@ -422,7 +422,7 @@ module _ (parts other : EngineParts) (fit : AreParts parts) {T : Type 0} (stands
       state = λ rest.
           subst (λ W. ClockStateStands W (sub_of W) (Main parts.clock) (suc t * parts.shape.plan.now.frame) (after_calls answers all_calls) other.state) (world_is (setting_of parts) answers all_calls rest)
           (subst (λ (f : ℕ → List Answer). ClockStateStands (with_rest (setting_of parts) answers (behind_calls all_calls rest)) (sub_of (with_rest (setting_of parts) answers (behind_calls all_calls rest))) (Main parts.clock)
-          (suc t * parts.shape.plan.now.frame) f other.state) front_is (lanes_after (behind_calls all_calls rest) (has_first rest)));
+          (suc t * parts.shape.plan.now.frame) f other.state) front_is (state_after (behind_calls all_calls rest) (has_first rest)));
       gaps_are = λ rest k port at.
           gaps_after (behind_calls all_calls rest) (has_first rest) k port at ∙ ap (λ W. gaps W port.node (suc t)) (world_is (setting_of parts) answers all_calls rest);
       cues_are = λ new rest k port list at_port at_list.

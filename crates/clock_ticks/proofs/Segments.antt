@@ -33,10 +33,10 @@ slots_long (Some cell) many lefts rights long =
     let same : length lefts ≡ length rights = both.0 ∙ sym both.1 in
     ap suc (length-map (inner_cells cell.title lefts rights) Some ∙ length-zip2 (inner_cell cell.title) lefts rights same ∙ both.0)
 
-pub segment_long : (lanes : ClockStates) (many : ℕ) → (i : ℕ) → length (segment_of lanes many i) ≡ suc many
-segment_long lanes many i =
-    slots_long (part_at lanes.latest.parts.items i).slot many (samples_of lanes.runs.left.items i many) (samples_of lanes.runs.right.items i many)
-    (λ gives. (samples_long lanes.runs.left.items i many, samples_long lanes.runs.right.items i many))
+pub segment_long : (all : ClockStates) (many : ℕ) → (i : ℕ) → length (segment_of all many i) ≡ suc many
+segment_long all many i =
+    slots_long (part_at all.latest.parts.items i).slot many (samples_of all.room.left.items i many) (samples_of all.room.right.items i many)
+    (λ gives. (samples_long all.room.left.items i many, samples_long all.room.right.items i many))
 
 nones : (slots : ℕ → Slot) (from many : ℕ) → ((j : ℕ) → j < many → slots (from + j) ≡ None) → replicate many None ≡ map slots (range_with_len from many)
 nones slots from zero none = refl
@@ -90,9 +90,9 @@ module _ {T : Type 0} (stands : T → List Call → Type 0) (plan : Plan) (libra
         let parts : mid.latest.parts.items ≡ (moment_after S sub clock (first_instants S sub clock n)).parts =
         made.parts ∙ ap (λ m. (moment_after S sub clock (first_instants S sub clock m)).parts) stand.made in
         let ran = rest.run other sub stand.rank made.ran_now made.filled_now (after_calls front one.more) own n world made.stand made.needed next parts
-        (subst (λ m. IsHeld S sub clock (first_instants S sub clock m) mid.runs.held.items) stand.made made.keeps) stand.time in
+        (subst (λ m. IsHeld S sub clock (first_instants S sub clock m) mid.room.held.items) stand.made made.keeps) stand.time in
         record {
-          lanes_stand = record {
+          state_stands = record {
             rank = stand.rank;
             ran = ran.ran_now;
             fed = ran.filled_now;
@@ -106,7 +106,7 @@ module _ {T : Type 0} (stands : T → List Call → Type 0) (plan : Plan) (libra
               let is = ran.slots i root in
               let same : (part_at new.clocks.latest.parts.items i).slot ≡ offer (moment_after S sub clock (first_instants S sub clock n)) i =
               ap (λ latest. (part_at latest.parts.items i).slot) kept ∙ ap (λ ps. (part_at ps i).slot) parts in
-              slots_by (part_at new.clocks.latest.parts.items i).slot many (samples_of new.clocks.runs.left.items i many) (samples_of new.clocks.runs.right.items i many)
+              slots_by (part_at new.clocks.latest.parts.items i).slot many (samples_of new.clocks.room.left.items i many) (samples_of new.clocks.room.right.items i many)
               (λ j. slot_in S sub clock i (made.ran_now clock + j)) (λ there. is.given (sym (ap (λ (slot : Slot). is_some slot) same) ∙ there))
               (λ there j low. is.titled (sym (ap (λ (slot : Slot). is_some slot) same) ∙ there) j low ∙ sym (ap title_of same)) (λ none. is.silent (sym (ap (λ (slot : Slot). is_some slot) same) ∙ none))
               ∙ slots_from (slot_in S sub clock i) (part_at new.clocks.latest.parts.items i).slot n (made.ran_now clock) many

@@ -26,7 +26,7 @@ is_main (Sub k) = false
 
 -- each node whose state is not idle has lanes
 abbrev pub HasLanesFor : ClockState → Type 0
-HasLanesFor lanes = (i : ℕ) (state : NodeState) → slice_get lanes.clocks.states.items i ≡ Some state → (state ≡ Idle → ⊥) → laned_at lanes.clocks i
+HasLanesFor whole = (i : ℕ) (state : NodeState) → slice_get whole.clocks.states.items i ≡ Some state → (state ≡ Idle → ⊥) → laned_at whole.clocks i
 
 -- a main clock is no sub-clock
 pub main_is : (m : ℕ) → IsMain (Main m)
@@ -40,11 +40,11 @@ not_idle setting sub i (Mixes mixing) s = s
 not_idle setting sub i (Fades overlap) s = s
 not_idle setting sub i (Reads buffer) s = s
 
-none_made : (setting : Setting) (m : ℕ) (lanes : ClockState) (n : ℕ) (rank : NodeClock → ℕ) → HasRanks setting.clocks rank
-    → ((i : ℕ) → i < length setting.plan.nodes → rank (clock_of setting i) < length setting.plan.nodes) → AreNewStates setting.plan setting.clocks m n lanes.clocks.states.items
-    → TimeStands setting.start 0 lanes.time → ((k : ℕ) (time : WeekTime) → slice_get lanes.clocks.times.items k ≡ Some time → time ≡ lanes.time) → ((k : ℕ) → rest_at lanes.clocks k ≡ 0)
-    → n ≡ length setting.plan.nodes → HasLanesFor lanes → ClockStateStands setting (sub_of setting) (Main m) 0 (λ buffer. []) lanes
-none_made setting m lanes n rank ranks low new time same rests all laned = record {
+none_made : (setting : Setting) (m : ℕ) (whole : ClockState) (n : ℕ) (rank : NodeClock → ℕ) → HasRanks setting.clocks rank
+    → ((i : ℕ) → i < length setting.plan.nodes → rank (clock_of setting i) < length setting.plan.nodes) → AreNewStates setting.plan setting.clocks m n whole.clocks.states.items
+    → TimeStands setting.start 0 whole.time → ((k : ℕ) (time : WeekTime) → slice_get whole.clocks.times.items k ≡ Some time → time ≡ whole.time) → ((k : ℕ) → rest_at whole.clocks k ≡ 0)
+    → n ≡ length setting.plan.nodes → HasLanesFor whole → ClockStateStands setting (sub_of setting) (Main m) 0 (λ buffer. []) whole
+none_made setting m whole n rank ranks low new time same rests all laned = record {
   rank = lifted setting.clocks rank m (length setting.plan.nodes);
   ran = λ other. 0;
   fed = λ k. 0;
@@ -61,7 +61,7 @@ none_made setting m lanes n rank ranks low new time same rests all laned = recor
     kept = λ k within above some. (let none = rests k in absurd (omega (arith, none, some)));
     laned = λ i within above.
         let node = item_at setting.plan.nodes i within in
-        let state = item_at lanes.clocks.states.items i (let size = new.size in omega (arith, within, size, all)) in
+        let state = item_at whole.clocks.states.items i (let size = new.size in omega (arith, within, size, all)) in
         let under = driven_by setting.clocks rank m (length setting.plan.nodes) i (low i within) above in
         laned i state.0 state.1 (λ idle.
         not_idle setting (sub_of setting) i (work_at setting i node.0)
@@ -72,13 +72,13 @@ none_made setting m lanes n rank ranks low new time same rests all laned = recor
   time = time;
 }
 
-pub new_stand : (setting : Setting) (m : ℕ) (lanes : ClockState) (n : ℕ) (rank : NodeClock → ℕ) → HasRanks setting.clocks rank
-    → ((i : ℕ) → i < length setting.plan.nodes → rank (clock_of setting i) < length setting.plan.nodes) → AreNewStates setting.plan setting.clocks m n lanes.clocks.states.items
-    → TimeStands setting.start 0 lanes.time → ((k : ℕ) (time : WeekTime) → slice_get lanes.clocks.times.items k ≡ Some time → time ≡ lanes.time) → ((k : ℕ) → rest_at lanes.clocks k ≡ 0)
-    → n ≡ length setting.plan.nodes → HasLanesFor lanes → ClockStateStands setting (sub_of setting) (Main m) (0 * setting.plan.frame) (λ buffer. []) lanes
-new_stand setting m lanes n rank ranks low new time same rests all laned =
+pub new_stand : (setting : Setting) (m : ℕ) (whole : ClockState) (n : ℕ) (rank : NodeClock → ℕ) → HasRanks setting.clocks rank
+    → ((i : ℕ) → i < length setting.plan.nodes → rank (clock_of setting i) < length setting.plan.nodes) → AreNewStates setting.plan setting.clocks m n whole.clocks.states.items
+    → TimeStands setting.start 0 whole.time → ((k : ℕ) (time : WeekTime) → slice_get whole.clocks.times.items k ≡ Some time → time ≡ whole.time) → ((k : ℕ) → rest_at whole.clocks k ≡ 0)
+    → n ≡ length setting.plan.nodes → HasLanesFor whole → ClockStateStands setting (sub_of setting) (Main m) (0 * setting.plan.frame) (λ buffer. []) whole
+new_stand setting m whole n rank ranks low new time same rests all laned =
     let none : 0 ≡ 0 * setting.plan.frame = omega arith in
-    subst (λ count. ClockStateStands setting (sub_of setting) (Main m) count (λ buffer. []) lanes) none (none_made setting m lanes n rank ranks low new time same rests all laned)
+    subst (λ count. ClockStateStands setting (sub_of setting) (Main m) count (λ buffer. []) whole) none (none_made setting m whole n rank ranks low new time same rests all laned)
 
 -- a list of like items is that item at each place
 pub all_alike : {A : Type 0} (xs : List A) (n : ℕ) (a : A) → xs ≡ replicate n a → (j : ℕ) → get_or xs j a ≡ a

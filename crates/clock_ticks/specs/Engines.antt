@@ -151,7 +151,7 @@ held_of held engine = held_in held (outputs_of (setting_of engine.parts) engine.
 -- what changes in a tick
 abbrev pub scene_of : {T : Type 0} → EngineParts → T → Scene T
 scene_of parts taps = record {
-  lanes = parts.state;
+  state = parts.state;
   ports = parts.ports.items;
   feeds = parts.feeds.items;
   cues = parts.cues;

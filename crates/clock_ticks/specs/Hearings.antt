@@ -47,17 +47,17 @@ feed_key feed = (feed.buffer, feed.node)
 abbrev pub with_slots : FeedPort → List Slot → FeedPort
 with_slots feed slots = record { buffer = feed.buffer; node = feed.node; frame = slots ++ drop (length slots) feed.frame }
 
--- what lanes stand for after so many instants more, where these were the calls, and the slots of the nodes that their own clock demands of
+-- what the states stand for after so many instants more, where these were the calls, and the slots of the nodes that their own clock demands of
 -- itself
 pub record HasMadeInstants (setting : Setting) (sub : ℕ → ℕ → List Slot) (own : List Bool) (clock : NodeClock) (n count : ℕ) (slots : ℕ → List Slot) (front : ℕ → List Answer)
-    (more : List Call) (lanes : ClockState) : Type 0 where
-  pub lanes_stand : ClockStateStands setting sub clock (n + count) (after_calls front more) lanes
+    (more : List Call) (state : ClockState) : Type 0 where
+  pub state_stands : ClockStateStands setting sub clock (n + count) (after_calls front more) state
   pub slots_are : (i : ℕ) → slice_index_or own i false ≡ true → slots i ≡ map (slot_in setting sub clock i) (range_with_len n count)
   pub calls : more ≡ calls_from setting sub clock n count
 
--- the lanes, the outputs, the feeds and the marks of a clock, the first instant of the tick, and its taps
+-- the states, the outputs, the feeds and the marks of a clock, the first instant of the tick, and its taps
 pub record Scene (T : Type 0) : Type 0 where
-  pub lanes : ClockState
+  pub state : ClockState
   pub ports : List Port
   pub feeds : List FeedPort
   pub cues : Cues
@@ -66,7 +66,7 @@ pub record Scene (T : Type 0) : Type 0 where
 
 -- such a scene
 abbrev pub scene : {T : Type 0} → ClockState → List Port → List FeedPort → Cues → (start : ℕ) → T → Scene T
-scene lanes ports feeds cues start taps = record { lanes = lanes; ports = ports; feeds = feeds; cues = cues; start = start; taps = taps }
+scene state ports feeds cues start taps = record { state = state; ports = ports; feeds = feeds; cues = cues; start = start; taps = taps }
 
 -- the outputs and feeds of a clock have room for a tick that begins at this instant, are of nodes of the plan, and each output has its marks
 pub record CanHear (shape : Shape) (ports : List Port) (feeds : List FeedPort) (cues : Cues) (start : ℕ) : Type 0 where
@@ -78,7 +78,7 @@ pub record CanHear (shape : Shape) (ports : List Port) (feeds : List FeedPort) (
   pub late : start + shape.plan.now.frame < 2 ^ 64
 
 -- so many instants of a tick were made, by these calls, and the outputs, feeds and marks have heard the slots of their nodes; whatever instants the
--- lanes stood for, these are the next ones
+-- states stood for, these are the next ones
 pub record Heard {T : Type 0} (stands : T → List Call → Type 0) (plan : Plan) (library : Sounds) (clocks : List NodeClock) (clock : NodeClock) (own : List Bool) (count : ℕ)
     (before after : Scene T) : Type 0 where
   pub slots : ℕ → List Slot
@@ -92,8 +92,8 @@ pub record Heard {T : Type 0} (stands : T → List Call → Type 0) (plan : Plan
   pub more : List Call
   pub taps : Adds stands before.taps after.taps more
   pub run : (other : Setting) (sub : ℕ → ℕ → List Slot) (n : ℕ) (front : ℕ → List Answer) → IsMeant (over plan library clocks other) sub own
-      → HasAnswers (over plan library clocks other) (after_calls front more) → ClockStateStands (over plan library clocks other) sub clock n front before.lanes
-      → HasMadeInstants (over plan library clocks other) sub own clock n count slots front more after.lanes
+      → HasAnswers (over plan library clocks other) (after_calls front more) → ClockStateStands (over plan library clocks other) sub clock n front before.state
+      → HasMadeInstants (over plan library clocks other) sub own clock n count slots front more after.state
 
 -- the same over a shape
 abbrev pub HeardOver : {T : Type 0} → (T → List Call → Type 0) → Shape → NodeClock → List Bool → (count : ℕ) → (before after : Scene T) → Type 0
@@ -110,7 +110,7 @@ pub record HeardSome {T : Type 0} (stands : T → List Call → Type 0) (plan : 
   pub made : List Call
   pub taps : Adds stands before.taps after.taps made
   pub begins : (other : Setting) (sub : ℕ → ℕ → List Slot) (n : ℕ) (front : ℕ → List Answer) → IsMeant (over plan library clocks other) sub own
-      → HasAnswers (over plan library clocks other) (after_calls front made) → ClockStateStands (over plan library clocks other) sub clock n front before.lanes
+      → HasAnswers (over plan library clocks other) (after_calls front made) → ClockStateStands (over plan library clocks other) sub clock n front before.state
       → IsBegin made (calls_from (over plan library clocks other) sub clock n total)
 
 -- the same over a shape
@@ -119,8 +119,8 @@ HeardSomeOver stands shape clock own total before after = HeardSome stands shape
 
 -- the slots of node i in the latest segment, which had so many instants behind its first one
 abbrev pub segment_of : ClockStates → (many i : ℕ) → List Slot
-segment_of lanes many i =
-    segment_slots (part_at lanes.latest.parts.items i).slot many (samples_of lanes.runs.left.items i many) (samples_of lanes.runs.right.items i many)
+segment_of all many i =
+    segment_slots (part_at all.latest.parts.items i).slot many (samples_of all.room.left.items i many) (samples_of all.room.right.items i many)
 
 -- a segment was made: an instant, and so many that go on as it did
 pub record SegmentMade {T : Type 0} (stands : T → List Call → Type 0) (plan : Plan) (library : Sounds) (clocks : List NodeClock) (clock : NodeClock) (own : List Bool)

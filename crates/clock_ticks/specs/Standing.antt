@@ -17,33 +17,33 @@ use Rattle.clock_ticks.specs.declared.clock_state.ClockState.{ClockState}
 abbrev pub IsMain : NodeClock → Type 0
 IsMain clock = (k : ℕ) → clock ≡ Sub k → ⊥
 
--- lanes for the nodes of this plan, with these files and these clocks of its nodes
-pub record IsClockState (plan : Plan) (library : Sounds) (clocks : List NodeClock) (lanes : ClockState) : Type 0 where
-  pub below : AreClockStates plan library clocks lanes.clocks
-  pub rate : lanes.time.rate ≡ plan.rate
-  pub frame : lanes.time.frame ≡ plan.frame
+-- states for the nodes of this plan, with these files and these clocks of its nodes
+pub record IsClockState (plan : Plan) (library : Sounds) (clocks : List NodeClock) (state : ClockState) : Type 0 where
+  pub below : AreClockStates plan library clocks state.clocks
+  pub rate : state.time.rate ≡ plan.rate
+  pub frame : state.time.frame ≡ plan.frame
 
 -- the same over a shape
 abbrev pub IsClockStateOver : Shape → ClockState → Type 0
-IsClockStateOver shape lanes = IsClockState shape.plan.now shape.library.now shape.clocks.now lanes
+IsClockStateOver shape state = IsClockState shape.plan.now shape.library.now shape.clocks.now state
 
--- a clock can make instants: these are the lanes of the nodes, it is no sub-clock, sub-clocks nest no deeper than there are nodes, and each
--- node has a mark for whether its own clock demands it of itself
-pub record CanMake (shape : Shape) (clock : NodeClock) (own : List Bool) (lanes : ClockState) : Type 0 where
+-- a clock can make instants: these are the states of the nodes, it is no sub-clock, sub-clocks nest no deeper than there are nodes, and it is
+-- told of each node whether its own clock demands it of itself
+pub record CanMake (shape : Shape) (clock : NodeClock) (own : List Bool) (state : ClockState) : Type 0 where
   pub shape_is : IsShape shape
   pub in_own : length own ≡ length shape.plan.now.nodes
   pub main : IsMain clock
   pub levels : HasLevels shape.clocks.now clock (length shape.plan.now.nodes)
-  pub lanes_are : IsClockStateOver shape lanes
+  pub state_is : IsClockStateOver shape state
 
 -- they stand for the first n instants of a clock, and for as many of the sub-clocks below it as its crossfades asked for; all readers
 -- have taken these answers by them
-pub record ClockStateStands (setting : Setting) (sub : ℕ → ℕ → List Slot) (clock : NodeClock) (n : ℕ) (front : ℕ → List Answer) (lanes : ClockState) : Type 0 where
+pub record ClockStateStands (setting : Setting) (sub : ℕ → ℕ → List Slot) (clock : NodeClock) (n : ℕ) (front : ℕ → List Answer) (state : ClockState) : Type 0 where
   pub rank : NodeClock → ℕ
   pub ran : NodeClock → ℕ
   pub fed : ℕ → ℕ
   pub ranks : HasRanks setting.clocks rank
   pub made : ran clock ≡ n
-  pub stand : Stand setting sub rank (rank clock) ran fed front lanes.clocks
+  pub stand : Stand setting sub rank (rank clock) ran fed front state.clocks
   pub needed : RanAsNeeded setting sub rank (rank clock) ran fed
-  pub time : TimeStands setting.start n lanes.time
+  pub time : TimeStands setting.start n state.time

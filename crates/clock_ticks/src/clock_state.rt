@@ -11,7 +11,7 @@ use liq_base::Memory;
 use nested_instants::{ClockStates, make_instant, make_stretch};
 use node_states::WeekTime;
 
-/// What changes from instant to instant in a clock: the lanes of its nodes and of those in the sub-clocks below it, and the
+/// What changes from instant to instant in a clock: the states of its nodes and of those in the sub-clocks below it, and the
 /// time of its next instant.
 #[derive(Drop)]
 pub struct ClockState {
@@ -23,32 +23,32 @@ pub struct ClockState {
 }
 
 /// Makes a segment of a clock: an instant, and behind it instants that go on as it did, at most so many; and answers how many
-/// these are. `own` tells of each node whether its own clock demands it of itself. Whatever instants the lanes stood for, they
+/// these are. `own` tells of each node whether its own clock demands it of itself. Whatever instants the states stood for, they
 /// stand for those of the segment too.
 pub fn make_segment<T: Taps>(
     shape: &Shape<'_>,
     clock: NodeClock,
     own: &[bool],
-    lanes: &mut ClockState,
+    state: &mut ClockState,
     most: u32,
     taps: &mut T,
 ) -> Result<u32, Memory>
-    requires makes { CanMake shape.now clock own.now lanes.old }
+    requires makes { CanMake shape.now clock own.now state.old }
     requires short { most ≤ 1024 }
     requires readers { ReadersAreIn shape.now.plan.now (T.buffers taps.old) }
-    ensures lanes { IsClockStateOver shape.now lanes.new }
+    ensures state { IsClockStateOver shape.now state.new }
     ensures buffers { T.buffers taps.new ≡ T.buffers taps.old }
     ensures same { T.same taps.old taps.new }
     ensures within { IfOk result (λ many. many ≤ most) }
-    ensures run { IfOk result (λ many. SegmentRunOver T.stands shape.now clock own.now many lanes.old lanes.new taps.old taps.new) }
-    ensures broken { OnErr result (SegmentBrokenOver T.stands shape.now clock own.now lanes.old taps.old taps.new) }
+    ensures run { IfOk result (λ many. SegmentRunOver T.stands shape.now clock own.now many state.old state.new taps.old taps.new) }
+    ensures broken { OnErr result (SegmentBrokenOver T.stands shape.now clock own.now state.old taps.old taps.new) }
     ensures reads { OnErr result (HasReader shape.now.plan.now shape.now.clocks.now clock) }
 {
-    let time = lanes.time;
+    let time = state.time;
     let levels = shape.plan.nodes.len();
-    make_instant(shape, own, &mut lanes.clocks, clock, time, levels, taps)?;
-    let many = make_stretch(shape, &mut lanes.clocks, clock, time, most, levels);
-    lanes.time = time.next().later(many);
-    lanes.segments = lanes.segments.saturating_add(1);
+    make_instant(shape, own, &mut state.clocks, clock, time, levels, taps)?;
+    let many = make_stretch(shape, &mut state.clocks, clock, time, most, levels);
+    state.time = time.next().later(many);
+    state.segments = state.segments.saturating_add(1);
     Ok(many)
 }

@@ -76,19 +76,24 @@ fn begin_list(list: &mut CueList)
 
 /// Where marks are kept, each output gets that of its node at the latest instant, which is this one, if a track begins there. Where
 /// memory is refused some got theirs.
-pub fn mark_all(cues: &mut Cues, ports: &[Port], at: u64, lanes: &ClockStates) -> Result<(), Memory>
+pub fn mark_all(
+    cues: &mut Cues,
+    ports: &[Port],
+    at: u64,
+    clocks: &ClockStates,
+) -> Result<(), Memory>
     requires sizes { length cues.old.lists.items ≡ length ports.now }
     ensures keeping { cues.new.keeping ≡ cues.old.keeping }
     ensures size { length cues.new.lists.items ≡ length cues.old.lists.items }
     ensures grown { (k : ℕ) (old new : Marks) → slice_get cues.old.lists.items k ≡ Some old → slice_get cues.new.lists.items k ≡ Some new → HasGrown old new }
     ensures kept { OnOk result ((k : ℕ) (port : OutputPort) (old new : Marks) → slice_get ports.now k ≡ Some port → slice_get cues.old.lists.items k ≡ Some old
-        → slice_get cues.new.lists.items k ≡ Some new → HasKept (marks_if cues.old.keeping at ((part_at lanes.now.latest.parts.items port.node).slot ∷ [])) old new) }
+        → slice_get cues.new.lists.items k ≡ Some new → HasKept (marks_if cues.old.keeping at ((part_at clocks.now.latest.parts.items port.node).slot ∷ [])) old new) }
     ensures memory { OnErr result (cues.old.keeping ≡ true) }
 {
     if !cues.keeping {
         return Ok(());
     }
-    mark_lists(&mut cues.lists, ports, at, lanes)
+    mark_lists(&mut cues.lists, ports, at, clocks)
 }
 
 // The same, where marks are kept.
@@ -96,19 +101,19 @@ fn mark_lists(
     lists: &mut Vec<CueList>,
     ports: &[Port],
     at: u64,
-    lanes: &ClockStates,
+    clocks: &ClockStates,
 ) -> Result<(), Memory>
     requires sizes { length lists.old.items ≡ length ports.now }
     ensures size { length lists.new.items ≡ length lists.old.items }
     ensures grown { (k : ℕ) (old new : Marks) → slice_get lists.old.items k ≡ Some old → slice_get lists.new.items k ≡ Some new → HasGrown old new }
     ensures kept { OnOk result ((k : ℕ) (port : OutputPort) (old new : Marks) → slice_get ports.now k ≡ Some port → slice_get lists.old.items k ≡ Some old
-        → slice_get lists.new.items k ≡ Some new → HasKept (marks_of at ((part_at lanes.now.latest.parts.items port.node).slot ∷ [])) old new) }
+        → slice_get lists.new.items k ≡ Some new → HasKept (marks_of at ((part_at clocks.now.latest.parts.items port.node).slot ∷ [])) old new) }
 {
     for k in 0..ports.len() {
         mark_list(
             &mut lists[k],
             at,
-            slot_of(&lanes.latest.parts, ports[k].node),
+            slot_of(&clocks.latest.parts, ports[k].node),
         )?;
     }
     Ok(())

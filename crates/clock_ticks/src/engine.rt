@@ -25,7 +25,7 @@ use crate::outputs::{feeds_of, ports_of};
 use crate::parts::{most_children, own_roots, states_of, times_of};
 use crate::run::run_tick;
 use clock_infer::{ClockMap, NodeClock};
-use clock_instants::{ClockNodes, Latest, Runs, Shape};
+use clock_instants::{ClockNodes, Latest, Shape, StretchRoom};
 use clock_outputs::{FeedPort, Port, append_all, give_all};
 use fixed_text::WeekSecond;
 use frame_core::{Library, Taps};
@@ -110,10 +110,10 @@ fn make_parts<'a>(
     let time = WeekTime::new(start, shape.plan.rate, shape.plan.frame);
     let times = times_of(alloc, time, states.len())?;
     let silence = vec![in alloc; silent; states.len()]?;
-    let marks = vec![in alloc; false; states.len()]?;
+    let demanded = vec![in alloc; false; states.len()]?;
     let nodes = ClockNodes::new(alloc, shape.clocks)?;
     let desk = Desk::new(alloc, most_children(shape.plan))?;
-    let runs = Runs::new(alloc, &states)?;
+    let room = StretchRoom::new(alloc, &states)?;
     let own = own_roots(alloc, &shape)?;
     let ports = ports_of(alloc, &shape, clock)?;
     let feeds = feeds_of(alloc, &shape, clock)?;
@@ -130,11 +130,11 @@ fn make_parts<'a>(
                 latest: Latest {
                     clock: NodeClock::Main(clock),
                     parts: silence,
-                    marks,
+                    demanded,
                 },
                 nodes,
                 desk,
-                runs,
+                room,
             },
             time,
             segments: 0,
@@ -398,7 +398,7 @@ impl<'a, O> ClockEngine<'a, O> {
         self.parts.ticks
     }
 
-    /// How many segments were made: an instant of the clock each, and behind it a run of instants that were made at once, as they
+    /// How many segments were made: an instant of the clock each, and behind it a stretch of instants that were made at once, as they
     /// go on as it did.
     pub fn segments(&self) -> u64
         ensures { result ≡ self.now.parts.state.segments }

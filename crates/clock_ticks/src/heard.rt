@@ -11,65 +11,65 @@ use stream_meaning::slot_of;
 
 /// Each output takes the slots of its node in the latest segment, which had so many instants behind its first one. There are
 /// `nodes` nodes.
-pub fn hear_all(ports: &mut Vec<Port>, lanes: &ClockStates, many: u32, nodes: usize)
-    requires runs { HasStretchRoom nodes lanes.now.runs }
+pub fn hear_all(ports: &mut Vec<Port>, clocks: &ClockStates, many: u32, nodes: usize)
+    requires stretch_room { HasStretchRoom nodes clocks.now.room }
     requires short { many ≤ 1024 }
     requires within { All (λ port. port.node < nodes) ports.old.items }
     requires room { AllHaveRoomLeft (suc many) ports.old.items }
-    ensures { ports.new.items ≡ map (λ port. after_slots port (segment_of lanes.now many port.node)) ports.old.items }
+    ensures { ports.new.items ≡ map (λ port. after_slots port (segment_of clocks.now many port.node)) ports.old.items }
 {
     for k in 0..ports.len() {
-        hear_one(&mut ports[k], lanes, many, nodes);
+        hear_one(&mut ports[k], clocks, many, nodes);
     }
 }
 
 // An output takes the slots of its node.
-fn hear_one(port: &mut Port, lanes: &ClockStates, many: u32, nodes: usize)
-    requires runs { HasStretchRoom nodes lanes.now.runs }
+fn hear_one(port: &mut Port, clocks: &ClockStates, many: u32, nodes: usize)
+    requires stretch_room { HasStretchRoom nodes clocks.now.room }
     requires short { many ≤ 1024 }
     requires within { port.old.node < nodes }
     requires room { HasRoomLeft (suc many) port.old }
-    ensures { port.new ≡ after_slots port.old (segment_of lanes.now many port.old.node) }
+    ensures { port.new ≡ after_slots port.old (segment_of clocks.now many port.old.node) }
 {
-    let slot = slot_of(&lanes.latest.parts, port.node);
+    let slot = slot_of(&clocks.latest.parts, port.node);
     let count = many as usize;
     port.hear(
         slot,
-        lanes.runs.left_of(port.node, count),
-        lanes.runs.right_of(port.node, count),
+        clocks.room.left_of(port.node, count),
+        clocks.room.right_of(port.node, count),
     );
 }
 
 /// Each feed takes the slots of its node in the latest segment, which began at a place of the tick, and had so many instants
 /// behind its first one. There are `nodes` nodes.
-pub fn feed_all(feeds: &mut Vec<FeedPort>, at: u32, lanes: &ClockStates, many: u32, nodes: usize)
-    requires runs { HasStretchRoom nodes lanes.now.runs }
+pub fn feed_all(feeds: &mut Vec<FeedPort>, at: u32, clocks: &ClockStates, many: u32, nodes: usize)
+    requires stretch_room { HasStretchRoom nodes clocks.now.room }
     requires short { many ≤ 1024 }
     requires within { All (λ feed. feed.node < nodes) feeds.old.items }
     requires there { All (λ feed. at + suc many ≤ length feed.frame) feeds.old.items }
     requires fits { at + suc many < 2 ^ 32 }
-    ensures { feeds.new.items ≡ map (λ feed. with_slots_from at (segment_of lanes.now many feed.node) feed) feeds.old.items }
+    ensures { feeds.new.items ≡ map (λ feed. with_slots_from at (segment_of clocks.now many feed.node) feed) feeds.old.items }
 {
     for k in 0..feeds.len() {
-        feed_one(&mut feeds[k], at, lanes, many, nodes);
+        feed_one(&mut feeds[k], at, clocks, many, nodes);
     }
 }
 
 // A feed takes the slots of its node.
-fn feed_one(feed: &mut FeedPort, at: u32, lanes: &ClockStates, many: u32, nodes: usize)
-    requires runs { HasStretchRoom nodes lanes.now.runs }
+fn feed_one(feed: &mut FeedPort, at: u32, clocks: &ClockStates, many: u32, nodes: usize)
+    requires stretch_room { HasStretchRoom nodes clocks.now.room }
     requires short { many ≤ 1024 }
     requires within { feed.old.node < nodes }
     requires there { at + suc many ≤ length feed.old.frame }
     requires fits { at + suc many < 2 ^ 32 }
-    ensures { feed.new ≡ with_slots_from at (segment_of lanes.now many feed.old.node) feed.old }
+    ensures { feed.new ≡ with_slots_from at (segment_of clocks.now many feed.old.node) feed.old }
 {
-    let slot = slot_of(&lanes.latest.parts, feed.node);
+    let slot = slot_of(&clocks.latest.parts, feed.node);
     let count = many as usize;
     feed.hear(
         at,
         slot,
-        lanes.runs.left_of(feed.node, count),
-        lanes.runs.right_of(feed.node, count),
+        clocks.room.left_of(feed.node, count),
+        clocks.room.right_of(feed.node, count),
     );
 }

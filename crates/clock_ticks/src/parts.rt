@@ -131,7 +131,7 @@ fn node_of(sink: &SinkPlan) -> u32
     }
 }
 
-// The same as marks, of which none is set before.
+// The same, where no node is demanded before.
 fn demand_roots(shape: &Shape<'_>, own: &mut [bool])
     requires in_clocks { length shape.now.clocks.now ≡ length own.old }
     requires sinks { All (λ sink. sink_node sink < length own.old) shape.now.plan.now.sinks }
@@ -143,20 +143,20 @@ fn demand_roots(shape: &Shape<'_>, own: &mut [bool])
     keep_roots(shape, own);
 }
 
-// Marks the nodes of sinks.
-fn demand_sinks(sinks: &[SinkPlan], marks: &mut [bool])
-    requires { All (λ sink. sink_node sink < length marks.old) sinks.now }
-    ensures { (i : ℕ) → slice_index_or marks.new i false ≡ (slice_index_or marks.old i false || list_any (λ sink. nat_eq (sink_node sink) i) sinks.now) }
+// Demands the nodes of sinks.
+fn demand_sinks(sinks: &[SinkPlan], demanded: &mut [bool])
+    requires { All (λ sink. sink_node sink < length demanded.old) sinks.now }
+    ensures { (i : ℕ) → slice_index_or demanded.new i false ≡ (slice_index_or demanded.old i false || list_any (λ sink. nat_eq (sink_node sink) i) sinks.now) }
 {
     for sink in sinks {
-        marks[node_of(sink) as usize] = true;
+        demanded[node_of(sink) as usize] = true;
     }
 }
 
-// Of marks for the nodes of sinks, makes those for what each node's own clock demands of itself.
+// Where the nodes of sinks are demanded, demands those that each node's own clock demands of itself.
 fn keep_roots(shape: &Shape<'_>, own: &mut [bool])
     requires in_clocks { length shape.now.clocks.now ≡ length own.old }
-    requires marks { (i : ℕ) → slice_index_or own.old i false ≡ list_any (λ sink. nat_eq (sink_node sink) i) shape.now.plan.now.sinks }
+    requires demanded { (i : ℕ) → slice_index_or own.old i false ≡ list_any (λ sink. nat_eq (sink_node sink) i) shape.now.plan.now.sinks }
     ensures { (other : Setting) (i : ℕ) → i < length own.old
         → slice_index_or own.new i false ≡ is_root (setting_over shape.now other) (slice_index_or shape.now.clocks.now i (InMain 0)) i }
 {

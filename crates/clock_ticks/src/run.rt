@@ -20,26 +20,26 @@ pub fn run_tick<T: Taps>(
     shape: &Shape<'_>,
     clock: NodeClock,
     own: &[bool],
-    lanes: &mut ClockState,
+    state: &mut ClockState,
     ports: &mut Vec<Port>,
     feeds: &mut Vec<FeedPort>,
     cues: &mut Cues,
     start: u64,
     taps: &mut T,
 ) -> Result<(), Memory>
-    requires makes { CanMake shape.now clock own.now lanes.old }
+    requires makes { CanMake shape.now clock own.now state.old }
     requires hearing { CanHear shape.now ports.old.items feeds.old.items cues.old start }
     requires readers { ReadersAreIn shape.now.plan.now (T.buffers taps.old) }
-    ensures lanes { IsClockStateOver shape.now lanes.new }
+    ensures state { IsClockStateOver shape.now state.new }
     ensures frames { All (λ feed. length feed.frame ≡ shape.now.plan.now.frame) feeds.new.items }
     ensures keys { map feed_key feeds.new.items ≡ map feed_key feeds.old.items }
     ensures keeping { cues.new.keeping ≡ cues.old.keeping }
     ensures buffers { T.buffers taps.new ≡ T.buffers taps.old }
     ensures same { T.same taps.old taps.new }
     ensures heard { OnOk result (HeardOver T.stands shape.now clock own.now shape.now.plan.now.frame
-        (scene lanes.old ports.old.items feeds.old.items cues.old start taps.old) (scene lanes.new ports.new.items feeds.new.items cues.new start taps.new)) }
+        (scene state.old ports.old.items feeds.old.items cues.old start taps.old) (scene state.new ports.new.items feeds.new.items cues.new start taps.new)) }
     ensures stopped { OnErr result (HeardSomeOver T.stands shape.now clock own.now shape.now.plan.now.frame
-        (scene lanes.old ports.old.items feeds.old.items cues.old start taps.old) (scene lanes.new ports.new.items feeds.new.items cues.new start taps.new)) }
+        (scene state.old ports.old.items feeds.old.items cues.old start taps.old) (scene state.new ports.new.items feeds.new.items cues.new start taps.new)) }
     ensures needs { OnErr result (HasReader shape.now.plan.now shape.now.clocks.now clock ⊎ (cues.old.keeping ≡ true)) }
 {
     let frame = shape.plan.frame;
@@ -49,10 +49,10 @@ pub fn run_tick<T: Taps>(
     let mut instant = 0;
     while instant < frame {
         let most = (frame - instant - 1).min(MAX_STRETCH);
-        let many = make_segment(shape, clock, own, lanes, most, taps)?;
-        hear_all(ports, &lanes.clocks, many, nodes);
-        feed_all(feeds, instant, &lanes.clocks, many, nodes);
-        mark_all(cues, ports, start + instant as u64, &lanes.clocks)?;
+        let many = make_segment(shape, clock, own, state, most, taps)?;
+        hear_all(ports, &state.clocks, many, nodes);
+        feed_all(feeds, instant, &state.clocks, many, nodes);
+        mark_all(cues, ports, start + instant as u64, &state.clocks)?;
         instant += 1 + many;
     }
     Ok(())

@@ -1,4 +1,4 @@
--- What the runs of sub-clocks leave as it was.
+-- What the stretches of sub-clocks leave as it was.
 use Rattle.std.proofs.Common.{◌≡◌, ◌<◌, ◌≤◌, ◌&&◌, ◌∙◌, ℕ, Bool, true, false, Option, List, length, slice_get, arith, refl, ap, sym, inl, inr}
 use Rattle.std.specs.Prelude.{is_some, slice_index_or}
 use Rattle.std.specs.Option.{option_map_or}
@@ -20,8 +20,8 @@ use Rattle.nested_instants.specs.Clocks.{AreLeft, HasRanks, IsIdle, clock_at, is
 use Rattle.nested_instants.specs.Stretches.{AreAbove, AreSamplesLeft}
 use Rattle.nested_instants.proofs.Equal.{item_at, they_differ}
 
-pub above_none : (clocks : List NodeClock) (rank : NodeClock → ℕ) (level : ℕ) (touched : ℕ → Type 0) (lanes : ClockStates) → AreAbove clocks rank level touched lanes lanes
-above_none clocks rank level touched lanes = record { states = λ i low. refl; held = λ i low. refl; times = λ i other low. refl; rests = λ i other low. refl; laned = λ i has. has }
+pub above_none : (clocks : List NodeClock) (rank : NodeClock → ℕ) (level : ℕ) (touched : ℕ → Type 0) (all : ClockStates) → AreAbove clocks rank level touched all all
+above_none clocks rank level touched all = record { states = λ i low. refl; held = λ i low. refl; times = λ i other low. refl; rests = λ i other low. refl; laned = λ i has. has }
 
 pub above_then : (clocks : List NodeClock) (rank : NodeClock → ℕ) (level lower : ℕ) (touched first next : ℕ → Type 0) (a b c : ClockStates) → level ≤ lower
     → ((i : ℕ) → rank (clock_at clocks i) ≤ level → first i → touched i) → ((i : ℕ) → rank (clock_at clocks i) ≤ level → next i → touched i)
@@ -35,29 +35,29 @@ above_then clocks rank level lower touched first next a b c down from to one two
 }
 
 -- a sub-clock of which no instants are kept
-idle_by : (clocks : List NodeClock) (rank : NodeClock → ℕ) (clock : NodeClock) (a b : ClockStates) (nodes : ℕ) → HasRanks clocks rank → nodes ≡ length clocks → length b.runs.rests.items ≡ nodes
+idle_by : (clocks : List NodeClock) (rank : NodeClock → ℕ) (clock : NodeClock) (a b : ClockStates) (nodes : ℕ) → HasRanks clocks rank → nodes ≡ length clocks → length b.room.rests.items ≡ nodes
     → ((k : ℕ) → k < length clocks → rank (clock_at clocks k) < rank clock → rest_at b k ≡ rest_at a k) → IsIdle clock a → IsIdle clock b
 idle_by clocks rank clock a b nodes ranks all in_rests same idle = record {
   none = λ k e. elim (cases_lt k (length clocks)) [
     | inl low ↦ (let up = ranks.deeper k low in let is : rank clock ≡ rank (Sub k) = ap rank e in same k low (omega (arith, up, is)) ∙ idle.none k e)
-    | inr high ↦ get_or_past b.runs.rests.items k 0 (omega (arith, in_rests, all, high))
+    | inr high ↦ get_or_past b.room.rests.items k 0 (omega (arith, in_rests, all, high))
   ];
 }
 
-pub idle_above : (clocks : List NodeClock) (rank : NodeClock → ℕ) (clock : NodeClock) (touched : ℕ → Type 0) (a b : ClockStates) (nodes : ℕ) → HasRanks clocks rank → nodes ≡ length clocks → length b.runs.rests.items ≡ nodes
+pub idle_above : (clocks : List NodeClock) (rank : NodeClock → ℕ) (clock : NodeClock) (touched : ℕ → Type 0) (a b : ClockStates) (nodes : ℕ) → HasRanks clocks rank → nodes ≡ length clocks → length b.room.rests.items ≡ nodes
     → ((i : ℕ) → touched i → rank clock ≤ rank (clock_at clocks i)) → AreAbove clocks rank (rank clock) touched a b → IsIdle clock a → IsIdle clock b
 idle_above clocks rank clock touched a b nodes ranks all in_rests high above idle =
     idle_by clocks rank clock a b nodes ranks all in_rests
     (λ k low under. above.rests k (λ m. let h = high k m in omega (arith, h, under)) (omega (arith, under))) idle
 
-pub idle_left : (clocks : List NodeClock) (rank : NodeClock → ℕ) (clock : NodeClock) (touched : ℕ → Type 0) (level : ℕ) (a b : ClockStates) (nodes : ℕ) → HasRanks clocks rank → nodes ≡ length clocks → length b.runs.rests.items ≡ nodes
+pub idle_left : (clocks : List NodeClock) (rank : NodeClock → ℕ) (clock : NodeClock) (touched : ℕ → Type 0) (level : ℕ) (a b : ClockStates) (nodes : ℕ) → HasRanks clocks rank → nodes ≡ length clocks → length b.room.rests.items ≡ nodes
     → rank clock ≤ level → ((i : ℕ) → touched i → rank clock ≤ rank (clock_at clocks i)) → AreLeft clocks rank level touched a b → IsIdle clock a → IsIdle clock b
 idle_left clocks rank clock touched level a b nodes ranks all in_rests deep high left idle =
     idle_by clocks rank clock a b nodes ranks all in_rests
     (λ k low under. left.rests k (λ m. let h = high k m in omega (arith, h, under)) (omega (arith, under, deep))) idle
 
-pub samples_none : (clocks : List NodeClock) (rank : NodeClock → ℕ) (level : ℕ) (touched : ℕ → Type 0) (many : ℕ) (lanes : ClockStates) → AreSamplesLeft clocks rank level touched many lanes lanes
-samples_none clocks rank level touched many lanes = record { left = λ i other low. refl; right = λ i other low. refl }
+pub samples_none : (clocks : List NodeClock) (rank : NodeClock → ℕ) (level : ℕ) (touched : ℕ → Type 0) (many : ℕ) (all : ClockStates) → AreSamplesLeft clocks rank level touched many all all
+samples_none clocks rank level touched many all = record { left = λ i other low. refl; right = λ i other low. refl }
 
 pub samples_then : (clocks : List NodeClock) (rank : NodeClock → ℕ) (level lower : ℕ) (touched first next : ℕ → Type 0) (many : ℕ) (a b c : ClockStates) → level ≤ lower
     → ((i : ℕ) → rank (clock_at clocks i) ≤ level → first i → touched i) → ((i : ℕ) → rank (clock_at clocks i) ≤ level → next i → touched i)
@@ -69,7 +69,7 @@ samples_then clocks rank level lower touched first next many a b c down from to 
 
 -- a clock's own nodes go on behind the sub-clocks
 pub left_above : (clocks : List NodeClock) (rank : NodeClock → ℕ) (clock : NodeClock) (a b c : ClockStates) → AreAbove clocks rank (rank clock) (is_in clocks clock) a b
-    → ((i : ℕ) → same_clock (clock_at clocks i) clock ≡ false → slice_get c.states.items i ≡ slice_get b.states.items i) → c.times ≡ b.times → c.runs.held ≡ b.runs.held → c.runs.rests ≡ b.runs.rests
+    → ((i : ℕ) → same_clock (clock_at clocks i) clock ≡ false → slice_get c.states.items i ≡ slice_get b.states.items i) → c.times ≡ b.times → c.room.held ≡ b.room.held → c.room.rests ≡ b.room.rests
     → ((i : ℕ) → laned_at b i → laned_at c i) → AreLeft clocks rank (rank clock) (is_in clocks clock) a c
 left_above clocks rank clock a b c above states times held rests laned = record {
   states = λ i other low. states i (they_differ (clock_at clocks i) clock other) ∙ above.states i low;
@@ -81,9 +81,9 @@ left_above clocks rank clock a b c above states times held rests laned = record 
 
 -- what a clock's nodes have ahead
 pub ahead_above : (library : Sounds) (clocks : List NodeClock) (rank : NodeClock → ℕ) (clock : NodeClock) (touched : ℕ → Type 0) (a b : ClockStates) (count : ℕ) → AreAbove clocks rank (rank clock) touched a b
-    → AllLieAhead library clocks clock a.runs.held.items a.states.items (length clocks) count → AllLieAhead library clocks clock b.runs.held.items b.states.items (length clocks) count
+    → AllLieAhead library clocks clock a.room.held.items a.states.items (length clocks) count → AllLieAhead library clocks clock b.room.held.items b.states.items (length clocks) count
 ahead_above library clocks rank clock touched a b count above ahead =
-    ahead_same library clocks clock a.runs.held.items b.runs.held.items a.states.items b.states.items (length clocks) count
+    ahead_same library clocks clock a.room.held.items b.room.held.items a.states.items b.states.items (length clocks) count
     (λ i inside. ap (λ p. is_some p.slot) (above.held i (low i inside))) (λ i inside. above.states i (low i inside)) ahead
   where
     low : (i : ℕ) → lies_at clocks clock i ≡ true → rank (clock_at clocks i) ≤ rank clock
@@ -100,13 +100,13 @@ and_right false b e = absurd (false≢true e)
 -- how long a crossfade through which cells pass goes on
 pub pass_above : (clocks : List NodeClock) (rank : NodeClock → ℕ) (clock : NodeClock) (touched : ℕ → Type 0) (a b : ClockStates) (i count : ℕ) → clock_at clocks i ≡ clock → lies_at clocks clock i ≡ true → i < length clocks
     → i < length b.states.items → (touched i → ⊥) → AreAbove clocks rank (rank clock) touched a b
-    → AllPassOn clocks clock a.runs.held.items a.states.items a.runs.rests.items (length clocks) count → (gave_at b.runs.held.items i && passes_at b.states.items i) ≡ true → count ≤ rest_at b i
+    → AllPassOn clocks clock a.room.held.items a.states.items a.room.rests.items (length clocks) count → (gave_at b.room.held.items i && passes_at b.states.items i) ≡ true → count ≤ rest_at b i
 pass_above clocks rank clock touched a b i count here inside within in_states other above on so =
     let e : rank (clock_at clocks i) ≡ rank clock = ap rank here in
     let low : rank (clock_at clocks i) ≤ rank clock = omega (arith, e) in
     let state = item_at b.states.items i in_states in
-    let gave = and_left (gave_at b.runs.held.items i) (passes_at b.states.items i) so in
-    let through = and_right (gave_at b.runs.held.items i) (passes_at b.states.items i) so in
+    let gave = and_left (gave_at b.room.held.items i) (passes_at b.states.items i) so in
+    let through = and_right (gave_at b.room.held.items i) (passes_at b.states.items i) so in
     let most = on.each i state.0 within inside (sym (above.states i low) ∙ state.1) (sym (ap (λ p. is_some p.slot) (above.held i low)) ∙ gave)
     (sym (ap (λ (found : Option NodeState). option_map_or passes found false) state.1) ∙ through) in
     let same = above.rests i other low in

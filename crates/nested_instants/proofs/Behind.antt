@@ -91,17 +91,17 @@ passing setting sub past filled i (Reads buffer) (Cross state) s e = absurd s
 passing setting sub past filled i work (Read reader) s e = absurd (false≢true e)
 passing setting sub past filled i work Idle s e = absurd (false≢true e)
 
--- the lanes stand behind instant n
-pub are_behind : (setting : Setting) (sub : ℕ → ℕ → List Slot) (rank : NodeClock → ℕ) (clock : NodeClock) (n : ℕ) (ran : NodeClock → ℕ) (filled : ℕ → ℕ) (front : ℕ → List Answer) (lanes : ClockStates)
+-- the states stand behind instant n
+pub are_behind : (setting : Setting) (sub : ℕ → ℕ → List Slot) (rank : NodeClock → ℕ) (clock : NodeClock) (n : ℕ) (ran : NodeClock → ℕ) (filled : ℕ → ℕ) (front : ℕ → List Answer) (all : ClockStates)
     (time : WeekTime) → HasRanks setting.clocks rank → length setting.clocks ≡ length setting.plan.nodes → AreNodes setting.plan.nodes → IsMeaning setting sub
-    → Stand setting sub rank (rank clock) ran filled front lanes → RanAsNeeded setting sub rank (rank clock) ran filled → ran clock ≡ suc n
-    → lanes.latest.parts.items ≡ (moment_after setting sub clock (first_instants setting sub clock n)).parts → IsHeld setting sub clock (first_instants setting sub clock n) lanes.runs.held.items
+    → Stand setting sub rank (rank clock) ran filled front all → RanAsNeeded setting sub rank (rank clock) ran filled → ran clock ≡ suc n
+    → all.latest.parts.items ≡ (moment_after setting sub clock (first_instants setting sub clock n)).parts → IsHeld setting sub clock (first_instants setting sub clock n) all.room.held.items
     → TimeStands setting.start n time
-    → IsBehind setting sub clock (first_instants setting sub clock n) filled time lanes.latest.parts.items lanes.runs.held.items lanes.states.items lanes.runs.rests.items
-are_behind setting sub rank clock n ran filled front lanes time ranks in_clocks nodes meaning stand needed at parts held time_is = record {
+    → IsBehind setting sub clock (first_instants setting sub clock n) filled time all.latest.parts.items all.room.held.items all.states.items all.room.rests.items
+are_behind setting sub rank clock n ran filled front all time ranks in_clocks nodes meaning stand needed at parts held time_is = record {
   long = as_many setting sub meaning;
-  stands = subst (λ past. ClockStands setting sub clock past filled lanes.states.items) (ap (first_instants setting sub clock) at)
-      (clock_stands_at setting sub rank clock ran filled front lanes stand needed);
+  stands = subst (λ past. ClockStands setting sub clock past filled all.states.items) (ap (first_instants setting sub clock) at)
+      (clock_stands_at setting sub rank clock ran filled front all stand needed);
   parts_are = parts;
   held_are = held;
   begun = record {
@@ -117,18 +117,18 @@ are_behind setting sub rank clock n ran filled front lanes time ranks in_clocks 
         let level : rank (clock_of setting k) ≡ rank clock = ap rank inside in
         let stands = stand.stand k node state is.there found (omega (arith, level)) in
         let fades : fade_at setting k ≡ true = fade_of setting k node is.there ∙ passing setting sub (past_of setting sub ran k) (filled k) k (work_at setting k node) state stands through in
-        filled_by k (slice_get_within setting.plan.nodes k node is.there) (omega (arith, level)) fades (rest_at lanes k) refl;
+        filled_by k (slice_get_within setting.plan.nodes k node is.there) (omega (arith, level)) fades (rest_at all k) refl;
   };
 }
   where
-    filled_by : (k : ℕ) → k < length setting.plan.nodes → rank clock ≤ rank (clock_of setting k) → fade_at setting k ≡ true → (rest : ℕ) → rest_at lanes k ≡ rest
-        → AreFilled setting sub k (filled k) rest (title_of (part_at lanes.runs.held.items (crossfaded setting.plan.nodes k)).slot)
-    filled_by k within above fades zero is = filled_none setting sub k (filled k) (title_of (part_at lanes.runs.held.items (crossfaded setting.plan.nodes k)).slot)
+    filled_by : (k : ℕ) → k < length setting.plan.nodes → rank clock ≤ rank (clock_of setting k) → fade_at setting k ≡ true → (rest : ℕ) → rest_at all k ≡ rest
+        → AreFilled setting sub k (filled k) rest (title_of (part_at all.room.held.items (crossfaded setting.plan.nodes k)).slot)
+    filled_by k within above fades zero is = filled_none setting sub k (filled k) (title_of (part_at all.room.held.items (crossfaded setting.plan.nodes k)).slot)
     filled_by k within above fades (suc more) is =
         let o = stand.kept k within above (omega (arith, is)) in
-        subst (λ m. AreFilled setting sub k m (suc more) (title_of (part_at lanes.runs.held.items (crossfaded setting.plan.nodes k)).slot)) (sym (stand.even k fades above ∙ o.at))
+        subst (λ m. AreFilled setting sub k m (suc more) (title_of (part_at all.room.held.items (crossfaded setting.plan.nodes k)).slot)) (sym (stand.even k fades above ∙ o.at))
         (subst (λ t. AreFilled setting sub k (suc o.n) (suc more) t)
-        (sym (held_title setting sub (Sub k) (first_instants setting sub (Sub k) o.n) lanes.runs.held.items (crossfaded setting.plan.nodes k) o.goes.held_is o.gave))
+        (sym (held_title setting sub (Sub k) (first_instants setting sub (Sub k) o.n) all.room.held.items (crossfaded setting.plan.nodes k) o.goes.held_is o.gave))
         (are_filled setting sub meaning k o.n (suc (suc more)) nodes
         (subst (λ m. IsStretch setting sub (Sub k) (first_instants setting sub (Sub k) o.n) (suc m)) is o.goes.stretch) o.gave (suc o.n) (suc more) (omega arith) (omega arith)))
 
@@ -137,12 +137,12 @@ module _ (setting : Setting) (sub : ℕ → ℕ → List Slot) (rank : NodeClock
     (can : CanGoOn setting sub rank own clock n many ran filled front old)
     (s : SubsMade setting sub rank clock many (goes_through (moment_after setting sub clock (first_instants setting sub clock n)) old.states.items) (length setting.plan.nodes) ran filled front mid)
     (above : AreAbove setting.clocks rank (rank clock) (is_in setting.clocks clock) old mid)
-    (times : new.times ≡ mid.times) (held : new.runs.held ≡ mid.runs.held) (rests : new.runs.rests ≡ mid.runs.rests)
+    (times : new.times ≡ mid.times) (held : new.room.held ≡ mid.room.held) (rests : new.room.rests ≡ mid.room.rests)
     (others : (i : ℕ) → lies_in setting clock i ≡ false → slice_get new.states.items i ≡ slice_get mid.states.items i)
     (in_times : length mid.times.items ≡ length setting.plan.nodes) (mid_states : length mid.states.items ≡ length setting.plan.nodes)
     (laned : (i : ℕ) → laned_at mid i → laned_at new i)
-    (goes_on : (past : List Moment) (filled : ℕ → ℕ) → IsGoing setting sub clock past many filled mid.runs.held.items mid.states.items mid.runs.left.items mid.runs.right.items
-    → HasGoneOn setting sub clock past many filled mid.states.items new.runs.left.items new.runs.right.items new.states.items) where
+    (goes_on : (past : List Moment) (filled : ℕ → ℕ) → IsGoing setting sub clock past many filled mid.room.held.items mid.states.items mid.room.left.items mid.room.right.items
+    → HasGoneOn setting sub clock past many filled mid.states.items new.room.left.items new.room.right.items new.states.items) where
   abbrev Past : List Moment
   Past = first_instants setting sub clock n
 
@@ -244,7 +244,7 @@ module _ (setting : Setting) (sub : ℕ → ℕ → List Slot) (rank : NodeClock
   even_before : (k : ℕ) → clock_of setting k ≡ clock → fade_at setting k ≡ true → filled k ≡ ran (Sub k)
   even_before k inside fades = can.stand.even k fades (let l = level k inside in omega (arith, l))
 
-  going : IsGoing setting sub clock Past many s.filled_now mid.runs.held.items mid.states.items mid.runs.left.items mid.runs.right.items
+  going : IsGoing setting sub clock Past many s.filled_now mid.room.held.items mid.states.items mid.room.left.items mid.room.right.items
   going = record {
     long = as_many setting sub can.world.meaning;
     stretch = can.goes.stretch;
@@ -267,7 +267,7 @@ module _ (setting : Setting) (sub : ℕ → ℕ → List Slot) (rank : NodeClock
       each = λ k node state is found gave through.
           let inside = same_clock-true (clock_of setting k) clock is.inside in
           let fades = passing_fade k node state is found through in
-          subst (λ m. LaneFills (sub k) m many (title_of (part_at mid.runs.held.items (crossfaded setting.plan.nodes k)).slot) (samples_of mid.runs.left.items (crossfaded setting.plan.nodes k) many) (samples_of mid.runs.right.items (crossfaded setting.plan.nodes k) many))
+          subst (λ m. LaneFills (sub k) m many (title_of (part_at mid.room.held.items (crossfaded setting.plan.nodes k)).slot) (samples_of mid.room.left.items (crossfaded setting.plan.nodes k) many) (samples_of mid.room.right.items (crossfaded setting.plan.nodes k) many))
           (sym (filled_kept k inside ∙ even_before k inside fades))
           (let within = slice_get_within setting.plan.nodes k node is.there in s.fills k within inside within (passes_there k state inside found gave through));
       apart = λ k node state is found gave through.
@@ -278,7 +278,7 @@ module _ (setting : Setting) (sub : ℕ → ℕ → List Slot) (rank : NodeClock
     };
   }
 
-  went : HasGoneOn setting sub clock Past many s.filled_now mid.states.items new.runs.left.items new.runs.right.items new.states.items
+  went : HasGoneOn setting sub clock Past many s.filled_now mid.states.items new.room.left.items new.room.right.items new.states.items
   went = goes_on Past s.filled_now going
 
   -- ---- states
@@ -505,10 +505,10 @@ module _ (setting : Setting) (sub : ℕ → ℕ → List Slot) (rank : NodeClock
 
   run_of_root : (i : ℕ) → slice_index_or own i false ≡ true
       → IsStretchOf (λ j. offer (moment_after setting sub clock (first_instants setting sub clock (ran clock + j))) i) many (offer First i)
-      (samples_of new.runs.left.items i many) (samples_of new.runs.right.items i many)
+      (samples_of new.room.left.items i many) (samples_of new.room.right.items i many)
   run_of_root i is = record {
     given = λ there. lane_of_same (λ j. lane setting sub clock Past (suc j) i) (λ j. offer (moment_after setting sub clock (first_instants setting sub clock (ran clock + j))) i) many
-        (samples_of new.runs.left.items i many) (samples_of new.runs.right.items i many) (λ j low. slot_same i j)
+        (samples_of new.room.left.items i many) (samples_of new.room.right.items i many) (λ j low. slot_same i j)
         (went.lanes i (root_gives setting sub clock Past own can.world.roots i is there));
     titled = λ there j low. ap title_of (slot_same i j)
         ∙ keeps_title setting sub clock Past (suc many) i (suc j) nodes can.goes.stretch (omega (arith, low)) (root_gives setting sub clock Past own can.world.roots i is there);
@@ -542,9 +542,9 @@ module _ (setting : Setting) (sub : ℕ → ℕ → List Slot) (rank : NodeClock
   }
 
 -- no instant more
-pub has_run_none : (setting : Setting) (sub : ℕ → ℕ → List Slot) (rank : NodeClock → ℕ) (own : List Bool) (clock : NodeClock) (n : ℕ) (ran : NodeClock → ℕ) (filled : ℕ → ℕ) (front : ℕ → List Answer) (lanes : ClockStates)
-    → Stand setting sub rank (rank clock) ran filled front lanes → RanAsNeeded setting sub rank (rank clock) ran filled → HasMadeOn setting sub rank own clock n 0 ran filled front lanes
-has_run_none setting sub rank own clock n ran filled front lanes stand needed = record {
+pub has_run_none : (setting : Setting) (sub : ℕ → ℕ → List Slot) (rank : NodeClock → ℕ) (own : List Bool) (clock : NodeClock) (n : ℕ) (ran : NodeClock → ℕ) (filled : ℕ → ℕ) (front : ℕ → List Answer) (all : ClockStates)
+    → Stand setting sub rank (rank clock) ran filled front all → RanAsNeeded setting sub rank (rank clock) ran filled → HasMadeOn setting sub rank own clock n 0 ran filled front all
+has_run_none setting sub rank own clock n ran filled front all stand needed = record {
   ran_now = ran;
   filled_now = filled;
   stand = stand;
@@ -554,7 +554,7 @@ has_run_none setting sub rank own clock n ran filled front lanes stand needed = 
   needed = needed;
   quiet = λ j low. absurd (omega (arith, low));
   slots = λ i is. record {
-    given = λ there. record { left_is = samples_none lanes.runs.left.items i; right_is = samples_none lanes.runs.right.items i; inner = λ j low. absurd (omega (arith, low)) };
+    given = λ there. record { left_is = samples_none all.room.left.items i; right_is = samples_none all.room.right.items i; inner = λ j low. absurd (omega (arith, low)) };
     titled = λ there j low. absurd (omega (arith, low));
     silent = λ none j low. absurd (omega (arith, low));
   };

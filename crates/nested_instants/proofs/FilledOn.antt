@@ -28,7 +28,7 @@ use Rattle.nested_instants.proofs.Taking.{IsFilled, meaning_step, taken}
 pub record TakesSlot (setting : Setting) (sub : ℕ → ℕ → List Slot) (k : ℕ) (old new : ClockStates) : Type 0 where
   pub states : (i : ℕ) → (i ≡ k → ⊥) → slice_get new.states.items i ≡ slice_get old.states.items i
   pub times : (i : ℕ) → (i ≡ k → ⊥) → slice_get new.times.items i ≡ slice_get old.times.items i
-  pub runs : new.runs ≡ old.runs
+  pub room : new.room ≡ old.room
   pub filled : (past : List Moment) (filled : ℕ) (work : Work) (before after : NodeState)
       → slice_get old.states.items k ≡ Some before → slice_get new.states.items k ≡ Some after → StateStands setting sub past filled k work before
       → sub k (suc filled) ≡ sub k filled ++ (part_at old.latest.parts.items (crossfaded setting.plan.nodes k)).slot ∷ [] → StateStands setting sub past (suc filled) k work after
@@ -39,10 +39,10 @@ pub record TakesSlot (setting : Setting) (sub : ℕ → ℕ → List Slot) (k : 
 pub record TakesStretch (setting : Setting) (sub : ℕ → ℕ → List Slot) (k many : ℕ) (old new : ClockStates) : Type 0 where
   pub states : (i : ℕ) → (i ≡ k → ⊥) → slice_get new.states.items i ≡ slice_get old.states.items i
   pub times : (i : ℕ) → (i ≡ k → ⊥) → slice_get new.times.items i ≡ slice_get old.times.items i
-  pub runs : new.runs ≡ old.runs
+  pub room : new.room ≡ old.room
   pub filled : (past : List Moment) (filled : ℕ) (work : Work) (slots : ℕ → Slot) (before after : NodeState)
       → slice_get old.states.items k ≡ Some before → slice_get new.states.items k ≡ Some after → StateStands setting sub past filled k work before
-      → IsLane slots many (samples_of old.runs.left.items (crossfaded setting.plan.nodes k) many) (samples_of old.runs.right.items (crossfaded setting.plan.nodes k) many)
+      → IsLane slots many (samples_of old.room.left.items (crossfaded setting.plan.nodes k) many) (samples_of old.room.right.items (crossfaded setting.plan.nodes k) many)
       → AreTitled slots many (title_of (part_at old.latest.parts.items (crossfaded setting.plan.nodes k)).slot)
       → ((m : ℕ) → m < many → sub k (suc (filled + m)) ≡ sub k (filled + m) ++ slots m ∷ []) → StateStands setting sub past (filled + many) k work after
   pub time : (n : ℕ) (before after : WeekTime) → slice_get old.times.items k ≡ Some before → slice_get new.times.items k ≡ Some after
@@ -53,7 +53,7 @@ pub one_filled : (setting : Setting) (sub : ℕ → ℕ → List Slot) (k n : �
 one_filled setting sub k n made new meaning parts takes = record {
   states = takes.states;
   times = takes.times;
-  runs = takes.runs;
+  room = takes.room;
   filled = λ past work before after was is stands.
       let next : suc n ≡ n + 1 = omega arith in
       subst (λ m. StateStands setting sub past m k work after) next
@@ -66,11 +66,11 @@ one_filled setting sub k n made new meaning parts takes = record {
 
 module _ (setting : Setting) (sub : ℕ → ℕ → List Slot) (rank : NodeClock → ℕ) (ranks : HasRanks setting.clocks rank)
     (in_clocks : length setting.clocks ≡ length setting.plan.nodes) (k : ℕ) (within : k < length setting.plan.nodes) (ran : NodeClock → ℕ) (filled : ℕ → ℕ) (front : ℕ → List Answer)
-    (more : List Call) (lanes : ClockStates) (r : IsFilling setting sub rank (rank (clock_of setting k)) k is_none ran filled front more lanes) (fades : fade_at setting k ≡ true)
+    (more : List Call) (all : ClockStates) (r : IsFilling setting sub rank (rank (clock_of setting k)) k is_none ran filled front more all) (fades : fade_at setting k ≡ true)
     (meaning : IsMeaning setting sub) (own : List Bool) (roots : AreOwnRoots setting own) (n many : ℕ) (mid new : ClockStates)
     (h : HasMadeOn setting sub rank own (Sub k) n many r.reached.ran_now r.reached.filled_now (after_calls front more) mid)
     (gave : gives (moment_after setting sub (Sub k) (first_instants setting sub (Sub k) n)) (crossfaded setting.plan.nodes k) ≡ true)
-    (takes : TakesStretch setting sub k many mid new) (idle : rest_at lanes k ≡ 0)
+    (takes : TakesStretch setting sub k many mid new) (idle : rest_at all k ≡ 0)
     (parts : mid.latest.parts.items ≡ (moment_after setting sub (Sub k) (first_instants setting sub (Sub k) n)).parts) where
   abbrev Ran : ℕ
   Ran = r.reached.ran_now (Sub k)
@@ -82,7 +82,7 @@ module _ (setting : Setting) (sub : ℕ → ℕ → List Slot) (rank : NodeClock
   run_filled = record {
     states = takes.states;
     times = takes.times;
-    runs = takes.runs;
+    room = takes.room;
     filled = λ past work before after was is stands.
         takes.filled past Ran work (λ j. offer (moment_after setting sub (Sub k) (first_instants setting sub (Sub k) (Ran + j))) (crossfaded setting.plan.nodes k)) before after was is stands
         ((h.slots (crossfaded setting.plan.nodes k) (child_root setting sub k (first_instants setting sub (Sub k) n) own roots offered)).given offered)
@@ -92,18 +92,18 @@ module _ (setting : Setting) (sub : ℕ → ℕ → List Slot) (rank : NodeClock
     time = takes.time;
   }
 
-  pub filled_on : AreLeft setting.clocks rank (rank (Sub k)) (is_in setting.clocks (Sub k)) lanes mid → length mid.states.items ≡ length setting.plan.nodes
+  pub filled_on : AreLeft setting.clocks rank (rank (Sub k)) (is_in setting.clocks (Sub k)) all mid → length mid.states.items ≡ length setting.plan.nodes
       → length mid.times.items ≡ length setting.plan.nodes → IsFilling setting sub rank (rank (clock_of setting k)) k is_none ran filled front more new
   filled_on left in_states in_times =
       subst (λ (cs : List Call). IsFilling setting sub rank (rank (clock_of setting k)) k is_none ran filled front cs new) (append-nil more)
-      (taken setting sub rank ranks in_clocks k within ran filled front more lanes r fades many mid new []
+      (taken setting sub rank ranks in_clocks k within ran filled front more all r fades many mid new []
       (gone_on setting sub rank (Sub k) r.reached.ran_now r.reached.filled_now (after_calls front more) mid own n many h) left in_states in_times run_filled idle)
 
 -- instants of the sub-clock are kept: the crossfade was filled no more
 pub filled_kept : (setting : Setting) (sub : ℕ → ℕ → List Slot) (rank : NodeClock → ℕ) (ranks : HasRanks setting.clocks rank) (in_clocks : length setting.clocks ≡ length setting.plan.nodes)
     (k : ℕ) (within : k < length setting.plan.nodes) (ran : NodeClock → ℕ) (filled : ℕ → ℕ) (front : ℕ → List Answer) (more : List Call) (old new : ClockStates) (rest : ℕ)
-    → new.states ≡ old.states → new.times ≡ old.times → new.runs.held ≡ old.runs.held → rest_at new k ≡ rest → ((i : ℕ) → (i ≡ k → ⊥) → rest_at new i ≡ rest_at old i)
-    → new.runs.left ≡ old.runs.left → new.runs.right ≡ old.runs.right
+    → new.states ≡ old.states → new.times ≡ old.times → new.room.held ≡ old.room.held → rest_at new k ≡ rest → ((i : ℕ) → (i ≡ k → ⊥) → rest_at new i ≡ rest_at old i)
+    → new.room.left ≡ old.room.left → new.room.right ≡ old.room.right
     → (r : IsFilling setting sub rank (rank (clock_of setting k)) k is_none ran filled front more old)
     → (0 < rest → IsOpen setting sub k rest r.reached.ran_now r.reached.filled_now old)
     → IsFilling setting sub rank (rank (clock_of setting k)) k is_none ran filled front more new
@@ -129,7 +129,7 @@ filled_kept setting sub rank ranks in_clocks k within ran filled front more old 
   calls = r.calls;
 }
   where
-    alike : (i : ℕ) → (r.reached.filled_now i ≡ r.reached.filled_now i) × (slice_get new.states.items i ≡ slice_get old.states.items i) × (part_at new.runs.held.items i ≡ part_at old.runs.held.items i)
+    alike : (i : ℕ) → (r.reached.filled_now i ≡ r.reached.filled_now i) × (slice_get new.states.items i ≡ slice_get old.states.items i) × (part_at new.room.held.items i ≡ part_at old.room.held.items i)
     alike i = (refl, ap (λ xs. slice_get xs.items i) states, ap (λ ps. part_at ps.items i) held)
 
     here : 0 < rest_at new k → IsOpen setting sub k (rest_at new k) r.reached.ran_now r.reached.filled_now new
@@ -139,8 +139,8 @@ filled_kept setting sub rank ranks in_clocks k within ran filled front more old 
           n = o.n;
           at = o.at;
           gave = o.gave;
-          goes = subst (λ m. GoesOnFor setting sub (Sub k) (first_instants setting sub (Sub k) o.n) m r.reached.filled_now new.runs.held.items new.states.items) (sym is)
-              (goes_kept setting sub (Sub k) (first_instants setting sub (Sub k) o.n) rest r.reached.filled_now r.reached.filled_now old.runs.held.items new.runs.held.items old.states.items new.states.items
+          goes = subst (λ m. GoesOnFor setting sub (Sub k) (first_instants setting sub (Sub k) o.n) m r.reached.filled_now new.room.held.items new.states.items) (sym is)
+              (goes_kept setting sub (Sub k) (first_instants setting sub (Sub k) o.n) rest r.reached.filled_now r.reached.filled_now old.room.held.items new.room.held.items old.states.items new.states.items
               (λ i inside. alike i) o.goes);
         }
 

@@ -17,10 +17,10 @@ calls_at setting sub clock m = calls_of setting sub clock (first_instants settin
 
 -- a clock has made so many instants more, by their calls, and no other clock of its rank or a lower one has
 pub record HasGone (setting : Setting) (sub : ℕ → ℕ → List Slot) (rank : NodeClock → ℕ) (clock : NodeClock) (many : ℕ) (ran : NodeClock → ℕ) (filled : ℕ → ℕ)
-    (front : ℕ → List Answer) (more : List Call) (lanes : ClockStates) : Type 0 where
+    (front : ℕ → List Answer) (more : List Call) (all : ClockStates) : Type 0 where
   pub ran_now : NodeClock → ℕ
   pub filled_now : ℕ → ℕ
-  pub stand : Stand setting sub rank (rank clock) ran_now filled_now (after_calls front more) lanes
+  pub stand : Stand setting sub rank (rank clock) ran_now filled_now (after_calls front more) all
   pub once : ran_now clock ≡ ran clock + many
   pub others : (other : NodeClock) → (other ≡ clock → ⊥) → rank other ≤ rank clock → ran_now other ≡ ran other
   pub held : (i : ℕ) → (clock_of setting i ≡ clock → ⊥) → rank (clock_of setting i) ≤ rank clock → filled_now i ≡ filled i
@@ -43,11 +43,11 @@ between_then calls from at (suc m) low =
     ∙ ap (joined_between calls from) (sym e)
 
 module _ (setting : Setting) (sub : ℕ → ℕ → List Slot) (rank : NodeClock → ℕ) (clock : NodeClock) (ran : NodeClock → ℕ) (filled : ℕ → ℕ) (front : ℕ → List Answer)
-    (lanes : ClockStates) where
+    (all : ClockStates) where
   abbrev Calls : ℕ → List Call
   Calls = calls_at setting sub clock
 
-  pub gone_once : (more : List Call) → HasMadeInstant setting sub rank clock ran filled front more lanes → HasGone setting sub rank clock 1 ran filled front more lanes
+  pub gone_once : (more : List Call) → HasMadeInstant setting sub rank clock ran filled front more all → HasGone setting sub rank clock 1 ran filled front more all
   gone_once more m = record {
     ran_now = m.ran_now;
     filled_now = m.filled_now;
@@ -62,11 +62,11 @@ module _ (setting : Setting) (sub : ℕ → ℕ → List Slot) (rank : NodeClock
         ∙ sym (between_more Calls (ran clock) (ran clock) (omega arith)) ∙ ap (joined_between Calls (ran clock)) (sym e);
   }
 
-  pub gone_on : (own : List Bool) (n many : ℕ) → HasMadeOn setting sub rank own clock n many ran filled front lanes → HasGone setting sub rank clock many ran filled front [] lanes
+  pub gone_on : (own : List Bool) (n many : ℕ) → HasMadeOn setting sub rank own clock n many ran filled front all → HasGone setting sub rank clock many ran filled front [] all
   gone_on own n many h = record {
     ran_now = h.ran_now;
     filled_now = h.filled_now;
-    stand = subst (λ (f : ℕ → List Answer). Stand setting sub rank (rank clock) h.ran_now h.filled_now f lanes) (sym (after_calls-none front)) h.stand;
+    stand = subst (λ (f : ℕ → List Answer). Stand setting sub rank (rank clock) h.ran_now h.filled_now f all) (sym (after_calls-none front)) h.stand;
     once = h.once;
     others = h.others;
     held = h.held;

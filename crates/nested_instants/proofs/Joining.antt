@@ -43,9 +43,9 @@ own_fades setting sub clock past i node inside found =
     ∙ ap (λ (n : Option Node). fades_in setting sub (calls_below setting sub) (lies_in setting clock i) past i n) (sym found)
 
 -- nodes of other clocks are passed over
-pub passed : (setting : Setting) (sub : ℕ → ℕ → List Slot) (rank : NodeClock → ℕ) (clock : NodeClock) (i n : ℕ) (ran : NodeClock → ℕ) (filled : ℕ → ℕ) (front : ℕ → List Answer) (more : List Call) (lanes : ClockStates)
-    → IsFirst setting.clocks clock i n → AreFilled setting sub rank clock i ran filled front more lanes → AreFilled setting sub rank clock n ran filled front more lanes
-passed setting sub rank clock i n ran filled front more lanes first u = record {
+pub passed : (setting : Setting) (sub : ℕ → ℕ → List Slot) (rank : NodeClock → ℕ) (clock : NodeClock) (i n : ℕ) (ran : NodeClock → ℕ) (filled : ℕ → ℕ) (front : ℕ → List Answer) (more : List Call) (all : ClockStates)
+    → IsFirst setting.clocks clock i n → AreFilled setting sub rank clock i ran filled front more all → AreFilled setting sub rank clock n ran filled front more all
+passed setting sub rank clock i n ran filled front more all first u = record {
   reached = record {
     ran_now = u.reached.ran_now;
     filled_now = u.reached.filled_now;
@@ -62,10 +62,10 @@ passed setting sub rank clock i n ran filled front more lanes first u = record {
       (λ j low high. no_fades setting sub (first_instants setting sub clock (ran clock)) j (lies_in setting clock j) (slice_get setting.plan.nodes j) (first.skips j low high)));
 }
 
-pub filled_none : (setting : Setting) (sub : ℕ → ℕ → List Slot) (rank : NodeClock → ℕ) (clock : NodeClock) (ran : NodeClock → ℕ) (filled : ℕ → ℕ) (front : ℕ → List Answer) (lanes : ClockStates)
-    → Stand setting sub rank (rank clock) ran filled front lanes → AreFilled setting sub rank clock 0 ran filled front [] lanes
-filled_none setting sub rank clock ran filled front lanes stand = record {
-  reached = reached_none setting sub rank (rank clock) (is_upto setting.clocks clock 0) (is_upto setting.clocks clock 0) ran filled front lanes (λ i done. (let low = done.0 in absurd (omega (arith, low)))) stand;
+pub filled_none : (setting : Setting) (sub : ℕ → ℕ → List Slot) (rank : NodeClock → ℕ) (clock : NodeClock) (ran : NodeClock → ℕ) (filled : ℕ → ℕ) (front : ℕ → List Answer) (all : ClockStates)
+    → Stand setting sub rank (rank clock) ran filled front all → AreFilled setting sub rank clock 0 ran filled front [] all
+filled_none setting sub rank clock ran filled front all stand = record {
+  reached = reached_none setting sub rank (rank clock) (is_upto setting.clocks clock 0) (is_upto setting.clocks clock 0) ran filled front all (λ i done. (let low = done.0 in absurd (omega (arith, low)))) stand;
   calls = refl;
 }
 
@@ -81,14 +81,14 @@ item_calls setting sub past i (Fades overlap) from to begins ends still =
     ap (λ n. joined_between (calls_below setting sub i) n to) (begins overlap refl) ∙ ap (joined_between (calls_below setting sub i) (ran_by sub i overlap past)) (sym (ends overlap refl))
 item_calls setting sub past i (Reads buffer) from to begins ends still = ap (joined_between (calls_below setting sub i) from) (still refl) ∙ between_none (calls_below setting sub i) from
 
-module _ (setting : Setting) (sub : ℕ → ℕ → List Slot) (rank : NodeClock → ℕ) (clock : NodeClock) (i : ℕ) (ran : NodeClock → ℕ) (filled : ℕ → ℕ) (front : ℕ → List Answer) (more : List Call) (lanes : ClockStates)
-    (u : AreFilled setting sub rank clock i ran filled front more lanes) (ready : AreReady setting sub clock ran filled) where
+module _ (setting : Setting) (sub : ℕ → ℕ → List Slot) (rank : NodeClock → ℕ) (clock : NodeClock) (i : ℕ) (ran : NodeClock → ℕ) (filled : ℕ → ℕ) (front : ℕ → List Answer) (more : List Call) (all : ClockStates)
+    (u : AreFilled setting sub rank clock i ran filled front more all) (ready : AreReady setting sub clock ran filled) where
   module _ (here : clock_of setting i ≡ clock) where
     level : rank (clock_of setting i) ≡ rank clock
     level = ap rank here
 
-    pub stand_here : Stand setting sub rank (rank (clock_of setting i)) u.reached.ran_now u.reached.filled_now (after_calls front more) lanes
-    stand_here = subst (λ l. Stand setting sub rank l u.reached.ran_now u.reached.filled_now (after_calls front more) lanes) (sym (ap rank here)) u.reached.stand
+    pub stand_here : Stand setting sub rank (rank (clock_of setting i)) u.reached.ran_now u.reached.filled_now (after_calls front more) all
+    stand_here = subst (λ l. Stand setting sub rank l u.reached.ran_now u.reached.filled_now (after_calls front more) all) (sym (ap rank here)) u.reached.stand
 
     -- node i was not filled before
     same_filled : u.reached.filled_now i ≡ filled i

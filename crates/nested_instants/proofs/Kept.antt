@@ -29,7 +29,7 @@ goes_kept setting sub clock past rest filled filled_now held held_now states sta
 
 pub open_kept : (setting : Setting) (sub : ℕ → ℕ → List Slot) (k : ℕ) (ran now : NodeClock → ℕ) (filled filled_now : ℕ → ℕ) (old new : ClockStates)
     → now (Sub k) ≡ ran (Sub k) → rest_at new k ≡ rest_at old k
-    → ((i : ℕ) → clock_of setting i ≡ Sub k → (filled_now i ≡ filled i) × (slice_get new.states.items i ≡ slice_get old.states.items i) × (part_at new.runs.held.items i ≡ part_at old.runs.held.items i))
+    → ((i : ℕ) → clock_of setting i ≡ Sub k → (filled_now i ≡ filled i) × (slice_get new.states.items i ≡ slice_get old.states.items i) × (part_at new.room.held.items i ≡ part_at old.room.held.items i))
     → (0 < rest_at old k → IsOpen setting sub k (rest_at old k) ran filled old) → 0 < rest_at new k → IsOpen setting sub k (rest_at new k) now filled_now new
 open_kept setting sub k ran now filled filled_now old new same rest alike was some =
     let o = was (subst (λ n. 0 < n) rest some) in
@@ -37,7 +37,7 @@ open_kept setting sub k ran now filled filled_now old new same rest alike was so
       n = o.n;
       at = same ∙ o.at;
       gave = o.gave;
-      goes = goes_kept setting sub (Sub k) _ (rest_at old k) filled filled_now old.runs.held.items new.runs.held.items old.states.items new.states.items alike o.goes;
+      goes = goes_kept setting sub (Sub k) _ (rest_at old k) filled filled_now old.room.held.items new.room.held.items old.states.items new.states.items alike o.goes;
     })
 
 stretch_fewer : (setting : Setting) (sub : ℕ → ℕ → List Slot) (clock : NodeClock) (past : List Moment) (rest many : ℕ) → many ≤ rest → IsStretch setting sub clock past (suc rest) → IsStretch setting sub clock past (suc many)

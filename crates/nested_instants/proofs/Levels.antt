@@ -36,13 +36,13 @@ not_under clocks rank k i ranks within low e =
     let same : rank (clock_at clocks i) ≡ rank (Sub k) = ap rank e in omega (arith, up, same, low)
 
 -- lanes that are the same
-pub lanes_same : (a b : ClockStates) → b.runs.left ≡ a.runs.left → b.runs.right ≡ a.runs.right → (i : ℕ) → laned_at a i → laned_at b i
+pub lanes_same : (a b : ClockStates) → b.room.left ≡ a.room.left → b.room.right ≡ a.room.right → (i : ℕ) → laned_at a i → laned_at b i
 lanes_same a b left right i has =
-    subst (λ (l : Vec (Vec ℤ Global) Global). HasLanes l.items b.runs.right.items i) (sym left)
-    (subst (λ (r : Vec (Vec ℤ Global) Global). HasLanes a.runs.left.items r.items i) (sym right) has)
+    subst (λ (l : Vec (Vec ℤ Global) Global). HasLanes l.items b.room.right.items i) (sym left)
+    (subst (λ (r : Vec (Vec ℤ Global) Global). HasLanes a.room.left.items r.items i) (sym right) has)
 
-pub left_none : (clocks : List NodeClock) (rank : NodeClock → ℕ) (level : ℕ) (touched : ℕ → Type 0) (lanes : ClockStates) → AreLeft clocks rank level touched lanes lanes
-left_none clocks rank level touched lanes = record { states = λ i other low. refl; times = λ i other low. refl; held = λ i other low. refl; rests = λ i other low. refl; laned = λ i has. has }
+pub left_none : (clocks : List NodeClock) (rank : NodeClock → ℕ) (level : ℕ) (touched : ℕ → Type 0) (all : ClockStates) → AreLeft clocks rank level touched all all
+left_none clocks rank level touched all = record { states = λ i other low. refl; times = λ i other low. refl; held = λ i other low. refl; rests = λ i other low. refl; laned = λ i has. has }
 
 pub left_then : (clocks : List NodeClock) (rank : NodeClock → ℕ) (level lower : ℕ) (touched more : ℕ → Type 0) (a b c : ClockStates) → level ≤ lower
     → ((i : ℕ) → rank (clock_at clocks i) ≤ level → more i → touched i)
@@ -59,17 +59,17 @@ left_then clocks rank level lower touched more a b c down inside first next = re
 pub left_filled : (clocks : List NodeClock) (rank : NodeClock → ℕ) (k : ℕ) (a b c d : ClockStates) → HasRanks clocks rank → k < length clocks
     → AreLeft clocks rank (rank (clock_at clocks k)) (is_node k) a b → AreLeft clocks rank (rank (Sub k)) (is_in clocks (Sub k)) b c
     → ((i : ℕ) → (i ≡ k → ⊥) → slice_get d.states.items i ≡ slice_get c.states.items i) → ((i : ℕ) → (i ≡ k → ⊥) → slice_get d.times.items i ≡ slice_get c.times.items i)
-    → d.runs ≡ c.runs → AreLeft clocks rank (rank (clock_at clocks k)) (is_node k) a d
-left_filled clocks rank k a b c d ranks within first made states times runs =
+    → d.room ≡ c.room → AreLeft clocks rank (rank (clock_at clocks k)) (is_node k) a d
+left_filled clocks rank k a b c d ranks within first made states times room =
     left_then clocks rank (rank (clock_at clocks k)) (rank (clock_at clocks k)) (is_node k) (is_node k) a c d (omega arith) (λ i low same. same)
     (left_then clocks rank (rank (clock_at clocks k)) (rank (Sub k)) (is_node k) (is_in clocks (Sub k)) a b c (let up = ranks.deeper k within in omega (arith, up))
     (λ i low e. absurd (not_under clocks rank k i ranks within low e)) first made)
     (record {
       states = λ i other low. states i other;
       times = λ i other low. times i other;
-      held = λ i other low. ap (λ r. part_at r.held.items i) runs;
-      rests = λ i other low. ap (λ r. slice_index_or r.rests.items i 0) runs;
-      laned = λ i has. subst (λ r. HasLanes r.left.items r.right.items i) (sym runs) has;
+      held = λ i other low. ap (λ r. part_at r.held.items i) room;
+      rests = λ i other low. ap (λ r. slice_index_or r.rests.items i 0) room;
+      laned = λ i has. subst (λ r. HasLanes r.left.items r.right.items i) (sym room) has;
     })
 
 -- what an instant of the sub-clock leaves
@@ -89,7 +89,7 @@ left_settled clocks rank clock i a b c here first next =
 pub left_finished : (clocks : List NodeClock) (rank : NodeClock → ℕ) (clock : NodeClock) (a b c : ClockStates)
     → AreLeft clocks rank (rank clock) (is_in clocks clock) a b
     → ((i : ℕ) → same_clock (clock_at clocks i) clock ≡ false → slice_get c.states.items i ≡ slice_get b.states.items i) → c.times.items ≡ b.times.items
-    → ((i : ℕ) → same_clock (clock_at clocks i) clock ≡ false → part_at c.runs.held.items i ≡ part_at b.runs.held.items i) → ((i : ℕ) → rest_at c i ≡ rest_at b i)
+    → ((i : ℕ) → same_clock (clock_at clocks i) clock ≡ false → part_at c.room.held.items i ≡ part_at b.room.held.items i) → ((i : ℕ) → rest_at c i ≡ rest_at b i)
     → ((i : ℕ) → laned_at b i → laned_at c i) → AreLeft clocks rank (rank clock) (is_in clocks clock) a c
 left_finished clocks rank clock a b c first states times held rests laned =
     left_then clocks rank (rank clock) (rank clock) (is_in clocks clock) (is_in clocks clock) a b c (omega arith) (λ i low inside. inside) first
@@ -114,8 +114,8 @@ rest_kept clocks rank k a b ranks within left =
     left.rests k (not_under clocks rank k k ranks within (omega arith)) (let up = ranks.deeper k within in omega (arith, up))
 
 -- other instants are kept of a sub-clock
-pub left_kept : (clocks : List NodeClock) (rank : NodeClock → ℕ) (level k : ℕ) (a b : ClockStates) → b.states ≡ a.states → b.times ≡ a.times → b.runs.held ≡ a.runs.held
-    → ((i : ℕ) → (i ≡ k → ⊥) → rest_at b i ≡ rest_at a i) → b.runs.left ≡ a.runs.left → b.runs.right ≡ a.runs.right → AreLeft clocks rank level (is_node k) a b
+pub left_kept : (clocks : List NodeClock) (rank : NodeClock → ℕ) (level k : ℕ) (a b : ClockStates) → b.states ≡ a.states → b.times ≡ a.times → b.room.held ≡ a.room.held
+    → ((i : ℕ) → (i ≡ k → ⊥) → rest_at b i ≡ rest_at a i) → b.room.left ≡ a.room.left → b.room.right ≡ a.room.right → AreLeft clocks rank level (is_node k) a b
 left_kept clocks rank level k a b states times held rests left right = record {
   states = λ i other low. ap (λ xs. slice_get xs.items i) states;
   times = λ i other low. ap (λ xs. slice_get xs.items i) times;

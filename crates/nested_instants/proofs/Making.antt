@@ -42,9 +42,9 @@ pub long_first_instants : (setting : Setting) (sub : ℕ → ℕ → List Slot) 
 long_first_instants setting sub clock n = sym (past_long setting sub clock n)
 
 -- before its crossfades are settled
-pub are_ready : (setting : Setting) (sub : ℕ → ℕ → List Slot) (rank : NodeClock → ℕ) (clock : NodeClock) (ran : NodeClock → ℕ) (filled : ℕ → ℕ) (front : ℕ → List Answer) (lanes : ClockStates)
-    → Stand setting sub rank (rank clock) ran filled front lanes → RanAsNeeded setting sub rank (rank clock) ran filled → AreReady setting sub clock ran (begun_in setting clock filled)
-are_ready setting sub rank clock ran filled front lanes stand needed = record {
+pub are_ready : (setting : Setting) (sub : ℕ → ℕ → List Slot) (rank : NodeClock → ℕ) (clock : NodeClock) (ran : NodeClock → ℕ) (filled : ℕ → ℕ) (front : ℕ → List Answer) (all : ClockStates)
+    → Stand setting sub rank (rank clock) ran filled front all → RanAsNeeded setting sub rank (rank clock) ran filled → AreReady setting sub clock ran (begun_in setting clock filled)
+are_ready setting sub rank clock ran filled front all stand needed = record {
   each = λ k overlap node found work here.
       let level : rank (clock_of setting k) ≡ rank clock = ap rank here in
       let fades : fade_at setting k ≡ true = fade_of setting k node found ∙ ap is_fade work in
@@ -70,8 +70,8 @@ reading_next setting i buffer past moment =
     ∙ taken_stays (gives moment i) (reading_at setting buffer (length past) (reading_after setting i buffer past))
     ∙ ap (λ (r : Reading). r.taken) (sym (reading_open setting i buffer past))
 
-module _ (setting : Setting) (sub : ℕ → ℕ → List Slot) (rank : NodeClock → ℕ) (clock : NodeClock) (ran : NodeClock → ℕ) (filled : ℕ → ℕ) (front : ℕ → List Answer) (begin more : List Call) (lanes : ClockStates)
-    (u : AreFilled setting sub rank clock (length setting.plan.nodes) ran (begun_in setting clock filled) (after_calls front begin) more lanes) where
+module _ (setting : Setting) (sub : ℕ → ℕ → List Slot) (rank : NodeClock → ℕ) (clock : NodeClock) (ran : NodeClock → ℕ) (filled : ℕ → ℕ) (front : ℕ → List Answer) (begin more : List Call) (all : ClockStates)
+    (u : AreFilled setting sub rank clock (length setting.plan.nodes) ran (begun_in setting clock filled) (after_calls front begin) more all) where
   -- the instants that a node of the clock has seen
   past_is : (i : ℕ) → clock_of setting i ≡ clock → past_of setting sub u.reached.ran_now i ≡ first_instants setting sub clock (u.reached.ran_now clock)
   past_is i inside = ap (λ c. first_instants setting sub c (u.reached.ran_now c)) inside
@@ -79,7 +79,7 @@ module _ (setting : Setting) (sub : ℕ → ℕ → List Slot) (rank : NodeClock
   pub ran_is : u.reached.ran_now clock ≡ ran clock
   ran_is = u.reached.others clock (omega arith)
 
-  pub clock_stands : ClockStands setting sub clock (first_instants setting sub clock (u.reached.ran_now clock)) u.reached.filled_now lanes.states.items
+  pub clock_stands : ClockStands setting sub clock (first_instants setting sub clock (u.reached.ran_now clock)) u.reached.filled_now all.states.items
   clock_stands = record {
     each = λ i node state inside found.
         let here = same_clock-true (clock_of setting i) clock inside.inside in
@@ -99,10 +99,10 @@ module _ (setting : Setting) (sub : ℕ → ℕ → List Slot) (rank : NodeClock
   module _ (ranks : HasRanks setting.clocks rank) (in_clocks : length setting.clocks ≡ length setting.plan.nodes) (first new : ClockStates)
       (stand : Stand setting sub rank (rank clock) ran filled front first) (needed : RanAsNeeded setting sub rank (rank clock) ran filled)
       (stands : ClockStands setting sub clock (moment_after setting sub clock (first_instants setting sub clock (u.reached.ran_now clock)) ∷ first_instants setting sub clock (u.reached.ran_now clock)) u.reached.filled_now new.states.items)
-      (others : (i : ℕ) → same_clock (clock_of setting i) clock ≡ false → slice_get new.states.items i ≡ slice_get lanes.states.items i)
-      (times : new.times.items ≡ lanes.times.items)
-      (held : (i : ℕ) → same_clock (clock_of setting i) clock ≡ false → part_at new.runs.held.items i ≡ part_at lanes.runs.held.items i)
-      (rests : (i : ℕ) → rest_at new i ≡ rest_at lanes i) (laned : (i : ℕ) → laned_at lanes i → laned_at new i) where
+      (others : (i : ℕ) → same_clock (clock_of setting i) clock ≡ false → slice_get new.states.items i ≡ slice_get all.states.items i)
+      (times : new.times.items ≡ all.times.items)
+      (held : (i : ℕ) → same_clock (clock_of setting i) clock ≡ false → part_at new.room.held.items i ≡ part_at all.room.held.items i)
+      (rests : (i : ℕ) → rest_at new i ≡ rest_at all i) (laned : (i : ℕ) → laned_at all i → laned_at new i) where
     -- no crossfade of the clock's rank or a deeper one has this clock for its sub-clock
     no_sub : (k : ℕ) → k < length setting.plan.nodes → rank clock ≤ rank (clock_of setting k) → Sub k ≡ clock → ⊥
     no_sub k within above e = let up = ranks.deeper k (omega (arith, within, in_clocks)) in let same : rank (Sub k) ≡ rank clock = ap rank e in omega (arith, up, same, above)
@@ -209,16 +209,16 @@ module _ (setting : Setting) (sub : ℕ → ℕ → List Slot) (rank : NodeClock
     open_all : (k : ℕ) → k < length setting.plan.nodes → rank clock ≤ rank (clock_of setting k) → 0 < rest_at new k
         → IsOpen setting sub k (rest_at new k) (bumped u.reached.ran_now clock) u.reached.filled_now new
     open_all k within above some =
-        open_kept setting sub k u.reached.ran_now (bumped u.reached.ran_now clock) u.reached.filled_now u.reached.filled_now lanes new (ran_sub k within above) (rests k)
+        open_kept setting sub k u.reached.ran_now (bumped u.reached.ran_now clock) u.reached.filled_now u.reached.filled_now all new (ran_sub k within above) (rests k)
         (λ i here.
         let outside = they_differ (clock_of setting i) clock (λ same. no_sub k within above (sym here ∙ same)) in
         (refl, others i outside, held i outside))
         (u.reached.stand.kept k within above) some
 
-    module _ (in_times : length lanes.times.items ≡ length setting.plan.nodes) (down : GoDown setting sub)
+    module _ (in_times : length all.times.items ≡ length setting.plan.nodes) (down : GoDown setting sub)
         (opened : begin ≡ takes_at setting clock (first_instants setting sub clock (ran clock)))
         (parts : new.latest.parts.items ≡ (moment_after setting sub clock (first_instants setting sub clock (ran clock))).parts)
-        (keeps : IsHeld setting sub clock (first_instants setting sub clock (ran clock)) new.runs.held.items) where
+        (keeps : IsHeld setting sub clock (first_instants setting sub clock (ran clock)) new.room.held.items) where
       pub made : HasMadeInstant setting sub rank clock ran filled front (begin ++ more) new
       made = record {
         ran_now = bumped u.reached.ran_now clock;

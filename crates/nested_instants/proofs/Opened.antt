@@ -132,7 +132,7 @@ module _ (setting : Setting) (sub : ℕ → ℕ → List Slot) (rank : NodeClock
       → (reading_by setting i buffer (first_instants setting sub clock (ran clock)) (suc (length (first_instants setting sub clock (ran clock))))).taken ≡ length (after_calls front more buffer))
       (none : (buffer : ℕ) → ((i : ℕ) (node : Node) → IsIn setting clock i node → work_at setting i node ≡ Reads buffer → ⊥) → answers_in buffer more ≡ [])
       (others : (i : ℕ) → lies_in setting clock i ≡ false → slice_get new.states.items i ≡ slice_get old.states.items i)
-      (times : new.times.items ≡ old.times.items) (runs : new.runs ≡ old.runs) where
+      (times : new.times.items ≡ old.times.items) (room : new.room ≡ old.room) where
     stand_all : (i : ℕ) (node : Node) (state : NodeState) → slice_get setting.plan.nodes i ≡ Some node → slice_get new.states.items i ≡ Some state
         → rank clock ≤ rank (clock_of setting i)
         → (b : Bool) → lies_in setting clock i ≡ b → StateStands setting sub (past_of setting sub ran i) (begun_in setting clock filled i) i (work_at setting i node) state
@@ -174,10 +174,10 @@ module _ (setting : Setting) (sub : ℕ → ℕ → List Slot) (rank : NodeClock
 
     open_all : (k : ℕ) → k < length setting.plan.nodes → rank clock ≤ rank (clock_of setting k) → 0 < rest_at new k → IsOpen setting sub k (rest_at new k) ran (begun_in setting clock filled) new
     open_all k within above some =
-        open_kept setting sub k ran ran filled (begun_in setting clock filled) old new refl (ap (λ r. slice_index_or r.rests.items k 0) runs)
+        open_kept setting sub k ran ran filled (begun_in setting clock filled) old new refl (ap (λ r. slice_index_or r.rests.items k 0) room)
         (λ i here.
         let outside = they_differ (clock_of setting i) clock (not_kept k i within above here) in
-        (begun-outside setting clock filled i outside, others i outside, ap (λ r. part_at r.held.items i) runs)) (stand.kept k within above) some
+        (begun-outside setting clock filled i outside, others i outside, ap (λ r. part_at r.held.items i) room)) (stand.kept k within above) some
 
     pub opened_stand : Stand setting sub rank (rank clock) ran (begun_in setting clock filled) (after_calls front more) new
     opened_stand = record {
@@ -187,7 +187,7 @@ module _ (setting : Setting) (sub : ℕ → ℕ → List Slot) (rank : NodeClock
       time = λ k time above at. stand.time k time above (ap (λ ts. slice_get ts k) (sym times) ∙ at);
       needed = record { each = stand.needed.each; begun = begun_all };
       kept = open_all;
-      laned = λ i within above. subst (λ r. HasLanes r.left.items r.right.items i) (sym runs) (stand.laned i within above);
+      laned = λ i within above. subst (λ r. HasLanes r.left.items r.right.items i) (sym room) (stand.laned i within above);
     }
 
 -- what holds of an answer holds of what follows from it
@@ -216,10 +216,10 @@ takes_within setting clock past starts = sym (ap (λ (b : Bool). cond b (takes_b
 module _ {T : Type 0} (stands : T → List Call → Type 0) (plan : Plan) (library : Sounds) (clocks : List NodeClock) (clock : NodeClock) (time : WeekTime) (frame : time.frame ≡ plan.frame)
     (tick : true ≡ nat_eq time.place 0) (old : ClockStates) (states : List NodeState) (a b : T) (were : states ≡ old.states.items) where
   -- the readers have begun
-  pub opened_by : length clocks ≡ length plan.nodes → (new : ClockStates) (states_new : List NodeState) → new.states.items ≡ states_new → new.times.items ≡ old.times.items → new.runs ≡ old.runs
+  pub opened_by : length clocks ≡ length plan.nodes → (new : ClockStates) (states_new : List NodeState) → new.states.items ≡ states_new → new.times.items ≡ old.times.items → new.room ≡ old.room
       → ((i : ℕ) → lies_at clocks clock i ≡ false → slice_get states_new i ≡ slice_get states i)
       → HaveBegun stands plan library clocks clock states states_new a b → ClockOpened stands plan library clocks clock time old new a b
-  opened_by in_clocks new states_new are times runs others has = record {
+  opened_by in_clocks new states_new are times room others has = record {
     more = has.more;
     taps = has.taps;
     opened = λ other sub rank ran filled front ranks own answers stand needed at.
@@ -232,7 +232,7 @@ module _ {T : Type 0} (stands : T → List Call → Type 0) (plan : Plan) (libra
         record {
           stand = opened_stand S sub rank clock ran filled front old stand needed ranks in_clocks own has.more new
               (subst (λ xs. ClockStands S sub clock past (begun_in S clock filled) xs) (sym are) begun.stand) begun.taken begun.others
-              (λ i outside. ap (λ xs. slice_get xs i) are ∙ others i outside ∙ ap (λ xs. slice_get xs i) were) times runs;
+              (λ i outside. ap (λ xs. slice_get xs i) are ∙ others i outside ∙ ap (λ xs. slice_get xs i) were) times room;
           calls = begun.calls ∙ takes_start S clock past starts;
         };
   }

@@ -1,4 +1,4 @@
--- The calls by which crossfades get their items, whatever the lanes stood for.
+-- The calls by which crossfades get their items, whatever the states stood for.
 use Rattle.std.proofs.Common.{◌≡◌, ◌<◌, ◌∙◌, ◌++◌, ℕ, suc, Bool, true, Some, List, [], length, slice_get, arith, ap, sym, subst}
 use Rattle.plan_core.specs.declared.plan.Plan.{Plan}
 use Rattle.clock_infer.specs.declared.clock_map.NodeClock.{NodeClock}
@@ -54,73 +54,73 @@ module _ {T : Type 0} (stands : T → List Call → Type 0) (plan : Plan) (libra
     }
 
     -- no instants of the sub-clock are kept any more
-    pub node_closed : (within : k < length plan.nodes) (lanes kept : ClockStates) (b : T) → kept.states ≡ lanes.states → kept.times ≡ lanes.times → kept.runs.held ≡ lanes.runs.held
-        → rest_at kept k ≡ 0 → ((i : ℕ) → (i ≡ k → ⊥) → rest_at kept i ≡ rest_at lanes i) → kept.runs.left ≡ lanes.runs.left → kept.runs.right ≡ lanes.runs.right
-        → NodeFilling stands plan library clocks own k old lanes a b → NodeFilling stands plan library clocks own k old kept a b
-    node_closed within lanes kept b states times held none others left right so = record {
+    pub node_closed : (within : k < length plan.nodes) (all kept : ClockStates) (b : T) → kept.states ≡ all.states → kept.times ≡ all.times → kept.room.held ≡ all.room.held
+        → rest_at kept k ≡ 0 → ((i : ℕ) → (i ≡ k → ⊥) → rest_at kept i ≡ rest_at all i) → kept.room.left ≡ all.room.left → kept.room.right ≡ all.room.right
+        → NodeFilling stands plan library clocks own k old all a b → NodeFilling stands plan library clocks own k old kept a b
+    node_closed within all kept b states times held none others left right so = record {
       more = so.more;
       taps = so.taps;
       filling = λ other sub rank ran filled front world has stand.
-          filled_kept (over plan library clocks other) sub rank world.ranks in_clocks k within ran filled front so.more lanes kept 0 states times held none others left right
+          filled_kept (over plan library clocks other) sub rank world.ranks in_clocks k within ran filled front so.more all kept 0 states times held none others left right
           (so.filling other sub rank ran filled front world has stand) (λ some. absurd (omega (arith, some)));
     }
 
-    module _ (within : k < length plan.nodes) (lanes : ClockStates) (b : T) (state : NodeState) (at : slice_get lanes.states.items k ≡ Some state)
-        (so : NodeFilling stands plan library clocks own k old lanes a b) where
+    module _ (within : k < length plan.nodes) (all : ClockStates) (b : T) (state : NodeState) (at : slice_get all.states.items k ≡ Some state)
+        (so : NodeFilling stands plan library clocks own k old all a b) where
       module _ (fades : (setting : Setting) (sub : ℕ → ℕ → List Slot) (past : List Moment) (filled i : ℕ) (work : Work) → AreLong sub → StateStands setting sub past filled i work state → FadesOn sub past filled i work)
-          (c : T) (time : WeekTime) (timed : slice_get lanes.times.items k ≡ Some time) where
-        pub node_more : rest_at lanes k ≡ 0 → (made slotted new : ClockStates) → ((rank : NodeClock → ℕ) → HasRanks clocks rank → AreLeft clocks rank (rank (Sub k)) (is_in clocks (Sub k)) lanes made)
+          (c : T) (time : WeekTime) (timed : slice_get all.times.items k ≡ Some time) where
+        pub node_more : rest_at all k ≡ 0 → (made slotted new : ClockStates) → ((rank : NodeClock → ℕ) → HasRanks clocks rank → AreLeft clocks rank (rank (Sub k)) (is_in clocks (Sub k)) all made)
             → length made.states.items ≡ length plan.nodes → length made.times.items ≡ length plan.nodes
-            → ((other : Setting) (sub : ℕ → ℕ → List Slot) → TakesSlot (over plan library clocks other) sub k made slotted) → slotted.latest ≡ made.latest → slotted.runs ≡ made.runs
-            → InstantMade stands plan library clocks own (Sub k) time lanes made b c → FilledOn plan library clocks k time slotted new
+            → ((other : Setting) (sub : ℕ → ℕ → List Slot) → TakesSlot (over plan library clocks other) sub k made slotted) → slotted.latest ≡ made.latest → slotted.room ≡ made.room
+            → InstantMade stands plan library clocks own (Sub k) time all made b c → FilledOn plan library clocks k time slotted new
             → NodeFilling stands plan library clocks own k old new a c
-        node_more idle made slotted new left in_states in_times takes latest runs one on = record {
+        node_more idle made slotted new left in_states in_times takes latest room one on = record {
           more = so.more ++ one.more;
           taps = adds_then stands a b c so.more one.more so.taps one.taps;
           filling = λ other sub rank ran filled front world has stand.
               let S = over plan library clocks other in
               let f = so.filling other sub rank ran filled front world (answers_first S front so.more one.more has) stand in
-              let n = reached_fading S sub rank k ran filled front so.more lanes state within at (λ past n work stands. fades S sub past n k work (as_many S sub world.meaning) stands) f in
+              let n = reached_fading S sub rank k ran filled front so.more all state within at (λ past n work stands. fades S sub past n k work (as_many S sub world.meaning) stands) f in
               let fading : fade_at S k ≡ true = fade_of S k n.0 n.2 ∙ ap is_fade n.3 in
-              let now = time_under S sub rank world.ranks in_clocks k within ran filled front so.more lanes f time timed in
+              let now = time_under S sub rank world.ranks in_clocks k within ran filled front so.more all f time timed in
               let m = one.made other sub rank f.reached.ran_now f.reached.filled_now (after_calls front so.more) world (answers_then S front so.more one.more has)
-              (stand_under S sub rank world.ranks in_clocks k within ran filled front so.more lanes f)
-              (needed_under S sub rank world.ranks in_clocks k within ran filled front so.more lanes f) now in
+              (stand_under S sub rank world.ranks in_clocks k within ran filled front so.more all f)
+              (needed_under S sub rank world.ranks in_clocks k within ran filled front so.more all f) now in
               let gone = gone_once S sub rank (Sub k) f.reached.ran_now f.reached.filled_now (after_calls front so.more) made one.more m in
               let fills = one_filled S sub k (f.reached.ran_now (Sub k)) made slotted world.meaning m.parts (takes other sub) in
-              let one_more = taken_at S sub rank world.ranks in_clocks k within ran filled front so.more lanes f fading 1 made slotted one.more gone (left rank world.ranks) in_states in_times fills idle in
+              let one_more = taken_at S sub rank world.ranks in_clocks k within ran filled front so.more all f fading 1 made slotted one.more gone (left rank world.ranks) in_states in_times fills idle in
               on.filled other sub rank ran filled front (so.more ++ one.more) own (f.reached.ran_now (Sub k)) world fading
-              (taken S sub rank world.ranks in_clocks k within ran filled front so.more lanes f fading 1 made slotted one.more gone (left rank world.ranks) in_states in_times fills idle)
+              (taken S sub rank world.ranks in_clocks k within ran filled front so.more all f fading 1 made slotted one.more gone (left rank world.ranks) in_states in_times fills idle)
               (omega (arith, one_more)) (ap (λ it. it.parts.items) latest ∙ m.parts)
-              (subst (λ (ps : List Part). IsHeld S sub (Sub k) (first_instants S sub (Sub k) (f.reached.ran_now (Sub k))) ps) (sym (ap (λ it. it.held.items) runs)) m.keeps) now;
+              (subst (λ (ps : List Part). IsHeld S sub (Sub k) (first_instants S sub (Sub k) (f.reached.ran_now (Sub k))) ps) (sym (ap (λ it. it.held.items) room)) m.keeps) now;
         }
 
-        pub node_stopped : InstantStopped stands plan library clocks own (Sub k) time lanes b c → NodeStopped stands plan library clocks own k old a c
+        pub node_stopped : InstantStopped stands plan library clocks own (Sub k) time all b c → NodeStopped stands plan library clocks own k old a c
         node_stopped one = record {
           made = so.more ++ one.made;
           taps = adds_then stands a b c so.more one.made so.taps one.taps;
           begins = λ other sub rank ran filled front world has stand.
               let S = over plan library clocks other in
               let f = so.filling other sub rank ran filled front world (answers_first S front so.more one.made has) stand in
-              let n = reached_fading S sub rank k ran filled front so.more lanes state within at (λ past n work stands. fades S sub past n k work (as_many S sub world.meaning) stands) f in
+              let n = reached_fading S sub rank k ran filled front so.more all state within at (λ past n work stands. fades S sub past n k work (as_many S sub world.meaning) stands) f in
               let fading : fade_at S k ≡ true = fade_of S k n.0 n.2 ∙ ap is_fade n.3 in
-              filled_stopped S sub rank world.ranks in_clocks k within ran filled front so.more lanes f fading one.made n.1 n.0 n.2 n.3 n.4
+              filled_stopped S sub rank world.ranks in_clocks k within ran filled front so.more all f fading one.made n.1 n.0 n.2 n.3 n.4
               (one.begins other sub rank f.reached.ran_now f.reached.filled_now (after_calls front so.more) world (answers_then S front so.more one.made has)
-              (stand_under S sub rank world.ranks in_clocks k within ran filled front so.more lanes f)
-              (needed_under S sub rank world.ranks in_clocks k within ran filled front so.more lanes f)
-              (time_under S sub rank world.ranks in_clocks k within ran filled front so.more lanes f time timed));
+              (stand_under S sub rank world.ranks in_clocks k within ran filled front so.more all f)
+              (needed_under S sub rank world.ranks in_clocks k within ran filled front so.more all f)
+              (time_under S sub rank world.ranks in_clocks k within ran filled front so.more all f time timed));
         }
 
       pub node_settled : ((setting : Setting) (sub : ℕ → ℕ → List Slot) (past : List Moment) (filled i : ℕ) (work : Work) → StateStands setting sub past filled i work state
           → ((buffer : ℕ) → work ≡ Reads buffer → filled ≡ suc (length past)) → IsSettled sub past filled i work)
           → ((setting : Setting) (sub : ℕ → ℕ → List Slot) (past : List Moment) (filled i overlap : ℕ) → AreLong sub → StateStands setting sub past filled i (Fades overlap) state → run_of overlap (sub i) (position past i) ≡ filled)
-          → NodeSettled stands plan library clocks own k old lanes a b
+          → NodeSettled stands plan library clocks own k old all a b
       node_settled settles runs = record {
         more = so.more;
         taps = so.taps;
         settled = λ other sub rank ran filled front world has stand begun.
             let S = over plan library clocks other in
-            reached_item S sub rank k ran filled front so.more lanes state at (λ past n work stands begun. settles S sub past n k work stands begun)
+            reached_item S sub rank k ran filled front so.more all state at (λ past n work stands begun. settles S sub past n k work stands begun)
             (λ past n overlap stands. runs S sub past n k overlap (as_many S sub world.meaning) stands) begun (so.filling other sub rank ran filled front world has stand);
       }
 
@@ -133,11 +133,11 @@ module _ {T : Type 0} (stands : T → List Call → Type 0) (plan : Plan) (libra
           passed (over plan library clocks other) sub rank clock 0 n ran filled front [] old first (filled_none (over plan library clocks other) sub rank clock ran filled front old stand);
     }
 
-    module _ (i : ℕ) (within : i < length plan.nodes) (inside : lies_at clocks clock i ≡ true) (lanes : ClockStates) (b c : T) (so : AllSettled stands plan library clocks own clock i old lanes a b) where
+    module _ (i : ℕ) (within : i < length plan.nodes) (inside : lies_at clocks clock i ≡ true) (all : ClockStates) (b c : T) (so : AllSettled stands plan library clocks own clock i old all a b) where
       here : clock_at clocks i ≡ clock
       here = same_clock-true (clock_at clocks i) clock inside
 
-      pub all_more : (new : ClockStates) (n : ℕ) → IsFirst clocks clock (suc i) n → NodeSettled stands plan library clocks own i lanes new b c → AllSettled stands plan library clocks own clock n old new a c
+      pub all_more : (new : ClockStates) (n : ℕ) → IsFirst clocks clock (suc i) n → NodeSettled stands plan library clocks own i all new b c → AllSettled stands plan library clocks own clock n old new a c
       all_more new n first one = record {
         more = so.more ++ one.more;
         taps = adds_then stands a b c so.more one.more so.taps one.taps;
@@ -145,21 +145,21 @@ module _ {T : Type 0} (stands : T → List Call → Type 0) (plan : Plan) (libra
             let S = over plan library clocks other in
             let u = so.settled other sub rank ran filled front world (answers_first S front so.more one.more has) stand ready in
             passed S sub rank clock (suc i) n ran filled front (so.more ++ one.more) new first
-            (joined S sub rank clock i ran filled front so.more lanes u ready here one.more new within
+            (joined S sub rank clock i ran filled front so.more all u ready here one.more new within
             (one.settled other sub rank u.reached.ran_now u.reached.filled_now (after_calls front so.more) world (answers_then S front so.more one.more has)
-            (stand_here S sub rank clock i ran filled front so.more lanes u ready here) (begun_here S sub rank clock i ran filled front so.more lanes u ready here)));
+            (stand_here S sub rank clock i ran filled front so.more all u ready here) (begun_here S sub rank clock i ran filled front so.more all u ready here)));
       }
 
-      pub all_stopped : NodeStopped stands plan library clocks own i lanes b c → SettlingStopped stands plan library clocks own clock old a c
+      pub all_stopped : NodeStopped stands plan library clocks own i all b c → SettlingStopped stands plan library clocks own clock old a c
       all_stopped one = record {
         made = so.more ++ one.made;
         taps = adds_then stands a b c so.more one.made so.taps one.taps;
         begins = λ other sub rank ran filled front world has stand ready.
             let S = over plan library clocks other in
             let u = so.settled other sub rank ran filled front world (answers_first S front so.more one.made has) stand ready in
-            joined_stopped S sub rank clock i ran filled front so.more lanes u ready here one.made within
+            joined_stopped S sub rank clock i ran filled front so.more all u ready here one.made within
             (one.begins other sub rank u.reached.ran_now u.reached.filled_now (after_calls front so.more) world (answers_then S front so.more one.made has)
-            (stand_here S sub rank clock i ran filled front so.more lanes u ready here));
+            (stand_here S sub rank clock i ran filled front so.more all u ready here));
       }
 
     -- the first calls of an instant: some takes
@@ -175,9 +175,9 @@ module _ {T : Type 0} (stands : T → List Call → Type 0) (plan : Plan) (libra
     }
 
     -- the takes, and some calls of sub-clocks
-    pub settling_stopped : (time : WeekTime) (lanes : ClockStates) (b c : T) → ClockOpened stands plan library clocks clock time old lanes a b → SettlingStopped stands plan library clocks own clock lanes b c
+    pub settling_stopped : (time : WeekTime) (all : ClockStates) (b c : T) → ClockOpened stands plan library clocks clock time old all a b → SettlingStopped stands plan library clocks own clock all b c
         → InstantStopped stands plan library clocks own clock time old a c
-    settling_stopped time lanes b c opened one = record {
+    settling_stopped time all b c opened one = record {
       made = opened.more ++ one.made;
       taps = adds_then stands a b c opened.more one.made opened.taps one.taps;
       begins = λ other sub rank ran filled front world has stand needed at.

@@ -13,7 +13,7 @@ use Rattle.op_mix.specs.Stretches.{samples_of}
 use Rattle.node_states.specs.declared.time.WeekTime.{WeekTime}
 use Rattle.frame_core.specs.Slots.{title_of}
 use Rattle.stream_meaning.specs.declared.part.Part.{Part}
-use Rattle.clock_instants.specs.declared.runs.Runs.{Runs}
+use Rattle.clock_instants.specs.declared.stretch_room.StretchRoom.{StretchRoom}
 use Rattle.nested_instants.proofs.Titled.{held_title}
 use Rattle.std.specs.Prelude.{Vec}
 use Rattle.std.specs.declared.alloc.Global.{Global}
@@ -36,11 +36,11 @@ module _ (setting : Setting) (sub : ℕ → ℕ → List Slot) (rank : NodeClock
   deeper k within = world.ranks.deeper k (omega (arith, within, in_clocks))
 
   -- none of the sub-clocks has gone on
-  pub subs_none : (lanes : ClockStates) → Stand setting sub rank (rank clock) ran filled front lanes → SubsMade setting sub rank clock many through 0 ran filled front lanes
-  subs_none lanes stand = record {
+  pub subs_none : (all : ClockStates) → Stand setting sub rank (rank clock) ran filled front all → SubsMade setting sub rank clock many through 0 ran filled front all
+  subs_none all stand = record {
     ran_now = ran;
     filled_now = filled;
-    stand = stand_below setting sub rank (rank clock) (suc (rank clock)) ran filled front lanes (omega arith) stand;
+    stand = stand_below setting sub rank (rank clock) (suc (rank clock)) ran filled front all (omega arith) stand;
     needed = stand.needed;
     others = λ other low. refl;
     held = λ i low. refl;
@@ -54,9 +54,9 @@ module _ (setting : Setting) (sub : ℕ → ℕ → List Slot) (rank : NodeClock
   }
 
   -- a node of which the sub-clock stays, if it has one
-  pub subs_skip : (i : ℕ) (lanes : ClockStates) → (clock_of setting i ≡ clock → through i ≡ false) → SubsMade setting sub rank clock many through i ran filled front lanes
-      → SubsMade setting sub rank clock many through (suc i) ran filled front lanes
-  subs_skip i lanes not s = record {
+  pub subs_skip : (i : ℕ) (all : ClockStates) → (clock_of setting i ≡ clock → through i ≡ false) → SubsMade setting sub rank clock many through i ran filled front all
+      → SubsMade setting sub rank clock many through (suc i) ran filled front all
+  subs_skip i all not s = record {
     ran_now = s.ran_now;
     filled_now = s.filled_now;
     stand = s.stand;
@@ -79,9 +79,9 @@ module _ (setting : Setting) (sub : ℕ → ℕ → List Slot) (rank : NodeClock
       ]
 
   -- nodes of other clocks
-  pub subs_upto : (i n : ℕ) (lanes : ClockStates) → i ≤ n → ((k : ℕ) → i ≤ k → k < n → clock_of setting k ≡ clock → ⊥) → SubsMade setting sub rank clock many through i ran filled front lanes
-      → SubsMade setting sub rank clock many through n ran filled front lanes
-  subs_upto i n lanes up none s = record {
+  pub subs_upto : (i n : ℕ) (all : ClockStates) → i ≤ n → ((k : ℕ) → i ≤ k → k < n → clock_of setting k ≡ clock → ⊥) → SubsMade setting sub rank clock many through i ran filled front all
+      → SubsMade setting sub rank clock many through n ran filled front all
+  subs_upto i n all up none s = record {
     ran_now = s.ran_now;
     filled_now = s.filled_now;
     stand = s.stand;
@@ -104,16 +104,16 @@ module _ (setting : Setting) (sub : ℕ → ℕ → List Slot) (rank : NodeClock
       upper k low inside = elim (cases_lt k n) [ inl less ↦ less | inr high ↦ absurd (omega (arith, low, high, up)) ]
 
   -- the sub-clock of node i goes on
-  module _ (i : ℕ) (within : i < length setting.plan.nodes) (inside : clock_of setting i ≡ clock) (is : through i ≡ true) (some : 0 < many) (lanes kept mid new : ClockStates)
-      (s : SubsMade setting sub rank clock many through i ran filled front lanes) (rest : many ≤ rest_at lanes i)
-      (kept_states : kept.states ≡ lanes.states) (kept_times : kept.times ≡ lanes.times) (kept_held : kept.runs.held ≡ lanes.runs.held)
-      (kept_left : kept.runs.left ≡ lanes.runs.left) (kept_right : kept.runs.right ≡ lanes.runs.right)
-      (none : rest_at kept i ≡ 0) (others_kept : (k : ℕ) → (k ≡ i → ⊥) → rest_at kept k ≡ rest_at lanes k)
+  module _ (i : ℕ) (within : i < length setting.plan.nodes) (inside : clock_of setting i ≡ clock) (is : through i ≡ true) (some : 0 < many) (all kept mid new : ClockStates)
+      (s : SubsMade setting sub rank clock many through i ran filled front all) (rest : many ≤ rest_at all i)
+      (kept_states : kept.states ≡ all.states) (kept_times : kept.times ≡ all.times) (kept_held : kept.room.held ≡ all.room.held)
+      (kept_left : kept.room.left ≡ all.room.left) (kept_right : kept.room.right ≡ all.room.right)
+      (none : rest_at kept i ≡ 0) (others_kept : (k : ℕ) → (k ≡ i → ⊥) → rest_at kept k ≡ rest_at all k)
       (run : (n : ℕ) → CanGoOn setting sub rank own (Sub i) n many s.ran_now s.filled_now front kept → HasMadeOn setting sub rank own (Sub i) n many s.ran_now s.filled_now front mid)
-      (held_mid : mid.runs.held ≡ kept.runs.held)
+      (held_mid : mid.room.held ≡ kept.room.held)
       (left : AreLeft setting.clocks rank (rank (Sub i)) (is_in setting.clocks (Sub i)) kept mid)
       (samples : AreSamplesLeft setting.clocks rank (rank (Sub i)) (is_in setting.clocks (Sub i)) many kept mid)
-      (states : new.states ≡ mid.states) (runs : new.runs ≡ mid.runs)
+      (states : new.states ≡ mid.states) (room : new.room ≡ mid.room)
       (times : (k : ℕ) → (k ≡ i → ⊥) → slice_get new.times.items k ≡ slice_get mid.times.items k)
       (later : (n : ℕ) (before after : WeekTime) → slice_get mid.times.items i ≡ Some before → slice_get new.times.items i ≡ Some after → TimeStands setting.start n before → TimeStands setting.start (n + many) after)
       (in_mid : length mid.times.items ≡ length setting.plan.nodes) (in_new : length new.times.items ≡ length setting.plan.nodes) where
@@ -123,7 +123,7 @@ module _ (setting : Setting) (sub : ℕ → ℕ → List Slot) (rank : NodeClock
     level : rank (clock_of setting i) ≡ rank clock
     level = ap rank inside
 
-    opened : IsOpen setting sub i (rest_at lanes i) s.ran_now s.filled_now lanes
+    opened : IsOpen setting sub i (rest_at all i) s.ran_now s.filled_now all
     opened = s.kept i within level (omega (arith, some, rest))
 
     not_i : (k : ℕ) → rank (Sub i) ≤ rank (clock_of setting k) → k ≡ i → ⊥
@@ -137,10 +137,10 @@ module _ (setting : Setting) (sub : ℕ → ℕ → List Slot) (rank : NodeClock
       time = λ k time above at. s.stand.time k time (let u = up in omega (arith, u, above)) (sym (ap (λ xs. slice_get xs.items k) kept_times) ∙ at);
       needed = needed_below setting sub rank (suc (suc (rank clock))) (suc (rank (Sub i))) s.ran_now s.filled_now (let u = up in omega (arith, u)) s.stand.needed;
       kept = λ k low above more.
-          open_kept setting sub k s.ran_now s.ran_now s.filled_now s.filled_now lanes kept refl (others_kept k (not_i k above))
+          open_kept setting sub k s.ran_now s.ran_now s.filled_now s.filled_now all kept refl (others_kept k (not_i k above))
           (λ j here. (refl, ap (λ xs. slice_get xs.items j) kept_states, ap (λ ps. part_at ps.items j) kept_held))
           (s.stand.kept k low (let u = up in omega (arith, u, above))) more;
-      laned = λ k low above. lanes_same lanes kept kept_left kept_right k (s.stand.laned k low (let u = up in omega (arith, u, above)));
+      laned = λ k low above. lanes_same all kept kept_left kept_right k (s.stand.laned k low (let u = up in omega (arith, u, above)));
     }
 
     can : CanGoOn setting sub rank own (Sub i) opened.n many s.ran_now s.filled_now front kept
@@ -149,9 +149,9 @@ module _ (setting : Setting) (sub : ℕ → ℕ → List Slot) (rank : NodeClock
       stand = stand_kept;
       needed = subst (λ n. RanAsNeeded setting sub rank n s.ran_now s.filled_now) (sym up) s.needed;
       at = opened.at;
-      goes = goes_kept setting sub (Sub i) (first_instants setting sub (Sub i) opened.n) many s.filled_now s.filled_now lanes.runs.held.items kept.runs.held.items lanes.states.items kept.states.items
+      goes = goes_kept setting sub (Sub i) (first_instants setting sub (Sub i) opened.n) many s.filled_now s.filled_now all.room.held.items kept.room.held.items all.states.items kept.states.items
           (λ j here. (refl, ap (λ xs. slice_get xs.items j) kept_states, ap (λ ps. part_at ps.items j) kept_held))
-          (goes_fewer setting sub (Sub i) (first_instants setting sub (Sub i) opened.n) (rest_at lanes i) many s.filled_now lanes.runs.held.items lanes.states.items rest opened.goes);
+          (goes_fewer setting sub (Sub i) (first_instants setting sub (Sub i) opened.n) (rest_at all i) many s.filled_now all.room.held.items all.states.items rest opened.goes);
     }
 
     h : HasMadeOn setting sub rank own (Sub i) opened.n many s.ran_now s.filled_now front mid
@@ -171,7 +171,7 @@ module _ (setting : Setting) (sub : ℕ → ℕ → List Slot) (rank : NodeClock
     apart_low : (c : NodeClock) → rank c ≤ rank clock → c ≡ Sub i → ⊥
     apart_low c low e = let same : rank c ≡ rank (Sub i) = ap rank e in let u = up in omega (arith, same, u, low)
 
-    time_left : (k : ℕ) → rank (clock_of setting k) ≤ rank clock → slice_get mid.times.items k ≡ slice_get lanes.times.items k
+    time_left : (k : ℕ) → rank (clock_of setting k) ≤ rank clock → slice_get mid.times.items k ≡ slice_get all.times.items k
     time_left k low = left.times k (apart_low (clock_of setting k) low) (let u = up in omega (arith, u, low)) ∙ ap (λ xs. slice_get xs.items k) kept_times
 
     own_time : (time : WeekTime) → slice_get new.times.items i ≡ Some time → TimeStands setting.start (h.ran_now (Sub i)) time
@@ -196,12 +196,12 @@ module _ (setting : Setting) (sub : ℕ → ℕ → List Slot) (rank : NodeClock
     ]
 
     rest_new : (k : ℕ) → rest_at new k ≡ rest_at mid k
-    rest_new k = ap (λ r. slice_index_or r.rests.items k 0) runs
+    rest_new k = ap (λ r. slice_index_or r.rests.items k 0) room
 
     open_deep : (k : ℕ) → k < length setting.plan.nodes → suc (rank clock) ≤ rank (clock_of setting k) → 0 < rest_at new k → IsOpen setting sub k (rest_at new k) h.ran_now h.filled_now new
     open_deep k low above more =
         open_kept setting sub k h.ran_now h.ran_now h.filled_now h.filled_now mid new refl (rest_new k)
-        (λ j here. (refl, ap (λ xs. slice_get xs.items j) states, ap (λ r. part_at r.held.items j) runs))
+        (λ j here. (refl, ap (λ xs. slice_get xs.items j) states, ap (λ r. part_at r.held.items j) room))
         (h.stand.kept k low (let u = up in omega (arith, u, above))) more
 
     rest_low : (k : ℕ) → rank (clock_of setting k) ≤ rank clock → rest_at new k ≡ rest_at kept k
@@ -209,14 +209,14 @@ module _ (setting : Setting) (sub : ℕ → ℕ → List Slot) (rank : NodeClock
 
     open_beside : (k : ℕ) → k < length setting.plan.nodes → rank (clock_of setting k) ≡ rank clock → (i ≡ k → ⊥) → 0 < rest_at new k → IsOpen setting sub k (rest_at new k) h.ran_now h.filled_now new
     open_beside k low same apart more =
-        open_kept setting sub k s.ran_now h.ran_now s.filled_now h.filled_now lanes new (beside k low same apart)
+        open_kept setting sub k s.ran_now h.ran_now s.filled_now h.filled_now all new (beside k low same apart)
         (rest_low k (omega (arith, same)) ∙ others_kept k (λ e. apart (sym e)))
         (λ j here.
         let out : clock_of setting j ≡ Sub i → ⊥ = λ e. sub_apart k apart (sym here ∙ e) in
         let under : rank (clock_of setting j) ≤ rank (Sub i) = (let d = deeper k low in let u = up in let e : rank (clock_of setting j) ≡ rank (Sub k) = ap rank here in omega (arith, d, u, e, same)) in (
           h.held j out under,
           ap (λ xs. slice_get xs.items j) states ∙ left.states j out under ∙ ap (λ xs. slice_get xs.items j) kept_states,
-          ap (λ r. part_at r.held.items j) runs ∙ left.held j out under ∙ ap (λ ps. part_at ps.items j) kept_held,
+          ap (λ r. part_at r.held.items j) room ∙ left.held j out under ∙ ap (λ ps. part_at ps.items j) kept_held,
         ))
         (s.kept k low same) more
 
@@ -233,17 +233,17 @@ module _ (setting : Setting) (sub : ℕ → ℕ → List Slot) (rank : NodeClock
     offered = gives_offers (moment_after setting sub (Sub i) (first_instants setting sub (Sub i) opened.n)) Child opened.gave
 
     -- what is held stays
-    held_new : new.runs.held ≡ lanes.runs.held
-    held_new = ap (λ (r : Runs). r.held) runs ∙ held_mid ∙ kept_held
+    held_new : new.room.held ≡ all.room.held
+    held_new = ap (λ (r : StretchRoom). r.held) room ∙ held_mid ∙ kept_held
 
-    own_title : title_of (offer (moment_after setting sub (Sub i) (first_instants setting sub (Sub i) opened.n)) Child) ≡ title_of (part_at new.runs.held.items Child).slot
+    own_title : title_of (offer (moment_after setting sub (Sub i) (first_instants setting sub (Sub i) opened.n)) Child) ≡ title_of (part_at new.room.held.items Child).slot
     own_title = sym (ap (λ (h : Vec Part Global). title_of (part_at h.items Child).slot) held_new
-        ∙ held_title setting sub (Sub i) (first_instants setting sub (Sub i) opened.n) lanes.runs.held.items Child opened.goes.held_is opened.gave)
+        ∙ held_title setting sub (Sub i) (first_instants setting sub (Sub i) opened.n) all.room.held.items Child opened.goes.held_is opened.gave)
 
-    fills_own : LaneFills (sub i) (ran (Sub i)) many (title_of (part_at new.runs.held.items Child).slot) (samples_of new.runs.left.items Child many) (samples_of new.runs.right.items Child many)
+    fills_own : LaneFills (sub i) (ran (Sub i)) many (title_of (part_at new.room.held.items Child).slot) (samples_of new.room.left.items Child many) (samples_of new.room.right.items Child many)
     fills_own =
-        subst (λ n. LaneFills (sub i) n many (title_of (part_at new.runs.held.items Child).slot) (samples_of new.runs.left.items Child many) (samples_of new.runs.right.items Child many)) stays
-        (subst (λ r. LaneFills (sub i) (s.ran_now (Sub i)) many (title_of (part_at new.runs.held.items Child).slot) (samples_of r.left.items Child many) (samples_of r.right.items Child many)) (sym runs) (record {
+        subst (λ n. LaneFills (sub i) n many (title_of (part_at new.room.held.items Child).slot) (samples_of new.room.left.items Child many) (samples_of new.room.right.items Child many)) stays
+        (subst (λ r. LaneFills (sub i) (s.ran_now (Sub i)) many (title_of (part_at new.room.held.items Child).slot) (samples_of r.left.items Child many) (samples_of r.right.items Child many)) (sym room) (record {
           slots = λ j. offer (moment_after setting sub (Sub i) (first_instants setting sub (Sub i) (s.ran_now (Sub i) + j))) Child;
           lane = (h.slots Child (child_root setting sub i (first_instants setting sub (Sub i) opened.n) own world.roots offered)).given offered;
           titled = λ j low. (h.slots Child (child_root setting sub i (first_instants setting sub (Sub i) opened.n) own world.roots offered)).titled offered j low ∙ own_title;
@@ -251,18 +251,18 @@ module _ (setting : Setting) (sub : ℕ → ℕ → List Slot) (rank : NodeClock
         }))
 
     fills_kept : (k : ℕ) → k < length setting.plan.nodes → clock_of setting k ≡ clock → k < i → through k ≡ true
-        → LaneFills (sub k) (ran (Sub k)) many (title_of (part_at new.runs.held.items (crossfaded setting.plan.nodes k)).slot) (samples_of new.runs.left.items (crossfaded setting.plan.nodes k) many) (samples_of new.runs.right.items (crossfaded setting.plan.nodes k) many)
+        → LaneFills (sub k) (ran (Sub k)) many (title_of (part_at new.room.held.items (crossfaded setting.plan.nodes k)).slot) (samples_of new.room.left.items (crossfaded setting.plan.nodes k) many) (samples_of new.room.right.items (crossfaded setting.plan.nodes k) many)
     fills_kept k low here less so =
         let child = s.inside k low here less so in
         let out : clock_of setting (crossfaded setting.plan.nodes k) ≡ Sub i → ⊥ = λ e. sub_apart k (λ same. omega (arith, same, less)) (sym child ∙ e) in
         let under : rank (clock_of setting (crossfaded setting.plan.nodes k)) ≤ rank (Sub i) =
         (let d = deeper k low in let u = up in let e : rank (clock_of setting (crossfaded setting.plan.nodes k)) ≡ rank (Sub k) = ap rank child in let l : rank (clock_of setting k) ≡ rank clock = ap rank here in omega (arith, d, u, e, l)) in
-        subst (λ xs. LaneFills (sub k) (ran (Sub k)) many (title_of (part_at new.runs.held.items (crossfaded setting.plan.nodes k)).slot) xs (samples_of new.runs.right.items (crossfaded setting.plan.nodes k) many))
-        (sym (ap (λ r. samples_of r.left.items (crossfaded setting.plan.nodes k) many) runs ∙ samples.left (crossfaded setting.plan.nodes k) out under ∙ ap (λ xs. samples_of xs.items (crossfaded setting.plan.nodes k) many) kept_left))
-        (subst (λ ys. LaneFills (sub k) (ran (Sub k)) many (title_of (part_at new.runs.held.items (crossfaded setting.plan.nodes k)).slot) (samples_of lanes.runs.left.items (crossfaded setting.plan.nodes k) many) ys)
-        (sym (ap (λ r. samples_of r.right.items (crossfaded setting.plan.nodes k) many) runs ∙ samples.right (crossfaded setting.plan.nodes k) out under ∙ ap (λ xs. samples_of xs.items (crossfaded setting.plan.nodes k) many) kept_right))
+        subst (λ xs. LaneFills (sub k) (ran (Sub k)) many (title_of (part_at new.room.held.items (crossfaded setting.plan.nodes k)).slot) xs (samples_of new.room.right.items (crossfaded setting.plan.nodes k) many))
+        (sym (ap (λ r. samples_of r.left.items (crossfaded setting.plan.nodes k) many) room ∙ samples.left (crossfaded setting.plan.nodes k) out under ∙ ap (λ xs. samples_of xs.items (crossfaded setting.plan.nodes k) many) kept_left))
+        (subst (λ ys. LaneFills (sub k) (ran (Sub k)) many (title_of (part_at new.room.held.items (crossfaded setting.plan.nodes k)).slot) (samples_of all.room.left.items (crossfaded setting.plan.nodes k) many) ys)
+        (sym (ap (λ r. samples_of r.right.items (crossfaded setting.plan.nodes k) many) room ∙ samples.right (crossfaded setting.plan.nodes k) out under ∙ ap (λ xs. samples_of xs.items (crossfaded setting.plan.nodes k) many) kept_right))
         (subst (λ (h : Vec Part Global). LaneFills (sub k) (ran (Sub k)) many (title_of (part_at h.items (crossfaded setting.plan.nodes k)).slot)
-        (samples_of lanes.runs.left.items (crossfaded setting.plan.nodes k) many) (samples_of lanes.runs.right.items (crossfaded setting.plan.nodes k) many)) (sym held_new)
+        (samples_of all.room.left.items (crossfaded setting.plan.nodes k) many) (samples_of all.room.right.items (crossfaded setting.plan.nodes k) many)) (sym held_new)
         (s.fills k low here less so)))
 
     pub subs_step : SubsMade setting sub rank clock many through (suc i) ran filled front new
@@ -276,7 +276,7 @@ module _ (setting : Setting) (sub : ℕ → ℕ → List Slot) (rank : NodeClock
         time = λ k time above at. time_all k time (let l = slice_get_within new.times.items k time at in omega (arith, l, in_new)) (omega (arith, above)) at;
         needed = needed_below setting sub rank (rank (Sub i)) (suc (suc (rank clock))) h.ran_now h.filled_now (let u = up in omega (arith, u)) h.needed;
         kept = open_deep;
-        laned = λ k low above. subst (λ r. HasLanes r.left.items r.right.items k) (sym runs) (h.stand.laned k low (let u = up in omega (arith, u, above)));
+        laned = λ k low above. subst (λ r. HasLanes r.left.items r.right.items k) (sym room) (h.stand.laned k low (let u = up in omega (arith, u, above)));
       };
       needed = subst (λ n. RanAsNeeded setting sub rank n h.ran_now h.filled_now) up h.needed;
       others = λ other low. h.others other (apart_low other low) (let u = up in omega (arith, u, low)) ∙ s.others other low;
@@ -297,7 +297,7 @@ module _ (setting : Setting) (sub : ℕ → ℕ → List Slot) (rank : NodeClock
         | inr apart ↦ s.quiet k j low here (omega (arith, less, apart)) so few
       ];
       fills = λ k low here less so. elim (same_place i k) [
-        | inl same ↦ subst (λ m. LaneFills (sub m) (ran (Sub m)) many (title_of (part_at new.runs.held.items (crossfaded setting.plan.nodes m)).slot) (samples_of new.runs.left.items (crossfaded setting.plan.nodes m) many) (samples_of new.runs.right.items (crossfaded setting.plan.nodes m) many)) same fills_own
+        | inl same ↦ subst (λ m. LaneFills (sub m) (ran (Sub m)) many (title_of (part_at new.room.held.items (crossfaded setting.plan.nodes m)).slot) (samples_of new.room.left.items (crossfaded setting.plan.nodes m) many) (samples_of new.room.right.items (crossfaded setting.plan.nodes m) many)) same fills_own
         | inr apart ↦ fills_kept k low here (omega (arith, less, apart)) so
       ];
       inside = λ k low here less so. elim (same_place i k) [

@@ -1,4 +1,4 @@
--- The runs of a clock's sub-clocks, one node after another, whatever the lanes stood for.
+-- The stretches of a clock's sub-clocks, one node after another, whatever the states stood for.
 use Rattle.std.proofs.Common.{◌≡◌, ◌<◌, ◌≤◌, ◌+◌, ◌&&◌, ◌∙◌, ℕ, suc, Bool, true, false, Some, List, length, slice_get, arith, refl, ap, sym, subst}
 use Rattle.std.specs.Prelude.{is_some, slice_index_or}
 use Rattle.std.specs.Option.{option_map_or}
@@ -57,11 +57,11 @@ module _ (plan : Plan) (library : Sounds) (clocks : List NodeClock) (in_clocks :
         let s = before.run other sub rank ran filled front own m can in
         let a = above rank can.world.ranks in
         let low : rank (clock_at clocks i) ≤ rank clock = (let e : rank (clock_at clocks i) ≡ rank clock = ap rank here in omega (arith, e)) in
-        let gave : gives (moment_after S sub clock (first_instants S sub clock m)) i ≡ gave_at old.runs.held.items i =
-        sym (held_gives S sub clock (first_instants S sub clock m) first.runs.held.items i can.goes.held_is within (are_same (clock_at clocks i) clock here))
+        let gave : gives (moment_after S sub clock (first_instants S sub clock m)) i ≡ gave_at old.room.held.items i =
+        sym (held_gives S sub clock (first_instants S sub clock m) first.room.held.items i can.goes.held_is within (are_same (clock_at clocks i) clock here))
         ∙ sym (ap (λ p. is_some p.slot) (a.held i low)) in
-        let test : T i ≡ (gave_at old.runs.held.items i && passes_at old.states.items i) =
-        ap (λ (b : Bool). b && passes_at first.states.items i) gave ∙ ap (λ found. gave_at old.runs.held.items i && option_map_or passes found false) (sym (a.states i low)) in
+        let test : T i ≡ (gave_at old.room.held.items i && passes_at old.states.items i) =
+        ap (λ (b : Bool). b && passes_at first.states.items i) gave ∙ ap (λ found. gave_at old.room.held.items i && option_map_or passes found false) (sym (a.states i low)) in
         subs_upto S sub rank own can.world in_clocks clock many T ran filled front (suc i) n new next.low
         (λ k up less inside. true≢false (sym (are_same (clock_at clocks k) clock inside) ∙ next.skips k up less))
         (subst (λ c. SubsMade S sub rank c many T (suc i) ran filled front new) here
@@ -71,45 +71,45 @@ module _ (plan : Plan) (library : Sounds) (clocks : List NodeClock) (in_clocks :
 
 module _ (plan : Plan) (library : Sounds) (clocks : List NodeClock) (in_clocks : length clocks ≡ length plan.nodes) (i many : ℕ) (within : i < length plan.nodes) where
   -- node i is no such crossfade
-  pub sub_skipped : (lanes : ClockStates) → (gave_at lanes.runs.held.items i && passes_at lanes.states.items i) ≡ false → SubClockMade plan library clocks i many lanes lanes
-  sub_skipped lanes not = record {
+  pub sub_skipped : (all : ClockStates) → (gave_at all.room.held.items i && passes_at all.states.items i) ≡ false → SubClockMade plan library clocks i many all all
+  sub_skipped all not = record {
     step = λ other sub rank ran filled front own through world is s.
-        subs_skip (over plan library clocks other) sub rank own world in_clocks (clock_at clocks i) many through ran filled front i lanes (λ inside. is ∙ not) s;
+        subs_skip (over plan library clocks other) sub rank own world in_clocks (clock_at clocks i) many through ran filled front i all (λ inside. is ∙ not) s;
   }
 
   -- it is one
-  pub sub_run : (lanes kept mid new : ClockStates) → (gave_at lanes.runs.held.items i && passes_at lanes.states.items i) ≡ true → 0 < many → many ≤ rest_at lanes i
-      → kept.states ≡ lanes.states → kept.times ≡ lanes.times → kept.runs.held ≡ lanes.runs.held → kept.runs.left ≡ lanes.runs.left → kept.runs.right ≡ lanes.runs.right
-      → rest_at kept i ≡ 0 → ((k : ℕ) → (k ≡ i → ⊥) → rest_at kept k ≡ rest_at lanes k)
-      → ClockMade plan library clocks (Sub i) many kept mid → mid.runs.held ≡ kept.runs.held
+  pub sub_run : (all kept mid new : ClockStates) → (gave_at all.room.held.items i && passes_at all.states.items i) ≡ true → 0 < many → many ≤ rest_at all i
+      → kept.states ≡ all.states → kept.times ≡ all.times → kept.room.held ≡ all.room.held → kept.room.left ≡ all.room.left → kept.room.right ≡ all.room.right
+      → rest_at kept i ≡ 0 → ((k : ℕ) → (k ≡ i → ⊥) → rest_at kept k ≡ rest_at all k)
+      → ClockMade plan library clocks (Sub i) many kept mid → mid.room.held ≡ kept.room.held
       → ((rank : NodeClock → ℕ) → HasRanks clocks rank → AreLeft clocks rank (rank (Sub i)) (is_in clocks (Sub i)) kept mid)
       → ((rank : NodeClock → ℕ) → HasRanks clocks rank → AreSamplesLeft clocks rank (rank (Sub i)) (is_in clocks (Sub i)) many kept mid)
-      → new.states ≡ mid.states → new.runs ≡ mid.runs → ((k : ℕ) → (k ≡ i → ⊥) → slice_get new.times.items k ≡ slice_get mid.times.items k)
+      → new.states ≡ mid.states → new.room ≡ mid.room → ((k : ℕ) → (k ≡ i → ⊥) → slice_get new.times.items k ≡ slice_get mid.times.items k)
       → ((start n : ℕ) (before after : WeekTime) → slice_get mid.times.items i ≡ Some before → slice_get new.times.items i ≡ Some after → TimeStands start n before → TimeStands start (n + many) after)
-      → length mid.times.items ≡ length plan.nodes → length new.times.items ≡ length plan.nodes → SubClockMade plan library clocks i many lanes new
-  sub_run lanes kept mid new so some rest states times held left right none others run held_mid leaves samples new_states new_runs new_times later in_mid in_new = record {
+      → length mid.times.items ≡ length plan.nodes → length new.times.items ≡ length plan.nodes → SubClockMade plan library clocks i many all new
+  sub_run all kept mid new so some rest states times held left right none others run held_mid leaves samples new_states new_runs new_times later in_mid in_new = record {
     step = λ other sub rank ran filled front own through world is s.
         let S = over plan library clocks other in
-        subs_step S sub rank own world in_clocks (clock_at clocks i) many through ran filled front i within refl (is ∙ so) some lanes kept mid new s rest states times held left right none others
+        subs_step S sub rank own world in_clocks (clock_at clocks i) many through ran filled front i within refl (is ∙ so) some all kept mid new s rest states times held left right none others
         (λ n can. run.run other sub rank s.ran_now s.filled_now front own n can) held_mid (leaves rank world.ranks) (samples rank world.ranks) new_states new_runs new_times (later S.start) in_mid in_new;
   }
 
--- what the sub-clock's run asks of the lanes of which no instants of it are kept any more
-module _ (library : Sounds) (clocks : List NodeClock) (i many : ℕ) (lanes kept : ClockStates) (resting : AreResting library clocks lanes) (some : 0 < many) (rest : many ≤ rest_at lanes i)
-    (states : kept.states ≡ lanes.states) (held : kept.runs.held ≡ lanes.runs.held) where
-  pub sub_ahead : AllLieAhead library clocks (Sub i) kept.runs.held.items kept.states.items (length clocks) many
+-- what the sub-clock's stretch asks of the states of which no instants of it are kept any more
+module _ (library : Sounds) (clocks : List NodeClock) (i many : ℕ) (all kept : ClockStates) (resting : AreResting library clocks all) (some : 0 < many) (rest : many ≤ rest_at all i)
+    (states : kept.states ≡ all.states) (held : kept.room.held ≡ all.room.held) where
+  pub sub_ahead : AllLieAhead library clocks (Sub i) kept.room.held.items kept.states.items (length clocks) many
   sub_ahead =
-      ahead_same library clocks (Sub i) lanes.runs.held.items kept.runs.held.items lanes.states.items kept.states.items (length clocks) many
+      ahead_same library clocks (Sub i) all.room.held.items kept.room.held.items all.states.items kept.states.items (length clocks) many
       (λ k inside. ap (λ ps. is_some (part_at ps.items k).slot) held) (λ k inside. ap (λ xs. slice_get xs.items k) states)
-      (ahead_less library clocks (Sub i) lanes.runs.held.items lanes.states.items (length clocks) (rest_at lanes i) many rest (resting.ahead i (omega (arith, some, rest))))
+      (ahead_less library clocks (Sub i) all.room.held.items all.states.items (length clocks) (rest_at all i) many rest (resting.ahead i (omega (arith, some, rest))))
 
-  pub sub_through : (rank : NodeClock → ℕ) → HasRanks clocks rank → i < length clocks → ((k : ℕ) → (k ≡ i → ⊥) → rest_at kept k ≡ rest_at lanes k)
-      → AllPassOn clocks (Sub i) kept.runs.held.items kept.states.items kept.runs.rests.items (length clocks) many
+  pub sub_through : (rank : NodeClock → ℕ) → HasRanks clocks rank → i < length clocks → ((k : ℕ) → (k ≡ i → ⊥) → rest_at kept k ≡ rest_at all k)
+      → AllPassOn clocks (Sub i) kept.room.held.items kept.states.items kept.room.rests.items (length clocks) many
   sub_through rank ranks within others =
-      through_same clocks (Sub i) lanes.runs.held.items kept.runs.held.items lanes.states.items kept.states.items lanes.runs.rests.items kept.runs.rests.items (length clocks) many
+      through_same clocks (Sub i) all.room.held.items kept.room.held.items all.states.items kept.states.items all.room.rests.items kept.room.rests.items (length clocks) many
       (λ k inside. ap (λ ps. is_some (part_at ps.items k).slot) held) (λ k inside. ap (λ xs. slice_get xs.items k) states)
       (λ k inside. others k (λ e. absurd (apart k inside e)))
-      (through_less clocks (Sub i) lanes.runs.held.items lanes.states.items lanes.runs.rests.items (length clocks) (rest_at lanes i) many rest (resting.through i (omega (arith, some, rest))))
+      (through_less clocks (Sub i) all.room.held.items all.states.items all.room.rests.items (length clocks) (rest_at all i) many rest (resting.through i (omega (arith, some, rest))))
     where
       apart : (k : ℕ) → lies_at clocks (Sub i) k ≡ true → k ≡ i → ⊥
       apart k inside e =
@@ -137,17 +137,17 @@ samples_step clocks rank clock i many a b c ranks within here one two =
     (λ j low inside. let e : rank (clock_at clocks j) ≡ rank (Sub i) = ap rank inside in omega (arith, e, up, level, low)) one two
 
 -- the run of node i's sub-clock leaves what lies above it
-pub above_sub : (clocks : List NodeClock) (rank : NodeClock → ℕ) (i : ℕ) (lanes kept mid new : ClockStates) → HasRanks clocks rank → i < length clocks
-    → kept.states ≡ lanes.states → kept.times ≡ lanes.times → kept.runs.held ≡ lanes.runs.held → ((k : ℕ) → (k ≡ i → ⊥) → rest_at kept k ≡ rest_at lanes k)
-    → kept.runs.left ≡ lanes.runs.left → kept.runs.right ≡ lanes.runs.right → AreLeft clocks rank (rank (Sub i)) (is_in clocks (Sub i)) kept mid
-    → new.states ≡ mid.states → new.runs ≡ mid.runs → ((k : ℕ) → (k ≡ i → ⊥) → slice_get new.times.items k ≡ slice_get mid.times.items k)
-    → AreAbove clocks rank (rank (clock_at clocks i)) (is_node i) lanes new
-above_sub clocks rank i lanes kept mid new ranks within states times held rests kept_left kept_right left new_states new_runs new_times = record {
+pub above_sub : (clocks : List NodeClock) (rank : NodeClock → ℕ) (i : ℕ) (all kept mid new : ClockStates) → HasRanks clocks rank → i < length clocks
+    → kept.states ≡ all.states → kept.times ≡ all.times → kept.room.held ≡ all.room.held → ((k : ℕ) → (k ≡ i → ⊥) → rest_at kept k ≡ rest_at all k)
+    → kept.room.left ≡ all.room.left → kept.room.right ≡ all.room.right → AreLeft clocks rank (rank (Sub i)) (is_in clocks (Sub i)) kept mid
+    → new.states ≡ mid.states → new.room ≡ mid.room → ((k : ℕ) → (k ≡ i → ⊥) → slice_get new.times.items k ≡ slice_get mid.times.items k)
+    → AreAbove clocks rank (rank (clock_at clocks i)) (is_node i) all new
+above_sub clocks rank i all kept mid new ranks within states times held rests kept_left kept_right left new_states new_runs new_times = record {
   states = λ k low. ap (λ xs. slice_get xs.items k) new_states ∙ left.states k (apart k low) (deep k low) ∙ ap (λ xs. slice_get xs.items k) states;
   held = λ k low. ap (λ r. part_at r.held.items k) new_runs ∙ left.held k (apart k low) (deep k low) ∙ ap (λ ps. part_at ps.items k) held;
   times = λ k other low. new_times k other ∙ left.times k (apart k low) (deep k low) ∙ ap (λ xs. slice_get xs.items k) times;
   rests = λ k other low. ap (λ r. slice_index_or r.rests.items k 0) new_runs ∙ left.rests k (apart k low) (deep k low) ∙ rests k other;
-  laned = λ k has. subst (λ r. HasLanes r.left.items r.right.items k) (sym new_runs) (left.laned k (lanes_same lanes kept kept_left kept_right k has));
+  laned = λ k has. subst (λ r. HasLanes r.left.items r.right.items k) (sym new_runs) (left.laned k (lanes_same all kept kept_left kept_right k has));
 }
   where
     deep : (k : ℕ) → rank (clock_at clocks k) ≤ rank (clock_at clocks i) → rank (clock_at clocks k) ≤ rank (Sub i)
@@ -157,10 +157,10 @@ above_sub clocks rank i lanes kept mid new ranks within states times held rests 
     apart k low e = let up = ranks.deeper i within in let same : rank (clock_at clocks k) ≡ rank (Sub i) = ap rank e in omega (arith, up, same, low)
 
 -- and the samples of other clocks' nodes
-pub samples_sub : (clocks : List NodeClock) (rank : NodeClock → ℕ) (i many : ℕ) (lanes kept mid new : ClockStates)
-    → kept.runs.left ≡ lanes.runs.left → kept.runs.right ≡ lanes.runs.right → AreSamplesLeft clocks rank (rank (Sub i)) (is_in clocks (Sub i)) many kept mid
-    → new.runs ≡ mid.runs → AreSamplesLeft clocks rank (rank (Sub i)) (is_in clocks (Sub i)) many lanes new
-samples_sub clocks rank i many lanes kept mid new left right samples runs = record {
-  left = λ k other low. ap (λ r. samples_of r.left.items k many) runs ∙ samples.left k other low ∙ ap (λ xs. samples_of xs.items k many) left;
-  right = λ k other low. ap (λ r. samples_of r.right.items k many) runs ∙ samples.right k other low ∙ ap (λ xs. samples_of xs.items k many) right;
+pub samples_sub : (clocks : List NodeClock) (rank : NodeClock → ℕ) (i many : ℕ) (all kept mid new : ClockStates)
+    → kept.room.left ≡ all.room.left → kept.room.right ≡ all.room.right → AreSamplesLeft clocks rank (rank (Sub i)) (is_in clocks (Sub i)) many kept mid
+    → new.room ≡ mid.room → AreSamplesLeft clocks rank (rank (Sub i)) (is_in clocks (Sub i)) many all new
+samples_sub clocks rank i many all kept mid new left right samples room = record {
+  left = λ k other low. ap (λ r. samples_of r.left.items k many) room ∙ samples.left k other low ∙ ap (λ xs. samples_of xs.items k many) left;
+  right = λ k other low. ap (λ r. samples_of r.right.items k many) room ∙ samples.right k other low ∙ ap (λ xs. samples_of xs.items k many) right;
 }

@@ -36,9 +36,9 @@ needed_below setting sub rank low high ran filled up needed = record {
   begun = λ i reading above. needed.begun i reading (omega (arith, up, above));
 }
 
-pub stand_below : (setting : Setting) (sub : ℕ → ℕ → List Slot) (rank : NodeClock → ℕ) (low high : ℕ) (ran : NodeClock → ℕ) (filled : ℕ → ℕ) (front : ℕ → List Answer) (lanes : ClockStates) → low ≤ high
-    → Stand setting sub rank low ran filled front lanes → Stand setting sub rank high ran filled front lanes
-stand_below setting sub rank low high ran filled front lanes up stand = record {
+pub stand_below : (setting : Setting) (sub : ℕ → ℕ → List Slot) (rank : NodeClock → ℕ) (low high : ℕ) (ran : NodeClock → ℕ) (filled : ℕ → ℕ) (front : ℕ → List Answer) (all : ClockStates) → low ≤ high
+    → Stand setting sub rank low ran filled front all → Stand setting sub rank high ran filled front all
+stand_below setting sub rank low high ran filled front all up stand = record {
   stand = λ i node state found stored above. stand.stand i node state found stored (omega (arith, up, above));
   taken = stand.taken;
   even = λ k fades above. stand.even k fades (omega (arith, up, above));
@@ -63,7 +63,7 @@ second_of setting n time rate stand = stand.second ∙ ap (λ r. (setting.start 
 pub record IsFilled (setting : Setting) (sub : ℕ → ℕ → List Slot) (k n many : ℕ) (old new : ClockStates) : Type 0 where
   pub states : (i : ℕ) → (i ≡ k → ⊥) → slice_get new.states.items i ≡ slice_get old.states.items i
   pub times : (i : ℕ) → (i ≡ k → ⊥) → slice_get new.times.items i ≡ slice_get old.times.items i
-  pub runs : new.runs ≡ old.runs
+  pub room : new.room ≡ old.room
   pub filled : (past : List Moment) (work : Work) (before after : NodeState)
       → slice_get old.states.items k ≡ Some before → slice_get new.states.items k ≡ Some after → StateStands setting sub past n k work before
       → StateStands setting sub past (n + many) k work after
@@ -75,8 +75,8 @@ module _ (setting : Setting) (sub : ℕ → ℕ → List Slot) (rank : NodeClock
   deeper : (k : ℕ) → k < length setting.plan.nodes → rank (Sub k) ≡ suc (rank (clock_of setting k))
   deeper k within = ranks.deeper k (omega (arith, within, in_clocks))
 
-  module _ (k : ℕ) (within : k < length setting.plan.nodes) (ran : NodeClock → ℕ) (filled : ℕ → ℕ) (front : ℕ → List Answer) (before : List Call) (lanes : ClockStates)
-      (r : IsFilling setting sub rank (rank (clock_of setting k)) k is_none ran filled front before lanes) where
+  module _ (k : ℕ) (within : k < length setting.plan.nodes) (ran : NodeClock → ℕ) (filled : ℕ → ℕ) (front : ℕ → List Answer) (before : List Call) (all : ClockStates)
+      (r : IsFilling setting sub rank (rank (clock_of setting k)) k is_none ran filled front before all) where
     -- a clock of the crossfade's rank or a lower one is not its sub-clock
     apart : (clock : NodeClock) → rank clock ≤ rank (clock_of setting k) → clock ≡ Sub k → ⊥
     apart clock low e = let up = deeper k within in let same : rank clock ≡ rank (Sub k) = ap rank e in omega (arith, up, same, low)
@@ -85,13 +85,13 @@ module _ (setting : Setting) (sub : ℕ → ℕ → List Slot) (rank : NodeClock
     under clock low = let up = deeper k within in omega (arith, up, low)
 
     -- what an instant of the sub-clock asks for
-    pub stand_under : Stand setting sub rank (rank (Sub k)) r.reached.ran_now r.reached.filled_now (after_calls front before) lanes
-    stand_under = let up = deeper k within in stand_below setting sub rank (rank (clock_of setting k)) (rank (Sub k)) r.reached.ran_now r.reached.filled_now (after_calls front before) lanes (omega (arith, up)) r.reached.stand
+    pub stand_under : Stand setting sub rank (rank (Sub k)) r.reached.ran_now r.reached.filled_now (after_calls front before) all
+    stand_under = let up = deeper k within in stand_below setting sub rank (rank (clock_of setting k)) (rank (Sub k)) r.reached.ran_now r.reached.filled_now (after_calls front before) all (omega (arith, up)) r.reached.stand
 
     pub needed_under : RanAsNeeded setting sub rank (rank (Sub k)) r.reached.ran_now r.reached.filled_now
     needed_under = subst (λ level. RanAsNeeded setting sub rank level r.reached.ran_now r.reached.filled_now) (sym (deeper k within)) r.reached.stand.needed
 
-    pub time_under : (time : WeekTime) → slice_get lanes.times.items k ≡ Some time → TimeStands setting.start (r.reached.ran_now (Sub k)) time
+    pub time_under : (time : WeekTime) → slice_get all.times.items k ≡ Some time → TimeStands setting.start (r.reached.ran_now (Sub k)) time
     time_under time at = r.reached.stand.time k time (omega arith) at
 
     module _ (fades : fade_at setting k ≡ true) where
@@ -116,9 +116,9 @@ module _ (setting : Setting) (sub : ℕ → ℕ → List Slot) (rank : NodeClock
 
       module _ (many : ℕ) (made new : ClockStates) (one : List Call)
           (m : HasGone setting sub rank (Sub k) many r.reached.ran_now r.reached.filled_now (after_calls front before) one made)
-          (left : AreLeft setting.clocks rank (rank (Sub k)) (is_in setting.clocks (Sub k)) lanes made)
+          (left : AreLeft setting.clocks rank (rank (Sub k)) (is_in setting.clocks (Sub k)) all made)
           (in_states : length made.states.items ≡ length setting.plan.nodes) (in_times : length made.times.items ≡ length setting.plan.nodes)
-          (fills : IsFilled setting sub k (r.reached.ran_now (Sub k)) many made new) (idle : rest_at lanes k ≡ 0) where
+          (fills : IsFilled setting sub k (r.reached.ran_now (Sub k)) many made new) (idle : rest_at all k ≡ 0) where
         same_filled : m.filled_now k ≡ r.reached.filled_now k
         same_filled = m.held k (apart (clock_of setting k) (omega arith)) (under (clock_of setting k) (omega arith))
 
@@ -202,7 +202,7 @@ module _ (setting : Setting) (sub : ℕ → ℕ → List Slot) (rank : NodeClock
         time_here : (time : WeekTime) → slice_get new.times.items k ≡ Some time → TimeStands setting.start (m.ran_now (Sub k)) time
         time_here time stored =
             let old = item_at made.times.items k (omega (arith, in_times, within)) in
-            let was : slice_get lanes.times.items k ≡ Some old.0 = sym (left.times k (apart (clock_of setting k) (omega arith)) (under (clock_of setting k) (omega arith))) ∙ old.1 in
+            let was : slice_get all.times.items k ≡ Some old.0 = sym (left.times k (apart (clock_of setting k) (omega arith)) (under (clock_of setting k) (omega arith))) ∙ old.1 in
             subst (λ n. TimeStands setting.start n time) (sym m.once)
             (fills.time (r.reached.ran_now (Sub k)) old.0 time old.1 stored (r.reached.stand.time k old.0 (omega arith) was))
 
@@ -211,7 +211,7 @@ module _ (setting : Setting) (sub : ℕ → ℕ → List Slot) (rank : NodeClock
         time_other i time above other at = elim (same_or_above (rank (clock_of setting k)) (rank (clock_of setting i)) above) [
           | inl higher ↦ (let up = deeper k within in m.stand.time i time (omega (arith, up, higher)) at)
           | inr level ↦ (let inside : i < length setting.plan.nodes = (let low = slice_get_within made.times.items i time at in omega (arith, low, in_times)) in
-              let was : slice_get lanes.times.items i ≡ Some time = sym (left.times i (apart (clock_of setting i) (omega (arith, level))) (under (clock_of setting i) (omega (arith, level)))) ∙ at in
+              let was : slice_get all.times.items i ≡ Some time = sym (left.times i (apart (clock_of setting i) (omega (arith, level))) (under (clock_of setting i) (omega (arith, level)))) ∙ at in
               subst (λ n. TimeStands setting.start n time) (sym (ran_same i inside other level)) (r.reached.stand.time i time above was))
         ]
 
@@ -229,10 +229,10 @@ module _ (setting : Setting) (sub : ℕ → ℕ → List Slot) (rank : NodeClock
         }
 
         rest_is : (i : ℕ) → rest_at new i ≡ rest_at made i
-        rest_is i = ap (λ it. slice_index_or it.rests.items i 0) fills.runs
+        rest_is i = ap (λ it. slice_index_or it.rests.items i 0) fills.room
 
-        held_is : (i : ℕ) → part_at new.runs.held.items i ≡ part_at made.runs.held.items i
-        held_is i = ap (λ it. part_at it.held.items i) fills.runs
+        held_is : (i : ℕ) → part_at new.room.held.items i ≡ part_at made.room.held.items i
+        held_is i = ap (λ it. part_at it.held.items i) fills.room
 
         -- a node of a sub-clock of another crossfade of the rank, or a deeper one, is not this one
         not_below : (i j : ℕ) → i < length setting.plan.nodes → rank (clock_of setting k) ≤ rank (clock_of setting i) → clock_of setting j ≡ Sub i → j ≡ k → ⊥
@@ -252,7 +252,7 @@ module _ (setting : Setting) (sub : ℕ → ℕ → List Slot) (rank : NodeClock
 
         open_beside : (i : ℕ) → i < length setting.plan.nodes → (i ≡ k → ⊥) → rank (clock_of setting k) ≡ rank (clock_of setting i) → 0 < rest_at new i → IsOpen setting sub i (rest_at new i) m.ran_now (filled_more m.filled_now k many) new
         open_beside i inside other level some =
-            open_kept setting sub i r.reached.ran_now m.ran_now r.reached.filled_now (filled_more m.filled_now k many) lanes new (ran_same i inside other level)
+            open_kept setting sub i r.reached.ran_now m.ran_now r.reached.filled_now (filled_more m.filled_now k many) all new (ran_same i inside other level)
             (rest_is i ∙ left.rests i (apart (clock_of setting i) (omega (arith, level))) (under (clock_of setting i) (omega (arith, level))))
             (λ j here.
             let not_k = not_below i j inside (omega (arith, level)) here in
@@ -287,7 +287,7 @@ module _ (setting : Setting) (sub : ℕ → ℕ → List Slot) (rank : NodeClock
               time = time_all;
               needed = needed_all;
               kept = open_all;
-              laned = λ i inside above. subst (λ it. HasLanes it.left.items it.right.items i) (sym fills.runs) (left.laned i (r.reached.stand.laned i inside above));
+              laned = λ i inside above. subst (λ it. HasLanes it.left.items it.right.items i) (sym fills.room) (left.laned i (r.reached.stand.laned i inside above));
             };
             others = λ clock low. m.others clock (apart clock low) (under clock low) ∙ r.reached.others clock low;
             held = λ i other low. filled_more-other m.filled_now k many i other ∙ m.held i (apart (clock_of setting i) low) (under (clock_of setting i) low) ∙ r.reached.held i other low;
@@ -307,35 +307,35 @@ module _ (setting : Setting) (sub : ℕ → ℕ → List Slot) (rank : NodeClock
         taken_at = m.once
 
 -- before anything is filled
-abbrev pub reached_none : (setting : Setting) (sub : ℕ → ℕ → List Slot) (rank : NodeClock → ℕ) (level : ℕ) (touched done : ℕ → Type 0) (ran : NodeClock → ℕ) (filled : ℕ → ℕ) (front : ℕ → List Answer) (lanes : ClockStates)
-    → ((i : ℕ) → done i → ⊥) → Stand setting sub rank level ran filled front lanes → IsReached setting sub rank level touched done ran filled front [] lanes
-reached_none setting sub rank level touched done ran filled front lanes none stand = record {
+abbrev pub reached_none : (setting : Setting) (sub : ℕ → ℕ → List Slot) (rank : NodeClock → ℕ) (level : ℕ) (touched done : ℕ → Type 0) (ran : NodeClock → ℕ) (filled : ℕ → ℕ) (front : ℕ → List Answer) (all : ClockStates)
+    → ((i : ℕ) → done i → ⊥) → Stand setting sub rank level ran filled front all → IsReached setting sub rank level touched done ran filled front [] all
+reached_none setting sub rank level touched done ran filled front all none stand = record {
   ran_now = ran;
   filled_now = filled;
-  stand = subst (λ (f : ℕ → List Answer). Stand setting sub rank level ran filled f lanes) (sym (after_calls-none front)) stand;
+  stand = subst (λ (f : ℕ → List Answer). Stand setting sub rank level ran filled f all) (sym (after_calls-none front)) stand;
   others = λ clock low. refl;
   held = λ i other low. refl;
   idle = λ i other low. refl;
   items = λ i node is found. absurd (none i is);
 }
 
-pub filling_none : (setting : Setting) (sub : ℕ → ℕ → List Slot) (rank : NodeClock → ℕ) (level k : ℕ) (ran : NodeClock → ℕ) (filled : ℕ → ℕ) (front : ℕ → List Answer) (lanes : ClockStates)
-    → Stand setting sub rank level ran filled front lanes → IsFilling setting sub rank level k is_none ran filled front [] lanes
-filling_none setting sub rank level k ran filled front lanes stand = record {
-  reached = reached_none setting sub rank level (is_node k) is_none ran filled front lanes (λ i none. none) stand;
+pub filling_none : (setting : Setting) (sub : ℕ → ℕ → List Slot) (rank : NodeClock → ℕ) (level k : ℕ) (ran : NodeClock → ℕ) (filled : ℕ → ℕ) (front : ℕ → List Answer) (all : ClockStates)
+    → Stand setting sub rank level ran filled front all → IsFilling setting sub rank level k is_none ran filled front [] all
+filling_none setting sub rank level k ran filled front all stand = record {
+  reached = reached_none setting sub rank level (is_node k) is_none ran filled front all (λ i none. none) stand;
   low = omega arith;
   calls = sym (between_none (calls_below setting sub k) (filled k));
 }
 
 -- a node that wants no slot has its item
-pub reached_item : (setting : Setting) (sub : ℕ → ℕ → List Slot) (rank : NodeClock → ℕ) (k : ℕ) (ran : NodeClock → ℕ) (filled : ℕ → ℕ) (front : ℕ → List Answer) (more : List Call) (lanes : ClockStates) (state : NodeState)
-    → slice_get lanes.states.items k ≡ Some state
+pub reached_item : (setting : Setting) (sub : ℕ → ℕ → List Slot) (rank : NodeClock → ℕ) (k : ℕ) (ran : NodeClock → ℕ) (filled : ℕ → ℕ) (front : ℕ → List Answer) (more : List Call) (all : ClockStates) (state : NodeState)
+    → slice_get all.states.items k ≡ Some state
     → ((past : List Moment) (filled : ℕ) (work : Work) → StateStands setting sub past filled k work state
     → ((buffer : ℕ) → work ≡ Reads buffer → filled ≡ suc (length past)) → IsSettled sub past filled k work)
     → ((past : List Moment) (filled overlap : ℕ) → StateStands setting sub past filled k (Fades overlap) state → run_of overlap (sub k) (position past k) ≡ filled)
     → (reads_at setting k ≡ true → filled k ≡ suc (ran (clock_of setting k)))
-    → IsFilling setting sub rank (rank (clock_of setting k)) k is_none ran filled front more lanes → IsFilling setting sub rank (rank (clock_of setting k)) k (is_node k) ran filled front more lanes
-reached_item setting sub rank k ran filled front more lanes state at settles runs begun f = record {
+    → IsFilling setting sub rank (rank (clock_of setting k)) k is_none ran filled front more all → IsFilling setting sub rank (rank (clock_of setting k)) k (is_node k) ran filled front more all
+reached_item setting sub rank k ran filled front more all state at settles runs begun f = record {
   reached = record {
     ran_now = f.reached.ran_now;
     filled_now = f.reached.filled_now;
@@ -361,13 +361,13 @@ reached_item setting sub rank k ran filled front more lanes state at settles run
     }
 
 -- a node that wants one is a crossfade
-pub reached_fading : (setting : Setting) (sub : ℕ → ℕ → List Slot) (rank : NodeClock → ℕ) (k : ℕ) (ran : NodeClock → ℕ) (filled : ℕ → ℕ) (front : ℕ → List Answer) (more : List Call) (lanes : ClockStates) (state : NodeState)
-    → (within : k < length setting.plan.nodes) → slice_get lanes.states.items k ≡ Some state
+pub reached_fading : (setting : Setting) (sub : ℕ → ℕ → List Slot) (rank : NodeClock → ℕ) (k : ℕ) (ran : NodeClock → ℕ) (filled : ℕ → ℕ) (front : ℕ → List Answer) (more : List Call) (all : ClockStates) (state : NodeState)
+    → (within : k < length setting.plan.nodes) → slice_get all.states.items k ≡ Some state
     → ((past : List Moment) (filled : ℕ) (work : Work) → StateStands setting sub past filled k work state → FadesOn sub past filled k work)
-    → (f : IsFilling setting sub rank (rank (clock_of setting k)) k is_none ran filled front more lanes)
+    → (f : IsFilling setting sub rank (rank (clock_of setting k)) k is_none ran filled front more all)
     → (node : Node) × (overlap : ℕ) × (slice_get setting.plan.nodes k ≡ Some node) × (work_at setting k node ≡ Fades overlap)
     × (f.reached.filled_now k < run_of overlap (sub k) (position (past_of setting sub f.reached.ran_now k) k))
-reached_fading setting sub rank k ran filled front more lanes state within at fades f =
+reached_fading setting sub rank k ran filled front more all state within at fades f =
     let node = item_at setting.plan.nodes k within in
     let on = fades_on sub (past_of setting sub f.reached.ran_now k) (f.reached.filled_now k) k (work_at setting k node.0)
     (fades (past_of setting sub f.reached.ran_now k) (f.reached.filled_now k) (work_at setting k node.0) (f.reached.stand.stand k node.0 state node.1 at (omega arith))) in

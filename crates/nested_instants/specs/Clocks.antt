@@ -45,38 +45,38 @@ pub record HasLevels (clocks : List NodeClock) (clock : NodeClock) (levels : ℕ
 
 -- node i has lanes for its samples
 abbrev pub laned_at : ClockStates → ℕ → Type 0
-laned_at lanes i = HasLanes lanes.runs.left.items lanes.runs.right.items i
+laned_at all i = HasLanes all.room.left.items all.room.right.items i
 
 -- how many instants go on as the latest one of the sub-clock of crossfade k did, of those that are kept
 abbrev pub rest_at : ClockStates → ℕ → ℕ
-rest_at lanes k = slice_index_or lanes.runs.rests.items k 0
+rest_at all k = slice_index_or all.room.rests.items k 0
 
 -- the states of a sub-clock's nodes can go on for as many instants as are kept
-pub record AreResting (library : Sounds) (clocks : List NodeClock) (lanes : ClockStates) : Type 0 where
-  pub ahead : (k : ℕ) → 0 < rest_at lanes k → AllLieAhead library clocks (Sub k) lanes.runs.held.items lanes.states.items (length clocks) (rest_at lanes k)
-  pub through : (k : ℕ) → 0 < rest_at lanes k → AllPassOn clocks (Sub k) lanes.runs.held.items lanes.states.items lanes.runs.rests.items (length clocks) (rest_at lanes k)
+pub record AreResting (library : Sounds) (clocks : List NodeClock) (all : ClockStates) : Type 0 where
+  pub ahead : (k : ℕ) → 0 < rest_at all k → AllLieAhead library clocks (Sub k) all.room.held.items all.states.items (length clocks) (rest_at all k)
+  pub through : (k : ℕ) → 0 < rest_at all k → AllPassOn clocks (Sub k) all.room.held.items all.states.items all.room.rests.items (length clocks) (rest_at all k)
 
 -- no instants are kept of a clock
-pub record IsIdle (clock : NodeClock) (lanes : ClockStates) : Type 0 where
-  pub none : (k : ℕ) → clock ≡ Sub k → rest_at lanes k ≡ 0
+pub record IsIdle (clock : NodeClock) (all : ClockStates) : Type 0 where
+  pub none : (k : ℕ) → clock ≡ Sub k → rest_at all k ≡ 0
 
--- lanes for the nodes of this plan, with these files and these clocks of its nodes
-pub record AreClockStates (plan : Plan) (library : Sounds) (clocks : List NodeClock) (lanes : ClockStates) : Type 0 where
-  pub fit : AllFit plan library lanes.states.items
-  pub in_times : length lanes.times.items ≡ length plan.nodes
-  pub chains : AreNodesOf clocks lanes.nodes
-  pub latest : IsLatest clocks lanes.latest
-  pub room : HasRoomFor plan lanes.desk
-  pub runs : HasStretchRoom (length plan.nodes) lanes.runs
-  pub resting : AreResting library clocks lanes
-  pub rates : (k : ℕ) (time : WeekTime) → slice_get lanes.times.items k ≡ Some time → time.rate ≡ plan.rate
-  pub frames : (k : ℕ) (time : WeekTime) → slice_get lanes.times.items k ≡ Some time → time.frame ≡ plan.frame
+-- states for the nodes of this plan, with these files and these clocks of its nodes
+pub record AreClockStates (plan : Plan) (library : Sounds) (clocks : List NodeClock) (all : ClockStates) : Type 0 where
+  pub fit : AllFit plan library all.states.items
+  pub in_times : length all.times.items ≡ length plan.nodes
+  pub chains : AreNodesOf clocks all.nodes
+  pub latest : IsLatest clocks all.latest
+  pub room : HasRoomFor plan all.desk
+  pub stretch_room : HasStretchRoom (length plan.nodes) all.room
+  pub resting : AreResting library clocks all
+  pub rates : (k : ℕ) (time : WeekTime) → slice_get all.times.items k ≡ Some time → time.rate ≡ plan.rate
+  pub frames : (k : ℕ) (time : WeekTime) → slice_get all.times.items k ≡ Some time → time.frame ≡ plan.frame
 
 -- the same over a shape
-abbrev pub AreClockLanesOver : Shape → ClockStates → Type 0
-AreClockLanesOver shape lanes = AreClockStates shape.plan.now shape.library.now shape.clocks.now lanes
+abbrev pub AreClockStatesOver : Shape → ClockStates → Type 0
+AreClockStatesOver shape all = AreClockStates shape.plan.now shape.library.now shape.clocks.now all
 
--- these marks tell of each node whether its own clock demands it of itself
+-- these tell of each node whether its own clock demands it of itself
 pub record AreOwnRoots (setting : Setting) (own : List Bool) : Type 0 where
   pub each : (i : ℕ) → i < length setting.plan.nodes → slice_index_or own i false ≡ is_root setting (clock_of setting i) i
 
@@ -109,7 +109,7 @@ is_upto clocks clock below i = (i < below) × (clock_at clocks i ≡ clock)
 pub record AreLeft (clocks : List NodeClock) (rank : NodeClock → ℕ) (level : ℕ) (touched : ℕ → Type 0) (old new : ClockStates) : Type 0 where
   pub states : (i : ℕ) → (touched i → ⊥) → rank (clock_at clocks i) ≤ level → slice_get new.states.items i ≡ slice_get old.states.items i
   pub times : (i : ℕ) → (touched i → ⊥) → rank (clock_at clocks i) ≤ level → slice_get new.times.items i ≡ slice_get old.times.items i
-  pub held : (i : ℕ) → (touched i → ⊥) → rank (clock_at clocks i) ≤ level → part_at new.runs.held.items i ≡ part_at old.runs.held.items i
+  pub held : (i : ℕ) → (touched i → ⊥) → rank (clock_at clocks i) ≤ level → part_at new.room.held.items i ≡ part_at old.room.held.items i
   pub rests : (i : ℕ) → (touched i → ⊥) → rank (clock_at clocks i) ≤ level → rest_at new i ≡ rest_at old i
   -- and each node its lanes
   pub laned : (i : ℕ) → laned_at old i → laned_at new i
@@ -147,28 +147,28 @@ pub record GoesOnFor (setting : Setting) (sub : ℕ → ℕ → List Slot) (cloc
   pub asks : AllAsk setting sub clock past filled states (length setting.clocks) rest
 
 -- so many instants of the sub-clock of crossfade k go on as its latest one did, at which the child gave
-pub record IsOpen (setting : Setting) (sub : ℕ → ℕ → List Slot) (k rest : ℕ) (ran : NodeClock → ℕ) (filled : ℕ → ℕ) (lanes : ClockStates) : Type 0 where
+pub record IsOpen (setting : Setting) (sub : ℕ → ℕ → List Slot) (k rest : ℕ) (ran : NodeClock → ℕ) (filled : ℕ → ℕ) (all : ClockStates) : Type 0 where
   pub n : ℕ
   pub at : ran (Sub k) ≡ suc n
   pub gave : gives (moment_after setting sub (Sub k) (first_instants setting sub (Sub k) n)) (crossfaded setting.plan.nodes k) ≡ true
-  pub goes : GoesOnFor setting sub (Sub k) (first_instants setting sub (Sub k) n) rest filled lanes.runs.held.items lanes.states.items
+  pub goes : GoesOnFor setting sub (Sub k) (first_instants setting sub (Sub k) n) rest filled all.room.held.items all.states.items
 
 -- the readers have taken these answers; in clocks of this rank and deeper ones the states stand for the instants that the clocks have
 -- made, each crossfade was filled what its sub-clock made, and the sub-clock's time is that of its next instant; and clocks deeper than
 -- this ran as needed; and their nodes have lanes. `filled i` is also how many instants reader i has begun. Of states in lower clocks nothing
 -- is said: such may be idle
 pub record Stand (setting : Setting) (sub : ℕ → ℕ → List Slot) (rank : NodeClock → ℕ) (level : ℕ) (ran : NodeClock → ℕ) (filled : ℕ → ℕ)
-    (front : ℕ → List Answer) (lanes : ClockStates) : Type 0 where
-  pub stand : (i : ℕ) (node : Node) (state : NodeState) → slice_get setting.plan.nodes i ≡ Some node → slice_get lanes.states.items i ≡ Some state
+    (front : ℕ → List Answer) (all : ClockStates) : Type 0 where
+  pub stand : (i : ℕ) (node : Node) (state : NodeState) → slice_get setting.plan.nodes i ≡ Some node → slice_get all.states.items i ≡ Some state
       → level ≤ rank (clock_of setting i) → StateStands setting sub (past_of setting sub ran i) (filled i) i (work_at setting i node) state
   pub taken : (i buffer : ℕ) (node : Node) → slice_get setting.plan.nodes i ≡ Some node → work_at setting i node ≡ Reads buffer
       → (reading_by setting i buffer (past_of setting sub ran i) (filled i)).taken ≡ length (front buffer)
   pub even : (k : ℕ) → fade_at setting k ≡ true → level ≤ rank (clock_of setting k) → filled k ≡ ran (Sub k)
-  pub time : (k : ℕ) (time : WeekTime) → level ≤ rank (clock_of setting k) → slice_get lanes.times.items k ≡ Some time
+  pub time : (k : ℕ) (time : WeekTime) → level ≤ rank (clock_of setting k) → slice_get all.times.items k ≡ Some time
       → TimeStands setting.start (ran (Sub k)) time
   pub needed : RanAsNeeded setting sub rank (suc level) ran filled
-  pub kept : (k : ℕ) → k < length setting.plan.nodes → level ≤ rank (clock_of setting k) → 0 < rest_at lanes k → IsOpen setting sub k (rest_at lanes k) ran filled lanes
-  pub laned : (i : ℕ) → i < length setting.plan.nodes → level ≤ rank (clock_of setting i) → laned_at lanes i
+  pub kept : (k : ℕ) → k < length setting.plan.nodes → level ≤ rank (clock_of setting k) → 0 < rest_at all k → IsOpen setting sub k (rest_at all k) ran filled all
+  pub laned : (i : ℕ) → i < length setting.plan.nodes → level ≤ rank (clock_of setting i) → laned_at all i
 
 -- the item of node k is settled, if it is a crossfade, by no more slots than it takes
 pub record HasItem (setting : Setting) (sub : ℕ → ℕ → List Slot) (ran : NodeClock → ℕ) (filled : ℕ → ℕ) (k : ℕ) (node : Node) : Type 0 where
@@ -177,10 +177,10 @@ pub record HasItem (setting : Setting) (sub : ℕ → ℕ → List Slot) (ran : 
 
 -- some nodes were filled, by these calls, and some of these have their items; no clock of this rank or a lower one has made an instant
 pub record IsReached (setting : Setting) (sub : ℕ → ℕ → List Slot) (rank : NodeClock → ℕ) (level : ℕ) (touched done : ℕ → Type 0)
-    (ran : NodeClock → ℕ) (filled : ℕ → ℕ) (front : ℕ → List Answer) (more : List Call) (lanes : ClockStates) : Type 0 where
+    (ran : NodeClock → ℕ) (filled : ℕ → ℕ) (front : ℕ → List Answer) (more : List Call) (all : ClockStates) : Type 0 where
   pub ran_now : NodeClock → ℕ
   pub filled_now : ℕ → ℕ
-  pub stand : Stand setting sub rank level ran_now filled_now (after_calls front more) lanes
+  pub stand : Stand setting sub rank level ran_now filled_now (after_calls front more) all
   pub others : (clock : NodeClock) → rank clock ≤ level → ran_now clock ≡ ran clock
   pub held : (i : ℕ) → (touched i → ⊥) → rank (clock_of setting i) ≤ level → filled_now i ≡ filled i
   -- but for crossfades no node was filled, and no reader has begun an instant
@@ -193,8 +193,8 @@ calls_below setting sub k m = calls_of setting sub (Sub k) (first_instants setti
 
 -- node k was filled some slots, by the calls of the instants that its sub-clock made for it
 pub record IsFilling (setting : Setting) (sub : ℕ → ℕ → List Slot) (rank : NodeClock → ℕ) (level k : ℕ) (done : ℕ → Type 0)
-    (ran : NodeClock → ℕ) (filled : ℕ → ℕ) (front : ℕ → List Answer) (more : List Call) (lanes : ClockStates) : Type 0 where
-  pub reached : IsReached setting sub rank level (is_node k) done ran filled front more lanes
+    (ran : NodeClock → ℕ) (filled : ℕ → ℕ) (front : ℕ → List Answer) (more : List Call) (all : ClockStates) : Type 0 where
+  pub reached : IsReached setting sub rank level (is_node k) done ran filled front more all
   pub low : filled k ≤ reached.filled_now k
   pub calls : more ≡ joined_between (calls_below setting sub k) (filled k) (reached.filled_now k)
 
@@ -206,17 +206,17 @@ calls_upto setting sub clock past n =
 -- a clock has made one instant more, by its calls, and no other clock of its rank or a lower one has; below it no clock has made more
 -- than its crossfade asks for
 pub record HasMadeInstant (setting : Setting) (sub : ℕ → ℕ → List Slot) (rank : NodeClock → ℕ) (clock : NodeClock) (ran : NodeClock → ℕ) (filled : ℕ → ℕ)
-    (front : ℕ → List Answer) (more : List Call) (lanes : ClockStates) : Type 0 where
+    (front : ℕ → List Answer) (more : List Call) (all : ClockStates) : Type 0 where
   pub ran_now : NodeClock → ℕ
   pub filled_now : ℕ → ℕ
-  pub stand : Stand setting sub rank (rank clock) ran_now filled_now (after_calls front more) lanes
+  pub stand : Stand setting sub rank (rank clock) ran_now filled_now (after_calls front more) all
   pub once : ran_now clock ≡ suc (ran clock)
   pub others : (other : NodeClock) → (other ≡ clock → ⊥) → rank other ≤ rank clock → ran_now other ≡ ran other
   pub held : (i : ℕ) → (clock_of setting i ≡ clock → ⊥) → rank (clock_of setting i) ≤ rank clock → filled_now i ≡ filled i
   pub needed : RanAsNeeded setting sub rank (rank clock) ran_now filled_now
   pub calls : more ≡ calls_of setting sub clock (first_instants setting sub clock (ran clock))
-  pub parts : lanes.latest.parts.items ≡ (moment_after setting sub clock (first_instants setting sub clock (ran clock))).parts
-  pub keeps : IsHeld setting sub clock (first_instants setting sub clock (ran clock)) lanes.runs.held.items
+  pub parts : all.latest.parts.items ≡ (moment_after setting sub clock (first_instants setting sub clock (ran clock))).parts
+  pub keeps : IsHeld setting sub clock (first_instants setting sub clock (ran clock)) all.room.held.items
 
 -- what holds of a setting, whatever its answers are
 pub record IsWorld (setting : Setting) (sub : ℕ → ℕ → List Slot) (rank : NodeClock → ℕ) (own : List Bool) : Type 0 where
@@ -226,7 +226,7 @@ pub record IsWorld (setting : Setting) (sub : ℕ → ℕ → List Slot) (rank :
   pub readers : HasOwnReaders setting
   pub roots : AreOwnRoots setting own
 
--- a clock's instant was made, by these calls: whatever instants the lanes stood for, and whatever answers come behind those of the calls
+-- a clock's instant was made, by these calls: whatever instants the states stood for, and whatever answers come behind those of the calls
 pub record InstantMade {T : Type 0} (stands : T → List Call → Type 0) (plan : Plan) (library : Sounds) (clocks : List NodeClock) (own : List Bool)
     (clock : NodeClock) (time : WeekTime) (old new : ClockStates) (taps_old taps_new : T) : Type 0 where
   pub more : List Call
@@ -260,8 +260,8 @@ InstantStoppedOver stands shape own clock time old taps_old taps_new = InstantSt
 
 -- the readers of a clock have begun, if its instant begins a tick
 pub record Opened (setting : Setting) (sub : ℕ → ℕ → List Slot) (rank : NodeClock → ℕ) (clock : NodeClock) (ran : NodeClock → ℕ) (filled : ℕ → ℕ)
-    (front : ℕ → List Answer) (more : List Call) (lanes : ClockStates) : Type 0 where
-  pub stand : Stand setting sub rank (rank clock) ran (begun_in setting clock filled) (after_calls front more) lanes
+    (front : ℕ → List Answer) (more : List Call) (all : ClockStates) : Type 0 where
+  pub stand : Stand setting sub rank (rank clock) ran (begun_in setting clock filled) (after_calls front more) all
   pub calls : more ≡ takes_at setting clock (first_instants setting sub clock (ran clock))
 
 pub record ClockOpened {T : Type 0} (stands : T → List Call → Type 0) (plan : Plan) (library : Sounds) (clocks : List NodeClock)
@@ -334,8 +334,8 @@ NodeStoppedOver stands shape own k old taps_old taps_new = NodeStopped stands sh
 
 -- the crossfades of a clock below a node have their items, by the calls of the instants that their sub-clocks made for them
 pub record AreFilled (setting : Setting) (sub : ℕ → ℕ → List Slot) (rank : NodeClock → ℕ) (clock : NodeClock) (below : ℕ) (ran : NodeClock → ℕ) (filled : ℕ → ℕ)
-    (front : ℕ → List Answer) (more : List Call) (lanes : ClockStates) : Type 0 where
-  pub reached : IsReached setting sub rank (rank clock) (is_upto setting.clocks clock below) (is_upto setting.clocks clock below) ran filled front more lanes
+    (front : ℕ → List Answer) (more : List Call) (all : ClockStates) : Type 0 where
+  pub reached : IsReached setting sub rank (rank clock) (is_upto setting.clocks clock below) (is_upto setting.clocks clock below) ran filled front more all
   pub calls : more ≡ calls_upto setting sub clock (first_instants setting sub clock (ran clock)) below
 
 -- before the crossfades of a clock are settled: they have the items that the instants before took, and the readers have begun

@@ -1,10 +1,10 @@
 // What changes from instant to instant.
-use clock_instants::{ClockNodes, Latest, Runs};
+use clock_instants::{ClockNodes, Latest, StretchRoom};
 use node_states::{Desk, NodeState, WeekTime};
 
 /// What changes from instant to instant in a clock and in the sub-clocks below it: for each node of the plan its state, and
 /// the time of the next instant of its sub-clock, where it is a crossfade; the latest instant of any of the clocks; room for
-/// the children of a node; and for runs the samples of the latest one, and what is kept of the latest instants of all clocks.
+/// the children of a node; and for stretches the samples of the latest one, and what is kept of the latest instants of all clocks.
 /// With the nodes of each clock, which stay.
 #[derive(Drop)]
 pub struct ClockStates {
@@ -13,5 +13,5 @@ pub struct ClockStates {
     pub latest: Latest,
     pub nodes: ClockNodes,
     pub desk: Desk,
-    pub runs: Runs,
+    pub room: StretchRoom,
 }

@@ -3,7 +3,7 @@ ghost use Rattle.std.specs.Prelude.{◌≡◌, ◌<◌, ℕ, length, slice_index
 ghost use Rattle.clock_infer.specs.declared.clock_map.NodeClock.{NodeClock as Clock};
 ghost use Rattle.clock_infer.specs.declared.clock_map.NodeClock.TheVariants.{Main as InMain};
 ghost use Rattle.clock_instants.specs.Takes.{HasReader, ReadersAreIn};
-ghost use Rattle.nested_instants.specs.Clocks.{AllSettledOver, AreClockLanesOver, AreLeft, HasLevels, HasRanks, InstantMadeOver, InstantStoppedOver, IsIdle, NodeSettledOver, NodeStoppedOver, SettlingStoppedOver, is_in, is_node};
+ghost use Rattle.nested_instants.specs.Clocks.{AllSettledOver, AreClockStatesOver, AreLeft, HasLevels, HasRanks, InstantMadeOver, InstantStoppedOver, IsIdle, NodeSettledOver, NodeStoppedOver, SettlingStoppedOver, is_in, is_node};
 ghost use Rattle.clock_instants.specs.Shapes.{IsShape};
 
 use crate::ClockStates;
@@ -19,13 +19,13 @@ use node_states::WeekTime;
 
 /// Makes one instant of a clock at a time: where it begins a tick its readers take, and then its crossfades run their
 /// sub-clocks until their items are settled, and no instant more. `own` tells of each node whether its own clock demands it
-/// of itself, and `levels` bounds how deep sub-clocks nest below the clock. Whatever instants the lanes stood for, they stand
+/// of itself, and `levels` bounds how deep sub-clocks nest below the clock. Whatever instants the states stood for, they stand
 /// for one more of this clock. Where memory is refused some of the calls of the instant were made, from the first on.
 #[cycle(clocks)]
 pub fn make_instant<T: Taps>(
     shape: &Shape<'_>,
     own: &[bool],
-    lanes: &mut ClockStates,
+    clocks: &mut ClockStates,
     clock: NodeClock,
     time: WeekTime,
     levels: usize,
@@ -33,24 +33,24 @@ pub fn make_instant<T: Taps>(
 ) -> Result<(), Memory>
     requires shape { IsShape shape.now }
     requires in_own { length own.now ≡ length shape.now.plan.now.nodes }
-    requires lanes { AreClockLanesOver shape.now lanes.old }
+    requires clocks { AreClockStatesOver shape.now clocks.old }
     requires levels { HasLevels shape.now.clocks.now clock levels }
-    requires idle { IsIdle clock lanes.old }
+    requires idle { IsIdle clock clocks.old }
     requires rate { time.rate ≡ shape.now.plan.now.rate }
     requires frame { time.frame ≡ shape.now.plan.now.frame }
     requires readers { ReadersAreIn shape.now.plan.now (T.buffers taps.old) }
-    ensures lanes { AreClockLanesOver shape.now lanes.new }
+    ensures clocks { AreClockStatesOver shape.now clocks.new }
     ensures buffers { T.buffers taps.new ≡ T.buffers taps.old }
     ensures same { T.same taps.old taps.new }
     ensures left { OnOk result ((rank : Clock → ℕ) → HasRanks shape.now.clocks.now rank
-        → AreLeft shape.now.clocks.now rank (rank clock) (is_in shape.now.clocks.now clock) lanes.old lanes.new) }
-    ensures made { OnOk result (InstantMadeOver T.stands shape.now own.now clock time lanes.old lanes.new taps.old taps.new) }
-    ensures stopped { OnErr result (InstantStoppedOver T.stands shape.now own.now clock time lanes.old taps.old taps.new) }
+        → AreLeft shape.now.clocks.now rank (rank clock) (is_in shape.now.clocks.now clock) clocks.old clocks.new) }
+    ensures made { OnOk result (InstantMadeOver T.stands shape.now own.now clock time clocks.old clocks.new taps.old taps.new) }
+    ensures stopped { OnErr result (InstantStoppedOver T.stands shape.now own.now clock time clocks.old taps.old taps.new) }
     ensures reads { OnErr result (HasReader shape.now.plan.now shape.now.clocks.now clock) }
 {
-    begin_clock(shape, lanes, clock, time, taps)?;
-    settle_all(shape, own, lanes, clock, levels, taps)?;
-    finish(shape, own, lanes, clock, time.second);
+    begin_clock(shape, clocks, clock, time, taps)?;
+    settle_all(shape, own, clocks, clock, levels, taps)?;
+    finish(shape, own, clocks, clock, time.second);
     Ok(())
 }
 
@@ -59,33 +59,41 @@ pub fn make_instant<T: Taps>(
 fn settle<T: Taps>(
     shape: &Shape<'_>,
     own: &[bool],
-    lanes: &mut ClockStates,
+    clocks: &mut ClockStates,
     k: u32,
     levels: usize,
     taps: &mut T,
 ) -> Result<(), Memory>
     requires shape { IsShape shape.now }
     requires in_own { length own.now ≡ length shape.now.plan.now.nodes }
-    requires lanes { AreClockLanesOver shape.now lanes.old }
+    requires clocks { AreClockStatesOver shape.now clocks.old }
     requires levels { HasLevels shape.now.clocks.now (slice_index_or shape.now.clocks.now k (InMain 0)) levels }
-    requires idle { IsIdle (slice_index_or shape.now.clocks.now k (InMain 0)) lanes.old }
+    requires idle { IsIdle (slice_index_or shape.now.clocks.now k (InMain 0)) clocks.old }
     requires within { k < length shape.now.plan.now.nodes }
     requires readers { ReadersAreIn shape.now.plan.now (T.buffers taps.old) }
-    ensures lanes { AreClockLanesOver shape.now lanes.new }
+    ensures clocks { AreClockStatesOver shape.now clocks.new }
     ensures buffers { T.buffers taps.new ≡ T.buffers taps.old }
     ensures same { T.same taps.old taps.new }
     ensures left { OnOk result ((rank : Clock → ℕ) → HasRanks shape.now.clocks.now rank
-        → AreLeft shape.now.clocks.now rank (rank (slice_index_or shape.now.clocks.now k (InMain 0))) (is_node k) lanes.old lanes.new) }
-    ensures settled { OnOk result (NodeSettledOver T.stands shape.now own.now k lanes.old lanes.new taps.old taps.new) }
-    ensures stopped { OnErr result (NodeStoppedOver T.stands shape.now own.now k lanes.old taps.old taps.new) }
+        → AreLeft shape.now.clocks.now rank (rank (slice_index_or shape.now.clocks.now k (InMain 0))) (is_node k) clocks.old clocks.new) }
+    ensures settled { OnOk result (NodeSettledOver T.stands shape.now own.now k clocks.old clocks.new taps.old taps.new) }
+    ensures stopped { OnErr result (NodeStoppedOver T.stands shape.now own.now k clocks.old taps.old taps.new) }
     ensures reads { OnErr result (HasReader shape.now.plan.now shape.now.clocks.now (slice_index_or shape.now.clocks.now k (InMain 0))) }
 {
-    while lanes.states[k as usize].wants() {
-        let time = lanes.times[k as usize];
-        keep(shape, lanes, k, 0);
-        make_instant(shape, own, lanes, NodeClock::Sub(k), time, levels - 1, taps)?;
-        fill_child(shape, lanes, k);
-        fill_on(shape, lanes, k, time, levels);
+    while clocks.states[k as usize].wants() {
+        let time = clocks.times[k as usize];
+        keep(shape, clocks, k, 0);
+        make_instant(
+            shape,
+            own,
+            clocks,
+            NodeClock::Sub(k),
+            time,
+            levels - 1,
+            taps,
+        )?;
+        fill_child(shape, clocks, k);
+        fill_on(shape, clocks, k, time, levels);
     }
     Ok(())
 }
@@ -95,30 +103,30 @@ fn settle<T: Taps>(
 fn settle_all<T: Taps>(
     shape: &Shape<'_>,
     own: &[bool],
-    lanes: &mut ClockStates,
+    clocks: &mut ClockStates,
     clock: NodeClock,
     levels: usize,
     taps: &mut T,
 ) -> Result<(), Memory>
     requires shape { IsShape shape.now }
     requires in_own { length own.now ≡ length shape.now.plan.now.nodes }
-    requires lanes { AreClockLanesOver shape.now lanes.old }
+    requires clocks { AreClockStatesOver shape.now clocks.old }
     requires levels { HasLevels shape.now.clocks.now clock levels }
-    requires idle { IsIdle clock lanes.old }
+    requires idle { IsIdle clock clocks.old }
     requires readers { ReadersAreIn shape.now.plan.now (T.buffers taps.old) }
-    ensures lanes { AreClockLanesOver shape.now lanes.new }
+    ensures clocks { AreClockStatesOver shape.now clocks.new }
     ensures buffers { T.buffers taps.new ≡ T.buffers taps.old }
     ensures same { T.same taps.old taps.new }
     ensures left { OnOk result ((rank : Clock → ℕ) → HasRanks shape.now.clocks.now rank
-        → AreLeft shape.now.clocks.now rank (rank clock) (is_in shape.now.clocks.now clock) lanes.old lanes.new) }
-    ensures settled { OnOk result (AllSettledOver T.stands shape.now own.now clock (length shape.now.plan.now.nodes) lanes.old lanes.new taps.old taps.new) }
-    ensures stopped { OnErr result (SettlingStoppedOver T.stands shape.now own.now clock lanes.old taps.old taps.new) }
+        → AreLeft shape.now.clocks.now rank (rank clock) (is_in shape.now.clocks.now clock) clocks.old clocks.new) }
+    ensures settled { OnOk result (AllSettledOver T.stands shape.now own.now clock (length shape.now.plan.now.nodes) clocks.old clocks.new taps.old taps.new) }
+    ensures stopped { OnErr result (SettlingStoppedOver T.stands shape.now own.now clock clocks.old taps.old taps.new) }
     ensures reads { OnErr result (HasReader shape.now.plan.now shape.now.clocks.now clock) }
 {
-    let mut i = lanes.nodes.first(clock);
+    let mut i = clocks.nodes.first(clock);
     while i < shape.clocks.len() {
-        settle(shape, own, lanes, i as u32, levels, taps)?;
-        i = lanes.nodes.after(i);
+        settle(shape, own, clocks, i as u32, levels, taps)?;
+        i = clocks.nodes.after(i);
     }
     Ok(())
 }

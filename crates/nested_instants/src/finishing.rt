@@ -2,7 +2,7 @@
 ghost use Rattle.std.specs.Prelude.{◌≡◌, ℕ, false, length, slice_get, slice_index_or};
 ghost use Rattle.clock_infer.specs.declared.clock_map.NodeClock.TheVariants.{Main as InMain};
 ghost use Rattle.stream_meaning.specs.Instants.{part_at, same_clock};
-ghost use Rattle.nested_instants.specs.Clocks.{AreClockLanesOver, IsIdle};
+ghost use Rattle.nested_instants.specs.Clocks.{AreClockStatesOver, IsIdle};
 ghost use Rattle.clock_instants.specs.Finishing.{InstantFinished};
 ghost use Rattle.clock_instants.specs.Shapes.{IsShape};
 
@@ -15,33 +15,33 @@ use fixed_text::WeekSecond;
 pub fn finish(
     shape: &Shape<'_>,
     own: &[bool],
-    lanes: &mut ClockStates,
+    clocks: &mut ClockStates,
     clock: NodeClock,
     at: WeekSecond,
 )
     requires shape { IsShape shape.now }
     requires in_own { length own.now ≡ length shape.now.plan.now.nodes }
-    requires lanes { AreClockLanesOver shape.now lanes.old }
-    requires idle { IsIdle clock lanes.old }
-    ensures lanes { AreClockLanesOver shape.now lanes.new }
+    requires clocks { AreClockStatesOver shape.now clocks.old }
+    requires idle { IsIdle clock clocks.old }
+    ensures clocks { AreClockStatesOver shape.now clocks.new }
     ensures kept { (i : ℕ) → same_clock (slice_index_or shape.now.clocks.now i (InMain 0)) clock ≡ false
-        → part_at lanes.new.runs.held.items i ≡ part_at lanes.old.runs.held.items i }
-    ensures rests { lanes.new.runs.rests ≡ lanes.old.runs.rests }
-    ensures left { lanes.new.runs.left ≡ lanes.old.runs.left }
-    ensures right { lanes.new.runs.right ≡ lanes.old.runs.right }
+        → part_at clocks.new.room.held.items i ≡ part_at clocks.old.room.held.items i }
+    ensures rests { clocks.new.room.rests ≡ clocks.old.room.rests }
+    ensures left { clocks.new.room.left ≡ clocks.old.room.left }
+    ensures right { clocks.new.room.right ≡ clocks.old.room.right }
     ensures others { (i : ℕ) → same_clock (slice_index_or shape.now.clocks.now i (InMain 0)) clock ≡ false
-        → slice_get lanes.new.states.items i ≡ slice_get lanes.old.states.items i }
-    ensures times { lanes.new.times.items ≡ lanes.old.times.items }
-    ensures finished { InstantFinished shape.now own.now clock at.second lanes.old.states.items lanes.new.states.items lanes.new.latest.parts.items lanes.new.runs.held.items }
+        → slice_get clocks.new.states.items i ≡ slice_get clocks.old.states.items i }
+    ensures times { clocks.new.times.items ≡ clocks.old.times.items }
+    ensures finished { InstantFinished shape.now own.now clock at.second clocks.old.states.items clocks.new.states.items clocks.new.latest.parts.items clocks.new.room.held.items }
 {
-    lanes.latest.finish_instant(
+    clocks.latest.finish_instant(
         shape,
-        &lanes.nodes,
+        &clocks.nodes,
         clock,
         at,
         own,
-        &mut lanes.states,
-        &mut lanes.runs.held,
-        &mut lanes.desk,
+        &mut clocks.states,
+        &mut clocks.room.held,
+        &mut clocks.desk,
     );
 }

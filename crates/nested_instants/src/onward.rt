@@ -7,7 +7,7 @@ ghost use Rattle.stream_meaning.specs.Instants.{Setting, Moment, same_clock};
 ghost use Rattle.op_mix.specs.Stretches.{samples_of};
 ghost use Rattle.clock_instants.specs.Held.{AllPassOnOver, gave_at, passes_at};
 ghost use Rattle.clock_instants.specs.Stretches.{AllLieAheadOver, HasGoneOn, IsGoing};
-ghost use Rattle.nested_instants.specs.Clocks.{AreClockLanesOver, AreLeft, HasLevels, HasRanks, IsIdle, is_in, is_node, is_none, laned_at, rest_at};
+ghost use Rattle.nested_instants.specs.Clocks.{AreClockStatesOver, AreLeft, HasLevels, HasRanks, IsIdle, is_in, is_node, is_none, laned_at, rest_at};
 ghost use Rattle.nested_instants.specs.Stretches.{AreAbove, AreSamplesLeft, ClockRunOver, SubClocksRunOver, SubClockRunOver};
 ghost use Rattle.clock_instants.specs.Shapes.{IsShape, setting_over};
 
@@ -21,132 +21,132 @@ use clock_instants::{Shape, run_nodes};
 #[cycle(onward)]
 pub fn run_clock(
     shape: &Shape<'_>,
-    lanes: &mut ClockStates,
+    clocks: &mut ClockStates,
     clock: NodeClock,
     many: u32,
     levels: usize,
 )
     requires shape { IsShape shape.now }
-    requires lanes { AreClockLanesOver shape.now lanes.old }
+    requires clocks { AreClockStatesOver shape.now clocks.old }
     requires levels { HasLevels shape.now.clocks.now clock levels }
-    requires idle { IsIdle clock lanes.old }
+    requires idle { IsIdle clock clocks.old }
     requires some { 0 < many }
     requires short { many ≤ 1024 }
     requires later { many ≤ shape.now.plan.now.rate }
-    requires ahead { AllLieAheadOver shape.now clock lanes.old.runs.held.items lanes.old.states.items many }
-    requires through { AllPassOnOver shape.now clock lanes.old.runs.held.items lanes.old.states.items lanes.old.runs.rests.items many }
-    ensures lanes { AreClockLanesOver shape.now lanes.new }
-    ensures latest { lanes.new.latest ≡ lanes.old.latest }
-    ensures held { lanes.new.runs.held ≡ lanes.old.runs.held }
+    requires ahead { AllLieAheadOver shape.now clock clocks.old.room.held.items clocks.old.states.items many }
+    requires through { AllPassOnOver shape.now clock clocks.old.room.held.items clocks.old.states.items clocks.old.room.rests.items many }
+    ensures clocks { AreClockStatesOver shape.now clocks.new }
+    ensures latest { clocks.new.latest ≡ clocks.old.latest }
+    ensures held { clocks.new.room.held ≡ clocks.old.room.held }
     ensures left { (rank : Clock → ℕ) → HasRanks shape.now.clocks.now rank
-        → AreLeft shape.now.clocks.now rank (rank clock) (is_in shape.now.clocks.now clock) lanes.old lanes.new }
+        → AreLeft shape.now.clocks.now rank (rank clock) (is_in shape.now.clocks.now clock) clocks.old clocks.new }
     ensures samples { (rank : Clock → ℕ) → HasRanks shape.now.clocks.now rank
-        → AreSamplesLeft shape.now.clocks.now rank (rank clock) (is_in shape.now.clocks.now clock) many lanes.old lanes.new }
-    ensures run { ClockRunOver shape.now clock many lanes.old lanes.new }
+        → AreSamplesLeft shape.now.clocks.now rank (rank clock) (is_in shape.now.clocks.now clock) many clocks.old clocks.new }
+    ensures run { ClockRunOver shape.now clock many clocks.old clocks.new }
 {
-    run_subs(shape, lanes, clock, many, levels);
-    run_own(shape, lanes, clock, many);
+    run_subs(shape, clocks, clock, many, levels);
+    run_own(shape, clocks, clock, many);
 }
 
 // Makes those of the sub-clocks of its crossfades through which cells pass.
 #[cycle(onward)]
-fn run_subs(shape: &Shape<'_>, lanes: &mut ClockStates, clock: NodeClock, many: u32, levels: usize)
+fn run_subs(shape: &Shape<'_>, clocks: &mut ClockStates, clock: NodeClock, many: u32, levels: usize)
     requires shape { IsShape shape.now }
-    requires lanes { AreClockLanesOver shape.now lanes.old }
+    requires clocks { AreClockStatesOver shape.now clocks.old }
     requires levels { HasLevels shape.now.clocks.now clock levels }
-    requires idle { IsIdle clock lanes.old }
+    requires idle { IsIdle clock clocks.old }
     requires some { 0 < many }
     requires short { many ≤ 1024 }
     requires later { many ≤ shape.now.plan.now.rate }
-    requires through { AllPassOnOver shape.now clock lanes.old.runs.held.items lanes.old.states.items lanes.old.runs.rests.items many }
-    ensures lanes { AreClockLanesOver shape.now lanes.new }
-    ensures latest { lanes.new.latest ≡ lanes.old.latest }
-    ensures held { lanes.new.runs.held ≡ lanes.old.runs.held }
+    requires through { AllPassOnOver shape.now clock clocks.old.room.held.items clocks.old.states.items clocks.old.room.rests.items many }
+    ensures clocks { AreClockStatesOver shape.now clocks.new }
+    ensures latest { clocks.new.latest ≡ clocks.old.latest }
+    ensures held { clocks.new.room.held ≡ clocks.old.room.held }
     ensures above { (rank : Clock → ℕ) → HasRanks shape.now.clocks.now rank
-        → AreAbove shape.now.clocks.now rank (rank clock) (is_in shape.now.clocks.now clock) lanes.old lanes.new }
+        → AreAbove shape.now.clocks.now rank (rank clock) (is_in shape.now.clocks.now clock) clocks.old clocks.new }
     ensures samples { (rank : Clock → ℕ) → HasRanks shape.now.clocks.now rank
-        → AreSamplesLeft shape.now.clocks.now rank (rank clock) is_none many lanes.old lanes.new }
-    ensures run { SubClocksRunOver shape.now clock many (length shape.now.plan.now.nodes) lanes.old lanes.new }
+        → AreSamplesLeft shape.now.clocks.now rank (rank clock) is_none many clocks.old clocks.new }
+    ensures run { SubClocksRunOver shape.now clock many (length shape.now.plan.now.nodes) clocks.old clocks.new }
 {
-    let mut i = lanes.nodes.first(clock);
+    let mut i = clocks.nodes.first(clock);
     while i < shape.clocks.len() {
-        run_sub(shape, lanes, i as u32, many, levels);
-        i = lanes.nodes.after(i);
+        run_sub(shape, clocks, i as u32, many, levels);
+        i = clocks.nodes.after(i);
     }
 }
 
 // Makes those of the sub-clock of node i, if it is such a crossfade, and takes the sub-clock's time on.
 #[cycle(onward)]
-fn run_sub(shape: &Shape<'_>, lanes: &mut ClockStates, i: u32, many: u32, levels: usize)
+fn run_sub(shape: &Shape<'_>, clocks: &mut ClockStates, i: u32, many: u32, levels: usize)
     requires shape { IsShape shape.now }
-    requires lanes { AreClockLanesOver shape.now lanes.old }
+    requires clocks { AreClockStatesOver shape.now clocks.old }
     requires within { i < length shape.now.plan.now.nodes }
     requires levels { HasLevels shape.now.clocks.now (slice_index_or shape.now.clocks.now i (InMain 0)) levels }
-    requires idle { IsIdle (slice_index_or shape.now.clocks.now i (InMain 0)) lanes.old }
+    requires idle { IsIdle (slice_index_or shape.now.clocks.now i (InMain 0)) clocks.old }
     requires some { 0 < many }
     requires short { many ≤ 1024 }
     requires later { many ≤ shape.now.plan.now.rate }
-    requires through { (gave_at lanes.old.runs.held.items i && passes_at lanes.old.states.items i) ≡ true → many ≤ rest_at lanes.old i }
-    ensures lanes { AreClockLanesOver shape.now lanes.new }
-    ensures latest { lanes.new.latest ≡ lanes.old.latest }
-    ensures held { lanes.new.runs.held ≡ lanes.old.runs.held }
+    requires through { (gave_at clocks.old.room.held.items i && passes_at clocks.old.states.items i) ≡ true → many ≤ rest_at clocks.old i }
+    ensures clocks { AreClockStatesOver shape.now clocks.new }
+    ensures latest { clocks.new.latest ≡ clocks.old.latest }
+    ensures held { clocks.new.room.held ≡ clocks.old.room.held }
     ensures above { (rank : Clock → ℕ) → HasRanks shape.now.clocks.now rank
-        → AreAbove shape.now.clocks.now rank (rank (slice_index_or shape.now.clocks.now i (InMain 0))) (is_node i) lanes.old lanes.new }
+        → AreAbove shape.now.clocks.now rank (rank (slice_index_or shape.now.clocks.now i (InMain 0))) (is_node i) clocks.old clocks.new }
     ensures samples { (rank : Clock → ℕ) → HasRanks shape.now.clocks.now rank
-        → AreSamplesLeft shape.now.clocks.now rank (rank (InSub i)) (is_in shape.now.clocks.now (InSub i)) many lanes.old lanes.new }
-    ensures run { SubClockRunOver shape.now i many lanes.old lanes.new }
+        → AreSamplesLeft shape.now.clocks.now rank (rank (InSub i)) (is_in shape.now.clocks.now (InSub i)) many clocks.old clocks.new }
+    ensures run { SubClockRunOver shape.now i many clocks.old clocks.new }
 {
-    if !passes_on(lanes, i) {
+    if !passes_on(clocks, i) {
         return;
     }
-    keep(shape, lanes, i, 0);
-    run_clock(shape, lanes, NodeClock::Sub(i), many, levels - 1);
-    take_on(shape, lanes, i, many);
+    keep(shape, clocks, i, 0);
+    run_clock(shape, clocks, NodeClock::Sub(i), many, levels - 1);
+    take_on(shape, clocks, i, many);
 }
 
 // Whether node i gave at the latest instant of its clock, and cells pass through it.
-fn passes_on(lanes: &ClockStates, i: u32) -> bool
-    requires in_held { i < length lanes.now.runs.held.items }
-    requires in_states { i < length lanes.now.states.items }
-    ensures { result ≡ (gave_at lanes.now.runs.held.items i && passes_at lanes.now.states.items i) }
+fn passes_on(clocks: &ClockStates, i: u32) -> bool
+    requires in_held { i < length clocks.now.room.held.items }
+    requires in_states { i < length clocks.now.states.items }
+    ensures { result ≡ (gave_at clocks.now.room.held.items i && passes_at clocks.now.states.items i) }
 {
     let at = i as usize;
-    let gave = lanes.runs.held[at].slot.is_some();
-    let through = lanes.states[at].passes();
+    let gave = clocks.room.held[at].slot.is_some();
+    let through = clocks.states[at].passes();
     gave && through
 }
 
 // Makes what a clock's own nodes do at these instants.
-fn run_own(shape: &Shape<'_>, lanes: &mut ClockStates, clock: NodeClock, many: u32)
+fn run_own(shape: &Shape<'_>, clocks: &mut ClockStates, clock: NodeClock, many: u32)
     requires shape { IsShape shape.now }
-    requires lanes { AreClockLanesOver shape.now lanes.old }
-    requires idle { IsIdle clock lanes.old }
+    requires clocks { AreClockStatesOver shape.now clocks.old }
+    requires idle { IsIdle clock clocks.old }
     requires some { 0 < many }
     requires short { many ≤ 1024 }
-    requires ahead { AllLieAheadOver shape.now clock lanes.old.runs.held.items lanes.old.states.items many }
-    ensures lanes { AreClockLanesOver shape.now lanes.new }
-    ensures latest { lanes.new.latest ≡ lanes.old.latest }
-    ensures times { lanes.new.times ≡ lanes.old.times }
-    ensures held { lanes.new.runs.held ≡ lanes.old.runs.held }
-    ensures rests { lanes.new.runs.rests ≡ lanes.old.runs.rests }
+    requires ahead { AllLieAheadOver shape.now clock clocks.old.room.held.items clocks.old.states.items many }
+    ensures clocks { AreClockStatesOver shape.now clocks.new }
+    ensures latest { clocks.new.latest ≡ clocks.old.latest }
+    ensures times { clocks.new.times ≡ clocks.old.times }
+    ensures held { clocks.new.room.held ≡ clocks.old.room.held }
+    ensures rests { clocks.new.room.rests ≡ clocks.old.room.rests }
     ensures others { (i : ℕ) → same_clock (slice_index_or shape.now.clocks.now i (InMain 0)) clock ≡ false
-        → slice_get lanes.new.states.items i ≡ slice_get lanes.old.states.items i }
+        → slice_get clocks.new.states.items i ≡ slice_get clocks.old.states.items i }
     ensures left { (i : ℕ) → same_clock (slice_index_or shape.now.clocks.now i (InMain 0)) clock ≡ false
-        → samples_of lanes.new.runs.left.items i many ≡ samples_of lanes.old.runs.left.items i many }
+        → samples_of clocks.new.room.left.items i many ≡ samples_of clocks.old.room.left.items i many }
     ensures right { (i : ℕ) → same_clock (slice_index_or shape.now.clocks.now i (InMain 0)) clock ≡ false
-        → samples_of lanes.new.runs.right.items i many ≡ samples_of lanes.old.runs.right.items i many }
-    ensures laned { (i : ℕ) → laned_at lanes.old i → laned_at lanes.new i }
+        → samples_of clocks.new.room.right.items i many ≡ samples_of clocks.old.room.right.items i many }
+    ensures laned { (i : ℕ) → laned_at clocks.old i → laned_at clocks.new i }
     ensures run { (other : Setting) (sub : ℕ → ℕ → List TheSlot) (past : List Moment) (filled : ℕ → ℕ) →
         let setting = setting_over shape.now other in
-        IsGoing setting sub clock past many filled lanes.old.runs.held.items lanes.old.states.items lanes.old.runs.left.items lanes.old.runs.right.items
-        → HasGoneOn setting sub clock past many filled lanes.old.states.items lanes.new.runs.left.items lanes.new.runs.right.items lanes.new.states.items }
+        IsGoing setting sub clock past many filled clocks.old.room.held.items clocks.old.states.items clocks.old.room.left.items clocks.old.room.right.items
+        → HasGoneOn setting sub clock past many filled clocks.old.states.items clocks.new.room.left.items clocks.new.room.right.items clocks.new.states.items }
 {
     run_nodes(
         shape,
-        &lanes.nodes,
+        &clocks.nodes,
         clock,
-        &mut lanes.states,
-        &mut lanes.runs,
+        &mut clocks.states,
+        &mut clocks.room,
         many,
     );
 }

@@ -18,7 +18,7 @@ loop-i-init c =
       fit = c.requires.fit;
       others = λ k outside. refl;
       left = λ k high. refl;
-      done = λ other sub past moment filled long stands settled parts same_parts same_marks.
+      done = λ other sub past moment filled long stands settled parts same_parts same_demands.
           gone_skip (over c.args.shape.now.plan.now c.args.shape.now.library.now c.args.shape.now.clocks.now other) sub c.args.clock past moment filled 0 c.first-i.result c.args.states.now first
           (gone_none (over c.args.shape.now.plan.now c.args.shape.now.library.now c.args.shape.now.clocks.now other) sub c.args.clock past moment filled c.args.states.now);
     }
@@ -46,7 +46,7 @@ loop-i-preserved c =
     let in_nodes : c.loop-i.i < length c.args.shape.now.plan.now.nodes = omega (arith, c.requires.shape.in_clocks, c.loop-i-test.true) in
     let in_states : c.loop-i.i < length c.loop-i.states = omega (arith, c.loop-i.invariant.fit.size, in_nodes) in
     let in_parts : c.loop-i.i < length c.args.parts.now = omega (arith, c.requires.in_parts, in_nodes) in
-    let in_marks : c.loop-i.i < length c.args.marks.now = omega (arith, c.requires.in_marks, in_nodes) in
+    let in_demanded : c.loop-i.i < length c.args.demanded.now = omega (arith, c.requires.in_demanded, in_nodes) in
     let inside = c.loop-i.invariant.own c.loop-i-test.true in
     let after = next_own c.args.shape.now.clocks.now c.args.clock c.loop-i.i c.after-i.result inside (c.after-i.ensures c.args.shape.now.clocks.now c.requires.chains) in
     let found : slice_get c.args.shape.now.plan.now.nodes c.loop-i.i ≡ Some c.index-as_slice-i.result =
@@ -65,24 +65,24 @@ loop-i-preserved c =
           ∙ c.loop-i.invariant.others k outside;
       left = λ k high. slice_get-set_other c.loop-i.states c.loop-i.i k c.next.new.self (λ e. (let low = after.low in omega (arith, high, low, e)))
           ∙ c.loop-i.invariant.left k (let low = after.low in omega (arith, high, low));
-      done = λ other sub past moment filled long stands settled parts same_parts same_marks.
+      done = λ other sub past moment filled long stands settled parts same_parts same_demands.
           gone_skip (over c.args.shape.now.plan.now c.args.shape.now.library.now c.args.shape.now.clocks.now other) sub c.args.clock past moment filled (suc c.loop-i.i) c.after-i.result _ after
           (gone_step (over c.args.shape.now.plan.now c.args.shape.now.library.now c.args.shape.now.clocks.now other) sub c.args.clock past moment filled c.loop-i.i c.loop-i.states c.next.new.self in_states
           (λ node is.
           let one : Some c.index-as_slice-i.result ≡ Some node = sym found ∙ is.there in
           let same : c.index-as_slice-i.result ≡ node = cc in
-          goes_on (over c.args.shape.now.plan.now c.args.shape.now.library.now c.args.shape.now.clocks.now other) sub c.args.clock past moment filled c.loop-i.i node c.args.parts.now c.args.marks.now c.args.states.now
+          goes_on (over c.args.shape.now.plan.now c.args.shape.now.library.now c.args.shape.now.clocks.now other) sub c.args.clock past moment filled c.loop-i.i node c.args.parts.now c.args.demanded.now c.args.states.now
           _ c.next.new.self _ _ c.len-children.result
           (λ slots. c.next.ensures.stands (over c.args.shape.now.plan.now c.args.shape.now.library.now c.args.shape.now.clocks.now other) sub past moment (filled c.loop-i.i) c.loop-i.i
           (work_at (over c.args.shape.now.plan.now c.args.shape.now.library.now c.args.shape.now.clocks.now other) c.loop-i.i node) slots refl long)
           (ap (λ x. length x.children) (sym same) ∙ many)
           (sym (c.loop-i.invariant.left c.loop-i.i (omega arith)) ∙ slice_get-get_or _ _ _ in_states)
-          (get_or_default _ _ silent _ in_parts) (get_or_default _ _ false _ in_marks)
-          stands settled parts same_parts same_marks is)
-          (c.loop-i.invariant.done other sub past moment filled long stands settled parts same_parts same_marks));
+          (get_or_default _ _ silent _ in_parts) (get_or_default _ _ false _ in_demanded)
+          stands settled parts same_parts same_demands is)
+          (c.loop-i.invariant.done other sub past moment filled long stands settled parts same_parts same_demands));
     }
 
 pub returns-clause-stand : goal.returns-clause-stand
-returns-clause-stand c setting sub past moment filled long stands settled parts same_parts same_marks =
+returns-clause-stand c setting sub past moment filled long stands settled parts same_parts same_demands =
     gone_all (over c.args.shape.now.plan.now c.args.shape.now.library.now c.args.shape.now.clocks.now setting) sub c.args.clock past moment filled c.loop-i.i c.loop-i.states (let high = c.loop-i.invariant.high in omega (arith, high, c.requires.shape.in_clocks, c.loop-i-test.false))
-    (c.loop-i.invariant.done setting sub past moment filled long stands settled parts same_parts same_marks)
+    (c.loop-i.invariant.done setting sub past moment filled long stands settled parts same_parts same_demands)

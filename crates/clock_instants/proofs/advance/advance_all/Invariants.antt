@@ -18,7 +18,7 @@ invariant-loop-i l = record {
   done : (other : Setting) (sub : ℕ → ℕ → List Slot) (past : List Moment) (moment : Moment) (filled : ℕ → ℕ) →
       let setting = over l.shape.plan.now l.shape.library.now l.shape.clocks.now other in
       AreLong sub → ClockStands setting sub l.fn.clock past filled l.initial.states → AreSettled setting sub l.fn.clock past filled →
-      l.parts ≡ parts_upto setting sub l.fn.clock past (length l.shape.plan.now.nodes) → moment.parts ≡ l.parts → moment.demands ≡ l.marks →
+      l.parts ≡ parts_upto setting sub l.fn.clock past (length l.shape.plan.now.nodes) → moment.parts ≡ l.parts → moment.demands ≡ l.demanded →
       IsGoneOn setting sub l.fn.clock past moment filled l.i l.states;
 }
 

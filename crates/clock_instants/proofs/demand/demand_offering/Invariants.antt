@@ -5,5 +5,5 @@ use Rattle.clock_instants.proofs.demand.demand_offering.Given as goal
 
 abbrev pub invariant-loop-child : goal.invariant-loop-child
 invariant-loop-child l = (j : ℕ) →
-    (get_or l.marks j false || list_any (nat_eq j) (offering l.parts (drop l.child-index l.children)))
-    ≡ (get_or l.initial.marks j false || list_any (nat_eq j) (offering l.parts l.children))
+    (get_or l.demanded j false || list_any (nat_eq j) (offering l.parts (drop l.child-index l.children)))
+    ≡ (get_or l.initial.demanded j false || list_any (nat_eq j) (offering l.parts l.children))

@@ -12,9 +12,9 @@ abbrev pub invariant-loop-i : goal.invariant-loop-i
 invariant-loop-i l = record {
   within : l.i ≤ length l.all;
   own : (j : ℕ) → l.i ≡ suc j → lies_at l.shape.clocks.now l.fn.clock j ≡ true;
-  others : (j : ℕ) → lies_at l.shape.clocks.now l.fn.clock j ≡ false → get_or l.marks j false ≡ false;
+  others : (j : ℕ) → lies_at l.shape.clocks.now l.fn.clock j ≡ false → get_or l.demanded j false ≡ false;
   marked : (library : Sounds) (clocks : List NodeClock) (setting : Setting) → PicksOffer l.shape.plan.now.nodes l.parts
-      → Marked (over l.shape.plan.now library clocks setting) (λ j. get_or l.initial.marks j false) l.all l.parts l.marks l.i;
+      → Marked (over l.shape.plan.now library clocks setting) (λ j. get_or l.initial.demanded j false) l.all l.parts l.demanded l.i;
 }
 
 abbrev pub decreases-loop-i : goal.decreases-loop-i

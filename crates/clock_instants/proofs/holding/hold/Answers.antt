@@ -12,8 +12,8 @@ loop-i-init c =
     record {
       high = first.high;
       own = first.own;
-      laid = laid_skip c.args.shape.now.clocks.now c.args.clock (λ k. given_by (get_or c.args.marks.now k false) (part_at c.args.parts.now k)) (λ k. part_at c.args.held.now k) c.args.held.now 0 c.first-i.result first
-          (laid_none c.args.shape.now.clocks.now c.args.clock (λ k. given_by (get_or c.args.marks.now k false) (part_at c.args.parts.now k)) (λ k. part_at c.args.held.now k) c.args.held.now (λ k outside. refl));
+      laid = laid_skip c.args.shape.now.clocks.now c.args.clock (λ k. given_by (get_or c.args.demanded.now k false) (part_at c.args.parts.now k)) (λ k. part_at c.args.held.now k) c.args.held.now 0 c.first-i.result first
+          (laid_none c.args.shape.now.clocks.now c.args.clock (λ k. given_by (get_or c.args.demanded.now k false) (part_at c.args.parts.now k)) (λ k. part_at c.args.held.now k) c.args.held.now (λ k outside. refl));
     }
 
 pub loop-i-smaller : goal.loop-i-smaller
@@ -25,16 +25,16 @@ loop-i-smaller c =
 pub loop-i-preserved : goal.loop-i-preserved
 loop-i-preserved c =
     let in_parts : c.loop-i.i < length c.args.parts.now = omega (arith, c.requires.in_parts, c.loop-i-test.true) in
-    let in_marks : c.loop-i.i < length c.args.marks.now = omega (arith, c.requires.in_marks, c.loop-i-test.true) in
+    let in_demanded : c.loop-i.i < length c.args.demanded.now = omega (arith, c.requires.in_demanded, c.loop-i-test.true) in
     let in_held : c.loop-i.i < length c.loop-i.held = omega (arith, c.requires.in_held, c.loop-i-test.true) in
     let inside = c.loop-i.invariant.own c.loop-i-test.true in
     let after = next_own c.args.shape.now.clocks.now c.args.clock c.loop-i.i c.after-i.result inside (c.after-i.ensures c.args.shape.now.clocks.now c.requires.chains) in
     record {
       high = after.high;
       own = after.own;
-      laid = laid_skip c.args.shape.now.clocks.now c.args.clock (λ k. given_by (get_or c.args.marks.now k false) (part_at c.args.parts.now k)) (λ k. part_at c.args.held.now k) _ (suc c.loop-i.i) c.after-i.result after
-          (laid_step c.args.shape.now.clocks.now c.args.clock (λ k. given_by (get_or c.args.marks.now k false) (part_at c.args.parts.now k)) (λ k. part_at c.args.held.now k) c.loop-i.held c.loop-i.i c.given.result in_held inside
-          (given_same _ _ _ _ _ c.given.ensures (get_or_default _ _ false _ in_marks) (get_or_default _ _ silent _ in_parts)) c.loop-i.invariant.laid);
+      laid = laid_skip c.args.shape.now.clocks.now c.args.clock (λ k. given_by (get_or c.args.demanded.now k false) (part_at c.args.parts.now k)) (λ k. part_at c.args.held.now k) _ (suc c.loop-i.i) c.after-i.result after
+          (laid_step c.args.shape.now.clocks.now c.args.clock (λ k. given_by (get_or c.args.demanded.now k false) (part_at c.args.parts.now k)) (λ k. part_at c.args.held.now k) c.loop-i.held c.loop-i.i c.given.result in_held inside
+          (given_same _ _ _ _ _ c.given.ensures (get_or_default _ _ false _ in_demanded) (get_or_default _ _ silent _ in_parts)) c.loop-i.invariant.laid);
     }
 
 pub returns-clause-given : goal.returns-clause-given

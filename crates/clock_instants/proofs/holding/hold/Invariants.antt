@@ -9,7 +9,7 @@ abbrev pub invariant-loop-i : goal.invariant-loop-i
 invariant-loop-i l = record {
   high : l.i ≤ length l.shape.clocks.now;
   own : l.i < length l.shape.clocks.now → lies_at l.shape.clocks.now l.fn.clock l.i ≡ true;
-  laid : AreLaid l.shape.clocks.now l.fn.clock (λ k. given_by (get_or l.marks k false) (part_at l.parts k)) (λ k. part_at l.initial.held k) l.held l.i;
+  laid : AreLaid l.shape.clocks.now l.fn.clock (λ k. given_by (get_or l.demanded k false) (part_at l.parts k)) (λ k. part_at l.initial.held k) l.held l.i;
 }
 
 abbrev pub decreases-loop-i : goal.decreases-loop-i

@@ -9,7 +9,7 @@ loop-i-init c =
       high = first.high;
       own = first.own;
       parts = cleared_first _ _ _ _ _ first c.requires.parts;
-      marks = cleared_first _ _ _ _ _ first c.requires.marks;
+      demanded = cleared_first _ _ _ _ _ first c.requires.demanded;
     }
 
 pub loop-i-smaller : goal.loop-i-smaller
@@ -23,16 +23,16 @@ loop-i-preserved c =
     let inside = c.loop-i.invariant.own c.loop-i-test.true in
     let next = next_own c.args.shape.now.clocks.now c.args.clock c.loop-i.i c.after-i.result inside (c.after-i.ensures c.args.shape.now.clocks.now c.requires.chains) in
     let in_parts : c.loop-i.i < length c.loop-i.parts = omega (arith, c.requires.in_parts, c.loop-i-test.true) in
-    let in_marks : c.loop-i.i < length c.loop-i.marks = omega (arith, c.requires.in_marks, c.loop-i-test.true) in
+    let in_demanded : c.loop-i.i < length c.loop-i.demanded = omega (arith, c.requires.in_demanded, c.loop-i-test.true) in
     record {
       high = next.high;
       own = next.own;
       parts = cleared_next _ _ _ _ _ _ in_parts next c.loop-i.invariant.parts;
-      marks = cleared_next _ _ _ _ _ _ in_marks next c.loop-i.invariant.marks;
+      demanded = cleared_next _ _ _ _ _ _ in_demanded next c.loop-i.invariant.demanded;
     }
 
 pub returns-clause-parts : goal.returns-clause-parts
 returns-clause-parts c = cleared_all _ _ _ _ _ (omega (arith, c.requires.in_parts, c.loop-i-test.false)) c.loop-i.invariant.parts
 
-pub returns-clause-marks : goal.returns-clause-marks
-returns-clause-marks c = cleared_all _ _ _ _ _ (omega (arith, c.requires.in_marks, c.loop-i-test.false)) c.loop-i.invariant.marks
+pub returns-clause-demanded : goal.returns-clause-demanded
+returns-clause-demanded c = cleared_all _ _ _ _ _ (omega (arith, c.requires.in_demanded, c.loop-i-test.false)) c.loop-i.invariant.demanded

@@ -9,7 +9,7 @@ invariant-loop-i l = record {
   high : l.i ≤ length l.shape.clocks.now;
   own : l.i < length l.shape.clocks.now → lies_at l.shape.clocks.now l.fn.clock l.i ≡ true;
   parts : AreCleared l.shape.clocks.now l.fn.clock silent l.parts l.i;
-  marks : AreCleared l.shape.clocks.now l.fn.clock false l.marks l.i;
+  demanded : AreCleared l.shape.clocks.now l.fn.clock false l.demanded l.i;
 }
 
 abbrev pub decreases-loop-i : goal.decreases-loop-i

@@ -18,12 +18,12 @@ pub loop-i-preserved : goal.loop-i-preserved
 loop-i-preserved c =
     let inside = c.loop-i.invariant.own c.loop-i-test.true in
     let next = next_own c.args.shape.now.clocks.now c.args.clock c.loop-i.i c.after-i.result inside (c.after-i.ensures c.args.shape.now.clocks.now c.requires.chains) in
-    let in_marks : c.loop-i.i < length c.loop-i.marks = omega (arith, c.requires.in_marks, c.loop-i-test.true) in
+    let in_demanded : c.loop-i.i < length c.loop-i.demanded = omega (arith, c.requires.in_demanded, c.loop-i-test.true) in
     let in_own : c.loop-i.i < length c.args.own.now = omega (arith, c.requires.in_own, c.loop-i-test.true) in
     record {
       high = next.high;
       own = next.own;
-      marked = marked_next _ _ _ _ _ _ _ in_marks inside (get_or_default _ _ _ false in_own) next c.loop-i.invariant.marked;
+      marked = marked_next _ _ _ _ _ _ _ in_demanded inside (get_or_default _ _ _ false in_own) next c.loop-i.invariant.marked;
     }
 
 pub returns-clause-roots : goal.returns-clause-roots

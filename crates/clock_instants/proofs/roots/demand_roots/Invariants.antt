@@ -7,7 +7,7 @@ abbrev pub invariant-loop-i : goal.invariant-loop-i
 invariant-loop-i l = record {
   high : l.i ≤ length l.shape.clocks.now;
   own : l.i < length l.shape.clocks.now → lies_at l.shape.clocks.now l.fn.clock l.i ≡ true;
-  marked : AreMarked l.shape.clocks.now l.fn.clock l.own l.marks l.i;
+  marked : AreMarked l.shape.clocks.now l.fn.clock l.own l.demanded l.i;
 }
 
 abbrev pub decreases-loop-i : goal.decreases-loop-i

@@ -9,11 +9,11 @@ use Rattle.clock_ticks.proofs.clock_state.make_segment.Goals as goal
 
 pub returns-clause-run : goal.returns-clause-run
 returns-clause-run g c =
-    segment_made g.T.Taps.stands _ _ _ _ _ c.args.lanes.now _ c.make_instant.new.lanes c.args.taps.now c.make_instant.new.taps c.make_stretch-many.result
+    segment_made g.T.Taps.stands _ _ _ _ _ c.args.state.now _ c.make_instant.new.clocks c.args.taps.now c.make_instant.new.taps c.make_stretch-many.result
     c.in_ok-make_instant.ensures.made c.make_stretch-many.ensures.run c.make_stretch-many.ensures.latest
     (λ start n stands.
     let sum : suc n + c.make_stretch-many.result ≡ n + suc c.make_stretch-many.result = omega arith in
-    subst (λ m. TimeStands start m c.later-lanes.result) sum (c.later-lanes.ensures.stands start (suc n) (c.next.ensures.stands start n stands)))
+    subst (λ m. TimeStands start m c.later-state.result) sum (c.later-state.ensures.stands start (suc n) (c.next.ensures.stands start n stands)))
 
 pub returns-in_err-make_instant-clause-broken : goal.returns-in_err-make_instant-clause-broken
 returns-in_err-make_instant-clause-broken g c =
@@ -25,7 +25,7 @@ returns-in_err-make_instant-clause-broken g c =
           let S = over c.args.shape.now.plan.now c.args.shape.now.library.now c.args.shape.now.clocks.now setting in
           subst (λ m. IsBegin one.made (calls_of S sub c.args.clock (first_instants S sub c.args.clock m))) stand.made
           (one.begins setting sub stand.rank stand.ran stand.fed front (record { ranks = stand.ranks; meaning = meant.meaning; down = meant.down; readers = meant.readers; roots = meant.roots }) has stand.stand stand.needed
-          (subst (λ m. TimeStands setting.start m c.args.lanes.now.time) (sym stand.made) stand.time));
+          (subst (λ m. TimeStands setting.start m c.args.state.now.time) (sym stand.made) stand.time));
     })
 
 pub returns-in_err-make_instant-clause-reads : goal.returns-in_err-make_instant-clause-reads

@@ -29,15 +29,15 @@ returns-clause-parts c =
           chains = c.in_ok-nodes.ensures;
           latest = record {
             in_parts = search rules;
-            in_marks = search rules;
+            in_demanded = search rules;
             parts = λ j outside. all_alike _ _ _ (c.in_ok-silence.ensures.items_if_clones_equal (λ y e. e)) j;
-            marks = λ j outside. all_alike _ _ _ (c.in_ok-marks.ensures.items_if_clones_equal (λ y e. e)) j;
+            demanded = λ j outside. all_alike _ _ _ (c.in_ok-demanded.ensures.items_if_clones_equal (λ y e. e)) j;
           };
           room = search rules;
-          runs = subst (λ n. HasStretchRoom n c.in_ok-runs.runs) (ap length c.deref.ensures.value ∙ c.in_ok-states.ensures.size) c.in_ok-runs.ensures.room;
+          stretch_room = subst (λ n. HasStretchRoom n c.in_ok-room.room) (ap length c.deref.ensures.value ∙ c.in_ok-states.ensures.size) c.in_ok-room.ensures.room;
           resting = record {
-            ahead = λ k some. (let none = c.in_ok-runs.ensures.none k in absurd (omega (arith, none, some)));
-            through = λ k some. (let none = c.in_ok-runs.ensures.none k in absurd (omega (arith, none, some)));
+            ahead = λ k some. (let none = c.in_ok-room.ensures.none k in absurd (omega (arith, none, some)));
+            through = λ k some. (let none = c.in_ok-room.ensures.none k in absurd (omega (arith, none, some)));
           };
           rates = λ k time at. ap (λ t. t.rate) (c.in_ok-times.ensures.each k time at) ∙ c.new-time.ensures.rate;
           frames = λ k time at. ap (λ t. t.frame) (c.in_ok-times.ensures.each k time at) ∙ c.new-time.ensures.frame;
@@ -63,8 +63,8 @@ returns-clause-stands c =
       made = refl;
       runs = refl;
       others = λ buffer unread. refl;
-      state = λ rest. new_stand (with_rest S (λ buffer. []) rest) c.args.clock _ (length c.args.shape.plan.now.nodes) _ (has_ranks c.args.shape.plan.now c.args.shape.clocks.now c.requires.clocks c.requires.in_clocks) (rank_low c.args.shape.plan.now c.args.shape.clocks.now c.requires.clocks c.requires.in_clocks) c.in_ok-states.ensures c.new-time.ensures.stands c.in_ok-times.ensures.each c.in_ok-runs.ensures.none refl
-          (λ i state found busy. c.in_ok-runs.ensures.laned i state (ap (λ xs. slice_get xs i) c.deref.ensures.value ∙ found) busy);
+      state = λ rest. new_stand (with_rest S (λ buffer. []) rest) c.args.clock _ (length c.args.shape.plan.now.nodes) _ (has_ranks c.args.shape.plan.now c.args.shape.clocks.now c.requires.clocks c.requires.in_clocks) (rank_low c.args.shape.plan.now c.args.shape.clocks.now c.requires.clocks c.requires.in_clocks) c.in_ok-states.ensures c.new-time.ensures.stands c.in_ok-times.ensures.each c.in_ok-room.ensures.none refl
+          (λ i state found busy. c.in_ok-room.ensures.laned i state (ap (λ xs. slice_get xs i) c.deref.ensures.value ∙ found) busy);
       gaps_are = λ rest k port at. (all_at (IsNewPort S) c.in_ok-ports.ports.items (c.in_ok-ports.ensures.new S) k port at).gaps;
       cues_are = λ new rest k port list at_port at_list. c.in_ok-cues.ensures.none k list at_list;
     }

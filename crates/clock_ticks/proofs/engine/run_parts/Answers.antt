@@ -13,7 +13,7 @@ run_tick-requires-clause-makes g c = record {
   in_own = search rules;
   main = main_is c.args.parts.now.clock;
   levels = has_levels c.args.parts.now.shape.plan.now c.args.parts.now.shape.clocks.now c.requires.parts.clocks c.requires.parts.in_clocks c.args.parts.now.clock;
-  lanes_are = c.requires.parts.state;
+  state_is = c.requires.parts.state;
 }
 
 pub run_tick-requires-clause-hearing : goal.run_tick-requires-clause-hearing

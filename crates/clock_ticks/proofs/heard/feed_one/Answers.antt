@@ -20,12 +20,12 @@ hear-requires-clause-fits c =
 
 pub returns : goal.returns
 returns c =
-    let runs = c.args.lanes.now.runs in
+    let room = c.args.clocks.now.room in
     let long : length c.left_of.result.now ≡ c.args.many = c.left_of.ensures.long in
     let feed = c.args.feed.now in
     let slot = c.slot_of-slot.ensures ∙ ap (λ ps. (part_at ps feed.node).slot) c.deref.ensures.value in
     c.hear.ensures
     ∙ ap (λ n. with_slots_from c.args.at (segment_slots c.slot_of-slot.result n c.left_of.result.now c.right_of.result.now) feed) long
     ∙ ap (λ s. with_slots_from c.args.at (segment_slots s c.args.many c.left_of.result.now c.right_of.result.now) feed) slot
-    ∙ ap (λ xs. with_slots_from c.args.at (segment_slots (part_at c.args.lanes.now.latest.parts.items feed.node).slot c.args.many xs c.right_of.result.now) feed) c.left_of.ensures.is
-    ∙ ap (λ xs. with_slots_from c.args.at (segment_slots (part_at c.args.lanes.now.latest.parts.items feed.node).slot c.args.many (samples_of runs.left.items feed.node c.args.many) xs) feed) c.right_of.ensures.is
+    ∙ ap (λ xs. with_slots_from c.args.at (segment_slots (part_at c.args.clocks.now.latest.parts.items feed.node).slot c.args.many xs c.right_of.result.now) feed) c.left_of.ensures.is
+    ∙ ap (λ xs. with_slots_from c.args.at (segment_slots (part_at c.args.clocks.now.latest.parts.items feed.node).slot c.args.many (samples_of room.left.items feed.node c.args.many) xs) feed) c.right_of.ensures.is

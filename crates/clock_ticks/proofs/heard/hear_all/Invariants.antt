@@ -6,5 +6,5 @@ use Rattle.clock_ticks.proofs.heard.hear_all.Given as goal
 abbrev pub invariant-loop-k : goal.invariant-loop-k
 invariant-loop-k l = record {
   sizes : length l.ports.items ≡ length l.initial.ports.items;
-  are : l.ports.items ≡ map (λ port. after_slots port (segment_of l.lanes l.many port.node)) (take l.k l.initial.ports.items) ++ drop l.k l.initial.ports.items;
+  are : l.ports.items ≡ map (λ port. after_slots port (segment_of l.clocks l.many port.node)) (take l.k l.initial.ports.items) ++ drop l.k l.initial.ports.items;
 }

@@ -15,12 +15,12 @@ hear-requires-clause-room c =
 
 pub returns : goal.returns
 returns c =
-    let runs = c.args.lanes.now.runs in
+    let room = c.args.clocks.now.room in
     let long : length c.left_of.result.now ≡ c.args.many = c.left_of.ensures.long in
     let port = c.args.port.now in
     let slot = c.slot_of-slot.ensures ∙ ap (λ ps. (part_at ps port.node).slot) c.deref.ensures.value in
     c.hear.ensures
     ∙ ap (λ n. after_slots port (segment_slots c.slot_of-slot.result n c.left_of.result.now c.right_of.result.now)) long
     ∙ ap (λ s. after_slots port (segment_slots s c.args.many c.left_of.result.now c.right_of.result.now)) slot
-    ∙ ap (λ xs. after_slots port (segment_slots (part_at c.args.lanes.now.latest.parts.items port.node).slot c.args.many xs c.right_of.result.now)) c.left_of.ensures.is
-    ∙ ap (λ xs. after_slots port (segment_slots (part_at c.args.lanes.now.latest.parts.items port.node).slot c.args.many (samples_of runs.left.items port.node c.args.many) xs)) c.right_of.ensures.is
+    ∙ ap (λ xs. after_slots port (segment_slots (part_at c.args.clocks.now.latest.parts.items port.node).slot c.args.many xs c.right_of.result.now)) c.left_of.ensures.is
+    ∙ ap (λ xs. after_slots port (segment_slots (part_at c.args.clocks.now.latest.parts.items port.node).slot c.args.many (samples_of room.left.items port.node c.args.many) xs)) c.right_of.ensures.is

@@ -5,5 +5,5 @@ use Rattle.clock_ticks.proofs.parts.demand_sinks.Given as goal
 
 abbrev pub invariant-loop-sink : goal.invariant-loop-sink
 invariant-loop-sink l = (i : ℕ) →
-    (get_or l.marks i false || list_any (λ sink. nat_eq (sink_node sink) i) (drop l.sink-index l.sinks))
-    ≡ (get_or l.initial.marks i false || list_any (λ sink. nat_eq (sink_node sink) i) l.sinks)
+    (get_or l.demanded i false || list_any (λ sink. nat_eq (sink_node sink) i) (drop l.sink-index l.sinks))
+    ≡ (get_or l.initial.demanded i false || list_any (λ sink. nat_eq (sink_node sink) i) l.sinks)

@@ -9,7 +9,7 @@ use Rattle.clock_ticks.proofs.parts.keep_roots.Goals as goal
 pub is_own_root-requires : goal.is_own_root-requires
 is_own_root-requires c =
     let here : c.loop-i.i < length c.loop-i.own = omega (arith, c.loop-i-test.true, c.loop-i.invariant.size, c.requires.in_clocks) in
-    get_or_default _ c.loop-i.i _ false here ∙ c.loop-i.invariant.left c.loop-i.i (omega arith) ∙ c.requires.marks c.loop-i.i
+    get_or_default _ c.loop-i.i _ false here ∙ c.loop-i.invariant.left c.loop-i.i (omega arith) ∙ c.requires.demanded c.loop-i.i
 
 pub loop-i-preserved : goal.loop-i-preserved
 loop-i-preserved c =

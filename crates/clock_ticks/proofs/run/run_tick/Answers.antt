@@ -15,7 +15,7 @@ use Rattle.clock_ticks.proofs.run.run_tick.Goals as goal
 pub loop-instant-init : goal.loop-instant-init
 loop-instant-init g c = record {
   low = omega arith;
-  lanes = c.requires.makes.lanes_are;
+  state = c.requires.makes.state_is;
   room = (let all : c.args.shape.now.plan.now.frame ≡ c.args.shape.now.plan.now.frame - 0 = omega arith in
       subst (λ n. AllHaveRoomLeft n c.begin_tick.new.ports.items) all
       (subst (λ ports. AllHaveRoomLeft c.args.shape.now.plan.now.frame ports) (sym c.begin_tick.ensures) c.requires.hearing.room));
@@ -23,7 +23,7 @@ loop-instant-init g c = record {
   keys = refl;
   buffers = refl;
   same = g.met.T.Taps.same_refl c.args.taps.now;
-  heard = heard_none g.T.Taps.stands _ _ _ _ _ c.args.lanes.now c.args.ports.now.items c.begin_tick.new.ports.items c.args.feeds.now.items c.args.cues.now c.begin_cues.new.cues c.args.start c.args.taps.now c.begin_tick.ensures
+  heard = heard_none g.T.Taps.stands _ _ _ _ _ c.args.state.now c.args.ports.now.items c.begin_tick.new.ports.items c.args.feeds.now.items c.args.cues.now c.begin_cues.new.cues c.args.start c.args.taps.now c.begin_tick.ensures
       c.begin_cues.ensures.keeping c.begin_cues.ensures.size c.begin_cues.ensures.marked;
 }
 
@@ -66,14 +66,14 @@ loop-instant-preserved g c =
     let low : instant + suc many ≤ frame = omega (arith, short, c.loop-instant-test.true) in
     let left : frame - instant ≡ suc many + (frame - (instant + (1 + many))) = omega (arith, low) in
     let next : instant + (1 + many) ≡ instant + suc many = omega arith in
-    let lanes = c.make_segment.new.lanes.clocks in
-    let slots : ℕ → List Slot = segment_of lanes many in
-    let long = segment_long lanes many in
+    let clocks = c.make_segment.new.state.clocks in
+    let slots : ℕ → List Slot = segment_of clocks many in
+    let long = segment_long clocks many in
     let is : c.hear_all.new.ports.items ≡ map (λ (port : Port). after_slots port (slots port.node)) c.loop-instant.ports.items = c.hear_all.ensures in
     let filled : c.feed_all.new.feeds.items ≡ map (λ (feed : FeedPort). with_slots_from instant (slots feed.node) feed) c.loop-instant.feeds.items = c.feed_all.ensures in
     record {
       low = omega (arith, low, next);
-      lanes = c.make_segment.ensures.lanes;
+      state = c.make_segment.ensures.state;
       room = subst (λ ports. AllHaveRoomLeft (frame - (instant + (1 + many))) ports) (sym is)
           (room_left (suc many) (frame - (instant + (1 + many))) (λ port. slots port.node) (λ port. long port.node) c.loop-instant.ports.items
           (subst (λ n. AllHaveRoomLeft n c.loop-instant.ports.items) left c.loop-instant.invariant.room));
@@ -95,8 +95,8 @@ pub returns-clause-heard : goal.returns-clause-heard
 returns-clause-heard g c =
     let all : c.loop-instant.instant ≡ c.args.shape.now.plan.now.frame = omega (arith, c.loop-instant.invariant.low, c.loop-instant-test.false) in
     subst (λ n. Heard g.T.Taps.stands c.args.shape.now.plan.now c.args.shape.now.library.now c.args.shape.now.clocks.now c.args.clock c.args.own.now n
-    (record { lanes = c.args.lanes.now; ports = c.args.ports.now.items; feeds = c.args.feeds.now.items; cues = c.args.cues.now; start = c.args.start; taps = c.args.taps.now })
-    (record { lanes = c.loop-instant.lanes; ports = c.loop-instant.ports.items; feeds = c.loop-instant.feeds.items; cues = c.loop-instant.cues; start = c.args.start; taps = c.loop-instant.taps })) all c.loop-instant.invariant.heard
+    (record { state = c.args.state.now; ports = c.args.ports.now.items; feeds = c.args.feeds.now.items; cues = c.args.cues.now; start = c.args.start; taps = c.args.taps.now })
+    (record { state = c.loop-instant.state; ports = c.loop-instant.ports.items; feeds = c.loop-instant.feeds.items; cues = c.loop-instant.cues; start = c.args.start; taps = c.loop-instant.taps })) all c.loop-instant.invariant.heard
 
 pub returns-in_err-many-clause-needs : goal.returns-in_err-many-clause-needs
 returns-in_err-many-clause-needs g c = on_err c.from_residual.result (inl c.in_err-many.ensures.reads)
@@ -104,7 +104,7 @@ returns-in_err-many-clause-needs g c = on_err c.from_residual.result (inl c.in_e
 pub mark_all-requires : goal.mark_all-requires
 mark_all-requires g c =
     let lists = c.loop-instant.invariant.heard.lists in
-    let many : c.hear_all.new.ports.items ≡ map (λ (port : Port). after_slots port (segment_of c.make_segment.new.lanes.clocks c.in_ok-many.many port.node)) c.loop-instant.ports.items = c.hear_all.ensures in
+    let many : c.hear_all.new.ports.items ≡ map (λ (port : Port). after_slots port (segment_of c.make_segment.new.state.clocks c.in_ok-many.many port.node)) c.loop-instant.ports.items = c.hear_all.ensures in
     record {
       sizes = lists ∙ c.requires.hearing.marks
           ∙ sym (ap length c.deref.ensures.value ∙ ap length many ∙ length-map c.loop-instant.ports.items _ ∙ ap length c.loop-instant.invariant.heard.ports_are ∙ length-map c.args.ports.now.items _);
@@ -127,14 +127,14 @@ returns-in_err-mark_all-clause-needs g c =
 
 pub returns-in_err-mark_all-clause-frames : goal.returns-in_err-mark_all-clause-frames
 returns-in_err-mark_all-clause-frames g c =
-    let slots : ℕ → List Slot = segment_of c.make_segment.new.lanes.clocks c.in_ok-many.many in
+    let slots : ℕ → List Slot = segment_of c.make_segment.new.state.clocks c.in_ok-many.many in
     let filled : c.feed_all.new.feeds.items ≡ map (λ (feed : FeedPort). with_slots_from c.loop-instant.instant (slots feed.node) feed) c.loop-instant.feeds.items = c.feed_all.ensures in
     subst (λ feeds. All (λ feed. length feed.frame ≡ c.args.shape.now.plan.now.frame) feeds) (sym filled)
     (frames_filled c.args.shape.now.plan.now.frame c.loop-instant.instant (λ feed. slots feed.node) c.loop-instant.feeds.items c.loop-instant.invariant.frames)
 
 pub returns-in_err-mark_all-clause-keys : goal.returns-in_err-mark_all-clause-keys
 returns-in_err-mark_all-clause-keys g c =
-    let slots : ℕ → List Slot = segment_of c.make_segment.new.lanes.clocks c.in_ok-many.many in
+    let slots : ℕ → List Slot = segment_of c.make_segment.new.state.clocks c.in_ok-many.many in
     let filled : c.feed_all.new.feeds.items ≡ map (λ (feed : FeedPort). with_slots_from c.loop-instant.instant (slots feed.node) feed) c.loop-instant.feeds.items = c.feed_all.ensures in
     ap (map feed_key) filled ∙ keys_filled c.loop-instant.instant (λ feed. slots feed.node) c.loop-instant.feeds.items ∙ c.loop-instant.invariant.keys
 

@@ -15,29 +15,29 @@ decreases-settle_all g l = 3 * l.levels + 1
 abbrev pub decreases-make_instant : goal.decreases-make_instant
 decreases-make_instant g l = 3 * l.levels + 2
 
-abbrev pub invariant-settle-loop-lanes : goal.invariant-settle-loop-lanes
-invariant-settle-loop-lanes g l = record {
-  lanes : AreClockStates l.shape.plan.now l.shape.library.now l.shape.clocks.now l.lanes;
+abbrev pub invariant-settle-loop-clocks : goal.invariant-settle-loop-clocks
+invariant-settle-loop-clocks g l = record {
+  clocks : AreClockStates l.shape.plan.now l.shape.library.now l.shape.clocks.now l.clocks;
   buffers : g.T.Taps.buffers l.taps ≡ g.T.Taps.buffers l.initial.taps;
   same : g.T.Taps.same l.initial.taps l.taps;
   left : (rank : NodeClock → ℕ) → HasRanks l.shape.clocks.now rank
-      → AreLeft l.shape.clocks.now rank (rank (get_or l.shape.clocks.now l.k (Main 0))) (is_node l.k) l.initial.lanes l.lanes;
-  filling : NodeFilling g.T.Taps.stands l.shape.plan.now l.shape.library.now l.shape.clocks.now l.own l.k l.initial.lanes l.lanes l.initial.taps l.taps;
+      → AreLeft l.shape.clocks.now rank (rank (get_or l.shape.clocks.now l.k (Main 0))) (is_node l.k) l.initial.clocks l.clocks;
+  filling : NodeFilling g.T.Taps.stands l.shape.plan.now l.shape.library.now l.shape.clocks.now l.own l.k l.initial.clocks l.clocks l.initial.taps l.taps;
 }
 
-abbrev pub decreases-settle-loop-lanes : goal.decreases-settle-loop-lanes
-decreases-settle-loop-lanes g l = left_at l.lanes.states.items l.k
+abbrev pub decreases-settle-loop-clocks : goal.decreases-settle-loop-clocks
+decreases-settle-loop-clocks g l = left_at l.clocks.states.items l.k
 
 abbrev pub invariant-settle_all-loop-i : goal.invariant-settle_all-loop-i
 invariant-settle_all-loop-i g l = record {
   high : l.i ≤ length l.shape.clocks.now;
   own : l.i < length l.shape.clocks.now → lies_at l.shape.clocks.now l.fn.clock l.i ≡ true;
-  lanes : AreClockStates l.shape.plan.now l.shape.library.now l.shape.clocks.now l.lanes;
+  clocks : AreClockStates l.shape.plan.now l.shape.library.now l.shape.clocks.now l.clocks;
   buffers : g.T.Taps.buffers l.taps ≡ g.T.Taps.buffers l.initial.taps;
   same : g.T.Taps.same l.initial.taps l.taps;
   left : (rank : NodeClock → ℕ) → HasRanks l.shape.clocks.now rank
-      → AreLeft l.shape.clocks.now rank (rank l.fn.clock) (is_in l.shape.clocks.now l.fn.clock) l.initial.lanes l.lanes;
-  settled : AllSettled g.T.Taps.stands l.shape.plan.now l.shape.library.now l.shape.clocks.now l.own l.fn.clock l.i l.initial.lanes l.lanes l.initial.taps l.taps;
+      → AreLeft l.shape.clocks.now rank (rank l.fn.clock) (is_in l.shape.clocks.now l.fn.clock) l.initial.clocks l.clocks;
+  settled : AllSettled g.T.Taps.stands l.shape.plan.now l.shape.library.now l.shape.clocks.now l.own l.fn.clock l.i l.initial.clocks l.clocks l.initial.taps l.taps;
 }
 
 abbrev pub decreases-settle_all-loop-i : goal.decreases-settle_all-loop-i

@@ -22,22 +22,22 @@ keep-requires-clause-ranks c = (c.requires.levels.rank, c.requires.levels.ranks)
 
 pub returns-then-many-eq0-clause-left : goal.returns-then-many-eq0-clause-left
 returns-then-many-eq0-clause-left c rank ranks =
-    left_kept c.args.shape.now.clocks.now rank (rank (get_or c.args.shape.now.clocks.now c.args.k (Main 0))) c.args.k c.args.lanes.now c.keep.new.lanes c.keep.ensures.states c.keep.ensures.times c.keep.ensures.held c.keep.ensures.others c.keep.ensures.left c.keep.ensures.right
+    left_kept c.args.shape.now.clocks.now rank (rank (get_or c.args.shape.now.clocks.now c.args.k (Main 0))) c.args.k c.args.clocks.now c.keep.new.clocks c.keep.ensures.states c.keep.ensures.times c.keep.ensures.held c.keep.ensures.others c.keep.ensures.left c.keep.ensures.right
 
 pub returns-then-many-eq0-clause-filled : goal.returns-then-many-eq0-clause-filled
 returns-then-many-eq0-clause-filled c = record {
   filled = λ other sub rank ran filled front more own n world fades before at parts held time.
       let S = over c.args.shape.now.plan.now c.args.shape.now.library.now c.args.shape.now.clocks.now other in
-      filled_kept S sub rank world.ranks c.requires.shape.in_clocks c.args.k c.requires.within ran filled front more c.args.lanes.now c.keep.new.lanes c.goes_for-rest.result
+      filled_kept S sub rank world.ranks c.requires.shape.in_clocks c.args.k c.requires.within ran filled front more c.args.clocks.now c.keep.new.clocks c.goes_for-rest.result
       c.keep.ensures.states c.keep.ensures.times c.keep.ensures.held c.keep.ensures.kept c.keep.ensures.others c.keep.ensures.left c.keep.ensures.right before
       (λ some. record {
         n = n;
         at = at;
-        gave = child_gave S sub c.args.k (first_instants S sub (Sub c.args.k) n) own c.args.lanes.now.latest.parts.items world.roots parts (c.goes_for-rest.ensures.gave some);
+        gave = child_gave S sub c.args.k (first_instants S sub (Sub c.args.k) n) own c.args.clocks.now.latest.parts.items world.roots parts (c.goes_for-rest.ensures.gave some);
         goes = c.goes_for-rest.ensures.goes other sub (first_instants S sub (Sub c.args.k) n) before.reached.filled_now
-            (are_behind S sub rank (Sub c.args.k) n before.reached.ran_now before.reached.filled_now (after_calls front more) c.args.lanes.now c.args.time world.ranks c.requires.shape.in_clocks c.requires.shape.nodes world.meaning
-            (stand_under S sub rank world.ranks c.requires.shape.in_clocks c.args.k c.requires.within ran filled front more c.args.lanes.now before)
-            (needed_under S sub rank world.ranks c.requires.shape.in_clocks c.args.k c.requires.within ran filled front more c.args.lanes.now before) at parts held time) some;
+            (are_behind S sub rank (Sub c.args.k) n before.reached.ran_now before.reached.filled_now (after_calls front more) c.args.clocks.now c.args.time world.ranks c.requires.shape.in_clocks c.requires.shape.nodes world.meaning
+            (stand_under S sub rank world.ranks c.requires.shape.in_clocks c.args.k c.requires.within ran filled front more c.args.clocks.now before)
+            (needed_under S sub rank world.ranks c.requires.shape.in_clocks c.args.k c.requires.within ran filled front more c.args.clocks.now before) at parts held time) some;
       });
 }
 
@@ -47,20 +47,20 @@ run_clock-requires-clause-levels c =
     levels_under c.args.shape.now.clocks.now c.args.k c.args.levels in_clocks c.requires.levels
 
 pub run_clock-requires-clause-idle : goal.run_clock-requires-clause-idle
-run_clock-requires-clause-idle c = sub_idle c.args.k c.args.lanes.now c.requires.none
+run_clock-requires-clause-idle c = sub_idle c.args.k c.args.clocks.now c.requires.none
 
 pub returns-clause-left : goal.returns-clause-left
 returns-clause-left c rank ranks =
     let in_clocks : c.args.k < length c.args.shape.now.clocks.now = omega (arith, c.requires.within, c.requires.shape.in_clocks) in
-    left_filled c.args.shape.now.clocks.now rank c.args.k c.args.lanes.now c.args.lanes.now c.run_clock.new.lanes c.fill_lane.new.lanes ranks in_clocks
-    (left_none c.args.shape.now.clocks.now rank (rank (get_or c.args.shape.now.clocks.now c.args.k (Main 0))) (is_node c.args.k) c.args.lanes.now)
+    left_filled c.args.shape.now.clocks.now rank c.args.k c.args.clocks.now c.args.clocks.now c.run_clock.new.clocks c.fill_lane.new.clocks ranks in_clocks
+    (left_none c.args.shape.now.clocks.now rank (rank (get_or c.args.shape.now.clocks.now c.args.k (Main 0))) (is_node c.args.k) c.args.clocks.now)
     (c.run_clock.ensures.left rank ranks)
-    c.fill_lane.ensures.states c.fill_lane.ensures.times c.fill_lane.ensures.runs
+    c.fill_lane.ensures.states c.fill_lane.ensures.times c.fill_lane.ensures.stretch_room
 
 pub fill_lane-requires-clause-idle : goal.fill_lane-requires-clause-idle
 fill_lane-requires-clause-idle c =
     idle_left c.args.shape.now.clocks.now c.requires.levels.rank (clock_at c.args.shape.now.clocks.now c.args.k) (is_in c.args.shape.now.clocks.now (Sub c.args.k)) (c.requires.levels.rank (Sub c.args.k))
-    c.args.lanes.now c.run_clock.new.lanes (length c.args.shape.now.plan.now.nodes) c.requires.levels.ranks (sym c.requires.shape.in_clocks) c.run_clock.ensures.lanes.runs.in_rests
+    c.args.clocks.now c.run_clock.new.clocks (length c.args.shape.now.plan.now.nodes) c.requires.levels.ranks (sym c.requires.shape.in_clocks) c.run_clock.ensures.clocks.stretch_room.in_rests
     (let in_clocks : c.args.k < length c.args.shape.now.clocks.now = omega (arith, c.requires.within, c.requires.shape.in_clocks) in let up = c.requires.levels.ranks.deeper c.args.k in_clocks in omega (arith, up))
     (λ i inside. let in_clocks : c.args.k < length c.args.shape.now.clocks.now = omega (arith, c.requires.within, c.requires.shape.in_clocks) in let up = c.requires.levels.ranks.deeper c.args.k in_clocks in
     let e : c.requires.levels.rank (clock_at c.args.shape.now.clocks.now i) ≡ c.requires.levels.rank (Sub c.args.k) = ap c.requires.levels.rank inside in omega (arith, e, up))
@@ -69,7 +69,7 @@ fill_lane-requires-clause-idle c =
 pub returns-clause-no_more : goal.returns-clause-no_more
 returns-clause-no_more c =
     let in_clocks : c.args.k < length c.args.shape.now.clocks.now = omega (arith, c.requires.within, c.requires.shape.in_clocks) in
-    let kept = kept_at c.args.shape.now.clocks.now c.requires.levels.rank c.args.k c.args.lanes.now c.run_clock.new.lanes c.requires.levels.ranks in_clocks
+    let kept = kept_at c.args.shape.now.clocks.now c.requires.levels.rank c.args.k c.args.clocks.now c.run_clock.new.clocks c.requires.levels.ranks in_clocks
     (c.run_clock.ensures.left c.requires.levels.rank c.requires.levels.ranks) in
     let same = ap (λ s. option_map_or left s 0) kept in
     omega (arith, same, c.fill_lane.ensures.no_more)
@@ -79,44 +79,44 @@ returns-clause-filled c = record {
   filled = λ other sub rank ran filled front more own n world fades before at parts held time.
       let S = over c.args.shape.now.plan.now c.args.shape.now.library.now c.args.shape.now.clocks.now other in
       let some : 0 < c.goes_for-rest.result = omega (arith, c.if-many-eq0.false, c.wanted-many.ensures.rest) in
-      filled_on S sub rank world.ranks c.requires.shape.in_clocks c.args.k c.requires.within ran filled front more c.args.lanes.now before fades world.meaning own world.roots n
-      c.wanted-many.result c.run_clock.new.lanes c.fill_lane.new.lanes
+      filled_on S sub rank world.ranks c.requires.shape.in_clocks c.args.k c.requires.within ran filled front more c.args.clocks.now before fades world.meaning own world.roots n
+      c.wanted-many.result c.run_clock.new.clocks c.fill_lane.new.clocks
       (c.run_clock.ensures.run.run other sub rank before.reached.ran_now before.reached.filled_now (after_calls front more) own n (record {
         world = world;
-        stand = stand_under S sub rank world.ranks c.requires.shape.in_clocks c.args.k c.requires.within ran filled front more c.args.lanes.now before;
-        needed = needed_under S sub rank world.ranks c.requires.shape.in_clocks c.args.k c.requires.within ran filled front more c.args.lanes.now before;
+        stand = stand_under S sub rank world.ranks c.requires.shape.in_clocks c.args.k c.requires.within ran filled front more c.args.clocks.now before;
+        needed = needed_under S sub rank world.ranks c.requires.shape.in_clocks c.args.k c.requires.within ran filled front more c.args.clocks.now before;
         at = at;
-        goes = goes_fewer S sub (Sub c.args.k) (first_instants S sub (Sub c.args.k) n) c.goes_for-rest.result c.wanted-many.result before.reached.filled_now c.args.lanes.now.runs.held.items c.args.lanes.now.states.items c.wanted-many.ensures.rest
+        goes = goes_fewer S sub (Sub c.args.k) (first_instants S sub (Sub c.args.k) n) c.goes_for-rest.result c.wanted-many.result before.reached.filled_now c.args.clocks.now.room.held.items c.args.clocks.now.states.items c.wanted-many.ensures.rest
             (c.goes_for-rest.ensures.goes other sub (first_instants S sub (Sub c.args.k) n) before.reached.filled_now
-            (are_behind S sub rank (Sub c.args.k) n before.reached.ran_now before.reached.filled_now (after_calls front more) c.args.lanes.now c.args.time world.ranks c.requires.shape.in_clocks c.requires.shape.nodes world.meaning
-            (stand_under S sub rank world.ranks c.requires.shape.in_clocks c.args.k c.requires.within ran filled front more c.args.lanes.now before)
-            (needed_under S sub rank world.ranks c.requires.shape.in_clocks c.args.k c.requires.within ran filled front more c.args.lanes.now before) at parts held time) some);
+            (are_behind S sub rank (Sub c.args.k) n before.reached.ran_now before.reached.filled_now (after_calls front more) c.args.clocks.now c.args.time world.ranks c.requires.shape.in_clocks c.requires.shape.nodes world.meaning
+            (stand_under S sub rank world.ranks c.requires.shape.in_clocks c.args.k c.requires.within ran filled front more c.args.clocks.now before)
+            (needed_under S sub rank world.ranks c.requires.shape.in_clocks c.args.k c.requires.within ran filled front more c.args.clocks.now before) at parts held time) some);
       }))
-      (child_gave S sub c.args.k (first_instants S sub (Sub c.args.k) n) own c.args.lanes.now.latest.parts.items world.roots parts (c.goes_for-rest.ensures.gave some))
+      (child_gave S sub c.args.k (first_instants S sub (Sub c.args.k) n) own c.args.clocks.now.latest.parts.items world.roots parts (c.goes_for-rest.ensures.gave some))
       (record {
         states = c.fill_lane.ensures.states;
         times = c.fill_lane.ensures.times;
-        runs = c.fill_lane.ensures.runs;
+        room = c.fill_lane.ensures.stretch_room;
         filled = λ past m work slots earlier after was is stands lane titled grows. c.fill_lane.ensures.filled S sub past m work slots earlier after was is stands lane titled grows;
         time = λ m earlier after was is stands. c.fill_lane.ensures.time other.start m earlier after was is stands;
       })
-      c.requires.none (ap (λ l. l.parts.items) c.run_clock.ensures.latest ∙ parts) (c.run_clock.ensures.left rank world.ranks) c.run_clock.ensures.lanes.fit.size c.run_clock.ensures.lanes.in_times;
+      c.requires.none (ap (λ l. l.parts.items) c.run_clock.ensures.latest ∙ parts) (c.run_clock.ensures.left rank world.ranks) c.run_clock.ensures.clocks.fit.size c.run_clock.ensures.clocks.in_times;
 }
 
 pub run_clock-requires-clause-ahead : goal.run_clock-requires-clause-ahead
 run_clock-requires-clause-ahead c =
-    ahead_less c.args.shape.now.library.now c.args.shape.now.clocks.now (Sub c.args.k) c.args.lanes.now.runs.held.items c.args.lanes.now.states.items (length c.args.shape.now.clocks.now)
+    ahead_less c.args.shape.now.library.now c.args.shape.now.clocks.now (Sub c.args.k) c.args.clocks.now.room.held.items c.args.clocks.now.states.items (length c.args.shape.now.clocks.now)
     c.goes_for-rest.result c.wanted-many.result c.wanted-many.ensures.rest c.goes_for-rest.ensures.ahead
 
 pub run_clock-requires-clause-through : goal.run_clock-requires-clause-through
 run_clock-requires-clause-through c =
-    through_less c.args.shape.now.clocks.now (Sub c.args.k) c.args.lanes.now.runs.held.items c.args.lanes.now.states.items c.args.lanes.now.runs.rests.items (length c.args.shape.now.clocks.now)
+    through_less c.args.shape.now.clocks.now (Sub c.args.k) c.args.clocks.now.room.held.items c.args.clocks.now.states.items c.args.clocks.now.room.rests.items (length c.args.shape.now.clocks.now)
     c.goes_for-rest.result c.wanted-many.result c.wanted-many.ensures.rest c.goes_for-rest.ensures.through
 
 pub fill_lane-requires-clause-room : goal.fill_lane-requires-clause-room
 fill_lane-requires-clause-room c =
     let in_clocks : c.args.k < length c.args.shape.now.clocks.now = omega (arith, c.requires.within, c.requires.shape.in_clocks) in
-    let kept = kept_at c.args.shape.now.clocks.now c.requires.levels.rank c.args.k c.args.lanes.now c.run_clock.new.lanes c.requires.levels.ranks in_clocks
+    let kept = kept_at c.args.shape.now.clocks.now c.requires.levels.rank c.args.k c.args.clocks.now c.run_clock.new.clocks c.requires.levels.ranks in_clocks
     (c.run_clock.ensures.left c.requires.levels.rank c.requires.levels.ranks) in
     let same = ap (λ s. option_map_or room s 0) kept in
     omega (arith, same, c.wanted-many.ensures.room)

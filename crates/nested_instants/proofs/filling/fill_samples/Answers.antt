@@ -20,6 +20,6 @@ returns-clause-filled c setting sub past filled i work slots stands lane titled 
     (c.fill_stretch.ensures.filled setting sub past filled i work slots stands
     (subst (λ n. IsLane slots n c.left_of.result.now c.right_of.result.now) (sym long)
     (subst (λ (xs : List ℤ). IsLane slots c.args.count xs c.right_of.result.now) (sym c.left_of.ensures.is)
-    (subst (λ (ys : List ℤ). IsLane slots c.args.count (samples_of c.args.runs.now.left.items c.args.child c.args.count) ys) (sym c.right_of.ensures.is) lane)))
+    (subst (λ (ys : List ℤ). IsLane slots c.args.count (samples_of c.args.stretch_room.now.left.items c.args.child c.args.count) ys) (sym c.right_of.ensures.is) lane)))
     (λ j low. titled j (omega (arith, low, long)))
     (λ m low. grows m (omega (arith, low, long))))

@@ -7,43 +7,43 @@ use Rattle.clock_instants.specs.States.{AllFit, ClockStands, HasRoomFor, over}
 use Rattle.nested_instants.proofs.Restful.{resting_own}
 use Rattle.nested_instants.proofs.finishing.finish.Goals as goal
 
-pub returns-clause-lanes : goal.returns-clause-lanes
-returns-clause-lanes c =
-    let many : length c.finish_instant.new.states ≡ c.args.lanes.now.states.len = omega (arith, c.deref_mut.ensures.len) in
-    let items = with_items_is c.args.lanes.now.states c.finish_instant.new.states many in
-    let few : length c.finish_instant.new.held ≡ c.args.lanes.now.runs.held.len = omega (arith, c.deref_mut-2.ensures.len) in
-    let held = with_items_is c.args.lanes.now.runs.held c.finish_instant.new.held few in
+pub returns-clause-clocks : goal.returns-clause-clocks
+returns-clause-clocks c =
+    let many : length c.finish_instant.new.states ≡ c.args.clocks.now.states.len = omega (arith, c.deref_mut.ensures.len) in
+    let items = with_items_is c.args.clocks.now.states c.finish_instant.new.states many in
+    let few : length c.finish_instant.new.held ≡ c.args.clocks.now.room.held.len = omega (arith, c.deref_mut-2.ensures.len) in
+    let held = with_items_is c.args.clocks.now.room.held c.finish_instant.new.held few in
     record {
       fit = subst (AllFit c.args.shape.now.plan.now c.args.shape.now.library.now) (sym items) c.finish_instant.ensures.fit;
-      in_times = c.requires.lanes.in_times;
-      chains = c.requires.lanes.chains;
+      in_times = c.requires.clocks.in_times;
+      chains = c.requires.clocks.chains;
       latest = c.finish_instant.ensures.latest;
-      room = subst (HasRoomFor c.args.shape.now.plan.now) (sym c.finish_instant.ensures.room) c.requires.lanes.room;
-      runs = record {
-        in_left = c.requires.lanes.runs.in_left;
-        in_right = c.requires.lanes.runs.in_right;
-        in_spare = c.requires.lanes.runs.in_spare;
-        in_held = (let long = ap length held in let was = ap length c.deref_mut-2.ensures.value in omega (arith, long, few, was, c.deref_mut-2.ensures.len, c.requires.lanes.runs.in_held));
-        in_rests = c.requires.lanes.runs.in_rests;
-        in_parts = c.requires.lanes.runs.in_parts;
-        clear = c.requires.lanes.runs.clear;
+      room = subst (HasRoomFor c.args.shape.now.plan.now) (sym c.finish_instant.ensures.room) c.requires.clocks.room;
+      stretch_room = record {
+        in_left = c.requires.clocks.stretch_room.in_left;
+        in_right = c.requires.clocks.stretch_room.in_right;
+        in_spare = c.requires.clocks.stretch_room.in_spare;
+        in_held = (let long = ap length held in let was = ap length c.deref_mut-2.ensures.value in omega (arith, long, few, was, c.deref_mut-2.ensures.len, c.requires.clocks.stretch_room.in_held));
+        in_rests = c.requires.clocks.stretch_room.in_rests;
+        in_parts = c.requires.clocks.stretch_room.in_parts;
+        clear = c.requires.clocks.stretch_room.clear;
       };
-      resting = resting_own c.args.shape.now.library.now c.args.shape.now.clocks.now c.args.lanes.now _ c.requires.lanes.resting c.args.clock c.requires.idle (λ i. refl)
+      resting = resting_own c.args.shape.now.library.now c.args.shape.now.clocks.now c.args.clocks.now _ c.requires.clocks.resting c.args.clock c.requires.idle (λ i. refl)
           (λ i outside. ap (λ xs. slice_get xs i) items ∙ c.finish_instant.ensures.others i outside ∙ ap (λ xs. slice_get xs i) c.deref_mut.ensures.value)
           (λ i outside. ap (λ ps. part_at ps i) held ∙ c.finish_instant.ensures.kept i outside ∙ ap (λ ps. part_at ps i) c.deref_mut-2.ensures.value);
-      rates = c.requires.lanes.rates;
-      frames = c.requires.lanes.frames;
+      rates = c.requires.clocks.rates;
+      frames = c.requires.clocks.frames;
     }
 
 pub returns-clause-kept : goal.returns-clause-kept
 returns-clause-kept c i outside =
-    let few : length c.finish_instant.new.held ≡ c.args.lanes.now.runs.held.len = omega (arith, c.deref_mut-2.ensures.len) in
-    ap (λ ps. part_at ps i) (with_items_is c.args.lanes.now.runs.held c.finish_instant.new.held few) ∙ c.finish_instant.ensures.kept i outside ∙ ap (λ ps. part_at ps i) c.deref_mut-2.ensures.value
+    let few : length c.finish_instant.new.held ≡ c.args.clocks.now.room.held.len = omega (arith, c.deref_mut-2.ensures.len) in
+    ap (λ ps. part_at ps i) (with_items_is c.args.clocks.now.room.held c.finish_instant.new.held few) ∙ c.finish_instant.ensures.kept i outside ∙ ap (λ ps. part_at ps i) c.deref_mut-2.ensures.value
 
 pub returns-clause-finished : goal.returns-clause-finished
 returns-clause-finished c =
-    let many : length c.finish_instant.new.states ≡ c.args.lanes.now.states.len = omega (arith, c.deref_mut.ensures.len) in
-    let few : length c.finish_instant.new.held ≡ c.args.lanes.now.runs.held.len = omega (arith, c.deref_mut-2.ensures.len) in
+    let many : length c.finish_instant.new.states ≡ c.args.clocks.now.states.len = omega (arith, c.deref_mut.ensures.len) in
+    let few : length c.finish_instant.new.held ≡ c.args.clocks.now.room.held.len = omega (arith, c.deref_mut-2.ensures.len) in
     record {
       made = λ other sub past filled can.
           let S = over c.args.shape.now.plan.now c.args.shape.now.library.now c.args.shape.now.clocks.now other in
@@ -56,7 +56,7 @@ returns-clause-finished c =
           }) in
           record {
             parts_are = f.parts_are;
-            held_are = subst (λ (ps : List Part). IsHeld S sub c.args.clock past ps) (sym (with_items_is c.args.lanes.now.runs.held c.finish_instant.new.held few)) f.held_are;
-            stands = subst (λ states. ClockStands S sub c.args.clock (moment_after S sub c.args.clock past ∷ past) filled states) (sym (with_items_is c.args.lanes.now.states c.finish_instant.new.states many)) f.stands;
+            held_are = subst (λ (ps : List Part). IsHeld S sub c.args.clock past ps) (sym (with_items_is c.args.clocks.now.room.held c.finish_instant.new.held few)) f.held_are;
+            stands = subst (λ states. ClockStands S sub c.args.clock (moment_after S sub c.args.clock past ∷ past) filled states) (sym (with_items_is c.args.clocks.now.states c.finish_instant.new.states many)) f.stands;
           };
     }

@@ -8,16 +8,16 @@ use Rattle.nested_instants.proofs.keeping.rest_for.Goals as goal
 
 pub returns-clause-ahead : goal.returns-clause-ahead
 returns-clause-ahead c =
-    subst (λ (xs : List NodeState). AllLieAhead c.args.shape.now.library.now c.args.shape.now.clocks.now c.args.clock c.args.lanes.now.runs.held.items xs (length c.args.shape.now.clocks.now) c.rest_of.result)
+    subst (λ (xs : List NodeState). AllLieAhead c.args.shape.now.library.now c.args.shape.now.clocks.now c.args.clock c.args.clocks.now.room.held.items xs (length c.args.shape.now.clocks.now) c.rest_of.result)
     c.deref-3.ensures.value
     (subst (λ (ps : List Part). AllLieAhead c.args.shape.now.library.now c.args.shape.now.clocks.now c.args.clock ps c.deref-3.result.now (length c.args.shape.now.clocks.now) c.rest_of.result)
     c.deref-2.ensures.value c.rest_of.ensures.ahead)
 
 pub returns-clause-through : goal.returns-clause-through
 returns-clause-through c =
-    subst (λ (ns : List ℕ). AllPassOn c.args.shape.now.clocks.now c.args.clock c.args.lanes.now.runs.held.items c.args.lanes.now.states.items ns (length c.args.shape.now.clocks.now) c.rest_of.result)
+    subst (λ (ns : List ℕ). AllPassOn c.args.shape.now.clocks.now c.args.clock c.args.clocks.now.room.held.items c.args.clocks.now.states.items ns (length c.args.shape.now.clocks.now) c.rest_of.result)
     c.deref-4.ensures.value
-    (subst (λ (xs : List NodeState). AllPassOn c.args.shape.now.clocks.now c.args.clock c.args.lanes.now.runs.held.items xs c.deref-4.result.now (length c.args.shape.now.clocks.now) c.rest_of.result)
+    (subst (λ (xs : List NodeState). AllPassOn c.args.shape.now.clocks.now c.args.clock c.args.clocks.now.room.held.items xs c.deref-4.result.now (length c.args.shape.now.clocks.now) c.rest_of.result)
     c.deref-3.ensures.value
     (subst (λ (ps : List Part). AllPassOn c.args.shape.now.clocks.now c.args.clock ps c.deref-3.result.now c.deref-4.result.now (length c.args.shape.now.clocks.now) c.rest_of.result)
     c.deref-2.ensures.value c.rest_of.ensures.through))
@@ -27,9 +27,9 @@ returns-clause-goes c other sub past filled behind =
     let S = over c.args.shape.now.plan.now c.args.shape.now.library.now c.args.shape.now.clocks.now other in
     let seen : IsBehind S sub c.args.clock past filled c.args.time c.deref.result.now c.deref-2.result.now c.deref-3.result.now c.deref-4.result.now =
     subst (λ (parts : List Part). IsBehind S sub c.args.clock past filled c.args.time parts c.deref-2.result.now c.deref-3.result.now c.deref-4.result.now) (sym c.deref.ensures.value)
-    (subst (λ (ps : List Part). IsBehind S sub c.args.clock past filled c.args.time c.args.lanes.now.latest.parts.items ps c.deref-3.result.now c.deref-4.result.now) (sym c.deref-2.ensures.value)
-    (subst (λ (xs : List NodeState). IsBehind S sub c.args.clock past filled c.args.time c.args.lanes.now.latest.parts.items c.args.lanes.now.runs.held.items xs c.deref-4.result.now) (sym c.deref-3.ensures.value)
-    (subst (λ (ns : List ℕ). IsBehind S sub c.args.clock past filled c.args.time c.args.lanes.now.latest.parts.items c.args.lanes.now.runs.held.items c.args.lanes.now.states.items ns) (sym c.deref-4.ensures.value) behind))) in
+    (subst (λ (ps : List Part). IsBehind S sub c.args.clock past filled c.args.time c.args.clocks.now.latest.parts.items ps c.deref-3.result.now c.deref-4.result.now) (sym c.deref-2.ensures.value)
+    (subst (λ (xs : List NodeState). IsBehind S sub c.args.clock past filled c.args.time c.args.clocks.now.latest.parts.items c.args.clocks.now.room.held.items xs c.deref-4.result.now) (sym c.deref-3.ensures.value)
+    (subst (λ (ns : List ℕ). IsBehind S sub c.args.clock past filled c.args.time c.args.clocks.now.latest.parts.items c.args.clocks.now.room.held.items c.args.clocks.now.states.items ns) (sym c.deref-4.ensures.value) behind))) in
     record {
       stretch = c.rest_of.ensures.goes.stretch other sub past filled seen;
       held_is = behind.held_are;

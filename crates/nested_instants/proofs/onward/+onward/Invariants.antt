@@ -18,13 +18,13 @@ abbrev pub invariant-run_subs-loop-i : goal.invariant-run_subs-loop-i
 invariant-run_subs-loop-i l = record {
   high : l.i ≤ length l.shape.clocks.now;
   own : l.i < length l.shape.clocks.now → lies_at l.shape.clocks.now l.fn.clock l.i ≡ true;
-  lanes : AreClockStates l.shape.plan.now l.shape.library.now l.shape.clocks.now l.lanes;
-  latest : l.lanes.latest ≡ l.initial.lanes.latest;
-  held : l.lanes.runs.held ≡ l.initial.lanes.runs.held;
+  clocks : AreClockStates l.shape.plan.now l.shape.library.now l.shape.clocks.now l.clocks;
+  latest : l.clocks.latest ≡ l.initial.clocks.latest;
+  held : l.clocks.room.held ≡ l.initial.clocks.room.held;
   above : (rank : NodeClock → ℕ) → HasRanks l.shape.clocks.now rank
-      → AreAbove l.shape.clocks.now rank (rank l.fn.clock) (is_upto l.shape.clocks.now l.fn.clock l.i) l.initial.lanes l.lanes;
-  samples : (rank : NodeClock → ℕ) → HasRanks l.shape.clocks.now rank → AreSamplesLeft l.shape.clocks.now rank (rank l.fn.clock) is_none l.many l.initial.lanes l.lanes;
-  run : SubClocksMade l.shape.plan.now l.shape.library.now l.shape.clocks.now l.fn.clock l.many l.i l.initial.lanes l.lanes;
+      → AreAbove l.shape.clocks.now rank (rank l.fn.clock) (is_upto l.shape.clocks.now l.fn.clock l.i) l.initial.clocks l.clocks;
+  samples : (rank : NodeClock → ℕ) → HasRanks l.shape.clocks.now rank → AreSamplesLeft l.shape.clocks.now rank (rank l.fn.clock) is_none l.many l.initial.clocks l.clocks;
+  run : SubClocksMade l.shape.plan.now l.shape.library.now l.shape.clocks.now l.fn.clock l.many l.i l.initial.clocks l.clocks;
 }
 
 abbrev pub decreases-run_subs-loop-i : goal.decreases-run_subs-loop-i

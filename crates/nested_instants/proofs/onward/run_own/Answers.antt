@@ -8,37 +8,37 @@ use Rattle.clock_instants.specs.States.{AllFit, over}
 use Rattle.nested_instants.proofs.Restful.{resting_own}
 use Rattle.nested_instants.proofs.onward.run_own.Goals as goal
 
-pub returns-clause-lanes : goal.returns-clause-lanes
-returns-clause-lanes c =
-    let many : length c.run_nodes.new.states ≡ c.args.lanes.now.states.len = omega (arith, c.deref_mut.ensures.len) in
-    let items = with_items_is c.args.lanes.now.states c.run_nodes.new.states many in
+pub returns-clause-clocks : goal.returns-clause-clocks
+returns-clause-clocks c =
+    let many : length c.run_nodes.new.states ≡ c.args.clocks.now.states.len = omega (arith, c.deref_mut.ensures.len) in
+    let items = with_items_is c.args.clocks.now.states c.run_nodes.new.states many in
     record {
       fit = subst (AllFit c.args.shape.now.plan.now c.args.shape.now.library.now) (sym items) c.run_nodes.ensures.fit;
-      in_times = c.requires.lanes.in_times;
-      chains = c.requires.lanes.chains;
-      latest = c.requires.lanes.latest;
-      room = c.requires.lanes.room;
-      runs = c.run_nodes.ensures.room;
-      resting = resting_own c.args.shape.now.library.now c.args.shape.now.clocks.now c.args.lanes.now _ c.requires.lanes.resting c.args.clock c.requires.idle
+      in_times = c.requires.clocks.in_times;
+      chains = c.requires.clocks.chains;
+      latest = c.requires.clocks.latest;
+      room = c.requires.clocks.room;
+      stretch_room = c.run_nodes.ensures.room;
+      resting = resting_own c.args.shape.now.library.now c.args.shape.now.clocks.now c.args.clocks.now _ c.requires.clocks.resting c.args.clock c.requires.idle
           (λ i. ap (λ r. slice_index_or r.items i 0) c.run_nodes.ensures.rests)
           (λ i outside. ap (λ xs. slice_get xs i) items ∙ c.run_nodes.ensures.others i outside ∙ ap (λ xs. slice_get xs i) c.deref_mut.ensures.value)
           (λ i outside. ap (λ h. part_at h.items i) c.run_nodes.ensures.held);
-      rates = c.requires.lanes.rates;
-      frames = c.requires.lanes.frames;
+      rates = c.requires.clocks.rates;
+      frames = c.requires.clocks.frames;
     }
 
 pub returns-clause-others : goal.returns-clause-others
 returns-clause-others c i outside =
-    let many : length c.run_nodes.new.states ≡ c.args.lanes.now.states.len = omega (arith, c.deref_mut.ensures.len) in
-    ap (λ xs. slice_get xs i) (with_items_is c.args.lanes.now.states c.run_nodes.new.states many)
+    let many : length c.run_nodes.new.states ≡ c.args.clocks.now.states.len = omega (arith, c.deref_mut.ensures.len) in
+    ap (λ xs. slice_get xs i) (with_items_is c.args.clocks.now.states c.run_nodes.new.states many)
     ∙ c.run_nodes.ensures.others i outside ∙ ap (λ xs. slice_get xs i) c.deref_mut.ensures.value
 
 pub returns-clause-run : goal.returns-clause-run
 returns-clause-run c other sub past filled going =
     let S = over c.args.shape.now.plan.now c.args.shape.now.library.now c.args.shape.now.clocks.now other in
-    let many : length c.run_nodes.new.states ≡ c.args.lanes.now.states.len = omega (arith, c.deref_mut.ensures.len) in
-    let items = with_items_is c.args.lanes.now.states c.run_nodes.new.states many in
-    subst (λ (xs : List NodeState). HasGoneOn S sub c.args.clock past c.args.many filled c.args.lanes.now.states.items c.run_nodes.new.runs.left.items c.run_nodes.new.runs.right.items xs) (sym items)
-    (subst (λ (xs : List NodeState). HasGoneOn S sub c.args.clock past c.args.many filled xs c.run_nodes.new.runs.left.items c.run_nodes.new.runs.right.items c.run_nodes.new.states) c.deref_mut.ensures.value
+    let many : length c.run_nodes.new.states ≡ c.args.clocks.now.states.len = omega (arith, c.deref_mut.ensures.len) in
+    let items = with_items_is c.args.clocks.now.states c.run_nodes.new.states many in
+    subst (λ (xs : List NodeState). HasGoneOn S sub c.args.clock past c.args.many filled c.args.clocks.now.states.items c.run_nodes.new.stretch_room.left.items c.run_nodes.new.stretch_room.right.items xs) (sym items)
+    (subst (λ (xs : List NodeState). HasGoneOn S sub c.args.clock past c.args.many filled xs c.run_nodes.new.stretch_room.left.items c.run_nodes.new.stretch_room.right.items c.run_nodes.new.states) c.deref_mut.ensures.value
     (c.run_nodes.ensures.run.run other sub past filled
-    (subst (λ (xs : List NodeState). IsGoing S sub c.args.clock past c.args.many filled c.args.lanes.now.runs.held.items xs c.args.lanes.now.runs.left.items c.args.lanes.now.runs.right.items) (sym c.deref_mut.ensures.value) going)))
+    (subst (λ (xs : List NodeState). IsGoing S sub c.args.clock past c.args.many filled c.args.clocks.now.room.held.items xs c.args.clocks.now.room.left.items c.args.clocks.now.room.right.items) (sym c.deref_mut.ensures.value) going)))

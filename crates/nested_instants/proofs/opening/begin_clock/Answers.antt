@@ -14,9 +14,9 @@ returns-clause-opened g c = record {
   opened = λ other sub rank ran filled front ranks own has stand needed at.
       let within = starts_at (over c.args.shape.now.plan.now c.args.shape.now.library.now c.args.shape.now.clocks.now other) sub c.args.clock (ran c.args.clock) c.args.time c.begins_tick.result c.requires.frame at c.begins_tick.ensures ∙ c.if-begins_tick.false in
       record {
-        stand = opened_stand (over c.args.shape.now.plan.now c.args.shape.now.library.now c.args.shape.now.clocks.now other) sub rank c.args.clock ran filled front c.args.lanes.now stand needed ranks c.requires.shape.in_clocks own [] c.args.lanes.now
-            (within_stands (over c.args.shape.now.plan.now c.args.shape.now.library.now c.args.shape.now.clocks.now other) sub rank c.args.clock ran filled front c.args.lanes.now stand needed within)
-            (within_taken (over c.args.shape.now.plan.now c.args.shape.now.library.now c.args.shape.now.clocks.now other) sub rank c.args.clock ran filled front c.args.lanes.now stand needed within)
+        stand = opened_stand (over c.args.shape.now.plan.now c.args.shape.now.library.now c.args.shape.now.clocks.now other) sub rank c.args.clock ran filled front c.args.clocks.now stand needed ranks c.requires.shape.in_clocks own [] c.args.clocks.now
+            (within_stands (over c.args.shape.now.plan.now c.args.shape.now.library.now c.args.shape.now.clocks.now other) sub rank c.args.clock ran filled front c.args.clocks.now stand needed within)
+            (within_taken (over c.args.shape.now.plan.now c.args.shape.now.library.now c.args.shape.now.clocks.now other) sub rank c.args.clock ran filled front c.args.clocks.now stand needed within)
             (λ buffer none. refl) (λ i outside. refl) refl refl;
         calls = takes_within (over c.args.shape.now.plan.now c.args.shape.now.library.now c.args.shape.now.clocks.now other) c.args.clock (first_instants (over c.args.shape.now.plan.now c.args.shape.now.library.now c.args.shape.now.clocks.now other) sub c.args.clock (ran c.args.clock)) within;
       };
@@ -24,37 +24,37 @@ returns-clause-opened g c = record {
 
 pub returns-then-begins_tick-clause-opened : goal.returns-then-begins_tick-clause-opened
 returns-then-begins_tick-clause-opened g c =
-    let many : length c.begin_readers.new.states ≡ c.args.lanes.now.states.len = omega (arith, c.deref_mut.ensures.len) in
+    let many : length c.begin_readers.new.states ≡ c.args.clocks.now.states.len = omega (arith, c.deref_mut.ensures.len) in
     ok_then c.begin_readers.result
     (opened_by g.T.Taps.stands c.args.shape.now.plan.now c.args.shape.now.library.now c.args.shape.now.clocks.now c.args.clock c.args.time c.requires.frame
-    (sym c.if-begins_tick.true ∙ c.begins_tick.ensures) c.args.lanes.now c.deref_mut.result.now c.args.taps.now c.begin_readers.new.taps c.deref_mut.ensures.value c.requires.shape.in_clocks _
-    c.begin_readers.new.states (with_items_is c.args.lanes.now.states c.begin_readers.new.states many) refl refl c.begin_readers.ensures.others)
+    (sym c.if-begins_tick.true ∙ c.begins_tick.ensures) c.args.clocks.now c.deref_mut.result.now c.args.taps.now c.begin_readers.new.taps c.deref_mut.ensures.value c.requires.shape.in_clocks _
+    c.begin_readers.new.states (with_items_is c.args.clocks.now.states c.begin_readers.new.states many) refl refl c.begin_readers.ensures.others)
     c.begin_readers.ensures.begun
 
 pub returns-then-begins_tick-clause-stopped : goal.returns-then-begins_tick-clause-stopped
 returns-then-begins_tick-clause-stopped g c =
     err_then c.begin_readers.result
     (opening_some g.T.Taps.stands c.args.shape.now.plan.now c.args.shape.now.library.now c.args.shape.now.clocks.now c.args.clock c.args.time c.requires.frame
-    (sym c.if-begins_tick.true ∙ c.begins_tick.ensures) c.args.lanes.now c.deref_mut.result.now c.args.taps.now c.begin_readers.new.taps c.deref_mut.ensures.value)
+    (sym c.if-begins_tick.true ∙ c.begins_tick.ensures) c.args.clocks.now c.deref_mut.result.now c.args.taps.now c.begin_readers.new.taps c.deref_mut.ensures.value)
     c.begin_readers.ensures.stopped
 
 pub returns-then-begins_tick-clause-reads : goal.returns-then-begins_tick-clause-reads
 returns-then-begins_tick-clause-reads g c = err_then c.begin_readers.result (λ has. has) c.begin_readers.ensures.reads
 
-pub returns-then-begins_tick-clause-lanes : goal.returns-then-begins_tick-clause-lanes
-returns-then-begins_tick-clause-lanes g c =
-    let many : length c.begin_readers.new.states ≡ c.args.lanes.now.states.len = omega (arith, c.deref_mut.ensures.len) in
-    let items = with_items_is c.args.lanes.now.states c.begin_readers.new.states many in
+pub returns-then-begins_tick-clause-clocks : goal.returns-then-begins_tick-clause-clocks
+returns-then-begins_tick-clause-clocks g c =
+    let many : length c.begin_readers.new.states ≡ c.args.clocks.now.states.len = omega (arith, c.deref_mut.ensures.len) in
+    let items = with_items_is c.args.clocks.now.states c.begin_readers.new.states many in
     record {
       fit = subst (AllFit c.args.shape.now.plan.now c.args.shape.now.library.now) (sym items) c.begin_readers.ensures.fit;
-      in_times = c.requires.lanes.in_times;
-      chains = c.requires.lanes.chains;
-      latest = c.requires.lanes.latest;
-      room = c.requires.lanes.room;
-      runs = c.requires.lanes.runs;
-      resting = resting_own c.args.shape.now.library.now c.args.shape.now.clocks.now c.args.lanes.now _ c.requires.lanes.resting c.args.clock c.requires.idle (λ i. refl)
+      in_times = c.requires.clocks.in_times;
+      chains = c.requires.clocks.chains;
+      latest = c.requires.clocks.latest;
+      room = c.requires.clocks.room;
+      stretch_room = c.requires.clocks.stretch_room;
+      resting = resting_own c.args.shape.now.library.now c.args.shape.now.clocks.now c.args.clocks.now _ c.requires.clocks.resting c.args.clock c.requires.idle (λ i. refl)
           (λ i outside. ap (λ xs. slice_get xs i) items ∙ c.begin_readers.ensures.others i outside ∙ ap (λ xs. slice_get xs i) c.deref_mut.ensures.value)
           (λ i outside. refl);
-      rates = c.requires.lanes.rates;
-      frames = c.requires.lanes.frames;
+      rates = c.requires.clocks.rates;
+      frames = c.requires.clocks.frames;
     }

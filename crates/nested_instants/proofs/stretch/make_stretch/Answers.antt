@@ -6,7 +6,7 @@ use Rattle.nested_instants.proofs.stretch.make_stretch.Goals as goal
 pub returns-then-many-eq0-clause-run : goal.returns-then-many-eq0-clause-run
 returns-then-many-eq0-clause-run c = record {
   run = λ other sub rank ran filled front own n world stand needed at parts held time.
-      has_run_none (over c.args.shape.now.plan.now c.args.shape.now.library.now c.args.shape.now.clocks.now other) sub rank own c.args.clock n ran filled front c.args.lanes.now stand needed;
+      has_run_none (over c.args.shape.now.plan.now c.args.shape.now.library.now c.args.shape.now.clocks.now other) sub rank own c.args.clock n ran filled front c.args.clocks.now stand needed;
 }
 
 pub returns-clause-run : goal.returns-clause-run
@@ -19,6 +19,6 @@ returns-clause-run c = record {
         needed = needed;
         at = at;
         goes = c.rest_for-many.ensures.goes other sub (first_instants S sub c.args.clock n) filled
-            (are_behind S sub rank c.args.clock n ran filled front c.args.lanes.now c.args.time world.ranks c.requires.shape.in_clocks c.requires.shape.nodes world.meaning stand needed at parts held time);
+            (are_behind S sub rank c.args.clock n ran filled front c.args.clocks.now c.args.time world.ranks c.requires.shape.in_clocks c.requires.shape.nodes world.meaning stand needed at parts held time);
       });
 }

@@ -1,4 +1,4 @@
-// Room for the runs of a plan's nodes.
+// Room for the stretches of a plan's nodes.
 ghost use Rattle.std.specs.Prelude.{◌≡◌, ◌≤◌, ℕ, Some, length, slice_get, slice_index_or, IfOk};
 ghost use Rattle.liq_base.specs.declared.limits.TheConstants.{MAX_NODES};
 ghost use Rattle.op_mix.specs.Stretches.{samples_of};
@@ -12,17 +12,17 @@ use op_mix::{MAX_STRETCH, Sums, samples_of};
 use std::alloc::Global;
 use stream_meaning::Part;
 
-/// What the runs of a plan's nodes need: the samples of each node that is driven, as many as a run has at most; room for a sum; and
+/// What the stretches of a plan's nodes need: the samples of each node that is driven, as many as a stretch has at most; room for a sum; and
 /// what is kept from instant to instant.
 #[derive(Drop)]
-pub struct Runs {
-    /// By node: its left samples in the latest run; empty for a node that is idle.
+pub struct StretchRoom {
+    /// By node: its left samples in the latest stretch; empty for a node that is idle.
     pub left: Vec<Vec<i16>>,
 
     /// The same of its right samples.
     pub right: Vec<Vec<i16>>,
 
-    /// Room for the run of the next node.
+    /// Room for the samples of the next node.
     pub spare: Spare,
 
     /// By node: its part at the latest instant of its own clock, if it gave.
@@ -31,11 +31,11 @@ pub struct Runs {
     /// By crossfade: how many instants of its sub-clock go on as the latest one did.
     pub rests: Vec<u32>,
 
-    /// Room for what the nodes of the clock that runs gave.
+    /// Room for what the nodes of the clock that goes on gave.
     pub parts: Vec<Part>,
 }
 
-/// Room in which the samples of a node's run are made, as many as a run has at most.
+/// Room in which the samples of a node are made, as many as a stretch has at most.
 #[derive(Drop)]
 pub struct Spare {
     pub left: Vec<i16>,
@@ -44,7 +44,7 @@ pub struct Spare {
 }
 
 impl Spare {
-    /// Room for any run. No later call takes memory.
+    /// Room for any stretch. No later call takes memory.
     pub fn new(alloc: Global) -> Result<Spare, Memory>
         ensures { IfOk result IsSpare }
     {
@@ -55,13 +55,13 @@ impl Spare {
     }
 }
 
-impl Runs {
+impl StretchRoom {
     /// Room for the nodes of which these are the states, `4 * MAX_STRETCH` bytes for each that is not idle. No later call takes memory.
-    pub fn new(alloc: Global, states: &[NodeState]) -> Result<Runs, Memory>
+    pub fn new(alloc: Global, states: &[NodeState]) -> Result<StretchRoom, Memory>
         requires { length states.now ≤ MAX_NODES }
         ensures room { IfOk result (HasStretchRoom (length states.now)) }
-        ensures laned { IfOk result (λ runs. (i : ℕ) (state : State) → slice_get states.now i ≡ Some state → (state ≡ Idle → ⊥) → HasLanes runs.left.items runs.right.items i) }
-        ensures none { IfOk result (λ runs. (i : ℕ) → slice_index_or runs.rests.items i 0 ≡ 0) }
+        ensures laned { IfOk result (λ room. (i : ℕ) (state : State) → slice_get states.now i ≡ Some state → (state ≡ Idle → ⊥) → HasLanes room.left.items room.right.items i) }
+        ensures none { IfOk result (λ room. (i : ℕ) → slice_index_or room.rests.items i 0 ≡ 0) }
     {
         let left = lanes_of(alloc, states)?;
         let right = lanes_of(alloc, states)?;
@@ -73,7 +73,7 @@ impl Runs {
         let held = vec![in alloc; none; states.len()]?;
         let rests = vec![in alloc; 0; states.len()]?;
         let parts = vec![in alloc; none; states.len()]?;
-        Ok(Runs {
+        Ok(StretchRoom {
             left,
             right,
             spare,
@@ -83,7 +83,7 @@ impl Runs {
         })
     }
 
-    /// The left samples of a node in the latest run, which had so many instants: silence of a node that is idle.
+    /// The left samples of a node in the latest stretch, which had so many instants: silence of a node that is idle.
     pub fn left_of(&self, node: u32, count: usize) -> &[i16]
         requires short { count ≤ 1024 }
         ensures is { result.now ≡ samples_of self.now.left.items node count }
@@ -92,7 +92,7 @@ impl Runs {
         samples_of(&self.left, node, count)
     }
 
-    /// The right samples of a node in the latest run, which had so many instants: silence of a node that is idle.
+    /// The right samples of a node in the latest stretch, which had so many instants: silence of a node that is idle.
     pub fn right_of(&self, node: u32, count: usize) -> &[i16]
         requires short { count ≤ 1024 }
         ensures is { result.now ≡ samples_of self.now.right.items node count }

@@ -1,5 +1,5 @@
 use Rattle.clock_instants.specs.Stretches.{HaveLanes}
-use Rattle.clock_instants.proofs.runs.lanes_of.Given as goal
+use Rattle.clock_instants.proofs.stretch_room.lanes_of.Given as goal
 
 abbrev pub invariant-loop-i : goal.invariant-loop-i
 invariant-loop-i l = HaveLanes l.states l.i l.lanes.items

@@ -1,6 +1,6 @@
 use Rattle.std.proofs.Common.{◌≡◌, ◌∙◌, length, pos, arith, ap}
 use Rattle.std.proofs.lemmas.List.{length-replicate}
-use Rattle.clock_instants.proofs.runs.Spare.new.Goals as goal
+use Rattle.clock_instants.proofs.stretch_room.Spare.new.Goals as goal
 
 pub returns : goal.returns
 returns c = record {

@@ -2,7 +2,7 @@ use Rattle.std.proofs.Common.{◌≡◌, ◌+◌, ◌∙◌, Some, slice_get, re
 use Rattle.std.proofs.lemmas.Option.{slice_get_read}
 use Rattle.clock_instants.specs.Stretches.{HaveLanes}
 use Rattle.clock_instants.proofs.Laning.{lanes_more}
-use Rattle.clock_instants.proofs.runs.lanes_of.Goals as goal
+use Rattle.clock_instants.proofs.stretch_room.lanes_of.Goals as goal
 
 pub loop-i-preserved : goal.loop-i-preserved
 loop-i-preserved c =

@@ -1,7 +1,7 @@
 use Rattle.std.proofs.Common.{rules}
 use Rattle.std.proofs.lemmas.Option.{slice_get_within}
 use Rattle.clock_instants.proofs.Laning.{none_given}
-use Rattle.clock_instants.proofs.runs.Runs.new.Goals as goal
+use Rattle.clock_instants.proofs.stretch_room.StretchRoom.new.Goals as goal
 
 pub returns-clause-room : goal.returns-clause-room
 returns-clause-room c = record {
