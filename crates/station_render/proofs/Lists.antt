@@ -86,6 +86,14 @@ set_many [] i x = refl
 set_many (s ∷ xs) zero x = refl
 set_many (s ∷ xs) (suc i) x = ap suc (set_many xs i x)
 
+-- what holds of each of these at its place, and of one more at the next place, holds of each of them all
+pub each_more : {A : Type 0} (P : ℕ → A → Type 0) (xs : List A) (last : A) → ((k : ℕ) (x : A) → slice_get xs k ≡ Some x → P k x) → P (length xs) last
+    → (k : ℕ) (x : A) → slice_get (xs ++ last ∷ []) k ≡ Some x → P k x
+each_more P [] last each is zero x there = let same : last ≡ x = cc in subst (λ y. P 0 y) same is
+each_more P [] last each is (suc k) x there = absurd cc
+each_more P (y ∷ xs) last each is zero x there = each 0 x there
+each_more P (y ∷ xs) last each is (suc k) x there = each_more (λ n. P (suc n)) xs last (λ j z at. each (suc j) z at) is k x there
+
 pub on_ok : {T E : Type 0} (r : Result T E) (P Q : Type 0) → (P → Q) → OnOk r P → OnOk r Q
 on_ok (Ok x) P Q f p = f p
 on_ok (Err e) P Q f p = p

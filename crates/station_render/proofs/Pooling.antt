@@ -7,7 +7,7 @@ use Rattle.clock_ticks.specs.declared.engine.ClockEngine.{ClockEngine}
 use Rattle.stream_meaning.specs.Instants.{Setting}
 use Rattle.station_render.specs.Sinks.{lists_of}
 use Rattle.station_render.specs.Engines.{AreAt, AreEmptyBelow, AreKeeping, IsAt, outs_of, pooled}
-use Rattle.station_render.proofs.Lists.{here_is, many_mapped, set_many, set_other, within}
+use Rattle.station_render.proofs.Lists.{each_more, here_is, many_mapped, set_many, set_other, within}
 use Rattle.station_render.proofs.Pools.{empty_below_fewer, empty_below_more, empty_last, pool_back, pool_more}
 
 module _ {S : Type 0} where
@@ -38,24 +38,9 @@ module _ {S : Type 0} where
       ap (λ es. pooled (outs_of es) lists) is ∙ ap (λ os. pooled os lists) (outs_more front engine) ∙ pool_back (outs_of front) lists engine.outs low
       ∙ ap (λ n. pooled (outs_of front) (set lists n engine.outs)) (outs_many front) ∙ ap (λ o. pooled (outs_of front) (set lists (length front) o)) (sym same)
 
-  at_place : (setting : Setting) (es : List (ClockEngine S)) (last : ClockEngine S) (m : ℕ) (other : ClockEngine S) (from : ℕ) → ((k : ℕ) (e : ClockEngine S) → slice_get es k ≡ Some e → IsAt setting (from + k) e)
-      → IsAt setting (from + length es) last → slice_get (es ++ last ∷ []) m ≡ Some other → IsAt setting (from + m) other
-  at_place setting [] last zero other from each is there = (let same : last ≡ other = (cc) in subst (λ e. IsAt setting (from + 0) e) same is)
-  at_place setting [] last (suc m) other from each is there = absurd (cc)
-  at_place setting (e ∷ es) last zero other from each is there = each 0 other there
-  at_place setting (e ∷ es) last (suc m) other from each is there =
-      let step : suc from + m ≡ from + suc m = omega arith in
-      let last_step : from + suc (length es) ≡ suc from + length es = omega arith in
-      subst (λ n. IsAt setting n other) step
-      (at_place setting es last m other (suc from) (λ k f found. let next : from + suc k ≡ suc from + k = omega arith in subst (λ n. IsAt setting n f) next (each (suc k) f found))
-      (subst (λ n. IsAt setting n last) last_step is) there)
-
   pub at_more : (setting : Setting) (engines : List (ClockEngine S)) (engine : ClockEngine S) → AreAt setting engines → IsAt setting (length engines) engine → AreAt setting (engines ++ engine ∷ [])
   at_more setting engines engine at is = record {
-    each = λ m other there.
-        let from_0 : (n : ℕ) → 0 + n ≡ n = λ n. omega arith in
-        subst (λ n. IsAt setting n other) (from_0 m)
-        (at_place setting engines engine m other 0 (λ k e found. subst (λ n. IsAt setting n e) (sym (from_0 k)) (at.each k e found)) (subst (λ n. IsAt setting n engine) (sym (from_0 (length engines))) is) there);
+    each = each_more (λ (n : ℕ) (e : ClockEngine S). IsAt setting n e) engines engine (λ k e found. at.each k e found) is;
   }
 
   -- the place of the last engine is empty
@@ -117,11 +102,6 @@ module _ {S : Type 0} where
 -- one more engine keeps its marks
 pub taking_keeping : {S : Type 0} (wanted : Bool) (engines more : List (ClockEngine S)) (engine : ClockEngine S) → more ≡ engines ++ engine ∷ [] → AreKeeping wanted engines
     → (wanted ≡ true → engine.parts.cues.keeping ≡ true) → AreKeeping wanted more
-taking_keeping wanted engines more engine items keep one is m other at =
-    keep_at engines (λ k e found. keep is k e found) m other (ap (λ es. slice_get es m) (sym items) ∙ at)
-  where
-    keep_at : (front : List (ClockEngine _)) → ((k : ℕ) (e : ClockEngine _) → slice_get front k ≡ Some e → e.parts.cues.keeping ≡ true) → (n : ℕ) (found : ClockEngine _) → slice_get (front ++ engine ∷ []) n ≡ Some found → found.parts.cues.keeping ≡ true
-    keep_at [] each zero found there = let same : engine ≡ found = cc in subst (λ e. e.parts.cues.keeping ≡ true) same (one is)
-    keep_at [] each (suc n) found there = absurd cc
-    keep_at (e ∷ front) each zero found there = each 0 found there
-    keep_at (e ∷ front) each (suc n) found there = keep_at front (λ k f at_k. each (suc k) f at_k) n found there
+taking_keeping {S = S} wanted engines more engine items keep one is m other at =
+    each_more (λ (n : ℕ) (e : ClockEngine S). e.parts.cues.keeping ≡ true) engines engine (λ k e found. keep is k e found) (one is) m other
+    (ap (λ es. slice_get es m) (sym items) ∙ at)

@@ -126,7 +126,7 @@ pub(crate) fn make_engines<'a, O: Sink>(
     let mut engines = Vec::with_capacity(alloc, groups.len())?;
     for clock in 0..groups.len() {
         match make_engine(alloc, job, groups, clock) {
-            Ok(engine) => engines.push(engine).unwrap(),
+            Ok(engine) => engines.push_reserved(engine),
             Err(refused) => {
                 give_back(engines, groups);
                 return Err(refused);

@@ -9,26 +9,26 @@ use Rattle.station_render.proofs.engines.make_engines.Goals as goal
 
 pub loop-clock-preserved : goal.loop-clock-preserved
 loop-clock-preserved g c =
-    let items : c.push.new.self.items ≡ c.loop-clock.engines.items ++ c.in-Ok.engine ∷ [] = search rules in
-    let len : vec_len c.push.new.self ≡ vec_len c.loop-clock.engines + 1 = search rules in
-    let size = taking_many c.loop-clock.engines.items c.push.new.self.items c.in-Ok.engine (lists_of c.loop-clock.groups.items) (lists_of c.make_engine.new.groups.items) c.loop-clock.clock
+    let items : c.push_reserved.new.self.items ≡ c.loop-clock.engines.items ++ c.in-Ok.engine ∷ [] = c.push_reserved.ensures.items in
+    let len : vec_len c.push_reserved.new.self ≡ vec_len c.loop-clock.engines + 1 = search rules in
+    let size = taking_many c.loop-clock.engines.items c.push_reserved.new.self.items c.in-Ok.engine (lists_of c.loop-clock.groups.items) (lists_of c.make_engine.new.groups.items) c.loop-clock.clock
     items c.loop-clock.invariant.count c.in-Ok.ensures.outs c.in-Ok.ensures.taken in
     record {
-      made = taking_at c.loop-clock.engines.items c.push.new.self.items c.in-Ok.engine (lists_of c.loop-clock.groups.items) (lists_of c.make_engine.new.groups.items) c.loop-clock.clock
+      made = taking_at c.loop-clock.engines.items c.push_reserved.new.self.items c.in-Ok.engine (lists_of c.loop-clock.groups.items) (lists_of c.make_engine.new.groups.items) c.loop-clock.clock
           items c.loop-clock.invariant.count c.in-Ok.ensures.outs c.in-Ok.ensures.taken (setting_by c.args.job.now)
           c.loop-clock.invariant.made c.in-Ok.ensures.made;
-      keeping = taking_keeping c.args.job.now.cues c.loop-clock.engines.items c.push.new.self.items c.in-Ok.engine items c.loop-clock.invariant.keeping c.in-Ok.ensures.keeping;
-      count = taking_count c.loop-clock.engines.items c.push.new.self.items c.in-Ok.engine (lists_of c.loop-clock.groups.items) (lists_of c.make_engine.new.groups.items) c.loop-clock.clock
+      keeping = taking_keeping c.args.job.now.cues c.loop-clock.engines.items c.push_reserved.new.self.items c.in-Ok.engine items c.loop-clock.invariant.keeping c.in-Ok.ensures.keeping;
+      count = taking_count c.loop-clock.engines.items c.push_reserved.new.self.items c.in-Ok.engine (lists_of c.loop-clock.groups.items) (lists_of c.make_engine.new.groups.items) c.loop-clock.clock
           items c.loop-clock.invariant.count c.in-Ok.ensures.outs c.in-Ok.ensures.taken;
       len = omega (arith, len, c.loop-clock.invariant.len);
-      room = omega (arith, c.push.ensures.capacity, c.loop-clock.invariant.room);
+      room = omega (arith, c.push_reserved.ensures.capacity, c.loop-clock.invariant.room);
       size = size ∙ c.loop-clock.invariant.size;
-      empty = taking_empty c.loop-clock.engines.items c.push.new.self.items c.in-Ok.engine (lists_of c.loop-clock.groups.items) (lists_of c.make_engine.new.groups.items) c.loop-clock.clock
+      empty = taking_empty c.loop-clock.engines.items c.push_reserved.new.self.items c.in-Ok.engine (lists_of c.loop-clock.groups.items) (lists_of c.make_engine.new.groups.items) c.loop-clock.clock
           items c.loop-clock.invariant.count c.in-Ok.ensures.outs c.in-Ok.ensures.taken c.loop-clock.invariant.empty;
-      pool = taking_pool c.loop-clock.engines.items c.push.new.self.items c.in-Ok.engine (lists_of c.loop-clock.groups.items) (lists_of c.make_engine.new.groups.items) c.loop-clock.clock
+      pool = taking_pool c.loop-clock.engines.items c.push_reserved.new.self.items c.in-Ok.engine (lists_of c.loop-clock.groups.items) (lists_of c.make_engine.new.groups.items) c.loop-clock.clock
           items c.loop-clock.invariant.count c.in-Ok.ensures.outs c.in-Ok.ensures.taken ∙ c.loop-clock.invariant.pool;
       left = λ m group above at. c.loop-clock.invariant.left m group (omega (arith, above))
-          (taking_left c.loop-clock.engines.items c.push.new.self.items c.in-Ok.engine (lists_of c.loop-clock.groups.items) (lists_of c.make_engine.new.groups.items) c.loop-clock.clock
+          (taking_left c.loop-clock.engines.items c.push_reserved.new.self.items c.in-Ok.engine (lists_of c.loop-clock.groups.items) (lists_of c.make_engine.new.groups.items) c.loop-clock.clock
           items c.loop-clock.invariant.count c.in-Ok.ensures.outs c.in-Ok.ensures.taken m group above at);
     }
 
