@@ -1,7 +1,8 @@
 -- Plans of stereo nodes, one node more.
-use Rattle.std.proofs.Common.{◌≡◌, ℕ, ◌+◌, ◌<◌, ◌≤◌, zero, suc, Some, List, [], ◌∷◌, ◌++◌, length, map, sym, refl, ap, subst, inl, inr, arith, slice_get, slice_index, max, take, All}
+use Rattle.std.proofs.Common.{◌≡◌, ℕ, ◌+◌, ◌<◌, ◌≤◌, zero, suc, Bool, true, false, Some, List, [], ◌∷◌, ◌++◌, length, map, sym, refl, ap, subst, inl, inr, arith, slice_get, slice_index, max, take, All}
 use Rattle.std.specs.Prelude.{◌⊎◌}
-use Rattle.std.proofs.lemmas.List.Elements.{All-nil, All-cons}
+use Rattle.std.proofs.lemmas.List.Elements.{All-append, All-nil, All-cons}
+use Rattle.std.proofs.lemmas.Option.{slice_get-get_or}
 use Rattle.std.proofs.Math.Nat.{max-zero}
 use Rattle.liq_base.specs.declared.limits.TheConstants.{MAX_CHILDREN, MAX_CROSSFADES}
 use Rattle.liq_base.specs.declared.memory.Kind.{Kind}
@@ -10,8 +11,11 @@ use Rattle.plan_core.specs.declared.node.Node.{Node}
 use Rattle.plan_core.specs.declared.node.Op.{Op}
 use Rattle.plan_core.specs.declared.node.Op.TheVariants.{Crossfade}
 use Rattle.plan_core.specs.declared.plan.Plan.{Plan}
-use Rattle.plan_core.specs.Plans.{IsNodeOver, HasChildren, HasKind, IsInRange, greatest, crossfade_counts, crossfades_from, with_node, IsWellFormed}
-use Rattle.plan_samples.specs.Stereos.{blank, stereo_node, IsStereo}
+use Rattle.plan_core.specs.declared.sink.BufferPlan.{BufferPlan}
+use Rattle.plan_core.specs.declared.sink.SinkPlan.{SinkPlan}
+use Rattle.plan_core.specs.declared.sink.SinkPlan.TheVariants.{Output, Feed}
+use Rattle.plan_core.specs.Plans.{IsBuffer, IsNodeOver, HasChildren, HasKind, IsInRange, greatest, crossfade_counts, crossfades_from, is_output, reader_of, with_buffer, with_node, IsWellFormed}
+use Rattle.plan_samples.specs.Stereos.{blank, stereo_node, AreFeeds, IsStereo, sole_node}
 
 one_more : {A : Type 0} (xs : List A) (y : A) (i : ℕ) (x : A) → slice_get (xs ++ y ∷ []) i ≡ Some x → (slice_get xs i ≡ Some x) ⊎ (y ≡ x)
 one_more [] y zero x is = let same : y ≡ x = cc in inr same
@@ -67,3 +71,43 @@ one_below n child children is here = let C : List ℕ → Type 0 = λ cs. All (�
 pub two_below : (n first second : ℕ) (children : List ℕ) → children ≡ first ∷ second ∷ [] → first < n → second < n → All (λ c. c < n) children
 two_below n first second children is one two = let C : List ℕ → Type 0 = λ cs. All (λ c. c < n) cs in
     subst C (sym is) (All-cons (λ c. c < n) first (second ∷ []) one (All-cons (λ c. c < n) second [] two (All-nil _)))
+
+-- behind feeds an output is the only one
+pub sole_behind : (feeds : List SinkPlan) (name : List ℕ) (node : ℕ) (fallible wide : Bool) → AreFeeds feeds → sole_node (feeds ++ Output name node fallible wide ∷ []) ≡ Some node
+sole_behind [] name node fallible wide all = refl
+sole_behind (Feed buffer source ∷ feeds) name node fallible wide all = sole_behind feeds name node fallible wide (λ k d lt. all (suc k) d (omega (arith, lt)))
+sole_behind (Output other source f w ∷ feeds) name node fallible wide all = let no : true ≡ false = all 0 (Feed 0 0) (omega arith) in cc
+
+-- where a plan has no buffers, nothing feeds one
+no_feeds : (plan : Plan) (sinks : List SinkPlan) → plan.sinks ≡ sinks → IsWellFormed plan → plan.buffers ≡ [] → AreFeeds sinks → sinks ≡ []
+no_feeds plan [] is well none all = refl
+no_feeds plan (Feed buffer source ∷ feeds) is well none all =
+    let below : buffer < length plan.buffers = well.fed buffer 0 (source, ap (λ sinks. slice_get sinks 0) is) in
+    let zero_many : length plan.buffers ≡ 0 = ap length none in
+    absurd (omega (arith, below, zero_many))
+no_feeds plan (Output name node fallible wide ∷ sinks) is well none all = let no : true ≡ false = all 0 (Feed 0 0) (omega arith) in cc
+
+-- an output behind feeds stands alone where there are no buffers
+pub alone : (plan : Plan) (output : SinkPlan) → IsWellFormed plan → AreFeeds plan.sinks → plan.buffers ≡ [] → plan.sinks ++ output ∷ [] ≡ output ∷ []
+alone plan output well all none = ap (λ sinks. sinks ++ output ∷ []) (no_feeds plan plan.sinks refl well none all)
+
+-- a feed more
+pub one_feed_more : (feeds new : List SinkPlan) (buffer node : ℕ) → AreFeeds feeds → new ≡ feeds ++ Feed buffer node ∷ [] → AreFeeds new
+one_feed_more feeds new buffer node all is = let F : SinkPlan → Type 0 = λ sink. is_output sink ≡ false in
+    subst AreFeeds (sym is) (All-append F feeds (Feed buffer node ∷ []) all (All-cons F (Feed buffer node) [] refl (All-nil _)))
+
+-- a stereo plan with a buffer more is stereo
+pub stereo_buffer : (plan new : Plan) (source : ℕ) (buffer : BufferPlan) → IsStereo plan → IsBuffer buffer → source < length plan.nodes → new ≡ with_buffer plan source Stereo buffer
+    → ((from : Node) → IsWellFormed plan → IsBuffer buffer → slice_get plan.nodes source ≡ Some from → Stereo ≡ from.kind → IsWellFormed new) → IsStereo new
+stereo_buffer plan new source buffer m fits below is well =
+    let there = slice_get-get_or plan.nodes source blank below in
+    let reader : Node = reader_of (length plan.buffers) Stereo in
+    record {
+      well_formed = well _ m.well_formed fits there (sym (m.stereo source _ there));
+      stereo = λ i one at. (let P : List Node → Type 0 = λ ns. slice_get ns i ≡ Some one in
+          let more : (slice_get plan.nodes i ≡ Some one) ⊎ (reader ≡ one) = one_more plan.nodes reader i one (subst P (ap (λ (p : Plan). p.nodes) is) at) in
+          elim more [
+            | inl old ↦ m.stereo i one old
+            | inr same ↦ ap (λ (x : Node). x.kind) (sym same)
+          ]);
+    }

@@ -1,11 +1,13 @@
 -- Plans of stereo nodes.
-use Rattle.std.specs.Prelude.{◌≡◌, ℕ, Some, List, [], slice_get}
+use Rattle.std.specs.Prelude.{◌≡◌, ℕ, Option, None, Some, List, [], ◌∷◌, All, false, slice_get}
 use Rattle.liq_base.specs.declared.memory.Kind.TheVariants.{Stereo}
 use Rattle.plan_core.specs.declared.node.Node.{Node}
 use Rattle.plan_core.specs.declared.node.Op.{Op}
 use Rattle.plan_core.specs.declared.node.Op.TheVariants.{Blank}
 use Rattle.plan_core.specs.declared.plan.Plan.{Plan}
-use Rattle.plan_core.specs.Plans.{HasChildren, HasKind, IsInRange, IsNodeOver, IsNoReader, IsWellFormed}
+use Rattle.plan_core.specs.declared.sink.SinkPlan.{SinkPlan}
+use Rattle.plan_core.specs.declared.sink.SinkPlan.TheVariants.{Output, Feed}
+use Rattle.plan_core.specs.Plans.{HasChildren, HasKind, IsInRange, IsNodeOver, IsNoReader, IsWellFormed, is_output}
 
 -- a stereo node over these children
 abbrev pub stereo_node : Op → (children : List ℕ) → Node
@@ -31,3 +33,14 @@ pub record IsSuited (op : Op) (children : ℕ) : Type 0 where
 pub record CanStand (plan : Plan) (node : Node) : Type 0 where
   pub over : IsNodeOver plan.nodes node
   pub reader : IsNoReader node.op
+
+-- none of these sinks is an output
+abbrev pub AreFeeds : List SinkPlan → Type 0
+AreFeeds sinks = All (λ sink. is_output sink ≡ false) sinks
+
+-- the node of the only output, where it is the last sink
+abbrev pub sole_node : List SinkPlan → Option ℕ
+sole_node [] = None
+sole_node (Feed buffer node ∷ sinks) = sole_node sinks
+sole_node (Output name node fallible wide ∷ []) = Some node
+sole_node (Output name node fallible wide ∷ sink ∷ sinks) = None

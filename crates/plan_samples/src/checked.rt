@@ -1,18 +1,19 @@
 // A plan that is made node by node, of which nothing has to be known before.
-ghost use Rattle.std.specs.Prelude.{◌≡◌, ◌<◌, ◌∷◌, [], length, All, IfSome, OnSome, IsNone, true, false};
+ghost use Rattle.std.specs.Prelude.{◌≡◌, ◌<◌, ◌≤◌, ◌∷◌, Some, [], length, All, IfSome, OnSome, IsNone, true, false};
+ghost use Rattle.liq_base.specs.declared.limits.TheConstants.{MIN_RATE, MAX_RATE, MAX_FRAME};
 ghost use Rattle.plan_core.specs.declared.sink.SinkPlan.TheVariants.{Output};
-ghost use Rattle.plan_core.specs.Plans.{IsWellFormed, with_node};
-ghost use Rattle.plan_samples.specs.Stereos.{stereo_node, CanStand, IsSuited, IsStereo};
+ghost use Rattle.plan_core.specs.Plans.{IsBuffer, IsWellFormed, with_buffer, with_node, with_output};
+ghost use Rattle.plan_samples.specs.Stereos.{stereo_node, AreFeeds, CanStand, IsSuited, IsStereo, sole_node};
 
-use crate::plans::{begun, write};
+use crate::plans::{begun_at, write};
 use liq_base::Kind;
-use liq_base::limits::{MAX_CHILDREN, MAX_CROSSFADES, MAX_OVERLAP};
-use plan_core::{Draft, Items, Node, Op, Plan};
+use liq_base::limits::{MAX_CAPACITY, MAX_CHILDREN, MAX_CROSSFADES, MAX_OVERLAP, MAX_PREFILL};
+use plan_core::{BufferPlan, Draft, Items, Node, Op, Plan};
 use std::alloc::Global;
 use std::marker::Model;
 
-/// A plan of stereo nodes that is being made, at 44100 samples a second in ticks of 1764. Each node is looked at before
-/// it is added, so that callers owe nothing. Contracts see the plan.
+/// A plan of stereo nodes that is being made. Each node is looked at before it is added, so that callers owe nothing for
+/// it. Contracts see the plan. It has no output before its end.
 #[derive(Debug, Drop)]
 pub struct CheckedDraft {
     draft: Draft,
@@ -23,7 +24,7 @@ impl Model for CheckedDraft {
     ghost use Rattle.std.specs.Coded.{codes};
     ghost use Rattle.time_pred.specs.Stored.{predicate_code};
     ghost use Rattle.plan_core.specs.declared.plan.Plan.{Plan};
-    ghost use Rattle.plan_samples.specs.Stereos.{IsStereo};
+    ghost use Rattle.plan_samples.specs.Stereos.{AreFeeds, IsStereo};
 
     ghost Value = { Plan };
 
@@ -31,16 +32,25 @@ impl Model for CheckedDraft {
 
     ghost view = { λ d. d.draft };
 
-    ghost invariant = { λ d. IsStereo d.draft × (d.draft.sinks ≡ []) };
+    ghost invariant = { λ d. IsStereo d.draft × AreFeeds d.draft.sinks };
 }
 
 impl CheckedDraft {
-    /// No nodes.
+    /// No nodes, at 44100 samples a second in ticks of 1764.
     pub fn new(alloc: Global) -> CheckedDraft
-        ensures { result.nodes ≡ [] }
+        ensures { result ≡ record { rate = 44100; frame = 1764; nodes = []; sinks = []; buffers = [] } }
+    {
+        CheckedDraft::of(alloc, 44_100, 1764)
+    }
+
+    /// No nodes, at so many samples a second in ticks of so many.
+    pub fn of(alloc: Global, rate: u32, frame: u32) -> CheckedDraft
+        requires rate { (MIN_RATE ≤ rate) × (rate ≤ MAX_RATE) }
+        requires frame { (1 ≤ frame) × (frame ≤ MAX_FRAME) }
+        ensures { result ≡ record { rate = rate; frame = frame; nodes = []; sinks = []; buffers = [] } }
     {
         CheckedDraft {
-            draft: begun(alloc),
+            draft: begun_at(alloc, rate, frame),
         }
     }
 
@@ -59,18 +69,33 @@ impl CheckedDraft {
         push_fitting(&mut self.draft, node)
     }
 
+    /// Adds a buffer, its feed from the node `source`, and its reader, and answers the reader's number. `None` comes where
+    /// the node is not there, where a plan has no such buffer, where 4096 nodes are there, or where memory is refused; then
+    /// the plan is as it was.
+    pub fn push_buffer(&mut self, alloc: Global, source: u32, buffer: BufferPlan) -> Option<u32>
+        ensures number { IfSome result (λ number. number ≡ length self.old.nodes) }
+        ensures added { OnSome result (self.new ≡ with_buffer self.old source Kind.Stereo buffer) }
+        ensures unchanged { IsNone result → self.new ≡ self.old }
+    {
+        push_fed(alloc, &mut self.draft, source, buffer)
+    }
+
     /// The plan, with an output of this node, without a name. `None` comes where the node is not there, or where memory
     /// is refused.
     pub fn into_plan(self, alloc: Global, node: u32) -> Option<Plan>
         ensures well_formed { IfSome result IsWellFormed }
-        ensures sinks { IfSome result (λ plan. plan.sinks ≡ Output [] node false false ∷ []) }
+        ensures made { IfSome result (λ plan. plan ≡ with_output self [] node false false) }
+        ensures sole { IfSome result (λ plan. sole_node plan.sinks ≡ Some node) }
+        ensures alone { IfSome result (λ plan. plan.buffers ≡ [] → plan.sinks ≡ Output [] node false false ∷ []) }
     {
         let mut draft = self.draft;
         if node as usize >= draft.plan().nodes.len() {
             return None;
         }
-        write(alloc, &mut draft, node).ok()?;
-        Some(draft.into_plan())
+        match write(alloc, &mut draft, node) {
+            Ok(()) => Some(draft.into_plan()),
+            Err(_) => None,
+        }
     }
 }
 
@@ -88,6 +113,32 @@ fn push_fitting(draft: &mut Draft, node: Node) -> Option<u32>
         return None;
     }
     draft.push_node(node).ok()
+}
+
+// Adds a buffer from this node, if it is there, and answers the number of its reader.
+fn push_fed(alloc: Global, draft: &mut Draft, source: u32, buffer: BufferPlan) -> Option<u32>
+    requires stereo { IsStereo draft.old }
+    requires feeds { AreFeeds draft.old.sinks }
+    ensures stereo { IsStereo draft.new }
+    ensures feeds { AreFeeds draft.new.sinks }
+    ensures number { IfSome result (λ number. number ≡ length draft.old.nodes) }
+    ensures added { OnSome result (draft.new ≡ with_buffer draft.old source Kind.Stereo buffer) }
+    ensures unchanged { IsNone result → draft.new ≡ draft.old }
+{
+    if source as usize >= draft.plan().nodes.len() || !is_buffer(buffer) {
+        return None;
+    }
+    match draft.push_buffer(alloc, source, Kind::Stereo, buffer) {
+        Ok(number) => Some(number),
+        Err(_) => None,
+    }
+}
+
+// Whether a plan may have this buffer.
+fn is_buffer(buffer: BufferPlan) -> bool
+    ensures { result ≡ true → IsBuffer buffer }
+{
+    buffer.pre <= u64::from(MAX_PREFILL) && buffer.capacity >= 1 && buffer.capacity <= MAX_CAPACITY
 }
 
 // Whether this stereo node may stand over those of a plan.

@@ -1,7 +1,7 @@
 // Plans of many nodes.
-ghost use Rattle.std.specs.Prelude.{◌≡◌, ◌<◌, ◌+◌, ◌*◌, ◌++◌, ◌∷◌, [], false, length, IfOk, OnOk};
-ghost use Rattle.plan_core.specs.declared.sink.SinkPlan.TheVariants.{Output};
-ghost use Rattle.plan_core.specs.Plans.{IsWellFormed};
+ghost use Rattle.std.specs.Prelude.{◌≡◌, ◌<◌, ◌≤◌, ◌+◌, ◌*◌, [], false, length, IfOk, OnOk};
+ghost use Rattle.liq_base.specs.declared.limits.TheConstants.{MIN_RATE, MAX_RATE, MAX_FRAME};
+ghost use Rattle.plan_core.specs.Plans.{IsWellFormed, with_output};
 ghost use Rattle.plan_samples.specs.Stereos.{IsStereo};
 
 use crate::nodes::{push_amplified, push_blank, push_clock, push_crossfade, push_sum};
@@ -56,13 +56,22 @@ pub fn plan_of_nested_crossfades(alloc: Global, count: u32) -> Result<Plan, Plan
 }
 
 // A draft without nodes, at 44100 samples a second in ticks of 1764.
-pub(crate) fn begun(alloc: Global) -> Draft
+fn begun(alloc: Global) -> Draft
     ensures stereo { IsStereo result }
     ensures nodes { result.nodes ≡ [] }
-    ensures sinks { result.sinks ≡ [] }
+{
+    begun_at(alloc, 44_100, 1764)
+}
+
+// A draft without nodes, at so many samples a second in ticks of so many.
+pub(crate) fn begun_at(alloc: Global, rate: u32, frame: u32) -> Draft
+    requires rate { (MIN_RATE ≤ rate) × (rate ≤ MAX_RATE) }
+    requires frame { (1 ≤ frame) × (frame ≤ MAX_FRAME) }
+    ensures stereo { IsStereo result }
+    ensures empty { result ≡ record { rate = rate; frame = frame; nodes = []; sinks = []; buffers = [] } }
 {
     laws::an_empty_plan_is_well_formed();
-    Draft::new(alloc, 44_100, 1764)
+    Draft::new(alloc, rate, frame)
 }
 
 // An output of this node, without a name.
@@ -71,7 +80,7 @@ pub(crate) fn write(alloc: Global, draft: &mut Draft, node: u32) -> Result<(), M
     requires node { node < length draft.old.nodes }
     ensures well_formed { OnOk result (IsWellFormed draft.new) }
     ensures nodes { OnOk result (draft.new.nodes ≡ draft.old.nodes) }
-    ensures sinks { OnOk result (draft.new.sinks ≡ draft.old.sinks ++ Output [] node false false ∷ []) }
+    ensures added { OnOk result (draft.new ≡ with_output draft.old [] node false false) }
 {
     draft.push_output(Text::from_string(String::new(alloc)), node, false, false)?;
     Ok(())
