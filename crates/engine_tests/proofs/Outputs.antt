@@ -1,9 +1,10 @@
 -- The outputs of a plan with one.
-use Rattle.std.proofs.Common.{◌≡◌, ◌∙◌, ℕ, Bool, Some, List, [], ◌∷◌, length, slice_get, cond, ap}
+use Rattle.std.proofs.Common.{◌≡◌, ◌∙◌, ℕ, suc, Bool, Some, List, [], ◌∷◌, length, slice_get, cond, ap}
 use Rattle.std.proofs.lemmas.Option.{get_or_from_slice_get, none-some}
 use Rattle.plan_core.specs.declared.plan.Plan.{Plan}
 use Rattle.plan_core.specs.declared.sink.SinkPlan.{SinkPlan}
 use Rattle.plan_core.specs.declared.sink.SinkPlan.TheVariants.{Output, Feed}
+use Rattle.plan_samples.specs.Stereos.{sole_node}
 use Rattle.clock_infer.specs.declared.clock_map.ClockMap.{ClockMap}
 use Rattle.clock_infer.specs.declared.clock_map.NodeClock.TheVariants.{Main}
 use Rattle.frame_core.specs.Library.{Sounds}
@@ -11,44 +12,32 @@ use Rattle.stream_meaning.specs.Instants.{same_clock}
 use Rattle.stream_meaning.specs.Sinks.{IsOutput}
 use Rattle.clock_ticks.specs.Engines.{outputs_from, outputs_of}
 use Rattle.engine_tests.specs.Joined.{setting_over}
-use Rattle.engine_tests.specs.Sole.{sole_node}
 
--- what the only output of a plan is
-record IsSole (sinks : List SinkPlan) (node : ℕ) : Type 0 where
-  pub name : List ℕ
-  pub fallible : Bool
-  pub wide : Bool
-  pub are : sinks ≡ Output name node fallible wide ∷ []
+module _ (plan : Plan) (library : Sounds) (clocks : ClockMap) (node : ℕ) (clock : slice_get clocks.of node ≡ Some (Main 0)) where
+  abbrev outputs_among : (i : ℕ) → List SinkPlan → List (ℕ × ℕ)
+  outputs_among i sinks = outputs_from (setting_over plan library clocks) 0 i sinks
 
-sole_is : (sinks : List SinkPlan) (node : ℕ) → sole_node sinks ≡ Some node → IsSole sinks node
-sole_is [] node is = absurd (none-some node is)
-sole_is (Feed buffer other ∷ sinks) node is = absurd (none-some node is)
-sole_is (Output name other fallible wide ∷ []) node is = record {
-  name = name;
-  fallible = fallible;
-  wide = wide;
-  are = (let same : other ≡ node = cc in ap (λ n. Output name n fallible wide ∷ []) same);
-}
-sole_is (Output name other fallible wide ∷ sink ∷ sinks) node is = absurd (none-some node is)
-
-module _ (plan : Plan) (library : Sounds) (clocks : ClockMap) (node : ℕ) (sinks : sole_node plan.sinks ≡ Some node) (clock : slice_get clocks.of node ≡ Some (Main 0)) where
-  -- the main clock 0 of a plan that writes one node, which lies in it, has one output
-  pub one_output : length (outputs_of (setting_over plan library clocks) 0) ≡ 1
-  one_output =
-      let sole = sole_is plan.sinks node sinks in
+  one_among : (sinks : List SinkPlan) (i : ℕ) → sole_node sinks ≡ Some node → length (outputs_among i sinks) ≡ 1
+  one_among [] i is = absurd (none-some node is)
+  one_among (Feed buffer other ∷ sinks) i is = one_among sinks (suc i) is
+  one_among (Output name other fallible wide ∷ []) i is =
+      let same : other ≡ node = cc in
       let within = ap (λ c. same_clock c (Main 0)) (get_or_from_slice_get clocks.of node (Main 0) (Main 0) clock) in
-      let one : List (ℕ × ℕ) = (0, node) ∷ [] in
+      let one : List (ℕ × ℕ) = (i, node) ∷ [] in
       let none : List (ℕ × ℕ) = [] in
-      ap (λ s. length (outputs_from (setting_over plan library clocks) 0 0 s)) sole.are ∙ ap (λ b. length (cond b one none)) within
+      ap (λ n. length (outputs_among i (Output name n fallible wide ∷ []))) same ∙ ap (λ b. length (cond b one none)) within
+  one_among (Output name other fallible wide ∷ sink ∷ sinks) i is = absurd (none-some node is)
 
-  -- it is sink 0
-  pub is_output : IsOutput (setting_over plan library clocks) 0 0 node
-  is_output =
-      let sole = sole_is plan.sinks node sinks in
-      record {
-        name = sole.name;
-        fallible = sole.fallible;
-        wide = sole.wide;
-        there = ap (λ s. slice_get s 0) sole.are;
-        in_clock = get_or_from_slice_get clocks.of node (Main 0) (Main 0) clock;
-      }
+  -- the main clock 0 of a plan that writes one node, which lies in it, has one output
+  pub one_output : sole_node plan.sinks ≡ Some node → length (outputs_of (setting_over plan library clocks) 0) ≡ 1
+  one_output sinks = one_among plan.sinks 0 sinks
+
+  -- where sink 0 writes it, this is an output of the clock
+  pub is_output : (name : List ℕ) (fallible wide : Bool) → slice_get plan.sinks 0 ≡ Some (Output name node fallible wide) → IsOutput (setting_over plan library clocks) 0 0 node
+  is_output name fallible wide there = record {
+    name = name;
+    fallible = fallible;
+    wide = wide;
+    there = there;
+    in_clock = get_or_from_slice_get clocks.of node (Main 0) (Main 0) clock;
+  }

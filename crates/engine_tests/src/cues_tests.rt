@@ -1,22 +1,22 @@
 //! The marks that an engine keeps. A tick has three samples, and so has the file, which is played again and again: it begins
 //! with each tick, and its title is 1.
-ghost use Rattle.std.specs.Prelude.{◌≡◌, ℕ, Some, length, slice_get};
+ghost use Rattle.std.specs.Prelude.{◌≡◌, ℕ, [], Some, length, slice_get, false};
 ghost use Rattle.plan_core.specs.Plans.{IsWellFormed};
+ghost use Rattle.plan_samples.specs.Stereos.{sole_node};
 ghost use Rattle.clock_infer.specs.Answers.{IsClockMap};
 ghost use Rattle.clock_infer.specs.declared.clock_map.NodeClock.TheVariants.{Main as InMain};
 ghost use Rattle.frame_core.specs.Library.{IsLibrary};
 ghost use Rattle.stream_meaning.specs.Sinks.{IsOutput};
 ghost use Rattle.clock_ticks.specs.Engines.{setting_of};
-ghost use Rattle.engine_tests.specs.Sole.{sole_node};
 
-use crate::small_engines::{begun, looped, one_file, one_sink, tick};
-use crate::small_plans::lies_in;
+use crate::small_engines::{begun, looped, one_sink, tick};
+use crate::small_plans::{lies_in, one_of};
 use buffer_ends::LocalTaps;
 use clock_infer::{ClockMap, assign};
 use clock_ticks::{ClockEngine, CueMark, TickFault};
 use frame_core::Library;
 use liq_base::MemSink;
-use plan_core::Plan;
+use plan_core::{Plan, SinkPlan};
 use std::alloc::Global;
 use std::process::Abort;
 use std::test::Fail;
@@ -57,7 +57,7 @@ fn check_clock(
     clocks: &ClockMap,
     library: &Library,
     taps: &mut LocalTaps,
-    fails: Vec<(u64, u64)>,
+    fails: &[(u64, u64)],
     marks: &[CueMark],
 ) -> Result<(), Fail>
     requires plan { IsWellFormed plan.now }
@@ -65,6 +65,7 @@ fn check_clock(
     requires library { IsLibrary library.now }
     requires leaves { length library.now.leaves ≡ length plan.now.nodes }
     requires sinks { sole_node plan.now.sinks ≡ Some 0 }
+    requires output { slice_get plan.now.sinks 0 ≡ Some (SinkPlan.Output [] 0 false false) }
     requires clock { slice_get clocks.now.of 0 ≡ Some (InMain 0) }
     requires buffers { length taps.old ≡ length plan.now.buffers }
 {
@@ -83,19 +84,37 @@ fn check_clock(
     }
 }
 
-// The same over the clocks that the plan has, with a sink that fails so.
+// The same over the clocks that the plan has.
+fn check_library(
+    rt: &impl Abort,
+    alloc: Global,
+    plan: &Plan,
+    library: &Library,
+    fails: &[(u64, u64)],
+    marks: &[CueMark],
+) -> Result<(), Fail>
+    requires plan { IsWellFormed plan.now }
+    requires library { IsLibrary library.now }
+    requires leaves { length library.now.leaves ≡ length plan.now.nodes }
+    requires sinks { sole_node plan.now.sinks ≡ Some 0 }
+    requires output { slice_get plan.now.sinks 0 ≡ Some (SinkPlan.Output [] 0 false false) }
+{
+    let clocks = assign(alloc, plan)?;
+    assert!(rt; lies_in(&clocks, 0, 0));
+    let mut taps = LocalTaps::new(alloc, plan)?;
+    check_clock(rt, alloc, plan, &clocks, library, &mut taps, fails, marks)
+}
+
+// The same of the file alone.
 fn check(
     rt: &impl Abort,
     alloc: Global,
-    fails: Vec<(u64, u64)>,
+    fails: &[(u64, u64)],
     marks: &[CueMark],
 ) -> Result<(), Fail> {
     let plan = looped(alloc, 3, false)?;
-    let library = one_file(alloc)?;
-    let clocks = assign(alloc, &plan)?;
-    assert!(rt; lies_in(&clocks, 0, 0));
-    let mut taps = LocalTaps::new(alloc, &plan)?;
-    check_clock(rt, alloc, &plan, &clocks, &library, &mut taps, fails, marks)
+    let library = one_of(alloc, 1)?;
+    check_library(rt, alloc, &plan, &library, fails, marks)
 }
 
 const MARKS: [CueMark; 3] = [
@@ -106,11 +125,10 @@ const MARKS: [CueMark; 3] = [
 
 #[test]
 fn a_file_begins_with_each_tick(rt: HostRuntime) -> Result<(), Fail> {
-    check(&rt, rt.alloc(), Vec::new(rt.alloc()), &MARKS)
+    check(&rt, rt.alloc(), &[], &MARKS)
 }
 
 #[test]
 fn a_tick_that_stops_the_engine_has_no_marks(rt: HostRuntime) -> Result<(), Fail> {
-    let fails = vec![in rt.alloc(); (2, 3)]?;
-    check(&rt, rt.alloc(), fails, &MARKS[..2])
+    check(&rt, rt.alloc(), &[(2, 3)], &MARKS[..2])
 }

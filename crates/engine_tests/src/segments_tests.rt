@@ -1,163 +1,113 @@
-//! How many segments a tick has, from the table of `docs/engine.md`, "Segments". No clause says it: `rest` of each node and
-//! `make_run` are bounds from above. The file has the samples 1, 2 and 3 and is played again and again; a blank has no end. A
-//! crossfade mixes two samples.
-ghost use Rattle.std.specs.Prelude.{◌≡◌, Some, length, IfOk};
-ghost use Rattle.plan_core.specs.Plans.{IsWellFormed};
-ghost use Rattle.frame_core.specs.Library.{IsLibrary};
-ghost use Rattle.engine_tests.specs.Sole.{sole_node};
-
-use crate::small_plans::{mono, one_name, output};
-use crate::ticks_tests::{check_tick, one_of_three};
-use frame_core::{Library, Track};
-use liq_base::{Kind, Text};
-use plan_core::{Items, Op, Plan, Preds};
-use std::alloc::{AllocError, Global};
+//! How many segments ticks have, from the table of `docs/engine.md`, "Segments". No clause says it: `rest` of each node and
+//! `make_run` are bounds from above. The file has the samples 1, 2 and 3 and is played again and again; a blank has no end
+//! where none is told. A crossfade mixes two samples.
+use crate::small_engines::{Want, check_rows};
+use crate::small_plans::{Row, Small};
+use fixed_text::TimeMark;
+use std::alloc::Global;
+use std::process::Abort;
 use std::test::Fail;
-use time_pred::Pred;
 
-// The file and a blank, and their sum, which is node 2.
-fn mixed(alloc: Global) -> Result<Plan, AllocError>
-    ensures well_formed { IfOk result IsWellFormed }
-    ensures size { IfOk result (λ plan. length plan.nodes ≡ 3) }
-    ensures sinks { IfOk result (λ plan. sole_node plan.sinks ≡ Some 2) }
-{
-    let sinks = Items::from_vec(vec![in alloc; output(alloc, 2, false)]?);
-    let both = vec![in alloc; 0, 1]?;
-    let file = Text::from_string(String::new(alloc));
-    let single = mono(Op::Single(file), Vec::new(alloc));
-    let blank = mono(Op::Blank { track: 0 }, Vec::new(alloc));
-    let sum = mono(Op::Add { normalize: false }, both);
-    Ok(Plan {
-        rate: 8000,
-        frame: 8,
-        nodes: Items::from_vec(vec![in alloc; single, blank, sum]?),
-        sinks,
-        buffers: Items::new(alloc),
-    })
-}
-
-// The file, and a crossfade of it, which is node 1.
-fn file_faded(alloc: Global) -> Result<Plan, AllocError>
-    ensures well_formed { IfOk result IsWellFormed }
-    ensures size { IfOk result (λ plan. length plan.nodes ≡ 2) }
-    ensures sinks { IfOk result (λ plan. sole_node plan.sinks ≡ Some 1) }
-{
-    let sinks = Items::from_vec(vec![in alloc; output(alloc, 1, false)]?);
-    let under = vec![in alloc; 0]?;
-    let file = Text::from_string(String::new(alloc));
-    let single = mono(Op::Single(file), Vec::new(alloc));
-    let fade = mono(Op::Crossfade { overlap: 2 }, under);
-    Ok(Plan {
-        rate: 8000,
-        frame: 8,
-        nodes: Items::from_vec(vec![in alloc; single, fade]?),
-        sinks,
-        buffers: Items::new(alloc),
-    })
-}
-
-// A blank, and a crossfade of it, which is node 1.
-fn blank_faded(alloc: Global) -> Result<Plan, AllocError>
-    ensures well_formed { IfOk result IsWellFormed }
-    ensures size { IfOk result (λ plan. length plan.nodes ≡ 2) }
-    ensures sinks { IfOk result (λ plan. sole_node plan.sinks ≡ Some 1) }
-{
-    let sinks = Items::from_vec(vec![in alloc; output(alloc, 1, false)]?);
-    let under = vec![in alloc; 0]?;
-    let blank = mono(Op::Blank { track: 0 }, Vec::new(alloc));
-    let fade = mono(Op::Crossfade { overlap: 2 }, under);
-    Ok(Plan {
-        rate: 8000,
-        frame: 8,
-        nodes: Items::from_vec(vec![in alloc; blank, fade]?),
-        sinks,
-        buffers: Items::new(alloc),
-    })
-}
-
-// One predicate, which is always true.
-fn always(alloc: Global) -> Result<Preds, AllocError>
-    ensures { IfOk result (λ preds. length preds ≡ 1) }
-{
-    Ok(Preds::from_vec(vec![in alloc; Pred::Always]?))
-}
-
-// A blank, and a switch over it, which is node 1. A tick is a second and one sample more.
-fn switched(alloc: Global) -> Result<Plan, AllocError>
-    ensures well_formed { IfOk result IsWellFormed }
-    ensures size { IfOk result (λ plan. length plan.nodes ≡ 2) }
-    ensures sinks { IfOk result (λ plan. sole_node plan.sinks ≡ Some 1) }
-{
-    let sinks = Items::from_vec(vec![in alloc; output(alloc, 1, false)]?);
-    let preds = always(alloc)?;
-    let under = vec![in alloc; 0]?;
-    let blank = mono(Op::Blank { track: 0 }, Vec::new(alloc));
-    let switch = Op::Switch {
-        sensitive: true,
-        preds,
+// So many ticks of so many instants of the last of these nodes have so many segments.
+fn check(
+    rt: &impl Abort,
+    alloc: Global,
+    frame: u32,
+    rows: &[Row],
+    ticks: u64,
+    segments: u64,
+) -> Result<(), Fail> {
+    let want = Want {
+        ticks,
+        ending: Ok(()),
+        segments: Some(segments),
+        held: None,
     };
-    let switch = mono(switch, under);
-    Ok(Plan {
-        rate: 8000,
-        frame: 8001,
-        nodes: Items::from_vec(vec![in alloc; blank, switch]?),
-        sinks,
-        buffers: Items::new(alloc),
-    })
+    check_rows(rt, alloc, frame, rows, want)
 }
 
-// The file, which the first of two nodes plays, if it is a `single`.
-fn one_of_two(alloc: Global) -> Result<Library, AllocError>
-    ensures library { IfOk result (λ library. IsLibrary library) }
-    ensures leaves { IfOk result (λ library. length library.leaves ≡ 2) }
-{
-    let file = Track::new(Kind::Mono, Vec::from_slice(alloc, &[1, 2, 3])?);
-    let first = Vec::from_slice(alloc, &[0])?;
-    let leaves = Vec::from_array(alloc, [first, Vec::new(alloc)])?;
-    let files = Vec::from_array(alloc, [file])?;
-    Ok(Library::new(files, one_name(alloc)?, leaves))
-}
+const MIXED: &[Row] = &[
+    Row::Node(Small::Single, &[]),
+    Row::Node(Small::Blank(0), &[]),
+    Row::Node(Small::Sum, &[0, 1]),
+];
 
 // Tracks of the file begin at 0, 3 and 6, and the blank has one track. So instants 0 to 2, 3 to 5, and 6 to 7.
 #[test]
 fn a_sum_goes_by_the_tracks_of_its_children(rt: HostRuntime) -> Result<(), Fail> {
-    let alloc = rt.alloc();
-    let library = one_of_three(alloc)?;
-    let plan = mixed(alloc)?;
-    let held = [1, 0, 2, 0, 3, 0, 1, 0, 2, 0, 3, 0, 1, 0, 2, 0];
-    check_tick(&rt, alloc, &plan, 2, &library, 3, &held)
+    check(&rt, rt.alloc(), 8, MIXED, 1, 3)
 }
+
+const BLANK_FADED: &[Row] = &[
+    Row::Node(Small::Blank(0), &[]),
+    Row::Node(Small::Crossfade, &[0]),
+];
 
 // At instant 0 the crossfade gives the cell that begins the track: two samples are held back behind it, and no further item is settled.
 // From then on it is in the middle of the track, and all that comes passes through, as long as the blank goes on. So instants 0, and 1 to 7.
 #[test]
 fn a_crossfade_passes_on_one_track(rt: HostRuntime) -> Result<(), Fail> {
-    let alloc = rt.alloc();
-    let library = one_of_two(alloc)?;
-    let plan = blank_faded(alloc)?;
-    let held = [0; 16];
-    check_tick(&rt, alloc, &plan, 1, &library, 2, &held)
+    check(&rt, rt.alloc(), 8, BLANK_FADED, 1, 2)
 }
+
+const FILE_FADED: &[Row] = &[
+    Row::Node(Small::Single, &[]),
+    Row::Node(Small::Crossfade, &[0]),
+];
 
 // The items are 1, then 2 3 over 1 2 (2, and 5 halves), then 3 over 1, then again 2 3 over 1 2, and so on. Item 0 stands alone: behind
 // it two samples are held back, and the track is at its end. Both items of a mix of two are settled at once, and each mix begins a
 // track. So instants 0, 1 to 2, 3, 4 to 5, 6, and 7.
 #[test]
 fn a_crossfade_mixes_by_mixes(rt: HostRuntime) -> Result<(), Fail> {
-    let alloc = rt.alloc();
-    let library = one_of_two(alloc)?;
-    let plan = file_faded(alloc)?;
-    let held = [1, 0, 2, 0, 2, 0, 3, 0, 2, 0, 2, 0, 3, 0, 2, 0];
-    check_tick(&rt, alloc, &plan, 1, &library, 6, &held)
+    check(&rt, rt.alloc(), 8, FILE_FADED, 1, 6)
 }
 
-// A segment has 1025 instants at most. Seven of these end at instant 7174, and the next one with the second, at instant 7999; the last
-// sample is alone. Without the border there would be eight.
+const SWITCHED: &[Row] = &[
+    Row::Node(Small::Blank(0), &[]),
+    Row::Node(Small::Always, &[0]),
+];
+
+// A tick is a second and one instant more. A segment has 1025 instants at most, an instant and a stretch of 1024, and 8001 is seven times
+// 1025 and 826 more. The predicate never changes, so the end of the second is no border.
 #[test]
-fn a_switch_ends_a_segment_with_the_second(rt: HostRuntime) -> Result<(), Fail> {
-    let alloc = rt.alloc();
-    let library = one_of_two(alloc)?;
-    let plan = switched(alloc)?;
-    let held = vec![in alloc; 0; 16002]?;
-    check_tick(&rt, alloc, &plan, 1, &library, 9, &held)
+fn a_switch_that_cannot_change_goes_on_over_seconds(rt: HostRuntime) -> Result<(), Fail> {
+    check(&rt, rt.alloc(), 8001, SWITCHED, 1, 8)
+}
+
+// Second 0 of each minute, and second 1.
+const FIRST: TimeMark = TimeMark {
+    day: None,
+    hour: None,
+    minute: None,
+    second: Some(0),
+};
+
+const NEXT: TimeMark = TimeMark {
+    day: None,
+    hour: None,
+    minute: None,
+    second: Some(1),
+};
+
+const SWITCHED_OFF: &[Row] = &[
+    Row::Node(Small::Blank(0), &[]),
+    Row::Node(Small::Between(FIRST, NEXT), &[0]),
+];
+
+// Seven segments of 1025 instants end at instant 7174. The switch uses the blank in second 0 and nothing in second 1, so the next segment
+// ends with second 0, at instant 7999, and the last instant is alone.
+#[test]
+fn a_switch_ends_a_segment_where_it_may_change(rt: HostRuntime) -> Result<(), Fail> {
+    check(&rt, rt.alloc(), 8001, SWITCHED_OFF, 1, 9)
+}
+
+const READ: &[Row] = &[Row::Node(Small::Blank(5), &[]), Row::Reader(0)];
+
+// In tick 0 the reader has nothing yet, and tracks of the blank begin at instants 0 and 5: 2 segments. In tick 1 the blank is at its cells
+// 8 to 15, so tracks of it begin at instants 2 and 7. The reader plays the chunk of tick 0: its front cell is marked, as it begins to
+// play, and so is cell 5. So instants 0 to 1, 2 to 4, 5 to 6, and 7: 4 segments more.
+#[test]
+fn a_reader_goes_by_the_tracks_of_its_chunk(rt: HostRuntime) -> Result<(), Fail> {
+    check(&rt, rt.alloc(), 8, READ, 2, 6)
 }

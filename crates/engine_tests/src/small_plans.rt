@@ -1,10 +1,164 @@
-//! Nodes and outputs of small plans, and the clocks of their nodes.
-ghost use Rattle.std.specs.Prelude.{◌≡◌, [], Some, IfOk, length, slice_get, false, true};
+//! Small plans, as tables of their nodes, the clocks of these, and the file that the first node plays. Its samples are 1, 2 and
+//! 3.
+ghost use Rattle.std.specs.Prelude.{◌≡◌, ◌<◌, ◌≤◌, [], Some, IfOk, length, slice_get, false, true};
+ghost use Rattle.plan_core.specs.Plans.{IsWellFormed};
+ghost use Rattle.plan_samples.specs.Stereos.{sole_node};
+ghost use Rattle.clock_infer.specs.declared.clock_map.NodeClock.TheVariants.{Main as InMain};
+ghost use Rattle.frame_core.specs.Library.{IsLibrary, tracks_of};
 
 use clock_infer::{ClockMap, NodeClock};
+use fixed_text::TimeMark;
+use frame_core::{Library, Track};
 use liq_base::{Kind, Text};
-use plan_core::{Items, Node, Op, SinkPlan};
+use plan_core::{BufferPlan, Items, Node, Op, Plan, Preds, SinkPlan};
+use plan_samples::CheckedDraft;
 use std::alloc::{AllocError, Global};
+use std::process::Abort;
+use std::test::Fail;
+use time_pred::Pred;
+
+/// An operator of a small plan.
+#[derive(Clone, Copy)]
+pub(crate) enum Small {
+    /// The file, played again and again.
+    Single,
+
+    /// The file, played once.
+    Once,
+
+    /// Zeros in tracks of so many samples, or in one track where it is 0.
+    Blank(u64),
+
+    /// A fallback that minds tracks.
+    Fallback,
+    Rotate,
+    Random(u64),
+    Sum,
+
+    /// A crossfade whose overlap has two samples.
+    Crossfade,
+
+    /// A switch over one child, which is always eligible.
+    Always,
+
+    /// A switch over one child, which is eligible from one mark to another.
+    Between(TimeMark, TimeMark),
+}
+
+/// A node of a small plan.
+#[derive(Clone, Copy)]
+pub(crate) enum Row {
+    /// A node over these.
+    Node(Small, &'static [u32]),
+
+    /// The reader of a buffer of one chunk, which this node feeds, with a prefill of one sample.
+    Reader(u32),
+}
+
+// A name without letters.
+fn no_name(alloc: Global) -> Text
+    ensures { result ≡ [] }
+{
+    Text::from_string(String::new(alloc))
+}
+
+// A switch with this predicate.
+fn switch(alloc: Global, pred: Pred) -> Result<Op, AllocError> {
+    let preds = Preds::from_vec(Vec::from_array(alloc, [pred])?);
+    Ok(Op::Switch {
+        sensitive: true,
+        preds,
+    })
+}
+
+// The operator of a node.
+fn op_of(alloc: Global, small: Small) -> Result<Op, AllocError> {
+    Ok(match small {
+        Small::Single => Op::Single(no_name(alloc)),
+        Small::Once => Op::Playlist {
+            file: no_name(alloc),
+            again: false,
+        },
+        Small::Blank(track) => Op::Blank { track },
+        Small::Fallback => Op::Fallback { sensitive: true },
+        Small::Rotate => Op::Rotate,
+        Small::Random(seed) => Op::Random { seed },
+        Small::Sum => Op::Add { normalize: false },
+        Small::Crossfade => Op::Crossfade { overlap: 2 },
+        Small::Always => return switch(alloc, Pred::Always),
+        Small::Between(from, to) => return switch(alloc, Pred::Between(from, to)),
+    })
+}
+
+const ONE_CHUNK: BufferPlan = BufferPlan {
+    pre: 1,
+    capacity: 1,
+};
+
+// Adds a node, and answers its number, or none where it may not stand there or memory is refused.
+fn push(alloc: Global, draft: &mut CheckedDraft, row: Row) -> Result<Option<u32>, AllocError> {
+    match row {
+        Row::Node(small, children) => {
+            let children = Vec::from_slice(alloc, children)?;
+            Ok(draft.push(op_of(alloc, small)?, children))
+        }
+        Row::Reader(source) => Ok(draft.push_buffer(alloc, source, ONE_CHUNK)),
+    }
+}
+
+// Adds these nodes.
+fn push_all(alloc: Global, draft: &mut CheckedDraft, rows: &[Row]) -> Result<(), Fail> {
+    for row in rows {
+        if push(alloc, draft, *row)?.is_none() {
+            return Err(Fail::from("no node"));
+        }
+    }
+    Ok(())
+}
+
+/// The plan of these stereo nodes at 8000 samples a second, in ticks of so many, with an output of this node.
+pub(crate) fn plan_of(
+    rt: &impl Abort,
+    alloc: Global,
+    frame: u32,
+    rows: &[Row],
+    node: u32,
+) -> Result<Plan, Fail>
+    ensures well_formed { IfOk result IsWellFormed }
+    ensures sinks { IfOk result (λ plan. sole_node plan.sinks ≡ Some node) }
+{
+    assert!(rt; frame >= 1 && frame <= 65_536);
+    let mut draft = CheckedDraft::of(alloc, 8000, frame);
+    push_all(alloc, &mut draft, rows)?;
+    match draft.into_plan(alloc, node) {
+        Some(plan) => Ok(plan),
+        None => Err(Fail::from("no plan")),
+    }
+}
+
+/// The file, which the first of so many nodes plays, at most five.
+pub(crate) fn one_of(alloc: Global, count: usize) -> Result<Library, AllocError>
+    requires some { 1 ≤ count }
+    requires few { count ≤ 5 }
+    ensures library { IfOk result (λ library. IsLibrary library) }
+    ensures leaves { IfOk result (λ library. length library.leaves ≡ count) }
+    ensures one { IfOk result (λ library. length (tracks_of library 0) ≡ 1) }
+{
+    let file = Track::new(Kind::Mono, Vec::from_slice(alloc, &[1, 2, 3])?);
+    let first = Vec::from_slice(alloc, &[0])?;
+    let rest = [
+        first,
+        Vec::new(alloc),
+        Vec::new(alloc),
+        Vec::new(alloc),
+        Vec::new(alloc),
+    ];
+    let mut leaves = Vec::from_array(alloc, rest)?;
+    leaves.truncate(count);
+    let files = Vec::from_array(alloc, [file])?;
+    let names = Vec::from_array(alloc, [no_name(alloc)])?;
+    Ok(Library::new(files, names, leaves))
+}
 
 /// A mono node.
 pub(crate) fn mono(op: Op, children: Vec<u32>) -> Node
@@ -24,19 +178,11 @@ pub(crate) fn output(alloc: Global, node: u32, wide: bool) -> SinkPlan
     ensures { result ≡ SinkPlan.Output [] node false wide }
 {
     SinkPlan::Output {
-        name: Text::from_string(String::new(alloc)),
+        name: no_name(alloc),
         node,
         fallible: false,
         wide,
     }
-}
-
-/// The name of one file, which is empty.
-pub(crate) fn one_name(alloc: Global) -> Result<Vec<Text>, AllocError>
-    ensures { IfOk result (λ names. length names.items ≡ 1) }
-{
-    let name = Text::from_string(String::new(alloc));
-    Ok(Vec::from_array(alloc, [name])?)
 }
 
 // Whether this is the main clock of this number.
@@ -51,7 +197,7 @@ fn is_main(clock: NodeClock, number: u32) -> bool
 
 /// Whether a node lies in the main clock of this number.
 pub(crate) fn lies_in(clocks: &ClockMap, node: u32, number: u32) -> bool
-    ensures { result ≡ true → slice_get clocks.now.of node ≡ Some (NodeClock.Main number) }
+    ensures { result ≡ true → slice_get clocks.now.of node ≡ Some (InMain number) }
 {
     match clocks.of.as_slice().get(node as usize) {
         Some(clock) => is_main(*clock, number),

@@ -9,14 +9,14 @@ ghost use Rattle.clock_ticks.specs.Engines.{outputs_of};
 ghost use Rattle.clock_threads.specs.ThreadRuns.{AreEngines, IsFresh};
 ghost use Rattle.engine_tests.specs.Joined.{joined_nodes, joined_sinks, no_room, setting_over};
 
-use crate::small_plans::{lies_in, mono, one_name, output};
+use crate::small_plans::{lies_in, mono, one_of, output};
 use buffer_ends::End;
 use clock_infer::{ClockMap, assign};
 use clock_threads::run_threads;
 use clock_ticks::ClockEngine;
 use fixed_text::WeekSecond;
-use frame_core::{Library, Track};
-use liq_base::{Gate, Kind, MemSink, Sink, Text};
+use frame_core::Library;
+use liq_base::{Gate, MemSink, Sink, Text};
 use plan_core::{BufferPlan, Items, Node, Op, Plan, SinkPlan};
 use std::alloc::{AllocError, Global};
 use std::process::Abort;
@@ -70,26 +70,6 @@ fn joined(alloc: Global) -> Result<Plan, AllocError>
         sinks,
         buffers: Items::from_vec(vec![in alloc; buffer]?),
     })
-}
-
-// The file, which the first of five nodes plays.
-fn one_of_five(alloc: Global) -> Result<Library, AllocError>
-    ensures library { IfOk result (λ library. IsLibrary library) }
-    ensures leaves { IfOk result (λ library. length library.leaves ≡ 5) }
-    ensures one { IfOk result (λ library. length (tracks_of library 0) ≡ 1) }
-{
-    let file = Track::new(Kind::Mono, Vec::from_slice(alloc, &[1, 2, 3])?);
-    let first = Vec::from_slice(alloc, &[0])?;
-    let rest = [
-        first,
-        Vec::new(alloc),
-        Vec::new(alloc),
-        Vec::new(alloc),
-        Vec::new(alloc),
-    ];
-    let leaves = Vec::from_array(alloc, rest)?;
-    let files = Vec::from_array(alloc, [file])?;
-    Ok(Library::new(files, one_name(alloc)?, leaves))
 }
 
 const HEADER: &[u8] = b"head";
@@ -305,7 +285,7 @@ fn check_run<R: Abort + Threads + Wait + Sync>(
 fn a_clock_stops_and_the_other_one_ends_its_window(rt: HostRuntime) -> Result<(), Fail> {
     let alloc = rt.alloc();
     let plan = joined(alloc)?;
-    let library = one_of_five(alloc)?;
+    let library = one_of(alloc, 5)?;
     let clocks = assign(alloc, &plan)?;
     assert_eq!(rt; clocks.running, 2);
     assert!(rt; lies_in(&clocks, 0, 0));

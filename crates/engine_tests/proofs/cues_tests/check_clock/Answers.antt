@@ -1,4 +1,4 @@
-use Rattle.std.proofs.Common.{◌≡◌, ◌∙◌, sym}
+use Rattle.std.proofs.Common.{◌≡◌, ◌∙◌, [], false, sym}
 use Rattle.clock_ticks.specs.Engines.{setting_of}
 use Rattle.node_states.proofs.Outputs.{output_moved}
 use Rattle.engine_tests.specs.Joined.{setting_over}
@@ -17,6 +17,6 @@ check_marks-requires g c =
       output = (
         0,
         output_moved first (setting_of last) 0 last.clock 0 0 (sym setting) (sym clock)
-            (is_output c.args.plan.now c.args.library.now c.args.clocks.now 0 c.requires.sinks c.requires.clock),
+            (is_output c.args.plan.now c.args.library.now c.args.clocks.now 0 c.requires.clock [] false false c.requires.output),
       );
     }
