@@ -65,8 +65,28 @@ fn close(
     Ok(())
 }
 
-// A queue of one chunk accepts one put of two, gives one take of two, and keeps what is put behind a window for the next.
-fn check_calls<R: Abort + Wait>(
+// A queue of one chunk accepts one put of two, and gives one take of two.
+fn check_window<R: Abort + Wait>(
+    rt: &R,
+    alloc: Global,
+    queue: &mut BufferQueue,
+    put: &mut PutPass,
+    take: &mut TakePass,
+) -> Result<(), Fail>
+    requires put { put.old.queue ≡ queue.old }
+    requires take { take.old.queue ≡ queue.old }
+    ensures put { put.new.queue ≡ queue.new }
+    ensures take { take.new.queue ≡ queue.new }
+{
+    assert_eq!(rt; put_one(rt, alloc, queue, put, 7)?, None);
+    assert_eq!(rt; put_one(rt, alloc, queue, put, 8)?, Some(8));
+    assert_eq!(rt; take_one(rt, queue, take)?, Some(7));
+    assert_eq!(rt; take_one(rt, queue, take)?, None);
+    close(rt, alloc, queue, put, take, &[true, false], &[true, false])
+}
+
+// It keeps what is put behind a window for the next.
+fn check_next_window<R: Abort + Wait>(
     rt: &R,
     alloc: Global,
     queue: &mut BufferQueue,
@@ -76,11 +96,6 @@ fn check_calls<R: Abort + Wait>(
     requires put { put.old.queue ≡ queue.old }
     requires take { take.old.queue ≡ queue.old }
 {
-    assert_eq!(rt; put_one(rt, alloc, queue, put, 7)?, None);
-    assert_eq!(rt; put_one(rt, alloc, queue, put, 8)?, Some(8));
-    assert_eq!(rt; take_one(rt, queue, take)?, Some(7));
-    assert_eq!(rt; take_one(rt, queue, take)?, None);
-    close(rt, alloc, queue, put, take, &[true, false], &[true, false])?;
     assert_eq!(rt; put_one(rt, alloc, queue, put, 9)?, None);
     close(rt, alloc, queue, put, take, &[true], &[])?;
     assert_eq!(rt; take_one(rt, queue, take)?, Some(9));
@@ -90,7 +105,8 @@ fn check_calls<R: Abort + Wait>(
 #[test]
 fn one_call_after_another(rt: HostRuntime) -> Result<(), Fail> {
     let (mut queue, mut put, mut take) = BufferQueue::new(rt.alloc(), 1)?;
-    check_calls(&rt, rt.alloc(), &mut queue, &mut put, &mut take)
+    check_window(&rt, rt.alloc(), &mut queue, &mut put, &mut take)?;
+    check_next_window(&rt, rt.alloc(), &mut queue, &mut put, &mut take)
 }
 
 const CHUNKS: i16 = 1000;

@@ -106,6 +106,23 @@ fn check_library(
 }
 
 // The same of the file alone.
+fn check_plan(
+    rt: &impl Abort,
+    alloc: Global,
+    plan: &Plan,
+    fails: &[(u64, u64)],
+    marks: &[CueMark],
+) -> Result<(), Fail>
+    requires plan { IsWellFormed plan.now }
+    requires size { length plan.now.nodes ≡ 1 }
+    requires sinks { sole_node plan.now.sinks ≡ Some 0 }
+    requires output { slice_get plan.now.sinks 0 ≡ Some (SinkPlan.Output [] 0 false false) }
+{
+    let library = one_of(alloc, 1)?;
+    check_library(rt, alloc, plan, &library, fails, marks)
+}
+
+// The same, in ticks of three instants.
 fn check(
     rt: &impl Abort,
     alloc: Global,
@@ -113,8 +130,7 @@ fn check(
     marks: &[CueMark],
 ) -> Result<(), Fail> {
     let plan = looped(alloc, 3, false)?;
-    let library = one_of(alloc, 1)?;
-    check_library(rt, alloc, &plan, &library, fails, marks)
+    check_plan(rt, alloc, &plan, fails, marks)
 }
 
 const MARKS: [CueMark; 3] = [

@@ -31,17 +31,27 @@ fn fill(frame: &mut Frame)
     frame.set(2, Some(SOFT));
 }
 
-fn check(rt: &impl Abort, alloc: Global, frame: &Frame) -> Result<(), Memory>
+fn check_slots(rt: &impl Abort, frame: &Frame)
     requires { length frame.now ≡ 3 }
 {
     assert_eq!(rt; frame.slot(0), Some(LOUD));
     assert_eq!(rt; frame.slot(1), None);
-    let Some(chunk) = Chunk::from_frame(alloc, frame)? else {
-        panic!(rt; "no chunk");
-    };
+}
+
+fn check_chunk(rt: &impl Abort, chunk: &Chunk) {
     assert_eq!(rt; chunk.len(), 2);
     assert_eq!(rt; chunk.cell(0), LOUD);
     assert!(rt; chunk.len() > 1 && chunk.cell(1) == SOFT);
+}
+
+fn check(rt: &impl Abort, alloc: Global, frame: &Frame) -> Result<(), Memory>
+    requires { length frame.now ≡ 3 }
+{
+    check_slots(rt, frame);
+    match Chunk::from_frame(alloc, frame)? {
+        Some(chunk) => check_chunk(rt, &chunk),
+        None => panic!(rt; "no chunk"),
+    }
     Ok(())
 }
 

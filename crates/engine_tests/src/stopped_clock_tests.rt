@@ -281,14 +281,30 @@ fn check_run<R: Abort + Threads + Wait + Sync>(
     Ok(())
 }
 
-#[test]
-fn a_clock_stops_and_the_other_one_ends_its_window(rt: HostRuntime) -> Result<(), Fail> {
-    let alloc = rt.alloc();
-    let plan = joined(alloc)?;
-    let library = one_of(alloc, 5)?;
-    let clocks = assign(alloc, &plan)?;
+// The same over the clocks that the plan has.
+fn check_library<R: Abort + Threads + Wait + Sync>(
+    rt: &R,
+    alloc: Global,
+    plan: &Plan,
+    library: &Library,
+) -> Result<(), Fail>
+    requires plan { IsWellFormed plan.now }
+    requires library { IsLibrary library.now }
+    requires leaves { length library.now.leaves ≡ length plan.now.nodes }
+    requires nodes { plan.now.nodes ≡ joined_nodes }
+    requires sinks { plan.now.sinks ≡ joined_sinks }
+    requires one { length (tracks_of library.now 0) ≡ 1 }
+{
+    let clocks = assign(alloc, plan)?;
     assert_eq!(rt; clocks.running, 2);
     assert!(rt; lies_in(&clocks, 0, 0));
     assert!(rt; lies_in(&clocks, 4, 1));
-    check_run(&rt, alloc, &plan, &clocks, &library)
+    check_run(rt, alloc, plan, &clocks, library)
+}
+
+#[test]
+fn a_clock_stops_and_the_other_one_ends_its_window(rt: HostRuntime) -> Result<(), Fail> {
+    let plan = joined(rt.alloc())?;
+    let library = one_of(rt.alloc(), 5)?;
+    check_library(&rt, rt.alloc(), &plan, &library)
 }
