@@ -65,9 +65,9 @@ _liq_page() {
     fi
     case $before:$word in
         --as:*) mapfile -t COMPREPLY < <(compgen -W "html labels sheet chapters vtt tsv" -- "$word") ;;
-        --start:* | --title:* | --silence:*) ;;
+        --start:* | --title:* | --silence:* | --note:*) ;;
         :-*)
-            for option in --start= --title= --silence= --as= --then=; do
+            for option in --start= --title= --silence= --as= --week= --then= --sound --titles= --note=; do
                 [[ $option == "$word"* ]] && COMPREPLY+=("$option")
             done
             compopt -o nospace 2>/dev/null
@@ -75,7 +75,34 @@ _liq_page() {
         *) _liq_files "$word" ;;
     esac
 }
+
+# Completes a word of a command that has these options, and else names of files.
+_liq_options_or_files() {
+    local word=${COMP_WORDS[COMP_CWORD]} option
+    COMPREPLY=()
+    # bash takes `=` for a word of its own
+    if [[ $word == = || ${COMP_WORDS[COMP_CWORD - 1]} == = ]]; then
+        return
+    elif [[ $word == -* ]]; then
+        for option; do
+            [[ $option == "$word"* ]] && COMPREPLY+=("$option")
+        done
+        compopt -o nospace 2>/dev/null
+    else
+        _liq_files "$word"
+    fi
+}
+_liq_prepare() {
+    _liq_options_or_files --rate= --shuffle= --jobs=
+}
+_liq_night() {
+    _liq_options_or_files --start= --part= --anyway
+}
+complete -o filenames -F _liq_prepare liq-prepare ./prepare
+complete -o filenames -F _liq_night liq-night ./night
 complete -o filenames -F _liq_page liq-page ./page
 complete -o filenames -F _liq_file liq-picture ./picture
+complete -o filenames -F _liq_file liq-week ./week
 complete -o filenames -F _liq_file liq-where ./where
+complete -o filenames -F _liq_file liq-advice ./advice
 complete -o filenames -F _liq_file liq-doctor ./doctor

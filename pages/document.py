@@ -1,6 +1,9 @@
 """The page of a rendering, as one HTML document that loads nothing."""
+import json
 import os
+from urllib.parse import quote
 
+from pages.hours import Hours
 from pages.marks import isolated, places, shown
 from pages.story import Story
 from pages.tables import by_file, by_time, of_buffers, within
@@ -29,7 +32,7 @@ def facts(story):
     return f"<dl>{''.join(items)}</dl>"
 
 
-def legend(story):
+def legend(story, hours):
     """What the colours and forms say; only what occurs."""
     output, kinds = story.output, story.kinds
     told = [
@@ -40,6 +43,7 @@ def legend(story):
         (any(p.ending in ("cut", "breaks off") for p in output.plays), "<i class=cut></i>left before its end"),
         (any(p.resumed for p in output.plays), "<i class=on></i>goes on"),
         (output.silences, "<i class=quiet></i>silence: every sample is zero"),
+        (hours.told, "<i class=hole></i>no case of a switch holds"),
         (True, f"<i class=loud></i>loudness, from -{QUIETEST} dB to full scale"),
     ]
     return f'<p class=legend>{"".join(f"<span>{text}</span>" for occurs, text in told if occurs)}</p>'
@@ -56,15 +60,33 @@ def finder(story):
             "<output></output></p>")
 
 
-def section(story):
-    """One output."""
+def address(name, folder):
+    """The address of a file, seen from a page that lies in a folder."""
+    return quote(os.fsencode(name if os.path.isabs(name) else "./" + os.path.relpath(name, folder)))
+
+
+def player(output, folder):
+    """What plays the files of an output, seen from the folder of the page: of each where it begins, in seconds, and
+    its address."""
+    files = [[first / output.rate, address(name, folder)] for name, (first, _) in zip(output.names, output.parts)]
+    told = json.dumps(files).replace("&", "&amp;").replace("'", "&#39;").replace("<", "&lt;")
+    return (f"<p class=sound><audio controls preload=none data-files='{told}'></audio> "
+            "<span class=soft aria-live=polite></span></p>"
+            '<p class="soft keys">A button before a line of the table plays from there; on the timeline the space bar '
+            "plays what is chosen, and stops.</p>")
+
+
+def section(story, folder, hours):
+    """One output, with a player where the page is to lie in a folder, and the hours in which no case of a switch holds."""
     parts = [f"<h2 id=o{story.number}>{isolated(story.output.name)}</h2>", facts(story)]
+    if folder and story.output.length:
+        parts.append(player(story.output, folder))
     if story.output.length:
-        parts += [legend(story), finder(story), Timeline(story).text()]
+        parts += [legend(story, hours), finder(story), Timeline(story, hours).text()]
     else:
         parts.append("<p class=soft>This output has no samples.</p>")
     if story.events:
-        parts.append(by_time(story))
+        parts.append(by_time(story, bool(folder)))
     if story.files:
         parts.append(by_file(story))
     return f"<section data-output>{''.join(parts)}{within(story)}</section>"
@@ -93,13 +115,18 @@ def beside(name):
         return file.read()
 
 
-def document(title, start, outputs, buffers):
-    """The page of these outputs, which all start at this second of the week."""
-    stories = [Story(k, output, start) for k, output in enumerate(outputs)]
+def document(options, outputs, buffers, titles, hours=Hours([])):
+    """The page of these outputs, by the options of the call: its title, the second of the week at which all start,
+    notes below the heading, and the folder in which it will lie where it is to play them; with the hours in which no
+    case of a switch holds."""
+    title, folder = options["title"], options["sound"]
+    stories = [Story(k, output, options["start"], titles) for k, output in enumerate(outputs)]
     policy = "default-src 'none'; style-src 'unsafe-inline'; script-src 'unsafe-inline'"
-    sections = "\n".join(section(story) for story in stories)
+    policy += "; media-src 'self' file:" if folder else ""
+    notes = "".join(f"<p class=soft>{shown(note)}</p>" for note in options["note"])
+    sections = "\n".join(section(story, folder, hours) for story in stories)
     return (f'<!DOCTYPE html>\n<html lang=en><head><meta charset=utf-8>'
             f'<meta name=viewport content="width=device-width,initial-scale=1"><title>{shown(title)}</title>\n'
             f'<meta http-equiv=Content-Security-Policy content="{policy}">\n<style>{beside("style.css")}</style></head>\n'
-            f"<body><main><h1>{shown(title)}</h1><p class=soft>{when(stories)}</p>{links(stories)}\n{sections}\n"
+            f"<body><main><h1>{shown(title)}</h1><p class=soft>{when(stories)}</p>{notes}{links(stories)}\n{sections}\n"
             f'{of_buffers(buffers)}</main>\n<script>{beside("page.js")}</script></body></html>\n')

@@ -1,8 +1,8 @@
 """What was played, in the forms that other programs read."""
 
 
-def shown_name(play):
-    return play.name if play.name is not None else "(no title)"
+def shown_name(play, titles):
+    return titles.of(play.name) if play.name is not None else "(no title)"
 
 
 def one_line(text):
@@ -10,13 +10,13 @@ def one_line(text):
     return "".join(" " if ord(c) < 32 or c in "\x7f\x85\u2028\u2029" else c for c in text)
 
 
-def labels(output):
+def labels(output, titles):
     """A label track of Audacity: seconds from, seconds to, name, with TABs between."""
-    return "".join(f"{p.start / output.rate:.6f}\t{p.end / output.rate:.6f}\t{one_line(shown_name(p))}\n"
+    return "".join(f"{p.start / output.rate:.6f}\t{p.end / output.rate:.6f}\t{one_line(shown_name(p, titles))}\n"
                    for p in output.plays)
 
 
-def sheet(output):
+def sheet(output, titles):
     """A cue sheet of players and disc writers, with 75 frames a second. A name in it has no double quote."""
     def quoted(text):
         return one_line(text).replace('"', "''")
@@ -27,23 +27,23 @@ def sheet(output):
             if first <= p.start < first + sound.frames:
                 number += 1
                 frames = (p.start - first) * 75 // output.rate
-                lines.append(f'  TRACK {number:02} AUDIO\n    TITLE "{quoted(shown_name(p))}"\n'
+                lines.append(f'  TRACK {number:02} AUDIO\n    TITLE "{quoted(shown_name(p, titles))}"\n'
                              f'    INDEX 01 {frames // 4500:02}:{frames // 75 % 60:02}:{frames % 75:02}\n')
     return "".join(lines)
 
 
-def chapters(output):
+def chapters(output, titles):
     """Chapters in the form of ffmpeg's metadata, to the sample."""
     lines = [";FFMETADATA1\n"]
     for p in output.plays:
-        title = "".join("\\" + c if c in "=;#\\" else c for c in one_line(shown_name(p)))
+        title = "".join("\\" + c if c in "=;#\\" else c for c in one_line(shown_name(p, titles)))
         # ffmpeg takes a backslash before the end of a line for a longer line
         title += " " if title.endswith("\\") else ""
         lines.append(f"[CHAPTER]\nTIMEBASE=1/{output.rate}\nSTART={p.start}\nEND={p.end}\ntitle={title}\n")
     return "".join(lines)
 
 
-def vtt(output):
+def vtt(output, titles):
     """Chapters for the track element of a web page, in milliseconds."""
     def time(frame):
         unit = frame * 1000 // output.rate
@@ -51,12 +51,12 @@ def vtt(output):
     lines = ["WEBVTT\n"]
     for p in output.plays:
         if time(p.start) < time(p.end):
-            text = one_line(shown_name(p)).replace("&", "&amp;").replace("<", "&lt;").replace(">", "&gt;")
+            text = one_line(shown_name(p, titles)).replace("&", "&amp;").replace("<", "&lt;").replace(">", "&gt;")
             lines.append(f"\n{time(p.start)} --> {time(p.end)}\n{text}\n")
     return "".join(lines)
 
 
-def tsv(output):
+def tsv(output, titles):
     """All that is known of each play, in instants: for a spreadsheet, or a script."""
     lines = ["start\tend\tname\tfrom\tleft\tending\toverlap\n"]
     for p in output.plays:

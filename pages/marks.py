@@ -1,19 +1,23 @@
 """Names, numbers and notes as they stand in a page."""
-import unicodedata
 from html import escape
 
-# Kinds of characters that are not seen, or that turn the text round them.
-UNSEEN = ("Cc", "Cf", "Cs", "Zl", "Zp")
+from watching.names import is_unseen
 
 
 def shown(name):
     """A name as text of a page, letter by letter; what would not be seen, or would turn the text round, as its code."""
-    return escape("".join(f"\u2039{ord(c):X}\u203a" if unicodedata.category(c) in UNSEEN else c for c in name), False)
+    return escape("".join(f"\u2039{ord(c):X}\u203a" if is_unseen(c) else c for c in name), False)
 
 
 def isolated(name):
     """A name that does not turn the text round it."""
     return f"<bdi>{shown(name)}</bdi>"
+
+
+def named(name, titles):
+    """A file by its title, with its name behind it; by its name alone where it has no title."""
+    title = titles.of(name)
+    return isolated(name) if title == name else f"{isolated(title)} <small>{isolated(name)}</small>"
 
 
 def label(name):

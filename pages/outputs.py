@@ -74,8 +74,8 @@ def read_output(names, least_silence):
 
 
 def zeros_of(cues, sound, least):
-    """The silent stretches of a file, cut where tracks start: many recordings begin with zeros, and what stands before a
-    start belongs to the track that ended."""
+    """The silent stretches of a file, cut where tracks start: many recordings begin with zeros, and what stands
+    before a start belongs to the track that ended."""
     found = sound.silences(least)
     starts, cut = [start for start, _ in cues], []
     for low, high in sorted(found + untitled_zeros(cues, sound, found)):

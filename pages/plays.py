@@ -56,8 +56,8 @@ class Listener:
         return inner[0][0] if inner else self.last_sound(start, end)
 
     def track(self, k, before):
-        """The plays of the k-th track, with the play before it: several where it breaks off into nothing to play and goes on,
-        which starts no track."""
+        """The plays of the k-th track, with the play before it: several where it breaks off into nothing to play and
+        goes on, which starts no track."""
         (start, name), following = self.cues[k], self.start_of(k + 1)
         play = Play(start, self.first_sound(start, following), name)
         if before and before.ending == "faded":
@@ -73,8 +73,8 @@ class Listener:
         return found
 
     def stretches(self, play, k, length):
-        """The stretches of the k-th track that begins with this play, of which the last one is not closed yet; and whether all
-        that is heard up to the next start is known."""
+        """The stretches of the k-th track that begins with this play, of which the last one is not closed yet; and
+        whether all that is heard up to the next start is known."""
         found, following = [play], self.start_of(k + 1)
         for low, high in self.silences_within(play.start, following):
             place = play.at + low - play.start
@@ -116,8 +116,8 @@ class Listener:
         return place is not None
 
     def likeliest_place(self, play, places, length):
-        """Which of these places of its file a play begins at, by its sound: the first of those that fit best, as several
-        sources may play one file. None where none fits."""
+        """Which of these places of its file a play begins at, by its sound: the first of those that fit best, as
+        several sources may play one file. None where none fits."""
         found, least, span = None, UNLIKE, play.end - play.start
         frames = sorted({k * span // 64 for k in range(64)})
         heard = self.heard(play.start, frames)
@@ -163,7 +163,8 @@ class Listener:
         return misfit(self.heard(play.start, frames), self.said(play.name, play.at, frames)) < UNLIKE
 
     def fade_or_cut(self, play, k, length):
-        """Whether the rest of a file is mixed into the k-th play or left out, by the sound; "" where that does not say."""
+        """Whether the rest of a file is mixed into the k-th play or left out, by the sound; "" where that does not
+        say."""
         (start, name), rest = self.cues[k], play.left
         if name is None:
             return "cut"

@@ -57,8 +57,8 @@ class Sound:
         return sum(found) / len(found)
 
     def power(self, start, end, most=512):
-        """The mean square of about so many frames of a stretch: of four quarters with steps of their own, so that no tone
-        falls between them."""
+        """The mean square of about so many frames of a stretch: of four quarters with steps of their own, so that no
+        tone falls between them."""
         total = count = 0
         quarter = max(1, (end - start + 3) // 4)
         for k in range(4):
@@ -74,8 +74,8 @@ class Sound:
         return not bytes(self.data[start * self.block:end * self.block]).strip(b"\0")
 
     def silences(self, least):
-        """Where at least so many frames are zero, as pairs (start, end). The file is probed at each half of that, so none is
-        missed, and is read byte by byte only around what is zero there."""
+        """Where at least so many frames are zero, as pairs (start, end). The file is probed at each half of that, so
+        none is missed, and is read byte by byte only around what is zero there."""
         step, found, at = max(1, least // 2), [], 0
         probe = min(step, 32) * self.block
         zero = bytes(probe)

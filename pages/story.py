@@ -18,8 +18,8 @@ def short_length(plays):
 class Story:
     """One output on the page, by its number there."""
 
-    def __init__(self, number, output, start):
-        self.number, self.output = number, output
+    def __init__(self, number, output, start, titles):
+        self.number, self.output, self.titles = number, output, titles
         self.clock = Clock(start, output.rate, output.length)
         self.files = {}        # the number of each file, by its first play
         for play in output.plays:

@@ -1,7 +1,7 @@
 """The tables of an output: by time, and by file."""
 from dataclasses import dataclass
 
-from pages.marks import isolated, note
+from pages.marks import isolated, named, note
 from pages.outputs import Silence
 
 
@@ -11,18 +11,20 @@ def titled(name, head, rows, more):
             f'<thead><tr>{head}</thead><tbody>{"".join(rows)}</tbody></table></div>')
 
 
-def by_time(story):
-    """A line for each play and each silence."""
+def by_time(story, with_sound=False):
+    """A line for each play and each silence; with a button that plays it if that is wanted."""
     clock, number, rows = story.clock, story.number, []
     for k, event in enumerate(story.events):
         if isinstance(event, Silence):
             words = "" if not story.output.has_cues else "blank, no title" if event.blank else "nothing to play"
             file = "silence"
         else:
-            words, file = note(event, clock), "no title" if event.name is None else isolated(event.name)
+            words, file = note(event, clock), "no title" if event.name is None else named(event.name, story.titles)
         mark = " class=quiet" if isinstance(event, Silence) or event.name is None else ""
+        button = (f'<button class=play type=button data-at={event.start / story.output.rate:.4f} '
+                  f'aria-label="play from {clock.text(event.start)}"></button>')
         rows.append(f'<tr id=r{number}-{k} data-f="{story.file_of(event)}"{mark}>'
-                    f'<td class=t><a href="#b{number}-{k}">{clock.text(event.start)}</a>'
+                    f'<td class=t>{button if with_sound else ""}<a href="#b{number}-{k}">{clock.text(event.start)}</a>'
                     f'<td class="t wide">{clock.text(event.end)}<td class=n>{clock.length(event.end - event.start)}'
                     f"<td class=f>{file}<td>{words}")
     head = "<th>from<th class=wide>to<th class=n>length<th>file<th>note"
@@ -66,7 +68,7 @@ def by_file(story):
         last = clock.text(use.last) if use.plays > 1 else ""
         pause = clock.length(use.pause) if use.pause is not None else ""
         rows.append(f"<tr><td class=n>{use.plays}<td class=n>{clock.length(use.time)}<td class=wide>{bar}"
-                    f'<td class=f>{isolated(name)}<td class="t wide">{clock.text(use.first)}'
+                    f'<td class=f>{named(name, story.titles)}<td class="t wide">{clock.text(use.first)}'
                     f'<td class="t wide">{last}<td class=n>{pause}')
     head = ("<th class=n>plays<th class=n>in all<th class=wide><th>file<th class=wide>first<th class=wide>last"
             "<th class=n>least pause")
@@ -81,7 +83,8 @@ def within(story):
     for silence in (s for s in story.output.silences if s.within):
         while following is not None and following.start <= silence.start:
             play, following = following, next(plays, None)
-        items.append(f"<li>{clock.text(silence.start)}, {clock.length(silence.end - silence.start)} in {isolated(play.name)}</li>")
+        length = clock.length(silence.end - silence.start)
+        items.append(f"<li>{clock.text(silence.start)}, {length} in {named(play.name, story.titles)}</li>")
     return f"<h3>Silence within plays</h3><ul>{''.join(items)}</ul>" if items else ""
 
 

@@ -68,8 +68,8 @@ def classed(names):
 class Timeline:
     """The timeline of a story."""
 
-    def __init__(self, story):
-        self.story, self.output, self.clock = story, story.output, story.clock
+    def __init__(self, story, hours):
+        self.story, self.output, self.clock, self.hours = story, story.output, story.clock, hours
         self.seconds, self.rows = rows_of(self.output, self.clock)
         self.span = self.rows[0][1] - self.rows[0][0]
         self.several = len(self.rows) > 1
@@ -122,8 +122,13 @@ class Timeline:
         if play.overlap and play.start >= low and not play.resumed:
             width = min(play.end, high) - play.start
             wedge = f'<em{classed([before] if before else [])} style="width:{percent(min(play.overlap, width), width)}"></em>'
-        text = shown(label(play.name)) if play.name is not None else "no title"
+        text = shown(self.label_of(play.name)) if play.name is not None else "no title"
         return self.block(play, low, high, classes, f"{wedge}<span dir=auto>{text}</span>")
+
+    def label_of(self, name):
+        """The text of a block: the title of a file, or else a short form of its name."""
+        title = self.story.titles.of(name)
+        return label(name) if title == name else title
 
     def strip(self, low, high):
         """The blocks of a row."""
@@ -149,7 +154,7 @@ class Timeline:
         when = self.clock.text(low, False).split(".")[0][:5 if self.several and self.seconds >= 60 else 8]
         return (f"<div class=row><time>{name}{when}</time><div class=box><div class=strip>{self.strip(low, high)}</div>"
                 f'<svg class=level viewBox="0 0 {COLUMNS} {QUIETEST}" preserveAspectRatio=none aria-hidden=true>'
-                f'<path d="{level_path(self.output, low, high)}"/></svg></div></div>')
+                f'<path d="{level_path(self.output, low, high)}"/></svg>{self.hours.row(self.clock, low, high)}</div></div>')
 
     def text(self):
         """The whole timeline; where there is something to go through, it is a slider for keys."""

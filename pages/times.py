@@ -38,8 +38,8 @@ class Clock:
         self.one_day = start % DAY + self.seconds <= DAY
 
     def text(self, frame, with_day=None):
-        """The clock time of an instant, cut to the second, or to its tenth in a short output. The day of the week stands
-        before it where the output does not lie within one day, unless something else is asked for."""
+        """The clock time of an instant, cut to the second, or to its tenth in a short output. The day of the week
+        stands before it where the output does not lie within one day, unless something else is asked for."""
         units = frame * 10 // self.rate
         second = self.start + units // 10
         at_end = self.one_day and second % DAY == 0 and units > 0

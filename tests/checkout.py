@@ -1,13 +1,11 @@
-"""A copy of the commands of the checkout, as tests/install and tests/package call them."""
+"""A copy of the commands of the checkout, as tests/install, tests/package and tests/dist call them."""
 import os
 import shutil
 import subprocess
 
 from common import TOP, built, sound, takes_text
 
-SECONDS = 60
-COMMANDS = ("liq", "where", "doctor", "page", "pages", "picture", "install", "package", "liq.1", "liq-where.1", "liq-doctor.1",
-            "liq-page.1", "liq-picture.1", "tools", "completion", "docs", "examples")
+SECONDS = 300
 RT = """#!/bin/sh
 name=$(basename "$PWD")
 echo "$name $*" >> "$NOTES"
@@ -18,6 +16,23 @@ esac
 """
 
 
+def installed():
+    """The lines of tools/installed: how, the source, and the place."""
+    with open(os.path.join(TOP, "tools", "installed"), encoding="utf-8") as file:
+        return [line.split() for line in file if not line.startswith("#")]
+
+
+def names():
+    """The programs of tools/installed."""
+    return [source for how, source, _ in installed() if how == "program"]
+
+
+def commands():
+    """The files and folders of the top that the commands need."""
+    sources = {source.split("/")[0] for how, source, _ in installed() if how in ("file", "files")}
+    return sorted(sources | {"where", "picture", "install", "package", "tools"})
+
+
 class Checkout:
     """A copy of the commands, in a folder whose name has a blank and an umlaut, with the sources of programs that are not built."""
 
@@ -25,7 +40,7 @@ class Checkout:
         self.programs, self.place, self.top = programs, place, os.path.join(place, "a chäckout")
         self.notes, self.built = os.path.join(place, "notes"), os.path.join(place, "built")
         os.makedirs(self.top)
-        for name in COMMANDS:
+        for name in commands():
             (shutil.copytree if os.path.isdir(os.path.join(TOP, name)) else shutil.copy)(os.path.join(TOP, name), os.path.join(self.top, name))
         self.write("a chäckout/.gitignore", b"out/\n")
         self.write("a chäckout/crates.txt", "\n".join(["script_grammar:"] + [f"{name}: script_grammar" for name in programs]).encode() + b"\n")
@@ -47,13 +62,22 @@ class Checkout:
         with open(path, "wb") as file:
             file.write(data)
 
-    def call(self, *words, kit=True, path=None, **options):
-        """A command's status, and what it printed."""
+    def start(self, *words, kit=True, path=None, more=None, **options):
+        """Starts a command, with the kit on PATH or not, and with more in the environment."""
         path = path or os.pathsep.join([os.path.join(self.place, "kit")] * kit + ["/usr/bin", "/bin"])
         options = {"stdout": subprocess.PIPE, "stderr": subprocess.PIPE, **options}
-        done = subprocess.run(words, cwd=self.work, stdin=subprocess.DEVNULL, check=False, timeout=SECONDS,
-                              env={**os.environ, "PATH": path, "NOTES": self.notes, "PROGRAMS": self.built}, **options)
-        return done.returncode, (done.stdout or b"").decode(), (done.stderr or b"").decode()
+        environment = {**os.environ, "PATH": path, "NOTES": self.notes, "PROGRAMS": self.built, **(more or {})}
+        return subprocess.Popen(words, cwd=self.work, stdin=subprocess.DEVNULL, env=environment, **options)
+
+    def call(self, *words, **options):
+        """A command's status, and what it printed."""
+        with self.start(*words, **options) as run:
+            try:
+                out, err = run.communicate(timeout=SECONDS)
+            except subprocess.TimeoutExpired:
+                run.kill()
+                raise
+        return run.returncode, (out or b"").decode(), (err or b"").decode()
 
     def command(self, name):
         return os.path.join(self.top, name)
@@ -73,14 +97,7 @@ def takes_filter(words):
     takes_text(words)
 
 
-def installed():
-    """The lines of tools/installed: how, the source, and the place."""
-    with open(os.path.join(TOP, "tools", "installed"), encoding="utf-8") as file:
-        return [line.split() for line in file if not line.startswith("#")]
-
-
 def programs_of(call):
     """The built programs, by the names of their crates. Where some are named, `true` stands for those that are not."""
     given = {"liq_program": call.program, "where_program": call.filter}
-    names = [source for how, source, _ in installed() if how == "program"]
-    return {name: given.get(name) or (shutil.which("true") if call.filter else built(name)) for name in names}
+    return {name: given.get(name) or (shutil.which("true") if call.filter else built(name)) for name in names()}

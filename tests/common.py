@@ -1,6 +1,7 @@
 """What the runners share: the words of a call, the built programs, sounds as bytes, and the last line that each prints."""
 import argparse
 import os
+import signal
 import struct
 import subprocess
 import sys
@@ -25,9 +26,18 @@ def takes_text(words):
     words.add_argument("text", metavar="TEXT", nargs="?", default="")
 
 
+def hear_signals():
+    """What this process starts hears each signal, also one that this process itself was told to ignore, as by nohup:
+    a handler of its own is none of a new program's."""
+    for number in (signal.SIGINT, signal.SIGTERM, signal.SIGHUP):
+        if signal.getsignal(number) == signal.SIG_IGN:
+            signal.signal(number, lambda *_: None)
+
+
 def call_of(page, add=takes_text, name="liq_program"):
     """The words of a runner's call: `--program PATH`, where an already built program of this name is to be taken, and what the runner
     adds."""
+    hear_signals()
     words = argparse.ArgumentParser(description=page, formatter_class=argparse.RawDescriptionHelpFormatter, allow_abbrev=False)
     words.add_argument("--program", metavar="PATH", type=os.path.abspath)
     add(words)

@@ -1,4 +1,5 @@
 """What the documents say, against the repository and the built program. tests/run calls each of `checks`."""
+import glob
 import os
 import re
 import shutil
@@ -7,7 +8,7 @@ import sys
 import tempfile
 
 import contracts
-from common import TOP, left_samples, sound
+from common import TESTS, TOP, left_samples, sound
 
 SECONDS = 60
 
@@ -22,8 +23,8 @@ def text_of(path):
 
 def documents():
     """The pages of the repository, by their paths from its top."""
-    found = ["README.md", "CHANGELOG.md", "liq.1"]
-    for folder in ("docs", "examples", "bench", "crates"):
+    found = ["README.md", "CHANGELOG.md"] + [name for name in os.listdir(TOP) if name.endswith(".1")]
+    for folder in ("docs", "examples", "bench", "tests", "crates"):
         for base, folders, names in os.walk(os.path.join(TOP, folder)):
             folders[:] = [name for name in folders if name != "out"]
             found += [os.path.relpath(os.path.join(base, name), TOP) for name in names if name.endswith(".md")]
@@ -184,7 +185,7 @@ def contracts_that_differ(_program):
                 found += [f"{page}: {fault}" for fault in wrong_calls(named, crate, uses)]
             elif heads[0] in ("call", "function", "law") and heads[1] in ("clause", "after a refusal"):
                 found += [f"{page}: {fault}" for fault in wrong_calls(rows, crate, uses)]
-            elif heads == ["promise", "contract"]:
+            elif heads in (["promise", "contract"], ["step", "contract"]):
                 found += [f"{page}: {fault}" for row in rows for fault in wrong_promises(row[1][1], uses)]
     return found
 
@@ -224,7 +225,7 @@ def rooms_of_architecture():
 
 def rooms_that_differ(_program):
     """The table of crates has the rooms of crates.txt in their order, but for the tests; each crate stands below those that it uses."""
-    uses, told = crates_and_their_uses(), rooms_of_architecture()
+    uses, told = crates_and_their_uses(), [room for room in rooms_of_architecture() if room[0] != "tests"]
     wanted = [(room, names) for room, names in rooms_of_crates() if room != "tests"]
     below = [name for _, names in rooms_of_crates() for name in names]
     found = [f"{name} stands above {used}" for name in below for used in uses[name] if used in below[below.index(name):]]
@@ -437,7 +438,9 @@ def forms_that_differ(program):
         for form, options in known.items():
             offered, wanted = completed(["liq"] + spoken(form) + [""]), [re.sub("=.*", "=", option) for option in options]
             found += [f"bash offers {offered} behind {form}"] if offered != wanted else []
-    for page in ("liq.1", "liq-where.1", "liq-doctor.1", "liq-page.1", "liq-picture.1") if shutil.which("man") else ():
+    pages = ("liq.1", "liq-where.1", "liq-advice.1", "liq-doctor.1", "liq-page.1", "liq-picture.1", "liq-prepare.1",
+             "liq-night.1", "liq-week.1")
+    for page in pages if shutil.which("man") else ():
         done = subprocess.run(["man", "--warnings", "-l", page], cwd=TOP, capture_output=True, check=False, timeout=SECONDS)
         found += [f"{page}: {done.stderr.decode()}"] if done.stderr or done.returncode else []
     return found
@@ -475,13 +478,28 @@ def recipes_that_fail(program):
 
 
 def versions_that_differ(_program):
-    """The README and the man page have the version that stands first in the list of changes."""
-    version = re.search(r"^## (\S+)$", text_of("CHANGELOG.md"), flags=re.M)[1]
-    wanted = {"README.md": f"This is version {version} ", "liq.1": f'"Dizhuppan {version}"'}
-    return [f"{page} has not the version {version}" for page, text in wanted.items() if text not in text_of(page)]
+    """The README, the list of changes and the pages of the manual have the version of the file VERSION."""
+    version = text_of("VERSION").strip()
+    pages = [name for name in os.listdir(TOP) if name.endswith(".1")]
+    wanted = {"README.md": f"This is version {version} ", **{page: f'"Dizhuppan {version}"' for page in pages}}
+    found = [f"{page} has not the version {version}" for page, text in wanted.items() if text not in text_of(page)]
+    first = re.search(r"^## (\S+)$", text_of("CHANGELOG.md"), flags=re.M)[1]
+    return found + ([f"the list of changes begins with {first}"] if first != version else [])
+
+
+def cases_without_a_source(_program):
+    """Each case of tests/cases says in a line where the bytes that it wants come from."""
+    found = []
+    for folder in sorted(glob.glob(os.path.join(TESTS, "cases", "*", "*"))):
+        path = os.path.join(folder, "from")
+        lines = text_of(path).split("\n") if os.path.exists(path) else []
+        if len(lines) != 2 or not lines[0]:
+            found.append(f"{os.path.relpath(folder, TOP)}: no line `from`")
+    return found
 
 
 checks = {
+    "documents/sources": cases_without_a_source,
     "documents/versions": versions_that_differ,
     "documents/paths": paths_that_are_missing,
     "documents/sections": sections_that_are_missing,

@@ -1,6 +1,7 @@
 """Whole runs of a program in tests/cases, each in a folder of its own, with all that they do.
 
 A case is a folder:
+    from                   where the bytes that are wanted come from, in a line
     program                the program that is run (no file: liq_program)
     words                  the words, one a line
     in/                    the files that lie where the program runs

@@ -1,9 +1,12 @@
-"""What `make SEED SIZE` has to tell, worked out from docs/formats.md and docs/streams.md. tests/run compares it with what the program tells."""
+"""What `make SEED SIZE` has to tell, worked out from docs/formats.md and docs/streams.md. tests/run compares it with what
+the program tells."""
+import itertools
 import subprocess
 
 SECONDS = 60
 SAMPLES = 32000  # of each side: 500 ticks of 64 samples
 OVERLAP = 400
+MOST_SIZE, EACH_SEED = 100, 2026
 RUNS = ((0, 1), (1, 3), (7, 100), (18446744073709551615, 1), (18446744073709551615, 10))
 
 MULTIPLIER = 6364136223846793005
@@ -53,22 +56,52 @@ def crossfaded(tracks):
     return made[:SAMPLES]
 
 
-def added(tracks):
-    """The tracks at half their loudness, each again and again, their sum divided by how many they are."""
-    halves = [[divided(sample, 2) for sample in track] for track in tracks]
-    return [divided(sum(half[n % len(half)] for half in halves), len(halves)) for n in range(SAMPLES)]
+def sums_of(tracks):
+    """The tracks at half their loudness, each again and again: the sum of the first, of the first two, and so on."""
+    sums = [0] * SAMPLES
+    for track in tracks:
+        half = itertools.cycle([divided(sample, 2) for sample in track])
+        sums = [before + sample for before, sample in zip(sums, half)]
+        yield sums
+
+
+def told(tracks, sums):
+    """The report of the tracks, each faded into the next one, and of their sum, divided by how many they are."""
+    both = ("one", crossfaded(tracks)), ("two", [divided(sample, len(tracks)) for sample in sums])
+    lines = [f"output {name}.wav samples {SAMPLES} gaps 0 sum {2 * sum(samples)}\n" for name, samples in both]
+    return "".join(lines).encode()
 
 
 def summary(seed, size):
     tracks = tracks_of(seed, size)
-    return "".join(f"output {name}.wav samples {SAMPLES} gaps 0 sum {2 * sum(samples)}\n"
-                   for name, samples in (("one", crossfaded(tracks)), ("two", added(tracks)))).encode()
+    *_, sums = sums_of(tracks)
+    return told(tracks, sums)
+
+
+def summaries(seed, sizes):
+    """The sizes up to this one, each with its report: a size has the tracks of the size before, and one more."""
+    tracks = tracks_of(seed, sizes)
+    for size, sums in enumerate(sums_of(tracks), 1):
+        yield size, told(tracks[:size], sums)
+
+
+def call_differs(program, seed, size, wanted):
+    """What is wrong with a call of `make`, as a list of one text; an empty one where nothing is."""
+    done = subprocess.run([program, "make", str(seed), str(size)], stdin=subprocess.DEVNULL, capture_output=True,
+                          timeout=SECONDS, check=False)
+    if (done.returncode, done.stdout, done.stderr) == (0, wanted, b""):
+        return []
+    return [f"make {seed} {size}: status {done.returncode}, stdout {done.stdout!r}, stderr {done.stderr!r}"]
 
 
 def differences(program):
-    found = []
-    for seed, size in RUNS:
-        done = subprocess.run([program, "make", str(seed), str(size)], stdin=subprocess.DEVNULL, capture_output=True, timeout=SECONDS)
-        if (done.returncode, done.stdout, done.stderr) != (0, summary(seed, size), b""):
-            found.append(f"make {seed} {size}: status {done.returncode}, stdout {done.stdout!r}, stderr {done.stderr!r}")
-    return found
+    """What `make` tells otherwise than it has to, for some seeds and sizes."""
+    return [fault for seed, size in RUNS for fault in call_differs(program, seed, size, summary(seed, size))]
+
+
+def differences_of_sizes(program):
+    """The same for each of the sizes and one seed. The plan of the script that is made rests on the size alone: so where
+    each of these ends with 0, and tells two outputs and no buffer, each script that `make` makes is accepted and has no
+    buffer."""
+    return [fault for size, wanted in summaries(EACH_SEED, MOST_SIZE)
+            for fault in call_differs(program, EACH_SEED, size, wanted)]

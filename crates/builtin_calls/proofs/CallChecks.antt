@@ -10,7 +10,7 @@ use Rattle.script_values.specs.declared.fault.Fault.TheVariants.{BadSetting, Bad
 use Rattle.script_values.specs.declared.fault.Limit.TheVariants.{Children, Crossfades, Overlap, Outputs}
 use Rattle.script_values.specs.declared.machine.Machine.{Machine}
 use Rattle.script_values.specs.Machines.{some_millionths, first_machine}
-use Rattle.script_values.specs.Slots.{Given}
+use Rattle.script_values.specs.Slots.{Argument}
 use Rattle.script_values.specs.Values.{Value, Int, Number, Text, Nothing, Source, Listed, none, more}
 use Rattle.plan_core.specs.Plans.{with_node}
 use Rattle.builtin_calls.specs.Nodes.{few, push, add}
@@ -28,7 +28,7 @@ slow = record first_machine { plan = record first_machine.plan { rate = 8000; fr
 abbrev later : Machine
 later = record slow { settings = record slow.settings { allowed = false } }
 
-abbrev labelled : List ℕ → Value → Given
+abbrev labelled : List ℕ → Value → Argument
 labelled label v = (Some label, v)
 
 -- a setting that comes late is bad whatever its value is
@@ -109,7 +109,7 @@ unfolding buffer_plan samples_of
 least_buffer = refl
 
 -- `[s]`, where s is the blank
-abbrev blanks : Given
+abbrev blanks : Argument
 blanks = (None, Listed (more (Source 0) none))
 
 -- a seed below zero is bad

@@ -23,7 +23,7 @@ use Rattle.script_values.specs.declared.fault.Limit.TheVariants.{Crossfades, Ove
 use Rattle.script_values.specs.declared.machine.Machine.{Machine}
 use Rattle.script_values.specs.Machines.{some_millionths, first_machine, count}
 use Rattle.script_values.specs.Outcomes.{◌>>=◌}
-use Rattle.script_values.specs.Slots.{Given}
+use Rattle.script_values.specs.Slots.{Argument}
 use Rattle.script_values.specs.Values.{Value, Int, Number, Text, Truth, Nothing, Format, Pred, Source, Listed, Tuple}
 use Rattle.builtin_calls.specs.Parts.{one_kind, plain, plain_text, plain_decimal, plain_format, plain_source, plain_sources, plain_pairs, bool_or, int_or, text_or, decimal_or}
 use Rattle.builtin_calls.specs.Nodes.{at_most, few, crossfades_with, add, push, add_buffer}
@@ -35,14 +35,14 @@ use Rattle.builtin_calls.specs.Sound.{IsSound, Keeps}
 use Rattle.builtin_calls.proofs.Reading.{after, ok_is, IsSource, ArePairs, a_source, some_sources, some_pairs}
 use Rattle.builtin_calls.proofs.Adding.{keeps_itself, then_keeps, within, few_are, leaf_over, one_over, two_over, list_over, pushed, added, pushed_source, kept_source, buffered, put_output}
 
-few_sources_are : (nodes : List Node) (k : Kind) (given : List Given) (ns : List ℕ) → few_sources nodes k given ≡ Ok ns → All (IsSource nodes k) ns × (length ns ≤ MAX_CHILDREN)
+few_sources_are : (nodes : List Node) (k : Kind) (given : List Argument) (ns : List ℕ) → few_sources nodes k given ≡ Ok ns → All (IsSource nodes k) ns × (length ns ≤ MAX_CHILDREN)
 unfolding few_sources
 few_sources_are nodes k given ns is =
     let step0 = after (plain_sources nodes k given) (λ sources. few sources.0) ns is in
     let short = few_are step0.0.0 ns step0.2 in
     (subst (All (IsSource nodes k)) short.0 (some_sources nodes k given step0.0 step0.1), short.1)
 
-few_pairs_are : (nodes : List Node) (k : Kind) (given : List Given) (x : List Predicate × List ℕ) → few_pairs nodes k given ≡ Ok x → ArePairs nodes k x.0 x.1 × (length x.1 ≤ MAX_CHILDREN)
+few_pairs_are : (nodes : List Node) (k : Kind) (given : List Argument) (x : List Predicate × List ℕ) → few_pairs nodes k given ≡ Ok x → ArePairs nodes k x.0 x.1 × (length x.1 ≤ MAX_CHILDREN)
 unfolding few_pairs
 few_pairs_are nodes k given x is =
     let step0 = after (plain_pairs nodes k given) (λ pairs. few pairs.0.1 >>= λ children. Ok (pairs.0.0, children)) x is in
@@ -214,7 +214,7 @@ setting_keeps : (key : List ℕ) (v : Value) (m : Machine) (x : Value × Machine
 unfolding setting
 setting_keeps key v m x is = setting_by (bytes_eq key (codes "frame.audio.samplerate")) (bytes_eq key (codes "frame.duration")) v m x is
 
-single_keeps : (kinds : List Kind) (given : List Given) (m : Machine) (x : Value × Machine) → single kinds given m ≡ Ok x → Keeps m x.1
+single_keeps : (kinds : List Kind) (given : List Argument) (m : Machine) (x : Value × Machine) → single kinds given m ≡ Ok x → Keeps m x.1
 unfolding single
 single_keeps kinds given m x is =
     let step0 = after (plain_text given) (λ file. one_kind kinds >>= λ k. add (node (op.Single file.0) k []) m) x is in
@@ -223,7 +223,7 @@ single_keeps kinds given m x is =
     let k = step1.0 in
     added (node (op.Single file.0) k []) m x step1.2 (leaf_over m.plan.nodes (op.Single file.0) k refl refl tt) (λ b e. cc)
 
-playlist_keeps : (at : ℕ) (kinds : List Kind) (given : List Given) (m : Machine) (x : Value × Machine) → playlist at kinds given m ≡ Ok x → Keeps m x.1
+playlist_keeps : (at : ℕ) (kinds : List Kind) (given : List Argument) (m : Machine) (x : Value × Machine) → playlist at kinds given m ≡ Ok x → Keeps m x.1
 unfolding playlist
 playlist_keeps at kinds given m x is =
     let step0 = after (bool_or (codes "loop") true given) (λ again. text_or (codes "mode") (codes "normal") again.1 >>= λ mode. plain_text mode.1 >>= λ file. one_kind kinds >>= λ k. is_normal at mode.0 >>= λ normal. add (node (op.Playlist file.0 again.0) k []) m) x is in
@@ -238,7 +238,7 @@ playlist_keeps at kinds given m x is =
     let normal = step4.0 in
     added (node (op.Playlist file.0 again.0) k []) m x step4.2 (leaf_over m.plan.nodes (op.Playlist file.0 again.0) k refl refl tt) (λ b e. cc)
 
-blank_keeps : (at : ℕ) (kinds : List Kind) (given : List Given) (m : Machine) (x : Value × Machine) → blank at kinds given m ≡ Ok x → Keeps m x.1
+blank_keeps : (at : ℕ) (kinds : List Kind) (given : List Argument) (m : Machine) (x : Value × Machine) → blank at kinds given m ≡ Ok x → Keeps m x.1
 unfolding blank
 blank_keeps at kinds given m x is =
     let step0 = after (decimal_or (codes "duration") (some_millionths 0 tt) given) (λ duration. one_kind kinds >>= λ k. track_of at m.plan.rate duration.0 >>= λ track. add (node (op.Blank track) k []) m) x is in
@@ -249,7 +249,7 @@ blank_keeps at kinds given m x is =
     let track = step2.0 in
     added (node (op.Blank track) k []) m x step2.2 (leaf_over m.plan.nodes (op.Blank track) k refl refl tt) (λ b e. cc)
 
-square_keeps : (at : ℕ) (kinds : List Kind) (given : List Given) (m : Machine) (x : Value × Machine) → square at kinds given m ≡ Ok x → Keeps m x.1
+square_keeps : (at : ℕ) (kinds : List Kind) (given : List Argument) (m : Machine) (x : Value × Machine) → square at kinds given m ≡ Ok x → Keeps m x.1
 unfolding square
 square_keeps at kinds given m x is =
     let step0 = after (plain_decimal given) (λ f. one_kind kinds >>= λ k. pitch_of at f.0 >>= λ pitch. add (node (op.Square pitch) k []) m) x is in
@@ -269,7 +269,7 @@ fail_keeps kinds m x is =
 
 -- a node of an operator that takes any number of sources of its own kind, over a list of sources
 over_sources_keep : (o : Op) → ((n : ℕ) → HasChildren o n) → ((k : Kind) → HasKind o k k) → IsInRange o → IsNoReader o
-    → (kinds : List Kind) (given : List Given) (m : Machine) (x : Value × Machine) → over_sources o kinds given m ≡ Ok x → Keeps m x.1
+    → (kinds : List Kind) (given : List Argument) (m : Machine) (x : Value × Machine) → over_sources o kinds given m ≡ Ok x → Keeps m x.1
 unfolding over_sources
 over_sources_keep o number kind range reader kinds given m x is =
     let step0 = after (one_kind kinds) (λ k. few_sources m.plan.nodes k given >>= λ children. add (node o k children) m) x is in
@@ -279,13 +279,13 @@ over_sources_keep o number kind range reader kinds given m x is =
     let are = few_sources_are m.plan.nodes k given children step1.1 in
     added (node o k children) m x step1.2 (list_over m.plan.nodes o k k children are.0 are.1 (number (length children)) (kind k) range) reader
 
-fallback_keeps : (kinds : List Kind) (given : List Given) (m : Machine) (x : Value × Machine) → fallback kinds given m ≡ Ok x → Keeps m x.1
+fallback_keeps : (kinds : List Kind) (given : List Argument) (m : Machine) (x : Value × Machine) → fallback kinds given m ≡ Ok x → Keeps m x.1
 unfolding fallback
 fallback_keeps kinds given m x is =
     let step = after (sensitive_or given) (λ sensitive. over_sources (op.Fallback sensitive.0) kinds sensitive.1 m) x is in
     over_sources_keep (op.Fallback step.0.0) (λ n. tt) (λ k. refl) tt (λ b e. cc) kinds step.0.1 m x step.2
 
-switch_keeps : (kinds : List Kind) (given : List Given) (m : Machine) (x : Value × Machine) → switch kinds given m ≡ Ok x → Keeps m x.1
+switch_keeps : (kinds : List Kind) (given : List Argument) (m : Machine) (x : Value × Machine) → switch kinds given m ≡ Ok x → Keeps m x.1
 unfolding switch
 switch_keeps kinds given m x is =
     let step0 = after (sensitive_or given) (λ sensitive. one_kind kinds >>= λ k. few_pairs m.plan.nodes k sensitive.1 >>= λ pairs. add (node (op.Switch sensitive.0 pairs.0) k pairs.1) m) x is in
@@ -297,7 +297,7 @@ switch_keeps kinds given m x is =
     let are = few_pairs_are m.plan.nodes k sensitive.1 pairs step2.1 in
     added (node (op.Switch sensitive.0 pairs.0) k pairs.1) m x step2.2 (list_over m.plan.nodes (op.Switch sensitive.0 pairs.0) k k pairs.1 are.0.sources are.1 are.0.many refl tt) (λ b e. cc)
 
-random_keeps : (at : ℕ) (kinds : List Kind) (given : List Given) (m : Machine) (x : Value × Machine) → random at kinds given m ≡ Ok x → Keeps m x.1
+random_keeps : (at : ℕ) (kinds : List Kind) (given : List Argument) (m : Machine) (x : Value × Machine) → random at kinds given m ≡ Ok x → Keeps m x.1
 unfolding random
 random_keeps at kinds given m x is =
     let step0 = after (int_or (codes "seed") (pos 0) given) (λ number. one_kind kinds >>= λ k. plain_sources m.plan.nodes k number.1 >>= λ sources. seed_of at number.0 >>= λ seed. few sources.0 >>= λ children. add (node (op.Random seed) k children) m) x is in
@@ -314,13 +314,13 @@ random_keeps at kinds given m x is =
     let are = subst (All (IsSource m.plan.nodes k)) short.0 (some_sources m.plan.nodes k number.1 sources step2.1) in
     added (node (op.Random seed) k children) m x step4.2 (list_over m.plan.nodes (op.Random seed) k k children are short.1 tt refl tt) (λ b e. cc)
 
-sum_keeps : (kinds : List Kind) (given : List Given) (m : Machine) (x : Value × Machine) → sum kinds given m ≡ Ok x → Keeps m x.1
+sum_keeps : (kinds : List Kind) (given : List Argument) (m : Machine) (x : Value × Machine) → sum kinds given m ≡ Ok x → Keeps m x.1
 unfolding sum
 sum_keeps kinds given m x is =
     let step = after (bool_or (codes "normalize") true given) (λ normalize. over_sources (op.Add normalize.0) kinds normalize.1 m) x is in
     over_sources_keep (op.Add step.0.0) (λ n. tt) (λ k. refl) tt (λ b e. cc) kinds step.0.1 m x step.2
 
-amplify_keeps : (kinds : List Kind) (given : List Given) (m : Machine) (x : Value × Machine) → amplify kinds given m ≡ Ok x → Keeps m x.1
+amplify_keeps : (kinds : List Kind) (given : List Argument) (m : Machine) (x : Value × Machine) → amplify kinds given m ≡ Ok x → Keeps m x.1
 unfolding amplify
 amplify_keeps kinds given m x is =
     let step0 = after (plain_decimal given) (λ factor. one_kind kinds >>= λ k. plain_source m.plan.nodes k factor.1 >>= λ s. add (node (op.Amplify factor.0) k (s.0 ∷ [])) m) x is in
@@ -332,7 +332,7 @@ amplify_keeps kinds given m x is =
     let source = a_source m.plan.nodes k factor.1 s step2.1 in
     added (node (op.Amplify factor.0) k (s.0 ∷ [])) m x step2.2 (one_over m.plan.nodes (op.Amplify factor.0) k k s.0 source refl refl tt) (λ b e. cc)
 
-mean_keeps : (given : List Given) (m : Machine) (x : Value × Machine) → mean given m ≡ Ok x → Keeps m x.1
+mean_keeps : (given : List Argument) (m : Machine) (x : Value × Machine) → mean given m ≡ Ok x → Keeps m x.1
 unfolding mean
 mean_keeps given m x is =
     let step0 = after (plain_source m.plan.nodes Both given) (λ s. add (node op.Mean Mono (s.0 ∷ [])) m) x is in
@@ -340,7 +340,7 @@ mean_keeps given m x is =
     let source = a_source m.plan.nodes Both given s step0.1 in
     added (node (op.Mean) Mono (s.0 ∷ [])) m x step0.2 (one_over m.plan.nodes (op.Mean) Both Mono s.0 source refl (refl, refl) tt) (λ b e. cc)
 
-stereo_keeps : (given : List Given) (m : Machine) (x : Value × Machine) → stereo given m ≡ Ok x → Keeps m x.1
+stereo_keeps : (given : List Argument) (m : Machine) (x : Value × Machine) → stereo given m ≡ Ok x → Keeps m x.1
 unfolding stereo
 stereo_keeps given m x is =
     let step0 = after (plain_source m.plan.nodes Mono given) (λ s. add (node op.Stereo Both (s.0 ∷ [])) m) x is in
@@ -348,7 +348,7 @@ stereo_keeps given m x is =
     let source = a_source m.plan.nodes Mono given s step0.1 in
     added (node (op.Stereo) Both (s.0 ∷ [])) m x step0.2 (one_over m.plan.nodes (op.Stereo) Mono Both s.0 source refl (refl, refl) tt) (λ b e. cc)
 
-crossfade_keeps : (at : ℕ) (kinds : List Kind) (given : List Given) (m : Machine) (x : Value × Machine) → crossfade at kinds given m ≡ Ok x → Keeps m x.1
+crossfade_keeps : (at : ℕ) (kinds : List Kind) (given : List Argument) (m : Machine) (x : Value × Machine) → crossfade at kinds given m ≡ Ok x → Keeps m x.1
 unfolding crossfade
 crossfade_keeps at kinds given m x is =
     let step0 = after (decimal_or (codes "duration") (some_millionths 5000000 tt) given) (λ duration. one_kind kinds >>= λ k. plain_source m.plan.nodes k duration.1 >>= λ s. short_overlap at s.0 duration.0 m.plan >>= λ overlap. add (node (op.Crossfade overlap) k (s.0 ∷ [])) m) x is in
@@ -374,7 +374,7 @@ safe_keeps k s m x is source =
     let second = added (node (op.Fallback false) k (s ∷ silence.0 ∷ [])) silence.1 x step0.2 (two_over silence.1.plan.nodes (op.Fallback false) k s silence.0 old new tt refl tt) (λ b e. cc) in
     then_keeps m silence.1 x.1 first.keeps second
 
-mksafe_keeps : (kinds : List Kind) (given : List Given) (m : Machine) (x : Value × Machine) → mksafe kinds given m ≡ Ok x → Keeps m x.1
+mksafe_keeps : (kinds : List Kind) (given : List Argument) (m : Machine) (x : Value × Machine) → mksafe kinds given m ≡ Ok x → Keeps m x.1
 unfolding mksafe
 mksafe_keeps kinds given m x is =
     let step0 = after (one_kind kinds) (λ k. plain_source m.plan.nodes k given >>= λ s. safe k s.0 m) x is in
@@ -383,7 +383,7 @@ mksafe_keeps kinds given m x is =
     let s = step1.0 in
     safe_keeps k s.0 m x step1.2 (a_source m.plan.nodes k given s step1.1)
 
-buffer_keeps : (at : ℕ) (kinds : List Kind) (given : List Given) (m : Machine) (x : Value × Machine) → buffer at kinds given m ≡ Ok x → Keeps m x.1
+buffer_keeps : (at : ℕ) (kinds : List Kind) (given : List Argument) (m : Machine) (x : Value × Machine) → buffer at kinds given m ≡ Ok x → Keeps m x.1
 unfolding buffer
 buffer_keeps at kinds given m x is =
     let step0 = after (decimal_or (codes "buffer") (some_millionths 1000000 tt) given) (λ held. decimal_or (codes "max") (some_millionths 10000000 tt) held.1 >>= λ most. one_kind kinds >>= λ k. plain_source m.plan.nodes k most.1 >>= λ s. buffer_plan at held.0 most.0 m.plan >>= λ made. add_buffer s.0 k made m) x is in
@@ -399,7 +399,7 @@ buffer_keeps at kinds given m x is =
     let source = a_source m.plan.nodes k most.1 s step3.1 in
     buffered m s.0 k made x step4.2 source (a_buffer at held.0 most.0 m.plan made step4.1)
 
-clock_keeps : (kinds : List Kind) (given : List Given) (m : Machine) (x : Value × Machine) → clock kinds given m ≡ Ok x → Keeps m x.1
+clock_keeps : (kinds : List Kind) (given : List Argument) (m : Machine) (x : Value × Machine) → clock kinds given m ≡ Ok x → Keeps m x.1
 unfolding clock
 clock_keeps kinds given m x is =
     let step0 = after (text_or (codes "id") [] given) (λ id. one_kind kinds >>= λ k. plain_source m.plan.nodes k id.1 >>= λ s. add (node (op.Clock id.0) k (s.0 ∷ [])) m) x is in
@@ -411,7 +411,7 @@ clock_keeps kinds given m x is =
     let source = a_source m.plan.nodes k id.1 s step2.1 in
     added (node (op.Clock id.0) k (s.0 ∷ [])) m x step2.2 (one_over m.plan.nodes (op.Clock id.0) k k s.0 source refl refl tt) (λ b e. cc)
 
-output_file_keeps : (kinds : List Kind) (given : List Given) (m : Machine) (x : Value × Machine) → output_file kinds given m ≡ Ok x → Keeps m x.1
+output_file_keeps : (kinds : List Kind) (given : List Argument) (m : Machine) (x : Value × Machine) → output_file kinds given m ≡ Ok x → Keeps m x.1
 unfolding output_file
 output_file_keeps kinds given m x is =
     let step0 = after (bool_or (codes "fallible") false given) (λ fallible. plain_format fallible.1 >>= λ format. plain_text format.1 >>= λ name. one_kind kinds >>= λ k. plain_source m.plan.nodes k name.1 >>= λ s. add_output name.0 s.0 fallible.0 format.0 m) x is in
@@ -427,7 +427,7 @@ output_file_keeps kinds given m x is =
     let source = a_source m.plan.nodes k name.1 s step4.1 in
     put_output m name.0 s.0 fallible.0 format.0 k x step4.2 source
 
-set_keeps : (given : List Given) (m : Machine) (x : Value × Machine) → set given m ≡ Ok x → Keeps m x.1
+set_keeps : (given : List Argument) (m : Machine) (x : Value × Machine) → set given m ≡ Ok x → Keeps m x.1
 unfolding set
 set_keeps given m x is =
     let step0 = after (plain_text given) (λ key. plain key.1 >>= λ value. setting key.0 value.0 m) x is in
@@ -451,7 +451,7 @@ first_sound = record {
   feeds = omega arith;
 }
 
-pub call_keeps : (b : Builtin) (at : ℕ) (kinds : List Kind) (given : List Given) (m : Machine) (x : Value × Machine) → builtin b at kinds given m ≡ Ok x → Keeps m x.1
+pub call_keeps : (b : Builtin) (at : ℕ) (kinds : List Kind) (given : List Argument) (m : Machine) (x : Value × Machine) → builtin b at kinds given m ≡ Ok x → Keeps m x.1
 unfolding builtin
 call_keeps builtins.OutputFile at kinds given m x is = output_file_keeps kinds given m x is
 call_keeps builtins.Set at kinds given m x is = set_keeps given m x is

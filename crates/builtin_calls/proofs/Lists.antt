@@ -10,7 +10,7 @@ use Rattle.script_values.specs.declared.fault.Fault.TheVariants.{Stuck}
 use Rattle.script_values.specs.declared.value.Value as program
 use Rattle.script_values.specs.Gives.{Fails}
 use Rattle.script_values.specs.Outcomes.{◌>>=◌}
-use Rattle.script_values.specs.Values.{Tree, Many, none, more, many, Value}
+use Rattle.script_values.specs.Values.{ValueTree, Many, none, more, many, Value}
 use Rattle.script_values.specs.View.{view_value}
 use Rattle.script_values.proofs.Chains.{fails_on, fails_same}
 use Rattle.script_values.proofs.Rows.{listed_seen, tuple_seen}
@@ -18,29 +18,29 @@ use Rattle.std.specs.Global.{Vec}
 use Rattle.builtin_calls.specs.Parts.{source_of, nodes_from, sources_of, pair_in, pair_of, pairs_from, pairs_of}
 
 -- F reads parts from a state, step one of them, and both open as they should
-record Steps {A B : Type 0} (F : Tree Many → A → Result B Fault) (step : Value → A → Result A Fault) : Type 0 where
-  opens : (v : Value) (vs : Tree Many) (a : A) → F (more v vs) a ≡ (step v a >>= λ b. F vs b)
+record Steps {A B : Type 0} (F : ValueTree Many → A → Result B Fault) (step : Value → A → Result A Fault) : Type 0 where
+  opens : (v : Value) (vs : ValueTree Many) (a : A) → F (more v vs) a ≡ (step v a >>= λ b. F vs b)
 
-front : {A B : Type 0} (F : Tree Many → A → Result B Fault) (ps : List program.Value) (i : ℕ) (p : program.Value) (a : A) → i < length ps → p ≡ get_or ps i p
+front : {A B : Type 0} (F : ValueTree Many → A → Result B Fault) (ps : List program.Value) (i : ℕ) (p : program.Value) (a : A) → i < length ps → p ≡ get_or ps i p
     → F (many (map view_value (drop i ps))) a ≡ F (more (view_value p) (many (map view_value (drop (i + 1) ps)))) a
 front F ps i p a lt is =
     at_drop_more (λ (l : List program.Value). F (many (map view_value l)) a) ps i p lt
     ∙ ap (λ (q : program.Value). F (more (view_value q) (many (map view_value (drop (i + 1) ps)))) a) (sym is)
 
-turn : {A B : Type 0} {F : Tree Many → A → Result B Fault} {step : Value → A → Result A Fault} → Steps F step
+turn : {A B : Type 0} {F : ValueTree Many → A → Result B Fault} {step : Value → A → Result A Fault} → Steps F step
     → (ps : List program.Value) (i : ℕ) (p : program.Value) (a b : A) (whole : Result B Fault) → F (many (map view_value (drop i ps))) a ≡ whole → i < length ps → p ≡ get_or ps i p → step (view_value p) a ≡ Ok b
     → F (many (map view_value (drop (i + 1) ps))) b ≡ whole
 turn {F = F} steps ps i p a b whole so lt is went =
     sym (front F ps i p a lt is ∙ steps.opens (view_value p) (many (map view_value (drop (i + 1) ps))) a ∙ ap (λ (r : Result _ Fault). r >>= λ y. F (many (map view_value (drop (i + 1) ps))) y) went) ∙ so
 
-stops : {A B : Type 0} {F : Tree Many → A → Result B Fault} {step : Value → A → Result A Fault} → Steps F step
+stops : {A B : Type 0} {F : ValueTree Many → A → Result B Fault} {step : Value → A → Result A Fault} → Steps F step
     → (ps : List program.Value) (i : ℕ) (p : program.Value) (a : A) (whole : Result B Fault) (e : Fault) → F (many (map view_value (drop i ps))) a ≡ whole → i < length ps → p ≡ get_or ps i p → Fails e (step (view_value p) a)
     → Fails e whole
 stops {F = F} {step = step} steps ps i p a whole e so lt is fault =
     fails_same e _ whole (sym (steps.opens (view_value p) (many (map view_value (drop (i + 1) ps))) a) ∙ sym (front F ps i p a lt is) ∙ so)
     (fails_on e (step (view_value p) a) (λ y. F (many (map view_value (drop (i + 1) ps))) y) fault)
 
-ends : {A B : Type 0} (F : Tree Many → A → Result B Fault) (ps : List program.Value) (i : ℕ) (a : A) (whole : Result B Fault)
+ends : {A B : Type 0} (F : ValueTree Many → A → Result B Fault) (ps : List program.Value) (i : ℕ) (a : A) (whole : Result B Fault)
     → F (many (map view_value (drop i ps))) a ≡ whole → length ps ≤ i → whole ≡ F none a
 ends F ps i a whole so over = sym so ∙ at_drop_all (λ (l : List program.Value). F (many (map view_value l)) a) ps i over
 
@@ -73,7 +73,7 @@ sources_end nodes k ps i ns whole so over = ends (nodes_from nodes k) ps i ns wh
 abbrev Pairs : Type 0
 Pairs = List Predicate × List ℕ
 
-abbrev pairs_on : List Node → Kind → Tree Many → Pairs → Result Pairs Fault
+abbrev pairs_on : List Node → Kind → ValueTree Many → Pairs → Result Pairs Fault
 pairs_on nodes k vs a = pairs_from nodes k vs a.0 a.1
 
 abbrev pair_step : List Node → Kind → Value → Pairs → Result Pairs Fault

@@ -9,8 +9,8 @@ use Rattle.plan_core.specs.declared.node.Node.{Node}
 use Rattle.script_values.specs.declared.fault.Fault.{Fault}
 use Rattle.script_values.specs.declared.fault.Fault.TheVariants.{Stuck}
 use Rattle.script_values.specs.Outcomes.{◌>>=◌}
-use Rattle.script_values.specs.Slots.{Given}
-use Rattle.script_values.specs.Values.{Tree, Many, none, more, Value, Int, Number, Text, Truth, Nothing, Format, Pred, Source, Listed, Tuple}
+use Rattle.script_values.specs.Slots.{Argument}
+use Rattle.script_values.specs.Values.{ValueTree, Many, none, more, Value, Int, Number, Text, Truth, Nothing, Format, Pred, Source, Listed, Tuple}
 use Rattle.builtin_calls.specs.Parts.{is_kind, of_kind, source_of, nodes_from, sources_of, pair_in, pair_of, pred_of, pairs_from, pairs_of, plain, plain_source, plain_sources, plain_pairs}
 
 -- the first step of steps that end well
@@ -59,7 +59,7 @@ source_is nodes k (Pred p) n is = absurd cc
 source_is nodes k (Listed vs) n is = absurd cc
 source_is nodes k (Tuple vs) n is = absurd cc
 
-nodes_are : (nodes : List Node) (k : Kind) (vs : Tree Many) (ns rs : List ℕ) → nodes_from nodes k vs ns ≡ Ok rs → All (IsSource nodes k) ns → All (IsSource nodes k) rs
+nodes_are : (nodes : List Node) (k : Kind) (vs : ValueTree Many) (ns rs : List ℕ) → nodes_from nodes k vs ns ≡ Ok rs → All (IsSource nodes k) ns → All (IsSource nodes k) rs
 unfolding nodes_from
 nodes_are nodes k none ns rs is all = (let same = ok_is ns rs is in subst (All (IsSource nodes k)) same all)
 nodes_are nodes k (more v vs) ns rs is all =
@@ -79,7 +79,7 @@ sources_are nodes k (Format wide) rs is = absurd cc
 sources_are nodes k (Pred p) rs is = absurd cc
 sources_are nodes k (Tuple vs) rs is = absurd cc
 
-in_pair : (nodes : List Node) (k : Kind) (vs : Tree Many) (x : Predicate × ℕ) → pair_in nodes k vs ≡ Ok x → IsSource nodes k x.1
+in_pair : (nodes : List Node) (k : Kind) (vs : ValueTree Many) (x : Predicate × ℕ) → pair_in nodes k vs ≡ Ok x → IsSource nodes k x.1
 unfolding pair_in
 in_pair nodes k none x is = absurd cc
 in_pair nodes k (more v none) x is = absurd cc
@@ -108,7 +108,7 @@ pub record ArePairs (nodes : List Node) (k : Kind) (ps : List Predicate) (ns : L
   pub sources : All (IsSource nodes k) ns
   pub many : length ns ≡ length ps
 
-pairs_are : (nodes : List Node) (k : Kind) (vs : Tree Many) (ps : List Predicate) (ns : List ℕ) (x : List Predicate × List ℕ) → pairs_from nodes k vs ps ns ≡ Ok x → ArePairs nodes k ps ns → ArePairs nodes k x.0 x.1
+pairs_are : (nodes : List Node) (k : Kind) (vs : ValueTree Many) (ps : List Predicate) (ns : List ℕ) (x : List Predicate × List ℕ) → pairs_from nodes k vs ps ns ≡ Ok x → ArePairs nodes k ps ns → ArePairs nodes k x.0 x.1
 unfolding pairs_from
 pairs_are nodes k none ps ns x is so =
     let both = ok_is (ps, ns) x is in
@@ -133,26 +133,26 @@ pairs_in_value nodes k Nothing x is = absurd cc
 pairs_in_value nodes k (Format wide) x is = absurd cc
 pairs_in_value nodes k (Pred p) x is = absurd cc
 
-pub a_source : (nodes : List Node) (k : Kind) (given : List Given) (x : ℕ × List Given) → plain_source nodes k given ≡ Ok x → IsSource nodes k x.0
+pub a_source : (nodes : List Node) (k : Kind) (given : List Argument) (x : ℕ × List Argument) → plain_source nodes k given ≡ Ok x → IsSource nodes k x.0
 unfolding plain_source
 a_source nodes k given x is =
     let v = after (plain given) (λ y. source_of nodes k y.0 >>= λ source. Ok (source, y.1)) x is in
     let s = after (source_of nodes k v.0.0) (λ source. Ok (source, v.0.1)) x v.2 in
-    let same : s.0 ≡ x.0 = ap (λ (y : ℕ × List Given). y.0) (ok_is (s.0, v.0.1) x s.2) in
+    let same : s.0 ≡ x.0 = ap (λ (y : ℕ × List Argument). y.0) (ok_is (s.0, v.0.1) x s.2) in
     subst (IsSource nodes k) same (source_is nodes k v.0.0 s.0 s.1)
 
-pub some_sources : (nodes : List Node) (k : Kind) (given : List Given) (x : List ℕ × List Given) → plain_sources nodes k given ≡ Ok x → All (IsSource nodes k) x.0
+pub some_sources : (nodes : List Node) (k : Kind) (given : List Argument) (x : List ℕ × List Argument) → plain_sources nodes k given ≡ Ok x → All (IsSource nodes k) x.0
 unfolding plain_sources
 some_sources nodes k given x is =
     let v = after (plain given) (λ y. sources_of nodes k y.0 >>= λ sources. Ok (sources, y.1)) x is in
     let s = after (sources_of nodes k v.0.0) (λ sources. Ok (sources, v.0.1)) x v.2 in
-    let same : s.0 ≡ x.0 = ap (λ (y : List ℕ × List Given). y.0) (ok_is (s.0, v.0.1) x s.2) in
+    let same : s.0 ≡ x.0 = ap (λ (y : List ℕ × List Argument). y.0) (ok_is (s.0, v.0.1) x s.2) in
     subst (All (IsSource nodes k)) same (sources_are nodes k v.0.0 s.0 s.1)
 
-pub some_pairs : (nodes : List Node) (k : Kind) (given : List Given) (x : (List Predicate × List ℕ) × List Given) → plain_pairs nodes k given ≡ Ok x → ArePairs nodes k x.0.0 x.0.1
+pub some_pairs : (nodes : List Node) (k : Kind) (given : List Argument) (x : (List Predicate × List ℕ) × List Argument) → plain_pairs nodes k given ≡ Ok x → ArePairs nodes k x.0.0 x.0.1
 unfolding plain_pairs
 some_pairs nodes k given x is =
     let v = after (plain given) (λ y. pairs_of nodes k y.0 >>= λ pairs. Ok (pairs, y.1)) x is in
     let s = after (pairs_of nodes k v.0.0) (λ pairs. Ok (pairs, v.0.1)) x v.2 in
-    let same : s.0 ≡ x.0 = ap (λ (y : (List Predicate × List ℕ) × List Given). y.0) (ok_is (s.0, v.0.1) x s.2) in
+    let same : s.0 ≡ x.0 = ap (λ (y : (List Predicate × List ℕ) × List Argument). y.0) (ok_is (s.0, v.0.1) x s.2) in
     subst (λ (y : List Predicate × List ℕ). ArePairs nodes k y.0 y.1) same (pairs_in_value nodes k v.0.0 s.0 s.1)

@@ -19,7 +19,7 @@ use Rattle.script_values.specs.declared.fault.Limit.TheVariants.{Crossfades, Ove
 use Rattle.script_values.specs.declared.machine.Machine.{Machine}
 use Rattle.script_values.specs.Machines.{some_millionths}
 use Rattle.script_values.specs.Outcomes.{◌>>=◌, Outcome}
-use Rattle.script_values.specs.Slots.{Given}
+use Rattle.script_values.specs.Slots.{Argument}
 use Rattle.builtin_calls.specs.Parts.{one_kind, plain, plain_text, plain_decimal, plain_format, plain_source, plain_sources, plain_pairs, bool_or, int_or, text_or, decimal_or}
 use Rattle.builtin_calls.specs.Nodes.{at_most, few, crossfades_with, add, push, add_buffer}
 use Rattle.builtin_calls.specs.Times.{overlap_of, track_of, samples_of, pitch_of, chunks}
@@ -31,7 +31,7 @@ abbrev pub node : Op → Kind → List ℕ → Node
 node o k children = record { op = o; kind = k; children = children }
 
 -- output.file(fallible=false, format, name, s)
-unfoldable pub output_file : List Kind → List Given → Machine → Outcome
+unfoldable pub output_file : List Kind → List Argument → Machine → Outcome
 output_file kinds given m = do
   fallible ← bool_or (codes "fallible") false given
   format ← plain_format fallible.1
@@ -41,14 +41,14 @@ output_file kinds given m = do
   add_output name.0 s.0 fallible.0 format.0 m
 
 -- set(key, value)
-unfoldable pub set : List Given → Machine → Outcome
+unfoldable pub set : List Argument → Machine → Outcome
 set given m = do
   key ← plain_text given
   value ← plain key.1
   setting key.0 value.0 m
 
 -- single(file)
-unfoldable pub single : List Kind → List Given → Machine → Outcome
+unfoldable pub single : List Kind → List Argument → Machine → Outcome
 single kinds given m = do
   file ← plain_text given
   k ← one_kind kinds
@@ -63,7 +63,7 @@ is_normal at mode =
     ]
 
 -- playlist(loop=true, mode="normal", file)
-unfoldable pub playlist : ℕ → List Kind → List Given → Machine → Outcome
+unfoldable pub playlist : ℕ → List Kind → List Argument → Machine → Outcome
 playlist at kinds given m = do
   again ← bool_or (codes "loop") true given
   mode ← text_or (codes "mode") (codes "normal") again.1
@@ -73,7 +73,7 @@ playlist at kinds given m = do
   add (node (op.Playlist file.0 again.0) k []) m
 
 -- blank(duration=0.)
-unfoldable pub blank : ℕ → List Kind → List Given → Machine → Outcome
+unfoldable pub blank : ℕ → List Kind → List Argument → Machine → Outcome
 blank at kinds given m = do
   duration ← decimal_or (codes "duration") (some_millionths 0 tt) given
   k ← one_kind kinds
@@ -81,7 +81,7 @@ blank at kinds given m = do
   add (node (op.Blank track) k []) m
 
 -- square(f)
-unfoldable pub square : ℕ → List Kind → List Given → Machine → Outcome
+unfoldable pub square : ℕ → List Kind → List Argument → Machine → Outcome
 square at kinds given m = do
   f ← plain_decimal given
   k ← one_kind kinds
@@ -95,37 +95,37 @@ fail kinds m = do
   add (node op.Fail k []) m
 
 -- a list of sources, not too many of them
-unfoldable pub few_sources : List Node → Kind → List Given → Result (List ℕ) Fault
+unfoldable pub few_sources : List Node → Kind → List Argument → Result (List ℕ) Fault
 few_sources nodes k given = do
   sources ← plain_sources nodes k given
   few sources.0
 
 -- a list of predicates and sources, not too many of them
-unfoldable pub few_pairs : List Node → Kind → List Given → Result (List Predicate × List ℕ) Fault
+unfoldable pub few_pairs : List Node → Kind → List Argument → Result (List Predicate × List ℕ) Fault
 few_pairs nodes k given = do
   pairs ← plain_pairs nodes k given
   children ← few pairs.0.1
   Ok (pairs.0.0, children)
 
 -- track_sensitive=true
-unfoldable pub sensitive_or : List Given → Result (Bool × List Given) Fault
+unfoldable pub sensitive_or : List Argument → Result (Bool × List Argument) Fault
 sensitive_or given = bool_or (codes "track_sensitive") true given
 
 -- a node of this operator over a list of sources
-unfoldable pub over_sources : Op → List Kind → List Given → Machine → Outcome
+unfoldable pub over_sources : Op → List Kind → List Argument → Machine → Outcome
 over_sources o kinds given m = do
   k ← one_kind kinds
   children ← few_sources m.plan.nodes k given
   add (node o k children) m
 
 -- fallback(track_sensitive=true, sources)
-unfoldable pub fallback : List Kind → List Given → Machine → Outcome
+unfoldable pub fallback : List Kind → List Argument → Machine → Outcome
 fallback kinds given m = do
   sensitive ← sensitive_or given
   over_sources (op.Fallback sensitive.0) kinds sensitive.1 m
 
 -- switch(track_sensitive=true, pairs)
-unfoldable pub switch : List Kind → List Given → Machine → Outcome
+unfoldable pub switch : List Kind → List Argument → Machine → Outcome
 switch kinds given m = do
   sensitive ← sensitive_or given
   k ← one_kind kinds
@@ -141,7 +141,7 @@ seed_of at n =
     ]
 
 -- random(seed=0, sources)
-unfoldable pub random : ℕ → List Kind → List Given → Machine → Outcome
+unfoldable pub random : ℕ → List Kind → List Argument → Machine → Outcome
 random at kinds given m = do
   number ← int_or (codes "seed") (pos 0) given
   k ← one_kind kinds
@@ -151,13 +151,13 @@ random at kinds given m = do
   add (node (op.Random seed) k children) m
 
 -- add(normalize=true, sources)
-unfoldable pub sum : List Kind → List Given → Machine → Outcome
+unfoldable pub sum : List Kind → List Argument → Machine → Outcome
 sum kinds given m = do
   normalize ← bool_or (codes "normalize") true given
   over_sources (op.Add normalize.0) kinds normalize.1 m
 
 -- amplify(k, s)
-unfoldable pub amplify : List Kind → List Given → Machine → Outcome
+unfoldable pub amplify : List Kind → List Argument → Machine → Outcome
 amplify kinds given m = do
   factor ← plain_decimal given
   k ← one_kind kinds
@@ -165,13 +165,13 @@ amplify kinds given m = do
   add (node (op.Amplify factor.0) k (s.0 ∷ [])) m
 
 -- mean(s): stereo to mono
-unfoldable pub mean : List Given → Machine → Outcome
+unfoldable pub mean : List Argument → Machine → Outcome
 mean given m = do
   s ← plain_source m.plan.nodes Both given
   add (node op.Mean Mono (s.0 ∷ [])) m
 
 -- stereo(s): mono to stereo
-unfoldable pub stereo : List Given → Machine → Outcome
+unfoldable pub stereo : List Argument → Machine → Outcome
 stereo given m = do
   s ← plain_source m.plan.nodes Mono given
   add (node op.Stereo Both (s.0 ∷ [])) m
@@ -184,7 +184,7 @@ short_overlap at s duration plan = do
   at_most MAX_OVERLAP Overlap overlap
 
 -- crossfade(duration=5., s)
-unfoldable pub crossfade : ℕ → List Kind → List Given → Machine → Outcome
+unfoldable pub crossfade : ℕ → List Kind → List Argument → Machine → Outcome
 crossfade at kinds given m = do
   duration ← decimal_or (codes "duration") (some_millionths 5000000 tt) given
   k ← one_kind kinds
@@ -199,7 +199,7 @@ safe k s m = do
   add (node (op.Fallback false) k (s ∷ silence.0 ∷ [])) silence.1
 
 -- mksafe(s)
-unfoldable pub mksafe : List Kind → List Given → Machine → Outcome
+unfoldable pub mksafe : List Kind → List Argument → Machine → Outcome
 mksafe kinds given m = do
   k ← one_kind kinds
   s ← plain_source m.plan.nodes k given
@@ -215,7 +215,7 @@ buffer_plan at held most plan = do
   Ok (record { pre = prefill; capacity = capacity })
 
 -- buffer(buffer=1., max=10., s)
-unfoldable pub buffer : ℕ → List Kind → List Given → Machine → Outcome
+unfoldable pub buffer : ℕ → List Kind → List Argument → Machine → Outcome
 buffer at kinds given m = do
   held ← decimal_or (codes "buffer") (some_millionths 1000000 tt) given
   most ← decimal_or (codes "max") (some_millionths 10000000 tt) held.1
@@ -225,14 +225,14 @@ buffer at kinds given m = do
   add_buffer s.0 k made m
 
 -- clock(id="", s)
-unfoldable pub clock : List Kind → List Given → Machine → Outcome
+unfoldable pub clock : List Kind → List Argument → Machine → Outcome
 clock kinds given m = do
   id ← text_or (codes "id") [] given
   k ← one_kind kinds
   s ← plain_source m.plan.nodes k id.1
   add (node (op.Clock id.0) k (s.0 ∷ [])) m
 
-unfoldable pub builtin : Builtin → ℕ → List Kind → List Given → Machine → Outcome
+unfoldable pub builtin : Builtin → ℕ → List Kind → List Argument → Machine → Outcome
 builtin builtins.OutputFile at kinds given m = output_file kinds given m
 builtin builtins.Set at kinds given m = set given m
 builtin builtins.Single at kinds given m = single kinds given m

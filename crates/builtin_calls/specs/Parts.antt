@@ -9,8 +9,8 @@ use Rattle.typing_rules.specs.Arguments.{argument}
 use Rattle.script_values.specs.declared.fault.Fault.{Fault}
 use Rattle.script_values.specs.declared.fault.Fault.TheVariants.{Stuck}
 use Rattle.script_values.specs.Outcomes.{◌>>=◌}
-use Rattle.script_values.specs.Slots.{Given}
-use Rattle.script_values.specs.Values.{Tree, Many, none, more, Value, Int, Number, Text, Truth, Format, Pred, Source, Listed, Tuple}
+use Rattle.script_values.specs.Slots.{Argument}
+use Rattle.script_values.specs.Values.{ValueTree, Many, none, more, Value, Int, Number, Text, Truth, Format, Pred, Source, Listed, Tuple}
 
 -- the kind of a call with one open kind
 abbrev pub one_kind : List Kind → Result Kind Fault
@@ -59,7 +59,7 @@ source_of nodes k (Source n) = of_kind k n (slice_get nodes n)
 source_of nodes k v = Err Stuck
 
 -- the sources of a list, behind these
-unfoldable pub nodes_from : List Node → Kind → Tree Many → List ℕ → Result (List ℕ) Fault
+unfoldable pub nodes_from : List Node → Kind → ValueTree Many → List ℕ → Result (List ℕ) Fault
 nodes_from nodes k none ns = Ok ns
 nodes_from nodes k (more v vs) ns = source_of nodes k v >>= λ n. nodes_from nodes k vs (ns ++ n ∷ [])
 
@@ -72,7 +72,7 @@ pred_of (Pred p) = Ok p
 pred_of v = Err Stuck
 
 -- a tuple of a predicate and the source that it stands for
-unfoldable pub pair_in : List Node → Kind → Tree Many → Result (Predicate × ℕ) Fault
+unfoldable pub pair_in : List Node → Kind → ValueTree Many → Result (Predicate × ℕ) Fault
 pair_in nodes k none = Err Stuck
 pair_in nodes k (more v none) = Err Stuck
 pair_in nodes k (more v (more w none)) = pred_of v >>= λ p. source_of nodes k w >>= λ n. Ok (p, n)
@@ -83,7 +83,7 @@ pair_of nodes k (Tuple vs) = pair_in nodes k vs
 pair_of nodes k v = Err Stuck
 
 -- the predicates and the sources of a list, behind these
-unfoldable pub pairs_from : List Node → Kind → Tree Many → List Predicate → List ℕ → Result (List Predicate × List ℕ) Fault
+unfoldable pub pairs_from : List Node → Kind → ValueTree Many → List Predicate → List ℕ → Result (List Predicate × List ℕ) Fault
 pairs_from nodes k none ps ns = Ok (ps, ns)
 pairs_from nodes k (more v vs) ps ns = pair_of nodes k v >>= λ x. pairs_from nodes k vs (ps ++ x.0 ∷ []) (ns ++ x.1 ∷ [])
 
@@ -92,62 +92,62 @@ pairs_of nodes k (Listed vs) = pairs_from nodes k vs [] []
 pairs_of nodes k v = Err Stuck
 
 -- the value of a plain parameter, and the other arguments
-abbrev pub needed : Option (Value × List Given) → Result (Value × List Given) Fault
+abbrev pub needed : Option (Value × List Argument) → Result (Value × List Argument) Fault
 needed None = Err Stuck
 needed (Some x) = Ok x
 
-unfoldable pub plain : List Given → Result (Value × List Given) Fault
+unfoldable pub plain : List Argument → Result (Value × List Argument) Fault
 plain given = needed (argument None given)
 
-unfoldable pub plain_text : List Given → Result (List ℕ × List Given) Fault
+unfoldable pub plain_text : List Argument → Result (List ℕ × List Argument) Fault
 plain_text given = do
   x ← plain given
   text ← as_text x.0
   Ok (text, x.1)
 
-unfoldable pub plain_decimal : List Given → Result (Decimal × List Given) Fault
+unfoldable pub plain_decimal : List Argument → Result (Decimal × List Argument) Fault
 plain_decimal given = do
   x ← plain given
   number ← as_decimal x.0
   Ok (number, x.1)
 
-unfoldable pub plain_format : List Given → Result (Bool × List Given) Fault
+unfoldable pub plain_format : List Argument → Result (Bool × List Argument) Fault
 plain_format given = do
   x ← plain given
   wide ← as_format x.0
   Ok (wide, x.1)
 
-unfoldable pub plain_source : List Node → Kind → List Given → Result (ℕ × List Given) Fault
+unfoldable pub plain_source : List Node → Kind → List Argument → Result (ℕ × List Argument) Fault
 plain_source nodes k given = do
   x ← plain given
   source ← source_of nodes k x.0
   Ok (source, x.1)
 
-unfoldable pub plain_sources : List Node → Kind → List Given → Result (List ℕ × List Given) Fault
+unfoldable pub plain_sources : List Node → Kind → List Argument → Result (List ℕ × List Argument) Fault
 plain_sources nodes k given = do
   x ← plain given
   sources ← sources_of nodes k x.0
   Ok (sources, x.1)
 
-unfoldable pub plain_pairs : List Node → Kind → List Given → Result ((List Predicate × List ℕ) × List Given) Fault
+unfoldable pub plain_pairs : List Node → Kind → List Argument → Result ((List Predicate × List ℕ) × List Argument) Fault
 plain_pairs nodes k given = do
   x ← plain given
   pairs ← pairs_of nodes k x.0
   Ok (pairs, x.1)
 
 -- the value of a labelled parameter, or its default, and the other arguments
-abbrev pub or_default : {A : Type 0} → (Value → Result A Fault) → A → List Given → Option (Value × List Given) → Result (A × List Given) Fault
+abbrev pub or_default : {A : Type 0} → (Value → Result A Fault) → A → List Argument → Option (Value × List Argument) → Result (A × List Argument) Fault
 or_default read default given None = Ok (default, given)
 or_default read default given (Some x) = read x.0 >>= λ a. Ok (a, x.1)
 
-unfoldable pub bool_or : List ℕ → Bool → List Given → Result (Bool × List Given) Fault
+unfoldable pub bool_or : List ℕ → Bool → List Argument → Result (Bool × List Argument) Fault
 bool_or label default given = or_default as_bool default given (argument (Some label) given)
 
-unfoldable pub decimal_or : List ℕ → Decimal → List Given → Result (Decimal × List Given) Fault
+unfoldable pub decimal_or : List ℕ → Decimal → List Argument → Result (Decimal × List Argument) Fault
 decimal_or label default given = or_default as_decimal default given (argument (Some label) given)
 
-unfoldable pub int_or : List ℕ → ℤ → List Given → Result (ℤ × List Given) Fault
+unfoldable pub int_or : List ℕ → ℤ → List Argument → Result (ℤ × List Argument) Fault
 int_or label default given = or_default as_int default given (argument (Some label) given)
 
-unfoldable pub text_or : List ℕ → List ℕ → List Given → Result (List ℕ × List Given) Fault
+unfoldable pub text_or : List ℕ → List ℕ → List Argument → Result (List ℕ × List Argument) Fault
 text_or label default given = or_default as_text default given (argument (Some label) given)

@@ -5,7 +5,7 @@ ghost use Rattle.liq_base.specs.declared.memory.Kind.{Kind};
 ghost use Rattle.typing_rules.specs.declared.uses.Builtin.{Builtin};
 ghost use Rattle.script_values.specs.declared.machine.Machine.{Machine};
 ghost use Rattle.script_values.specs.Machines.{count, first_machine};
-ghost use Rattle.script_values.specs.Slots.{Given};
+ghost use Rattle.script_values.specs.Slots.{Argument};
 ghost use Rattle.script_values.specs.Values.{Value};
 ghost use Rattle.builtin_calls.specs.Builtins.{builtin};
 ghost use Rattle.builtin_calls.specs.Sound.{IsSound, Keeps};
@@ -14,6 +14,6 @@ ghost use Rattle.builtin_calls.specs.Sound.{IsSound, Keeps};
 pub fn calls_keep_plans()
     ensures first { IsSound first_machine }
     ensures counting { (n : ℕ) (m c : Machine) → count n m ≡ Ok c → Keeps m c }
-    ensures call { (b : Builtin) (at : ℕ) (kinds : List Kind) (given : List Given) (m : Machine) (x : Value × Machine)
+    ensures call { (b : Builtin) (at : ℕ) (kinds : List Kind) (given : List Argument) (m : Machine) (x : Value × Machine)
         → builtin b at kinds given m ≡ Ok x → Keeps m x.1 }
 {}

@@ -1,11 +1,12 @@
 // Cells that come in chunks.
 ghost use Rattle.std.specs.Prelude.{◌≡◌, ◌+◌, ◌<◌, ◌≤◌, [], ◌++◌, ℕ, true, false, length, map, max, take, drop, slice_get, IfOk};
+ghost use Rattle.frame_core.specs.Chunks.{cells_in};
 ghost use Rattle.frame_core.specs.Slots.{goes_on};
 ghost use Rattle.cell_ring.specs.Rings.{Ring, spare_cells};
 ghost use Rattle.liq_base.specs.declared.limits.TheConstants.{MAX_FRAME};
 
-use crate::cell_ring::{CellRing, inner_of, lay};
-use frame_core::{Cell, Chunk};
+use crate::cell_ring::{CellRing, inner_marks, slot_in};
+use frame_core::{Cell, CellMark, Chunk};
 use liq_base::Memory;
 use std::alloc::Global;
 use std::marker::Model;
@@ -49,7 +50,8 @@ impl ChunkQueue {
     pub fn len(&self) -> u64
         ensures { result ≡ length self.now.cells }
     {
-        u64::from(self.ring.len()) + spare_of(&self.spare, self.gone).len() as u64
+        let (_, _, marks) = spare_of(&self.spare, self.gone);
+        u64::from(self.ring.len()) + marks.len() as u64
     }
 
     /// The first cell.
@@ -59,7 +61,12 @@ impl ChunkQueue {
         if self.ring.len() > 0 {
             return self.ring.front();
         }
-        spare_of(&self.spare, self.gone).first().copied()
+        let (left, right, marks) = spare_of(&self.spare, self.gone);
+        slot_in(
+            left.first().copied(),
+            right.first().copied(),
+            marks.first().copied(),
+        )
     }
 
     /// How many cells, from this one on and at most so many, have this title and begin no track. The front cell is number 0.
@@ -74,9 +81,9 @@ impl ChunkQueue {
         if next < held {
             return here;
         }
-        let spare = spare_of(&self.spare, self.gone);
-        let behind = &spare[(next - held).min(spare.len())..];
-        here + inner_of(title, behind, (most - here) as usize) as u32
+        let (_, _, marks) = spare_of(&self.spare, self.gone);
+        let behind = &marks[(next - held).min(marks.len())..];
+        here + inner_marks(title, behind, (most - here) as usize) as u32
     }
 
     /// Appends the cells of a chunk, where those that it holds are no more than its ring has room for.
@@ -84,12 +91,14 @@ impl ChunkQueue {
         requires { length self.old.cells ≤ self.old.room }
         ensures { self.new ≡ record { cells = self.old.cells ++ chunk; room = self.old.room } }
     {
-        self.ring.push_cells(spare_of(&self.spare, self.gone));
+        let (left, right, marks) = spare_of(&self.spare, self.gone);
+        self.ring.push_cells(left, right, marks);
         self.gone = 0;
         let wanted = u64::from(self.ring.len()) + u64::from(chunk.len());
         if wanted <= u64::from(self.ring.room()) {
             self.spare = None;
-            self.ring.push_cells(chunk.cells());
+            self.ring
+                .push_cells(chunk.left(), chunk.right(), chunk.marks());
         } else {
             self.spare = Some(chunk);
         }
@@ -101,7 +110,10 @@ impl ChunkQueue {
     {
         if self.ring.len() > 0 {
             self.ring.pop();
-        } else if spare_of(&self.spare, self.gone).len() > 0 {
+            return;
+        }
+        let (_, _, marks) = spare_of(&self.spare, self.gone);
+        if marks.len() > 0 {
             self.gone += 1;
         }
     }
@@ -119,20 +131,26 @@ impl ChunkQueue {
         let (right_front, right_back) = right.split_at_mut(first);
         self.ring.take_into(left_front, right_front);
         let count = left_back.len();
-        let spare = spare_of(&self.spare, self.gone);
-        lay(&spare[..count], left_back, right_back);
+        let (left_spare, right_spare, _) = spare_of(&self.spare, self.gone);
+        left_back.copy_from_slice(&left_spare[..count]);
+        right_back.copy_from_slice(&right_spare[..count]);
         self.gone += count;
     }
 }
 
-// What is left of a spare chunk of which so many cells have gone.
-fn spare_of(spare: &Option<Chunk>, gone: usize) -> &[Cell]
-    ensures cells { result.now ≡ spare_cells spare.now gone }
-    ensures fits { gone + length result.now ≤ max gone MAX_FRAME }
+// The samples and marks of what is left of a spare chunk of which so many cells have gone.
+fn spare_of(spare: &Option<Chunk>, gone: usize) -> (&[i16], &[i16], &[CellMark])
+    ensures cells { cells_in result.0.now result.1.now result.2.now ≡ spare_cells spare.now gone }
+    ensures same { (length result.0.now ≡ length result.2.now) × (length result.1.now ≡ length result.2.now) }
+    ensures fits { gone + length result.2.now ≤ max gone MAX_FRAME }
 {
     let Some(chunk) = spare else {
-        return &[];
+        return (&[], &[], &[]);
     };
     let first = gone.min(chunk.len() as usize);
-    &chunk.cells()[first..]
+    (
+        &chunk.left()[first..],
+        &chunk.right()[first..],
+        &chunk.marks()[first..],
+    )
 }

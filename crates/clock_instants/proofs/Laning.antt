@@ -21,16 +21,16 @@ last_at [] lane = refl
 last_at (first ∷ lanes) lane = last_at lanes lane
 
 pub lanes_more : (states : List NodeState) (i : ℕ) (lanes : Lanes) (lane : Vec ℤ Global)
-    → ((state : NodeState) → slice_get states i ≡ Some state → (state ≡ Idle → ⊥) → length lane.items ≡ 1024)
+    → ((state : NodeState) → slice_get states i ≡ Some state → (state ≡ Idle → ⊥) → length lane.items ≡ 2048)
     → HaveLanes states i lanes → HaveLanes states (i + 1) (lanes ++ lane ∷ [])
 lanes_more states i lanes lane own before = record {
   size = length-append lanes (lane ∷ []) ∙ ap (λ n. n + 1) before.size;
   each = λ k state low found busy. elim (cases_lt k i) [
-    | inl less ↦ subst (λ l. 1024 ≤ length l) (sym (front_at lanes lane k (let size = before.size in omega (arith, less, size)))) (before.each k state less found busy)
+    | inl less ↦ subst (λ l. 2048 ≤ length l) (sym (front_at lanes lane k (let size = before.size in omega (arith, less, size)))) (before.each k state less found busy)
     | inr high ↦ (let last : length lanes ≡ k = (let size = before.size in omega (arith, size, low, high)) in
         let at : k ≡ i = omega (arith, low, high) in
         let long = own state (subst (λ n. slice_get states n ≡ Some state) at found) busy in
-        subst (λ n. HasLane (lanes ++ lane ∷ []) n) last (subst (λ l. 1024 ≤ length l) (sym (last_at lanes lane)) (omega (arith, long))))
+        subst (λ n. HasLane (lanes ++ lane ∷ []) n) last (subst (λ l. 2048 ≤ length l) (sym (last_at lanes lane)) (omega (arith, long))))
   ];
 }
 

@@ -44,8 +44,8 @@ pub samples_own : (i count : ℕ) (lanes : Lanes) (lane : Vec ℤ Global) (new r
 samples_own i count lanes lane new rest within is long = ap (λ l. heard_of l count) (lane_own i lanes lane within ∙ is) ∙ heard_front count new rest long
 
 -- nodes keep lanes with room
-pub lane_kept : (k i : ℕ) (lanes : Lanes) (lane : Vec ℤ Global) → i < length lanes → 1024 ≤ length lane.items → HasLane lanes k → HasLane (set lanes i lane) k
+pub lane_kept : (k i : ℕ) (lanes : Lanes) (lane : Vec ℤ Global) → i < length lanes → 2048 ≤ length lane.items → HasLane lanes k → HasLane (set lanes i lane) k
 lane_kept k i lanes lane within long has = elim (same_or_other i k) [
-  | inl same ↦ subst (λ n. HasLane (set lanes i lane) n) same (subst (λ l. 1024 ≤ length l) (sym (lane_own i lanes lane within)) long)
-  | inr apart ↦ subst (λ l. 1024 ≤ length l) (sym (lane_apart k i lanes lane (λ e. apart (sym e)))) has
+  | inl same ↦ subst (λ n. HasLane (set lanes i lane) n) same (subst (λ l. 2048 ≤ length l) (sym (lane_own i lanes lane within)) long)
+  | inr apart ↦ subst (λ l. 2048 ≤ length l) (sym (lane_apart k i lanes lane (λ e. apart (sym e)))) has
 ]

@@ -32,8 +32,8 @@ pub record HasLanes (left right : Lanes) (i : ℕ) : Type 0 where
 
 -- room for any stretch on each side
 pub record IsSpare (spare : Spare) : Type 0 where
-  pub on_left : 1024 ≤ length spare.left.items
-  pub on_right : 1024 ≤ length spare.right.items
+  pub on_left : 2048 ≤ length spare.left.items
+  pub on_right : 2048 ≤ length spare.right.items
 
 -- room for the stretches of so many nodes, of which some have lanes; between two stretches no node has a part
 pub record HasStretchRoom (nodes : ℕ) (room : StretchRoom) : Type 0 where
@@ -143,7 +143,7 @@ pub record NodeHasMade (setting : Setting) (sub : ℕ → ℕ → List Slot) (cl
 -- so many instants are made at once: one at least, and no more than a run has
 pub record AreAtOnce (many : ℕ) : Type 0 where
   pub some : 0 < many
-  pub short : many ≤ 1024
+  pub short : many ≤ 2048
 
 -- node i has the samples that it had
 pub record HasKeptSamples (left_old right_old left right : Lanes) (many i : ℕ) : Type 0 where

@@ -32,7 +32,7 @@ pub fn run_nodes(
     requires chains { AreNodesOf shape.now.clocks.now nodes.now }
     requires room { HasStretchRoom (length shape.now.plan.now.nodes) stretch_room.old }
     requires some { 0 < many }
-    requires short { many ≤ 1024 }
+    requires short { many ≤ 2048 }
     requires fit { AllFitOver shape.now states.old }
     requires ahead { AllLieAheadOver shape.now clock stretch_room.old.held.items states.old many }
     ensures fit { AllFitOver shape.now states.new }
@@ -177,8 +177,8 @@ fn make_samples(
     requires shape { IsShape shape.now }
     requires within { i < length shape.now.plan.now.nodes }
     requires in_parts { length parts.now ≡ length shape.now.plan.now.nodes }
-    requires own_left { 1024 ≤ length own_left.old }
-    requires own_right { 1024 ≤ length own_right.old }
+    requires own_left { 2048 ≤ length own_left.old }
+    requires own_right { 2048 ≤ length own_right.old }
     requires count { AreAtOnce count }
     requires fits { (node : PlanNode) → slice_get shape.now.plan.now.nodes i ≡ Some node → Fits shape.now.library.now (length node.children) state.old }
     requires gave { is_some (part_at parts.now i).slot ≡ true }

@@ -85,7 +85,7 @@ impl StretchRoom {
 
     /// The left samples of a node in the latest stretch, which had so many instants: silence of a node that is idle.
     pub fn left_of(&self, node: u32, count: usize) -> &[i16]
-        requires short { count ≤ 1024 }
+        requires short { count ≤ 2048 }
         ensures is { result.now ≡ samples_of self.now.left.items node count }
         ensures long { length result.now ≡ count }
     {
@@ -94,7 +94,7 @@ impl StretchRoom {
 
     /// The right samples of a node in the latest stretch, which had so many instants: silence of a node that is idle.
     pub fn right_of(&self, node: u32, count: usize) -> &[i16]
-        requires short { count ≤ 1024 }
+        requires short { count ≤ 2048 }
         ensures is { result.now ≡ samples_of self.now.right.items node count }
         ensures long { length result.now ≡ count }
     {
@@ -115,7 +115,7 @@ fn lanes_of(alloc: Global, states: &[NodeState]) -> Result<Vec<Vec<i16>>, Memory
 
 // The lane of a node; empty where it is idle.
 fn lane_for(alloc: Global, state: &NodeState) -> Result<Vec<i16>, Memory>
-    ensures { IfOk result (λ lane. (state.now ≡ Idle → ⊥) → length lane.items ≡ 1024) }
+    ensures { IfOk result (λ lane. (state.now ≡ Idle → ⊥) → length lane.items ≡ 2048) }
 {
     match state {
         NodeState::Idle => Ok(Vec::new(alloc)),

@@ -3,4 +3,3 @@ pub mod Mapped
 pub mod Pieces
 pub mod Taken
 pub mod Gives
-pub mod Since

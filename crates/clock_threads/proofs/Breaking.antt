@@ -303,6 +303,7 @@ module _ (setting : Setting) (map : ClockMap) (is : IsSetting setting map) (wire
 
   module _ (level_is : (m n : ℕ) → m < map.running → n < map.running → tried m ≡ ticks m → tried n ≡ ticks n → ticks m ≡ ticks n)
       (ended_is : (m n : ℕ) → m < map.running → tried n ≡ suc (ticks n) → tried m ≡ ticks m → ticks m ≡ e)
+      (border_is : ((m : ℕ) → m < map.running → tried m ≡ ticks m) → (m : ℕ) → m < map.running → (ticks m ≡ s) ⊎ (ticks m ≡ e))
       (runs_are : (b : ℕ) → b < length wires → (chunks : List (List Cell))
       × IsHistory (wire_at wires b).capacity [] (windows_upto (wire_at wires b) hs b W N closed ++ (puts_to b (since (wire_at wires b).from), takes_of b (since (wire_at wires b).to)) ∷ []) chunks)
       (ordered : (b : ℕ) → b < length wires → (wire_at wires b).from ≡ (wire_at wires b).to → (chunks : List (List Cell))
@@ -343,6 +344,7 @@ module _ (setting : Setting) (map : ClockMap) (is : IsSetting setting map) (wire
       within = λ m. (reach m).within;
       level = level_is;
       ended = ended_is;
+      border = border_is;
       whole = λ rest m. (elim (cases_lt m map.running) [
         | inl runs ↦ since_whole m runs rest
         | inr high ↦ subst (λ l. IsBegin l (since m)) (sym (none_called (calls_in (world rest) map.running accepts m) (ticks m) ((reach m).rests high).1)) (begin_none (since m))

@@ -7,7 +7,7 @@ use Rattle.buffer_ends.specs.Local.{Answers}
 use Rattle.buffer_ends.specs.Sides.{Side}
 use Rattle.buffer_ends.specs.Borders.{HasEnd, WasClosed, HaveEnds}
 use Rattle.buffer_ends.specs.declared.thread_taps.ThreadTaps.{ThreadTaps}
-use Rattle.buffer_sides.specs.Logs.{told}
+use Rattle.buffer_sides.specs.Logs.{told as told_of}
 use Rattle.clock_threads.specs.declared.task.Task.{Task}
 use Rattle.clock_threads.specs.declared.wires.Wire.{Wire}
 use Rattle.clock_threads.specs.Wires.{wire_at}
@@ -109,7 +109,7 @@ module _ {S R : Type 0} where
         }
 
     -- the answers of the window are those of its two ends
-    pub log_is : (wire : Wire) (put take : Window) → wire.from ≡ from → wire.to ≡ to → JoinRan wire b put take old → log ≡ told (put.answers, take.answers)
+    pub log_is : (wire : Wire) (put take : Window) → wire.from ≡ from → wire.to ≡ to → JoinRan wire b put take old → log ≡ told_of (put.answers, take.answers)
     log_is wire put take f t ran =
         let w = c.tasks.closed in
         let p : put ≡ w.put = one_window (puts_of c.giver) b w.puts_turned.place put w.put c.giver.taps.falling.0

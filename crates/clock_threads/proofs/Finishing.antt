@@ -1,7 +1,7 @@
 -- A run by threads that ends well: its record is lawful by its wires, and each output holds its bytes for it.
 use Rattle.std.proofs.Common.{◌≡◌, ℕ, suc, ◌<◌, ◌≤◌, List, [], length, slice_index_or, sym, ap, ◌∙◌, subst, arith, Option}
 use mathlib.Core.Path.{fun_ext}
-use Rattle.liq_base.specs.Pieces.{grown}
+use Rattle.liq_base.specs.Pieces.{SinkTold, grown}
 use Rattle.frame_core.specs.declared.cell.Cell.{Cell}
 use Rattle.buffer_ends.specs.Local.{Answers as Told, on}
 use Rattle.buffer_ends.specs.declared.thread_taps.ThreadTaps.{ThreadTaps}
@@ -27,8 +27,8 @@ use Rattle.clock_threads.proofs.Lawfully.{windows, is_lawful, rests, answers_who
 got_same : (h : TickCalls) (t : ℕ) → answers_by h t ≡ got_by h t
 got_same h t = fun_ext (λ b. in_takes b (joined_upto h.calls t))
 
-module _ {S R : Type 0} (held name : S → Option (List ℕ)) (room : S → Option ℕ) (faults : S → ℕ) (appends : S → Option ℕ) (wires : List Wire) (W N : ℕ) (first now : List (Task S (ThreadTaps R))) (logs : List (List Told)) (d : Task S (ThreadTaps R))
-    (done : DoneAt held name room faults appends wires W N first now logs d) (setting : Setting) (map : ClockMap) (is : IsSetting setting map) (are : AreWires setting map.running wires) (all_run : length first ≡ map.running) (some : 0 < length first)
+module _ {S R : Type 0} (told : S → SinkTold) (wires : List Wire) (W N : ℕ) (first now : List (Task S (ThreadTaps R))) (logs : List (List Told)) (d : Task S (ThreadTaps R))
+    (done : DoneAt told wires W N first now logs d) (setting : Setting) (map : ClockMap) (is : IsSetting setting map) (are : AreWires setting map.running wires) (all_run : length first ≡ map.running) (some : 0 < length first)
     (shared : (k : ℕ) → k < length first → (setting_of (slice_index_or first k d).engine.parts ≡ setting) × ((slice_index_or first k d).engine.parts.clock ≡ k))
     (places : (b : ℕ) → b < length wires → (wire_at wires b).from < length first × ((wire_at wires b).to < length first)) where
   abbrev pub hs : ℕ → TickCalls
@@ -50,7 +50,7 @@ module _ {S R : Type 0} (held name : S → Option (List ℕ)) (room : S → Opti
       ∙ (λ j. meant (setting_is m h j) (and_rest (got_same (hs m) (suc i) j) rest) ((hs m).accepted i) (clock_is m h j) i)
 
   local : (b : ℕ) → b < length wires → (wire_at wires b).from ≡ (wire_at wires b).to → (rest : List (List Cell)) × Follows (wire_at wires b).capacity [] (on b (joined_upto (hs (wire_at wires b).from).calls N)) rest
-  local b less e = let f = going_local held name room faults appends wires W N done.windows first now logs d done.going places b less e in
+  local b less e = let f = going_local told wires W N done.windows first now logs d done.going places b less e in
       (f.0, subst (λ n. Follows (wire_at wires b).capacity [] (on b (joined_upto (hs (wire_at wires b).from).calls n)) f.0) done.all f.1)
 
   abbrev pub own : TakeOwn (meant setting) wires (length first)
@@ -64,8 +64,8 @@ module _ {S R : Type 0} (held name : S → Option (List ℕ)) (room : S → Opti
 
   -- what an output of clock k holds is what its source means, given what the takes of the record got
   pub done_bytes : (k : ℕ) → k < length first → (sink node : ℕ) (output : IsOutput setting k sink node)
-      → held_of held (engine_of k) sink
-      ≡ grown (ticks_bytes (answered setting (answers_of done_windows)) output.wide node N) (held_of held (slice_index_or first k d).engine sink)
+      → held_of told (engine_of k) sink
+      ≡ grown (ticks_bytes (answered setting (answers_of done_windows)) output.wide node N) (held_of told (slice_index_or first k d).engine sink)
   done_bytes k h sink node output =
       let most : N ≤ N = omega arith in
       let a = answers_whole (meant setting) wires (length first) own W N done.windows done.all hs k h (ticks k h) N most in
@@ -73,8 +73,8 @@ module _ {S R : Type 0} (held name : S → Option (List ℕ)) (room : S → Opti
       let there : IsOutput (setting_of (engine_of k).parts) (engine_of k).parts.clock sink node =
       output_moved setting (setting_of (engine_of k).parts) k (engine_of k).parts.clock sink node (sym (setting_is k h)) (sym (clock_is k h)) output in
       (done.going.clocks k h).gone.holds rest sink node there
-      ∙ (λ j. grown (ticks_bytes (answered (setting_is k h j) (and_rest (got_same (hs k) (done.all j) j) rest)) output.wide node (done.all j)) (held_of held (slice_index_or first k d).engine sink))
-      ∙ ap (λ (A : Answers). grown (ticks_bytes (answered setting A) output.wide node N) (held_of held (slice_index_or first k d).engine sink)) a
+      ∙ (λ j. grown (ticks_bytes (answered (setting_is k h j) (and_rest (got_same (hs k) (done.all j) j) rest)) output.wide node (done.all j)) (held_of told (slice_index_or first k d).engine sink))
+      ∙ ap (λ (A : Answers). grown (ticks_bytes (answered setting A) output.wide node N) (held_of told (slice_index_or first k d).engine sink)) a
 
   -- an engine stands for all its ticks, and for what the takes of the record got of the buffers that it reads
   pub done_stands : (k : ℕ) → k < length first → (answers : Answers) × (rest : Answers) × EngineStands (engine_of k).parts N answers × (and_rest answers rest ≡ answers_of done_windows)

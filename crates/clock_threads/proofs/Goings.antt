@@ -1,6 +1,7 @@
 -- From window to window.
 use Rattle.std.proofs.Common.{◌≡◌, ◌≢◌, ◌⊎◌, ℕ, zero, suc, ◌<◌, ◌≤◌, ◌+◌, ◌-◌, true, false, List, [], ◌∷◌, ◌++◌, length, map, slice_index_or, sym, refl, ap, ◌∙◌, subst, arith, inl, inr, ⊎_elim, Option, None}
 use Rattle.std.proofs.lemmas.List.{get_or_default}
+use Rattle.liq_base.specs.Pieces.{SinkTold}
 use Rattle.frame_core.specs.declared.cell.Cell.{Cell}
 use Rattle.frame_core.specs.Legal.{IsHistory}
 use Rattle.frame_core.specs.Calls.{Call, takes_of, puts_to}
@@ -25,7 +26,7 @@ use Rattle.clock_threads.specs.declared.wires.Wire.{Wire}
 use Rattle.clock_threads.specs.Wires.{wire_at, ended, kept}
 use Rattle.clock_threads.specs.Ends.{puts_of as put_ends, takes_of as take_ends, JoinOpen, JoinRan, AllClosed}
 use Rattle.run_records.specs.Records.{start, Window}
-use Rattle.buffer_sides.specs.Logs.{told}
+use Rattle.buffer_sides.specs.Logs.{told as told_of}
 use Rattle.clock_threads.specs.Records.{window_of, windows_upto, IsWired, IsLogged, ClockGoing, JoinGoing, Going, AllEndedTasks}
 use Rattle.clock_threads.proofs.Sets.{one_window}
 use Rattle.clock_threads.proofs.Since.{SameTaps, TapsBuffers, TapsStand, ends_ran, ends_shut}
@@ -34,23 +35,23 @@ use Rattle.clock_threads.proofs.Logging.{map_joined, current_is, has_back, not_e
 use Rattle.clock_threads.proofs.Ended.{ended_capacity}
 use Rattle.clock_threads.proofs.Meeting.{joined_split, windows_alike, ends_from, ends_to, ends_tell, true_or_false, low_or_high, has_moved, has_end}
 
-module _ {S R : Type 0} (held name : S → Option (List ℕ)) (room : S → Option ℕ) (faults : S → ℕ) (appends : S → Option ℕ) (wires : List Wire) (W N j : ℕ) (d : Task S (ThreadTaps R)) where
+module _ {S R : Type 0} (told : S → SinkTold) (wires : List Wire) (W N j : ℕ) (d : Task S (ThreadTaps R)) where
   module _ (count : ℕ) (first now mid : List (Task S (ThreadTaps R))) (logs : List (List Answers)) (next : start W N (suc j) ≡ start W N j + count)
       (places : (b : ℕ) → b < length wires → (wire_at wires b).from < length first × ((wire_at wires b).to < length first))
       (up : (i : ℕ) → i ≤ j → start W N i ≤ start W N (suc i))
-      (going : Going held name room faults appends wires W N j first now logs d)
-      (ran : (k : ℕ) → k < length now → WasRun held name room faults appends TapsStand TapsBuffers SameTaps count (slice_index_or now k d) (slice_index_or mid k d))
+      (going : Going told wires W N j first now logs d)
+      (ran : (k : ℕ) → k < length now → WasRun told TapsStand TapsBuffers SameTaps count (slice_index_or now k d) (slice_index_or mid k d))
       (mid_many : length mid ≡ length now)
       (all_run : (k : ℕ) → k < length mid → (slice_index_or mid k d).engine.parts.stopped ≡ None) where
     abbrev within : (k : ℕ) → k < length first → k < length now
     within k h = let m = going.many in omega (arith, h, m)
 
-    abbrev went : (k : ℕ) (h : k < length first) → WentOn held appends TapsStand count (start W N j) (going.clock_calls k) (held_of held (slice_index_or first k d).engine) (slice_index_or now k d) (slice_index_or mid k d)
-    went k h = (ran k (within k h)).ran.on (start W N j) (going.clock_calls k) (held_of held (slice_index_or first k d).engine) (going.clocks k h).gone (all_run k (let m = within k h in omega (arith, m, mid_many)))
+    abbrev went : (k : ℕ) (h : k < length first) → WentOn told TapsStand count (start W N j) (going.clock_calls k) (held_of told (slice_index_or first k d).engine) (slice_index_or now k d) (slice_index_or mid k d)
+    went k h = (ran k (within k h)).ran.on (start W N j) (going.clock_calls k) (held_of told (slice_index_or first k d).engine) (going.clocks k h).gone (all_run k (let m = within k h in omega (arith, m, mid_many)))
 
     record Goes (k : ℕ) (h : TickCalls) : Type 0 where
       agree : Agree (start W N j) (going.clock_calls k) h
-      engine : (less : k < length first) → EngineGone held (start W N j + count) h (held_of held (slice_index_or first k d).engine) (slice_index_or mid k d).engine
+      engine : (less : k < length first) → EngineGone told (start W N j + count) h (held_of told (slice_index_or first k d).engine) (slice_index_or mid k d).engine
       taps : (less : k < length first) → TapsStand (slice_index_or mid k d).taps (kept wires k (joined_upto (going.clock_calls k).calls (start W N j)) ++ joined_from h.calls (start W N j) count)
 
     abbrev chosen : (k : ℕ) → (h : TickCalls) × Goes k h
@@ -79,7 +80,7 @@ module _ {S R : Type 0} (held name : S → Option (List ℕ)) (room : S → Opti
     agrees : (k : ℕ) → Agree (start W N j) (going.clock_calls k) (after k)
     agrees k = (chosen k).1.agree
 
-    goes : (k : ℕ) (less : k < length first) → EngineGone held (start W N j + count) (after k) (held_of held (slice_index_or first k d).engine) (slice_index_or mid k d).engine
+    goes : (k : ℕ) (less : k < length first) → EngineGone told (start W N j + count) (after k) (held_of told (slice_index_or first k d).engine) (slice_index_or mid k d).engine
         × TapsStand (slice_index_or mid k d).taps (kept wires k (joined_upto (going.clock_calls k).calls (start W N j)) ++ joined_from (after k).calls (start W N j) count)
     goes k less = ((chosen k).1.engine less, (chosen k).1.taps less)
 
@@ -97,7 +98,7 @@ module _ {S R : Type 0} (held name : S → Option (List ℕ)) (room : S → Opti
         → (put : QueueWindow) × (take : QueueWindow) × JoinRan (wire_at wires b) b put take mid
         × (put.opening ≡ take.opening) × IsHistory (wire_at wires b).capacity [] (windows_upto (wire_at wires b) going.clock_calls b W N j) put.opening
         × (put.answers ≡ puts_to b (since (wire_at wires b).from)) × (take.answers ≡ takes_of b (since (wire_at wires b).to))
-    join_ran = ends_ran held name room faults appends wires W N j d count first now mid logs places going ran mid_many since stood
+    join_ran = ends_ran told wires W N j d count first now mid logs places going ran mid_many since stood
 
     module _ (shut : List (Task S (ThreadTaps R))) (after_logs : List (List Answers)) (closed : AllClosed wires mid shut logs after_logs) where
       climbs : (i n : ℕ) → i + n ≡ j → start W N i ≤ start W N j
@@ -112,7 +113,7 @@ module _ {S R : Type 0} (held name : S → Option (List ℕ)) (room : S → Opti
           → (rest : List (List Cell)) × IsHistory (wire_at wires b).capacity [] (windows_upto (wire_at wires b) after b W N (suc j)) rest × JoinOpen (wire_at wires b) b rest shut
       join_shut b less apart =
           let wire = wire_at wires b in let old = windows_upto wire going.clock_calls b W N j in
-          let r = ends_shut held name room faults appends wires W N j d count first now mid logs places going ran mid_many since stood shut closed.shut b less apart in
+          let r = ends_shut told wires W N j d count first now mid logs places going ran mid_many since stood shut closed.shut b less apart in
           let more : count ≡ start W N (suc j) - start W N j = omega (arith, next) in
           let same : windows_upto wire after b W N j ≡ old = windows_alike wire going.clock_calls after b W N j (start W N j) agrees (λ i low. reaches i low) (λ i low. up i (omega (arith, low))) in
           (r.0, subst (λ (l : List Window). IsHistory wire.capacity [] l r.0) (λ i. sym same i ++ window_of wire after b (start W N j) (more i) ∷ []) r.1, r.2)
@@ -178,7 +179,7 @@ module _ {S R : Type 0} (held name : S → Option (List ℕ)) (room : S → Opti
                   | inr t' ↦ inr (has_end _ b _ (subst (λ n. HasEnd (take_ends (slice_index_or last n d)) b (opened g'.opens.queue g'.chunks)) t' (g'.opens.take d)))
                 ]
 
-        clock_on : (k : ℕ) → k < length first → ClockGoing held name room faults appends wires N (start W N (suc j)) k (after k) (slice_index_or first k d) (slice_index_or last k d)
+        clock_on : (k : ℕ) → k < length first → ClockGoing told wires N (start W N (suc j)) k (after k) (slice_index_or first k d) (slice_index_or last k d)
         clock_on k h =
             let c = going.clocks k h in let r = ran k (within k h) in let g = goes k h in
             let s = closed.shut.tasks.same k d (in_mid k h) in let e = ends.each k d (in_shut k h) in
@@ -198,11 +199,11 @@ module _ {S R : Type 0} (held name : S → Option (List ℕ)) (room : S → Opti
             let calls = joined_upto (after k).calls (start W N (suc j)) in
             let all = kept wires k (joined_upto (going.clock_calls k).calls (start W N j)) ++ joined_from (after k).calls (start W N j) count in
             record {
-              gone = subst (λ (q : ℕ × _). EngineGone held q.0 (after k) (held_of held (slice_index_or first k d).engine) q.1) (λ i. (sym next i, sym engine i)) g.0;
-              same = same_then name faults (slice_index_or first k d).engine x.engine u.engine c.same (subst (λ f. IsSameClock name faults x.engine f) (sym engine) r.clock);
-              pieces = subst (λ (q : ℕ × ClockEngine S). GotPieces appends q.0 (slice_index_or first k d).engine.outs q.1.outs) (λ i. (sym next i, sym engine i))
-                  (got_then appends (start W N j) count (slice_index_or first k d).engine.outs x.engine.outs y.engine.outs c.same.outs c.pieces (went k h).pieces);
-              rooms = λ n is. subst (λ f. HaveTicksRoom room f.parts f.outs n) (sym engine) (r.rooms n running (c.rooms (n + count) (omega (arith, is, next))));
+              gone = subst (λ (q : ℕ × _). EngineGone told q.0 (after k) (held_of told (slice_index_or first k d).engine) q.1) (λ i. (sym next i, sym engine i)) g.0;
+              same = same_then told (slice_index_or first k d).engine x.engine u.engine c.same (subst (λ f. IsSameClock told x.engine f) (sym engine) r.clock);
+              pieces = subst (λ (q : ℕ × ClockEngine S). GotPieces told q.0 (slice_index_or first k d).engine.outs q.1.outs) (λ i. (sym next i, sym engine i))
+                  (got_then told (start W N j) count (slice_index_or first k d).engine.outs x.engine.outs y.engine.outs c.same.outs c.pieces (went k h).pieces);
+              rooms = λ n is. subst (λ f. HaveTicksRoom told f.parts f.outs n) (sym engine) (r.rooms n running (c.rooms (n + count) (omega (arith, is, next))));
               wired = wired;
               stand = (
                 (λ p f low.
@@ -230,19 +231,19 @@ module _ {S R : Type 0} (held name : S → Option (List ℕ)) (room : S → Opti
         window_more b = window_of (wire_at wires b) after b (start W N j) (start W N (suc j) - start W N j)
 
         -- the answers of the windows before this one, and of this one
-        told_more : (b : ℕ) (x y : List Answers) (z : Answers) → y ≡ x ++ z ∷ [] → x ≡ map told (windows_upto (wire_at wires b) going.clock_calls b W N j) → z ≡ told (window_more b)
-            → y ≡ map told (windows_upto (wire_at wires b) after b W N (suc j))
+        told_more : (b : ℕ) (x y : List Answers) (z : Answers) → y ≡ x ++ z ∷ [] → x ≡ map told_of (windows_upto (wire_at wires b) going.clock_calls b W N j) → z ≡ told_of (window_more b)
+            → y ≡ map told_of (windows_upto (wire_at wires b) after b W N (suc j))
         told_more b x y z is before last_is =
             let same : windows_upto (wire_at wires b) after b W N j ≡ windows_upto (wire_at wires b) going.clock_calls b W N j =
             windows_alike (wire_at wires b) going.clock_calls after b W N j (start W N j) agrees (λ i low. reaches i low) (λ i low. up i (omega (arith, low))) in
-            is ∙ (λ i. (before ∙ ap (map told) (sym same)) i ++ last_is i ∷ []) ∙ sym (map_joined told (windows_upto (wire_at wires b) after b W N j) (window_more b ∷ []))
+            is ∙ (λ i. (before ∙ ap (map told_of) (sym same)) i ++ last_is i ∷ []) ∙ sym (map_joined told_of (windows_upto (wire_at wires b) after b W N j) (window_more b ∷ []))
 
-        joined_on : (b : ℕ) (e : List Answers) → b < length wires → (wire_at wires b).from ≢ (wire_at wires b).to → slice_index_or after_logs b e ≡ map told (windows_upto (wire_at wires b) after b W N (suc j))
+        joined_on : (b : ℕ) (e : List Answers) → b < length wires → (wire_at wires b).from ≢ (wire_at wires b).to → slice_index_or after_logs b e ≡ map told_of (windows_upto (wire_at wires b) after b W N (suc j))
         joined_on b e less apart =
             let wire = wire_at wires b in let r = join_ran b less apart in
             let more : count ≡ start W N (suc j) - start W N j = omega (arith, next) in
-            told_more b (slice_index_or logs b e) (slice_index_or after_logs b e) (told (r.0.answers, r.1.answers)) (closed.logged b r.0 r.1 e less apart r.2) (going.logged.joined b e less apart)
-            ((λ i. told (r.5 i, r.6 i)) ∙ (λ i. told (window_of wire after b (start W N j) (more i))))
+            told_more b (slice_index_or logs b e) (slice_index_or after_logs b e) (told_of (r.0.answers, r.1.answers)) (closed.logged b r.0 r.1 e less apart r.2) (going.logged.joined b e less apart)
+            ((λ i. told_of (r.5 i, r.6 i)) ∙ (λ i. told_of (window_of wire after b (start W N j) (more i))))
 
         local_on : (b : ℕ) (f : LocalBuffer) → b < length wires → (wire_at wires b).from ≡ (wire_at wires b).to
             → IsLogged (windows_upto (wire_at wires b) after b W N (suc j)) (slice_index_or (slice_index_or last (wire_at wires b).from d).taps.local b f)
@@ -258,17 +259,17 @@ module _ {S R : Type 0} (held name : S → Option (List ℕ)) (room : S → Opti
             let away : Has (put_ends x) b ⊎ Has (take_ends x) b → ⊥ = not_ended wires k b x c.wired is in
             let away_after : Has (put_ends y) b ⊎ Has (take_ends y) b → ⊥ =
             λ has. ⊎_elim (λ (p : Has (put_ends y) b). away (inl (has_back (put_ends x) (put_ends y) b r.taps.0 p))) (λ (p : Has (take_ends y) b). away (inr (has_back (take_ends x) (take_ends y) b r.taps.1 p))) has in
-            let now_is : m.current ≡ told (puts_to b more, takes_of b more) = current_is b old more l m same.closed was.opens (c.stand.2 b f in_x away) ((goes k h).1.2 b f in_y away_after) in
+            let now_is : m.current ≡ told_of (puts_to b more, takes_of b more) = current_is b old more l m same.closed was.opens (c.stand.2 b f in_x away) ((goes k h).1.2 b f in_y away_after) in
             let list_is : slice_index_or u.taps.local b f ≡ closed_list m =
             e.own b f less (refl, sym is) ∙ ap (λ (ls : List LocalBuffer). closed_list (slice_index_or ls b f)) s.local in
             let long : count ≡ start W N (suc j) - start W N j = omega (arith, next) in
             record {
               closed_are = told_more b l.closed (slice_index_or u.taps.local b f).closed m.current (ap (λ (q : LocalBuffer). q.closed) list_is ∙ ap (λ q. q ++ m.current ∷ []) same.closed) was.closed_are
-                  (now_is ∙ (λ i. told (puts_to b (joined_from (after k).calls (start W N j) (long i)), takes_of b (joined_from (after (is i)).calls (start W N j) (long i)))));
+                  (now_is ∙ (λ i. told_of (puts_to b (joined_from (after k).calls (start W N j) (long i)), takes_of b (joined_from (after (is i)).calls (start W N j) (long i)))));
               opens = ap (λ (q : LocalBuffer). q.current) list_is;
             }
 
-        pub going_more : Going held name room faults appends wires W N (suc j) first last after_logs d
+        pub going_more : Going told wires W N (suc j) first last after_logs d
         going_more = record {
           clock_calls = after;
           many = (let m = ends.many in let n = closed.shut.tasks.many in let o = going.many in omega (arith, m, n, o, mid_many));

@@ -1,5 +1,6 @@
 -- Runs in which no clock made a tick: memory was refused before the first, or no clock runs.
 use Rattle.std.proofs.Common.{◌≡◌, ◌⊎◌, ◌<◌, ◌≤◌, ℕ, zero, suc, ◌-◌, true, Option, List, [], ◌∷◌, ◌++◌, length, min, slice_index_or, arith, refl, sym, subst, inl, inr}
+use Rattle.liq_base.specs.Pieces.{SinkTold}
 use Rattle.plan_core.specs.declared.plan.Plan.{Plan}
 use Rattle.clock_infer.specs.declared.clock_map.ClockMap.{ClockMap}
 use Rattle.buffer_ends.specs.Local.{Answers}
@@ -10,7 +11,7 @@ use Rattle.stream_meaning.specs.Instants.{Setting}
 use Rattle.stream_meaning.specs.Calls.{IsBegin, joined_between, joined_upto}
 use Rattle.frame_core.specs.Legal.{Legal, IsHistory}
 use Rattle.run_records.specs.Buffers.{feeder}
-use Rattle.run_records.specs.Records.{AreWindowsBegun, Follows, IsLawful, Run, Window, calls_in, capacity_of, on, setting_then, start}
+use Rattle.run_records.specs.Records.{AreWindows, AreWindowsBegun, Follows, Run, Window, calls_in, capacity_of, on, setting_then, start}
 use Rattle.run_records.proofs.Alone.{feeder_runs}
 use Rattle.clock_ticks.specs.declared.engine.ClockEngine.{ClockEngine}
 use Rattle.clock_ticks.specs.Engines.{held_of}
@@ -42,6 +43,7 @@ idle_begun setting clocks W N = record {
   within = λ m. record { least = (let z = start_zero W N in omega (arith, z)); most = omega arith; no_fewer = omega arith; one_more = omega arith };
   level = λ m n low less same again. refl;
   ended = λ m n low stopped same. absurd (omega (arith, stopped));
+  border = λ none m low. inl (sym (start_zero W N));
   whole = λ rest m. subst (λ n. IsBegin (joined_between (calls_in (setting_then setting (idle_run setting) rest) clocks (λ n t b. true) m) n 0) []) (sym (start_zero W N)) (begin_none []);
   begun = λ rest m. begin_none (joined_between (calls_in (setting_then setting (idle_run setting) rest) clocks (λ n t b. true) m) (start W N 0) 0);
   are = λ rest b less. listed_at (length setting.plan.buffers) idle_windows b [] less;
@@ -57,20 +59,20 @@ pub done_no_write : (clock sink : ℕ) → ◌≡◌ {A = End} Done (Write clock
 done_no_write clock sink e = cc
 
 -- no tick was made
-pub none_made : {S : Type 0} (held name : S → Option (List ℕ)) (room : S → Option ℕ) (faults : S → ℕ) (appends : S → Option ℕ) (plan : Plan) (setting : Setting) (clocks : ClockMap) (W N : ℕ) (engines : List (ClockEngine S)) (end : End)
-    → ((clock sink : ℕ) → end ≡ Write clock sink → ⊥) → AreEngines room plan clocks N setting engines → HasRunSome held name faults appends setting clocks W N engines engines end
-none_made held name room faults appends plan setting clocks W N engines end other are = record {
+pub none_made : {S : Type 0} (told : S → SinkTold) (plan : Plan) (setting : Setting) (clocks : ClockMap) (W N : ℕ) (engines : List (ClockEngine S)) (end : End)
+    → ((clock sink : ℕ) → end ≡ Write clock sink → ⊥) → AreEngines told plan clocks N setting engines → HasRunSome told setting clocks W N engines engines end
+none_made told plan setting clocks W N engines end other are = record {
   run = idle_run setting;
   begun = idle_begun setting clocks.running W N;
   many = refl;
   engines = λ k d h. (let engine = slice_index_or engines k d in
       record {
-        same = same_not name faults engine;
+        same = same_not told engine;
         answers = λ b. [];
         given = λ rest. ((setting_then setting (idle_run setting) rest).answers, refl);
         stands = inl (refl, (are.each k d h).stands);
-        part = λ rest sink node out. ([], record { rest = []; whole_is = refl }, record { rest = []; whole_is = refl }, grown_none (held_of held engine sink));
-        pieces = got_between appends 0 0 0 engine.outs engine.outs (omega arith) (omega arith) (got_none appends engine.outs);
+        part = λ rest sink node out. ([], record { rest = []; whole_is = refl }, record { rest = []; whole_is = refl }, grown_none (held_of told engine sink));
+        pieces = got_between told 0 0 0 engine.outs engine.outs (omega arith) (omega arith) (got_none told engine.outs);
       });
   write = λ clock sink e. absurd (other clock sink e);
 }
@@ -111,12 +113,12 @@ has_windows W N some = elim (windows_found W N N some) [
 ]
 
 -- no clock runs, so no buffer is fed, and the record is empty
-module _ {S : Type 0} (held name : S → Option (List ℕ)) (room : S → Option ℕ) (faults : S → ℕ) (appends : S → Option ℕ) (plan : Plan) (setting : Setting) (clocks : ClockMap) (W N : ℕ) (engines : List (ClockEngine S))
-    (none : length engines ≡ 0) (some : 0 < W) (are : AreEngines room plan clocks N setting engines) where
+module _ {S : Type 0} (told : S → SinkTold) (plan : Plan) (setting : Setting) (clocks : ClockMap) (W N : ℕ) (engines : List (ClockEngine S))
+    (none : length engines ≡ 0) (some : 0 < W) (are : AreEngines told plan clocks N setting engines) where
   no_buffers : (b : ℕ) → b < length setting.plan.buffers → ⊥
   no_buffers b known = (let runs = feeder_runs setting clocks are.is b known in let all = are.all in omega (arith, runs, all, none))
 
-  empty_lawful : IsLawful setting clocks.running W N (record { buffers = [] })
+  empty_lawful : AreWindows setting clocks.running W N (record { buffers = [] })
   empty_lawful =
       let w = has_windows W N some in
       record {
@@ -130,8 +132,8 @@ module _ {S : Type 0} (held name : S → Option (List ℕ)) (room : S → Option
         in_order = λ b known one. absurd (no_buffers b known);
       }
 
-  pub none_run : (counts : List Counts) (logs : List (List Answers)) → counts ≡ [] → logs ≡ [] → HasRunAll held name faults appends setting clocks W N engines engines counts logs
-  none_run counts logs no_counts no_logs = subst (λ (z : List Counts × List (List Answers)). HasRunAll held name faults appends setting clocks W N engines engines z.0 z.1) (λ i. (sym no_counts i, sym no_logs i)) (record {
+  pub none_run : (counts : List Counts) (logs : List (List Answers)) → counts ≡ [] → logs ≡ [] → HasRunAll told setting clocks W N engines engines counts logs
+  none_run counts logs no_counts no_logs = subst (λ (z : List Counts × List (List Answers)). HasRunAll told setting clocks W N engines engines z.0 z.1) (λ i. (sym no_counts i, sym no_logs i)) (record {
     run = record { buffers = [] };
     has_run = record {
       many = refl;
@@ -142,9 +144,9 @@ module _ {S : Type 0} (held name : S → Option (List ℕ)) (room : S → Option
   })
 
 -- the end of a run may become want of memory
-pub some_told : {S : Type 0} (held name : S → Option (List ℕ)) (faults : S → ℕ) (appends : S → Option ℕ) (setting : Setting) (clocks : ClockMap) (W N : ℕ) (old new : List (ClockEngine S)) (end told : End)
-    → ((clock sink : ℕ) → told ≡ Write clock sink → end ≡ Write clock sink) → HasRunSome held name faults appends setting clocks W N old new end → HasRunSome held name faults appends setting clocks W N old new told
-some_told held name faults appends setting clocks W N old new end told write has = record {
+pub some_told : {S : Type 0} (told : S → SinkTold) (setting : Setting) (clocks : ClockMap) (W N : ℕ) (old new : List (ClockEngine S)) (end said : End)
+    → ((clock sink : ℕ) → said ≡ Write clock sink → end ≡ Write clock sink) → HasRunSome told setting clocks W N old new end → HasRunSome told setting clocks W N old new said
+some_told told setting clocks W N old new end said write has = record {
   run = has.run;
   begun = has.begun;
   many = has.many;

@@ -1,6 +1,7 @@
 -- The lists of the buffers with both ends in one clock: the calls on each in their order, and its windows as one history.
 use Rattle.std.proofs.Common.{◌≡◌, ℕ, ◌<◌, ◌==◌, ◌||◌, eqb, true, false, List, [], length, slice_index_or, ap, subst, arith, inl, inr, ⊎_elim, Option, if◌then◌else◌}
 use Rattle.std.proofs.lemmas.Bool.Decides.{eqb_tells}
+use Rattle.liq_base.specs.Pieces.{SinkTold}
 use Rattle.frame_core.specs.declared.cell.Cell.{Cell}
 use Rattle.frame_core.specs.Legal.{IsHistory}
 use Rattle.frame_core.specs.Calls.{Call}
@@ -20,8 +21,8 @@ use Rattle.clock_threads.proofs.Lawfully.{leads_follows, local_run}
 pub none_ended : (wire : Wire) (k : ℕ) → wire.from ≡ wire.to → ends_at wire k ≡ false
 none_ended wire k e = ⊎_elim (λ (same : (eqb wire.from wire.to ≡ true) × (wire.from ≡ wire.to)). ap (λ z. if z then false else (wire.from == k || wire.to == k)) same.0) (λ off. absurd (off.1 e)) (eqb_tells wire.from wire.to)
 
-module _ {S R : Type 0} (held name : S → Option (List ℕ)) (room : S → Option ℕ) (faults : S → ℕ) (appends : S → Option ℕ) (wires : List Wire) (W N j : ℕ) (first now : List (Task S (ThreadTaps R))) (logs : List (List Answers)) (d : Task S (ThreadTaps R))
-    (going : Going held name room faults appends wires W N j first now logs d) (places : (b : ℕ) → b < length wires → (wire_at wires b).from < length first × ((wire_at wires b).to < length first)) where
+module _ {S R : Type 0} (told : S → SinkTold) (wires : List Wire) (W N j : ℕ) (first now : List (Task S (ThreadTaps R))) (logs : List (List Answers)) (d : Task S (ThreadTaps R))
+    (going : Going told wires W N j first now logs d) (places : (b : ℕ) → b < length wires → (wire_at wires b).from < length first × ((wire_at wires b).to < length first)) where
   pub going_local : (b : ℕ) → b < length wires → (wire_at wires b).from ≡ (wire_at wires b).to
       → (rest : List (List Cell)) × Follows (wire_at wires b).capacity [] (on b (joined_upto (going.clock_calls (wire_at wires b).from).calls (start W N j))) rest
   going_local b less e =

@@ -8,7 +8,7 @@ use Rattle.buffer_ends.specs.Sides.{Side, SameSides}
 use Rattle.buffer_ends.specs.Ends.{Has}
 use Rattle.buffer_ends.specs.declared.thread_taps.ThreadTaps.{ThreadTaps}
 use Rattle.buffer_ends.proofs.Beginnings.{answers_led}
-use Rattle.buffer_sides.specs.Logs.{told}
+use Rattle.buffer_sides.specs.Logs.{told as told_of}
 use Rattle.clock_threads.specs.declared.task.Task.{Task}
 use Rattle.clock_threads.specs.declared.wires.Wire.{Wire}
 use Rattle.clock_threads.specs.Wires.{wire_at}
@@ -67,7 +67,7 @@ module _ (b : ℕ) (old more : List Call) (l m : LocalBuffer) (closed : m.closed
       (ap (λ (l' : List Answers). flat_map takes_of_window l' ++ m.current.takes) (sym closed) ∙ last.takes ∙ ap (map is_chunk) (takes-append b old more)
       ∙ map_joined is_chunk (takes_of b old) (takes_of b more) ∙ ap (λ x. x ++ map is_chunk (takes_of b more)) (sym is))
 
-  pub current_is : m.current ≡ told (puts_to b more, takes_of b more)
+  pub current_is : m.current ≡ told_of (puts_to b more, takes_of b more)
   current_is = (λ i. record { puts = puts_are i; takes = takes_are i })
 
 pub has_back : (sides after : List Side) (b : ℕ) → SameSides sides after → Has after b → Has sides b
@@ -92,7 +92,7 @@ module _ {S R : Type 0} where
   pub record Logging (wires : List Wire) (below : ℕ) (first : List (Task S (ThreadTaps R))) (logs after : List (List Answers)) : Type 0 where
     pub many : length after ≡ length logs
     pub done : (b : ℕ) (put take : Window) (d : List Answers) → b < below → (wire_at wires b).from ≢ (wire_at wires b).to → JoinRan (wire_at wires b) b put take first
-        → slice_index_or after b d ≡ slice_index_or logs b d ++ told (put.answers, take.answers) ∷ []
+        → slice_index_or after b d ≡ slice_index_or logs b d ++ told_of (put.answers, take.answers) ∷ []
     pub todo : (b : ℕ) (d : List Answers) → below ≤ b → slice_index_or after b d ≡ slice_index_or logs b d
 
   pub logging_none : (wires : List Wire) (first : List (Task S (ThreadTaps R))) (logs : List (List Answers)) → Logging wires 0 first logs logs
@@ -110,12 +110,12 @@ module _ {S R : Type 0} where
   }
 
   pub logging_more : (wires : List Wire) (below : ℕ) (first : List (Task S (ThreadTaps R))) (logs after : List (List Answers)) (x : List Answers) (log : Answers) → below < length logs
-      → ((put take : Window) → JoinRan (wire_at wires below) below put take first → log ≡ told (put.answers, take.answers))
+      → ((put take : Window) → JoinRan (wire_at wires below) below put take first → log ≡ told_of (put.answers, take.answers))
       → ((d : List Answers) → x ≡ slice_index_or after below d ++ log ∷ []) → Logging wires below first logs after → Logging wires (below + 1) first logs (set after below x)
   logging_more wires below first logs after x log within is more l = record {
     many = length-set after below x ∙ l.many;
     done = λ b put take d low apart ran. (elim (same_or_other b below) [
-      | inl e ↦ subst (λ n. JoinRan (wire_at wires n) n put take first → slice_index_or (set after below x) n d ≡ slice_index_or logs n d ++ told (put.answers, take.answers) ∷ []) (sym e)
+      | inl e ↦ subst (λ n. JoinRan (wire_at wires n) n put take first → slice_index_or (set after below x) n d ≡ slice_index_or logs n d ++ told_of (put.answers, take.answers) ∷ []) (sym e)
           (λ r. get_or-set_same after below x d (let m = l.many in omega (arith, within, m)) ∙ more d ∙ (λ i. l.todo below d (omega arith) i ++ is put take r i ∷ [])) ran
       | inr off ↦ get_or-set_other after below b x d off ∙ l.done b put take d (omega (arith, low, off)) apart ran
     ]);

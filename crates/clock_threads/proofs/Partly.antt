@@ -2,7 +2,7 @@
 use Rattle.std.proofs.Common.{◌≡◌, ◌⊎◌, ◌∙◌, ◌<◌, ◌≤◌, ◌-◌, ℕ, suc, true, Option, Some, None, List, [], ◌∷◌, ◌++◌, length, slice_index_or, arith, refl, ap, sym, subst, inl, inr, append-nil}
 use Rattle.std.proofs.lemmas.Bool.{cases_lt}
 use mathlib.Core.Path.{fun_ext}
-use Rattle.liq_base.specs.Pieces.{IsPrefix, grown}
+use Rattle.liq_base.specs.Pieces.{IsPrefix, SinkTold, grown}
 use Rattle.clock_infer.specs.declared.clock_map.ClockMap.{ClockMap}
 use Rattle.buffer_ends.specs.declared.thread_taps.ThreadTaps.{ThreadTaps}
 use Rattle.stream_meaning.specs.Instants.{Setting, with_rest}
@@ -33,8 +33,8 @@ use Rattle.buffer_ends.specs.Local.{on}
 none_some : {A : Type 0} {x : A} → Some x ≡ None → ⊥
 none_some e = cc
 
-module _ {S : Type 0} (held : S → Option (List ℕ)) (setting : Setting) (m s e : ℕ) (tick_calls : TickCalls) (first : ℕ → Option (List ℕ)) (engine : ClockEngine S) (t : ℕ) where
-  came_whole : HasGone setting stands_for (held_of held) m t tick_calls first engine → Came setting m s e tick_calls t t [] (λ b. true) first (held_of held engine)
+module _ {S : Type 0} (told : S → SinkTold) (setting : Setting) (m s e : ℕ) (tick_calls : TickCalls) (first : ℕ → Option (List ℕ)) (engine : ClockEngine S) (t : ℕ) where
+  came_whole : HasGone setting stands_for (held_of told) m t tick_calls first engine → Came setting m s e tick_calls t t [] (λ b. true) first (held_of told engine)
   came_whole gone = record {
     inside = inl (refl, refl);
     ticks_are = gone.ticks;
@@ -50,7 +50,7 @@ module _ {S : Type 0} (held : S → Option (List ℕ)) (setting : Setting) (m s 
         );
   }
 
-  came_part : (gone : HasGonePart setting stopped_for (held_of held) m t tick_calls first engine) → Came setting m s e tick_calls t (suc t) gone.made gone.accepted first (held_of held engine)
+  came_part : (gone : HasGonePart setting stopped_for (held_of told) m t tick_calls first engine) → Came setting m s e tick_calls t (suc t) gone.made gone.accepted first (held_of told engine)
   came_part gone = record {
     inside = inr refl;
     ticks_are = gone.ticks;
@@ -58,14 +58,14 @@ module _ {S : Type 0} (held : S → Option (List ℕ)) (setting : Setting) (m s 
     front = gone.part;
   }
 
-module _ {S R : Type 0} (held name : S → Option (List ℕ)) (faults : S → ℕ) (appends : S → Option ℕ) (wires : List Wire) (W N : ℕ) (first now : List (Task S (ThreadTaps R))) (d : Task S (ThreadTaps R)) (part : PartAt held name faults appends wires W N first now d)
+module _ {S R : Type 0} (told : S → SinkTold) (wires : List Wire) (W N : ℕ) (first now : List (Task S (ThreadTaps R))) (d : Task S (ThreadTaps R)) (part : PartAt told wires W N first now d)
     (setting : Setting) (map : ClockMap) (is : IsSetting setting map) (are : AreWires setting map.running wires) (all_run : length first ≡ map.running)
     (shared : (k : ℕ) → k < length first → (setting_of (slice_index_or first k d).engine.parts ≡ setting) × ((slice_index_or first k d).engine.parts.clock ≡ k)) where
   abbrev old : ℕ → ℕ → Option (List ℕ)
-  old k = held_of held (slice_index_or first k d).engine
+  old k = held_of told (slice_index_or first k d).engine
 
   abbrev new : ℕ → ℕ → Option (List ℕ)
-  new k = held_of held (slice_index_or now k d).engine
+  new k = held_of told (slice_index_or now k d).engine
 
   abbrev s : ℕ
   s = start W N part.closed
@@ -90,15 +90,15 @@ module _ {S R : Type 0} (held name : S → Option (List ℕ)) (faults : S → �
       known : (setting_of (slice_index_or now k d).engine.parts ≡ setting) × ((slice_index_or now k d).engine.parts.clock ≡ k)
       known = ((part.clocks k low).same.setting ∙ (shared k low).0, (part.clocks k low).same.clock ∙ (shared k low).1)
 
-      by : (((part.clocks k low).ticks ≤ e) × EngineGone held (part.clocks k low).ticks (part.clock_calls k) (old k) (slice_index_or now k d).engine
+      by : (((part.clocks k low).ticks ≤ e) × EngineGone told (part.clocks k low).ticks (part.clock_calls k) (old k) (slice_index_or now k d).engine
           × (part.since k ≡ joined_from (part.clock_calls k).calls s ((part.clocks k low).ticks - s)))
-          ⊎ (((part.clocks k low).ticks < e) × (gone : EngineGonePart held (part.clocks k low).ticks (part.clock_calls k) (old k) (slice_index_or now k d).engine)
+          ⊎ (((part.clocks k low).ticks < e) × (gone : EngineGonePart told (part.clocks k low).ticks (part.clock_calls k) (old k) (slice_index_or now k d).engine)
           × (part.since k ≡ joined_from (part.clock_calls k).calls s ((part.clocks k low).ticks - s) ++ gone.made))
           → Reached k
       by (inl gone) =
           (let t = (part.clocks k low).ticks in let least = (part.clocks k low).least in let most = gone.0 in
-          let on : HasGone setting stands_for (held_of held) k t (part.clock_calls k) (old k) (slice_index_or now k d).engine =
-          subst (λ (z : Setting × ℕ). HasGone z.0 stands_for (held_of held) z.1 t (part.clock_calls k) (old k) (slice_index_or now k d).engine) (λ i. (known.0 i, known.1 i)) gone.1 in
+          let on : HasGone setting stands_for (held_of told) k t (part.clock_calls k) (old k) (slice_index_or now k d).engine =
+          subst (λ (z : Setting × ℕ). HasGone z.0 stands_for (held_of told) z.1 t (part.clock_calls k) (old k) (slice_index_or now k d).engine) (λ i. (known.0 i, known.1 i)) gone.1 in
           record {
             reach = record {
               ticks = t;
@@ -108,7 +108,7 @@ module _ {S R : Type 0} (held name : S → Option (List ℕ)) (faults : S → �
               accepted = λ b. true;
               since = part.since k;
               since_is = λ runs. gone.2 ∙ sym (append-nil (joined_from (part.clock_calls k).calls s (t - s)));
-              came = λ runs. came_whole held setting k s e (part.clock_calls k) (old k) (slice_index_or now k d).engine t on;
+              came = λ runs. came_whole told setting k s e (part.clock_calls k) (old k) (slice_index_or now k d).engine t on;
               stands = λ runs. inl (refl, gone.1.stand);
               rests = λ high. absurd (omega (arith, low, high, all_run));
             };
@@ -119,7 +119,7 @@ module _ {S R : Type 0} (held name : S → Option (List ℕ)) (faults : S → �
           })
       by (inr gone) =
           (let t = (part.clocks k low).ticks in let least = (part.clocks k low).least in let less = gone.0 in
-          let on = part_moved (setting_of (slice_index_or now k d).engine.parts) setting (slice_index_or now k d).engine.parts.clock k (held_of held) t (part.clock_calls k) (old k) (slice_index_or now k d).engine known.0 known.1 gone.1 in
+          let on = part_moved (setting_of (slice_index_or now k d).engine.parts) setting (slice_index_or now k d).engine.parts.clock k (held_of told) t (part.clock_calls k) (old k) (slice_index_or now k d).engine known.0 known.1 gone.1 in
           record {
             reach = record {
               ticks = t;
@@ -129,7 +129,7 @@ module _ {S R : Type 0} (held name : S → Option (List ℕ)) (faults : S → �
               accepted = on.0.accepted;
               since = part.since k;
               since_is = λ runs. gone.2 ∙ ap (λ l. joined_from (part.clock_calls k).calls s (t - s) ++ l) (sym on.1);
-              came = λ runs. came_part held setting k s e (part.clock_calls k) (old k) (slice_index_or now k d).engine t on.0;
+              came = λ runs. came_part told setting k s e (part.clock_calls k) (old k) (slice_index_or now k d).engine t on.0;
               stands = λ runs. inr (refl, gone.1.made, gone.1.halted);
               rests = λ high. absurd (omega (arith, low, high, all_run));
             };
@@ -189,12 +189,22 @@ module _ {S R : Type 0} (held name : S → Option (List ℕ)) (faults : S → �
         | inr each ↦ here.2 ∙ each m here.0 here.1
       ]
 
+  -- where none stopped, they stand at a border
+  pub border_is : ((m : ℕ) → m < map.running → (reach m).tried ≡ (reach m).ticks) → (m : ℕ) → m < map.running → ((reach m).ticks ≡ s) ⊎ ((reach m).ticks ≡ e)
+  unfolding reach
+  border_is none m runs =
+      let here = (reach_at m).runs (omega (arith, runs, all_run)) (none m runs) in
+      elim part.ended [
+        | inl all ↦ inl (here.2 ∙ (all m here.0).1)
+        | inr each ↦ inr (here.2 ∙ each m here.0 here.1)
+      ]
+
   abbrev pub part_run : Run
   part_run = broken_run setting map is wires are W N part.closed part.clock_calls Stands old new reach
 
   -- its record
   abbrev pub part_begun : ((b : ℕ) → b < length wires → (wire_at wires b).from < length first × ((wire_at wires b).to < length first)) → AreWindowsBegun setting map.running W N part_run
-  part_begun places = windows_begun setting map is wires are W N part.closed part.clock_calls Stands old new reach level_are ended_are
+  part_begun places = windows_begun setting map is wires are W N part.closed part.clock_calls Stands old new reach level_are ended_are border_is
       (λ b low. (let r = part.runs b low in let p = places b low in (
         r.0,
         subst (λ (z : List Call × List Call). IsHistory (wire_at wires b).capacity [] (windows_upto (wire_at wires b) part.clock_calls b W N part.closed ++ (puts_to b z.0, takes_of b z.1) ∷ []) r.0)
@@ -206,7 +216,7 @@ module _ {S R : Type 0} (held name : S → Option (List ℕ)) (faults : S → �
   -- what each output holds
   pub part_fronts : (k : ℕ) → k < length first → (rest : Answers) (sink node : ℕ) (output : IsOutput setting k sink node)
       → (front : List ℕ) × IsPrefix (ticks_bytes (setting_then setting part_run rest) output.wide node (reach k).ticks) front × IsPrefix front (ticks_bytes (setting_then setting part_run rest) output.wide node (reach k).tried)
-      × (held_of held (slice_index_or now k d).engine sink ≡ grown front (held_of held (slice_index_or first k d).engine sink))
+      × (held_of told (slice_index_or now k d).engine sink ≡ grown front (held_of told (slice_index_or first k d).engine sink))
   part_fronts k low rest sink node out = fronts setting map is wires are W N part.closed part.clock_calls Stands old new reach k (omega (arith, low, all_run)) rest sink node out
 
   -- for which answers each engine stands, or stopped
@@ -217,12 +227,12 @@ module _ {S R : Type 0} (held name : S → Option (List ℕ)) (faults : S → �
   part_given k low rest = given setting map is wires are W N part.closed part.clock_calls Stands old new reach k (omega (arith, low, all_run)) rest
 
   -- how many pieces each sink got
-  pub part_pieces : (k : ℕ) → k < length first → GotBetween appends (reach k).ticks (reach k).tried (slice_index_or first k d).engine.outs (slice_index_or now k d).engine.outs
+  pub part_pieces : (k : ℕ) → k < length first → GotBetween told (reach k).ticks (reach k).tried (slice_index_or first k d).engine.outs (slice_index_or now k d).engine.outs
   unfolding reach
   part_pieces k low =
       let at = (reach_at k).came_at low in let c = part.clocks k at.0 in let ticks = at.1 in
       let old = (slice_index_or first k d).engine.outs in let new = (slice_index_or now k d).engine.outs in
       elim (part_stood k low) [
-        | inl whole ↦ (let all = whole.0 in got_between appends c.ticks (reach k).ticks (reach k).tried old new (omega (arith, ticks)) (omega (arith, ticks, all)) (c.pieces whole.1.runs))
-        | inr stop ↦ (let next = stop.0 in between_wider appends c.ticks (suc c.ticks) (reach k).ticks (reach k).tried old new (omega (arith, ticks)) (omega (arith, ticks, next)) c.pieces_part)
+        | inl whole ↦ (let all = whole.0 in got_between told c.ticks (reach k).ticks (reach k).tried old new (omega (arith, ticks)) (omega (arith, ticks, all)) (c.pieces whole.1.runs))
+        | inr stop ↦ (let next = stop.0 in between_wider told c.ticks (suc c.ticks) (reach k).ticks (reach k).tried old new (omega (arith, ticks)) (omega (arith, ticks, next)) c.pieces_part)
       ]

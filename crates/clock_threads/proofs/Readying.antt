@@ -1,7 +1,7 @@
 -- Tasks that are ready, and what a run of them tells of their engines.
 use Rattle.std.proofs.Common.{◌≡◌, ◌⊎◌, ℕ, suc, ◌<◌, true, None, Some, List, [], ◌∷◌, length, map, slice_get, slice_index_or, sym, refl, ap, ◌∙◌, subst, arith, Option, append-nil}
 use Rattle.std.proofs.lemmas.Option.{get_or_from_slice_get, slice_get-get_or as read}
-use Rattle.liq_base.specs.Pieces.{grown}
+use Rattle.liq_base.specs.Pieces.{SinkTold, grown}
 use Rattle.plan_core.specs.declared.plan.Plan.{Plan}
 use Rattle.plan_core.specs.declared.sink.BufferPlan.{BufferPlan}
 use Rattle.buffer_ends.specs.Local.{Answers, LocalBuffer, planned}
@@ -16,7 +16,7 @@ use Rattle.stream_meaning.specs.Calls.{joined_upto}
 use Rattle.clock_ticks.specs.Engines.{EngineStands, outputs_of, setting_of, held_of}
 use Rattle.clock_ticks.specs.Ticks.{HaveTicksRoom}
 use Rattle.clock_ticks.specs.Pieces.{GotPieces}
-use Rattle.clock_ticks.proofs.Pieces.{got_none}
+use Rattle.clock_ticks.proofs.Pieces.{got_none, kept_none}
 use Rattle.clock_ticks.specs.declared.engine.ClockEngine.{ClockEngine}
 use Rattle.clock_threads.specs.declared.task.Task.{Task}
 use Rattle.clock_threads.specs.TickCalls.{TickCalls, answers_by}
@@ -51,22 +51,18 @@ grown_none None = refl
 grown_none (Some bytes) = ap Some (sym (append-nil bytes))
 
 -- an engine is as it was
-pub same_not : {S : Type 0} (name : S → Option (List ℕ)) (faults : S → ℕ) (e : ClockEngine S) → IsSameClock name faults e e
-same_not name faults e = record {
+pub same_not : {S : Type 0} (told : S → SinkTold) (e : ClockEngine S) → IsSameClock told e e
+same_not told e = record {
   setting = refl;
   clock = refl;
   outs = refl;
-  kept = record { each = λ k before after was is. (let e' = some_one was is in (ap name e', (let n = ap faults e' in omega (arith, n)))) };
-  none_fell = record { each = λ k d. omega arith };
+  kept = kept_none told e.outs;
   keeping = refl;
 }
-  where
-    some_one : {A : Type 0} {o : Option A} {x y : A} → o ≡ Some x → o ≡ Some y → y ≡ x
-    some_one p q = cc
 
 -- an engine that has made no tick
-gone_none : {S : Type 0} (held : S → Option (List ℕ)) (e : ClockEngine S) → EngineStands e.parts 0 (λ b. []) → EngineGone held 0 nothing (held_of held e) e
-gone_none held e st = record { stand = st; ticks = λ i less rest. absurd (omega (arith, less)); holds = λ rest sink node out. grown_none (held_of held e sink) }
+gone_none : {S : Type 0} (told : S → SinkTold) (e : ClockEngine S) → EngineStands e.parts 0 (λ b. []) → EngineGone told 0 nothing (held_of told e) e
+gone_none told e st = record { stand = st; ticks = λ i less rest. absurd (omega (arith, less)); holds = λ rest sink node out. grown_none (held_of told e sink) }
 
 map_same : {S R : Type 0} (old new : List (Task S (ThreadTaps R))) → length new ≡ length old → ((k : ℕ) (d : Task S (ThreadTaps R)) → k < length old → (slice_index_or new k d).engine ≡ (slice_index_or old k d).engine)
     → map (engine_of {S = S} {R = R}) new ≡ map engine_of old
@@ -79,16 +75,16 @@ map_same (x ∷ old) (y ∷ new) many each =
 pub engines_same : {S R : Type 0} (old new : List (Task S (ThreadTaps R))) → SameEngines old new → map (engine_of {S = S} {R = R}) new ≡ map engine_of old
 engines_same old new same = map_same old new same.many same.each
 
-module _ {S R : Type 0} (held name : S → Option (List ℕ)) (room : S → Option ℕ) (faults : S → ℕ) (appends : S → Option ℕ) (plan : Plan) (wires : List Wire) (W N : ℕ) (bare joined : List (Task S (ThreadTaps R)))
-    (some : 0 < length bare) (are : AreLaid plan (length bare) wires) (tasks : AreTasks plan (map engine_of bare) bare) (setting : Setting) (map_of : ClockMap) (fresh : AreFresh room plan wires N setting map_of (map engine_of bare)) (j : AreJoined wires 0 bare joined) where
+module _ {S R : Type 0} (told : S → SinkTold) (plan : Plan) (wires : List Wire) (W N : ℕ) (bare joined : List (Task S (ThreadTaps R)))
+    (some : 0 < length bare) (are : AreLaid plan (length bare) wires) (tasks : AreTasks plan (map engine_of bare) bare) (setting : Setting) (map_of : ClockMap) (fresh : AreFresh told plan wires N setting map_of (map engine_of bare)) (j : AreJoined wires 0 bare joined) where
   in_bare : (k : ℕ) → k < length joined → k < length bare
   in_bare k h = let m = j.many in omega (arith, h, m)
 
   engine_is : (k : ℕ) (d : Task S (ThreadTaps R)) → k < length bare → (slice_index_or joined k d).engine ≡ (slice_index_or bare k d).engine
   engine_is k d h = (j.same k d h).engine
 
-  fresh_at : (k : ℕ) (d : Task S (ThreadTaps R)) → k < length bare → IsFresh room setting N k (slice_index_or joined k d).engine
-  fresh_at k d h = subst (IsFresh room setting N k) (map_get engine_of bare k d d.engine h ∙ sym (engine_is k d h)) (fresh.engines_are.each k d.engine (let n = map_long (engine_of {S = S} {R = R}) bare in omega (arith, h, n)))
+  fresh_at : (k : ℕ) (d : Task S (ThreadTaps R)) → k < length bare → IsFresh told setting N k (slice_index_or joined k d).engine
+  fresh_at k d h = subst (IsFresh told setting N k) (map_get engine_of bare k d d.engine h ∙ sym (engine_is k d h)) (fresh.engines_are.each k d.engine (let n = map_long (engine_of {S = S} {R = R}) bare in omega (arith, h, n)))
 
   local_is : (k : ℕ) (d : Task S (ThreadTaps R)) → k < length bare → (slice_index_or joined k d).taps.local ≡ map planned plan.buffers
   local_is k d h = (j.same k d h).local ∙ (tasks.each k d h).local
@@ -105,14 +101,14 @@ module _ {S R : Type 0} (held name : S → Option (List ℕ)) (room : S → Opti
       let in_plan : b < length plan.buffers = (let n = are.many in omega (arith, low, n)) in
       ap (λ (bs : List LocalBuffer). slice_index_or bs b e) (local_is k d (in_bare k h)) ∙ map_get planned plan.buffers b no_plan e in_plan
 
-  clock_ready : (d : Task S (ThreadTaps R)) (k : ℕ) → k < length joined → ClockGoing held name room faults appends wires N (start W N 0) k nothing (slice_index_or joined k d) (slice_index_or joined k d)
+  clock_ready : (d : Task S (ThreadTaps R)) (k : ℕ) → k < length joined → ClockGoing told wires N (start W N 0) k nothing (slice_index_or joined k d) (slice_index_or joined k d)
   clock_ready d k h =
       let x = slice_index_or joined k d in let f = fresh_at k d (in_bare k h) in let zero_is = start_zero W N in let l = local_is k d (in_bare k h) in
       record {
-        gone = subst (λ t. EngineGone held t nothing (held_of held x.engine) x.engine) (sym zero_is) (gone_none held x.engine f.stands);
-        same = same_not name faults x.engine;
-        pieces = subst (λ t. GotPieces appends t x.engine.outs x.engine.outs) (sym zero_is) (got_none appends x.engine.outs);
-        rooms = λ n is. subst (λ m. HaveTicksRoom room x.engine.parts x.engine.outs m) (let e : N ≡ n = omega (arith, is, zero_is) in e) f.rooms;
+        gone = subst (λ t. EngineGone told t nothing (held_of told x.engine) x.engine) (sym zero_is) (gone_none told x.engine f.stands);
+        same = same_not told x.engine;
+        pieces = subst (λ t. GotPieces told t x.engine.outs x.engine.outs) (sym zero_is) (got_none told x.engine.outs);
+        rooms = λ n is. subst (λ m. HaveTicksRoom told x.engine.parts x.engine.outs m) (let e : N ≡ n = omega (arith, is, zero_is) in e) f.rooms;
         wired = record {
           puts = λ p e low. (let g = j.puts k p d e (in_bare k h) low in (g.1, g.2, g.3));
           takes = λ p e low. (let g = j.takes k p d e (in_bare k h) low in (g.1, g.2, g.3));
@@ -126,7 +122,7 @@ module _ {S R : Type 0} (held name : S → Option (List ℕ)) (room : S → Opti
         capacities = λ b e low. ap (λ (z : LocalBuffer). z.capacity) (list_is d k b e h low) ∙ are.capacities b no_plan low;
       }
 
-  pub ready : (logs : List (List Answers)) → AreNoLogs (length wires) logs → IsReady held name room faults appends wires W N joined logs
+  pub ready : (logs : List (List Answers)) → AreNoLogs (length wires) logs → IsReady told wires W N joined logs
   ready logs none = record {
     some = (let m = j.many in omega (arith, some, m));
     few = are.few;
@@ -153,12 +149,12 @@ module _ {S R : Type 0} (held name : S → Option (List ℕ)) (room : S → Opti
   shared : (d : Task S (ThreadTaps R)) (k : ℕ) → k < length joined → (setting_of (slice_index_or joined k d).engine.parts ≡ setting) × ((slice_index_or joined k d).engine.parts.clock ≡ k)
   shared d k h = (let f = fresh_at k d (in_bare k h) in (f.over, f.clock))
 
-  module _ (now : List (Task S (ThreadTaps R))) (logs : List (List Answers)) (d : Task S (ThreadTaps R)) (done : DoneAt held name room faults appends wires W N joined now logs d) (inside : 0 < length joined) where
+  module _ (now : List (Task S (ThreadTaps R))) (logs : List (List Answers)) (d : Task S (ThreadTaps R)) (done : DoneAt told wires W N joined now logs d) (inside : 0 < length joined) where
     abbrev wins : ℕ → List Window
-    wins = done_windows held name room faults appends wires W N joined now logs d done setting map_of fresh.engines_are.is fresh.wires_are long inside (shared d) places_joined
+    wins = done_windows told wires W N joined now logs d done setting map_of fresh.engines_are.is fresh.wires_are long inside (shared d) places_joined
 
     abbrev wired : IsWiredHistory (meant setting) wires W N done.windows wins
-    wired = done_wired held name room faults appends wires W N joined now logs d done setting map_of fresh.engines_are.is fresh.wires_are long inside (shared d) places_joined
+    wired = done_wired told wires W N joined now logs d done setting map_of fresh.engines_are.is fresh.wires_are long inside (shared d) places_joined
 
     abbrev the_run : Run
     the_run = run_of setting map_of fresh.engines_are.is wires fresh.wires_are W N done.windows wins wired
@@ -166,10 +162,10 @@ module _ {S R : Type 0} (held name : S → Option (List ℕ)) (room : S → Opti
     answers_are : answers_in_run the_run ≡ answers_of wins
     answers_are = run_answers setting map_of fresh.engines_are.is wires fresh.wires_are W N done.windows wins wired
 
-    made_all : (k : ℕ) → k < length joined → HasMadeAll held name faults appends setting the_run N k (slice_index_or joined k d).engine (slice_index_or now k d).engine
+    made_all : (k : ℕ) → k < length joined → HasMadeAll told setting the_run N k (slice_index_or joined k d).engine (slice_index_or now k d).engine
     made_all k h =
         let c = done.going.clocks k h in
-        let st = done_stands held name room faults appends wires W N joined now logs d done setting map_of fresh.engines_are.is fresh.wires_are long inside (shared d) places_joined k h in
+        let st = done_stands told wires W N joined now logs d done setting map_of fresh.engines_are.is fresh.wires_are long inside (shared d) places_joined k h in
         record {
           same = c.same;
           answers = st.0;
@@ -177,19 +173,19 @@ module _ {S R : Type 0} (held name : S → Option (List ℕ)) (room : S → Opti
           stands = st.2;
           are = ap (answered setting) (st.3 ∙ sym answers_are);
           bytes = λ sink node output.
-              done_bytes held name room faults appends wires W N joined now logs d done setting map_of fresh.engines_are.is fresh.wires_are long inside (shared d) places_joined k h sink node output
-              ∙ ap (λ (A : ℕ → List (Option (List Cell))). grown (ticks_bytes (answered setting A) output.wide node N) (held_of held (slice_index_or joined k d).engine sink)) (sym answers_are);
-          pieces = subst (λ n. GotPieces appends n (slice_index_or joined k d).engine.outs (slice_index_or now k d).engine.outs) done.all c.pieces;
+              done_bytes told wires W N joined now logs d done setting map_of fresh.engines_are.is fresh.wires_are long inside (shared d) places_joined k h sink node output
+              ∙ ap (λ (A : ℕ → List (Option (List Cell))). grown (ticks_bytes (answered setting A) output.wide node N) (held_of told (slice_index_or joined k d).engine sink)) (sym answers_are);
+          pieces = subst (λ n. GotPieces told n (slice_index_or joined k d).engine.outs (slice_index_or now k d).engine.outs) done.all c.pieces;
         }
 
-    tasks_run : HasRunTasks held name faults appends wires setting map_of W N (map engine_of bare) now logs
+    tasks_run : HasRunTasks told wires setting map_of W N (map engine_of bare) now logs
     tasks_run = record {
       windows = wins;
       run = record {
         many = map_long engine_of now ∙ done.going.many ∙ j.many ∙ sym (map_long engine_of bare);
         lawful = run_is_lawful setting map_of fresh.engines_are.is wires fresh.wires_are W N done.windows wins wired;
         engines = λ k e h. (let low : k < length bare = (let n = map_long (engine_of {S = S} {R = R}) bare in omega (arith, h, n)) in let m = j.many in let n = done.going.many in
-            subst (λ (z : ClockEngine S × ClockEngine S). HasMadeAll held name faults appends setting the_run N k z.0 z.1)
+            subst (λ (z : ClockEngine S × ClockEngine S). HasMadeAll told setting the_run N k z.0 z.1)
             (λ i. ((engine_is k d low ∙ sym (map_get engine_of bare k d e low)) i, sym (map_get engine_of now k d e (omega (arith, low, m, n))) i)) (made_all k (omega (arith, low, m))));
       };
       one = d;
@@ -198,28 +194,28 @@ module _ {S R : Type 0} (held name : S → Option (List ℕ)) (room : S → Opti
       lists = λ k h. (done.going.clocks k (let n = done.going.many in omega (arith, h, n))).lists;
     }
 
-  pub has_run : (now : List (Task S (ThreadTaps R))) (logs : List (List Answers)) → RunDone held name room faults appends wires W N joined now logs → HasRunTasks held name faults appends wires setting map_of W N (map engine_of bare) now logs
+  pub has_run : (now : List (Task S (ThreadTaps R))) (logs : List (List Answers)) → RunDone told wires W N joined now logs → HasRunTasks told wires setting map_of W N (map engine_of bare) now logs
   has_run now logs done = let inside : 0 < length joined = (let m = j.many in omega (arith, some, m)) in with_one joined inside (λ d. tasks_run now logs d (done d) inside)
 
-  module _ (now : List (Task S (ThreadTaps R))) (d : Task S (ThreadTaps R)) (p : PartAt held name faults appends wires W N joined now d) where
+  module _ (now : List (Task S (ThreadTaps R))) (d : Task S (ThreadTaps R)) (p : PartAt told wires W N joined now d) where
     abbrev begun_run : Run
-    begun_run = part_run held name faults appends wires W N joined now d p setting map_of fresh.engines_are.is fresh.wires_are long (shared d)
+    begun_run = part_run told wires W N joined now d p setting map_of fresh.engines_are.is fresh.wires_are long (shared d)
 
-    abbrev reached : (k : ℕ) → Reach setting map_of.running k (start W N p.closed) (start W N (suc p.closed)) (p.clock_calls k) (StandsOrStopped (slice_index_or now k d).engine) (held_of held (slice_index_or joined k d).engine) (held_of held (slice_index_or now k d).engine)
-    reached = reach held name faults appends wires W N joined now d p setting map_of fresh.engines_are.is fresh.wires_are long (shared d)
+    abbrev reached : (k : ℕ) → Reach setting map_of.running k (start W N p.closed) (start W N (suc p.closed)) (p.clock_calls k) (StandsOrStopped (slice_index_or now k d).engine) (held_of told (slice_index_or joined k d).engine) (held_of told (slice_index_or now k d).engine)
+    reached = reach told wires W N joined now d p setting map_of fresh.engines_are.is fresh.wires_are long (shared d)
 
-    made_part : (k : ℕ) → k < length joined → HasMadePart held name faults appends setting begun_run (reached k).ticks (reached k).tried k (slice_index_or joined k d).engine (slice_index_or now k d).engine
+    made_part : (k : ℕ) → k < length joined → HasMadePart told setting begun_run (reached k).ticks (reached k).tried k (slice_index_or joined k d).engine (slice_index_or now k d).engine
     made_part k h = record {
       same = (p.clocks k h).same;
       answers = answers_by (p.clock_calls k) (reached k).ticks;
-      given = part_given held name faults appends wires W N joined now d p setting map_of fresh.engines_are.is fresh.wires_are long (shared d) k h;
-      stands = part_stood held name faults appends wires W N joined now d p setting map_of fresh.engines_are.is fresh.wires_are long (shared d) k h;
-      part = part_fronts held name faults appends wires W N joined now d p setting map_of fresh.engines_are.is fresh.wires_are long (shared d) k h;
-      pieces = part_pieces held name faults appends wires W N joined now d p setting map_of fresh.engines_are.is fresh.wires_are long (shared d) k h;
+      given = part_given told wires W N joined now d p setting map_of fresh.engines_are.is fresh.wires_are long (shared d) k h;
+      stands = part_stood told wires W N joined now d p setting map_of fresh.engines_are.is fresh.wires_are long (shared d) k h;
+      part = part_fronts told wires W N joined now d p setting map_of fresh.engines_are.is fresh.wires_are long (shared d) k h;
+      pieces = part_pieces told wires W N joined now d p setting map_of fresh.engines_are.is fresh.wires_are long (shared d) k h;
     }
 
     -- the end names a sink of the lowest clock that stopped
-    write_end : (clock sink : ℕ) → IsWriteAt faults clock sink joined now → IsWriteEnd faults setting clock sink (map engine_of bare) (map engine_of now)
+    write_end : (clock sink : ℕ) → IsWriteAt told clock sink joined now → IsWriteEnd told setting clock sink (map engine_of bare) (map engine_of now)
     write_end clock sink w =
         let k = w.place in let h = w.within in let sh = shared d k h in let one = w.write d in
         let low : k < length bare = in_bare k h in
@@ -227,7 +223,7 @@ module _ {S R : Type 0} (held name : S → Option (List ℕ)) (room : S → Opti
         let in_engines : k < length (map (engine_of {S = S} {R = R}) bare) = (let n = map_long (engine_of {S = S} {R = R}) bare in omega (arith, low, n)) in
         let in_new : k < length (map (engine_of {S = S} {R = R}) now) = (let n = map_long (engine_of {S = S} {R = R}) now in omega (arith, in_now, n)) in
         let place : k ≡ clock = sym ((p.clocks k h).same.clock ∙ sh.1) ∙ w.clock_is d in
-        subst (λ c. IsWriteEnd faults setting c sink (map engine_of bare) (map engine_of now)) place (record {
+        subst (λ c. IsWriteEnd told setting c sink (map engine_of bare) (map engine_of now)) place (record {
           before = (slice_index_or joined k d).engine;
           after = (slice_index_or now k d).engine;
           was = read (map engine_of bare) k d.engine in_engines ∙ ap Some (map_get engine_of bare k d d.engine low ∙ sym (engine_is k d low));
@@ -241,20 +237,20 @@ module _ {S R : Type 0} (held name : S → Option (List ℕ)) (room : S → Opti
           rose = one.rose;
         })
 
-    some_run : (end : End) → ((clock sink : ℕ) → end ≡ Write clock sink → IsWriteAt faults clock sink joined now)
-        → HasRunSome held name faults appends setting map_of W N (map engine_of bare) (map engine_of now) end
+    some_run : (end : End) → ((clock sink : ℕ) → end ≡ Write clock sink → IsWriteAt told clock sink joined now)
+        → HasRunSome told setting map_of W N (map engine_of bare) (map engine_of now) end
     some_run end write = record {
       run = begun_run;
-      begun = part_begun held name faults appends wires W N joined now d p setting map_of fresh.engines_are.is fresh.wires_are long (shared d) places_joined;
+      begun = part_begun told wires W N joined now d p setting map_of fresh.engines_are.is fresh.wires_are long (shared d) places_joined;
       many = map_long engine_of now ∙ p.many ∙ j.many ∙ sym (map_long engine_of bare);
       engines = λ k e h. (let low : k < length bare = (let n = map_long (engine_of {S = S} {R = R}) bare in omega (arith, h, n)) in let m = j.many in let n = p.many in
-          subst (λ (z : ClockEngine S × ClockEngine S). HasMadePart held name faults appends setting begun_run (reached k).ticks (reached k).tried k z.0 z.1)
+          subst (λ (z : ClockEngine S × ClockEngine S). HasMadePart told setting begun_run (reached k).ticks (reached k).tried k z.0 z.1)
           (λ i. ((engine_is k d low ∙ sym (map_get engine_of bare k d e low)) i, sym (map_get engine_of now k d e (omega (arith, low, m, n))) i)) (made_part k (omega (arith, low, m))));
       write = λ clock sink e. write_end clock sink (write clock sink e);
     }
 
-  pub has_run_some : (now : List (Task S (ThreadTaps R))) (end : End) → RunPart held name faults appends wires W N joined now → ((clock sink : ℕ) → end ≡ Write clock sink → IsWriteAt faults clock sink joined now)
-      → HasRunSome held name faults appends setting map_of W N (map engine_of bare) (map engine_of now) end
+  pub has_run_some : (now : List (Task S (ThreadTaps R))) (end : End) → RunPart told wires W N joined now → ((clock sink : ℕ) → end ≡ Write clock sink → IsWriteAt told clock sink joined now)
+      → HasRunSome told setting map_of W N (map engine_of bare) (map engine_of now) end
   has_run_some now end part write = with_one joined (let m = j.many in omega (arith, some, m)) (λ d. some_run now d (part d) end write)
 
   pub bare_is : AreBare bare

@@ -12,7 +12,7 @@ use Rattle.stream_meaning.specs.Instants.{Setting}
 use Rattle.stream_meaning.specs.Calls.{joined_upto}
 use Rattle.stream_meaning.specs.Settings.{IsSetting}
 use Rattle.run_records.specs.Buffers.{feeder, reader}
-use Rattle.run_records.specs.Records.{Follows, IsLawful, Run, Window, answers_of as answers_in_run, calls_in, on, setting_in, start, windows_in, windows_of}
+use Rattle.run_records.specs.Records.{AreWindows, Follows, Run, Window, answers_of as answers_in_run, calls_in, on, setting_in, start, windows_in, windows_of}
 use Rattle.run_records.proofs.Alone.{feeder_runs}
 use Rattle.run_records.proofs.Owning.{own_tick}
 use Rattle.run_records.proofs.Running.{runs_in, rests_in}
@@ -126,7 +126,7 @@ module _ (setting : Setting) (map : ClockMap) (is : IsSetting setting map) (wire
       (λ i. windows_same b less j i ++ (puts_same b less (start W N j) (start W N (suc j) - start W N j) i, takes_same b less (start W N j) (start W N (suc j) - start W N j) i) ∷ [])
 
   -- it is lawful
-  pub run_is_lawful : IsLawful setting map.running W N run_of
+  pub run_is_lawful : AreWindows setting map.running W N run_of
   run_is_lawful = record {
     buffers = listed_long (length wires) windows ∙ are.many;
     accepted = wired.accepted;

@@ -2,6 +2,7 @@
 -- lists follow them. Once the ends are closed, all windows of a buffer are one history.
 use Rattle.std.proofs.Common.{◌≡◌, ◌≢◌, ◌⊎◌, ℕ, ◌<◌, ◌^◌, List, [], ◌∷◌, ◌++◌, length, slice_index_or, sym, refl, ap, ◌∙◌, subst, arith, inl, inr, ⊎_elim, Option}
 use Rattle.std.proofs.lemmas.List.{get_or_default}
+use Rattle.liq_base.specs.Pieces.{SinkTold}
 use Rattle.frame_core.specs.declared.cell.Cell.{Cell}
 use Rattle.frame_core.specs.Legal.{Legal, IsHistory}
 use Rattle.frame_core.specs.Calls.{Call, takes_of, puts_to}
@@ -71,11 +72,11 @@ module _ (sides after : List Side) (b : ℕ) (w : QueueWindow) (same : SameSides
   pub later_takes : (old more : List Call) → TakesStand after (old ++ more) → takes_of b old ≡ [] → later_window.answers ≡ takes_of b more
   later_takes old more s none = s e.place (side b w) within_after ∙ ap (λ n. takes_of n (old ++ more)) buffer_after ∙ takes-append b old more ∙ ap (λ l. l ++ takes_of b more) none
 
-module _ {S R : Type 0} (held name : S → Option (List ℕ)) (room : S → Option ℕ) (faults : S → ℕ) (appends : S → Option ℕ) (wires : List Wire) (W N j : ℕ) (d : Task S (ThreadTaps R))
+module _ {S R : Type 0} (told : S → SinkTold) (wires : List Wire) (W N j : ℕ) (d : Task S (ThreadTaps R))
     (count : ℕ) (first now mid : List (Task S (ThreadTaps R))) (logs : List (List Answers))
     (places : (b : ℕ) → b < length wires → (wire_at wires b).from < length first × ((wire_at wires b).to < length first))
-    (going : Going held name room faults appends wires W N j first now logs d)
-    (ran : (k : ℕ) → k < length now → WasRun held name room faults appends TapsStand TapsBuffers SameTaps count (slice_index_or now k d) (slice_index_or mid k d))
+    (going : Going told wires W N j first now logs d)
+    (ran : (k : ℕ) → k < length now → WasRun told TapsStand TapsBuffers SameTaps count (slice_index_or now k d) (slice_index_or mid k d))
     (mid_many : length mid ≡ length now) (since : ℕ → List Call)
     (stood : (k : ℕ) → k < length first → TapsStand (slice_index_or mid k d).taps (kept wires k (joined_upto (going.clock_calls k).calls (start W N j)) ++ since k)) where
   within : (k : ℕ) → k < length first → k < length now

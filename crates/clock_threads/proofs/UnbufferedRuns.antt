@@ -1,6 +1,7 @@
 -- A run over a plan without buffers is one over no wires.
 use Rattle.std.proofs.Common.{◌≡◌, ℕ, ◌<◌, Option, List, [], ◌∷◌, length, map, sym, refl, ap, ◌∙◌, subst, arith}
 use Rattle.std.specs.Prelude.{⊤}
+use Rattle.liq_base.specs.Pieces.{SinkTold}
 use Rattle.plan_core.specs.declared.plan.Plan.{Plan}
 use Rattle.plan_core.specs.declared.sink.BufferPlan.{BufferPlan}
 use Rattle.clock_infer.specs.declared.clock_map.ClockMap.{ClockMap}
@@ -34,8 +35,8 @@ engines_back : {S : Type 0} (engines : List (ClockEngine S)) → map (engine_of 
 engines_back [] = refl
 engines_back (engine ∷ engines) = ap (λ rest. engine ∷ rest) (engines_back engines)
 
-module _ {S : Type 0} (held name : S → Option (List ℕ)) (room : S → Option ℕ) (faults : S → ℕ) (appends : S → Option ℕ) (plan : Plan) (none : length plan.buffers ≡ 0) (W N : ℕ) (engines : List (ClockEngine S)) (some : 0 < length engines)
-    (setting : Setting) (clocks : ClockMap) (are : AreEngines room plan clocks N setting engines) where
+module _ {S : Type 0} (told : S → SinkTold) (plan : Plan) (none : length plan.buffers ≡ 0) (W N : ℕ) (engines : List (ClockEngine S)) (some : 0 < length engines)
+    (setting : Setting) (clocks : ClockMap) (are : AreEngines told plan clocks N setting engines) where
   abbrev tasks : List (Task S (ThreadTaps ⊤))
   tasks = unbuffered_tasks engines
 
@@ -54,8 +55,8 @@ module _ {S : Type 0} (held name : S → Option (List ℕ)) (room : S → Option
     each = λ k d h. subst (IsBare plan) (sym (unbuffered_at engines k d (low_at k h))) (record { puts = refl; takes = refl; local = no_lists plan.buffers none });
   }
 
-  are_fresh : AreFresh room plan [] N setting clocks (map engine_of tasks)
-  are_fresh = subst (AreFresh room plan [] N setting clocks) (sym (engines_back engines)) (fresh_is room plan clocks N setting engines [] are first)
+  are_fresh : AreFresh told plan [] N setting clocks (map engine_of tasks)
+  are_fresh = subst (AreFresh told plan [] N setting clocks) (sym (engines_back engines)) (fresh_is told plan clocks N setting engines [] are first)
 
   are_joined : AreJoined [] 0 tasks tasks
   are_joined = record {
@@ -69,19 +70,19 @@ module _ {S : Type 0} (held name : S → Option (List ℕ)) (room : S → Option
   some_tasks : 0 < length tasks
   some_tasks = let n = unbuffered_long engines in omega (arith, some, n)
 
-  pub unbuffered_ready : IsReady held name room faults appends [] W N tasks []
-  unbuffered_ready = ready held name room faults appends plan [] W N tasks tasks some_tasks are_laid are_tasks setting clocks are_fresh are_joined [] (record { are_many = refl; each = λ b d low. absurd (omega (arith, low)) })
+  pub unbuffered_ready : IsReady told [] W N tasks []
+  unbuffered_ready = ready told plan [] W N tasks tasks some_tasks are_laid are_tasks setting clocks are_fresh are_joined [] (record { are_many = refl; each = λ b d low. absurd (omega (arith, low)) })
 
-  pub unbuffered_all : (now : List (ClockEngine S)) (counts : List Counts) (logs : List (List Answers)) → counts ≡ [] → logs ≡ [] → RunDone held name room faults appends [] W N tasks (unbuffered_tasks now) []
-      → HasRunAll held name faults appends setting clocks W N engines now counts logs
+  pub unbuffered_all : (now : List (ClockEngine S)) (counts : List Counts) (logs : List (List Answers)) → counts ≡ [] → logs ≡ [] → RunDone told [] W N tasks (unbuffered_tasks now) []
+      → HasRunAll told setting clocks W N engines now counts logs
   unbuffered_all now counts logs no_counts no_logs done =
-      let run = has_run held name room faults appends plan [] W N tasks tasks some_tasks are_laid are_tasks setting clocks are_fresh are_joined (unbuffered_tasks now) [] done in
+      let run = has_run told plan [] W N tasks tasks some_tasks are_laid are_tasks setting clocks are_fresh are_joined (unbuffered_tasks now) [] done in
       let collected : AreCollected [] (unbuffered_tasks now) [] [] = record { many = refl; local = λ b d e f low. absurd (omega (arith, low)); joined = λ b d apart. refl } in
-      subst (λ (z : List Counts × List (List Answers)). HasRunAll held name faults appends setting clocks W N engines now z.0 z.1) (λ i. (sym no_counts i, sym no_logs i))
-      (run_told held name faults appends [] setting clocks W N engines (map engine_of tasks) now (unbuffered_tasks now) [] [] [] run (engines_back engines) collected (sym (engines_back now)) refl)
+      subst (λ (z : List Counts × List (List Answers)). HasRunAll told setting clocks W N engines now z.0 z.1) (λ i. (sym no_counts i, sym no_logs i))
+      (run_told told [] setting clocks W N engines (map engine_of tasks) now (unbuffered_tasks now) [] [] [] run (engines_back engines) collected (sym (engines_back now)) refl)
 
-  pub unbuffered_some : (now : List (ClockEngine S)) (end : End) → RunPart held name faults appends [] W N tasks (unbuffered_tasks now) → ((clock sink : ℕ) → end ≡ Write clock sink → IsWriteAt faults clock sink tasks (unbuffered_tasks now))
-      → HasRunSome held name faults appends setting clocks W N engines now end
+  pub unbuffered_some : (now : List (ClockEngine S)) (end : End) → RunPart told [] W N tasks (unbuffered_tasks now) → ((clock sink : ℕ) → end ≡ Write clock sink → IsWriteAt told clock sink tasks (unbuffered_tasks now))
+      → HasRunSome told setting clocks W N engines now end
   unbuffered_some now end part write =
-      subst (λ (z : List (ClockEngine S) × List (ClockEngine S)). HasRunSome held name faults appends setting clocks W N z.0 z.1 end) (λ i. (engines_back engines i, engines_back now i))
-      (has_run_some held name room faults appends plan [] W N tasks tasks some_tasks are_laid are_tasks setting clocks are_fresh are_joined (unbuffered_tasks now) end part write)
+      subst (λ (z : List (ClockEngine S) × List (ClockEngine S)). HasRunSome told setting clocks W N z.0 z.1 end) (λ i. (engines_back engines i, engines_back now i))
+      (has_run_some told plan [] W N tasks tasks some_tasks are_laid are_tasks setting clocks are_fresh are_joined (unbuffered_tasks now) end part write)

@@ -3,6 +3,7 @@ use Rattle.std.proofs.Common.{◌≡◌, ◌<◌, ◌≤◌, ◌+◌, ◌∙◌,
 use Rattle.std.specs.Prelude.{All}
 use Rattle.std.specs.Option.{option_map_or}
 use Rattle.std.proofs.lemmas.Bool.{cases_lt, lt-ltb, le-ltb}
+use Rattle.liq_base.specs.Pieces.{SinkTold}
 use Rattle.plan_core.specs.declared.plan.Plan.{Plan}
 use Rattle.plan_core.specs.declared.sink.BufferPlan.{BufferPlan}
 use Rattle.plan_core.specs.Plans.{IsBuffer}
@@ -112,6 +113,6 @@ module _ (plan : Plan) (clocks : ClockMap) (setting : Setting) (is : IsSetting s
         | inr high ↦ (let e : wire.to ≡ feeder setting b = w.to_is ∙ ap (λ (t : Bool). cond t (reader setting b) (feeder setting b)) (le-ltb (reader setting b) clocks.running high) in omega (arith, e, runs))
       ]
 
-pub fresh_is : {S : Type 0} (room : S → Option ℕ) (plan : Plan) (clocks : ClockMap) (N : ℕ) (setting : Setting) (engines : List (ClockEngine S)) (wires : List Wire) → AreEngines room plan clocks N setting engines
-    → AreFirstWires plan clocks (length plan.buffers) wires → AreFresh room plan wires N setting clocks engines
-fresh_is room plan clocks N setting engines wires are first = record { engines_are = are; wires_are = wires_are plan clocks setting are.is are.plan_is wires first }
+pub fresh_is : {S : Type 0} (told : S → SinkTold) (plan : Plan) (clocks : ClockMap) (N : ℕ) (setting : Setting) (engines : List (ClockEngine S)) (wires : List Wire) → AreEngines told plan clocks N setting engines
+    → AreFirstWires plan clocks (length plan.buffers) wires → AreFresh told plan wires N setting clocks engines
+fresh_is told plan clocks N setting engines wires are first = record { engines_are = are; wires_are = wires_are plan clocks setting are.is are.plan_is wires first }

@@ -8,7 +8,7 @@ use Rattle.buffer_ends.specs.Local.{Answers}
 use Rattle.buffer_ends.specs.Sides.{Side, Falling}
 use Rattle.buffer_ends.specs.Borders.{HasEnd, WasClosed}
 use Rattle.buffer_ends.specs.declared.thread_taps.ThreadTaps.{ThreadTaps}
-use Rattle.buffer_sides.specs.Logs.{told}
+use Rattle.buffer_sides.specs.Logs.{told as told_of}
 use Rattle.clock_threads.specs.declared.task.Task.{Task}
 use Rattle.clock_threads.specs.declared.wires.Wire.{Wire}
 use Rattle.clock_threads.specs.Wires.{wire_at}
@@ -109,4 +109,4 @@ pub record AllClosed {S R : Type 0} (wires : List Wire) (old new : List (Task S 
   pub shut : AllShut wires old new
   pub logs_many : length after ≡ length logs
   pub logged : (b : ℕ) (put take : Window) (d : List Answers) → b < length wires → (wire_at wires b).from ≢ (wire_at wires b).to → JoinRan (wire_at wires b) b put take old
-      → slice_index_or after b d ≡ slice_index_or logs b d ++ told (put.answers, take.answers) ∷ []
+      → slice_index_or after b d ≡ slice_index_or logs b d ++ told_of (put.answers, take.answers) ∷ []

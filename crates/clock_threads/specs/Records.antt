@@ -1,5 +1,6 @@
 -- What the clocks have done, window by window.
 use Rattle.std.specs.Prelude.{◌≡◌, ◌≢◌, ◌⊎◌, ◌<◌, ◌+◌, ◌-◌, ◌^◌, ℕ, zero, suc, Option, List, [], ◌∷◌, ◌++◌, length, map, slice_index_or, slice_set}
+use Rattle.liq_base.specs.Pieces.{SinkTold}
 use Rattle.frame_core.specs.declared.cell.Cell.{Cell}
 use Rattle.frame_core.specs.Legal.{IsHistory}
 use Rattle.frame_core.specs.Calls.{Call, takes_of, puts_to}
@@ -10,7 +11,7 @@ use Rattle.buffer_ends.specs.declared.thread_taps.ThreadTaps.{ThreadTaps}
 use Rattle.clock_ticks.specs.Ticks.{HaveTicksRoom}
 use Rattle.clock_ticks.specs.Pieces.{GotPieces}
 use Rattle.run_records.specs.Records.{Window, start}
-use Rattle.buffer_sides.specs.Logs.{told}
+use Rattle.buffer_sides.specs.Logs.{told as told_of}
 use Rattle.clock_threads.specs.declared.task.Task.{Task}
 use Rattle.clock_threads.specs.TickCalls.{TickCalls, joined_from}
 use Rattle.stream_meaning.specs.Calls.{joined_upto}
@@ -40,12 +41,12 @@ pub record IsWired {S R : Type 0} (wires : List Wire) (k : ℕ) (task : Task S (
 
 -- clock k has made so many of N ticks, each of its sinks got a piece for each of them, and its taps stand for the calls on the buffers
 -- that are its own alone
-pub record ClockGoing {S R : Type 0} (held name : S → Option (List ℕ)) (room : S → Option ℕ) (faults : S → ℕ) (appends : S → Option ℕ) (wires : List Wire) (N t k : ℕ) (tick_calls : TickCalls)
+pub record ClockGoing {S R : Type 0} (told : S → SinkTold) (wires : List Wire) (N t k : ℕ) (tick_calls : TickCalls)
     (first now : Task S (ThreadTaps R)) : Type 0 where
-  pub gone : EngineGone held t tick_calls (held_of held first.engine) now.engine
-  pub same : IsSameClock name faults first.engine now.engine
-  pub pieces : GotPieces appends t first.engine.outs now.engine.outs
-  pub rooms : (n : ℕ) → t + n ≡ N → HaveTicksRoom room now.engine.parts now.engine.outs n
+  pub gone : EngineGone told t tick_calls (held_of told first.engine) now.engine
+  pub same : IsSameClock told first.engine now.engine
+  pub pieces : GotPieces told t first.engine.outs now.engine.outs
+  pub rooms : (n : ℕ) → t + n ≡ N → HaveTicksRoom told now.engine.parts now.engine.outs n
   pub wired : IsWired wires k now
   pub stand : EndsStand (put_ends now) (take_ends now) now.taps.local (kept wires k (joined_upto tick_calls.calls t))
   pub lists : length now.taps.local ≡ length wires
@@ -59,21 +60,21 @@ pub record JoinGoing {S R : Type 0} (wire : Wire) (b : ℕ) (windows : List Wind
 
 -- a list with the answers of these windows, each closed
 pub record IsLogged (windows : List Window) (list : LocalBuffer) : Type 0 where
-  pub closed_are : list.closed ≡ map told windows
+  pub closed_are : list.closed ≡ map told_of windows
   pub opens : list.current ≡ no_answers
 
 -- The logs so far: that of a buffer between clocks stands here, and that of a buffer with both ends in one clock in the clock's list.
 pub record LogsGoing {S R : Type 0} (wires : List Wire) (windows : ℕ → List Window) (now : List (Task S (ThreadTaps R))) (logs : List (List Answers)) (d : Task S (ThreadTaps R)) : Type 0 where
   pub many : length logs ≡ length wires
-  pub joined : (b : ℕ) (e : List Answers) → b < length wires → (wire_at wires b).from ≢ (wire_at wires b).to → slice_index_or logs b e ≡ map told (windows b)
+  pub joined : (b : ℕ) (e : List Answers) → b < length wires → (wire_at wires b).from ≢ (wire_at wires b).to → slice_index_or logs b e ≡ map told_of (windows b)
   pub local : (b : ℕ) (e : LocalBuffer) → b < length wires → (wire_at wires b).from ≡ (wire_at wires b).to → IsLogged (windows b) (slice_index_or (slice_index_or now (wire_at wires b).from d).taps.local b e)
 
 -- so many windows were made and closed
-pub record Going {S R : Type 0} (held name : S → Option (List ℕ)) (room : S → Option ℕ) (faults : S → ℕ) (appends : S → Option ℕ) (wires : List Wire) (W N j : ℕ)
+pub record Going {S R : Type 0} (told : S → SinkTold) (wires : List Wire) (W N j : ℕ)
     (first now : List (Task S (ThreadTaps R))) (logs : List (List Answers)) (d : Task S (ThreadTaps R)) : Type 0 where
   pub clock_calls : ℕ → TickCalls
   pub many : length now ≡ length first
-  pub clocks : (k : ℕ) → k < length first → ClockGoing held name room faults appends wires N (start W N j) k (clock_calls k) (slice_index_or first k d) (slice_index_or now k d)
+  pub clocks : (k : ℕ) → k < length first → ClockGoing told wires N (start W N j) k (clock_calls k) (slice_index_or first k d) (slice_index_or now k d)
   pub joins : (b : ℕ) → b < length wires → (wire_at wires b).from ≢ (wire_at wires b).to
       → JoinGoing (wire_at wires b) b (windows_upto (wire_at wires b) clock_calls b W N j) now
   pub logged : LogsGoing wires (λ b. windows_upto (wire_at wires b) clock_calls b W N j) now logs d

@@ -1,12 +1,12 @@
 -- What a task does in a window.
 use Rattle.std.specs.Prelude.{◌≡◌, ◌<◌, ◌≤◌, ◌+◌, Option, Some, None, List, ◌++◌, ℕ, suc, length, slice_get, true}
+use Rattle.liq_base.specs.Pieces.{SinkTold}
 use Rattle.frame_core.specs.Calls.{Call, Answer}
-use Rattle.clock_outputs.specs.Appends.{AreKept, NoneFell, RoseAt}
 use Rattle.clock_ticks.specs.declared.engine.ClockEngine.{ClockEngine}
 use Rattle.clock_ticks.specs.declared.fault.TickFault.TheVariants.{Memory as OutOfMemory, Write}
 use Rattle.clock_ticks.specs.Engines.{EngineStands, EngineStopped, held_of, outputs_of, setting_of}
 use Rattle.clock_ticks.specs.Ticks.{HaveTicksRoom}
-use Rattle.clock_ticks.specs.Pieces.{GotBetween, GotPieces}
+use Rattle.clock_ticks.specs.Pieces.{AreKept, GotBetween, GotPieces, RoseAt}
 use Rattle.clock_threads.specs.declared.task.Task.{Task}
 use Rattle.clock_threads.specs.TickCalls.{TickCalls, joined_from, Agree, HasGone, HasGonePart}
 
@@ -17,20 +17,19 @@ abbrev pub stopped_for : {S : Type 0} → ClockEngine S → ℕ → (ℕ → Lis
 stopped_for e t answers made = EngineStopped e.parts t answers made
 
 -- the same clock of the same plan, with the same sinks
-pub record IsSameClock {S : Type 0} (name : S → Option (List ℕ)) (faults : S → ℕ) (old new : ClockEngine S) : Type 0 where
+pub record IsSameClock {S : Type 0} (told : S → SinkTold) (old new : ClockEngine S) : Type 0 where
   pub setting : setting_of new.parts ≡ setting_of old.parts
   pub clock : new.parts.clock ≡ old.parts.clock
   pub outs : length new.outs ≡ length old.outs
-  pub kept : AreKept name faults old.outs new.outs
-  pub none_fell : NoneFell faults old.outs new.outs
+  pub kept : AreKept told old.outs new.outs
   pub keeping : new.parts.cues.keeping ≡ old.parts.cues.keeping
 
 -- this is the sink of an output of the clock, and its count of faults rose
-pub record IsWriteOf {S : Type 0} (faults : S → ℕ) (sink : ℕ) (old new : ClockEngine S) : Type 0 where
+pub record IsWriteOf {S : Type 0} (told : S → SinkTold) (sink : ℕ) (old new : ClockEngine S) : Type 0 where
   pub place : ℕ
   pub node : ℕ
   pub there : slice_get (outputs_of (setting_of old.parts) old.parts.clock) place ≡ Some (sink, node)
-  pub rose : RoseAt faults place old.outs new.outs
+  pub rose : RoseAt told place old.outs new.outs
 
 -- the engine stands for some ticks and answers
 pub record DoesStand {S : Type 0} (e : ClockEngine S) : Type 0 where
@@ -39,50 +38,50 @@ pub record DoesStand {S : Type 0} (e : ClockEngine S) : Type 0 where
   pub stand : EngineStands e.parts ticks answers
 
 -- it may make so many ticks
-pub record CanRun {S T : Type 0} (room : S → Option ℕ) (buffers : T → ℕ) (count : ℕ) (x : Task S T) : Type 0 where
+pub record CanRun {S T : Type 0} (told : S → SinkTold) (buffers : T → ℕ) (count : ℕ) (x : Task S T) : Type 0 where
   pub many : buffers x.taps ≡ length x.engine.parts.shape.plan.now.buffers
   pub stands : DoesStand x.engine
   pub few : x.engine.parts.ticks + count ≤ 1000000000
-  pub rooms : HaveTicksRoom room x.engine.parts x.engine.outs count
+  pub rooms : HaveTicksRoom told x.engine.parts x.engine.outs count
 
-abbrev pub EngineGone : {S : Type 0} → (S → Option (List ℕ)) → (t : ℕ) → TickCalls → (ℕ → Option (List ℕ)) → ClockEngine S → Type 0
-EngineGone held t tick_calls first e = HasGone (setting_of e.parts) stands_for (held_of held) e.parts.clock t tick_calls first e
+abbrev pub EngineGone : {S : Type 0} → (S → SinkTold) → (t : ℕ) → TickCalls → (ℕ → Option (List ℕ)) → ClockEngine S → Type 0
+EngineGone told t tick_calls first e = HasGone (setting_of e.parts) stands_for (held_of told) e.parts.clock t tick_calls first e
 
-abbrev pub EngineGonePart : {S : Type 0} → (S → Option (List ℕ)) → (t : ℕ) → TickCalls → (ℕ → Option (List ℕ)) → ClockEngine S → Type 0
-EngineGonePart held t tick_calls first e = HasGonePart (setting_of e.parts) stopped_for (held_of held) e.parts.clock t tick_calls first e
+abbrev pub EngineGonePart : {S : Type 0} → (S → SinkTold) → (t : ℕ) → TickCalls → (ℕ → Option (List ℕ)) → ClockEngine S → Type 0
+EngineGonePart told t tick_calls first e = HasGonePart (setting_of e.parts) stopped_for (held_of told) e.parts.clock t tick_calls first e
 
 -- it made all ticks, and each sink got a piece for each of them
-pub record WentOn {S T : Type 0} (held : S → Option (List ℕ)) (appends : S → Option ℕ) (stands : T → List Call → Type 0) (count t : ℕ) (tick_calls : TickCalls) (first : ℕ → Option (List ℕ))
+pub record WentOn {S T : Type 0} (told : S → SinkTold) (stands : T → List Call → Type 0) (count t : ℕ) (tick_calls : TickCalls) (first : ℕ → Option (List ℕ))
     (old new : Task S T) : Type 0 where
   pub after : TickCalls
   pub agree : Agree t tick_calls after
-  pub gone : EngineGone held (t + count) after first new.engine
-  pub pieces : GotPieces appends count old.engine.outs new.engine.outs
+  pub gone : EngineGone told (t + count) after first new.engine
+  pub pieces : GotPieces told count old.engine.outs new.engine.outs
   pub taps : (calls : List Call) → stands old.taps calls → stands new.taps (calls ++ joined_from after.calls t count)
 
 -- it stopped in a tick of this window, after these calls; each sink got a piece for each tick before it, and at most one in it
-pub record Halted {S T : Type 0} (held : S → Option (List ℕ)) (appends : S → Option ℕ) (stands : T → List Call → Type 0) (count t : ℕ) (tick_calls : TickCalls) (first : ℕ → Option (List ℕ))
+pub record Halted {S T : Type 0} (told : S → SinkTold) (stands : T → List Call → Type 0) (count t : ℕ) (tick_calls : TickCalls) (first : ℕ → Option (List ℕ))
     (old new : Task S T) : Type 0 where
   pub made : ℕ
   pub fewer : made < count
   pub after : TickCalls
   pub agree : Agree t tick_calls after
-  pub part : EngineGonePart held (t + made) after first new.engine
-  pub pieces : GotBetween appends made (suc made) old.engine.outs new.engine.outs
+  pub part : EngineGonePart told (t + made) after first new.engine
+  pub pieces : GotBetween told made (suc made) old.engine.outs new.engine.outs
   pub taps : (calls : List Call) → stands old.taps calls → stands new.taps (calls ++ (joined_from after.calls t made ++ part.made))
 
-pub record RanTask {S T : Type 0} (held : S → Option (List ℕ)) (appends : S → Option ℕ) (stands : T → List Call → Type 0) (count : ℕ) (old new : Task S T) : Type 0 where
-  pub on : (t : ℕ) (tick_calls : TickCalls) (first : ℕ → Option (List ℕ)) → EngineGone held t tick_calls first old.engine → new.engine.parts.stopped ≡ None
-      → WentOn held appends stands count t tick_calls first old new
-  pub halted : (t : ℕ) (tick_calls : TickCalls) (first : ℕ → Option (List ℕ)) → EngineGone held t tick_calls first old.engine → (new.engine.parts.stopped ≡ None → ⊥)
-      → Halted held appends stands count t tick_calls first old new
+pub record RanTask {S T : Type 0} (told : S → SinkTold) (stands : T → List Call → Type 0) (count : ℕ) (old new : Task S T) : Type 0 where
+  pub on : (t : ℕ) (tick_calls : TickCalls) (first : ℕ → Option (List ℕ)) → EngineGone told t tick_calls first old.engine → new.engine.parts.stopped ≡ None
+      → WentOn told stands count t tick_calls first old new
+  pub halted : (t : ℕ) (tick_calls : TickCalls) (first : ℕ → Option (List ℕ)) → EngineGone told t tick_calls first old.engine → (new.engine.parts.stopped ≡ None → ⊥)
+      → Halted told stands count t tick_calls first old new
 
-pub record WasRun {S T : Type 0} (held name : S → Option (List ℕ)) (room : S → Option ℕ) (faults : S → ℕ) (appends : S → Option ℕ) (stands : T → List Call → Type 0) (buffers : T → ℕ) (same : T → T → Type 0)
+pub record WasRun {S T : Type 0} (told : S → SinkTold) (stands : T → List Call → Type 0) (buffers : T → ℕ) (same : T → T → Type 0)
     (count : ℕ) (old new : Task S T) : Type 0 where
-  pub clock : IsSameClock name faults old.engine new.engine
+  pub clock : IsSameClock told old.engine new.engine
   pub taps : same old.taps new.taps
   pub many : buffers new.taps ≡ buffers old.taps
-  pub ran : RanTask held appends stands count old new
-  pub write : (sink : ℕ) → new.engine.parts.stopped ≡ Some (Write sink) → IsWriteOf faults sink old.engine new.engine
-  pub rooms : (n : ℕ) → new.engine.parts.stopped ≡ None → HaveTicksRoom room old.engine.parts old.engine.outs (n + count) → HaveTicksRoom room new.engine.parts new.engine.outs n
+  pub ran : RanTask told stands count old new
+  pub write : (sink : ℕ) → new.engine.parts.stopped ≡ Some (Write sink) → IsWriteOf told sink old.engine new.engine
+  pub rooms : (n : ℕ) → new.engine.parts.stopped ≡ None → HaveTicksRoom told old.engine.parts old.engine.outs (n + count) → HaveTicksRoom told new.engine.parts new.engine.outs n
   pub memory : (old.engine.parts.cues.keeping ≡ true → ⊥) → new.engine.parts.stopped ≡ Some OutOfMemory → 0 < length old.engine.parts.shape.plan.now.buffers

@@ -1,14 +1,15 @@
 -- Engines over a plan without buffers.
 use Rattle.std.specs.Prelude.{◌≡◌, ℕ, Option, List, length}
+use Rattle.liq_base.specs.Pieces.{SinkTold}
 use Rattle.plan_core.specs.declared.plan.Plan.{Plan}
 use Rattle.clock_infer.specs.declared.clock_map.ClockMap.{ClockMap}
 use Rattle.stream_meaning.specs.Instants.{Setting}
 use Rattle.clock_ticks.specs.declared.engine.ClockEngine.{ClockEngine}
 use Rattle.clock_threads.specs.ThreadRuns.{AreEngines}
 
-pub record AreUnbuffered {S : Type 0} (room : S → Option ℕ) (N : ℕ) (engines : List (ClockEngine S)) : Type 0 where
+pub record AreUnbuffered {S : Type 0} (told : S → SinkTold) (N : ℕ) (engines : List (ClockEngine S)) : Type 0 where
   pub plan : Plan
   pub setting : Setting
   pub clocks : ClockMap
   pub none : length plan.buffers ≡ 0
-  pub are : AreEngines room plan clocks N setting engines
+  pub are : AreEngines told plan clocks N setting engines

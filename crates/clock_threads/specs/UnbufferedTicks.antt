@@ -1,5 +1,6 @@
 -- Engines over a plan without buffers: each stands for a task with taps of no buffer.
 use Rattle.std.specs.Prelude.{ℕ, Option, List, ⊤}
+use Rattle.liq_base.specs.Pieces.{SinkTold}
 use Rattle.frame_core.specs.Calls.{Call}
 use Rattle.clock_ticks.specs.declared.engine.ClockEngine.{ClockEngine}
 use Rattle.clock_threads.specs.declared.task.Task.{Task}
@@ -19,9 +20,9 @@ abbrev pub any_taps : ⊤ → ⊤ → Type 0
 any_taps old new = ⊤
 
 -- it may make so many ticks
-abbrev pub CanRunUnbuffered : {S : Type 0} → (S → Option ℕ) → (count : ℕ) → ClockEngine S → Type 0
-CanRunUnbuffered room count engine = CanRun room no_buffers count (with_taps tt engine)
+abbrev pub CanRunUnbuffered : {S : Type 0} → (told : S → SinkTold) → (count : ℕ) → ClockEngine S → Type 0
+CanRunUnbuffered told count engine = CanRun told no_buffers count (with_taps tt engine)
 
 -- what it did
-abbrev pub WasRunUnbuffered : {S : Type 0} → (held name : S → Option (List ℕ)) → (S → Option ℕ) → (S → ℕ) → (S → Option ℕ) → (count : ℕ) → (old new : ClockEngine S) → Type 0
-WasRunUnbuffered held name room faults appends count old new = WasRun held name room faults appends any_calls no_buffers any_taps count (with_taps tt old) (with_taps tt new)
+abbrev pub WasRunUnbuffered : {S : Type 0} → (told : S → SinkTold) → (count : ℕ) → (old new : ClockEngine S) → Type 0
+WasRunUnbuffered told count old new = WasRun told any_calls no_buffers any_taps count (with_taps tt old) (with_taps tt new)

@@ -31,14 +31,14 @@ pub fn run_threads<'a, O: Sink + Send, G: Gate + Sync, R: Threads + Wait + Sync>
     window: u64,
     gate: &G,
 ) -> (Vec<ClockEngine<'a, O>>, RunEnd)
-    requires engines { AreAlike O.room plan.now clocks.now ticks engines.items }
+    requires engines { AreAlike O.told plan.now clocks.now ticks engines.items }
     requires few { ticks ≤ 1000000000 }
     requires window { 0 < window }
     ensures many { length result.0.items ≡ length engines.entry.items }
-    ensures done { result.1.end ≡ Done → (setting : Setting) → AreEngines O.room plan.now clocks.now ticks setting engines.entry.items
-        → HasRunAll O.held O.name O.faults O.appends setting clocks.now window ticks engines.entry.items result.0.items result.1.counts.items result.1.logs.items }
-    ensures part { (setting : Setting) → AreEngines O.room plan.now clocks.now ticks setting engines.entry.items
-        → HasRunSome O.held O.name O.faults O.appends setting clocks.now window ticks engines.entry.items result.0.items result.1.end }
+    ensures done { result.1.end ≡ Done → (setting : Setting) → AreEngines O.told plan.now clocks.now ticks setting engines.entry.items
+        → HasRunAll O.told setting clocks.now window ticks engines.entry.items result.0.items result.1.counts.items result.1.logs.items }
+    ensures part { (setting : Setting) → AreEngines O.told plan.now clocks.now ticks setting engines.entry.items
+        → HasRunSome O.told setting clocks.now window ticks engines.entry.items result.0.items result.1.end }
     ensures memory { All (λ engine. engine.parts.cues.keeping ≡ true → ⊥) engines.entry.items → result.1.end ≡ NoMemory → 0 < length plan.now.buffers }
 {
     if engines.is_empty() {

@@ -21,8 +21,8 @@ pub(crate) fn run_ticks<O: Sink, T: Taps, G: Gate>(
     gate: &G,
     count: u64,
 )
-    requires { CanRun O.room T.buffers count (with_taps taps.old engine.old) }
-    ensures { WasRun O.held O.name O.room O.faults O.appends T.stands T.buffers T.same count (with_taps taps.old engine.old) (with_taps taps.new engine.new) }
+    requires { CanRun O.told T.buffers count (with_taps taps.old engine.old) }
+    ensures { WasRun O.told T.stands T.buffers T.same count (with_taps taps.old engine.old) (with_taps taps.new engine.new) }
 {
     for _ in 0..count {
         gate.enter(engine.clock(), engine.ticks());
@@ -35,8 +35,8 @@ pub(crate) fn run_ticks<O: Sink, T: Taps, G: Gate>(
 impl<'a, O: Sink, T: Taps> Task<'a, O, T> {
     /// So many ticks, each after the gate. A clock with a fault stops at its tick.
     pub fn run<G: Gate>(&mut self, alloc: Global, gate: &G, count: u64)
-        requires { CanRun O.room T.buffers count self.old }
-        ensures { WasRun O.held O.name O.room O.faults O.appends T.stands T.buffers T.same count self.old self.new }
+        requires { CanRun O.told T.buffers count self.old }
+        ensures { WasRun O.told T.stands T.buffers T.same count self.old self.new }
     {
         run_ticks(alloc, &mut self.engine, &mut self.taps, gate, count);
     }

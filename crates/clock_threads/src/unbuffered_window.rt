@@ -46,8 +46,8 @@ fn run_unbuffered_ticks<O: Sink, G: Gate>(
     gate: &G,
     count: u64,
 )
-    requires { CanRunUnbuffered O.room count engine.old }
-    ensures { WasRunUnbuffered O.held O.name O.room O.faults O.appends count engine.old engine.new }
+    requires { CanRunUnbuffered O.told count engine.old }
+    ensures { WasRunUnbuffered O.told count engine.old engine.new }
 {
     run_ticks(
         alloc,
@@ -67,8 +67,8 @@ pub fn run_unbuffered_window<O: Sink + Send, G: Gate + Sync, R: Threads + Sync>(
     count: u64,
 )
     requires some { 0 < length engines.old }
-    requires can { All (CanRunUnbuffered O.room count) engines.old }
-    ensures ran { (i : ℕ) (d : _) → i < length engines.old → WasRunUnbuffered O.held O.name O.room O.faults O.appends count (slice_index_or engines.old i d) (slice_index_or engines.new i d) }
+    requires can { All (CanRunUnbuffered O.told count) engines.old }
+    ensures ran { (i : ℕ) (d : _) → i < length engines.old → WasRunUnbuffered O.told count (slice_index_or engines.old i d) (slice_index_or engines.new i d) }
 {
     thread::for_each_mut(
         rt,

@@ -35,13 +35,13 @@ pub fn run_unbuffered_windows<O: Sink + Send, G: Gate + Sync, R: Threads + Sync>
     window: u64,
     gate: &G,
 ) -> End
-    requires ready { IsReady O.held O.name O.room O.faults O.appends [] window ticks (unbuffered_tasks engines.old) [] }
+    requires ready { IsReady O.told [] window ticks (unbuffered_tasks engines.old) [] }
     requires few { ticks ≤ 1000000000 }
     requires window { 0 < window }
     ensures many { length engines.new ≡ length engines.old }
-    ensures done { result ≡ Done → RunDone O.held O.name O.room O.faults O.appends [] window ticks (unbuffered_tasks engines.old) (unbuffered_tasks engines.new) [] }
-    ensures part { RunPart O.held O.name O.faults O.appends [] window ticks (unbuffered_tasks engines.old) (unbuffered_tasks engines.new) }
-    ensures write { (clock sink : ℕ) → result ≡ Write clock sink → IsWriteAt O.faults clock sink (unbuffered_tasks engines.old) (unbuffered_tasks engines.new) }
+    ensures done { result ≡ Done → RunDone O.told [] window ticks (unbuffered_tasks engines.old) (unbuffered_tasks engines.new) [] }
+    ensures part { RunPart O.told [] window ticks (unbuffered_tasks engines.old) (unbuffered_tasks engines.new) }
+    ensures write { (clock sink : ℕ) → result ≡ Write clock sink → IsWriteAt O.told clock sink (unbuffered_tasks engines.old) (unbuffered_tasks engines.new) }
     ensures memory { All (λ engine. engine.parts.cues.keeping ≡ true → ⊥) engines.old → result ≢ Memory }
 {
     let mut made = 0;

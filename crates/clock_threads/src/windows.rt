@@ -60,12 +60,12 @@ pub fn run_windows<O: Sink + Send, G: Gate + Sync, R: Threads + Wait + Sync>(
     window: u64,
     gate: &G,
 ) -> End
-    requires ready { IsReady O.held O.name O.room O.faults O.appends wires.now window ticks tasks.old logs.old }
+    requires ready { IsReady O.told wires.now window ticks tasks.old logs.old }
     requires few { ticks ≤ 1000000000 }
     requires window { 0 < window }
-    ensures done { result ≡ Done → RunDone O.held O.name O.room O.faults O.appends wires.now window ticks tasks.old tasks.new logs.new }
-    ensures part { RunPart O.held O.name O.faults O.appends wires.now window ticks tasks.old tasks.new }
-    ensures write { (clock sink : ℕ) → result ≡ Write clock sink → IsWriteAt O.faults clock sink tasks.old tasks.new }
+    ensures done { result ≡ Done → RunDone O.told wires.now window ticks tasks.old tasks.new logs.new }
+    ensures part { RunPart O.told wires.now window ticks tasks.old tasks.new }
+    ensures write { (clock sink : ℕ) → result ≡ Write clock sink → IsWriteAt O.told clock sink tasks.old tasks.new }
 {
     tell_joins(wires, gate);
     let mut made = 0;

@@ -44,15 +44,15 @@ fn run_tasks<'q, O: Sink + Send, G: Gate + Sync, R: Threads + Wait + Sync>(
     requires queues { AreQueues wires.now (length wires.now) queues.now.items passes.items }
     requires wires { AreLaid plan.now (length tasks.old) wires.now }
     requires tasks { AreTasks plan.now (map engine_of tasks.old) tasks.old }
-    requires fresh { AreSomeFresh O.room plan.now wires.now ticks (map engine_of tasks.old) }
+    requires fresh { AreSomeFresh O.told plan.now wires.now ticks (map engine_of tasks.old) }
     requires logs { AreNoLogs (length wires.now) logs.old }
     requires few { ticks ≤ 1000000000 }
     requires window { 0 < window }
     ensures many { length tasks.new ≡ length tasks.old }
-    ensures done { result ≡ Done → (setting : Setting) (clocks : Map) → AreFresh O.room plan.now wires.now ticks setting clocks (map engine_of tasks.old)
-        → HasRunTasks O.held O.name O.faults O.appends wires.now setting clocks window ticks (map engine_of tasks.old) tasks.new logs.new }
-    ensures part { (setting : Setting) (clocks : Map) → AreFresh O.room plan.now wires.now ticks setting clocks (map engine_of tasks.old)
-        → HasRunSome O.held O.name O.faults O.appends setting clocks window ticks (map engine_of tasks.old) (map engine_of tasks.new) result }
+    ensures done { result ≡ Done → (setting : Setting) (clocks : Map) → AreFresh O.told plan.now wires.now ticks setting clocks (map engine_of tasks.old)
+        → HasRunTasks O.told wires.now setting clocks window ticks (map engine_of tasks.old) tasks.new logs.new }
+    ensures part { (setting : Setting) (clocks : Map) → AreFresh O.told plan.now wires.now ticks setting clocks (map engine_of tasks.old)
+        → HasRunSome O.told setting clocks window ticks (map engine_of tasks.old) (map engine_of tasks.new) result }
 {
     if let Err(Memory) = join_all(wires, queues, passes, tasks) {
         return End::Memory;
@@ -99,14 +99,14 @@ pub(crate) fn run_wired<'a, O: Sink + Send, G: Gate + Sync, R: Threads + Wait + 
 ) -> RunEnd
     requires some { 0 < length engines.old.items }
     requires wires { AreLaid plan.now (length engines.old.items) wires.now }
-    requires fresh { AreSomeFresh O.room plan.now wires.now ticks engines.old.items }
+    requires fresh { AreSomeFresh O.told plan.now wires.now ticks engines.old.items }
     requires few { ticks ≤ 1000000000 }
     requires window { 0 < window }
     ensures many { length engines.new.items ≡ length engines.old.items }
-    ensures done { result.end ≡ Done → (setting : Setting) (clocks : Map) → AreFresh O.room plan.now wires.now ticks setting clocks engines.old.items
-        → HasRunAll O.held O.name O.faults O.appends setting clocks window ticks engines.old.items engines.new.items result.counts.items result.logs.items }
-    ensures part { (setting : Setting) (clocks : Map) → AreFresh O.room plan.now wires.now ticks setting clocks engines.old.items
-        → HasRunSome O.held O.name O.faults O.appends setting clocks window ticks engines.old.items engines.new.items result.end }
+    ensures done { result.end ≡ Done → (setting : Setting) (clocks : Map) → AreFresh O.told plan.now wires.now ticks setting clocks engines.old.items
+        → HasRunAll O.told setting clocks window ticks engines.old.items engines.new.items result.counts.items result.logs.items }
+    ensures part { (setting : Setting) (clocks : Map) → AreFresh O.told plan.now wires.now ticks setting clocks engines.old.items
+        → HasRunSome O.told setting clocks window ticks engines.old.items engines.new.items result.end }
 {
     let Ok(mut logs) = no_logs(alloc, wires.len()) else {
         return ended(alloc, End::Memory);

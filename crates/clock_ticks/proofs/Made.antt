@@ -5,7 +5,7 @@ use Rattle.std.proofs.Math.Nat.{suc-mul}
 use Rattle.std.proofs.lemmas.Bool.{true≢false}
 use Rattle.std.proofs.lemmas.List.{append-nil, get_or_default, get_or-map, length-map, map-append}
 use Rattle.std.proofs.lemmas.Option.{none-some, slice_get_read, slice_get_within}
-use Rattle.liq_base.specs.Pieces.{HasRoom, IsPrefix, grown, narrowed}
+use Rattle.liq_base.specs.Pieces.{HasRoom, IsPrefix, SinkTold, grown, narrowed}
 use Rattle.clock_infer.specs.declared.clock_map.NodeClock.TheVariants.{Main}
 use Rattle.frame_core.specs.Slots.{Slot}
 use Rattle.frame_core.specs.Calls.{Call, Answer}
@@ -20,7 +20,7 @@ use Rattle.clock_outputs.specs.declared.port.Port.{Port}
 use Rattle.clock_outputs.specs.declared.feed.FeedPort.{FeedPort}
 use Rattle.clock_outputs.specs.Feeds.{HaveGiven, HaveGivenSome, HaveOwnBuffers, given_by}
 use Rattle.clock_outputs.specs.Ports.{after_slots, emptied}
-use Rattle.clock_outputs.specs.Appends.{HaveRoom, TookAll, TookParts}
+use Rattle.clock_outputs.specs.Appends.{BrokeAt, HaveRoom, TookAll}
 use Rattle.clock_ticks.specs.Standing.{IsClockState, ClockStateStands}
 use Rattle.clock_ticks.specs.Hearings.{HasMadeInstants, Heard, HeardSome, IsMeant, with_slots}
 use Rattle.clock_ticks.specs.declared.cues.CueList.{CueList}
@@ -29,11 +29,12 @@ use Rattle.clock_ticks.proofs.Cueing.{AreHeld, its_port, taken_before, there_is}
 use Rattle.clock_ticks.specs.declared.engine.EngineParts.{EngineParts}
 use Rattle.clock_ticks.specs.declared.fault.TickFault.{TickFault}
 use Rattle.clock_ticks.specs.Engines.{AreParts, EngineStands, EngineStopped, after_tick, feed_of, feeds_of, held_in, output_of, outputs_of, scene_of, setting_of}
-use Rattle.clock_ticks.specs.Ticks.{HasFailed, HaveTickRoom, RoomsFell, HaveTicksRoom, piece_size}
+use Rattle.clock_ticks.specs.Ticks.{HasFailed, HaveTickRoom, HaveTicksRoom, TookTick, piece_size}
 use Rattle.clock_ticks.proofs.Giving.{gives_are, gives_flat}
 use Rattle.clock_ticks.proofs.Filling.{filled_before, filled_kind, filled_long, filled_room, filled_sink, filled_wide}
 use Rattle.clock_ticks.proofs.Numbered.{all_at, from_mapped, got_mapped, output_wide, port_inside, port_node}
-use Rattle.clock_ticks.proofs.Holding.{GrewPart, held_grew, held_part}
+use Rattle.clock_ticks.proofs.Holding.{GrewPart, held_grew, held_part, parts_grew}
+use Rattle.clock_ticks.proofs.Pieces.{some_one, there}
 use Rattle.clock_ticks.proofs.Mapped.{goes_down, meaning_of}
 use Rattle.clock_ticks.proofs.Feeding.{feed_inside, own_buffers, own_readers}
 use Rattle.clock_ticks.proofs.Rooted.{feed_root, port_root}
@@ -158,12 +159,12 @@ module _ (parts other : EngineParts) (fit : AreParts parts)
   }
 
   -- what it owes then
-  pub failed_by : {X T : Type 0} (held : X → Option (List ℕ)) (stands_for : T → List Call → Type 0) (old new : List X) (a c : T) (made : List Call) (fault : TickFault) → AreHeld parts.cues other.cues
+  pub failed_by : {X T : Type 0} (told : X → SinkTold) (stands_for : T → List Call → Type 0) (old new : List X) (a c : T) (made : List Call) (fault : TickFault) → AreHeld parts.cues other.cues
       → ((t : ℕ) (answers : ℕ → List Answer) → EngineStands parts t answers
-      → HasStopped (setting_of parts) parts.clock t answers made (held_in held (outputs_of (setting_of parts) parts.clock) old) (held_in held (outputs_of (setting_of parts) parts.clock) new))
+      → HasStopped (setting_of parts) parts.clock t answers made (held_in told (outputs_of (setting_of parts) parts.clock) old) (held_in told (outputs_of (setting_of parts) parts.clock) new))
       → ((calls : List Call) → stands_for a calls → stands_for c (calls ++ made))
-      → HasFailed held stands_for parts (after_tick parts other parts.ticks (Some fault)) old new a c
-  failed_by held stands_for old new a c made fault marks stopped taps = record {
+      → HasFailed told stands_for parts (after_tick parts other parts.ticks (Some fault)) old new a c
+  failed_by told stands_for old new a c made fault marks stopped taps = record {
     made = made;
     engine = λ t answers stands. stopped t answers stands;
     halted = λ t answers stands. halted_by t answers made _ _ fault marks stands (stopped t answers stands);
@@ -195,11 +196,11 @@ module _ (parts other : EngineParts) (fit : AreParts parts)
         ∙ ap (λ q. parts.shape.plan.now.frame * block_length (is_wide (setting_of parts) port.sink) q) (all_at (λ p. p.kind ≡ kind_of (setting_of parts) p.node) parts.ports.items fit.kinds k port at)
 
     -- the pieces have room where pieces of a tick have
-    pub have_room : {S : Type 0} (room : S → Option ℕ) (outs : List S) → HaveTickRoom room parts outs → HaveRoom room other.ports.items outs
-    have_room room outs tick = record {
+    pub have_room : {S : Type 0} (told : S → SinkTold) (outs : List S) → HaveTickRoom told parts outs → HaveRoom told other.ports.items outs
+    have_room told outs tick = record {
       each = λ k port out at_port at_out.
           let found = port_before k port at_port in
-          subst (λ n. HasRoom (room out) n) (sym (ap (λ p. length p.piece.bytes) found.2 ∙ size_is k found.0 found.1))
+          subst (λ n. HasRoom (told out).room n) (sym (ap (λ p. length p.piece.bytes) found.2 ∙ size_is k found.0 found.1))
           (tick.each k found.0.sink found.0.node out (ap (λ xs. slice_get xs k) (sym fit.outputs) ∙ got_mapped output_of parts.ports.items k found.0 found.1) at_out);
     }
 
@@ -213,20 +214,24 @@ module _ (parts other : EngineParts) (fit : AreParts parts)
           size_is k its.0 its.1 ∙ ap (λ o. piece_size (setting_of parts) o.0 o.1) its.2,
         )
 
-    pub rooms_fell : {S : Type 0} (held : S → Option (List ℕ)) (room : S → Option ℕ) (old new : List S) → TookAll held room other.ports.items (length other.ports.items) old new
-        → RoomsFell room parts old new
-    rooms_fell held room old new took = record {
-      each = λ k sink node before after at_output at_old at_new.
-          let its = output_port k sink node at_output in
-          (took.each k (hear its.0) before after (slice_get_within other.ports.items k (hear its.0) its.1) its.1 at_old at_new).room_fell
-          ∙ ap (λ n. narrowed n (room before)) its.2;
+    -- each sink took the piece of the tick
+    pub took_tick : {S : Type 0} (told : S → SinkTold) (old new : List S) → length old ≡ length other.ports.items → TookAll told other.ports.items (length other.ports.items) old new
+        → TookTick told parts old new
+    took_tick told old new old_size took = record {
+      each = λ k before after was is.
+          let within : k < length other.ports.items = (let low = slice_get_within old k before was in omega (arith, low, old_size)) in
+          let its = there other.ports.items k within in
+          let output = output_at k its.0 its.1 in
+          let known = output_port k its.0.sink output.0 output.1 in
+          let same : its.0 ≡ hear known.0 = some_one its.1 known.1 in
+          (its.0.sink, output.0, output.1, its.0.piece.bytes, ap (λ p. length p.piece.bytes) same ∙ known.2, took.each k its.0 before after within its.1 was is);
     }
 
     -- what the sinks took in the tick is off the room for so many ticks
-    pub room_after : {S : Type 0} (held : S → Option (List ℕ)) (room : S → Option ℕ) (old new : List S) → length old ≡ length parts.ports.items → length new ≡ length old
-        → TookAll held room other.ports.items (length other.ports.items) old new
-        → (stopped : Option TickFault) (count ticks : ℕ) → HaveTicksRoom room parts old (ticks + 1) → HaveTicksRoom room (after_tick parts other count stopped) new ticks
-    room_after held room old new old_size new_size took stopped count ticks all = record {
+    pub room_after : {S : Type 0} (told : S → SinkTold) (old new : List S) → length old ≡ length parts.ports.items → length new ≡ length old
+        → TookAll told other.ports.items (length other.ports.items) old new
+        → (stopped : Option TickFault) (count ticks : ℕ) → HaveTicksRoom told parts old (ticks + 1) → HaveTicksRoom told (after_tick parts other count stopped) new ticks
+    room_after told old new old_size new_size took stopped count ticks all = record {
       each = λ k sink node out at_output at_out.
           let its = output_port k sink node at_output in
           let within : k < length old = (let here = slice_get_within new k out at_out in omega (arith, here, new_size)) in
@@ -234,8 +239,8 @@ module _ (parts other : EngineParts) (fit : AreParts parts)
           let was : slice_get old k ≡ Some before = slice_get_read old (length old) k before refl within (get_or_default old k out before within) in
           let fell = (took.each k (hear its.0) before out (slice_get_within other.ports.items k (hear its.0) its.1) its.1 was at_out).room_fell in
           subst (λ r. HasRoom r (ticks * piece_size (setting_of parts) sink node)) (sym fell)
-          (subst (λ n. HasRoom (narrowed n (room before)) (ticks * piece_size (setting_of parts) sink node)) (sym its.2)
-          (room_less (room before) ticks (piece_size (setting_of parts) sink node) (all.each k sink node before at_output was)));
+          (subst (λ n. HasRoom (narrowed n (told before).room) (ticks * piece_size (setting_of parts) sink node)) (sym its.2)
+          (room_less (told before).room ticks (piece_size (setting_of parts) sink node) (all.each k sink node before at_output was)));
     }
 
 filled_whole : (slots frame : List Slot) → length slots ≡ length frame → slots ++ drop (length slots) frame ≡ slots
@@ -430,29 +435,29 @@ module _ (parts other : EngineParts) (fit : AreParts parts) {T : Type 0} (stands
           ∙ ap (λ W. map mark_of (cues W port.node (suc t))) (world_is (setting_of parts) answers all_calls rest);
     }
 
-    pub has_ticked : {X : Type 0} (held : X → Option (List ℕ)) (room : X → Option ℕ) (old new : List X) → length old ≡ length parts.ports.items → length new ≡ length old
-        → TookAll held room other.ports.items (length other.ports.items) old new
+    pub has_ticked : {X : Type 0} (told : X → SinkTold) (old new : List X) → length old ≡ length parts.ports.items → length new ≡ length old
+        → TookAll told other.ports.items (length other.ports.items) old new
         → HasTicked (EngineStands (after_tick parts other (parts.ticks + 1) parts.stopped)) (setting_of parts) parts.clock t answers all_calls
-        (held_in held (outputs_of (setting_of parts) parts.clock) old) (held_in held (outputs_of (setting_of parts) parts.clock) new)
-    has_ticked held room old new old_size new_size took =
+        (held_in told (outputs_of (setting_of parts) parts.clock) old) (held_in told (outputs_of (setting_of parts) parts.clock) new)
+    has_ticked told old new old_size new_size took =
         let in_ports : length other.ports.items ≡ length parts.ports.items = ap length heard.ports_are ∙ length-map parts.ports.items (λ port. after_slots (emptied port) (heard.slots port.node)) in
         record {
           accepted = given.accepted;
           are = calls_are_tick;
           stand = stands_after;
           grew = λ rest sink node output.
-              subst (λ os. held_in held os new sink ≡ grown (tick_bytes (with_rest (setting_of parts) (after_calls answers all_calls) rest) output.wide node t) (held_in held os old sink)) outputs_are
-              (held_grew held room sink (tick_bytes (with_rest (setting_of parts) (after_calls answers all_calls) rest) output.wide node t) other.ports.items old new
+              subst (λ os. held_in told os new sink ≡ grown (tick_bytes (with_rest (setting_of parts) (after_calls answers all_calls) rest) output.wide node t) (held_in told os old sink)) outputs_are
+              (held_grew told sink (tick_bytes (with_rest (setting_of parts) (after_calls answers all_calls) rest) output.wide node t) other.ports.items old new
               (old_size ∙ sym in_ports) (new_size ∙ old_size ∙ sym in_ports)
               (λ k port at same. bytes_after (behind_calls all_calls rest) (has_first rest) sink node output k port at same
               ∙ ap (λ W. tick_bytes W output.wide node t) (world_is (setting_of parts) answers all_calls rest)) took.each);
         }
 
   -- an output failed: no chunk was given
-  pub has_stopped : {X : Type 0} (held : X → Option (List ℕ)) (room : X → Option ℕ) (old new : List X) → length old ≡ length parts.ports.items → length new ≡ length old
-      → TookParts held room other.ports.items old new
-      → HasStopped (setting_of parts) parts.clock t answers heard.more (held_in held (outputs_of (setting_of parts) parts.clock) old) (held_in held (outputs_of (setting_of parts) parts.clock) new)
-  has_stopped held room old new old_size new_size took =
+  pub has_stopped : {X : Type 0} (told : X → SinkTold) (old new : List X) → length old ≡ length parts.ports.items → length new ≡ length old
+      → (place : ℕ) → BrokeAt told place other.ports.items old new
+      → HasStopped (setting_of parts) parts.clock t answers heard.more (held_in told (outputs_of (setting_of parts) parts.clock) old) (held_in told (outputs_of (setting_of parts) parts.clock) new)
+  has_stopped told old new old_size new_size place broke =
       let in_ports : length other.ports.items ≡ length parts.ports.items = ap length heard.ports_are ∙ length-map parts.ports.items (λ port. after_slots (emptied port) (heard.slots port.node)) in
       record {
         accepted = λ buffer. true;
@@ -463,10 +468,10 @@ module _ (parts other : EngineParts) (fit : AreParts parts) {T : Type 0} (stands
             (subst (λ (cs : List Call). IsBegin heard.more cs) (takes_are (behind_calls heard.more rest) (world_has (setting_of parts) answers heard.more rest)) (begin_all heard.more)));
         part = λ rest sink node output.
             let S = with_rest (setting_of parts) answers (behind_calls heard.more rest) in
-            let grew = subst (λ os. GrewPart held room sink (tick_bytes S output.wide node t) (held_in held os old sink) (held_in held os new sink)) outputs_are
-            (held_part held room sink (tick_bytes S output.wide node t) other.ports.items old new
+            let grew = subst (λ os. GrewPart (tick_bytes S output.wide node t) (held_in told os old sink) (held_in told os new sink)) outputs_are
+            (held_part told sink (tick_bytes S output.wide node t) other.ports.items old new
             (old_size ∙ sym in_ports) (new_size ∙ old_size ∙ sym in_ports)
-            (λ k port at same. bytes_after (behind_calls heard.more rest) (world_has (setting_of parts) answers heard.more rest) sink node output k port at same) took.each) in (
+            (λ k port at same. bytes_after (behind_calls heard.more rest) (world_has (setting_of parts) answers heard.more rest) sink node output k port at same) (parts_grew told place other.ports.items old new broke)) in (
               grew.part,
               subst (λ W. IsPrefix grew.part (tick_bytes W output.wide node t)) (world_is (setting_of parts) answers heard.more rest) grew.front,
               grew.is,
@@ -474,10 +479,10 @@ module _ (parts other : EngineParts) (fit : AreParts parts) {T : Type 0} (stands
       }
 
   -- memory was refused at a feed: the outputs are whole
-  pub has_stopped_giving : {X : Type 0} (held : X → Option (List ℕ)) (room : X → Option ℕ) (old new : List X) → length old ≡ length parts.ports.items → length new ≡ length old
-      → TookAll held room other.ports.items (length other.ports.items) old new → (c : T) (some : HaveGivenSome stands_for other.feeds.items b c)
-      → HasStopped (setting_of parts) parts.clock t answers (heard.more ++ some.made) (held_in held (outputs_of (setting_of parts) parts.clock) old) (held_in held (outputs_of (setting_of parts) parts.clock) new)
-  has_stopped_giving held room old new old_size new_size took c some =
+  pub has_stopped_giving : {X : Type 0} (told : X → SinkTold) (old new : List X) → length old ≡ length parts.ports.items → length new ≡ length old
+      → TookAll told other.ports.items (length other.ports.items) old new → (c : T) (some : HaveGivenSome stands_for other.feeds.items b c)
+      → HasStopped (setting_of parts) parts.clock t answers (heard.more ++ some.made) (held_in told (outputs_of (setting_of parts) parts.clock) old) (held_in told (outputs_of (setting_of parts) parts.clock) new)
+  has_stopped_giving told old new old_size new_size took c some =
       let in_ports : length other.ports.items ≡ length parts.ports.items = ap length heard.ports_are ∙ length-map parts.ports.items (λ port. after_slots (emptied port) (heard.slots port.node)) in
       let made = heard.more ++ some.made in
       let first : (rest : ℕ → List Answer) → HasAnswers (with_rest (setting_of parts) answers (behind_calls made rest)) (after_calls answers heard.more) =
@@ -494,8 +499,8 @@ module _ (parts other : EngineParts) (fit : AreParts parts) {T : Type 0} (stands
             let S = with_rest (setting_of parts) answers (behind_calls made rest) in (
               tick_bytes (with_rest (setting_of parts) (after_calls answers made) rest) output.wide node t,
               record { rest = []; whole_is = sym (append-nil (tick_bytes (with_rest (setting_of parts) (after_calls answers made) rest) output.wide node t)) },
-              subst (λ os. held_in held os new sink ≡ grown (tick_bytes (with_rest (setting_of parts) (after_calls answers made) rest) output.wide node t) (held_in held os old sink)) outputs_are
-                  (held_grew held room sink (tick_bytes (with_rest (setting_of parts) (after_calls answers made) rest) output.wide node t) other.ports.items old new
+              subst (λ os. held_in told os new sink ≡ grown (tick_bytes (with_rest (setting_of parts) (after_calls answers made) rest) output.wide node t) (held_in told os old sink)) outputs_are
+                  (held_grew told sink (tick_bytes (with_rest (setting_of parts) (after_calls answers made) rest) output.wide node t) other.ports.items old new
                   (old_size ∙ sym in_ports) (new_size ∙ old_size ∙ sym in_ports)
                   (λ k port at same. bytes_after (behind_calls made rest) (first rest) sink node output k port at same ∙ ap (λ W. tick_bytes W output.wide node t) (world_is (setting_of parts) answers made rest)) took.each),
             );
@@ -504,9 +509,9 @@ module _ (parts other : EngineParts) (fit : AreParts parts) {T : Type 0} (stands
 -- memory was refused within the instants: no output has grown
 pub has_broken : (parts other : EngineParts) (fit : AreParts parts) {T : Type 0} (stands_for : T → List Call → Type 0) (a b : T)
     (heard : HeardSome stands_for parts.shape.plan.now parts.shape.library.now parts.shape.clocks.now (Main parts.clock) parts.own.items parts.shape.plan.now.frame (scene_of parts a) (scene_of other b))
-    (t : ℕ) (answers : ℕ → List Answer) → EngineStands parts t answers → {X : Type 0} (held : X → Option (List ℕ)) (outs : List X)
-    → HasStopped (setting_of parts) parts.clock t answers heard.made (held_in held (outputs_of (setting_of parts) parts.clock) outs) (held_in held (outputs_of (setting_of parts) parts.clock) outs)
-has_broken parts other fit stands_for a b heard t answers stands held outs = record {
+    (t : ℕ) (answers : ℕ → List Answer) → EngineStands parts t answers → {X : Type 0} (told : X → SinkTold) (outs : List X)
+    → HasStopped (setting_of parts) parts.clock t answers heard.made (held_in told (outputs_of (setting_of parts) parts.clock) outs) (held_in told (outputs_of (setting_of parts) parts.clock) outs)
+has_broken parts other fit stands_for a b heard t answers stands told outs = record {
   accepted = λ buffer. true;
   begun = λ rest.
       let S = with_rest (setting_of parts) answers (behind_calls heard.made rest) in
@@ -516,6 +521,6 @@ has_broken parts other fit stands_for a b heard t answers stands held outs = rec
   part = λ rest sink node output. (
     [],
     record { rest = tick_bytes (with_rest (setting_of parts) (after_calls answers heard.made) rest) output.wide node t; whole_is = refl },
-    grown_none (held_in held (outputs_of (setting_of parts) parts.clock) outs sink),
+    grown_none (held_in told (outputs_of (setting_of parts) parts.clock) outs sink),
   );
 }

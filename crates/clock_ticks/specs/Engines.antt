@@ -1,6 +1,7 @@
 -- An engine's parts, and for what they stand.
 use Rattle.std.specs.Prelude.{◌≡◌, ◌≤◌, ◌*◌, ℕ, suc, Bool, false, Option, Some, None, List, [], ◌∷◌, All, length, map, nat_eq, slice_get, take, if◌then◌else◌}
 use Rattle.liq_base.specs.declared.limits.TheConstants.{MAX_NODES}
+use Rattle.liq_base.specs.Pieces.{SinkTold}
 use Rattle.plan_core.specs.declared.plan.Plan.{Plan}
 use Rattle.plan_core.specs.Plans.{AreNodes, IsWellFormed}
 use Rattle.plan_core.specs.declared.sink.SinkPlan.{SinkPlan}
@@ -138,15 +139,15 @@ pub record EngineStopped (parts : EngineParts) (t : ℕ) (answers : ℕ → List
   pub cues_are : (parts.cues.keeping ≡ false → t ≡ 0) → (rest : ℕ → List Answer) (k : ℕ) (port : Port) (list : CueList) → slice_get parts.ports.items k ≡ Some port
       → slice_get parts.cues.lists.items k ≡ Some list → take list.before list.marks.items ≡ map mark_of (cues (with_rest (setting_of parts) answers rest) port.node t)
 
--- what the sink of this number holds, where it tells it: `held` tells it of a sink. There is a sink for each output, in the same order
-abbrev pub held_in : {S : Type 0} → (S → Option (List ℕ)) → (outputs : List (ℕ × ℕ)) → List S → ℕ → Option (List ℕ)
-held_in held [] outs sink = None
-held_in held (output ∷ outputs) [] sink = None
-held_in held (output ∷ outputs) (out ∷ outs) sink = if nat_eq output.0 sink then held out else held_in held outputs outs sink
+-- what the sink of this number holds, where it tells it. There is a sink for each output, in the same order
+abbrev pub held_in : {S : Type 0} → (S → SinkTold) → (outputs : List (ℕ × ℕ)) → List S → ℕ → Option (List ℕ)
+held_in told [] outs sink = None
+held_in told (output ∷ outputs) [] sink = None
+held_in told (output ∷ outputs) (out ∷ outs) sink = if nat_eq output.0 sink then (told out).held else held_in told outputs outs sink
 
 -- what the outputs of an engine hold, by their numbers
-abbrev pub held_of : {S : Type 0} → (S → Option (List ℕ)) → Engine S → ℕ → Option (List ℕ)
-held_of held engine = held_in held (outputs_of (setting_of engine.parts) engine.parts.clock) engine.outs
+abbrev pub held_of : {S : Type 0} → (S → SinkTold) → Engine S → ℕ → Option (List ℕ)
+held_of told engine = held_in told (outputs_of (setting_of engine.parts) engine.parts.clock) engine.outs
 
 -- what changes in a tick
 abbrev pub scene_of : {T : Type 0} → EngineParts → T → Scene T

@@ -1,14 +1,43 @@
--- How many pieces the sinks of an engine got, sink by sink. S is the sinks' type; `appends` tells how many a sink got, as far as a u64
--- counts.
-use Rattle.std.specs.Prelude.{◌≡◌, ◌≤◌, ℕ, Some, List, Option, slice_get}
+-- How many pieces the sinks of an engine got, sink by sink. S is the sinks' type, `told` is what they tell.
+use Rattle.std.specs.Prelude.{◌≡◌, ◌<◌, ◌≤◌, ℕ, Some, List, slice_get}
 use Rattle.std.specs.Fn.{iterate}
-use Rattle.liq_base.specs.Counts.{counted}
+use Rattle.liq_base.specs.Counts.{Rose, counted}
+use Rattle.liq_base.specs.Pieces.{SinkTold, Took}
 
--- each sink got so many pieces
-pub record GotPieces {S : Type 0} (appends : S → Option ℕ) (pieces : ℕ) (old new : List S) : Type 0 where
-  pub each : (k : ℕ) (before after : S) → slice_get old k ≡ Some before → slice_get new k ≡ Some after → appends after ≡ iterate counted pieces (appends before)
+-- the first `below` sinks took a piece each, or a part of one, and the others are as they were
+pub record GotOnePiece {S : Type 0} (told : S → SinkTold) (below : ℕ) (old new : List S) : Type 0 where
+  pub first : (k : ℕ) (before after : S) → k < below → slice_get old k ≡ Some before → slice_get new k ≡ Some after → (taken : List ℕ) × Took taken (told before) (told after)
+  pub others : (k : ℕ) → below ≤ k → slice_get new k ≡ slice_get old k
 
--- each sink got at least and at most so many pieces
-pub record GotBetween {S : Type 0} (appends : S → Option ℕ) (least most : ℕ) (old new : List S) : Type 0 where
+-- some first sinks did
+pub record GotSomePieces {S : Type 0} (told : S → SinkTold) (old new : List S) : Type 0 where
+  pub count : ℕ
+  pub got : GotOnePiece told count old new
+
+-- the count of faults of the sink at this place rose
+pub record RoseAt {S : Type 0} (told : S → SinkTold) (place : ℕ) (old new : List S) : Type 0 where
+  pub before : S
+  pub after : S
+  pub was : slice_get old place ≡ Some before
+  pub is : slice_get new place ≡ Some after
+  pub rose : Rose (told before).faults (told after).faults
+
+-- each sink has the name that it had, and no smaller count of faults
+pub record AreKept {S : Type 0} (told : S → SinkTold) (old new : List S) : Type 0 where
   pub each : (k : ℕ) (before after : S) → slice_get old k ≡ Some before → slice_get new k ≡ Some after
-      → (pieces : ℕ) × (least ≤ pieces) × (pieces ≤ most) × (appends after ≡ iterate counted pieces (appends before))
+      → ((told after).name ≡ (told before).name) × ((told before).faults ≤ (told after).faults)
+
+-- a sink got so many pieces
+pub record HasGot (pieces : ℕ) (old new : SinkTold) : Type 0 where
+  pub name_kept : new.name ≡ old.name
+  pub faults_grew : old.faults ≤ new.faults
+  pub appends_are : new.appends ≡ iterate counted pieces old.appends
+
+-- each sink got so many
+pub record GotPieces {S : Type 0} (told : S → SinkTold) (pieces : ℕ) (old new : List S) : Type 0 where
+  pub each : (k : ℕ) (before after : S) → slice_get old k ≡ Some before → slice_get new k ≡ Some after → HasGot pieces (told before) (told after)
+
+-- each sink got at least and at most so many
+pub record GotBetween {S : Type 0} (told : S → SinkTold) (least most : ℕ) (old new : List S) : Type 0 where
+  pub each : (k : ℕ) (before after : S) → slice_get old k ≡ Some before → slice_get new k ≡ Some after
+      → (pieces : ℕ) × (least ≤ pieces) × (pieces ≤ most) × HasGot pieces (told before) (told after)

@@ -1,13 +1,13 @@
 -- What a tick of an engine owes.
-use Rattle.std.specs.Prelude.{◌≡◌, ◌<◌, ◌+◌, ◌*◌, ℕ, Option, Some, true, List, ◌++◌, length, slice_get, ◌⊎◌}
+use Rattle.std.specs.Prelude.{◌≡◌, ◌<◌, ◌+◌, ◌*◌, ℕ, Some, true, List, ◌++◌, length, slice_get, ◌⊎◌}
 use Rattle.clock_infer.specs.declared.clock_map.NodeClock.TheVariants.{Main}
 use Rattle.clock_instants.specs.Takes.{HasReader}
-use Rattle.liq_base.specs.Pieces.{HasRoom, narrowed}
+use Rattle.liq_base.specs.Pieces.{HasRoom, SinkTold, Took}
 use Rattle.frame_core.specs.Calls.{Call, Answer}
 use Rattle.stream_meaning.specs.Instants.{Setting}
 use Rattle.stream_meaning.specs.Sinks.{block_length, is_wide, kind_of}
 use Rattle.node_states.specs.Ticks.{HasStopped, HasTicked}
-use Rattle.clock_outputs.specs.Appends.{GotOnePiece, RoseAt}
+use Rattle.clock_ticks.specs.Pieces.{GotOnePiece, RoseAt}
 use Rattle.clock_ticks.specs.Engines.{EngineStands, EngineStopped, feeds_of, held_in, outputs_of, setting_of}
 use Rattle.clock_ticks.specs.declared.engine.EngineParts.{EngineParts}
 use Rattle.clock_ticks.specs.declared.fault.TickFault.{TickFault}
@@ -22,49 +22,45 @@ abbrev pub piece_size : Setting → (sink node : ℕ) → ℕ
 piece_size setting sink node = setting.plan.frame * block_length (is_wide setting sink) (kind_of setting node)
 
 -- each sink that tells its room has room for the piece of a tick
-pub record HaveTickRoom {S : Type 0} (room : S → Option ℕ) (parts : EngineParts) (outs : List S) : Type 0 where
+pub record HaveTickRoom {S : Type 0} (told : S → SinkTold) (parts : EngineParts) (outs : List S) : Type 0 where
   pub each : (k sink node : ℕ) (out : S) → slice_get (outputs_of (setting_of parts) parts.clock) k ≡ Some (sink, node) → slice_get outs k ≡ Some out
-      → HasRoom (room out) (piece_size (setting_of parts) sink node)
+      → HasRoom (told out).room (piece_size (setting_of parts) sink node)
 
 -- the same for the pieces of so many ticks
-pub record HaveTicksRoom {S : Type 0} (room : S → Option ℕ) (parts : EngineParts) (outs : List S) (ticks : ℕ) : Type 0 where
+pub record HaveTicksRoom {S : Type 0} (told : S → SinkTold) (parts : EngineParts) (outs : List S) (ticks : ℕ) : Type 0 where
   pub each : (k sink node : ℕ) (out : S) → slice_get (outputs_of (setting_of parts) parts.clock) k ≡ Some (sink, node) → slice_get outs k ≡ Some out
-      → HasRoom (room out) (ticks * piece_size (setting_of parts) sink node)
+      → HasRoom (told out).room (ticks * piece_size (setting_of parts) sink node)
+
+-- each sink took one piece, that of a tick
+pub record TookTick {S : Type 0} (told : S → SinkTold) (parts : EngineParts) (old new : List S) : Type 0 where
+  pub each : (k : ℕ) (before after : S) → slice_get old k ≡ Some before → slice_get new k ≡ Some after
+      → (sink node : ℕ) × (slice_get (outputs_of (setting_of parts) parts.clock) k ≡ Some (sink, node))
+      × (piece : List ℕ) × (length piece ≡ piece_size (setting_of parts) sink node) × Took piece (told before) (told after)
 
 -- the fault is that of an output's sink, whose count of faults rose; the sinks up to it got one piece each
-pub record IsWriteFault {S : Type 0} (faults : S → ℕ) (appends : S → Option ℕ) (parts : EngineParts) (old new : List S) (fault : TickFault) : Type 0 where
+pub record IsWriteFault {S : Type 0} (told : S → SinkTold) (parts : EngineParts) (old new : List S) (fault : TickFault) : Type 0 where
   pub place : ℕ
   pub sink : ℕ
   pub node : ℕ
   pub there : slice_get (outputs_of (setting_of parts) parts.clock) place ≡ Some (sink, node)
   pub fault_is : fault ≡ Write sink
-  pub rose : RoseAt faults place old new
-  pub once : GotOnePiece appends (place + 1) old new
-
--- some first sinks got one piece each, and the others none
-pub record GotSomePieces {S : Type 0} (appends : S → Option ℕ) (old new : List S) : Type 0 where
-  pub count : ℕ
-  pub got : GotOnePiece appends count old new
+  pub rose : RoseAt told place old new
+  pub once : GotOnePiece told (place + 1) old new
 
 -- a tick that answers Ok has made some calls; whatever engine and taps stood for, they stand for these calls too
-pub record HasMade {S T : Type 0} (held : S → Option (List ℕ)) (taps_stand : T → List Call → Type 0) (old new : EngineParts) (outs_old outs_new : List S)
+pub record HasMade {S T : Type 0} (told : S → SinkTold) (taps_stand : T → List Call → Type 0) (old new : EngineParts) (outs_old outs_new : List S)
     (taps_old taps_new : T) : Type 0 where
   pub more : List Call
   pub engine : (t : ℕ) (answers : ℕ → List Answer) → EngineStands old t answers
-      → HasTicked (EngineStands new) (setting_of old) old.clock t answers more (held_in held (outputs_of (setting_of old) old.clock) outs_old) (held_in held (outputs_of (setting_of new) new.clock) outs_new)
+      → HasTicked (EngineStands new) (setting_of old) old.clock t answers more (held_in told (outputs_of (setting_of old) old.clock) outs_old) (held_in told (outputs_of (setting_of new) new.clock) outs_new)
   pub taps : (calls : List Call) → taps_stand taps_old calls → taps_stand taps_new (calls ++ more)
 
 -- the same of a tick that answers a fault: the calls that were made are the first ones of the tick's, each output has grown by a part of
 -- its bytes, and the engine stopped in this tick
-pub record HasFailed {S T : Type 0} (held : S → Option (List ℕ)) (taps_stand : T → List Call → Type 0) (old new : EngineParts) (outs_old outs_new : List S)
+pub record HasFailed {S T : Type 0} (told : S → SinkTold) (taps_stand : T → List Call → Type 0) (old new : EngineParts) (outs_old outs_new : List S)
     (taps_old taps_new : T) : Type 0 where
   pub made : List Call
   pub engine : (t : ℕ) (answers : ℕ → List Answer) → EngineStands old t answers
-      → HasStopped (setting_of old) old.clock t answers made (held_in held (outputs_of (setting_of old) old.clock) outs_old) (held_in held (outputs_of (setting_of new) new.clock) outs_new)
+      → HasStopped (setting_of old) old.clock t answers made (held_in told (outputs_of (setting_of old) old.clock) outs_old) (held_in told (outputs_of (setting_of new) new.clock) outs_new)
   pub halted : (t : ℕ) (answers : ℕ → List Answer) → EngineStands old t answers → EngineStopped new t answers made
   pub taps : (calls : List Call) → taps_stand taps_old calls → taps_stand taps_new (calls ++ made)
-
--- the room of each sink that tells it fell by the piece of a tick
-pub record RoomsFell {S : Type 0} (room : S → Option ℕ) (parts : EngineParts) (old new : List S) : Type 0 where
-  pub each : (k sink node : ℕ) (before after : S) → slice_get (outputs_of (setting_of parts) parts.clock) k ≡ Some (sink, node)
-      → slice_get old k ≡ Some before → slice_get new k ≡ Some after → room after ≡ narrowed (piece_size (setting_of parts) sink node) (room before)

@@ -34,7 +34,7 @@ pub fn make_segment<T: Taps>(
     taps: &mut T,
 ) -> Result<u32, Memory>
     requires makes { CanMake shape.now clock own.now state.old }
-    requires short { most ≤ 1024 }
+    requires short { most ≤ 2048 }
     requires readers { ReadersAreIn shape.now.plan.now (T.buffers taps.old) }
     ensures state { IsClockStateOver shape.now state.new }
     ensures buffers { T.buffers taps.new ≡ T.buffers taps.old }

@@ -3,7 +3,7 @@ ghost use Rattle.clock_ticks.specs.declared.fault.TickFault.{TickFault as Fault}
 ghost use Rattle.clock_ticks.specs.declared.fault.TickFault.TheVariants.{Memory as OutOfMemory, Write};
 ghost use Rattle.frame_core.specs.Calls.{Call, Answer};
 ghost use Rattle.clock_outputs.specs.Feeds.{HaveGiven, HaveGivenSome};
-ghost use Rattle.std.specs.Prelude.{◌≡◌, ◌<◌, ◌+◌, ◌⊎◌, ℕ, Some, None, true, List, [], All, map, length, IfOk, OnOk, OnErr, IfErr};
+ghost use Rattle.std.specs.Prelude.{◌≡◌, ◌<◌, ◌+◌, ◌⊎◌, ℕ, Some, None, true, false, List, [], All, map, length, IfOk, OnOk, OnErr, IfErr};
 ghost use Rattle.plan_core.specs.Plans.{IsWellFormed};
 ghost use Rattle.clock_infer.specs.Answers.{IsClockMap};
 ghost use Rattle.frame_core.specs.Library.{IsLibrary};
@@ -11,12 +11,12 @@ ghost use Rattle.clock_ticks.specs.Standing.{IsClockStateOver};
 ghost use Rattle.clock_ticks.specs.Hearings.{HeardOver, HeardSomeOver};
 ghost use Rattle.clock_infer.specs.declared.clock_map.NodeClock.TheVariants.{Main as InMain};
 ghost use Rattle.clock_ticks.specs.Engines.{AreClocksOf, AreParts, EngineStands, EngineStopped, IsWhole, after_tick, feed_of, outputs_of, scene_of, setting_of};
-ghost use Rattle.clock_outputs.specs.Appends.{AreKept, GotOnePiece, NoneFell};
+ghost use Rattle.clock_ticks.specs.Pieces.{GotSomePieces};
 ghost use Rattle.stream_meaning.specs.Sinks.{cues, gaps, IsOutput};
 ghost use Rattle.clock_ticks.specs.Cues.{mark_of};
 ghost use Rattle.stream_meaning.specs.Instants.{with_rest};
 ghost use Rattle.clock_instants.specs.Takes.{HasReader};
-ghost use Rattle.clock_ticks.specs.Ticks.{GotSomePieces, HasEnds, HasFailed, HasMade, HaveTickRoom, HaveTicksRoom, IsWriteFault, RoomsFell};
+ghost use Rattle.clock_ticks.specs.Ticks.{HasEnds, HasFailed, HasMade, HaveTickRoom, HaveTicksRoom, IsWriteFault, TookTick};
 
 use crate::TickFault;
 use crate::clock_state::ClockState;
@@ -282,23 +282,20 @@ impl<'a, O: Sink> ClockEngine<'a, O> {
     pub fn tick<T: Taps>(&mut self, alloc: Global, taps: &mut T) -> Result<(), TickFault>
         requires runs { self.old.parts.stopped ≡ None }
         requires few { self.old.parts.ticks < 1000000000 }
-        requires room { HaveTickRoom O.room self.old.parts self.old.outs }
+        requires room { HaveTickRoom O.told self.old.parts self.old.outs }
         requires buffers { T.buffers taps.old ≡ length self.old.parts.shape.plan.now.buffers }
         ensures whole { IsWhole self.old }
         ensures outs { length self.new.outs ≡ length self.old.outs }
         ensures setting { setting_of self.new.parts ≡ setting_of self.old.parts }
         ensures clock { self.new.parts.clock ≡ self.old.parts.clock }
-        ensures faults { NoneFell O.faults self.old.outs self.new.outs }
-        ensures room { OnOk result ((ticks : ℕ) → HaveTicksRoom O.room self.old.parts self.old.outs (ticks + 1) → HaveTicksRoom O.room self.new.parts self.new.outs ticks) }
-        ensures ticked { OnOk result (HasMade O.held T.stands self.old.parts self.new.parts self.old.outs self.new.outs taps.old taps.new) }
-        ensures stopped { OnErr result (HasFailed O.held T.stands self.old.parts self.new.parts self.old.outs self.new.outs taps.old taps.new) }
+        ensures room { OnOk result ((ticks : ℕ) → HaveTicksRoom O.told self.old.parts self.old.outs (ticks + 1) → HaveTicksRoom O.told self.new.parts self.new.outs ticks) }
+        ensures ticked { OnOk result (HasMade O.told T.stands self.old.parts self.new.parts self.old.outs self.new.outs taps.old taps.new) }
+        ensures stopped { OnErr result (HasFailed O.told T.stands self.old.parts self.new.parts self.old.outs self.new.outs taps.old taps.new) }
         ensures taps { T.same taps.old taps.new }
         ensures buffers { T.buffers taps.new ≡ T.buffers taps.old }
-        ensures once { OnOk result (GotOnePiece O.appends (length self.old.outs) self.old.outs self.new.outs) }
-        ensures once_upto { OnErr result (GotSomePieces O.appends self.old.outs self.new.outs) }
-        ensures kept { AreKept O.name O.faults self.old.outs self.new.outs }
-        ensures rooms { OnOk result (RoomsFell O.room self.old.parts self.old.outs self.new.outs) }
-        ensures cause { IfErr result (λ fault. (sink : ℕ) → fault ≡ Write sink → IsWriteFault O.faults O.appends self.old.parts self.old.outs self.new.outs fault) }
+        ensures took { OnOk result (TookTick O.told self.old.parts self.old.outs self.new.outs) }
+        ensures part { OnErr result (GotSomePieces O.told self.old.outs self.new.outs) }
+        ensures cause { IfErr result (λ fault. (sink : ℕ) → fault ≡ Write sink → IsWriteFault O.told self.old.parts self.old.outs self.new.outs fault) }
         ensures memory { IfErr result (λ fault. fault ≡ OutOfMemory → HasEnds self.old.parts) }
         ensures fault { IfErr result (λ fault. self.new.parts.stopped ≡ Some fault) }
         ensures runs { OnOk result (self.new.parts.stopped ≡ None) }
@@ -357,7 +354,11 @@ impl<'a, O: Sink> ClockEngine<'a, O> {
         ensures stopped { (ticks : ℕ) (answers rest : ℕ → List Answer) (made : List Call) (node : ℕ) → EngineStopped self.now.parts ticks answers made
             → self.now.parts.cues.keeping ≡ true → IsOutput (setting_of self.now.parts) self.now.parts.clock sink node
             → result.now ≡ map mark_of (cues (with_rest (setting_of self.now.parts) answers rest) node ticks) }
+        ensures none { self.now.parts.cues.keeping ≡ false → result.now ≡ [] }
     {
+        if !self.parts.cues.keeping {
+            return &[];
+        }
         for k in 0..self.parts.ports.len() {
             if self.parts.ports[k].sink == sink {
                 return whole_marks(&self.parts.cues.lists[k], self.parts.stopped);

@@ -13,7 +13,7 @@ use stream_meaning::slot_of;
 /// `nodes` nodes.
 pub fn hear_all(ports: &mut Vec<Port>, clocks: &ClockStates, many: u32, nodes: usize)
     requires stretch_room { HasStretchRoom nodes clocks.now.room }
-    requires short { many ≤ 1024 }
+    requires short { many ≤ 2048 }
     requires within { All (λ port. port.node < nodes) ports.old.items }
     requires room { AllHaveRoomLeft (suc many) ports.old.items }
     ensures { ports.new.items ≡ map (λ port. after_slots port (segment_of clocks.now many port.node)) ports.old.items }
@@ -26,7 +26,7 @@ pub fn hear_all(ports: &mut Vec<Port>, clocks: &ClockStates, many: u32, nodes: u
 // An output takes the slots of its node.
 fn hear_one(port: &mut Port, clocks: &ClockStates, many: u32, nodes: usize)
     requires stretch_room { HasStretchRoom nodes clocks.now.room }
-    requires short { many ≤ 1024 }
+    requires short { many ≤ 2048 }
     requires within { port.old.node < nodes }
     requires room { HasRoomLeft (suc many) port.old }
     ensures { port.new ≡ after_slots port.old (segment_of clocks.now many port.old.node) }
@@ -44,7 +44,7 @@ fn hear_one(port: &mut Port, clocks: &ClockStates, many: u32, nodes: usize)
 /// behind its first one. There are `nodes` nodes.
 pub fn feed_all(feeds: &mut Vec<FeedPort>, at: u32, clocks: &ClockStates, many: u32, nodes: usize)
     requires stretch_room { HasStretchRoom nodes clocks.now.room }
-    requires short { many ≤ 1024 }
+    requires short { many ≤ 2048 }
     requires within { All (λ feed. feed.node < nodes) feeds.old.items }
     requires there { All (λ feed. at + suc many ≤ length feed.frame) feeds.old.items }
     requires fits { at + suc many < 2 ^ 32 }
@@ -58,7 +58,7 @@ pub fn feed_all(feeds: &mut Vec<FeedPort>, at: u32, clocks: &ClockStates, many: 
 // A feed takes the slots of its node.
 fn feed_one(feed: &mut FeedPort, at: u32, clocks: &ClockStates, many: u32, nodes: usize)
     requires stretch_room { HasStretchRoom nodes clocks.now.room }
-    requires short { many ≤ 1024 }
+    requires short { many ≤ 2048 }
     requires within { feed.old.node < nodes }
     requires there { at + suc many ≤ length feed.old.frame }
     requires fits { at + suc many < 2 ^ 32 }

@@ -9,7 +9,7 @@ use Rattle.plan_core.specs.declared.plan.Plan.{Plan}
 use Rattle.plan_core.specs.declared.sink.BufferPlan.{BufferPlan}
 use Rattle.plan_core.specs.declared.sink.SinkPlan.{SinkPlan}
 use Rattle.plan_core.specs.Plans.{own_crossfades, sink_node, FeedsFrom, FeedsBuffer, ReadsBuffer, HasChildren, IsBuffer, IsInRange, IsNodeOver, IsOfOne, IsWellFormed, AreNodes}
-use Rattle.liq_base.specs.SinkStates.{SinkState}
+use Rattle.liq_base.specs.SinkStates.{SinkState, sink_told}
 use Rattle.clock_infer.specs.declared.clock_map.ClockMap.{ClockMap}
 use Rattle.clock_infer.specs.Answers.{IsClockMap}
 use Rattle.frame_core.specs.Library.{IsLibrary, Sounds, tracks_of}
@@ -17,7 +17,7 @@ use Rattle.stream_meaning.specs.Instants.{Setting}
 use Rattle.stream_meaning.specs.Settings.{IsSetting}
 use Rattle.clock_ticks.specs.declared.engine.ClockEngine.{ClockEngine}
 use Rattle.clock_threads.specs.ThreadRuns.{AreEngines, IsFresh}
-use Rattle.engine_tests.specs.Joined.{joined_nodes, joined_sinks, mono_node, no_room, setting_over}
+use Rattle.engine_tests.specs.Joined.{joined_nodes, joined_sinks, mono_node, setting_over}
 
 abbrev pub joined_buffers : List BufferPlan
 joined_buffers = record { pre = 1; capacity = 1 } ∷ []
@@ -175,15 +175,15 @@ module _ (plan : Plan) (library : Sounds) (clocks : ClockMap) where
         start = early;
       }
 
-  module _ (first second : ClockEngine SinkState) (ticks : ℕ) (one : IsFresh no_room setting ticks 0 first) (other : IsFresh no_room setting ticks 1 second) where
-    each_fresh : (k : ℕ) (d : ClockEngine SinkState) → k < 2 → IsFresh no_room setting ticks k (slice_index_or (first ∷ second ∷ []) k d)
+  module _ (first second : ClockEngine SinkState) (ticks : ℕ) (one : IsFresh sink_told setting ticks 0 first) (other : IsFresh sink_told setting ticks 1 second) where
+    each_fresh : (k : ℕ) (d : ClockEngine SinkState) → k < 2 → IsFresh sink_told setting ticks k (slice_index_or (first ∷ second ∷ []) k d)
     each_fresh zero d lt = one
     each_fresh (suc zero) d lt = other
     each_fresh (suc (suc k)) d lt = absurd (omega arith)
 
-    pub both_engines : (engines : List (ClockEngine SinkState)) → engines ≡ first ∷ second ∷ [] → clocks.running ≡ 2 → IsSetting setting clocks → AreEngines no_room plan clocks ticks setting engines
+    pub both_engines : (engines : List (ClockEngine SinkState)) → engines ≡ first ∷ second ∷ [] → clocks.running ≡ 2 → IsSetting setting clocks → AreEngines sink_told plan clocks ticks setting engines
     both_engines engines are two is =
-        let E : List (ClockEngine SinkState) → Type 0 = λ es. (k : ℕ) (d : ClockEngine SinkState) → k < length es → IsFresh no_room setting ticks k (slice_index_or es k d) in
+        let E : List (ClockEngine SinkState) → Type 0 = λ es. (k : ℕ) (d : ClockEngine SinkState) → k < length es → IsFresh sink_told setting ticks k (slice_index_or es k d) in
         record {
           is = is;
           plan_is = refl;

@@ -1,6 +1,5 @@
 -- A plan of two clocks that a buffer joins. Only private functions of the tests cite this.
-use Rattle.std.specs.Prelude.{ℕ, Option, None, List, [], ◌∷◌, false}
-use Rattle.liq_base.specs.SinkStates.{SinkState}
+use Rattle.std.specs.Prelude.{ℕ, List, [], ◌∷◌, false}
 use Rattle.liq_base.specs.declared.memory.Kind.TheVariants.{Mono}
 use Rattle.plan_core.specs.declared.node.Node.{Node}
 use Rattle.plan_core.specs.declared.node.Op.{Op}
@@ -22,10 +21,6 @@ joined_nodes = mono_node (Single []) [] ∷ mono_node (Buffer 0) [] ∷ mono_nod
 -- an output of the file, its feed, and an output of the second clock
 abbrev pub joined_sinks : List SinkPlan
 joined_sinks = Output [] 0 false false ∷ Feed 0 0 ∷ Output [] 4 false false ∷ []
-
--- the sinks in memory tell no room left
-abbrev pub no_room : SinkState → Option ℕ
-no_room sink = None
 
 -- a plan with its files and clocks, from second 0 on, without answers
 abbrev pub setting_over : Plan → Sounds → ClockMap → Setting

@@ -68,11 +68,11 @@ const SWITCHED: &[Row] = &[
     Row::Node(Small::Always, &[0]),
 ];
 
-// A tick is a second and one instant more. A segment has 1025 instants at most, an instant and a stretch of 1024, and 8001 is seven times
-// 1025 and 826 more. The predicate never changes, so the end of the second is no border.
+// A tick is a second and one instant more. A segment has 2049 instants at most, an instant and a stretch of 2048, and 8001 is three times
+// 2049 and 1854 more. The predicate never changes, so the end of the second is no border.
 #[test]
 fn a_switch_that_cannot_change_goes_on_over_seconds(rt: HostRuntime) -> Result<(), Fail> {
-    check(&rt, rt.alloc(), 8001, SWITCHED, 1, 8)
+    check(&rt, rt.alloc(), 8001, SWITCHED, 1, 4)
 }
 
 // Second 0 of each minute, and second 1.
@@ -95,11 +95,11 @@ const SWITCHED_OFF: &[Row] = &[
     Row::Node(Small::Between(FIRST, NEXT), &[0]),
 ];
 
-// Seven segments of 1025 instants end at instant 7174. The switch uses the blank in second 0 and nothing in second 1, so the next segment
+// Three segments of 2049 instants end at instant 6146. The switch uses the blank in second 0 and nothing in second 1, so the next segment
 // ends with second 0, at instant 7999, and the last instant is alone.
 #[test]
 fn a_switch_ends_a_segment_where_it_may_change(rt: HostRuntime) -> Result<(), Fail> {
-    check(&rt, rt.alloc(), 8001, SWITCHED_OFF, 1, 9)
+    check(&rt, rt.alloc(), 8001, SWITCHED_OFF, 1, 5)
 }
 
 const READ: &[Row] = &[Row::Node(Small::Blank(5), &[]), Row::Reader(0)];

@@ -7,7 +7,8 @@ ghost use Rattle.clock_infer.specs.declared.clock_map.NodeClock.TheVariants.{Mai
 ghost use Rattle.frame_core.specs.Library.{IsLibrary, tracks_of};
 ghost use Rattle.clock_ticks.specs.Engines.{outputs_of};
 ghost use Rattle.clock_threads.specs.ThreadRuns.{AreEngines, IsFresh};
-ghost use Rattle.engine_tests.specs.Joined.{joined_nodes, joined_sinks, no_room, setting_over};
+ghost use Rattle.engine_tests.specs.Joined.{joined_nodes, joined_sinks, setting_over};
+ghost use Rattle.liq_base.specs.SinkStates.{sink_told};
 
 use crate::small_plans::{lies_in, mono, one_of, output};
 use buffer_ends::End;
@@ -101,7 +102,7 @@ fn begun<'a>(
     requires leaves { length library.now.leaves ≡ length plan.now.nodes }
     requires output { length (outputs_of (setting_over plan.now library.now clocks.now) clock) ≡ 1 }
     requires one { length outs.items ≡ 1 }
-    ensures fresh { (ticks : ℕ) → IfOk result (λ engine. IsFresh no_room (setting_over plan.now library.now clocks.now) ticks clock engine) }
+    ensures fresh { (ticks : ℕ) → IfOk result (λ engine. IsFresh sink_told (setting_over plan.now library.now clocks.now) ticks clock engine) }
 {
     let start = WeekSecond { second: 0 };
     match ClockEngine::new(alloc, plan, clocks, clock, library, outs, start) {
@@ -137,7 +138,7 @@ fn both<'a>(
     requires two { clocks.now.running ≡ 2 }
     requires first { slice_get clocks.now.of 0 ≡ Some (InMain 0) }
     requires second { slice_get clocks.now.of 4 ≡ Some (InMain 1) }
-    ensures { (ticks : ℕ) → IfOk result (λ engines. AreEngines no_room plan.now clocks.now ticks (setting_over plan.now library.now clocks.now) engines.items) }
+    ensures { (ticks : ℕ) → IfOk result (λ engines. AreEngines sink_told plan.now clocks.now ticks (setting_over plan.now library.now clocks.now) engines.items) }
 {
     let fails = vec![in alloc; (3, 1)]?;
     let sound = headed(alloc, Vec::new(alloc))?;

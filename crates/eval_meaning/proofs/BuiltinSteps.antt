@@ -22,7 +22,7 @@ use Rattle.script_values.specs.declared.fault.Limit.{Limit}
 use Rattle.script_values.specs.declared.fault.Limit.TheVariants.{Children, Crossfades, Overlap, Prefill, Capacity, Outputs}
 use Rattle.script_values.specs.declared.machine.Machine.{Machine}
 use Rattle.script_values.specs.Outcomes.{◌>>=◌, Outcome}
-use Rattle.script_values.specs.Slots.{Given}
+use Rattle.script_values.specs.Slots.{Argument}
 use Rattle.script_values.specs.Values as value
 use Rattle.script_values.specs.Values.{Value}
 use Rattle.builtin_calls.specs.Parts.{one_kind, is_kind, of_kind, as_text, as_decimal, as_int, as_bool, as_format, source_of, nodes_from, sources_of, pred_of, pair_in, pair_of, pairs_from, pairs_of, needed, or_default, plain, plain_text, plain_decimal, plain_format, plain_source, plain_sources, plain_pairs, bool_or, int_or, decimal_or, text_or}
@@ -42,7 +42,7 @@ pub then_not : {A B : Type 0} (P : A → Type 0) (Q : B → Type 0) (r : Result 
 then_not P Q (Ok a) f is later = later a is
 then_not P Q (Err e) f is later = is
 
-plain_by : {A : Type 0} (read : Value → Result A Fault) (P : A × List Given → Type 0) (o : Taken) (x : Value × List Given) → o ≡ Some x → NotStuck (λ a. P (a, x.1)) (read x.0) → NotStuck P (needed o >>= λ y. read y.0 >>= λ a. Ok (a, y.1))
+plain_by : {A : Type 0} (read : Value → Result A Fault) (P : A × List Argument → Type 0) (o : Taken) (x : Value × List Argument) → o ≡ Some x → NotStuck (λ a. P (a, x.1)) (read x.0) → NotStuck P (needed o >>= λ y. read y.0 >>= λ a. Ok (a, y.1))
 plain_by read P o x is done =
     subst (λ (p : Taken). NotStuck P (needed p >>= λ y. read y.0 >>= λ a. Ok (a, y.1))) (sym is)
     (then_not (λ a. P (a, x.1)) P (read x.0) (λ a. Ok (a, x.1)) done (λ a p. p))
@@ -158,7 +158,7 @@ source_read ns k (value.Pred p) is = absurd cc
 source_read ns k (value.Listed vs) is = let e = is.1 in absurd cc
 source_read ns k (value.Tuple vs) is = let e = is.1 in absurd cc
 
-nodes_read : (ns : List Node) (k : Kind) (vs : value.Tree value.Many) (acc : List ℕ) → AllAre ns vs (source k) → NotStuck (λ _. ⊤) (nodes_from ns k vs acc)
+nodes_read : (ns : List Node) (k : Kind) (vs : value.ValueTree value.Many) (acc : List ℕ) → AllAre ns vs (source k) → NotStuck (λ _. ⊤) (nodes_from ns k vs acc)
 unfolding nodes_from
 nodes_read ns k value.none acc is = tt
 nodes_read ns k (value.more v vs) acc is =
@@ -182,7 +182,7 @@ sources_read ns k (value.Tuple vs) is = let e = is.1 in absurd cc
 abbrev pub pair_types : Kind → Grounds
 pair_types k = ground.more (base_type base.Pred) (ground.more (source k) ground.no_more)
 
-in_pair : (ns : List Node) (k : Kind) (vs : value.Tree value.Many) → EachIs ns vs (pair_types k) → NotStuck (λ _. ⊤) (pair_in ns k vs)
+in_pair : (ns : List Node) (k : Kind) (vs : value.ValueTree value.Many) → EachIs ns vs (pair_types k) → NotStuck (λ _. ⊤) (pair_in ns k vs)
 unfolding pair_in
 in_pair ns k value.none is = absurd cc
 in_pair ns k (value.more v value.none) is = let e = is.2 in let f = is.4 in absurd cc
@@ -210,7 +210,7 @@ pair_read ns k (value.Pred p) is = absurd cc
 pair_read ns k (value.Source n) is = let e = is.2 in absurd cc
 pair_read ns k (value.Listed vs) is = let e = is.1 in absurd cc
 
-pairs_read : (ns : List Node) (k : Kind) (vs : value.Tree value.Many) (ps : List Predicate) (acc : List ℕ) → AllAre ns vs (tuple (pair_types k)) → NotStuck (λ _. ⊤) (pairs_from ns k vs ps acc)
+pairs_read : (ns : List Node) (k : Kind) (vs : value.ValueTree value.Many) (ps : List Predicate) (acc : List ℕ) → AllAre ns vs (tuple (pair_types k)) → NotStuck (λ _. ⊤) (pairs_from ns k vs ps acc)
 unfolding pairs_from
 pairs_read ns k value.none ps acc is = tt
 pairs_read ns k (value.more v vs) ps acc is =
@@ -233,65 +233,65 @@ all_pairs_read ns k (value.Tuple vs) is = let e = is.1 in absurd cc
 
 -- ---- parameters
 
-module _ (S : List Given → List Given) (ns : List Node) (name : List ℕ) (ps : List Parameter) (ts : List Ground) (given : List Given) where
+module _ (S : List Argument → List Argument) (ns : List Node) (name : List ℕ) (ps : List Parameter) (ts : List Ground) (given : List Argument) where
   needed_step : {A : Type 0} (t : Ground) (read : Value → Result A Fault) → ((v : Value) → IsA ns v t → NotStuck (λ _. ⊤) (read v)) → Commutes S None → Taking S ns (in_place name ∷ ps) (t ∷ ts) given
-      → NotStuck (λ (y : A × List Given). Taking S ns ps ts y.1) (needed (argument None given) >>= λ y. read y.0 >>= λ a. Ok (a, y.1))
+      → NotStuck (λ (y : A × List Argument). Taking S ns ps ts y.1) (needed (argument None given) >>= λ y. read y.0 >>= λ a. Ok (a, y.1))
   needed_step {A = A} t read reads commutes taking =
       let found = take_plain S ns name ps t ts given commutes taking in
-      plain_by read (λ (y : A × List Given). Taking S ns ps ts y.1) (argument None given) found.taken found.is (weaker (λ _. ⊤) (Taking S ns ps ts found.taken.1) (read found.taken.0) found.others (reads found.taken.0 found.type_of))
+      plain_by read (λ (y : A × List Argument). Taking S ns ps ts y.1) (argument None given) found.taken found.is (weaker (λ _. ⊤) (Taking S ns ps ts found.taken.1) (read found.taken.0) found.others (reads found.taken.0 found.type_of))
 
-  pub text_step : Commutes S None → Taking S ns (in_place name ∷ ps) (base_type base.Text ∷ ts) given → NotStuck (λ (y : List ℕ × List Given). Taking S ns ps ts y.1) (plain_text given)
+  pub text_step : Commutes S None → Taking S ns (in_place name ∷ ps) (base_type base.Text ∷ ts) given → NotStuck (λ (y : List ℕ × List Argument). Taking S ns ps ts y.1) (plain_text given)
   unfolding plain_text plain
   text_step commutes taking = needed_step (base_type base.Text) as_text (text_read ns) commutes taking
 
-  pub decimal_step : Commutes S None → Taking S ns (in_place name ∷ ps) (base_type base.Decimal ∷ ts) given → NotStuck (λ (y : Decimal × List Given). Taking S ns ps ts y.1) (plain_decimal given)
+  pub decimal_step : Commutes S None → Taking S ns (in_place name ∷ ps) (base_type base.Decimal ∷ ts) given → NotStuck (λ (y : Decimal × List Argument). Taking S ns ps ts y.1) (plain_decimal given)
   unfolding plain_decimal plain
   decimal_step commutes taking = needed_step (base_type base.Decimal) as_decimal (decimal_read ns) commutes taking
 
-  pub format_step : Commutes S None → Taking S ns (in_place name ∷ ps) (base_type base.Format ∷ ts) given → NotStuck (λ (y : Bool × List Given). Taking S ns ps ts y.1) (plain_format given)
+  pub format_step : Commutes S None → Taking S ns (in_place name ∷ ps) (base_type base.Format ∷ ts) given → NotStuck (λ (y : Bool × List Argument). Taking S ns ps ts y.1) (plain_format given)
   unfolding plain_format plain
   format_step commutes taking = needed_step (base_type base.Format) as_format (format_read ns) commutes taking
 
-  pub source_step : (k : Kind) → Commutes S None → Taking S ns (in_place name ∷ ps) (source k ∷ ts) given → NotStuck (λ (y : ℕ × List Given). Taking S ns ps ts y.1) (plain_source ns k given)
+  pub source_step : (k : Kind) → Commutes S None → Taking S ns (in_place name ∷ ps) (source k ∷ ts) given → NotStuck (λ (y : ℕ × List Argument). Taking S ns ps ts y.1) (plain_source ns k given)
   unfolding plain_source plain
   source_step k commutes taking = needed_step (source k) (source_of ns k) (source_read ns k) commutes taking
 
-  pub sources_step : (k : Kind) → Commutes S None → Taking S ns (in_place name ∷ ps) (list (source k) ∷ ts) given → NotStuck (λ (y : List ℕ × List Given). Taking S ns ps ts y.1) (plain_sources ns k given)
+  pub sources_step : (k : Kind) → Commutes S None → Taking S ns (in_place name ∷ ps) (list (source k) ∷ ts) given → NotStuck (λ (y : List ℕ × List Argument). Taking S ns ps ts y.1) (plain_sources ns k given)
   unfolding plain_sources plain
   sources_step k commutes taking = needed_step (list (source k)) (sources_of ns k) (sources_read ns k) commutes taking
 
-  pub pairs_step : (k : Kind) → Commutes S None → Taking S ns (in_place name ∷ ps) (list (tuple (pair_types k)) ∷ ts) given → NotStuck (λ (y : (List Predicate × List ℕ) × List Given). Taking S ns ps ts y.1) (plain_pairs ns k given)
+  pub pairs_step : (k : Kind) → Commutes S None → Taking S ns (in_place name ∷ ps) (list (tuple (pair_types k)) ∷ ts) given → NotStuck (λ (y : (List Predicate × List ℕ) × List Argument). Taking S ns ps ts y.1) (plain_pairs ns k given)
   unfolding plain_pairs plain
   pairs_step k commutes taking = needed_step (list (tuple (pair_types k))) (pairs_of ns k) (all_pairs_read ns k) commutes taking
 
   -- of any type
-  pub value_step : (t : Ground) → Commutes S None → Taking S ns (in_place name ∷ ps) (t ∷ ts) given → NotStuck (λ (y : Value × List Given). Taking S ns ps ts y.1) (plain given)
+  pub value_step : (t : Ground) → Commutes S None → Taking S ns (in_place name ∷ ps) (t ∷ ts) given → NotStuck (λ (y : Value × List Argument). Taking S ns ps ts y.1) (plain given)
   unfolding plain
   value_step t commutes taking =
       let found = take_plain S ns name ps t ts given commutes taking in
-      subst (λ (o : Taken). NotStuck (λ (y : Value × List Given). Taking S ns ps ts y.1) (needed o)) (sym found.is) found.others
+      subst (λ (o : Taken). NotStuck (λ (y : Value × List Argument). Taking S ns ps ts y.1) (needed o)) (sym found.is) found.others
 
   optional_by : {A : Type 0} (t : Ground) (read : Value → Result A Fault) (default : A) → ((v : Value) → IsA ns v t → NotStuck (λ _. ⊤) (read v)) → (o : Taken) → Perhaps_found S ns ps t ts given o
-      → NotStuck (λ (y : A × List Given). Taking S ns ps ts y.1) (or_default read default given o)
-  optional_by {A = A} t read default reads o (missing is rest) = subst (λ (p : Taken). NotStuck (λ (y : A × List Given). Taking S ns ps ts y.1) (or_default read default given p)) (sym is) rest
+      → NotStuck (λ (y : A × List Argument). Taking S ns ps ts y.1) (or_default read default given o)
+  optional_by {A = A} t read default reads o (missing is rest) = subst (λ (p : Taken). NotStuck (λ (y : A × List Argument). Taking S ns ps ts y.1) (or_default read default given p)) (sym is) rest
   optional_by {A = A} t read default reads o (there found) =
-      subst (λ (p : Taken). NotStuck (λ (y : A × List Given). Taking S ns ps ts y.1) (or_default read default given p)) (sym found.is)
-      (then_not (λ _. Taking S ns ps ts found.taken.1) (λ (y : A × List Given). Taking S ns ps ts y.1) (read found.taken.0) (λ a. Ok (a, found.taken.1))
+      subst (λ (p : Taken). NotStuck (λ (y : A × List Argument). Taking S ns ps ts y.1) (or_default read default given p)) (sym found.is)
+      (then_not (λ _. Taking S ns ps ts found.taken.1) (λ (y : A × List Argument). Taking S ns ps ts y.1) (read found.taken.0) (λ a. Ok (a, found.taken.1))
       (weaker (λ _. ⊤) (Taking S ns ps ts found.taken.1) (read found.taken.0) found.others (reads found.taken.0 found.type_of)) (λ a rest. rest))
 
-  pub text_or_step : (default : List ℕ) → Commutes S (Some name) → Taking S ns (perhaps name ∷ ps) (base_type base.Text ∷ ts) given → NotStuck (λ (y : List ℕ × List Given). Taking S ns ps ts y.1) (text_or name default given)
+  pub text_or_step : (default : List ℕ) → Commutes S (Some name) → Taking S ns (perhaps name ∷ ps) (base_type base.Text ∷ ts) given → NotStuck (λ (y : List ℕ × List Argument). Taking S ns ps ts y.1) (text_or name default given)
   unfolding text_or
   text_or_step default commutes taking = optional_by (base_type base.Text) as_text default (text_read ns) (argument (Some name) given) (take_labelled S ns name ps (base_type base.Text) ts given commutes taking)
 
-  pub bool_or_step : (default : Bool) → Commutes S (Some name) → Taking S ns (perhaps name ∷ ps) (base_type base.Bool ∷ ts) given → NotStuck (λ (y : Bool × List Given). Taking S ns ps ts y.1) (bool_or name default given)
+  pub bool_or_step : (default : Bool) → Commutes S (Some name) → Taking S ns (perhaps name ∷ ps) (base_type base.Bool ∷ ts) given → NotStuck (λ (y : Bool × List Argument). Taking S ns ps ts y.1) (bool_or name default given)
   unfolding bool_or
   bool_or_step default commutes taking = optional_by (base_type base.Bool) as_bool default (bool_read ns) (argument (Some name) given) (take_labelled S ns name ps (base_type base.Bool) ts given commutes taking)
 
-  pub decimal_or_step : (default : Decimal) → Commutes S (Some name) → Taking S ns (perhaps name ∷ ps) (base_type base.Decimal ∷ ts) given → NotStuck (λ (y : Decimal × List Given). Taking S ns ps ts y.1) (decimal_or name default given)
+  pub decimal_or_step : (default : Decimal) → Commutes S (Some name) → Taking S ns (perhaps name ∷ ps) (base_type base.Decimal ∷ ts) given → NotStuck (λ (y : Decimal × List Argument). Taking S ns ps ts y.1) (decimal_or name default given)
   unfolding decimal_or
   decimal_or_step default commutes taking = optional_by (base_type base.Decimal) as_decimal default (decimal_read ns) (argument (Some name) given) (take_labelled S ns name ps (base_type base.Decimal) ts given commutes taking)
 
-  pub int_or_step : (default : ℤ) → Commutes S (Some name) → Taking S ns (perhaps name ∷ ps) (base_type base.Int ∷ ts) given → NotStuck (λ (y : ℤ × List Given). Taking S ns ps ts y.1) (int_or name default given)
+  pub int_or_step : (default : ℤ) → Commutes S (Some name) → Taking S ns (perhaps name ∷ ps) (base_type base.Int ∷ ts) given → NotStuck (λ (y : ℤ × List Argument). Taking S ns ps ts y.1) (int_or name default given)
   unfolding int_or
   int_or_step default commutes taking = optional_by (base_type base.Int) as_int default (int_read ns) (argument (Some name) given) (take_labelled S ns name ps (base_type base.Int) ts given commutes taking)
 
@@ -357,18 +357,18 @@ buffer_step at held most p =
     then_not (λ _. ⊤) (λ _. ⊤) (at_most MAX_PREFILL Prefill pre) (λ prefill. at_most MAX_CAPACITY Capacity (chunks room p.frame) >>= λ capacity. Ok (record { pre = prefill; capacity = capacity })) (at_most_step MAX_PREFILL Prefill pre) (λ prefill _.
     then_not (λ _. ⊤) (λ (b : BufferPlan). ⊤) (at_most MAX_CAPACITY Capacity (chunks room p.frame)) (λ capacity. Ok (record { pre = prefill; capacity = capacity })) (at_most_step MAX_CAPACITY Capacity (chunks room p.frame)) (λ capacity _. tt))))
 
-pub few_sources_step : (S : List Given → List Given) (ns : List Node) (k : Kind) (name : List ℕ) (ps : List Parameter) (ts : List Ground) (given : List Given) → Commutes S None → Taking S ns (in_place name ∷ ps) (list (source k) ∷ ts) given → NotStuck (λ _. ⊤) (few_sources ns k given)
+pub few_sources_step : (S : List Argument → List Argument) (ns : List Node) (k : Kind) (name : List ℕ) (ps : List Parameter) (ts : List Ground) (given : List Argument) → Commutes S None → Taking S ns (in_place name ∷ ps) (list (source k) ∷ ts) given → NotStuck (λ _. ⊤) (few_sources ns k given)
 unfolding few_sources
 few_sources_step S ns k name ps ts given commutes taking =
-    then_not (λ (y : List ℕ × List Given). Taking S ns ps ts y.1) (λ _. ⊤) (plain_sources ns k given) (λ sources. few sources.0) (sources_step S ns name ps ts given k commutes taking) (λ sources _. few_step sources.0)
+    then_not (λ (y : List ℕ × List Argument). Taking S ns ps ts y.1) (λ _. ⊤) (plain_sources ns k given) (λ sources. few sources.0) (sources_step S ns name ps ts given k commutes taking) (λ sources _. few_step sources.0)
 
-pub few_pairs_step : (S : List Given → List Given) (ns : List Node) (k : Kind) (name : List ℕ) (ps : List Parameter) (ts : List Ground) (given : List Given) → Commutes S None → Taking S ns (in_place name ∷ ps) (list (tuple (pair_types k)) ∷ ts) given → NotStuck (λ _. ⊤) (few_pairs ns k given)
+pub few_pairs_step : (S : List Argument → List Argument) (ns : List Node) (k : Kind) (name : List ℕ) (ps : List Parameter) (ts : List Ground) (given : List Argument) → Commutes S None → Taking S ns (in_place name ∷ ps) (list (tuple (pair_types k)) ∷ ts) given → NotStuck (λ _. ⊤) (few_pairs ns k given)
 unfolding few_pairs
 few_pairs_step S ns k name ps ts given commutes taking =
-    then_not (λ (y : (List Predicate × List ℕ) × List Given). Taking S ns ps ts y.1) (λ _. ⊤) (plain_pairs ns k given) (λ pairs. few pairs.0.1 >>= λ children. Ok (pairs.0.0, children)) (pairs_step S ns name ps ts given k commutes taking) (λ pairs _.
+    then_not (λ (y : (List Predicate × List ℕ) × List Argument). Taking S ns ps ts y.1) (λ _. ⊤) (plain_pairs ns k given) (λ pairs. few pairs.0.1 >>= λ children. Ok (pairs.0.0, children)) (pairs_step S ns name ps ts given k commutes taking) (λ pairs _.
     then_not (λ _. ⊤) (λ _. ⊤) (few pairs.0.1) (λ children. Ok (pairs.0.0, children)) (few_step pairs.0.1) (λ children _. tt))
 
-pub sensitive_step : (S : List Given → List Given) (ns : List Node) (ps : List Parameter) (ts : List Ground) (given : List Given) → Commutes S (Some (codes "track_sensitive")) → Taking S ns (perhaps (codes "track_sensitive") ∷ ps) (base_type base.Bool ∷ ts) given → NotStuck (λ (y : Bool × List Given). Taking S ns ps ts y.1) (sensitive_or given)
+pub sensitive_step : (S : List Argument → List Argument) (ns : List Node) (ps : List Parameter) (ts : List Ground) (given : List Argument) → Commutes S (Some (codes "track_sensitive")) → Taking S ns (perhaps (codes "track_sensitive") ∷ ps) (base_type base.Bool ∷ ts) given → NotStuck (λ (y : Bool × List Argument). Taking S ns ps ts y.1) (sensitive_or given)
 unfolding sensitive_or
 sensitive_step S ns ps ts given commutes taking = bool_or_step S ns (codes "track_sensitive") ps ts given true commutes taking
 

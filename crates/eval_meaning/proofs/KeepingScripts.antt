@@ -12,7 +12,7 @@ use Rattle.script_values.specs.declared.fault.Fault.{Fault}
 use Rattle.script_values.specs.declared.fault.EvalFault.TheVariants as told
 use Rattle.script_values.specs.declared.machine.Machine.{Machine}
 use Rattle.script_values.specs.Machines.{count, first_machine}
-use Rattle.script_values.specs.Slots.{Slot}
+use Rattle.script_values.specs.Slots.{SlotValue}
 use Rattle.script_values.specs.Values.{Value}
 use Rattle.builtin_calls.specs.Builtins.{builtin}
 use Rattle.builtin_calls.specs.Sound.{IsSound}
@@ -103,14 +103,14 @@ in_keeps : {A : Type 0} (n : ℕ) (r : Result (A × Machine) Fault) → HoldsBeh
 in_keeps n (Ok x) is = is
 in_keeps n (Err e) is = tt
 
-turned_sound : (script : Script) (uses : List Use) (part : Tree APart) (n : ℕ) (slots : List Slot) (m : Machine) → IsSound m → HoldsBehind IsSound (turned script uses part n slots m)
+turned_sound : (script : Script) (uses : List Use) (part : Tree APart) (n : ℕ) (slots : List SlotValue) (m : Machine) → IsSound m → HoldsBehind IsSound (turned script uses part n slots m)
 unfolding turned
 turned_sound script uses part n slots m is =
     then_keeps (settled (is_setting uses part) m) (λ b. in_statement n (statement (top_scope script uses slots) part slots (numbered n b))) (settled_sound (is_setting uses part) m is) (λ b held.
     in_keeps n (statement (top_scope script uses slots) part slots (numbered n b))
     (statement_keeps sound_is_kept (top_scope script uses slots) (λ t kinds given k kept. calls_keep sound_is_kept (record { script = script; uses = uses; globals = slots }) MAX_CALLS t kinds given k kept) part slots (numbered n b) (numbered_sound n b held)))
 
-statements_sound : (script : Script) (uses : List Use) (rest : Tree (Many AStmt)) (n : ℕ) (slots : List Slot) (m : Machine) → IsSound m → Leaves IsSound (statements script uses rest n slots m)
+statements_sound : (script : Script) (uses : List Use) (rest : Tree (Many AStmt)) (n : ℕ) (slots : List SlotValue) (m : Machine) → IsSound m → Leaves IsSound (statements script uses rest n slots m)
 unfolding statements
 statements_sound script uses none n slots m is = settled_sound false m is
 statements_sound script uses (more (Stmt part semicolon) rest) n slots m is =

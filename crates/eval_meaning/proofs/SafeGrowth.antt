@@ -4,16 +4,16 @@ use Rattle.liq_base.specs.declared.limits.TheConstants.{MAX_WORK}
 use Rattle.plan_core.specs.declared.node.Node.{Node}
 use Rattle.type_terms.specs.Ground.{Ground, Grounds}
 use Rattle.typing_rules.specs.Arguments as arguments
-use Rattle.typing_rules.specs.Typing.{Sight, Types}
+use Rattle.typing_rules.specs.Typing.{Sight, TypesByToken}
 use Rattle.script_values.specs.declared.fault.Fault.{Fault}
 use Rattle.script_values.specs.declared.fault.Fault.TheVariants as faults
 use Rattle.script_values.specs.declared.machine.Machine.{Machine}
 use Rattle.script_values.specs.Machines.{count}
 use Rattle.script_values.specs.Outcomes.{◌>>=◌, Outcome}
-use Rattle.script_values.specs.Slots.{Given, Slot}
+use Rattle.script_values.specs.Slots.{Argument, SlotValue}
 use Rattle.script_values.specs.Values as value
 use Rattle.script_values.specs.Values.{Value}
-use Rattle.eval_meaning.specs.Meaning.{Scope, joined}
+use Rattle.eval_meaning.specs.Meaning.{Surroundings, joined}
 use Rattle.eval_meaning.specs.BuiltinSafety.{AllAre, AreA, EachIs, Grows, IsA, NotStuck, Of, Safe}
 use Rattle.eval_meaning.specs.Safety.{HaveValues, Knows}
 
@@ -36,26 +36,26 @@ mutual
   is_later a b grows (value.Listed vs) g is = (is.0, is.1, all_later a b grows vs is.0 is.2)
   is_later a b grows (value.Tuple vs) g is = (is.0, is.1, each_later a b grows vs is.0 is.2)
 
-  pub all_later : (a b : List Node) → Grows a b → (vs : value.Tree value.Many) (t : Ground) → AllAre a vs t → AllAre b vs t
+  pub all_later : (a b : List Node) → Grows a b → (vs : value.ValueTree value.Many) (t : Ground) → AllAre a vs t → AllAre b vs t
   all_later a b grows value.none t is = tt
   all_later a b grows (value.more v vs) t is = (is_later a b grows v t is.0, all_later a b grows vs t is.1)
 
-  pub each_later : (a b : List Node) → Grows a b → (vs : value.Tree value.Many) (ts : Grounds) → EachIs a vs ts → EachIs b vs ts
+  pub each_later : (a b : List Node) → Grows a b → (vs : value.ValueTree value.Many) (ts : Grounds) → EachIs a vs ts → EachIs b vs ts
   each_later a b grows value.none ts is = is
   each_later a b grows (value.more v vs) ts is = (is.0, is.1, is.2, is_later a b grows v is.0 is.3, each_later a b grows vs is.1 is.4)
 
-pub are_later : (a b : List Node) → Grows a b → (given : List Given) (gs : List (arguments.Given Ground)) → AreA a given gs → AreA b given gs
+pub are_later : (a b : List Node) → Grows a b → (given : List Argument) (gs : List (arguments.Given Ground)) → AreA a given gs → AreA b given gs
 are_later a b grows [] [] is = tt
 are_later a b grows [] (h ∷ hs) is = absurd is
 are_later a b grows (g ∷ given) [] is = absurd is
 are_later a b grows (g ∷ given) (h ∷ hs) is = (is.0, is_later a b grows g.1 h.1 is.1, are_later a b grows given hs is.2)
 
-pub fits_later : (a b : List Node) → Grows a b → (types : Types) (slots : List Slot) → HaveValues a types slots → HaveValues b types slots
+pub fits_later : (a b : List Node) → Grows a b → (types : TypesByToken) (slots : List SlotValue) → HaveValues a types slots → HaveValues b types slots
 fits_later a b grows types slots fits at g is =
     let held = fits at g is in
     (held.0, held.1, is_later a b grows held.0 g held.2)
 
-pub knows_later : (a b : List Node) → Grows a b → (s : Scope) (t : Sight) → Knows s t a → Knows s t b
+pub knows_later : (a b : List Node) → Grows a b → (s : Surroundings) (t : Sight) → Knows s t a → Knows s t b
 knows_later a b grows s t knows = record {
   target = knows.target;
   kinds = knows.kinds;

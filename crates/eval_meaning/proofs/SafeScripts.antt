@@ -15,8 +15,8 @@ use Rattle.typing_rules.specs.Answers.{IsTypedScript}
 use Rattle.typing_rules.specs.Arguments as arguments
 use Rattle.typing_rules.specs.Defs.{AreDefsOf, IsDefOf, def_at}
 use Rattle.typing_rules.specs.Kinds.{Stands, around, read, target_at}
-use Rattle.typing_rules.specs.Scripts.{Entry, IsTypedTo, calls_of, def_token, function, params_of, sight, types_of, value}
-use Rattle.typing_rules.specs.Typing.{Sight, Types, DefHas, Has, type_at}
+use Rattle.typing_rules.specs.Scripts.{Entry, IsTypedTo, calls_behind, def_token, function, params_of, sight, types_of, value}
+use Rattle.typing_rules.specs.Typing.{Sight, TypesByToken, DefHas, Has, type_at}
 use Rattle.typing_rules.proofs.Knot.{IsKept, kept_from}
 use Rattle.typing_rules.proofs.Reading.{same_kinds, same_target}
 use Rattle.script_values.specs.declared.fault.Fault.{Fault}
@@ -25,11 +25,11 @@ use Rattle.script_values.specs.declared.fault.EvalFault.TheVariants as told
 use Rattle.script_values.specs.declared.machine.Machine.{Machine}
 use Rattle.script_values.specs.Faults.{fault_in}
 use Rattle.script_values.specs.Machines.{first_machine}
-use Rattle.script_values.specs.Slots.{Given, Slot, slot_at}
+use Rattle.script_values.specs.Slots.{Argument, SlotValue, slot_at}
 use Rattle.script_values.specs.Values.{Value}
 use Rattle.eval_meaning.specs.Calls.{is_setting}
 use Rattle.eval_meaning.specs.Meaning as meaning
-use Rattle.eval_meaning.specs.Meaning.{Scope, World, call_by, full, run}
+use Rattle.eval_meaning.specs.Meaning.{Surroundings, World, call_by, full, run}
 use Rattle.eval_meaning.specs.Scripts.{Ending, and_then, closed, ended, evaluation, in_statement, numbered, plan_of, settled, statement, statements, tick_of, top_scope, turned}
 use Rattle.eval_meaning.specs.BuiltinSafety.{AreA, BuiltinsAreSafe, Grows, IsA, IsTold, Of, Safe}
 use Rattle.eval_meaning.specs.Safety.{HaveValues, IsNotStuck, Knows}
@@ -39,14 +39,14 @@ use Rattle.eval_meaning.proofs.SafeGrowth.{after, fits_later, grows_on, stays}
 
 -- ---- the bindings of a script
 
-slot_first : (at : ℕ) (a b : List Slot) (v : Value) → slot_at at a ≡ Some v → slot_at at (a ++ b) ≡ Some v
+slot_first : (at : ℕ) (a b : List SlotValue) (v : Value) → slot_at at a ≡ Some v → slot_at at (a ++ b) ≡ Some v
 slot_first at [] b v is = absurd cc
 slot_first at (s ∷ a) b v is = by_test (nat_eq s.0 at) s.1 (slot_at at a) (slot_at at (a ++ b)) v (slot_first at a b v) is where
   by_test : (t : Bool) (u : Value) (one other : Option Value) (w : Value) → (one ≡ Some w → other ≡ Some w) → cond t (Some u) one ≡ Some w → cond t (Some u) other ≡ Some w
   by_test true u one other w later same = same
   by_test false u one other w later same = later same
 
-slot_second : (at : ℕ) (a b : List Slot) → slot_at at a ≡ None → slot_at at (a ++ b) ≡ slot_at at b
+slot_second : (at : ℕ) (a b : List SlotValue) → slot_at at a ≡ None → slot_at at (a ++ b) ≡ slot_at at b
 slot_second at [] b is = refl
 slot_second at (s ∷ a) b is = no_test (nat_eq s.0 at) s.1 (slot_at at a) (slot_at at (a ++ b)) (slot_at at b) (slot_second at a b) is where
   no_test : (t : Bool) (u : Value) (one other third : Option Value) → (one ≡ None → other ≡ third) → cond t (Some u) one ≡ None → cond t (Some u) other ≡ third
@@ -54,17 +54,17 @@ slot_second at (s ∷ a) b is = no_test (nat_eq s.0 at) s.1 (slot_at at a) (slot
   no_test false u one other third later same = later same
 
 -- each binding stands before this token
-abbrev Below : ℕ → List Slot → Type 0
+abbrev Below : ℕ → List SlotValue → Type 0
 Below i slots = (at : ℕ) (v : Value) → slot_at at slots ≡ Some v → at < i
 
-unbound : (i : ℕ) (slots : List Slot) → Below i slots → (o : Option Value) → slot_at i slots ≡ o → slot_at i slots ≡ None
+unbound : (i : ℕ) (slots : List SlotValue) → Below i slots → (o : Option Value) → slot_at i slots ≡ o → slot_at i slots ≡ None
 unbound i slots below None is = is
 unbound i slots below (Some v) is = absurd (omega (arith, below i v is))
 
-below_later : (i k : ℕ) (slots : List Slot) → i ≤ k → Below i slots → Below k slots
+below_later : (i k : ℕ) (slots : List SlotValue) → i ≤ k → Below i slots → Below k slots
 below_later i k slots le below at v is = omega (arith, below at v is)
 
-below_push : (i k : ℕ) (slots : List Slot) (v : Value) → i < k → Below i slots → Below k (slots ++ (i, v) ∷ [])
+below_push : (i k : ℕ) (slots : List SlotValue) (v : Value) → i < k → Below i slots → Below k (slots ++ (i, v) ∷ [])
 below_push i k slots v lt below at w is = by_old (slot_at at slots) refl where
   by_new : (b : Bool) → nat_eq i at ≡ b → cond b (Some v) None ≡ Some w → at < k
   by_new true same here = let e : i ≡ at = eqb-true i at same in omega arith
@@ -76,18 +76,18 @@ below_push i k slots v lt below at w is = by_old (slot_at at slots) refl where
 
 -- ---- what the text of a statement sees
 
-abbrev Sees : List Node → List Slot → List Entry → Type 0
+abbrev Sees : List Node → List SlotValue → List Entry → Type 0
 Sees ns slots es = HaveValues ns (types_of es) slots × ((d : Tree ADef) (before : List Entry) → Stands es d before → HaveValues ns (types_of before) slots)
 
-sees_later : (a b : List Node) → Grows a b → (slots : List Slot) (es : List Entry) → Sees a slots es → Sees b slots es
+sees_later : (a b : List Node) → Grows a b → (slots : List SlotValue) (es : List Entry) → Sees a slots es → Sees b slots es
 sees_later a b grows slots es sees = (fits_later a b grows (types_of es) slots sees.0, λ d before stands. fits_later a b grows (types_of before) slots (sees.1 d before stands))
 
-fits_push : (ns : List Node) (types : Types) (slots : List Slot) (more' : List Slot) → HaveValues ns types slots → HaveValues ns types (slots ++ more')
+fits_push : (ns : List Node) (types : TypesByToken) (slots : List SlotValue) (more' : List SlotValue) → HaveValues ns types slots → HaveValues ns types (slots ++ more')
 fits_push ns types slots more' fits at g is =
     let held = fits at g is in
     (held.0, slot_first at slots more' held.0 held.1, held.2)
 
-fits_value : (ns : List Node) (types : Types) (slots : List Slot) (at : ℕ) (v : Value) (g : Ground) → slot_at at slots ≡ None → IsA ns v g → HaveValues ns types slots → HaveValues ns ((at, g) ∷ types) (slots ++ (at, v) ∷ [])
+fits_value : (ns : List Node) (types : TypesByToken) (slots : List SlotValue) (at : ℕ) (v : Value) (g : Ground) → slot_at at slots ≡ None → IsA ns v g → HaveValues ns types slots → HaveValues ns ((at, g) ∷ types) (slots ++ (at, v) ∷ [])
 fits_value ns types slots at v g free held fits u h is = by_token (nat_eq at u) refl is where
   by_token : (b : Bool) → nat_eq at u ≡ b → cond b (Some g) (type_at u types) ≡ Some h → IsFound ns (slot_at u (slots ++ (at, v) ∷ [])) h
   by_token true same here =
@@ -99,13 +99,13 @@ fits_value ns types slots at v g free held fits u h is = by_token (nat_eq at u) 
       let found = fits u h here in
       (found.0, slot_first u slots ((at, v) ∷ []) found.0 found.1, found.2)
 
-sees_value : (ns : List Node) (slots : List Slot) (es : List Entry) (at : ℕ) (v : Value) (g : Ground) → slot_at at slots ≡ None → IsA ns v g → Sees ns slots es → Sees ns (slots ++ (at, v) ∷ []) (value at g ∷ es)
+sees_value : (ns : List Node) (slots : List SlotValue) (es : List Entry) (at : ℕ) (v : Value) (g : Ground) → slot_at at slots ≡ None → IsA ns v g → Sees ns slots es → Sees ns (slots ++ (at, v) ∷ []) (value at g ∷ es)
 sees_value ns slots es at v g free held sees = (fits_value ns (types_of es) slots at v g free held sees.0, behind) where
   behind : (d : Tree ADef) (before : List Entry) → Stands (value at g ∷ es) d before → HaveValues ns (types_of before) (slots ++ (at, v) ∷ [])
   behind d before (inl here) = let e = here.0 in absurd cc
   behind d before (inr later) = fits_push ns (types_of before) slots ((at, v) ∷ []) (sees.1 d before later)
 
-sees_function : (ns : List Node) (slots : List Slot) (es : List Entry) (e : Tree ADef) → Sees ns slots es → Sees ns slots (function e ∷ es)
+sees_function : (ns : List Node) (slots : List SlotValue) (es : List Entry) (e : Tree ADef) → Sees ns slots es → Sees ns slots (function e ∷ es)
 sees_function ns slots es e sees = (sees.0, behind) where
   behind : (d : Tree ADef) (before : List Entry) → Stands (function e ∷ es) d before → HaveValues ns (types_of before) slots
   behind d before (inl here) = subst (λ (l : List Entry). HaveValues ns (types_of l) slots) here.1 sees.0
@@ -128,13 +128,13 @@ defs_value script es at g defs d before (inr later) = defs d before later
 
 -- ---- calls of defs, by the number that may still run
 
-abbrev Good : Script → List Use → List Slot → List Node → ℕ → ℕ → List Kind → List (arguments.Given Ground) → Ground → Type 0
-Good script uses slots ns n u ks gs g = (given : List Given) (m : Machine) → Grows ns m.plan.nodes → AreA m.plan.nodes given gs → Safe m.plan.nodes (Of g) (call_by (record { script = script; uses = uses; globals = slots }) n u ks given m)
+abbrev Good : Script → List Use → List SlotValue → List Node → ℕ → ℕ → List Kind → List (arguments.Given Ground) → Ground → Type 0
+Good script uses slots ns n u ks gs g = (given : List Argument) (m : Machine) → Grows ns m.plan.nodes → AreA m.plan.nodes given gs → Safe m.plan.nodes (Of g) (call_by (record { script = script; uses = uses; globals = slots }) n u ks given m)
 
-one_call : BuiltinsAreSafe → (script : Script) (uses : List Use) (slots : List Slot) (ns : List Node) (n : ℕ) (d : Tree ADef) (before : List Entry) (chain : List ℕ) (ks : List Kind) (gs : List (arguments.Given Ground)) (us : List Ground) (g : Ground)
+one_call : BuiltinsAreSafe → (script : Script) (uses : List Use) (slots : List SlotValue) (ns : List Node) (n : ℕ) (d : Tree ADef) (before : List Entry) (chain : List ℕ) (ks : List Kind) (gs : List (arguments.Given Ground)) (us : List Ground) (g : Ground)
     → def_at (def_token d) script ≡ Some d → Sees ns slots before → around [] uses chain ≡ Some ks → arguments.Matched (params_of d) gs us
     → DefHas (sight (target_at uses) (read [] uses) before chain) d us g
-    → ((at t : ℕ) (js : List Kind) (hs : List (arguments.Given Ground)) (h : Ground) → read [] uses chain at ≡ Some js → calls_of (target_at uses) (read [] uses) before chain at t hs h → Good script uses slots ns n t js hs h)
+    → ((at t : ℕ) (js : List Kind) (hs : List (arguments.Given Ground)) (h : Ground) → read [] uses chain at ≡ Some js → calls_behind (target_at uses) (read [] uses) before chain at t hs h → Good script uses slots ns n t js hs h)
     → Good script uses slots ns (suc n) (def_token d) ks gs g
 unfolding call_by
 one_call bs script uses slots ns n d before chain ks gs us g found seen kinds matched has calls given m grows held =
@@ -147,18 +147,18 @@ one_call bs script uses slots ns n d before chain ks gs us g found seen kinds ma
     subst (λ (o : Option (Tree ADef)). Safe m.plan.nodes (Of g) (run (record { uses = uses; slots = slots; kinds = ks; call = call_by (record { script = script; uses = uses; globals = slots }) n }) o given m)) (sym found)
     (safe_body bs (record { uses = uses; slots = slots; kinds = ks; call = call_by (record { script = script; uses = uses; globals = slots }) n }) (sight (target_at uses) (read [] uses) before chain) d (params_of d) us g given gs m knows held refl matched has)
 
-no_call : (script : Script) (uses : List Use) (slots : List Slot) (ns : List Node) (u : ℕ) (ks : List Kind) (gs : List (arguments.Given Ground)) (g : Ground) → Good script uses slots ns 0 u ks gs g
+no_call : (script : Script) (uses : List Use) (slots : List SlotValue) (ns : List Node) (u : ℕ) (ks : List Kind) (gs : List (arguments.Given Ground)) (g : Ground) → Good script uses slots ns 0 u ks gs g
 unfolding call_by
 no_call script uses slots ns u ks gs g given m grows held = tt
 
-calls_kept : BuiltinsAreSafe → (script : Script) (uses : List Use) (slots : List Slot) (ns : List Node) → IsKept script uses (Sees ns slots) (Good script uses slots ns)
+calls_kept : BuiltinsAreSafe → (script : Script) (uses : List Use) (slots : List SlotValue) (ns : List Node) → IsKept script uses (Sees ns slots) (Good script uses slots ns)
 calls_kept bs script uses slots ns = record {
   fewer = λ es d before stands sees. (sees.1 d before stands, λ e earlier inner. sees.1 e earlier (stands_on es d before e earlier stands inner));
   none_left = λ u ks gs g. no_call script uses slots ns u ks gs g;
   one_more = λ n d before chain ks gs us g found seen kinds matched has calls. one_call bs script uses slots ns n d before chain ks gs us g found seen kinds matched has calls;
 }
 
-knows_top : BuiltinsAreSafe → (script : Script) (uses : List Use) (slots : List Slot) (es : List Entry) (ns : List Node) → IsPlaced 0 script → AreDefsOf script es → Sees ns slots es → Knows (top_scope script uses slots) (sight (target_at uses) (read [] uses) es []) ns
+knows_top : BuiltinsAreSafe → (script : Script) (uses : List Use) (slots : List SlotValue) (es : List Entry) (ns : List Node) → IsPlaced 0 script → AreDefsOf script es → Sees ns slots es → Knows (top_scope script uses slots) (sight (target_at uses) (read [] uses) es []) ns
 knows_top bs script uses slots es ns placed defs sees = record {
   target = λ at. same_target uses at;
   kinds = λ at. same_kinds uses [] [] at refl;
@@ -215,26 +215,26 @@ turn_then m (Err (Some fault)) g k same later = tt
 turn_then m (Err None) g k same later = absurd same
 
 -- what a statement leaves
-abbrev Left : ℕ → List Entry → List Node → List Slot → Type 0
+abbrev Left : ℕ → List Entry → List Node → List SlotValue → Type 0
 Left i es ks slots = Sees ks slots es × Below i slots
 
-safe_bind : BuiltinsAreSafe → (s : Scope) (t : Sight) (at : ℕ) (name : List ℕ) (f : Tree AFull) (g : Ground) (slots : List Slot) (es : List Entry) (k : ℕ) (m : Machine) → Knows s t m.plan.nodes → Has t f g → at < k → Below at slots → Sees m.plan.nodes slots es
+safe_bind : BuiltinsAreSafe → (s : Surroundings) (t : Sight) (at : ℕ) (name : List ℕ) (f : Tree AFull) (g : Ground) (slots : List SlotValue) (es : List Entry) (k : ℕ) (m : Machine) → Knows s t m.plan.nodes → Has t f g → at < k → Below at slots → Sees m.plan.nodes slots es
     → Safe m.plan.nodes (Left k (value at g ∷ es)) (statement s (BindPart (Bind at name f)) slots m)
 unfolding statement
 safe_bind bs s t at name f g slots es k m knows has lt below sees =
     after m.plan.nodes (Of g) (Left k (value at g ∷ es)) (full s f m) (λ x. Ok (slots ++ (at, x.0) ∷ [], x.1)) (safe_full bs s t f g has m knows) (λ x grows is.
     (stays x.1.plan.nodes, (sees_value x.1.plan.nodes slots es at x.0 g (unbound at slots below (slot_at at slots) refl) is (sees_later m.plan.nodes x.1.plan.nodes grows slots es sees), below_push at k slots x.0 lt below)))
 
-safe_def : (s : Scope) (d : Tree ADef) (slots : List Slot) (es : List Entry) (i k : ℕ) (m : Machine) → i ≤ k → Below i slots → Sees m.plan.nodes slots es → Safe m.plan.nodes (Left k (function d ∷ es)) (statement s (DefPart d) slots m)
+safe_def : (s : Surroundings) (d : Tree ADef) (slots : List SlotValue) (es : List Entry) (i k : ℕ) (m : Machine) → i ≤ k → Below i slots → Sees m.plan.nodes slots es → Safe m.plan.nodes (Left k (function d ∷ es)) (statement s (DefPart d) slots m)
 unfolding statement
 safe_def s d slots es i k m le below sees = (stays m.plan.nodes, (sees_function m.plan.nodes slots es d sees, below_later i k slots le below))
 
-safe_call_part : BuiltinsAreSafe → (s : Scope) (t : Sight) (c : Tree ACall) (g : Ground) (slots : List Slot) (es : List Entry) (i k : ℕ) (m : Machine) → Knows s t m.plan.nodes → Has t c g → i ≤ k → Below i slots → Sees m.plan.nodes slots es → Safe m.plan.nodes (Left k es) (statement s (CallPart c) slots m)
+safe_call_part : BuiltinsAreSafe → (s : Surroundings) (t : Sight) (c : Tree ACall) (g : Ground) (slots : List SlotValue) (es : List Entry) (i k : ℕ) (m : Machine) → Knows s t m.plan.nodes → Has t c g → i ≤ k → Below i slots → Sees m.plan.nodes slots es → Safe m.plan.nodes (Left k es) (statement s (CallPart c) slots m)
 unfolding statement
 safe_call_part bs s t c g slots es i k m knows has le below sees =
     after m.plan.nodes (Of g) (Left k es) (meaning.call s c m) (λ x. Ok (slots, x.1)) (safe_call bs s t c g has m knows) (λ x grows is. (stays x.1.plan.nodes, (sees_later m.plan.nodes x.1.plan.nodes grows slots es sees, below_later i k slots le below)))
 
-safe_if_part : BuiltinsAreSafe → (s : Scope) (t : Sight) (c : Tree AnIf) (g : Ground) (slots : List Slot) (es : List Entry) (i k : ℕ) (m : Machine) → Knows s t m.plan.nodes → Has t c g → i ≤ k → Below i slots → Sees m.plan.nodes slots es → Safe m.plan.nodes (Left k es) (statement s (IfPart c) slots m)
+safe_if_part : BuiltinsAreSafe → (s : Surroundings) (t : Sight) (c : Tree AnIf) (g : Ground) (slots : List SlotValue) (es : List Entry) (i k : ℕ) (m : Machine) → Knows s t m.plan.nodes → Has t c g → i ≤ k → Below i slots → Sees m.plan.nodes slots es → Safe m.plan.nodes (Left k es) (statement s (IfPart c) slots m)
 unfolding statement
 safe_if_part bs s t c g slots es i k m knows has le below sees =
     after m.plan.nodes (Of g) (Left k es) (meaning.choice s c m) (λ x. Ok (slots, x.1)) (safe_choice bs s t c g has m knows) (λ x grows is. (stays x.1.plan.nodes, (sees_later m.plan.nodes x.1.plan.nodes grows slots es sees, below_later i k slots le below)))
@@ -245,7 +245,7 @@ at_before at i n is some = omega arith
 some_token : (at : ℕ) (name : List ℕ) (f : Tree AFull) (semicolon : Bool) → 0 < length (spell (Stmt (BindPart (Bind at name f)) semicolon))
 some_token at name f semicolon = omega arith
 
-pub safe_statements : BuiltinsAreSafe → (script : Script) (uses : List Use) → IsPlaced 0 script → (rest : Tree (Many AStmt)) (i n : ℕ) (es fs : List Entry) (slots : List Slot) (m : Machine) → IsPlaced i rest → IsTypedTo (target_at uses) (read [] uses) es rest fs
+pub safe_statements : BuiltinsAreSafe → (script : Script) (uses : List Use) → IsPlaced 0 script → (rest : Tree (Many AStmt)) (i n : ℕ) (es fs : List Entry) (slots : List SlotValue) (m : Machine) → IsPlaced i rest → IsTypedTo (target_at uses) (read [] uses) es rest fs
     → ((d : Tree ADef) → IsDefOf rest d → IsDefOf script d) → AreDefsOf script es → Sees m.plan.nodes slots es → Below i slots → IsNotStuck (statements script uses rest n slots m)
 unfolding statements turned
 safe_statements bs script uses placed none i n es fs slots m here typed inside defs sees below = same_not_stuck m (settled false m) (settled_same false m)

@@ -12,7 +12,7 @@ use Rattle.typing_rules.specs.declared.uses.Target.TheVariants as target
 use Rattle.typing_rules.specs.declared.uses.Use.{Use}
 use Rattle.typing_rules.specs.Answers.{IsTyped}
 use Rattle.typing_rules.specs.Defs.{def_at}
-use Rattle.typing_rules.specs.Kinds.{Block, EachHasKinds, HasKinds, IsInOrder, AreInOrder, IsOneOf, IsPlace, IsUsedIn, MonoOnly, around, blocks, counted, is_of, kinds_in, kinds_listed, kinds_of, names_of, numbers_in, open_kinds, number_of, owner, read, target_at, target_said}
+use Rattle.typing_rules.specs.Kinds.{Block, EachHasKinds, HasKinds, IsInOrder, AreInOrder, IsOneOf, IsPlace, IsUsedIn, MonoOnly, around, blocks, counted, is_of, kinds_in, kinds_listed, kinds_of, block_names, numbers_in, open_kinds, number_of, owner, read, target_at, target_said}
 use Rattle.typing_rules.specs.Scoping as scoping
 use Rattle.typing_rules.specs.Scoping.{Meaning, Name, meanings_of, names, target_in, target_of, used, with_statement}
 use Rattle.typing_rules.specs.Scripts.{IsTypedTo, Targets}
@@ -20,9 +20,9 @@ use Rattle.typing_rules.specs.Uses.{use_at}
 use Rattle.typing_rules.proofs.Reading.{same_kinds, same_target}
 use Rattle.script_values.specs.declared.machine.Machine.{Machine}
 use Rattle.script_values.specs.Machines.{first_machine}
-use Rattle.script_values.specs.Slots.{Given, Slot}
+use Rattle.script_values.specs.Slots.{Argument, SlotValue}
 use Rattle.eval_meaning.specs.Calls.{holds_call, is_setting, means_set}
-use Rattle.eval_meaning.specs.Meaning.{Scope, applied, applied_to, call_by, run}
+use Rattle.eval_meaning.specs.Meaning.{Surroundings, applied, applied_to, call_by, run}
 use Rattle.eval_meaning.specs.Scripts.{Ending, and_then, evaluation, in_statement, numbered, plan_of, settled, statement, statements, top_scope, turned}
 use Rattle.eval_meaning.proofs.UsesAlike.{Alike, body_same, part_same}
 use Rattle.eval_meaning.proofs.UsesReadable.{AreBelow, are_read, counted_below, mono_same, numbers_below}
@@ -90,7 +90,7 @@ enters script uses typed chain ns n t u ks reaches inside is means =
 reaches_text : (script : Script) (uses : List Use) (chain : List ℕ) (t : ℕ) (ks : List Kind) (ns : List Name) → find (λ b. is_of t b.0) (blocks [] script) ≡ Some (Some t, ns) → around [] uses chain ≡ Some ks → open_kinds (blocks [] script) uses t ≡ Some (length ks) → Reaches uses chain ns ks
 reaches_text script uses chain t ks ns found kinds asked = record {
   kinds = kinds;
-  below = counted_below (length ks) (numbers_in uses ns) (subst (λ (o : Option Block). counted 0 (numbers_in uses (names_of o)) ≡ Some (length ks)) found asked);
+  below = counted_below (length ks) (numbers_in uses ns) (subst (λ (o : Option Block). counted 0 (numbers_in uses (block_names o)) ≡ Some (length ks)) found asked);
 }
 
 -- ---- calls
@@ -100,31 +100,31 @@ abbrev pub Leads : Script → List ℕ → List Name → Type 0
 Leads script chain ns = (n : Name) → IsOneOf ns n → IsPlace (blocks [] script) None chain n
 
 -- calls of defs do the same
-abbrev pub SameCalls : Script → List Use → List Use → List Slot → ℕ → Type 0
-SameCalls script a b slots k = (t : ℕ) (chain : List ℕ) (ja jb : List Kind) (given : List Given) (m : Machine)
+abbrev pub SameCalls : Script → List Use → List Use → List SlotValue → ℕ → Type 0
+SameCalls script a b slots k = (t : ℕ) (chain : List ℕ) (ja jb : List Kind) (given : List Argument) (m : Machine)
     → around [] a chain ≡ Some ja → around [] b chain ≡ Some jb → open_kinds (blocks [] script) a t ≡ Some (length ja) → open_kinds (blocks [] script) b t ≡ Some (length jb)
     → ((n : Name) → IsUsedIn (blocks [] script) (Some t) n → IsPlace (blocks [] script) None chain n)
     → call_by (record { script = script; uses = a; globals = slots }) k t ja given m ≡ call_by (record { script = script; uses = b; globals = slots }) k t jb given m
 
 -- the scope of a text with these kinds, where so many more calls may run
-abbrev pub scope_with : Script → List Use → List Slot → ℕ → List Kind → Scope
+abbrev pub scope_with : Script → List Use → List SlotValue → ℕ → List Kind → Surroundings
 scope_with script uses slots k kinds = record { uses = uses; slots = slots; kinds = kinds; call = call_by (record { script = script; uses = uses; globals = slots }) k }
 
-slot_call : (s r : Scope) (t at : ℕ) (o p : Option (List Kind)) (given : List Given) (m : Machine) → applied_to s (target.Slot t) at o given m ≡ applied_to r (target.Slot t) at p given m
+slot_call : (s r : Surroundings) (t at : ℕ) (o p : Option (List Kind)) (given : List Argument) (m : Machine) → applied_to s (target.Slot t) at o given m ≡ applied_to r (target.Slot t) at p given m
 slot_call s r t at None None given m = refl
 slot_call s r t at None (Some y) given m = refl
 slot_call s r t at (Some x) None given m = refl
 slot_call s r t at (Some x) (Some y) given m = refl
 
-builtin_call : (s r : Scope) (d : Builtin) (at : ℕ) (o p : Option (List Kind)) (given : List Given) (m : Machine) → o ≡ p → applied_to s (target.Builtin d) at o given m ≡ applied_to r (target.Builtin d) at p given m
+builtin_call : (s r : Surroundings) (d : Builtin) (at : ℕ) (o p : Option (List Kind)) (given : List Argument) (m : Machine) → o ≡ p → applied_to s (target.Builtin d) at o given m ≡ applied_to r (target.Builtin d) at p given m
 builtin_call s r d at o p given m same = ap (λ (x : Option (List Kind)). applied_to s (target.Builtin d) at x given m) same ∙ by_kinds p where
   by_kinds : (x : Option (List Kind)) → applied_to s (target.Builtin d) at x given m ≡ applied_to r (target.Builtin d) at x given m
   by_kinds None = refl
   by_kinds (Some x) = refl
 
 -- a name of a text does the same, by what it means
-by_target : (script : Script) (a b : List Use) → Pair script a b → (slots : List Slot) (k : ℕ) → SameCalls script a b slots k → (chain : List ℕ) (ns : List Name) (ja jb : List Kind) → Reaches a chain ns ja → Reaches b chain ns jb → Leads script chain ns
-    → (n : Name) → IsOneOf ns n → (u v : Use) → use_at n.at a ≡ Some u → use_at n.at b ≡ Some v → (w : Target) → u.target ≡ w → v.target ≡ w → Found ns n.at w → (given : List Given) (m : Machine)
+by_target : (script : Script) (a b : List Use) → Pair script a b → (slots : List SlotValue) (k : ℕ) → SameCalls script a b slots k → (chain : List ℕ) (ns : List Name) (ja jb : List Kind) → Reaches a chain ns ja → Reaches b chain ns jb → Leads script chain ns
+    → (n : Name) → IsOneOf ns n → (u v : Use) → use_at n.at a ≡ Some u → use_at n.at b ≡ Some v → (w : Target) → u.target ≡ w → v.target ≡ w → Found ns n.at w → (given : List Argument) (m : Machine)
     → applied_to (scope_with script a slots k ja) w n.at (kinds_of ja u.kinds) given m ≡ applied_to (scope_with script b slots k jb) w n.at (kinds_of jb v.kinds) given m
 by_target script a b pair slots k same chain ns ja jb ra rb leads n inside u v isu isv (target.Slot t) tu tv f given m = slot_call (scope_with script a slots k ja) (scope_with script b slots k jb) t n.at (kinds_of ja u.kinds) (kinds_of jb v.kinds) given m
 by_target script a b pair slots k same chain ns ja jb ra rb leads n inside u v isu isv (target.Builtin d) tu tv f given m =
@@ -143,8 +143,8 @@ some_target : (t u : Target) → Some t ≡ Some u → t ≡ u
 some_target t u is = cc
 
 -- and so do both scopes of a text
-by_uses : (script : Script) (a b : List Use) → Pair script a b → (slots : List Slot) (k : ℕ) → SameCalls script a b slots k → (owner : Option ℕ) (chain : List ℕ) (ns : List Name) (ja jb : List Kind) → IsBlock (blocks [] script) (owner, ns) → Reaches a chain ns ja → Reaches b chain ns jb → Leads script chain ns
-    → (n : Name) → IsOneOf ns n → (o p : Option Use) → use_at n.at a ≡ o → use_at n.at b ≡ p → target_said o ≡ target_said p → (given : List Given) (m : Machine)
+by_uses : (script : Script) (a b : List Use) → Pair script a b → (slots : List SlotValue) (k : ℕ) → SameCalls script a b slots k → (owner : Option ℕ) (chain : List ℕ) (ns : List Name) (ja jb : List Kind) → IsBlock (blocks [] script) (owner, ns) → Reaches a chain ns ja → Reaches b chain ns jb → Leads script chain ns
+    → (n : Name) → IsOneOf ns n → (o p : Option Use) → use_at n.at a ≡ o → use_at n.at b ≡ p → target_said o ≡ target_said p → (given : List Argument) (m : Machine)
     → applied (scope_with script a slots k ja) o n.at given m ≡ applied (scope_with script b slots k jb) p n.at given m
 unfolding applied
 by_uses script a b pair slots k same owner chain ns ja jb block ra rb leads n inside None None iso isp targets given m = refl
@@ -156,7 +156,7 @@ by_uses script a b pair slots k same owner chain ns ja jb block ra rb leads n in
     let same_one : u.target ≡ v.target = some_target u.target v.target targets in
     by_target script a b pair slots k same chain ns ja jb ra rb leads n inside u v iso isp u.target refl (sym same_one) f given m ∙ ap (λ (w : Target). applied_to (scope_with script b slots k jb) w n.at (kinds_of jb v.kinds) given m) same_one
 
-text_alike : (script : Script) (a b : List Use) → Pair script a b → (slots : List Slot) (k : ℕ) → SameCalls script a b slots k → (owner : Option ℕ) (chain : List ℕ) (ns : List Name) (ja jb : List Kind) → IsBlock (blocks [] script) (owner, ns) → Reaches a chain ns ja → Reaches b chain ns jb → Leads script chain ns
+text_alike : (script : Script) (a b : List Use) → Pair script a b → (slots : List SlotValue) (k : ℕ) → SameCalls script a b slots k → (owner : Option ℕ) (chain : List ℕ) (ns : List Name) (ja jb : List Kind) → IsBlock (blocks [] script) (owner, ns) → Reaches a chain ns ja → Reaches b chain ns jb → Leads script chain ns
     → Alike (scope_with script a slots k ja) (scope_with script b slots k jb) ns
 text_alike script a b pair slots k same owner chain ns ja jb block ra rb leads = record {
   slots = refl;
@@ -164,7 +164,7 @@ text_alike script a b pair slots k same owner chain ns ja jb block ra rb leads =
   calls = λ n inside given m. by_uses script a b pair slots k same owner chain ns ja jb block ra rb leads n inside (use_at n.at a) (use_at n.at b) refl refl (same_targets script a b pair n.at) given m;
 }
 
-run_same : (script : Script) (a b : List Use) → Pair script a b → (slots : List Slot) (k : ℕ) → SameCalls script a b slots k → (t : ℕ) (chain : List ℕ) (ja jb : List Kind) (given : List Given) (m : Machine)
+run_same : (script : Script) (a b : List Use) → Pair script a b → (slots : List SlotValue) (k : ℕ) → SameCalls script a b slots k → (t : ℕ) (chain : List ℕ) (ja jb : List Kind) (given : List Argument) (m : Machine)
     → around [] a chain ≡ Some ja → around [] b chain ≡ Some jb → open_kinds (blocks [] script) a t ≡ Some (length ja) → open_kinds (blocks [] script) b t ≡ Some (length jb)
     → ((n : Name) → IsUsedIn (blocks [] script) (Some t) n → IsPlace (blocks [] script) None chain n)
     → (o : Option (Tree ADef)) → def_at t script ≡ o → run (scope_with script a slots k ja) o given m ≡ run (scope_with script b slots k jb) o given m
@@ -175,7 +175,7 @@ run_same script a b pair slots k same t chain ja jb given m arounda aroundb open
     body_same (scope_with script a slots k ja) (scope_with script b slots k jb) x.scope d given m
     (text_alike script a b pair slots k same (Some t) chain ns ja jb x.block (reaches_text script a chain t ja ns x.found arounda opena) (reaches_text script b chain t jb ns x.found aroundb openb) (λ n inside. place n (block_used (blocks [] script) (Some t, ns) n x.block inside)))
 
-calls_same : (script : Script) (a b : List Use) → Pair script a b → (slots : List Slot) (k : ℕ) → SameCalls script a b slots k
+calls_same : (script : Script) (a b : List Use) → Pair script a b → (slots : List SlotValue) (k : ℕ) → SameCalls script a b slots k
 unfolding call_by
 calls_same script a b pair slots zero t chain ja jb given m arounda aroundb opena openb place = refl
 calls_same script a b pair slots (suc k) t chain ja jb given m arounda aroundb opena openb place = run_same script a b pair slots k (calls_same script a b pair slots k) t chain ja jb given m arounda aroundb opena openb place (def_at t script) refl
@@ -193,11 +193,11 @@ reaches_top script uses ns typed block =
     let none : numbers_in uses ns ≡ [] = in_order (blocks [] script) uses (blocks [] script) (None, ns) typed.numbered.order block in
     record { kinds = refl; below = subst (AreBelow 0) (sym none) tt }
 
-top_alike : (script : Script) (a b : List Use) → Pair script a b → (slots : List Slot) (ns : List Name) → IsBlock (blocks [] script) (None, ns) → Alike (top_scope script a slots) (top_scope script b slots) ns
+top_alike : (script : Script) (a b : List Use) → Pair script a b → (slots : List SlotValue) (ns : List Name) → IsBlock (blocks [] script) (None, ns) → Alike (top_scope script a slots) (top_scope script b slots) ns
 top_alike script a b pair slots ns block =
     text_alike script a b pair slots MAX_CALLS (calls_same script a b pair slots MAX_CALLS) None [] ns [] [] block (reaches_top script a ns pair.first block) (reaches_top script b ns pair.second block) (λ n inside. block_used (blocks [] script) (None, ns) n block inside)
 
-statement_same : (script : Script) (a b : List Use) → Pair script a b → (sc : scoping.Scope) (part : Tree APart) (semicolon : Bool) (slots : List Slot) (m : Machine) → IsBlock (blocks [] script) (owner (Stmt part semicolon), names sc part) → statement (top_scope script a slots) part slots m ≡ statement (top_scope script b slots) part slots m
+statement_same : (script : Script) (a b : List Use) → Pair script a b → (sc : scoping.Scope) (part : Tree APart) (semicolon : Bool) (slots : List SlotValue) (m : Machine) → IsBlock (blocks [] script) (owner (Stmt part semicolon), names sc part) → statement (top_scope script a slots) part slots m ≡ statement (top_scope script b slots) part slots m
 unfolding statement
 statement_same script a b pair sc (BindPart d) semicolon slots m block = part_same (top_scope script a slots) (top_scope script b slots) sc (BindPart d) slots m (top_alike script a b pair slots (names sc d) block)
 statement_same script a b pair sc (DefPart d) semicolon slots m block = refl
@@ -215,19 +215,19 @@ then_each : {A B : Type 0} (r : Result A Ending) (f g : A → Result B Ending) �
 then_each (Ok x) f g each = each x
 then_each (Err e) f g each = refl
 
-turned_same : (script : Script) (a b : List Use) → Pair script a b → (sc : scoping.Scope) (part : Tree APart) (semicolon : Bool) (n : ℕ) (slots : List Slot) (m : Machine) → IsBlock (blocks [] script) (owner (Stmt part semicolon), names sc part) → turned script a part n slots m ≡ turned script b part n slots m
+turned_same : (script : Script) (a b : List Use) → Pair script a b → (sc : scoping.Scope) (part : Tree APart) (semicolon : Bool) (n : ℕ) (slots : List SlotValue) (m : Machine) → IsBlock (blocks [] script) (owner (Stmt part semicolon), names sc part) → turned script a part n slots m ≡ turned script b part n slots m
 unfolding turned
 turned_same script a b pair sc part semicolon n slots m block =
-    let first : Machine → Result (List Slot × Machine) Ending = λ c. in_statement n (statement (top_scope script a slots) part slots (numbered n c)) in
-    let second : Machine → Result (List Slot × Machine) Ending = λ c. in_statement n (statement (top_scope script b slots) part slots (numbered n c)) in
+    let first : Machine → Result (List SlotValue × Machine) Ending = λ c. in_statement n (statement (top_scope script a slots) part slots (numbered n c)) in
+    let second : Machine → Result (List SlotValue × Machine) Ending = λ c. in_statement n (statement (top_scope script b slots) part slots (numbered n c)) in
     ap (λ (w : Bool). and_then (settled w m) first) (setting_same script a b pair part) ∙ then_each (settled (is_setting b part) m) first second (λ c. ap (in_statement n) (statement_same script a b pair sc part semicolon slots (numbered n c) block))
 
-statements_same : (script : Script) (a b : List Use) → Pair script a b → (rest : Tree (Many AStmt)) (sc : scoping.Scope) (n : ℕ) (slots : List Slot) (m : Machine) → ((x : Block) → IsBlock (blocks sc rest) x → IsBlock (blocks [] script) x) → statements script a rest n slots m ≡ statements script b rest n slots m
+statements_same : (script : Script) (a b : List Use) → Pair script a b → (rest : Tree (Many AStmt)) (sc : scoping.Scope) (n : ℕ) (slots : List SlotValue) (m : Machine) → ((x : Block) → IsBlock (blocks sc rest) x → IsBlock (blocks [] script) x) → statements script a rest n slots m ≡ statements script b rest n slots m
 unfolding statements
 statements_same script a b pair none sc n slots m inside = refl
 statements_same script a b pair (more (Stmt part semicolon) rest) sc n slots m inside =
-    let first : List Slot × Machine → Result Machine Ending = λ x. statements script a rest (n + 1) x.0 x.1 in
-    let second : List Slot × Machine → Result Machine Ending = λ x. statements script b rest (n + 1) x.0 x.1 in
+    let first : List SlotValue × Machine → Result Machine Ending = λ x. statements script a rest (n + 1) x.0 x.1 in
+    let second : List SlotValue × Machine → Result Machine Ending = λ x. statements script b rest (n + 1) x.0 x.1 in
     ap (λ r. and_then r first) (turned_same script a b pair sc part semicolon (n + 1) slots m (inside (owner (Stmt part semicolon), names sc part) (inl refl)))
     ∙ then_each (turned script b part (n + 1) slots m) first second (λ x. statements_same script a b pair rest (with_statement (Stmt part semicolon) sc) (n + 1) x.0 x.1 (λ y is. inside y (inr is)))
 

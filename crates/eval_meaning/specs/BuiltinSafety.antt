@@ -11,7 +11,7 @@ use Rattle.typing_rules.specs.Table.{IsCallOf}
 use Rattle.script_values.specs.declared.fault.Fault.{Fault}
 use Rattle.script_values.specs.declared.fault.Fault.TheVariants as faults
 use Rattle.script_values.specs.declared.machine.Machine.{Machine}
-use Rattle.script_values.specs.Slots.{Given}
+use Rattle.script_values.specs.Slots.{Argument}
 use Rattle.script_values.specs.Values as value
 use Rattle.script_values.specs.Values.{Value}
 use Rattle.builtin_calls.specs.Builtins.{builtin}
@@ -22,7 +22,7 @@ Grows before after = (n : ℕ) (node : Node) → slice_get before n ≡ Some nod
 
 -- The type of a value; a source's kind is that of its node.
 abbrev mutual
-  pub IsA : List Node → value.Tree value.One → Ground → Type 0
+  pub IsA : List Node → value.ValueTree value.One → Ground → Type 0
   IsA ns (value.Int n) g = g ≡ base_type base.Int
   IsA ns (value.Number d) g = g ≡ base_type base.Decimal
   IsA ns (value.Text t) g = g ≡ base_type base.Text
@@ -34,16 +34,16 @@ abbrev mutual
   IsA ns (value.Listed vs) g = (t : Ground) × (g ≡ list t) × AllAre ns vs t
   IsA ns (value.Tuple vs) g = (ts : Grounds) × (g ≡ tuple ts) × EachIs ns vs ts
 
-  pub AllAre : List Node → value.Tree value.Many → Ground → Type 0
+  pub AllAre : List Node → value.ValueTree value.Many → Ground → Type 0
   AllAre ns value.none t = ⊤
   AllAre ns (value.more v vs) t = IsA ns v t × AllAre ns vs t
 
-  pub EachIs : List Node → value.Tree value.Many → Grounds → Type 0
+  pub EachIs : List Node → value.ValueTree value.Many → Grounds → Type 0
   EachIs ns value.none ts = ts ≡ ground.no_more
   EachIs ns (value.more v vs) ts = (t : Ground) × (us : Grounds) × (ts ≡ ground.more t us) × IsA ns v t × EachIs ns vs us
 
 -- arguments of these types, each behind the same label
-abbrev pub AreA : List Node → List Given → List (arguments.Given Ground) → Type 0
+abbrev pub AreA : List Node → List Argument → List (arguments.Given Ground) → Type 0
 AreA ns [] [] = ⊤
 AreA ns [] (h ∷ hs) = ⊥
 AreA ns (g ∷ gs) [] = ⊥
@@ -76,4 +76,4 @@ Of g ns v = IsA ns v g
 -- each call of a builtin with arguments of its types is not stuck
 abbrev pub BuiltinsAreSafe : Type 0
 BuiltinsAreSafe = (b : Builtin) (at : ℕ) (ks : List Kind) (gs : List (arguments.Given Ground)) (g : Ground) → IsCallOf b gs ks g
-    → (given : List Given) (m : Machine) → AreA m.plan.nodes given gs → Safe m.plan.nodes (Of g) (builtin b at ks given m)
+    → (given : List Argument) (m : Machine) → AreA m.plan.nodes given gs → Safe m.plan.nodes (Of g) (builtin b at ks given m)

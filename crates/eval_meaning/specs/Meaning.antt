@@ -20,16 +20,16 @@ use Rattle.script_values.specs.Machines.{count}
 use Rattle.script_values.specs.Outcomes.{Outcome, ◌>>=◌}
 use Rattle.builtin_calls.specs.Builtins.{builtin}
 use Rattle.eval_meaning.specs.Preds.{or_pred}
-use Rattle.script_values.specs.Slots.{Given, Slot, slot_at}
+use Rattle.script_values.specs.Slots.{Argument, SlotValue, slot_at}
 
 -- a call of the def at this token, with these kinds and arguments
 abbrev pub Caller : Type 0
-Caller = ℕ → List Kind → List Given → Machine → Outcome
+Caller = ℕ → List Kind → List Argument → Machine → Outcome
 
 -- what is known where an expression stands: what names stand for, the values of bindings, and the open kinds of the def around
-pub record Scope : Type 0 where
+pub record Surroundings : Type 0 where
   pub uses : List Use
-  pub slots : List Slot
+  pub slots : List SlotValue
   pub kinds : List Kind
   pub call : Caller
 
@@ -38,7 +38,7 @@ abbrev pub value_at : Option Value → Machine → Outcome
 value_at None m = Err Stuck
 value_at (Some v) m = count (size v) m >>= λ c. Ok (v, c)
 
-unfoldable pub named : Scope → Option Use → Machine → Outcome
+unfoldable pub named : Surroundings → Option Use → Machine → Outcome
 named s None m = Err Stuck
 named s (Some u) m =
     elim u.target [
@@ -47,14 +47,14 @@ named s (Some u) m =
       | target.Builtin b ↦ Err Stuck
     ]
 
-abbrev pub applied_to : Scope → Target → ℕ → Option (List Kind) → List Given → Machine → Outcome
+abbrev pub applied_to : Surroundings → Target → ℕ → Option (List Kind) → List Argument → Machine → Outcome
 applied_to s target at None given m = Err Stuck
 applied_to s (target.Slot t) at (Some kinds) given m = Err Stuck
 applied_to s (target.Def t) at (Some kinds) given m = s.call t kinds given m
 applied_to s (target.Builtin b) at (Some kinds) given m = builtin b at kinds given m
 
 -- a call of what a name stands for, at this token
-unfoldable pub applied : Scope → Option Use → ℕ → List Given → Machine → Outcome
+unfoldable pub applied : Surroundings → Option Use → ℕ → List Argument → Machine → Outcome
 applied s None at given m = Err Stuck
 applied s (Some u) at given m = applied_to s u.target at (kinds_of s.kinds u.kinds) given m
 
@@ -76,53 +76,53 @@ joined operator v right = right >>= λ x. count 1 x.1 >>= λ c. operator v x.0 >
 
 -- Operands are evaluated from the left. Work is counted when a Prim begins, and when an operator is about to be applied.
 unfoldable mutual
-  pub full : Scope → Tree AFull → Machine → Outcome
+  pub full : Surroundings → Tree AFull → Machine → Outcome
   full s (Negative at n) m = count 1 m >>= λ c. negative at n >>= λ v. Ok (v, c)
   full s (Plain e) m = expr s e m
 
-  pub expr : Scope → Tree AnExpr → Machine → Outcome
+  pub expr : Surroundings → Tree AnExpr → Machine → Outcome
   expr s (Expr a rest) m = conjunction s a m >>= λ x. ors s rest x.0 x.1
 
-  pub ors : Scope → Tree (Many AnAnd) → Value → Machine → Outcome
+  pub ors : Surroundings → Tree (Many AnAnd) → Value → Machine → Outcome
   ors s none v m = Ok (v, m)
   ors s (more a rest) v m = joined either v (conjunction s a m) >>= λ x. ors s rest x.0 x.1
 
-  pub conjunction : Scope → Tree AnAnd → Machine → Outcome
+  pub conjunction : Surroundings → Tree AnAnd → Machine → Outcome
   conjunction s (And n rest) m = negation s n m >>= λ x. ands s rest x.0 x.1
 
-  pub ands : Scope → Tree (Many ANot) → Value → Machine → Outcome
+  pub ands : Surroundings → Tree (Many ANot) → Value → Machine → Outcome
   ands s none v m = Ok (v, m)
   ands s (more n rest) v m = joined both v (negation s n m) >>= λ x. ands s rest x.0 x.1
 
-  pub negation : Scope → Tree ANot → Machine → Outcome
+  pub negation : Surroundings → Tree ANot → Machine → Outcome
   negation s (Not true inner) m = compare s inner m >>= λ x. count 1 x.1 >>= λ c. opposite x.0 >>= λ u. Ok (u, c)
   negation s (Not false inner) m = compare s inner m
 
-  pub compare : Scope → Tree ACompare → Machine → Outcome
+  pub compare : Surroundings → Tree ACompare → Machine → Outcome
   compare s (Alone left) m = sum s left m
   compare s (Compared left at o right) m = sum s left m >>= λ x. sum s right x.1 >>= λ y. count 1 y.1 >>= λ c. compared o x.0 y.0 >>= λ u. Ok (u, c)
 
-  pub sum : Scope → Tree ASum → Machine → Outcome
+  pub sum : Surroundings → Tree ASum → Machine → Outcome
   sum s (Sum p rest) m = product s p m >>= λ x. addends s rest x.0 x.1
 
-  pub addends : Scope → Tree (Many AnAdded) → Value → Machine → Outcome
+  pub addends : Surroundings → Tree (Many AnAdded) → Value → Machine → Outcome
   addends s none v m = Ok (v, m)
   addends s (more a rest) v m = plus s a v m >>= λ x. addends s rest x.0 x.1
 
-  pub plus : Scope → Tree AnAdded → Value → Machine → Outcome
+  pub plus : Surroundings → Tree AnAdded → Value → Machine → Outcome
   plus s (Added at minus p) v m = joined (added minus at) v (product s p m)
 
-  pub product : Scope → Tree AProduct → Machine → Outcome
+  pub product : Surroundings → Tree AProduct → Machine → Outcome
   product s (Product p rest) m = operand s p m >>= λ x. factors s rest x.0 x.1
 
-  pub factors : Scope → Tree (Many AMultiplied) → Value → Machine → Outcome
+  pub factors : Surroundings → Tree (Many AMultiplied) → Value → Machine → Outcome
   factors s none v m = Ok (v, m)
   factors s (more a rest) v m = times s a v m >>= λ x. factors s rest x.0 x.1
 
-  pub times : Scope → Tree AMultiplied → Value → Machine → Outcome
+  pub times : Surroundings → Tree AMultiplied → Value → Machine → Outcome
   times s (Multiplied at divide p) v m = joined (multiplied divide at) v (operand s p m)
 
-  pub operand : Scope → Tree AnOperand → Machine → Outcome
+  pub operand : Surroundings → Tree AnOperand → Machine → Outcome
   operand s (Constant at n) m = count 1 m >>= λ c. Ok (literal_value n, c)
   operand s (Quoted at text) m = count 1 m >>= λ c. Ok (value.Text text, c)
   operand s (Truth at b) m = count 1 m >>= λ c. Ok (value.Truth b, c)
@@ -137,75 +137,75 @@ unfoldable mutual
   operand s (Format at bits) m = count 1 m >>= λ c. format at bits >>= λ v. Ok (v, c)
 
   -- the values so far, and those of more
-  pub fulls : Scope → Tree (Many AFull) → List Value → Machine → Result (List Value × Machine) Fault
+  pub fulls : Surroundings → Tree (Many AFull) → List Value → Machine → Result (List Value × Machine) Fault
   fulls s none vs m = Ok (vs, m)
   fulls s (more f rest) vs m = full s f m >>= λ x. fulls s rest (vs ++ x.0 ∷ []) x.1
 
   -- only the chosen branch is evaluated
-  pub choice : Scope → Tree AnIf → Machine → Outcome
+  pub choice : Surroundings → Tree AnIf → Machine → Outcome
   choice s (If at c t e) m = full s c m >>= λ x. truth_of x.0 >>= λ b. elim b [ true ↦ full s t x.1 | false ↦ full s e x.1 ]
 
   -- arguments are evaluated as written
-  pub call : Scope → Tree ACall → Machine → Outcome
+  pub call : Surroundings → Tree ACall → Machine → Outcome
   call s (Call at name args) m = arguments s args [] m >>= λ x. applied s (use_at at s.uses) at x.0 x.1
 
-  pub arguments : Scope → Tree (Many AnArg) → List Given → Machine → Result (List Given × Machine) Fault
+  pub arguments : Surroundings → Tree (Many AnArg) → List Argument → Machine → Result (List Argument × Machine) Fault
   arguments s none given m = Ok (given, m)
   arguments s (more a rest) given m = argued s a m >>= λ x. arguments s rest (given ++ x.0 ∷ []) x.1
 
-  pub argued : Scope → Tree AnArg → Machine → Result (Given × Machine) Fault
+  pub argued : Surroundings → Tree AnArg → Machine → Result (Argument × Machine) Fault
   argued s (Arg at label f) m = full s f m >>= λ x. Ok ((label, x.0), x.1)
 
 -- values in parentheses, behind the count
-abbrev pub grouped : Scope → Tree (Many AFull) → Machine → Outcome
+abbrev pub grouped : Surroundings → Tree (Many AFull) → Machine → Outcome
 grouped s none m = Ok (value.Nothing, m)
 grouped s (more f none) m = full s f m
 grouped s (more f (more g rest)) m = fulls s (more f (more g rest)) [] m >>= λ z. Ok (value.Tuple (many z.0), z.1)
 
-abbrev pub all_of : Scope → Tree (Many AFull) → Machine → Outcome
+abbrev pub all_of : Surroundings → Tree (Many AFull) → Machine → Outcome
 all_of s parts m = fulls s parts [] m >>= λ z. Ok (value.Listed (many z.0), z.1)
 
 -- What a parameter takes of the arguments: its slot and the arguments that are left. A default is evaluated among the names before the def.
-abbrev pub taken_slot : ℕ → Option (Value × List Given) → Machine → Result ((Slot × List Given) × Machine) Fault
+abbrev pub taken_slot : ℕ → Option (Value × List Argument) → Machine → Result ((SlotValue × List Argument) × Machine) Fault
 taken_slot at None m = Err Stuck
 taken_slot at (Some x) m = Ok (((at, x.0), x.1), m)
 
-abbrev pub slot_or_default : ℕ → Option (Value × List Given) → List Given → Outcome → Machine → Result ((Slot × List Given) × Machine) Fault
+abbrev pub slot_or_default : ℕ → Option (Value × List Argument) → List Argument → Outcome → Machine → Result ((SlotValue × List Argument) × Machine) Fault
 slot_or_default at None given default m = default >>= λ x. Ok (((at, x.0), given), x.1)
 slot_or_default at (Some x) given default m = Ok (((at, x.0), x.1), m)
 
-unfoldable pub parameter : Scope → Tree AParam → List Given → Machine → Result ((Slot × List Given) × Machine) Fault
+unfoldable pub parameter : Surroundings → Tree AParam → List Argument → Machine → Result ((SlotValue × List Argument) × Machine) Fault
 parameter s (Param at name) given m = taken_slot at (argument None given) m
 parameter s (Labelled at name) given m = taken_slot at (argument (Some name) given) m
 parameter s (Optional at name d) given m = slot_or_default at (argument (Some name) given) given (full s d m) m
 
-unfoldable pub parameters : Scope → Tree (Many AParam) → List Given → List Slot → Machine → Result (List Slot × Machine) Fault
+unfoldable pub parameters : Surroundings → Tree (Many AParam) → List Argument → List SlotValue → Machine → Result (List SlotValue × Machine) Fault
 parameters s none given slots m = Ok (slots, m)
 parameters s (more p ps) given slots m = parameter s p given m >>= λ x. parameters s ps x.0.1 (slots ++ x.0.0 ∷ []) x.1
 
 -- the same scope with these bindings before the others
-abbrev pub within : Scope → List Slot → Scope
-within s slots = record s { slots = slots ++ s.slots }
+abbrev pub with_slots : Surroundings → List SlotValue → Surroundings
+with_slots s slots = record s { slots = slots ++ s.slots }
 
-unfoldable pub inner : Scope → Tree AnInner → List Slot → Machine → Result (Slot × Machine) Fault
-inner s (Inner (Bind at name f) semicolon) slots m = full (within s slots) f m >>= λ x. Ok ((at, x.0), x.1)
+unfoldable pub inner : Surroundings → Tree AnInner → List SlotValue → Machine → Result (SlotValue × Machine) Fault
+inner s (Inner (Bind at name f) semicolon) slots m = full (with_slots s slots) f m >>= λ x. Ok ((at, x.0), x.1)
 
-unfoldable pub inners : Scope → Tree (Many AnInner) → List Slot → Machine → Result (List Slot × Machine) Fault
+unfoldable pub inners : Surroundings → Tree (Many AnInner) → List SlotValue → Machine → Result (List SlotValue × Machine) Fault
 inners s none slots m = Ok (slots, m)
 inners s (more i is) slots m = inner s i slots m >>= λ x. inners s is (slots ++ x.0 ∷ []) x.1
 
 -- the body of a def, in the scope of the names before it
-unfoldable pub body : Scope → Tree ADef → List Given → Machine → Outcome
+unfoldable pub body : Surroundings → Tree ADef → List Argument → Machine → Outcome
 body s (Def at name params equals bindings result) given m =
-    parameters s params given [] m >>= λ x. inners s bindings x.0 x.1 >>= λ y. expr (within s y.0) result y.1
+    parameters s params given [] m >>= λ x. inners s bindings x.0 x.1 >>= λ y. expr (with_slots s y.0) result y.1
 
 -- what no call changes: the script, what its names stand for, and the values of its bindings so far
 pub record World : Type 0 where
   pub script : Script
   pub uses : List Use
-  pub globals : List Slot
+  pub globals : List SlotValue
 
-abbrev pub run : Scope → Option (Tree ADef) → List Given → Machine → Outcome
+abbrev pub run : Surroundings → Option (Tree ADef) → List Argument → Machine → Outcome
 run s None given m = Err Stuck
 run s (Some d) given m = body s d given m
 

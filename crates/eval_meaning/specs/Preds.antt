@@ -5,11 +5,11 @@ use Rattle.time_pred.specs.Predicates as pred
 use Rattle.time_pred.specs.Predicates.{Predicate}
 
 -- one part stands for itself, more parts for all of them or for any of them
-abbrev pub any_of : Predicate → pred.Tree pred.Many → Predicate
+abbrev pub any_of : Predicate → pred.PredicateTree pred.Many → Predicate
 any_of p pred.none = p
 any_of p (pred.more q qs) = pred.Any (pred.more p (pred.more q qs))
 
-abbrev pub all_of : Predicate → pred.Tree pred.Many → Predicate
+abbrev pub all_of : Predicate → pred.PredicateTree pred.Many → Predicate
 all_of p pred.none = p
 all_of p (pred.more q qs) = pred.All (pred.more p (pred.more q qs))
 
@@ -17,14 +17,14 @@ unfoldable mutual
   pub or_pred : Tree APOr → Predicate
   or_pred (POr first rest) = any_of (and_pred first) (and_preds rest)
 
-  pub and_preds : Tree (Many APAnd) → pred.Tree pred.Many
+  pub and_preds : Tree (Many APAnd) → pred.PredicateTree pred.Many
   and_preds none = pred.none
   and_preds (more p ps) = pred.more (and_pred p) (and_preds ps)
 
   pub and_pred : Tree APAnd → Predicate
   and_pred (PAnd first rest) = all_of (not_pred first) (not_preds rest)
 
-  pub not_preds : Tree (Many APNot) → pred.Tree pred.Many
+  pub not_preds : Tree (Many APNot) → pred.PredicateTree pred.Many
   not_preds none = pred.none
   not_preds (more p ps) = pred.more (not_pred p) (not_preds ps)
 

@@ -14,16 +14,16 @@ use Rattle.script_values.specs.declared.machine.Machine.{Machine}
 use Rattle.script_values.specs.Faults.{fault_in}
 use Rattle.script_values.specs.Machines.{first_machine}
 use Rattle.script_values.specs.Outcomes.{◌>>=◌}
-use Rattle.script_values.specs.Slots.{Slot}
+use Rattle.script_values.specs.Slots.{SlotValue}
 use Rattle.eval_meaning.specs.Calls.{is_setting}
-use Rattle.eval_meaning.specs.Meaning.{Scope, full, call, choice, call_by}
+use Rattle.eval_meaning.specs.Meaning.{Surroundings, full, call, choice, call_by}
 
 -- the scope of a statement: the bindings so far, no open kinds, and 16 calls that may run
-abbrev pub top_scope : Script → List Use → List Slot → Scope
+abbrev pub top_scope : Script → List Use → List SlotValue → Surroundings
 top_scope script uses globals = record { uses = uses; slots = globals; kinds = []; call = call_by (record { script = script; uses = uses; globals = globals }) MAX_CALLS }
 
 -- what a statement makes of the bindings and of the state. A call or an `if` that is a whole statement counts nothing itself
-unfoldable pub statement : Scope → Tree APart → List Slot → Machine → Result (List Slot × Machine) Fault
+unfoldable pub statement : Surroundings → Tree APart → List SlotValue → Machine → Result (List SlotValue × Machine) Fault
 statement s (BindPart (Bind at name f)) slots m = full s f m >>= λ x. Ok (slots ++ (at, x.0) ∷ [], x.1)
 statement s (DefPart d) slots m = Ok (slots, m)
 statement s (CallPart c) slots m = call s c m >>= λ x. Ok (slots, x.1)
@@ -67,11 +67,11 @@ abbrev pub numbered : ℕ → Machine → Machine
 numbered n m = record m { settings = record m.settings { statement = n } }
 
 -- what the statement of this number makes of them, with the end of the settings before it
-unfoldable pub turned : Script → List Use → Tree APart → ℕ → List Slot → Machine → Result (List Slot × Machine) Ending
+unfoldable pub turned : Script → List Use → Tree APart → ℕ → List SlotValue → Machine → Result (List SlotValue × Machine) Ending
 turned script uses part n slots m = and_then (settled (is_setting uses part) m) (λ b. in_statement n (statement (top_scope script uses slots) part slots (numbered n b)))
 
 -- the statements behind the first n, with the bindings so far
-unfoldable pub statements : Script → List Use → Tree (Many AStmt) → ℕ → List Slot → Machine → Result Machine Ending
+unfoldable pub statements : Script → List Use → Tree (Many AStmt) → ℕ → List SlotValue → Machine → Result Machine Ending
 statements script uses none n slots m = settled false m
 statements script uses (more (Stmt part semicolon) rest) n slots m = and_then (turned script uses part (n + 1) slots m) (λ x. statements script uses rest (n + 1) x.0 x.1)
 

@@ -4,7 +4,7 @@ use Rattle.std.proofs.lemmas.List.{at_drop_more, at_drop_all}
 use Rattle.liq_base.specs.declared.memory.Kind.{Kind}
 use Rattle.typing_rules.specs.declared.uses.KindOf.{KindOf}
 use Rattle.typing_rules.specs.Kinds.{kind_at, kinds_of, put}
-use Rattle.script_values.specs.Slots.{Slot, slot_at}
+use Rattle.script_values.specs.Slots.{SlotValue, slot_at}
 use Rattle.script_values.specs.Values.{Value}
 use Rattle.eval_scope.specs.Scopes.{prefixed}
 
@@ -16,11 +16,11 @@ no_test : (b : Bool) (u : Value) (one other third : Option Value) → (None ≡ 
 no_test true u one other third later is = absurd cc
 no_test false u one other third later is = later is
 
-pub slot_first : (at : ℕ) (a b : List Slot) (v : Value) → Some v ≡ slot_at at a → Some v ≡ slot_at at (a ++ b)
+pub slot_first : (at : ℕ) (a b : List SlotValue) (v : Value) → Some v ≡ slot_at at a → Some v ≡ slot_at at (a ++ b)
 slot_first at [] b v is = absurd cc
 slot_first at (s ∷ a) b v is = by_test (nat_eq s.0 at) s.1 (slot_at at a) (slot_at at (a ++ b)) v (slot_first at a b v) is
 
-pub slot_second : (at : ℕ) (a b : List Slot) → None ≡ slot_at at a → slot_at at (a ++ b) ≡ slot_at at b
+pub slot_second : (at : ℕ) (a b : List SlotValue) → None ≡ slot_at at a → slot_at at (a ++ b) ≡ slot_at at b
 slot_second at [] b is = refl
 slot_second at (s ∷ a) b is = no_test (nat_eq s.0 at) s.1 (slot_at at a) (slot_at at (a ++ b)) (slot_at at b) (slot_second at a b) is
 

@@ -17,7 +17,7 @@ use Rattle.script_values.specs.Views.{view_slot}
 use Rattle.script_values.specs.declared.slots.Slot.{Slot}
 use Rattle.typing_rules.specs.Defs.{def_at}
 use Rattle.typing_rules.specs.Scripts.{def_token}
-use Rattle.token_table.specs.At.{at_token}
+use Rattle.liq_base.specs.At.{at_token}
 use Rattle.eval_scope.specs.Places.{IsTable, Notes, def_if, is_def, is_slot, names}
 
 pub position_push : {X : Type 0} (p : X → Bool) (xs : List X) (y : X) → position p (xs ++ y ∷ []) ≡ option_or (position p xs) (cond (p y) (Some (length xs)) None)

@@ -2,7 +2,7 @@
 use Rattle.std.specs.Prelude.{◌≡◌, ℕ, Bool, List, Option, Some, None, cond, nat_eq, true, false}
 use Rattle.std.specs.List.{position}
 use Rattle.std.specs.Option.{option_or}
-use Rattle.token_table.specs.At.{at_token}
+use Rattle.liq_base.specs.At.{at_token}
 use Rattle.script_grammar.specs.Tree.{Tree, ADef, AStmt, Stmt, BindPart, DefPart, CallPart, IfPart}
 use Rattle.script_grammar.specs.View.{view_stmt}
 use Rattle.script_grammar.specs.declared.tree.Stmt.{Stmt as ProgramStmt}

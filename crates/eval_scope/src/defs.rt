@@ -5,10 +5,9 @@ ghost use Rattle.script_grammar.specs.View.{view_def, view_script, view_stmt};
 ghost use Rattle.typing_rules.specs.Defs.{def_at};
 
 use crate::places::note;
-use liq_base::Memory;
+use liq_base::{Memory, TokenTable};
 use script_grammar::tree::{Def, Script, Stmt, StmtPart};
 use std::alloc::Global;
-use token_table::TokenTable;
 
 /// A script, with a table of the statement of each def.
 #[derive(Drop)]

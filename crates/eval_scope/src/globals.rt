@@ -6,10 +6,9 @@ ghost use Rattle.script_values.specs.View.{view_value};
 ghost use Rattle.script_values.specs.Views.{view_slot};
 
 use crate::places::note;
-use liq_base::Memory;
+use liq_base::{Memory, TokenTable};
 use script_values::{Slot, Value};
 use std::alloc::Global;
-use token_table::TokenTable;
 
 /// The values of the bindings of statements, with a table of the place of each token's first.
 #[derive(Drop)]

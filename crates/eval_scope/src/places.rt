@@ -1,10 +1,9 @@
 // Tables from tokens to the places at which they stand first in a list.
 ghost use Rattle.std.specs.Prelude.{◌≡◌, ℕ, OnOk, OnErr, nat_eq};
-ghost use Rattle.token_table.specs.At.{at_token};
+ghost use Rattle.liq_base.specs.At.{at_token};
 ghost use Rattle.eval_scope.specs.Places.{Notes};
 
-use liq_base::Memory;
-use token_table::TokenTable;
+use liq_base::{Memory, TokenTable};
 
 /// Notes the place of a token, unless it has one. Where memory runs out, or the place has no number of 32 bits, no place
 /// changes.

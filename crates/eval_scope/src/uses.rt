@@ -4,9 +4,8 @@ ghost use Rattle.eval_scope.specs.Places.{IsTable, is_use};
 ghost use Rattle.typing_rules.specs.Uses.{use_at};
 
 use crate::places::note;
-use liq_base::Memory;
+use liq_base::{Memory, TokenTable};
 use std::alloc::Global;
-use token_table::TokenTable;
 use typing_rules::Use;
 
 /// The uses of a script, with a table of the place of each token's first.

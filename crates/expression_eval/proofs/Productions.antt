@@ -33,47 +33,47 @@ use Rattle.script_values.specs.Values as value
 use Rattle.script_values.specs.Values.{Value, many}
 use Rattle.script_values.specs.Numbers.{either, both, compared as numbers_compared, opposite, truth_of}
 use Rattle.script_values.specs.Machines.{count}
-use Rattle.script_values.specs.Slots.{Given, Slot}
+use Rattle.script_values.specs.Slots.{Argument, SlotValue}
 use Rattle.eval_meaning.specs.Meaning as meaning
-use Rattle.eval_meaning.specs.Meaning.{Scope, full, conjunction, negation, joined}
+use Rattle.eval_meaning.specs.Meaning.{Surroundings, full, conjunction, negation, joined}
 use Rattle.expression_eval.specs.Steps.{after_count}
 use Rattle.expression_eval.proofs.Loops.{Steps, fails_on, fails_same}
 
-pub expr_means : (s : Scope) (e : expr.Expr) (l : List and_.And) (m : Machine) → l ≡ (expr.out-Expr e).rest.items → meaning.expr s (view_expr e) m ≡ (meaning.conjunction s (view_and (expr.out-Expr e).first) m >>= λ x. meaning.ors s (listed (map view_and l)) x.0 x.1)
+pub expr_means : (s : Surroundings) (e : expr.Expr) (l : List and_.And) (m : Machine) → l ≡ (expr.out-Expr e).rest.items → meaning.expr s (view_expr e) m ≡ (meaning.conjunction s (view_and (expr.out-Expr e).first) m >>= λ x. meaning.ors s (listed (map view_and l)) x.0 x.1)
 unfolding meaning.expr
 expr_means s e l m is = ap (λ (t : Tree AnExpr). meaning.expr s t m) (expr_seen e) ∙ ap (λ (k : List and_.And). meaning.conjunction s (view_and (expr.out-Expr e).first) m >>= λ x. meaning.ors s (listed (map view_and k)) x.0 x.1) (sym is)
 
-pub conjunction_means : (s : Scope) (e : and_.And) (l : List not_.Not) (m : Machine) → l ≡ (and_.out-And e).rest.items → meaning.conjunction s (view_and e) m ≡ (meaning.negation s (view_not (and_.out-And e).first) m >>= λ x. meaning.ands s (listed (map view_not l)) x.0 x.1)
+pub conjunction_means : (s : Surroundings) (e : and_.And) (l : List not_.Not) (m : Machine) → l ≡ (and_.out-And e).rest.items → meaning.conjunction s (view_and e) m ≡ (meaning.negation s (view_not (and_.out-And e).first) m >>= λ x. meaning.ands s (listed (map view_not l)) x.0 x.1)
 unfolding meaning.conjunction
 conjunction_means s e l m is = ap (λ (t : Tree AnAnd). meaning.conjunction s t m) (and_seen e) ∙ ap (λ (k : List not_.Not). meaning.negation s (view_not (and_.out-And e).first) m >>= λ x. meaning.ands s (listed (map view_not k)) x.0 x.1) (sym is)
 
-pub sum_means : (s : Scope) (e : sum.Sum) (l : List added.Added) (m : Machine) → l ≡ (sum.out-Sum e).rest.items → meaning.sum s (view_sum e) m ≡ (meaning.product s (view_product (sum.out-Sum e).first) m >>= λ x. meaning.addends s (listed (map view_added l)) x.0 x.1)
+pub sum_means : (s : Surroundings) (e : sum.Sum) (l : List added.Added) (m : Machine) → l ≡ (sum.out-Sum e).rest.items → meaning.sum s (view_sum e) m ≡ (meaning.product s (view_product (sum.out-Sum e).first) m >>= λ x. meaning.addends s (listed (map view_added l)) x.0 x.1)
 unfolding meaning.sum
 sum_means s e l m is = ap (λ (t : Tree ASum). meaning.sum s t m) (sum_seen e) ∙ ap (λ (k : List added.Added). meaning.product s (view_product (sum.out-Sum e).first) m >>= λ x. meaning.addends s (listed (map view_added k)) x.0 x.1) (sym is)
 
-pub product_means : (s : Scope) (e : product.Product) (l : List multiplied.Multiplied) (m : Machine) → l ≡ (product.out-Product e).rest.items → meaning.product s (view_product e) m ≡ (meaning.operand s (view_operand (product.out-Product e).first) m >>= λ x. meaning.factors s (listed (map view_multiplied l)) x.0 x.1)
+pub product_means : (s : Surroundings) (e : product.Product) (l : List multiplied.Multiplied) (m : Machine) → l ≡ (product.out-Product e).rest.items → meaning.product s (view_product e) m ≡ (meaning.operand s (view_operand (product.out-Product e).first) m >>= λ x. meaning.factors s (listed (map view_multiplied l)) x.0 x.1)
 unfolding meaning.product
 product_means s e l m is = ap (λ (t : Tree AProduct). meaning.product s t m) (product_seen e) ∙ ap (λ (k : List multiplied.Multiplied). meaning.operand s (view_operand (product.out-Product e).first) m >>= λ x. meaning.factors s (listed (map view_multiplied k)) x.0 x.1) (sym is)
 
-pub call_means : (s : Scope) (e : call.Call) (l : List arg.Arg) (m : Machine) → l ≡ (call.out-Call e).args.items → meaning.call s (view_call e) m ≡ (meaning.arguments s (listed (map view_arg l)) [] m >>= λ x. meaning.applied s (use_at (call.out-Call e).at s.uses) (call.out-Call e).at x.0 x.1)
+pub call_means : (s : Surroundings) (e : call.Call) (l : List arg.Arg) (m : Machine) → l ≡ (call.out-Call e).args.items → meaning.call s (view_call e) m ≡ (meaning.arguments s (listed (map view_arg l)) [] m >>= λ x. meaning.applied s (use_at (call.out-Call e).at s.uses) (call.out-Call e).at x.0 x.1)
 unfolding meaning.call
 call_means s e l m is = ap (λ (t : Tree ACall). meaning.call s t m) (call_seen e) ∙ ap (λ (k : List arg.Arg). meaning.arguments s (listed (map view_arg k)) [] m >>= λ x. meaning.applied s (use_at (call.out-Call e).at s.uses) (call.out-Call e).at x.0 x.1) (sym is)
 
 -- ---- the loops
 
-pub ors_steps : (s : Scope) → Steps (meaning.ors s) (λ t v m. joined either v (conjunction s t m))
+pub ors_steps : (s : Surroundings) → Steps (meaning.ors s) (λ t v m. joined either v (conjunction s t m))
 unfolding meaning.ors
 ors_steps s = record { opens = λ t ts v m. refl }
 
-pub ands_steps : (s : Scope) → Steps (meaning.ands s) (λ t v m. joined both v (negation s t m))
+pub ands_steps : (s : Surroundings) → Steps (meaning.ands s) (λ t v m. joined both v (negation s t m))
 unfolding meaning.ands
 ands_steps s = record { opens = λ t ts v m. refl }
 
-pub addends_steps : (s : Scope) → Steps (meaning.addends s) (meaning.plus s)
+pub addends_steps : (s : Surroundings) → Steps (meaning.addends s) (meaning.plus s)
 unfolding meaning.addends
 addends_steps s = record { opens = λ t ts v m. refl }
 
-pub factors_steps : (s : Scope) → Steps (meaning.factors s) (meaning.times s)
+pub factors_steps : (s : Surroundings) → Steps (meaning.factors s) (meaning.times s)
 unfolding meaning.factors
 factors_steps s = record { opens = λ t ts v m. refl }
 
@@ -85,15 +85,15 @@ pushed : {X B : Type 0} (r : Result (X × Machine) Fault) (xs : List X) (f : Lis
 pushed (Ok x) xs f = refl
 pushed (Err e) xs f = refl
 
-pub fulls_steps : (s : Scope) → Steps (meaning.fulls s) (λ t vs m. full s t m >>= with_last vs)
+pub fulls_steps : (s : Surroundings) → Steps (meaning.fulls s) (λ t vs m. full s t m >>= with_last vs)
 unfolding meaning.fulls
 fulls_steps s = record { opens = λ t ts vs m. pushed (full s t m) vs (λ ys n. meaning.fulls s ts ys n) }
 
-pub arguments_steps : (s : Scope) → Steps (meaning.arguments s) (λ t gs m. meaning.argued s t m >>= with_last gs)
+pub arguments_steps : (s : Surroundings) → Steps (meaning.arguments s) (λ t gs m. meaning.argued s t m >>= with_last gs)
 unfolding meaning.arguments
 arguments_steps s = record { opens = λ t ts gs m. pushed (meaning.argued s t m) gs (λ ys n. meaning.arguments s ts ys n) }
 
-pub inners_steps : (s : Scope) → Steps (meaning.inners s) (λ t vs m. meaning.inner s t vs m >>= with_last vs)
+pub inners_steps : (s : Surroundings) → Steps (meaning.inners s) (λ t vs m. meaning.inner s t vs m >>= with_last vs)
 unfolding meaning.inners
 inners_steps s = record { opens = λ t ts vs m. pushed (meaning.inner s t vs m) vs (λ ys n. meaning.inners s ts ys n) }
 
@@ -103,31 +103,31 @@ went view r xs xs' x n is grown = ap (λ (q : Result _ Fault). q >>= with_last (
 
 -- ---- the ends of the loops
 
-pub ors_none : (s : Scope) (v : Value) (m : Machine) → meaning.ors s none v m ≡ Ok (v, m)
+pub ors_none : (s : Surroundings) (v : Value) (m : Machine) → meaning.ors s none v m ≡ Ok (v, m)
 unfolding meaning.ors
 ors_none s v m = refl
 
-pub ands_none : (s : Scope) (v : Value) (m : Machine) → meaning.ands s none v m ≡ Ok (v, m)
+pub ands_none : (s : Surroundings) (v : Value) (m : Machine) → meaning.ands s none v m ≡ Ok (v, m)
 unfolding meaning.ands
 ands_none s v m = refl
 
-pub addends_none : (s : Scope) (v : Value) (m : Machine) → meaning.addends s none v m ≡ Ok (v, m)
+pub addends_none : (s : Surroundings) (v : Value) (m : Machine) → meaning.addends s none v m ≡ Ok (v, m)
 unfolding meaning.addends
 addends_none s v m = refl
 
-pub factors_none : (s : Scope) (v : Value) (m : Machine) → meaning.factors s none v m ≡ Ok (v, m)
+pub factors_none : (s : Surroundings) (v : Value) (m : Machine) → meaning.factors s none v m ≡ Ok (v, m)
 unfolding meaning.factors
 factors_none s v m = refl
 
-pub fulls_none : (s : Scope) (vs : List Value) (m : Machine) → meaning.fulls s none vs m ≡ Ok (vs, m)
+pub fulls_none : (s : Surroundings) (vs : List Value) (m : Machine) → meaning.fulls s none vs m ≡ Ok (vs, m)
 unfolding meaning.fulls
 fulls_none s vs m = refl
 
-pub arguments_none : (s : Scope) (gs : List Given) (m : Machine) → meaning.arguments s none gs m ≡ Ok (gs, m)
+pub arguments_none : (s : Surroundings) (gs : List Argument) (m : Machine) → meaning.arguments s none gs m ≡ Ok (gs, m)
 unfolding meaning.arguments
 arguments_none s gs m = refl
 
-pub inners_none : (s : Scope) (vs : List Slot) (m : Machine) → meaning.inners s none vs m ≡ Ok (vs, m)
+pub inners_none : (s : Surroundings) (vs : List SlotValue) (m : Machine) → meaning.inners s none vs m ≡ Ok (vs, m)
 unfolding meaning.inners
 inners_none s vs m = refl
 
@@ -162,7 +162,7 @@ abbrev pub as_list : List Value × Machine → Outcome
 as_list z = Ok (value.Listed (many z.0), z.1)
 
 -- a bracket of the program, whatever it holds
-pub grouped_means : (s : Scope) (at : ℕ) (ts : Tree (Many AFull)) (m : Machine) → meaning.operand s (tuple_of at ts) m ≡ (count 1 m >>= meaning.grouped s ts)
+pub grouped_means : (s : Surroundings) (at : ℕ) (ts : Tree (Many AFull)) (m : Machine) → meaning.operand s (tuple_of at ts) m ≡ (count 1 m >>= meaning.grouped s ts)
 unfolding meaning.operand meaning.fulls
 grouped_means s at none m = refl
 grouped_means s at (more f none) m = refl
@@ -170,7 +170,7 @@ grouped_means s at (more f (more g rest)) m =
     same_after (count 1 m) (λ c. full s f c >>= λ x. full s g x.1 >>= λ y. meaning.fulls s rest (x.0 ∷ y.0 ∷ []) y.1 >>= as_tuple) (λ c. meaning.grouped s (more f (more g rest)) c)
     (λ c. two_then (full s f c) (λ x. full s g x.1) (λ x y. meaning.fulls s rest (x.0 ∷ y.0 ∷ []) y.1) as_tuple)
 
-pub pair_means : (s : Scope) (fs : List Full) (m : Machine) → 2 ≤ length fs → meaning.grouped s (listed (map view_full fs)) m ≡ (meaning.fulls s (listed (map view_full fs)) [] m >>= as_tuple)
+pub pair_means : (s : Surroundings) (fs : List Full) (m : Machine) → 2 ≤ length fs → meaning.grouped s (listed (map view_full fs)) m ≡ (meaning.fulls s (listed (map view_full fs)) [] m >>= as_tuple)
 pair_means s [] m two = absurd (omega arith)
 pair_means s (f ∷ []) m two = absurd (omega arith)
 pair_means s (f ∷ g ∷ rest) m two = refl
@@ -180,78 +180,78 @@ tuple_view at v = ap (tuple_of at) (fulls_listed v)
 
 -- ---- productions of one part
 
-pub not_means : (s : Scope) (e : not_.Not) (m : Machine) → (not_.out-Not e).negated ≡ true → meaning.negation s (view_not e) m ≡ (meaning.compare s (view_compare (not_.out-Not e).inner) m >>= λ x. after_count (opposite x.0) x.1)
+pub not_means : (s : Surroundings) (e : not_.Not) (m : Machine) → (not_.out-Not e).negated ≡ true → meaning.negation s (view_not e) m ≡ (meaning.compare s (view_compare (not_.out-Not e).inner) m >>= λ x. after_count (opposite x.0) x.1)
 unfolding meaning.negation
 not_means s e m is = ap (λ (t : Tree ANot). meaning.negation s t m) (not_seen e) ∙ ap (λ (b : Bool). meaning.negation s (Not b (view_compare (not_.out-Not e).inner)) m) is
 
-pub plain_means : (s : Scope) (e : not_.Not) (m : Machine) → (not_.out-Not e).negated ≡ false → meaning.negation s (view_not e) m ≡ meaning.compare s (view_compare (not_.out-Not e).inner) m
+pub plain_means : (s : Surroundings) (e : not_.Not) (m : Machine) → (not_.out-Not e).negated ≡ false → meaning.negation s (view_not e) m ≡ meaning.compare s (view_compare (not_.out-Not e).inner) m
 unfolding meaning.negation
 plain_means s e m is = ap (λ (t : Tree ANot). meaning.negation s t m) (not_seen e) ∙ ap (λ (b : Bool). meaning.negation s (Not b (view_compare (not_.out-Not e).inner)) m) is
 
-pub alone_means : (s : Scope) (e : compare.Compare) (m : Machine) → (compare.out-Compare e).right ≡ None → meaning.compare s (view_compare e) m ≡ meaning.sum s (view_sum (compare.out-Compare e).left) m
+pub alone_means : (s : Surroundings) (e : compare.Compare) (m : Machine) → (compare.out-Compare e).right ≡ None → meaning.compare s (view_compare e) m ≡ meaning.sum s (view_sum (compare.out-Compare e).left) m
 unfolding meaning.compare
 alone_means s e m is = ap (λ (t : Tree ACompare). meaning.compare s t m) (compare_alone e is)
 
-pub compared_means : (s : Scope) (e : compare.Compare) (r : compared.Compared) (m : Machine) → (compare.out-Compare e).right ≡ Some r
+pub compared_means : (s : Surroundings) (e : compare.Compare) (r : compared.Compared) (m : Machine) → (compare.out-Compare e).right ≡ Some r
     → meaning.compare s (view_compare e) m ≡ (meaning.sum s (view_sum (compare.out-Compare e).left) m >>= λ x. joined (numbers_compared (compared.out-Compared r).op) x.0 (meaning.sum s (view_sum (compared.out-Compared r).sum) x.1))
 unfolding meaning.compare
 compared_means s e r m is = ap (λ (t : Tree ACompare). meaning.compare s t m) (compare_seen e r is)
 
 -- what a choice is behind its condition
-abbrev pub chosen : Scope → If → Bool → Machine → Outcome
+abbrev pub chosen : Surroundings → If → Bool → Machine → Outcome
 chosen s i true n = meaning.full s (view_full i.then_part.value) n
 chosen s i false n = meaning.full s (view_full i.else_part.value) n
 
-branch : (s : Scope) (i : If) (n : Machine) (b : Bool) → ◌≡◌ {A = Outcome} (elim b [ true ↦ meaning.full s (view_full i.then_part.value) n | false ↦ meaning.full s (view_full i.else_part.value) n ]) (chosen s i b n)
+branch : (s : Surroundings) (i : If) (n : Machine) (b : Bool) → ◌≡◌ {A = Outcome} (elim b [ true ↦ meaning.full s (view_full i.then_part.value) n | false ↦ meaning.full s (view_full i.else_part.value) n ]) (chosen s i b n)
 branch s i n true = refl
 branch s i n false = refl
 
-pub choice_means : (s : Scope) (i : If) (m : Machine) → meaning.choice s (view_if i) m ≡ (meaning.full s (view_full i.condition.value) m >>= λ x. truth_of x.0 >>= λ b. chosen s i b x.1)
+pub choice_means : (s : Surroundings) (i : If) (m : Machine) → meaning.choice s (view_if i) m ≡ (meaning.full s (view_full i.condition.value) m >>= λ x. truth_of x.0 >>= λ b. chosen s i b x.1)
 unfolding meaning.choice
 choice_means s i m =
     same_after (meaning.full s (view_full i.condition.value) m) (λ x. truth_of x.0 >>= λ b. elim b [ true ↦ meaning.full s (view_full i.then_part.value) x.1 | false ↦ meaning.full s (view_full i.else_part.value) x.1 ]) (λ x. truth_of x.0 >>= λ b. chosen s i b x.1)
     (λ x. same_after (truth_of x.0) (λ b. elim b [ true ↦ meaning.full s (view_full i.then_part.value) x.1 | false ↦ meaning.full s (view_full i.else_part.value) x.1 ]) (λ b. chosen s i b x.1) (branch s i x.1))
 
-pub argued_means : (s : Scope) (a : arg.Arg) (m : Machine) → meaning.argued s (view_arg a) m ≡ (meaning.full s (view_full a.value) m >>= λ x. Ok ((a.label, x.0), x.1))
+pub argued_means : (s : Surroundings) (a : arg.Arg) (m : Machine) → meaning.argued s (view_arg a) m ≡ (meaning.full s (view_full a.value) m >>= λ x. Ok ((a.label, x.0), x.1))
 unfolding meaning.argued
 argued_means s a m = refl
 
 -- ---- operands with parts
 
-pub call_counted : (s : Scope) (n : operand.Operand) (k : call.Call) (m : Machine) → n ≡ operand.Call k → meaning.operand s (view_operand n) m ≡ (count 1 m >>= λ c. meaning.call s (view_call k) c)
+pub call_counted : (s : Surroundings) (n : operand.Operand) (k : call.Call) (m : Machine) → n ≡ operand.Call k → meaning.operand s (view_operand n) m ≡ (count 1 m >>= λ c. meaning.call s (view_call k) c)
 unfolding meaning.operand
 call_counted s n k m is = ap (λ (x : operand.Operand). meaning.operand s (view_operand x) m) is
 
-pub choice_counted : (s : Scope) (n : operand.Operand) (i : If) (m : Machine) → n ≡ operand.If i → meaning.operand s (view_operand n) m ≡ (count 1 m >>= λ c. meaning.choice s (view_if i) c)
+pub choice_counted : (s : Surroundings) (n : operand.Operand) (i : If) (m : Machine) → n ≡ operand.If i → meaning.operand s (view_operand n) m ≡ (count 1 m >>= λ c. meaning.choice s (view_if i) c)
 unfolding meaning.operand
 choice_counted s n i m is = ap (λ (x : operand.Operand). meaning.operand s (view_operand x) m) is
 
-pub paren_counted : (s : Scope) (n : operand.Operand) (b : Box Full) (m : Machine) → n ≡ operand.Paren b → meaning.operand s (view_operand n) m ≡ (count 1 m >>= λ c. meaning.full s (view_full b.value) c)
+pub paren_counted : (s : Surroundings) (n : operand.Operand) (b : Box Full) (m : Machine) → n ≡ operand.Paren b → meaning.operand s (view_operand n) m ≡ (count 1 m >>= λ c. meaning.full s (view_full b.value) c)
 unfolding meaning.operand
 paren_counted s n b m is = ap (λ (x : operand.Operand). meaning.operand s (view_operand x) m) is
 
-pub tuple_counted : (s : Scope) (n : operand.Operand) (at : ℕ) (v : Vec Full) (l : List Full) (m : Machine) → n ≡ operand.Tuple at v → l ≡ v.items → meaning.operand s (view_operand n) m ≡ (count 1 m >>= meaning.grouped s (listed (map view_full l)))
+pub tuple_counted : (s : Surroundings) (n : operand.Operand) (at : ℕ) (v : Vec Full) (l : List Full) (m : Machine) → n ≡ operand.Tuple at v → l ≡ v.items → meaning.operand s (view_operand n) m ≡ (count 1 m >>= meaning.grouped s (listed (map view_full l)))
 tuple_counted s n at v l m is same =
     ap (λ (x : operand.Operand). meaning.operand s (view_operand x) m) is ∙ ap (λ (t : Tree AnOperand). meaning.operand s t m) (tuple_view at v) ∙ ap (λ (k : List Full). meaning.operand s (tuple_of at (listed (map view_full k))) m) (sym same)
     ∙ grouped_means s at (listed (map view_full l)) m
 
-list_means : (s : Scope) (at : ℕ) (ts : Tree (Many AFull)) (m : Machine) → meaning.operand s (Listed at ts) m ≡ (count 1 m >>= meaning.all_of s ts)
+list_means : (s : Surroundings) (at : ℕ) (ts : Tree (Many AFull)) (m : Machine) → meaning.operand s (Listed at ts) m ≡ (count 1 m >>= meaning.all_of s ts)
 unfolding meaning.operand
 list_means s at ts m = refl
 
-pub list_counted : (s : Scope) (n : operand.Operand) (at : ℕ) (v : Vec Full) (l : List Full) (m : Machine) → n ≡ operand.List at v → l ≡ v.items → meaning.operand s (view_operand n) m ≡ (count 1 m >>= meaning.all_of s (listed (map view_full l)))
+pub list_counted : (s : Surroundings) (n : operand.Operand) (at : ℕ) (v : Vec Full) (l : List Full) (m : Machine) → n ≡ operand.List at v → l ≡ v.items → meaning.operand s (view_operand n) m ≡ (count 1 m >>= meaning.all_of s (listed (map view_full l)))
 list_counted s n at v l m is same =
     ap (λ (x : operand.Operand). meaning.operand s (view_operand x) m) is ∙ ap (λ (t : Tree AnOperand). meaning.operand s t m) (list_made at v) ∙ ap (λ (k : List Full). meaning.operand s (Listed at (listed (map view_full k))) m) (sym same)
     ∙ list_means s at (listed (map view_full l)) m
 
 -- ---- calls of defs
 
-pub calls_end : (w : meaning.World) (n t : ℕ) (ks : List Kind) (gs : List Given) (m : Machine) → n ≡ 0 → meaning.call_by w n t ks gs m ≡ Err (TooLarge Calls)
+pub calls_end : (w : meaning.World) (n t : ℕ) (ks : List Kind) (gs : List Argument) (m : Machine) → n ≡ 0 → meaning.call_by w n t ks gs m ≡ Err (TooLarge Calls)
 unfolding meaning.call_by
 calls_end w zero t ks gs m e = refl
 calls_end w (suc n) t ks gs m e = absurd (omega arith)
 
-pub calls_turn : (w : meaning.World) (n k t : ℕ) (ks : List Kind) (gs : List Given) (m : Machine) → n ≡ k + 1 → meaning.call_by w n t ks gs m ≡ meaning.run (record { uses = w.uses; slots = w.globals; kinds = ks; call = meaning.call_by w k }) (def_at t w.script) gs m
+pub calls_turn : (w : meaning.World) (n k t : ℕ) (ks : List Kind) (gs : List Argument) (m : Machine) → n ≡ k + 1 → meaning.call_by w n t ks gs m ≡ meaning.run (record { uses = w.uses; slots = w.globals; kinds = ks; call = meaning.call_by w k }) (def_at t w.script) gs m
 unfolding meaning.call_by
 calls_turn w n k t ks gs m e =
     let next : n ≡ suc k = omega arith in

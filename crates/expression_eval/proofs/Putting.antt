@@ -16,7 +16,7 @@ use Rattle.script_grammar.specs.declared.tree.Compared as compared
 use Rattle.script_grammar.specs.declared.tree.Full.{Full}
 use Rattle.script_grammar.specs.declared.tree.If.{If}
 use Rattle.eval_meaning.specs.Meaning as meaning
-use Rattle.eval_meaning.specs.Meaning.{Scope, joined}
+use Rattle.eval_meaning.specs.Meaning.{Surroundings, joined}
 use Rattle.expression_eval.specs.Places.{Place, Failed, Goes, Joins, GoesBehind, Tells}
 use Rattle.expression_eval.specs.Steps.{after_count, operation}
 use Rattle.expression_eval.specs.declared.steps.Operator.{Operator}
@@ -68,11 +68,11 @@ goes_same (Ok v) now m f g same goes = gives_same now m (f (view_value v)) (g (v
 goes_same (Err e) now m f g same goes = goes
 
 -- a comparison whose left side has no value
-compare_stopped : (s : Scope) (e : compare.Compare) (m : Machine) (o : Option compared.Compared) (x : Fault) → (compare.out-Compare e).right ≡ o → Fails x (meaning.sum s (view_sum (compare.out-Compare e).left) m) → Fails x (meaning.compare s (view_compare e) m)
+compare_stopped : (s : Surroundings) (e : compare.Compare) (m : Machine) (o : Option compared.Compared) (x : Fault) → (compare.out-Compare e).right ≡ o → Fails x (meaning.sum s (view_sum (compare.out-Compare e).left) m) → Fails x (meaning.compare s (view_compare e) m)
 compare_stopped s e m None x is fault = fails_same x _ _ (sym (alone_means s e m is)) fault
 compare_stopped s e m (Some r) x is fault = first_fails x _ _ _ (compared_means s e r m is) fault
 
-pub compare_stops : (s : Scope) (e : compare.Compare) (m : Machine) (now : Place) (n : Machine) → Gives (λ v. (view_value v, n)) now (meaning.sum s (view_sum (compare.out-Compare e).left) m) → is_err now ≡ true → Gives (λ v. (view_value v, n)) now (meaning.compare s (view_compare e) m)
+pub compare_stops : (s : Surroundings) (e : compare.Compare) (m : Machine) (now : Place) (n : Machine) → Gives (λ v. (view_value v, n)) now (meaning.sum s (view_sum (compare.out-Compare e).left) m) → is_err now ≡ true → Gives (λ v. (view_value v, n)) now (meaning.compare s (view_compare e) m)
 compare_stops s e m (Ok v) n gives stopped = absurd (let no : false ≡ true = stopped in cc)
 compare_stops s e m (Err x) n fault stopped = compare_stopped s e m (compare.out-Compare e).right x refl fault
 
@@ -88,19 +88,19 @@ pub untold : (old now : Place) (m : Machine) (first : Outcome) (f : Bool → Mac
 untold (Ok v) now m first f is tells = subst (λ (o : Outcome). Gives (λ w. (view_value w, m)) now (o >>= behind_truth f)) (sym is) (failed_gives (λ w. (view_value w, m)) now (truth_of (view_value v)) (λ b. f b m) tells)
 untold (Err e) now m first f fault same = subst (λ (p : Place). Gives (λ w. (view_value w, m)) p (first >>= behind_truth f)) (sym same) (fails_on e first (behind_truth f) fault)
 
-pub choice_fails : (s : Scope) (i : If) (f : Full) (old now : Place) (m n : Machine) → f ≡ i.condition.value → Gives (λ v. (view_value v, n)) old (meaning.full s (view_full f) m) → Tells old None now → Gives (λ v. (view_value v, n)) now (meaning.choice s (view_if i) m)
+pub choice_fails : (s : Surroundings) (i : If) (f : Full) (old now : Place) (m n : Machine) → f ≡ i.condition.value → Gives (λ v. (view_value v, n)) old (meaning.full s (view_full f) m) → Tells old None now → Gives (λ v. (view_value v, n)) now (meaning.choice s (view_if i) m)
 choice_fails s i f old now m n is gives tells =
     gives_same now n (meaning.choice s (view_if i) m) (meaning.full s (view_full i.condition.value) m >>= behind_truth (chosen s i)) (choice_means s i m)
     (untold old now n (meaning.full s (view_full i.condition.value) m) (chosen s i) (subst (λ (g : Full). Gives (λ v. (view_value v, n)) old (meaning.full s (view_full g) m)) is gives) tells)
 
 -- the branch that the truth chooses
-pub choice_goes : (s : Scope) (i : If) (b : Bool) (f : Full) (old between now : Place) (m n k : Machine) → f ≡ i.condition.value → Gives (λ v. (view_value v, n)) old (meaning.full s (view_full f) m) → Tells old (Some b) between → Gives (λ v. (view_value v, k)) now (chosen s i b n)
+pub choice_goes : (s : Surroundings) (i : If) (b : Bool) (f : Full) (old between now : Place) (m n k : Machine) → f ≡ i.condition.value → Gives (λ v. (view_value v, n)) old (meaning.full s (view_full f) m) → Tells old (Some b) between → Gives (λ v. (view_value v, k)) now (chosen s i b n)
     → Gives (λ v. (view_value v, k)) now (meaning.choice s (view_if i) m)
 choice_goes s i b f old between now m n k is gives tells goes =
     gives_same now k (meaning.choice s (view_if i) m) (chosen s i b n)
     (choice_means s i m ∙ told old between b n (meaning.full s (view_full i.condition.value) m) (chosen s i) (subst (λ (g : Full). Gives (λ v. (view_value v, n)) old (meaning.full s (view_full g) m)) is gives) tells) goes
 
-pub full_same : (s : Scope) (f g : Full) (now : Place) (m n : Machine) → f ≡ g → Gives (λ v. (view_value v, n)) now (meaning.full s (view_full f) m) → Gives (λ v. (view_value v, n)) now (meaning.full s (view_full g) m)
+pub full_same : (s : Surroundings) (f g : Full) (now : Place) (m n : Machine) → f ≡ g → Gives (λ v. (view_value v, n)) now (meaning.full s (view_full f) m) → Gives (λ v. (view_value v, n)) now (meaning.full s (view_full g) m)
 full_same s f g now m n is gives = subst (λ (x : Full). Gives (λ v. (view_value v, n)) now (meaning.full s (view_full x) m)) is gives
 
 -- ---- the loops

@@ -9,7 +9,7 @@ use Rattle.typing_rules.specs.Arguments.{Parameter, after, argument, arguments_t
 use Rattle.name_scope.specs.Labelled.{placed}
 use Rattle.script_values.specs.declared.slots.Given.{Given as AGiven}
 use Rattle.script_values.specs.declared.value.Value.{Value as AValue}
-use Rattle.script_values.specs.Slots.{Given}
+use Rattle.script_values.specs.Slots.{Argument}
 use Rattle.script_values.specs.Values.{Value, Nothing}
 use Rattle.script_values.specs.View.{view_value}
 use Rattle.script_values.specs.Views.{view_given}
@@ -45,14 +45,14 @@ module _ {T : Type 0} where
   takes_all params i gs os whole so over = sym (append-nil os) ∙ sym (at_drop_all (λ (ps : List Param). os ++ taken_by gs ps) params i over) ∙ so
 
 -- one argument was taken in turn
-pub took_first : (r : Option AValue) (hs gs : List Given) (a : Option (Value × List Given)) → option_map (λ v. (view_value v, hs)) r ≡ a → (IsNone r → hs ≡ gs) → view_taken r ≡ option_map (λ (x : Value × List Given). x.0) a
-took_first r hs gs a is left = subst (λ (b : Option (Value × List Given)). view_taken r ≡ option_map (λ (x : Value × List Given). x.0) b) is (by r) where
-  by : (q : Option AValue) → view_taken q ≡ option_map (λ (x : Value × List Given). x.0) (option_map (λ v. (view_value v, hs)) q)
+pub took_first : (r : Option AValue) (hs gs : List Argument) (a : Option (Value × List Argument)) → option_map (λ v. (view_value v, hs)) r ≡ a → (IsNone r → hs ≡ gs) → view_taken r ≡ option_map (λ (x : Value × List Argument). x.0) a
+took_first r hs gs a is left = subst (λ (b : Option (Value × List Argument)). view_taken r ≡ option_map (λ (x : Value × List Argument). x.0) b) is (by r) where
+  by : (q : Option AValue) → view_taken q ≡ option_map (λ (x : Value × List Argument). x.0) (option_map (λ v. (view_value v, hs)) q)
   by None = refl
   by (Some v) = refl
 
-pub took_others : (r : Option AValue) (hs gs : List Given) (a : Option (Value × List Given)) → option_map (λ v. (view_value v, hs)) r ≡ a → (IsNone r → hs ≡ gs) → hs ≡ others gs a
-took_others r hs gs a is left = subst (λ (b : Option (Value × List Given)). hs ≡ others gs b) is (by r left) where
+pub took_others : (r : Option AValue) (hs gs : List Argument) (a : Option (Value × List Argument)) → option_map (λ v. (view_value v, hs)) r ≡ a → (IsNone r → hs ≡ gs) → hs ≡ others gs a
+took_others r hs gs a is left = subst (λ (b : Option (Value × List Argument)). hs ≡ others gs b) is (by r left) where
   by : (q : Option AValue) → (IsNone q → hs ≡ gs) → hs ≡ others gs (option_map (λ v. (view_value v, hs)) q)
   by None none = none refl
   by (Some v) none = refl
@@ -63,10 +63,10 @@ taken_push os os' o grown = ap (map view_taken) grown ∙ map_push view_taken os
 -- ---- arguments by their places
 
 -- the same argument with the value in place of its place
-abbrev onto : (ℕ → Value) → arguments.Given ℕ → Given
+abbrev onto : (ℕ → Value) → arguments.Given ℕ → Argument
 onto f g = (g.0, f g.1)
 
-abbrev onto_taken : (ℕ → Value) → Option (ℕ × List (arguments.Given ℕ)) → Option (Value × List Given)
+abbrev onto_taken : (ℕ → Value) → Option (ℕ × List (arguments.Given ℕ)) → Option (Value × List Argument)
 onto_taken f o = option_map (λ x. (f x.0, map (onto f) x.1)) o
 
 after_onto : (f : ℕ → Value) (g : arguments.Given ℕ) (o : Option (ℕ × List (arguments.Given ℕ))) → after (onto f g) (onto_taken f o) ≡ onto_taken f (after g o)
@@ -92,15 +92,15 @@ taken_onto : (f : ℕ → Value) (ps : List Parameter) (gs : List (arguments.Giv
 taken_onto f [] gs = refl
 taken_onto f (p ∷ ps) gs =
     let here : argument (label_of p) (map (onto f) gs) ≡ onto_taken f (argument (label_of p) gs) = argument_onto f (label_of p) gs in
-    ap (λ (o : Option (Value × List Given)). option_map (λ x. x.0) o ∷ arguments_taken ps (others (map (onto f) gs) o)) here
-    ∙ ap₂ (λ (o : Option Value) (l : List Given). o ∷ arguments_taken ps l) (first_onto f (argument (label_of p) gs)) (others_onto f gs (argument (label_of p) gs))
+    ap (λ (o : Option (Value × List Argument)). option_map (λ x. x.0) o ∷ arguments_taken ps (others (map (onto f) gs) o)) here
+    ∙ ap₂ (λ (o : Option Value) (l : List Argument). o ∷ arguments_taken ps l) (first_onto f (argument (label_of p) gs)) (others_onto f gs (argument (label_of p) gs))
     ∙ ap (λ (l : List (Option Value)). option_map f (option_map (λ x. x.0) (argument (label_of p) gs)) ∷ l) (taken_onto f ps (others gs (argument (label_of p) gs)))
 
 placed_onto : (f : ℕ → Value) (k : ℕ) (gs : List AGiven) → ((j : ℕ) → f (k + j) ≡ value_at gs j) → map (onto f) (placed k (map (λ g. g.label) gs)) ≡ map view_given gs
 placed_onto f k [] h = refl
 placed_onto f k (g ∷ gs) h =
     let same : f k ≡ view_value g.value = ap f (let e : k ≡ k + 0 = omega arith in e) ∙ h 0 in
-    ap₂ (λ (x : Given) (xs : List Given). x ∷ xs) (ap (λ (v : Value). (g.label, v)) same) (placed_onto f (suc k) gs (λ j. ap f (let e : suc k + j ≡ k + suc j = omega arith in e) ∙ h (suc j)))
+    ap₂ (λ (x : Argument) (xs : List Argument). x ∷ xs) (ap (λ (v : Value). (g.label, v)) same) (placed_onto f (suc k) gs (λ j. ap f (let e : suc k + j ≡ k + suc j = omega arith in e) ∙ h (suc j)))
 
 -- the values at the places that parameters take are what they take
 pub taken_at_places : (ps : List Parameter) (gs : List AGiven) → map (option_map (value_at gs)) (arguments_taken ps (placed 0 (map (λ g. g.label) gs))) ≡ arguments_taken ps (map view_given gs)

@@ -8,10 +8,10 @@ use Rattle.script_values.specs.declared.machine.Machine.{Machine}
 use Rattle.script_values.specs.declared.slots.Given.{Given as AGiven}
 use Rattle.script_values.specs.declared.value.Value.{Value as AValue}
 use Rattle.script_values.specs.Outcomes.{◌>>=◌}
-use Rattle.script_values.specs.Slots.{Slot}
+use Rattle.script_values.specs.Slots.{SlotValue}
 use Rattle.script_values.specs.Values.{Value, Nothing}
 use Rattle.script_values.specs.View.{view_value}
-use Rattle.eval_meaning.specs.Meaning.{Scope, full}
+use Rattle.eval_meaning.specs.Meaning.{Surroundings, full}
 
 -- what a parameter of the program takes, if it takes an argument
 abbrev pub view_taken : Option AValue → Option Value
@@ -39,14 +39,14 @@ AreKept None old new = (j : ℕ) → new j ≡ old j
 AreKept (Some i) old new = (j : ℕ) → j ≢ i → new j ≡ old j
 
 -- the slot of a parameter that takes this
-unfoldable pub filled : Scope → Tree AParam → Option Value → Machine → Result (Slot × Machine) Fault
+unfoldable pub filled : Surroundings → Tree AParam → Option Value → Machine → Result (SlotValue × Machine) Fault
 filled s p (Some v) m = Ok ((token_of p, v), m)
 filled s (Param at name) None m = Err Stuck
 filled s (Labelled at name) None m = Err Stuck
 filled s (Optional at name d) None m = full s d m >>= λ x. Ok ((at, x.0), x.1)
 
 -- the slots of parameters that take these, behind others
-unfoldable pub all_filled : Scope → Tree (Many AParam) → List (Option Value) → List Slot → Machine → Result (List Slot × Machine) Fault
+unfoldable pub all_filled : Surroundings → Tree (Many AParam) → List (Option Value) → List SlotValue → Machine → Result (List SlotValue × Machine) Fault
 all_filled s none os slots m = Ok (slots, m)
 all_filled s (more p ps) [] slots m = Err Stuck
 all_filled s (more p ps) (o ∷ os) slots m = filled s p o m >>= λ x. all_filled s ps os (slots ++ x.0 ∷ []) x.1

@@ -22,8 +22,8 @@ use Rattle.type_terms.specs.declared.ty.KindTerm.{KindTerm}
 use Rattle.script_grammar.proofs.Rows.{added_seen, and_seen, call_seen, compare_alone, compare_seen, expr_seen, not_seen, product_seen, sum_seen}
 use Rattle.type_steps.specs.Environment.{Found, with_use}
 use Rattle.type_steps.specs.Flow.{if_yes}
-use Rattle.name_types.specs.Seen.{IsNamed, env_of}
-use Rattle.name_types.specs.declared.environment.Names.{Names}
+use Rattle.expression_types.specs.Seen.{IsNamed, env_of}
+use Rattle.expression_types.specs.declared.environment.Names.{Names}
 use Rattle.expression_types.specs.Order.{AreAdded, AreAddedIf, AreAddedWhere, Said, kinds_count, said_at, said_of, tokens_used}
 
 pub none_added : (ns : Names) (fs : List Found) → AreAdded ns [] fs fs

@@ -10,7 +10,7 @@ use Rattle.script_grammar.specs.declared.tree.Operand as operand
 use Rattle.type_terms.specs.Table.{Table}
 use Rattle.type_steps.specs.Environment.{Env, Found}
 use Rattle.type_steps.specs.Flow.{IsTypeOf}
-use Rattle.name_types.specs.declared.environment.Names.{Names}
+use Rattle.expression_types.specs.declared.environment.Names.{Names}
 use Rattle.expression_types.specs.Order.{AreAddedIf, tokens_used}
 use Rattle.expression_types.proofs.Operands.{answered_as}
 

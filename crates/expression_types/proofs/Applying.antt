@@ -15,12 +15,12 @@ use Rattle.type_steps.specs.Environment.{AreUsesOver, Found, with_use}
 use Rattle.type_steps.specs.Flow.{AreTermsOver, HasNoCall}
 use Rattle.type_steps.proofs.Calls.{uses_with}
 use Rattle.type_steps.proofs.Tables.{over_later, uses_later}
-use Rattle.name_types.specs.Seen.{DefIs, HasBegun, IsCalled, IsSeen, def_seen, env_of, founds}
-use Rattle.name_types.specs.declared.calls.Callee.{Callee}
-use Rattle.name_types.specs.declared.environment.FoundUse.{FoundUse}
-use Rattle.name_types.specs.declared.environment.KnownDef.{KnownDef}
-use Rattle.name_types.specs.declared.environment.Names.{Names}
-use Rattle.name_types.proofs.Seeing.{seen_later}
+use Rattle.expression_types.specs.Seen.{DefIs, HasBegun, IsCalled, IsSeen, def_seen, env_of, founds}
+use Rattle.expression_types.specs.declared.callees.Callee.{Callee}
+use Rattle.expression_types.specs.declared.environment.FoundUse.{FoundUse}
+use Rattle.expression_types.specs.declared.environment.KnownDef.{KnownDef}
+use Rattle.expression_types.specs.declared.environment.Names.{Names}
+use Rattle.expression_types.proofs.Seeing.{seen_later}
 use Rattle.expression_types.specs.Order.{kinds_count, open_kinds}
 
 pub terms_later : (s s' : Table) (ts : List Term) → Follows s s' → AreTermsOver s ts → AreTermsOver s' ts

@@ -5,3 +5,6 @@ pub mod NamesInOrder
 pub mod Operands
 pub mod Sizes
 pub mod Turns
+pub mod Seeing
+pub mod Calling
+pub mod Lookups

@@ -18,7 +18,7 @@ use Rattle.type_steps.specs.Environment.{Env, Found, AreUsesOver, IsEnvOver}
 use Rattle.type_steps.specs.Flow.{Defines, Infers, IsTypeOf}
 use Rattle.type_steps.proofs.Ends.{leaf_infers}
 use Rattle.type_steps.proofs.Forms.{infers_as, none_as}
-use Rattle.name_types.specs.Literals.{literal_term}
+use Rattle.expression_types.specs.Literals.{literal_term}
 
 pub constant_infers : (s s' : Table) (env : Env) (at : ℕ) (l : Literal) (n : ℕ) (fs : List Found) → IsEnvOver s env → AreUsesOver s fs → Defines s s' n (literal_term l) → Infers s s' env (Constant at l) (variable n) fs fs
 constant_infers s s' env at (literal.Int k) n fs o us d = leaf_infers s s' env (Constant at (literal.Int k)) base.Int n fs (λ z. refl) (λ z g h. h) o us d

@@ -12,8 +12,8 @@ use Rattle.type_steps.specs.Flow.{Infers, InfersAll, InfersEach, InfersGiven}
 use Rattle.type_steps.proofs.Ends.{args_next, fulls_next, joins_next}
 use Rattle.type_steps.proofs.Forms.{each_none}
 use Rattle.type_steps.proofs.Parts.{all_none, given_none}
-use Rattle.name_types.specs.Seen.{env_of}
-use Rattle.name_types.specs.declared.environment.Names.{Names}
+use Rattle.expression_types.specs.Seen.{env_of}
+use Rattle.expression_types.specs.declared.environment.Names.{Names}
 use Rattle.expression_types.specs.Order.{AreAdded, tokens_used}
 use Rattle.expression_types.proofs.Adding.{next_added, none_added}
 

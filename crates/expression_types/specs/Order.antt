@@ -6,9 +6,9 @@ use Rattle.typing_rules.specs.declared.uses.Target.TheVariants as target
 use Rattle.typing_rules.specs.Table.{signature}
 use Rattle.general_types.specs.Schemes.{open_numbers, scheme_of}
 use Rattle.type_steps.specs.Environment.{Found}
-use Rattle.name_types.specs.Seen.{def_seen, env_of}
-use Rattle.name_types.specs.declared.environment.KnownDef.{KnownDef}
-use Rattle.name_types.specs.declared.environment.Names.{Names}
+use Rattle.expression_types.specs.Seen.{def_seen, env_of}
+use Rattle.expression_types.specs.declared.environment.KnownDef.{KnownDef}
+use Rattle.expression_types.specs.declared.environment.Names.{Names}
 
 -- the tokens of the names that a tree uses, in order
 abbrev pub tokens_used : {s : Sort} → Tree s → List ℕ

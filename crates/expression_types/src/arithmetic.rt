@@ -3,12 +3,13 @@ ghost use Rattle.std.specs.Prelude.{length, map, IfOk, ◌<◌};
 ghost use Rattle.script_grammar.specs.Tree.{more, none};
 ghost use Rattle.script_grammar.specs.View.{listed, view_added, view_compare, view_multiplied, view_product, view_sum};
 ghost use Rattle.type_steps.specs.Flow.{AreJoined, IsTypeOf};
-ghost use Rattle.name_types.specs.Seen.{IsSeen, env_of, founds};
+ghost use Rattle.expression_types.specs.Seen.{IsSeen, env_of, founds};
 ghost use Rattle.expression_types.specs.Order.{AreAddedIf, AreAddedWhere, tokens_used};
 
+use crate::environment::{FoundUse, Names};
+use crate::leaves::some_if;
 use crate::values::type_operand;
 use liq_base::Memory;
-use name_types::{FoundUse, Names, some_if};
 use script_grammar::tree::{Added, Compare, Multiplied, Product, Sum};
 use std::alloc::Global;
 use type_steps::{is_number, is_number_of_many, new_type, same};

@@ -6,13 +6,15 @@ ghost use Rattle.script_grammar.specs.View.{listed, view_arg, view_call};
 ghost use Rattle.general_types.specs.Schemes.{open_numbers};
 ghost use Rattle.type_steps.specs.Fitting.{seen_argument};
 ghost use Rattle.type_steps.specs.Flow.{AreGivenOf, IsTypeOf};
-ghost use Rattle.name_types.specs.Seen.{IsCalled, IsSeen, called_scheme, env_of, founds};
+ghost use Rattle.expression_types.specs.Seen.{IsCalled, IsSeen, called_scheme, env_of, founds};
 ghost use Rattle.expression_types.specs.Order.{AreAddedIf, kinds_count, tokens_used};
 
+use crate::callees::{Called, begin_call};
+use crate::environment::{FoundUse, Names};
+use crate::leaves::some_if;
 use crate::values::type_full;
 use liq_base::Memory;
 use name_scope::{Parameter, builtin_params};
-use name_types::{Called, FoundUse, Names, begin_call, some_if};
 use script_grammar::tree::{Arg, Call};
 use std::alloc::Global;
 use type_steps::{Argument, fit};

@@ -3,13 +3,14 @@ ghost use Rattle.std.specs.Prelude.{length, map, option_map, IfOk, ◌<◌};
 ghost use Rattle.script_grammar.specs.Tree.{Listed, more, none};
 ghost use Rattle.script_grammar.specs.View.{listed, tuple_of, view_full, view_if, view_operand};
 ghost use Rattle.type_steps.specs.Flow.{AreJoined, AreTypesOf, IsTypeOf};
-ghost use Rattle.name_types.specs.Seen.{IsSeen, env_of, founds};
+ghost use Rattle.expression_types.specs.Seen.{IsSeen, env_of, founds};
 ghost use Rattle.expression_types.specs.Order.{AreAddedIf, AreAddedWhere, tokens_used};
 
 use crate::calls::type_call;
+use crate::environment::{FoundUse, Names};
+use crate::leaves::{literal_type, some_if, type_name};
 use crate::logic::type_expr;
 use liq_base::Memory;
-use name_types::{FoundUse, Names, literal_type, some_if, type_name};
 use script_grammar::lone_operand;
 use script_grammar::tree::{Full, If, Operand};
 use std::alloc::Global;

@@ -1,3 +1,4 @@
+pub mod Chunks
 pub mod Lanes
 pub mod Laid
 pub mod Laws

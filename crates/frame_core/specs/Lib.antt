@@ -7,3 +7,4 @@ pub mod Legal
 pub mod Order
 pub mod Calls
 pub mod Coded
+pub mod Chunks

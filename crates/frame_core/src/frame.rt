@@ -1,11 +1,12 @@
 // The slots of one tick.
-ghost use Rattle.std.specs.Prelude.{◌≡◌, ◌<◌, ◌≤◌, ◌+◌, length, replicate, slice_set, IfOk, None};
+ghost use Rattle.std.specs.Prelude.{◌≡◌, ◌<◌, ◌≤◌, ◌+◌, length, replicate, slice_set, IfOk, IfSome, None};
 ghost use Rattle.std.specs.Simd.Lanes.{put_chunk};
+ghost use Rattle.frame_core.specs.Chunks.{slot_mark};
 ghost use Rattle.frame_core.specs.Slots.{slot_at};
 ghost use Rattle.frame_core.specs.Frames.{laid_slots, marks_of, slot_of, slots_in};
 ghost use Rattle.frame_core.specs.declared.frame.Mark.TheVariants.{Absent};
 
-use crate::Cell;
+use crate::{Cell, CellMark};
 use liq_base::Memory;
 use liq_base::limits::MAX_FRAME;
 use std::alloc::Global;
@@ -35,6 +36,18 @@ impl Mark {
             first,
             title,
         })
+    }
+
+    // What a cell of this mark has beside its samples, if there is one.
+    pub(crate) fn in_cell(self) -> Option<CellMark>
+        ensures { IfSome result (λ mark. slot_mark mark ≡ self) }
+    {
+        let (first, title) = match self {
+            Mark::Absent => return None,
+            Mark::Inner(title) => (false, title),
+            Mark::First(title) => (true, title),
+        };
+        Some(CellMark { first, title })
     }
 }
 
@@ -89,6 +102,16 @@ impl Frame {
         ensures most { result ≤ MAX_FRAME }
     {
         self.marks.len() as u32
+    }
+
+    // The marks, the left and the right samples of its slots.
+    pub(crate) fn lanes(&self) -> (&[Mark], &[i16], &[i16])
+        ensures slots { slots_in result.0.now result.1.now result.2.now ≡ self.now }
+        ensures left { length result.1.now ≡ length result.0.now }
+        ensures right { length result.2.now ≡ length result.0.now }
+        ensures most { length result.0.now ≤ MAX_FRAME }
+    {
+        (&self.marks, &self.left, &self.right)
     }
 
     /// The slot at a place, counted from 0.

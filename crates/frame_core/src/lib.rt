@@ -9,7 +9,7 @@ mod slot;
 mod taps;
 mod track;
 
-pub use cell::Cell;
+pub use cell::{Cell, CellMark};
 pub use chunk::{Chunk, Gave};
 pub use frame::Frame;
 pub use library::Library;

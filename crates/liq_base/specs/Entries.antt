@@ -5,20 +5,21 @@ use Rattle.std.specs.Cmp.Lexicographic.{slice_cmp, nat_list_cmp_total, texts_tie
 use Rattle.std.specs.FinMap.{from_entries, get-from_entries, find}
 use Rattle.std.specs.declared.alloc.Global.{Global}
 use Rattle.std.proofs.Common.{sym, ap, ◌∙◌}
-use Rattle.liq_base.specs.Files.{Closing, Files, file_at}
+use Rattle.liq_base.specs.Files.{Files, file_at}
+use Rattle.liq_base.specs.Shelves.{Closing, closing_of}
 use Rattle.std.specs.Str.{bytes_eq}
 use Rattle.liq_base.specs.declared.closed.Closed.{Closed, End, File', Lost'}
 
 abbrev pub entries : Closed → List (List ℕ × List ℕ)
 entries End = []
-entries (File' p name bytes pieces next) = (string_bytes name, bytes.items) ∷ entries next
-entries (Lost' p name bytes pieces next) = entries next
+entries (File' p name bytes left pieces next) = (string_bytes name, bytes.items) ∷ entries next
+entries (Lost' p name bytes left pieces next) = entries next
 
--- the name and the pieces of each sink that was closed, the newest last
+-- what is told of each sink that was closed, the newest last
 abbrev pub closings : Closed → List Closing
 closings End = []
-closings (File' p name bytes pieces next) = closings next ++ record { name = string_bytes name; pieces = pieces } ∷ []
-closings (Lost' p name bytes pieces next) = closings next ++ record { name = string_bytes name; pieces = pieces } ∷ []
+closings (File' p name bytes left pieces next) = closings next ++ closing_of (string_bytes name) bytes.items left pieces ∷ []
+closings (Lost' p name bytes left pieces next) = closings next ++ closing_of (string_bytes name) bytes.items left pieces ∷ []
 
 abbrev pub stored : List ℕ → List (List ℕ × List ℕ) → Option (List ℕ)
 stored name [] = None

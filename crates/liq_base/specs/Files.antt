@@ -1,10 +1,10 @@
 -- The files of a shelf: bytes under names.
-use Rattle.std.specs.Prelude.{◌≡◌, ◌≤◌, ◌⊎◌, ℕ, List, [], ◌∷◌, ◌++◌, length, Option, Some, None, IsSomeAnd}
+use Rattle.std.specs.Prelude.{◌≡◌, ◌≤◌, ◌⊎◌, ℕ, List, ◌++◌, length, Option, Some, None, IsSomeAnd}
 use Rattle.std.specs.Option.{ForSome}
 use Rattle.std.specs.Ordering.{nat_cmp}
 use Rattle.std.specs.Cmp.Lexicographic.{slice_cmp}
 use Rattle.std.specs.FinMap.{FinMap, get, insert}
-use Rattle.liq_base.specs.Pieces.{IsPrefix}
+use Rattle.liq_base.specs.Pieces.{IsPrefix, SinkTold}
 
 abbrev pub Files : Type 0
 Files = FinMap (slice_cmp nat_cmp) (List ℕ)
@@ -27,22 +27,12 @@ abbrev pub HoldsPart : Files → List ℕ → List ℕ → Files → Type 0
 HoldsPart files name bytes after =
     (after ≡ files) ⊎ ((part : List ℕ) × IsPrefix part bytes × (after ≡ with_file files name part))
 
--- a sink was closed: what its shelf told before, what the sink told, and what the shelf tells now
-abbrev pub Closed : Option Files → Option (List ℕ) → Option (List ℕ) → Option Files → Type 0
-Closed before name held after =
-    ForSome before (λ files. ForSome name (λ n. ForSome held (λ bytes. after ≡ Some (with_file files n bytes))))
+-- a sink that told this was closed: what its shelf told of its files before, and what it tells now
+abbrev pub Closed : SinkTold → (before after : Option Files) → Type 0
+Closed out before after =
+    ForSome before (λ files. ForSome out.name (λ name. ForSome out.held (λ bytes. after ≡ Some (with_file files name bytes))))
 
 -- the closing failed
-abbrev pub ClosedPart : Option Files → Option (List ℕ) → Option (List ℕ) → Option Files → Type 0
-ClosedPart before name held after =
-    ForSome before (λ files. ForSome name (λ n. ForSome held (λ bytes. IsSomeAnd after (HoldsPart files n bytes))))
-
--- what a shelf tells of a sink that was closed: its name, and how many pieces it had got
-pub record Closing : Type 0 where
-  pub name : List ℕ
-  pub pieces : ℕ
-
--- what a shelf tells of the names of the sinks that it made, or of those that were closed, after one more
-abbrev pub noted : {A : Type 0} → A → Option (List A) → Option (List A)
-noted item None = None
-noted item (Some items) = Some (items ++ item ∷ [])
+abbrev pub ClosedPart : SinkTold → (before after : Option Files) → Type 0
+ClosedPart out before after =
+    ForSome before (λ files. ForSome out.name (λ name. ForSome out.held (λ bytes. IsSomeAnd after (HoldsPart files name bytes))))

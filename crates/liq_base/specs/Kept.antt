@@ -2,7 +2,7 @@
 use Rattle.std.specs.Prelude.{◌≡◌, ◌⊎◌, ◌≤◌, ℕ, List, ◌++◌, Option, Some, None, IsSomeAnd, Result, Ok, Err, OnOk, OnErr, refl}
 use Rattle.std.proofs.Common.{sym, ◌∙◌, ap, append_assoc, subst, inl, inr, arith}
 use Rattle.liq_base.specs.Counts.{Rose}
-use Rattle.liq_base.specs.Pieces.{IsPrefix}
+use Rattle.liq_base.specs.Pieces.{IsPrefix, SinkTold}
 use Rattle.liq_base.specs.Files.{Files, with_file, HoldsPart, Closed, ClosedPart}
 
 -- the name holds a prefix of the bytes, or, for this cause, what it held; nothing else changed
@@ -21,12 +21,12 @@ some_and None P Q f p = p
 some_and (Some x) P Q f p = f x p
 
 -- whatever a closing answered, the name holds a part of what was to be written, or what it held if the closing failed
-pub closed_part_or : {E : Type 0} (r : Result (Unit {0}) E) (cause : Type 0) (before after : Option Files) (name held : Option (List ℕ)) (files : Files) (n h bytes : List ℕ)
-    → OnOk r (Closed before name held after) → OnErr r (ClosedPart before name held after) → OnErr r cause
-    → before ≡ Some files → name ≡ Some n → held ≡ Some h → IsPrefix h bytes → IsSomeAnd after (HoldsPartOr cause files n bytes)
-closed_part_or (Ok x) cause before after name held files n h bytes whole part why b m k p =
+pub closed_part_or : {E : Type 0} (r : Result (Unit {0}) E) (cause : Type 0) (out : SinkTold) (before after : Option Files) (files : Files) (n h bytes : List ℕ)
+    → OnOk r (Closed out before after) → OnErr r (ClosedPart out before after) → OnErr r cause
+    → before ≡ Some files → out.name ≡ Some n → out.held ≡ Some h → IsPrefix h bytes → IsSomeAnd after (HoldsPartOr cause files n bytes)
+closed_part_or (Ok x) cause out before after files n h bytes whole part why b m k p =
     subst (λ a. IsSomeAnd a (HoldsPartOr cause files n bytes)) (sym (whole files b n m h k)) (inr (h, p, refl))
-closed_part_or (Err x) cause before after name held files n h bytes whole part why b m k p =
+closed_part_or (Err x) cause out before after files n h bytes whole part why b m k p =
     some_and after _ _ (caused cause files n h bytes why p) (part files b n m h k)
 
 -- the cause seen from before and after other calls

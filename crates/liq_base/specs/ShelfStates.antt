@@ -1,9 +1,10 @@
 -- What clauses see of the shelves in memory, and what a call makes of them.
-use Rattle.std.specs.Prelude.{ℕ, refl, Bool, ◌||◌, ◌==◌, List, [], ◌∷◌, ◌++◌, length, map, filter, Option, Some, None, Result, Ok, Err, if◌then◌else◌, nat_le, nat_lt}
+use Rattle.std.specs.Prelude.{ℕ, refl, Bool, ◌||◌, ◌==◌, List, [], ◌∷◌, ◌++◌, ◌-◌, length, map, filter, Option, Some, None, Result, Ok, Err, if◌then◌else◌, nat_le, nat_lt}
 use Rattle.std.specs.List.{list_any}
 use Rattle.std.specs.Coded.{Coded, code_by, coded×, coded_ℕ, coded_list}
 use Rattle.std.specs.FinMap as map
-use Rattle.liq_base.specs.Files.{Closing, Files, file_at, with_file}
+use Rattle.liq_base.specs.Files.{Files, file_at, with_file}
+use Rattle.liq_base.specs.Shelves.{Closing, ShelfTold, closing_of}
 use Rattle.liq_base.specs.SinkStates.{one_more, empty_sink, NamedState}
 use Rattle.liq_base.specs.declared.shelf.Fetched.{Fetched}
 use Rattle.liq_base.specs.declared.shelf.Fetched.TheVariants.{Found, Missing, TooLarge}
@@ -38,7 +39,7 @@ abbrev pub files_code : Coded Files
 files_code = map.code (coded_list coded_ℕ) (coded_list coded_ℕ)
 
 abbrev closing_code : Coded Closing
-closing_code = code_by (List ℕ × ℕ) (coded× (coded_list coded_ℕ) coded_ℕ) (λ c. (c.name, c.pieces)) (λ p. record { name = p.0; pieces = p.1 }) (λ _. refl)
+closing_code = code_by (List ℕ × (ℕ × (ℕ × ℕ))) (coded× (coded_list coded_ℕ) (coded× coded_ℕ (coded× coded_ℕ coded_ℕ))) (λ c. (c.name, (c.room, (c.bytes, c.pieces)))) (λ p. record { name = p.0; room = p.1.0; bytes = p.1.1.0; pieces = p.1.1.1 }) (λ _. refl)
 
 abbrev append_code : Coded FailingAppend
 append_code = code_by (ℕ × (ℕ × ℕ)) (coded× coded_ℕ (coded× coded_ℕ coded_ℕ)) (λ f. (f.sink, (f.call, f.taken))) (λ p. record { sink = p.0; call = p.1.0; taken = p.1.1 }) (λ _. refl)
@@ -71,6 +72,20 @@ shelf_code =
       write_faults = p.1.1.1.1;
     })
     (λ _. refl)
+
+-- what a shelf tells
+abbrev pub shelf_told : ShelfState → ShelfTold
+shelf_told shelf = record {
+  files = Some shelf.files;
+  created = Some shelf.created;
+  closed = Some shelf.closed;
+  reads = shelf.read_faults;
+  writes = shelf.write_faults;
+}
+
+-- what a shelf of these files tells of which no call fails
+abbrev pub sure_shelf_told : Files → ShelfTold
+sure_shelf_told files = record { files = Some files; created = None; closed = None; reads = 0; writes = 0 }
 
 -- a shelf of which no call was made, and none is listed
 abbrev pub untouched : Files → ShelfState
@@ -135,7 +150,7 @@ files_after failed files out = if failed then files else with_file files out.nam
 abbrev pub after_close : ShelfState → NamedState → ShelfState
 after_close shelf out = record shelf {
   files = files_after (close_fails shelf) shelf.files out;
-  closed = shelf.closed ++ record { name = out.name; pieces = out.sink.calls } ∷ [];
+  closed = shelf.closed ++ closing_of out.name out.sink.held (out.sink.room - length out.sink.held) out.sink.calls ∷ [];
   closes = one_more shelf.closes;
   write_faults = raised shelf.write_faults (close_fails shelf || nat_lt 0 out.sink.faults);
 }

@@ -1,5 +1,6 @@
 -- What clauses see of the sinks in memory, and what a call makes of them.
 use Rattle.std.specs.Prelude.{ℕ, ◌+◌, ◌-◌, ◌^◌, List, [], ◌∷◌, ◌++◌, take, length, min, Option, Some, None, if◌then◌else◌, nat_eq, nat_le}
+use Rattle.liq_base.specs.Pieces.{SinkTold}
 
 -- one more, as far as a u64 counts
 abbrev pub one_more : ℕ → ℕ
@@ -50,18 +51,24 @@ appended sink piece = record {
   faults = faults_after (stops sink piece) sink.faults;
 }
 
+-- what such a sink tells: no name, and no room
+abbrev pub sink_told : SinkState → SinkTold
+sink_told sink = record { held = Some sink.held; name = None; room = None; appends = Some sink.calls; faults = sink.faults }
+
 -- a sink that a shelf in memory made, with its name
 pub record NamedState : Type 0 where
   pub name : List ℕ
   pub sink : SinkState
 
--- what such a sink tells of its bytes
-abbrev pub named_held : NamedState → Option (List ℕ)
-named_held named = Some named.sink.held
-
--- and of its room
-abbrev pub named_room : NamedState → Option ℕ
-named_room named = Some (named.sink.room - length named.sink.held)
+-- what such a sink tells
+abbrev pub named_told : NamedState → SinkTold
+named_told named = record {
+  held = Some named.sink.held;
+  name = Some named.name;
+  room = Some (named.sink.room - length named.sink.held);
+  appends = Some named.sink.calls;
+  faults = named.sink.faults;
+}
 
 -- a sink that never fails
 pub record SureState : Type 0 where
@@ -69,10 +76,6 @@ pub record SureState : Type 0 where
   pub held : List ℕ
   pub room : ℕ
 
--- what it tells of its bytes
-abbrev pub sure_held : SureState → Option (List ℕ)
-sure_held sure = Some sure.held
-
--- and of its room
-abbrev pub sure_room : SureState → Option ℕ
-sure_room sure = Some (sure.room - length sure.held)
+-- what it tells: of its pieces nothing
+abbrev pub sure_told : SureState → SinkTold
+sure_told sure = record { held = Some sure.held; name = Some sure.name; room = Some (sure.room - length sure.held); appends = None; faults = 0 }

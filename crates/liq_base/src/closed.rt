@@ -24,6 +24,8 @@ pub(crate) enum Closed {
 pub(crate) struct Entry {
     pub name: String,
     pub bytes: Vec<u8>,
+    /// How many bytes more it had room for.
+    pub left: u64,
     /// How many pieces it had got, at most as many as a `u64` counts.
     pub pieces: u64,
     pub next: Closed,
@@ -49,6 +51,7 @@ impl Entry {
         let entry = Entry {
             name: String::new(alloc),
             bytes: Vec::new(alloc),
+            left: 0,
             pieces: 0,
             next: Closed::End,
         };

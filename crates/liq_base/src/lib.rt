@@ -1,5 +1,5 @@
 //! What every other crate stands on: owned texts, want of memory, the limits of the language, and
-//! the outside as the program sees it (byte sinks, shelves of files, gates).
+//! the outside as the program sees it (byte sinks, shelves of files, gates), and values by tokens.
 #![tactic(auto)]
 
 mod closed;
@@ -13,6 +13,7 @@ mod shelf;
 mod sink;
 mod sure_shelf;
 mod sure_sink;
+mod table;
 mod text;
 
 pub use gate::{FreeGate, Gate};
@@ -24,4 +25,5 @@ pub use shelf::{Fetched, Shelf, ShelfFault};
 pub use sink::{Failed, Sink};
 pub use sure_shelf::SureShelf;
 pub use sure_sink::SureSink;
+pub use table::TokenTable;
 pub use text::Text;

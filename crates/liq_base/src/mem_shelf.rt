@@ -3,10 +3,11 @@ ghost use Rattle.std.specs.Prelude.{◌≡◌, ◌≢◌, ◌≤◌, ◌<◌, le
 ghost use Rattle.std.specs.Option.{ForSome};
 ghost use Rattle.std.specs.FinMap.{from_entries};
 ghost use Rattle.liq_base.specs.Counts.{Rose};
-ghost use Rattle.liq_base.specs.Files.{file_at, Found, Closed as ClosedAs, ClosedPart, noted};
-ghost use Rattle.liq_base.specs.SinkStates.{named_held};
+ghost use Rattle.liq_base.specs.Files.{file_at, Found, Closed as ClosedAs, ClosedPart};
+ghost use Rattle.liq_base.specs.Shelves.{OnlyClosed, OnlyMade, OnlyRead};
+ghost use Rattle.liq_base.specs.SinkStates.{named_told};
 ghost use Rattle.liq_base.specs.Entries.{given_entries};
-ghost use Rattle.liq_base.specs.ShelfStates.{untouched, read_answer, read_fails, create_fails, close_fails, after_read, after_create, after_close, created_sink, raised, appends_of};
+ghost use Rattle.liq_base.specs.ShelfStates.{untouched, shelf_told, read_answer, read_fails, create_fails, close_fails, after_read, after_create, after_close, created_sink, raised, appends_of};
 
 use crate::closed::{Closed, fetch_file, find_file};
 use crate::named_sink::NamedSink;
@@ -168,17 +169,9 @@ impl MemShelf {
 impl Shelf for MemShelf {
     type Out = NamedSink;
 
-    ghost use Rattle.std.specs.Prelude.{Some};
+    ghost use Rattle.liq_base.specs.ShelfStates.{shelf_told};
 
-    ghost files = { λ s. Some s.files };
-
-    ghost created = { λ s. Some s.created };
-
-    ghost closed = { λ s. Some s.closed };
-
-    ghost read_count = { λ s. s.read_faults };
-
-    ghost write_count = { λ s. s.write_faults };
+    ghost told = { shelf_told };
 
     fn read(&mut self, name: &str, into: &mut Vec<u8>, most: u64) -> Result<Fetched, ShelfFault>
         ensures next { self.new ≡ after_read self.old }
@@ -189,9 +182,7 @@ impl Shelf for MemShelf {
         ensures too_large { result ≡ Ok Fetched.TooLarge → ForSome (Some self.old.files) (λ files. IsSomeAnd (file_at files name.now) (λ bytes. most < length bytes)) }
         ensures otherwise { result ≢ Ok Fetched.Found → into.new.items ≡ into.old.items }
         ensures cause { IsErrOf result ShelfFault.Failed → Rose self.old.read_faults self.new.read_faults }
-        ensures files { Some self.new.files ≡ Some self.old.files }
-        ensures reads { self.old.read_faults ≤ self.new.read_faults }
-        ensures writes { self.old.write_faults ≤ self.new.write_faults }
+        ensures shelf { OnlyRead (shelf_told self.old) (shelf_told self.new) }
     {
         if self.count_read() {
             return Err(ShelfFault::Failed);
@@ -205,12 +196,9 @@ impl Shelf for MemShelf {
         ensures answer { result ≢ Err ShelfFault.Memory → is_ok result ≡ not (create_fails self.old) }
         ensures memory { result ≡ Err ShelfFault.Memory → create_fails self.old ≡ false }
         ensures made { IfOk result (λ out. out ≡ created_sink self.old name.now room) }
-        ensures noted { OnOk result (Some self.new.created ≡ noted name.now (Some self.old.created)) }
-        ensures unnoted { OnErr result (Some self.new.created ≡ Some self.old.created) }
-        ensures closed { Some self.new.closed ≡ Some self.old.closed }
+        ensures made_one { OnOk result (OnlyMade name.now (shelf_told self.old) (shelf_told self.new)) }
+        ensures unmade { OnErr result (OnlyRead (shelf_told self.old) (shelf_told self.new)) }
         ensures cause { IsErrOf result ShelfFault.Failed → Rose self.old.write_faults self.new.write_faults }
-        ensures reads { self.old.read_faults ≤ self.new.read_faults }
-        ensures writes { self.old.write_faults ≤ self.new.write_faults }
     {
         let call = self.creates;
         let fails = self.failing_creates.contains(&call);
@@ -228,13 +216,10 @@ impl Shelf for MemShelf {
     fn close(&mut self, out: NamedSink) -> Result<(), Failed>
         ensures next { self.new ≡ after_close self.old out }
         ensures answer { is_ok result ≡ not (close_fails self.old) }
-        ensures closed { OnOk result (ClosedAs (Some self.old.files) (Some out.name) (named_held out) (Some self.new.files)) }
-        ensures part { OnErr result (ClosedPart (Some self.old.files) (Some out.name) (named_held out) (Some self.new.files)) }
-        ensures listed { Some self.new.closed ≡ noted (record { name = out.name; pieces = out.sink.calls }) (Some self.old.closed) }
+        ensures closed { OnOk result (ClosedAs (named_told out) (Some self.old.files) (Some self.new.files)) }
+        ensures part { OnErr result (ClosedPart (named_told out) (Some self.old.files) (Some self.new.files)) }
         ensures cause { OnErr result (Rose self.old.write_faults self.new.write_faults) }
-        ensures failed_sink { 0 < out.sink.faults → Rose self.old.write_faults self.new.write_faults }
-        ensures reads { self.old.read_faults ≤ self.new.read_faults }
-        ensures writes { self.old.write_faults ≤ self.new.write_faults }
+        ensures shelf { OnlyClosed (named_told out) (shelf_told self.old) (shelf_told self.new) }
     {
         let fails = self.failing_closes.contains(&self.closes);
         self.closes = self.closes.saturating_add(1);

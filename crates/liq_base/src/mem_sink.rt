@@ -1,8 +1,7 @@
 // A byte sink in memory, with room for so many bytes, that fails where it is told to.
-ghost use Rattle.std.specs.Prelude.{◌≡◌, ◌≤◌, length, Option, Some, None, is_ok, is_none, IfOk, OnOk, OnErr};
-ghost use Rattle.liq_base.specs.Counts.{Rose, counted};
-ghost use Rattle.liq_base.specs.Pieces.{HasRoom, Took, TookPart};
-ghost use Rattle.liq_base.specs.SinkStates.{appended, stops, stop, listed, empty_sink};
+ghost use Rattle.std.specs.Prelude.{◌≡◌, ◌-◌, length, is_ok, is_none, IfOk, OnOk, OnErr};
+ghost use Rattle.liq_base.specs.Pieces.{Took, TookPart};
+ghost use Rattle.liq_base.specs.SinkStates.{appended, stops, stop, listed, empty_sink, sink_told};
 
 use crate::{Failed, Memory, Sink};
 use std::alloc::Global;
@@ -55,6 +54,13 @@ impl MemSink {
         &self.bytes
     }
 
+    /// How many more bytes it takes.
+    pub(crate) fn left(&self) -> u64
+        ensures { result ≡ self.now.room - length self.now.held }
+    {
+        self.room - self.bytes.len() as u64
+    }
+
     /// How often a call failed.
     pub(crate) fn faults(&self) -> u64
         ensures { result ≡ self.now.faults }
@@ -103,29 +109,21 @@ fn stop_at(listed_stop: Option<u64>, left: u64, size: u64) -> Option<u64>
 }
 
 impl Sink for MemSink {
-    ghost use Rattle.std.specs.Prelude.{Some, None};
+    ghost use Rattle.liq_base.specs.SinkStates.{sink_told};
 
-    ghost held = { λ s. Some s.held };
-
-    ghost name = { λ s. None };
-
-    ghost room = { λ s. None };
-
-    ghost appends = { λ s. Some s.calls };
-
-    ghost faults = { λ s. s.faults };
+    ghost told = { sink_told };
 
     fn append(&mut self, piece: &[u8]) -> Result<(), Failed>
         ensures next { self.new ≡ appended self.old piece.now }
         ensures answer { is_ok result ≡ is_none (stops self.old piece.now) }
-        ensures took { OnOk result (Took (λ s. Some s.held) (λ s. None) piece.now self.old self.new) }
-        ensures part { OnErr result (TookPart (λ s. Some s.held) (λ s. None) piece.now self.old self.new) }
-        ensures once { Some self.new.calls ≡ counted (Some self.old.calls) }
-        ensures faults { self.old.faults ≤ self.new.faults }
-        ensures cause { OnErr result (Rose self.old.faults self.new.faults) }
+        ensures took { OnOk result (Took piece.now (sink_told self.old) (sink_told self.new)) }
+        ensures part { OnErr result (TookPart piece.now (sink_told self.old) (sink_told self.new)) }
     {
-        let left = self.room - self.bytes.len() as u64;
-        let stop = stop_at(find_stop(&self.fails, self.calls), left, piece.len() as u64);
+        let stop = stop_at(
+            find_stop(&self.fails, self.calls),
+            self.left(),
+            piece.len() as u64,
+        );
         self.calls = self.calls.saturating_add(1);
         match stop {
             None => {

@@ -1,8 +1,7 @@
 // A sink of a shelf in memory.
-ghost use Rattle.std.specs.Prelude.{◌≡◌, ◌≤◌, length, IfOk, OnOk, OnErr, is_ok, is_none, string_bytes, Some};
-ghost use Rattle.liq_base.specs.Counts.{Rose, counted};
+ghost use Rattle.std.specs.Prelude.{◌≡◌, ◌-◌, length, IfOk, OnOk, OnErr, is_ok, is_none, string_bytes};
 ghost use Rattle.liq_base.specs.Pieces.{HasRoom, Took, TookPart};
-ghost use Rattle.liq_base.specs.SinkStates.{appended, listed, empty_sink, named_held, named_room};
+ghost use Rattle.liq_base.specs.SinkStates.{appended, listed, empty_sink, named_told};
 
 use crate::closed::{Closed, Entry};
 use crate::{Failed, MemSink, Memory, Sink};
@@ -55,11 +54,13 @@ impl NamedSink {
     pub(crate) fn into_entry(self) -> Box<Entry>
         ensures name { string_bytes result.value.name ≡ self.name }
         ensures bytes { result.value.bytes.items ≡ self.sink.held }
+        ensures left { result.value.left ≡ self.sink.room - length self.sink.held }
         ensures pieces { result.value.pieces ≡ self.sink.calls }
     {
         let NamedSink { name, sink, entry } = self;
         let mut entry = entry;
         entry.name = name;
+        entry.left = sink.left();
         entry.pieces = sink.calls();
         entry.bytes = sink.into_bytes();
         entry
@@ -67,28 +68,16 @@ impl NamedSink {
 }
 
 impl Sink for NamedSink {
-    ghost use Rattle.std.specs.Prelude.{Some};
-    ghost use Rattle.liq_base.specs.SinkStates.{named_held, named_room};
+    ghost use Rattle.liq_base.specs.SinkStates.{named_told};
 
-    ghost held = { named_held };
-
-    ghost name = { λ s. Some s.name };
-
-    ghost room = { named_room };
-
-    ghost appends = { λ s. Some s.sink.calls };
-
-    ghost faults = { λ s. s.sink.faults };
+    ghost told = { named_told };
 
     fn append(&mut self, piece: &[u8]) -> Result<(), Failed>
-        requires { HasRoom (named_room self.old) (length piece.now) }
+        requires { HasRoom (named_told self.old).room (length piece.now) }
         ensures next { self.new ≡ record self.old { sink = appended self.old.sink piece.now } }
         ensures answer { is_ok result ≡ is_none (listed self.old.sink.fails self.old.sink.calls) }
-        ensures took { OnOk result (Took named_held named_room piece.now self.old self.new) }
-        ensures part { OnErr result (TookPart named_held named_room piece.now self.old self.new) }
-        ensures once { Some self.new.sink.calls ≡ counted (Some self.old.sink.calls) }
-        ensures faults { self.old.sink.faults ≤ self.new.sink.faults }
-        ensures cause { OnErr result (Rose self.old.sink.faults self.new.sink.faults) }
+        ensures took { OnOk result (Took piece.now (named_told self.old) (named_told self.new)) }
+        ensures part { OnErr result (TookPart piece.now (named_told self.old) (named_told self.new)) }
     {
         self.sink.append(piece)
     }

@@ -60,17 +60,9 @@ impl SureShelf {
 impl Shelf for SureShelf {
     type Out = SureSink;
 
-    ghost use Rattle.std.specs.Prelude.{Some, None};
+    ghost use Rattle.liq_base.specs.ShelfStates.{sure_shelf_told};
 
-    ghost files = { λ s. Some s };
-
-    ghost created = { λ s. None };
-
-    ghost closed = { λ s. None };
-
-    ghost read_count = { λ s. 0 };
-
-    ghost write_count = { λ s. 0 };
+    ghost told = { sure_shelf_told };
 
     fn read(&mut self, name: &str, into: &mut Vec<u8>, most: u64) -> Result<Fetched, ShelfFault>
         ensures next { self.new ≡ self.old }

@@ -1,7 +1,7 @@
 // A sink of a shelf in memory of which no call fails.
 ghost use Rattle.std.specs.Prelude.{◌≡◌, ◌++◌, [], length, IfOk, OnOk, Ok, string_bytes};
-ghost use Rattle.liq_base.specs.Pieces.{HasRoom, Took};
-ghost use Rattle.liq_base.specs.SinkStates.{sure_held, sure_room};
+ghost use Rattle.liq_base.specs.Pieces.{HasRoom};
+ghost use Rattle.liq_base.specs.SinkStates.{sure_told};
 
 use crate::closed::Entry;
 use crate::{Failed, Memory, Sink};
@@ -64,24 +64,14 @@ impl SureSink {
 }
 
 impl Sink for SureSink {
-    ghost use Rattle.std.specs.Prelude.{Some, None};
-    ghost use Rattle.liq_base.specs.SinkStates.{sure_held, sure_room};
+    ghost use Rattle.liq_base.specs.SinkStates.{sure_told};
 
-    ghost held = { sure_held };
-
-    ghost name = { λ s. Some s.name };
-
-    ghost room = { sure_room };
-
-    ghost appends = { λ s. None };
-
-    ghost faults = { λ s. 0 };
+    ghost told = { sure_told };
 
     fn append(&mut self, piece: &[u8]) -> Result<(), Failed>
-        requires { HasRoom (sure_room self.old) (length piece.now) }
+        requires { HasRoom (sure_told self.old).room (length piece.now) }
         ensures next { self.new ≡ record self.old { held = self.old.held ++ piece.now } }
         ensures sure { result ≡ Ok tt }
-        ensures took { OnOk result (Took sure_held sure_room piece.now self.old self.new) }
     {
         self.bytes.extend_from_slice(piece).unwrap();
         Ok(())

@@ -1,167 +1,98 @@
--- What a call leaves, by the way that it ends.
-use Rattle.std.proofs.Common.{◌≡◌, ◌∙◌, ℕ, List, sym, subst, inl, inr, lit≤, refl, arith}
-use Rattle.std.specs.Prelude.{Option}
-use Rattle.std.specs.Option.{ForSome}
-use Rattle.liq_base.specs.Counts.{Rose}
-use Rattle.liq_base.specs.Pieces.{IsPrefix, grown, TookPart}
+-- A call ends by the way that its job did.
+use Rattle.std.proofs.Common.{◌≡◌, ◌≤◌, ◌⊎◌, ◌∙◌, ℕ, zero, suc, List, refl, sym, subst, inl, inr, lit≤, ⊎_elim}
+use Rattle.std.specs.Prelude.{Result, Ok, Err, String, string_bytes}
+use Rattle.std.specs.declared.alloc.Global.{Global}
 use Rattle.liq_base.specs.Files.{Files}
+use Rattle.liq_base.specs.Pieces.{SinkTold}
+use Rattle.liq_base.specs.Shelves.{OnlyRead, ShelfTold}
 use Rattle.refusal_lines.specs.declared.fault.Fault.{Fault}
-use Rattle.refusal_lines.specs.Lines.{line_of}
-use Rattle.liq_cli.specs.Words.{Asked, HasNoForm}
-use Rattle.liq_cli.specs.Answer.{Answer, Usage, Refused, Checked, Accepted, Made, usage_line}
-use Rattle.liq_cli.specs.Call.{Moment, GrewPart, Rendered, Broken, Starved, IsDone, ReportBroke, OutputBroke, IsRefused, LineBroke, Broke, WriteFailed, Ends}
-use Rattle.liq_cli.specs.Prepared.{ForEach, ForOne}
-use Rattle.liq_cli.proofs.Asking.{AsksOne, each_one, for_answer, for_each_answer, for_usage, one_more}
+use Rattle.station_jobs.specs.Words.{Asked, HasNoForm}
+use Rattle.station_jobs.specs.Verdicts.{Verdict, Usage, Refused, usage_line}
+use Rattle.liq_cli.specs.Call.{Ends, EndsApart, ForFiles, LineSaid, NoMemory, Outside, ReadFailed, ReportSaid, UsageBroke, UsageSaid, WriteFailed, outside_of}
+use Rattle.station_jobs.specs.Jobs.{IsDone, IsStarved}
+use Rattle.station_jobs.specs.Prepared.{Ended, ForOneOf}
+use Rattle.liq_cli.specs.Telling.{Finishes, Tells}
+use Rattle.station_jobs.specs.declared.halt.Halt.{Halt}
+use Rattle.station_jobs.specs.declared.halt.Halt.TheVariants.{Read, Write, Memory, Refused as refused_for}
+use Rattle.liq_cli.proofs.Asking.{AsksOne, each_one, for_verdict, for_each_verdict, one_more}
 
--- a prefix of the piece is one of the line
-pub grew_part : {S : Type 0} (held : S → Option (List ℕ)) (room : S → Option ℕ) (piece line : List ℕ) (old new : S) → piece ≡ line → TookPart held room piece old new → GrewPart line (held old) (held new)
-grew_part held room piece line old new is part = record { part = part.taken; is_front = subst (λ p. IsPrefix part.taken p) is part.is_front; grew = part.took.held_grew }
+-- what is said at each status
+abbrev Row : (words : List (List ℕ)) → (old new : Outside) → ℕ → Type 0
+Row words old new zero = ReportSaid words old new
+Row words old new (suc zero) = LineSaid words old new
+Row words old new (suc (suc zero)) = UsageSaid words old new
+Row words old new (suc (suc (suc zero))) = ReadFailed old new
+Row words old new (suc (suc (suc (suc zero)))) = WriteFailed words old new
+Row words old new (suc (suc (suc (suc (suc zero))))) = NoMemory words old new
+Row words old new (suc (suc (suc (suc (suc (suc status)))))) = ⊥
 
--- a report that broke off is that of a check or a rendering
-broke_report : (a : Answer) (files : Files) (old new : Moment) → ReportBroke a files old new → new.err ≡ old.err → Broke a files old new
-broke_report (Accepted station) files old new broke same = (inl broke, same)
-broke_report (Checked station) files old new broke same = (broke, same)
-broke_report (Made made station) files old new broke same = (broke, same)
-broke_report (Refused fault) files old new broke same = absurd broke.rendered
-broke_report Usage files old new broke same = absurd broke.rendered
+by_row : (words : List (List ℕ)) (old new : Outside) (status : ℕ) → status ≤ 5 → Row words old new status
+    → (HasNoForm words → (status ≡ 2) ⊎ ((status ≡ 4) × UsageBroke words old new)) → Ends words old new status
+by_row words old new status most row none = record {
+  is_status = most;
+  done = λ at. subst (Row words old new) at row;
+  refused = λ at. subst (Row words old new) at row;
+  usage = λ at. subst (Row words old new) at row;
+  read_fault = λ at. subst (Row words old new) at row;
+  write_fault = λ at. subst (Row words old new) at row;
+  memory = λ at. subst (Row words old new) at row;
+  no_form = none;
+}
 
-broke_output : (a : Answer) (files : Files) (old new : Moment) → OutputBroke a files old new → new.err ≡ old.err → Broke a files old new
-broke_output (Accepted station) files old new broke same = (inr broke, same)
-broke_output (Checked station) files old new broke same = absurd broke.broken
-broke_output (Made made station) files old new broke same = absurd broke.broken
-broke_output (Refused fault) files old new broke same = absurd broke.broken
-broke_output Usage files old new broke same = absurd broke.broken
+module _ (words : List (List ℕ)) (old new : Outside) (asked : Asked) (asks : AsksOne words asked) where
+  formed : (status : ℕ) → status ≤ 5 → Row words old new status → Ends words old new status
+  formed status most row = by_row words old new status most row (λ none. absurd (none asked asks.is))
 
-module _ (words : List (List ℕ)) (old new : Moment) (asked : Asked) (asks : AsksOne words asked) where
-  form_there : {P : Type 0} → HasNoForm words → P
-  form_there none = absurd (none asked asks.is)
+  for_files : (P : Files → Verdict → Type 0) → ForOneOf asked old.shelf P → ForFiles words old.shelf P
+  for_files P told = λ files t. for_verdict words asked files (P files) asks (told files t)
 
-  pub ended_done : (report : List ℕ) → ForSome old.files (λ files. ForOne asked files (λ a. Rendered a files new.files report))
-      → new.out ≡ grown report old.out → new.err ≡ old.err → Ends words old new 0
-  ended_done report told reported same = record {
-    is_status = lit≤ tt;
-    done = λ at. (
-      (λ files f. for_answer words asked files (λ a. IsDone a files old new) asks
-          (one_more asked files (λ a. Rendered a files new.files report) (λ a. IsDone a files old new) (λ a r. record { report = report; rendered = r; reported = reported }) (told files f))),
-      same,
-    );
-    refused = λ at. absurd (omega arith);
-    usage = λ at. absurd (omega arith);
-    read_fault = λ at. absurd (omega arith);
-    write_fault = λ at. absurd (omega arith);
-    memory = λ at. absurd (omega arith);
-    no_form = λ none. form_there none;
-  }
+  -- memory was refused for the line of a fault
+  unsaid : (fault : Fault) (files : Files) (verdict : Verdict) → OnlyRead old.shelf new.shelf → verdict ≡ Refused fault → IsStarved verdict files old.shelf new.shelf
+  unsaid fault files verdict kept is = ((λ same. absurd (let e : Refused fault ≡ Usage = sym is ∙ same in cc)), inl kept)
 
-  pub ended_refused : (fault : Fault) → ForSome old.files (λ files. ForOne asked files (λ a. a ≡ Refused fault))
-      → new.files ≡ old.files → new.out ≡ old.out → new.err ≡ grown (line_of fault) old.err → Ends words old new 1
-  ended_refused fault told files_same out_same line = record {
-    is_status = lit≤ tt;
-    done = λ at. absurd (omega arith);
-    refused = λ at. (
-      (λ files f. for_answer words asked files (λ a. IsRefused a old new) asks
-          (one_more asked files (λ a. a ≡ Refused fault) (λ a. IsRefused a old new) (λ a is. subst (λ b. IsRefused b old new) (sym is) line) (told files f))),
-      files_same,
-      out_same,
-    );
-    usage = λ at. absurd (omega arith);
-    read_fault = λ at. absurd (omega arith);
-    write_fault = λ at. absurd (omega arith);
-    memory = λ at. absurd (omega arith);
-    no_form = λ none. form_there none;
-  }
-
-  pub ended_read : Rose old.reads new.reads → new.files ≡ old.files → new.out ≡ old.out → new.err ≡ old.err → Ends words old new 3
-  ended_read rose files_same out_same err_same = record {
-    is_status = lit≤ tt;
-    done = λ at. absurd (omega arith);
-    refused = λ at. absurd (omega arith);
-    usage = λ at. absurd (omega arith);
-    read_fault = λ at. (rose, files_same, out_same, err_same);
-    write_fault = λ at. absurd (omega arith);
-    memory = λ at. absurd (omega arith);
-    no_form = λ none. form_there none;
-  }
-
-  broken : ForSome old.files (λ files. ForOne asked files (λ a. Broke a files old new)) → WriteFailed old new → Ends words old new 4
-  broken told cause = record {
-    is_status = lit≤ tt;
-    done = λ at. absurd (omega arith);
-    refused = λ at. absurd (omega arith);
-    usage = λ at. absurd (omega arith);
-    read_fault = λ at. absurd (omega arith);
-    write_fault = λ at. ((λ files f. for_answer words asked files (λ a. Broke a files old new) asks (told files f)), cause);
-    memory = λ at. absurd (omega arith);
-    no_form = λ none. form_there none;
-  }
-
-  -- the line broke off
-  pub broken_line : (fault : Fault) → ForSome old.files (λ files. ForOne asked files (λ a. a ≡ Refused fault))
-      → new.files ≡ old.files → new.out ≡ old.out → GrewPart (line_of fault) old.err new.err → Rose old.err_faults new.err_faults → Ends words old new 4
-  broken_line fault told files_same out_same part rose = broken
-      (λ files f. one_more asked files (λ a. a ≡ Refused fault) (λ a. Broke a files old new)
-      (λ a is. subst (λ b. Broke b files old new) (sym is) (record { files_kept = files_same; out_kept = out_same; written = part; cause = rose })) (told files f))
-      (inl rose)
-
-  -- the report broke off
-  pub broken_report : (report : List ℕ) → ForSome old.files (λ files. ForOne asked files (λ a. Rendered a files new.files report))
-      → GrewPart report old.out new.out → Rose old.out_faults new.out_faults → new.err ≡ old.err → Ends words old new 4
-  broken_report report told part rose same = broken
-      (λ files f. one_more asked files (λ a. Rendered a files new.files report) (λ a. Broke a files old new)
-      (λ a r. broke_report a files old new (record { report = report; rendered = r; reported = part; cause = rose }) same) (told files f))
-      (inr (inl rose))
-
-  -- an output broke off
-  pub broken_output : ForSome old.files (λ files. ForOne asked files (λ a. Broken a old.writes new.writes files new.files old.created new.created))
-      → new.out ≡ old.out → Rose old.writes new.writes → new.err ≡ old.err → Ends words old new 4
-  broken_output told out_same rose same = broken
-      (λ files f. one_more asked files (λ a. Broken a old.writes new.writes files new.files old.created new.created) (λ a. Broke a files old new)
-      (λ a b. broke_output a files old new (record { broken = b; out_kept = out_same; cause = rose }) same) (told files f))
-      (inr (inr rose))
-
-  pub ended_starved : ForSome old.files (λ files. ForEach asked files (λ a. Starved a old.writes new.writes files new.files old.created new.created)) → new.out ≡ old.out → new.err ≡ old.err → Ends words old new 5
-  ended_starved told out_same err_same = record {
-    is_status = lit≤ tt;
-    done = λ at. absurd (omega arith);
-    refused = λ at. absurd (omega arith);
-    usage = λ at. absurd (omega arith);
-    read_fault = λ at. absurd (omega arith);
-    write_fault = λ at. absurd (omega arith);
-    memory = λ at. ((λ files f. for_each_answer words asked files (λ a. Starved a old.writes new.writes files new.files old.created new.created) asks (told files f)), out_same, err_same);
-    no_form = λ none. form_there none;
-  }
-
-  -- memory was refused for the line
-  pub ended_unsaid : (fault : Fault) → ForSome old.files (λ files. ForOne asked files (λ a. a ≡ Refused fault)) → new.files ≡ old.files → new.out ≡ old.out → new.err ≡ old.err → Ends words old new 5
-  ended_unsaid fault told files_same out_same err_same =
-      ended_starved (λ files f. each_one asked files (λ a. Starved a old.writes new.writes files new.files old.created new.created)
-      (one_more asked files (λ a. a ≡ Refused fault) (λ a. Starved a old.writes new.writes files new.files old.created new.created)
-      (λ a is. subst (λ b. Starved b old.writes new.writes files new.files old.created new.created) (sym is) (files_same ∙ f)) (told files f))) out_same err_same
+  pub finished : (job : Result (String Global) Halt) (status : ℕ) → Ended asked old.shelf new.shelf job → Finishes job old.out new.out old.err new.err status → Ends words old new status
+  finished (Ok report) status ended told =
+      let done : ForFiles words old.shelf (λ files v. IsDone v files old.shelf new.shelf (string_bytes report)) = for_files (λ files v. IsDone v files old.shelf new.shelf (string_bytes report)) ended in
+      ⊎_elim (λ all. subst (Ends words old new) (sym all.0) (formed 0 (lit≤ tt) (record { report = string_bytes report; said = all.1; done = done; err_kept = told.1 })))
+      (λ part. subst (Ends words old new) (sym part.0) (formed 4 (lit≤ tt) (inr (inr (inl (record { report = string_bytes report; part = part.1; done = done; err_kept = told.1 })))))) told.0
+  finished (Err (refused_for fault)) status ended told =
+      let refused : ForFiles words old.shelf (λ files v. v ≡ Refused fault) = for_files (λ files v. v ≡ Refused fault) ended.0 in
+      ⊎_elim (λ starved. subst (Ends words old new) (sym starved.0) (formed 5 (lit≤ tt) (record {
+        starved = λ files t. for_each_verdict words asked files (λ v. IsStarved v files old.shelf new.shelf) asks
+            (each_one asked files (λ v. IsStarved v files old.shelf new.shelf)
+            (one_more asked files (λ v. v ≡ Refused fault) (λ v. IsStarved v files old.shelf new.shelf) (λ v is. unsaid fault files v ended.1 is) (ended.0 files t)));
+        out_kept = told.1;
+        err_kept = starved.1;
+      })))
+      (⊎_elim (λ all. subst (Ends words old new) (sym all.0) (formed 1 (lit≤ tt) (record { fault = fault; said = all.1; refused = refused; shelf_read = ended.1; out_kept = told.1 })))
+      (λ part. subst (Ends words old new) (sym part.0) (formed 4 (lit≤ tt) (inr (inl (record { fault = fault; part = part.1; refused = refused; shelf_read = ended.1; out_kept = told.1 })))))) told.0
+  finished (Err Read) status ended told =
+      subst (Ends words old new) (sym told.0) (formed 3 (lit≤ tt) (record { cause = ended.0; shelf_read = ended.1; out_kept = told.1; err_kept = told.2 }))
+  finished (Err Write) status ended told =
+      subst (Ends words old new) (sym told.0) (formed 4 (lit≤ tt) (inr (inr (inr (record { cause = ended.0; broken = for_files _ ended.1; out_kept = told.1; err_kept = told.2 })))))
+  finished (Err Memory) status ended told = subst (Ends words old new) (sym told.0) (formed 5 (lit≤ tt) (record {
+    starved = λ files t. for_each_verdict words asked files (λ v. IsStarved v files old.shelf new.shelf) asks (ended files t);
+    out_kept = told.1;
+    err_kept = told.2;
+  }))
 
 -- words of no form
-module _ (words : List (List ℕ)) (old new : Moment) (none : HasNoForm words) where
-  pub ended_usage : new.err ≡ grown usage_line old.err → new.files ≡ old.files → new.out ≡ old.out → Ends words old new 2
-  ended_usage line files_same out_same = record {
-    is_status = lit≤ tt;
-    done = λ at. absurd (omega arith);
-    refused = λ at. absurd (omega arith);
-    usage = λ at. (none, line, files_same, out_same);
-    read_fault = λ at. absurd (omega arith);
-    write_fault = λ at. absurd (omega arith);
-    memory = λ at. absurd (omega arith);
-    no_form = λ at. inl refl;
-  }
+pub unformed : (words : List (List ℕ)) (old new : Outside) (status : ℕ) → HasNoForm words → new.shelf ≡ old.shelf → new.out ≡ old.out → Tells usage_line 2 old.err new.err status → Ends words old new status
+unformed words old new status none shelf out told =
+    ⊎_elim (λ all. subst (Ends words old new) (sym all.0)
+    (by_row words old new 2 (lit≤ tt) (record { no_form = none; said = all.1; shelf_kept = shelf; out_kept = out }) (λ at. inl refl)))
+    (λ part.
+    let broke : UsageBroke words old new = record { no_form = none; part = part.1; shelf_kept = shelf; out_kept = out } in
+    subst (Ends words old new) (sym part.0) (by_row words old new 4 (lit≤ tt) (inl broke) (λ at. inr (refl, broke)))) told
 
-  pub broken_usage : new.files ≡ old.files → new.out ≡ old.out → GrewPart usage_line old.err new.err → Rose old.err_faults new.err_faults → Ends words old new 4
-  broken_usage files_same out_same part rose =
-      let broke : LineBroke usage_line old new = record { files_kept = files_same; out_kept = out_same; written = part; cause = rose } in
-      record {
-        is_status = lit≤ tt;
-        done = λ at. absurd (omega arith);
-        refused = λ at. absurd (omega arith);
-        usage = λ at. absurd (omega arith);
-        read_fault = λ at. absurd (omega arith);
-        write_fault = λ at. ((λ files f. for_usage words files (λ a. Broke a files old new) none broke), inl rose);
-        memory = λ at. absurd (omega arith);
-        no_form = λ at. inr (refl, broke);
-      }
+-- what ended after nothing was done ended from the beginning
+module _ {S O E : Type 0} (shelf_told : S → ShelfTold) (out_told : O → SinkTold) (err_told : E → SinkTold) (words : List (List ℕ)) (shelf between : S) (out out' : O) (err err' : E) (after : Outside) (status : ℕ)
+    (same : (between ≡ shelf) × (out' ≡ out) × (err' ≡ err)) where
+  same_outside : outside_of (shelf_told between) (out_told out') (err_told err') ≡ outside_of (shelf_told shelf) (out_told out) (err_told err)
+  same_outside = λ i. outside_of (shelf_told (same.0 i)) (out_told (same.1 i)) (err_told (same.2 i))
+
+  pub ended_from : Ends words (outside_of (shelf_told between) (out_told out') (err_told err')) after status → Ends words (outside_of (shelf_told shelf) (out_told out) (err_told err)) after status
+  ended_from ends = subst (λ (o : Outside). Ends words o after status) same_outside ends
+
+  pub apart_from : EndsApart words (outside_of (shelf_told between) (out_told out') (err_told err')) after status → EndsApart words (outside_of (shelf_told shelf) (out_told out) (err_told err)) after status
+  apart_from ends = subst (λ (o : Outside). EndsApart words o after status) same_outside ends

@@ -6,17 +6,17 @@ use Rattle.trace_log.specs.Values.{TraceValue}
 use Rattle.stations.specs.Reports.{report_of}
 use Rattle.stations.specs.Stations.{Again, IsLawful, Station}
 use Rattle.stations.specs.Streams.{output_files}
-use Rattle.liq_cli.specs.Answer.{IsStation}
-use Rattle.liq_cli.specs.Words.{Replay}
+use Rattle.station_jobs.specs.Verdicts.{IsStation}
+use Rattle.station_jobs.specs.Words.{Replay}
 
 -- the station of a replay by this trace
 abbrev pub again : Station → TraceValue → Station
 again station trace = record station { way = Again trace; trace = None; cues = false }
 
--- Over these files a replay by the trace in the file of this name is answered by a station, and whatever record it has, its outputs and its
--- report are those of the run.
+-- Over these files the verdict on a replay by the trace in the file of this name is a station, and whatever record it has, its outputs and
+-- its report are those of the run.
 pub record IsRenderedAgain (files : Files) (file name : List ℕ) (station : Station) (trace : TraceValue) (run : Run) : Type 0 where
-  pub answer : IsStation (Replay file station.start station.ticks name) files (again station trace)
+  pub verdict : IsStation (Replay file station.start station.ticks name) files (again station trace)
   pub one : (other : Run) → IsLawful (again station trace) other → other ≡ run
   pub outputs_are : (other : Run) → IsLawful (again station trace) other → output_files (again station trace) other ≡ output_files station run
   pub report_is : (other : Run) → IsLawful (again station trace) other → report_of (again station trace) other ≡ report_of station run

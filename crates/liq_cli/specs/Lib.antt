@@ -1,10 +1,3 @@
-pub mod Read
-pub mod Words
-pub mod Replays
-pub mod Answer
 pub mod Again
-pub mod Summary
 pub mod Call
-pub mod Creating
-pub mod Prepared
 pub mod Telling

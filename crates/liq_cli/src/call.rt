@@ -1,19 +1,16 @@
 // The top call.
 ghost use Rattle.std.specs.Prelude.{◌≡◌, ◌↔◌, None, IfSome, IsNone};
-ghost use Rattle.liq_cli.specs.Call.{Ends, EndsApart, IsComplete, moment_of};
-ghost use Rattle.liq_cli.specs.Creating.{CreatesInOrder, sinks_of};
+ghost use Rattle.liq_cli.specs.Call.{Ends, EndsApart, IsComplete, outside_of};
 ghost use Rattle.liq_cli.specs.Telling.{Finishes, MayTell, Tells};
-ghost use Rattle.liq_cli.specs.Words.{AsksToMake, NeedsThreads, texts};
+ghost use Rattle.station_jobs.specs.Words.{AsksToMake, NeedsThreads, texts};
 ghost use Rattle.refusal_lines.specs.Lines.{line_of};
 
-use crate::form::{Form, Threaded};
-use crate::halt::Halt;
-use crate::jobs::{alone_job, check_job, threads_job};
-use crate::making::make_job;
-use crate::replaying::replay_job;
-use crate::words::{read_threaded, read_words};
 use liq_base::{Failed, Gate, Memory, Shelf, Sink};
 use refusal_lines::Fault;
+use station_jobs::{
+    Form, Halt, Threaded, alone_job, check_job, make_job, read_threaded, read_words, replay_job,
+    threads_job,
+};
 use std::alloc::Global;
 use std::sync::Wait;
 use std::thread::Threads;
@@ -52,21 +49,20 @@ pub fn liq<S: Shelf, O: Sink, E: Sink, G: Gate + Sync, R: Threads + Wait + Sync>
     err: &mut E,
     gate: &G,
 ) -> u8
-    requires out_room { O.room out.old ≡ None }
-    requires err_room { E.room err.old ≡ None }
+    requires out_room { (O.told out.old).room ≡ None }
+    requires err_room { (E.told err.old).room ≡ None }
     ensures ends { Ends (texts words.now)
-        (moment_of S.files S.created S.read_count S.write_count O.held O.faults E.held E.faults shelf.old out.old err.old)
-        (moment_of S.files S.created S.read_count S.write_count O.held O.faults E.held E.faults shelf.new out.new err.new)
+        (outside_of (S.told shelf.old) (O.told out.old) (E.told err.old))
+        (outside_of (S.told shelf.new) (O.told out.new) (E.told err.new))
         result }
     ensures complete { IsComplete (texts words.now)
-        (moment_of S.files S.created S.read_count S.write_count O.held O.faults E.held E.faults shelf.old out.old err.old)
-        (moment_of S.files S.created S.read_count S.write_count O.held O.faults E.held E.faults shelf.new out.new err.new)
+        (outside_of (S.told shelf.old) (O.told out.old) (E.told err.old))
+        (outside_of (S.told shelf.new) (O.told out.new) (E.told err.new))
         result }
-    ensures order { CreatesInOrder (texts words.now) (S.files shelf.old) (sinks_of S.created S.closed shelf.old) (sinks_of S.created S.closed shelf.new) result }
     // A workload rests on no file and no device of the shelf.
     ensures made { AsksToMake (texts words.now) → EndsApart (texts words.now)
-        (moment_of S.files S.created S.read_count S.write_count O.held O.faults E.held E.faults shelf.old out.old err.old)
-        (moment_of S.files S.created S.read_count S.write_count O.held O.faults E.held E.faults shelf.new out.new err.new)
+        (outside_of (S.told shelf.old) (O.told out.old) (E.told err.old))
+        (outside_of (S.told shelf.new) (O.told out.new) (E.told err.new))
         result }
     ensures untouched { AsksToMake (texts words.now) → shelf.new ≡ shelf.old }
 {
@@ -85,17 +81,16 @@ pub fn liq_alone<S: Shelf, O: Sink, E: Sink>(
     out: &mut O,
     err: &mut E,
 ) -> Option<u8>
-    requires out_room { O.room out.old ≡ None }
-    requires err_room { E.room err.old ≡ None }
+    requires out_room { (O.told out.old).room ≡ None }
+    requires err_room { (E.told err.old).room ≡ None }
     ensures none { IsNone result ↔ NeedsThreads (texts words.now) }
     ensures kept { IsNone result → (shelf.new ≡ shelf.old) × (out.new ≡ out.old) × (err.new ≡ err.old) }
     ensures ends { IfSome result (Ends (texts words.now)
-        (moment_of S.files S.created S.read_count S.write_count O.held O.faults E.held E.faults shelf.old out.old err.old)
-        (moment_of S.files S.created S.read_count S.write_count O.held O.faults E.held E.faults shelf.new out.new err.new)) }
+        (outside_of (S.told shelf.old) (O.told out.old) (E.told err.old))
+        (outside_of (S.told shelf.new) (O.told out.new) (E.told err.new))) }
     ensures complete { IfSome result (IsComplete (texts words.now)
-        (moment_of S.files S.created S.read_count S.write_count O.held O.faults E.held E.faults shelf.old out.old err.old)
-        (moment_of S.files S.created S.read_count S.write_count O.held O.faults E.held E.faults shelf.new out.new err.new)) }
-    ensures order { IfSome result (CreatesInOrder (texts words.now) (S.files shelf.old) (sinks_of S.created S.closed shelf.old) (sinks_of S.created S.closed shelf.new)) }
+        (outside_of (S.told shelf.old) (O.told out.old) (E.told err.old))
+        (outside_of (S.told shelf.new) (O.told out.new) (E.told err.new))) }
 {
     let Some(form) = read_words(words) else {
         return Some(tell(err, USAGE, NO_FORM));
@@ -129,17 +124,16 @@ fn by_threads<S: Shelf, O: Sink, E: Sink, G: Gate + Sync, R: Threads + Wait + Sy
     err: &mut E,
     gate: &G,
 ) -> u8
-    requires out_room { O.room out.old ≡ None }
-    requires err_room { E.room err.old ≡ None }
+    requires out_room { (O.told out.old).room ≡ None }
+    requires err_room { (E.told err.old).room ≡ None }
     requires threads { NeedsThreads (texts words.now) }
     ensures ends { Ends (texts words.now)
-        (moment_of S.files S.created S.read_count S.write_count O.held O.faults E.held E.faults shelf.old out.old err.old)
-        (moment_of S.files S.created S.read_count S.write_count O.held O.faults E.held E.faults shelf.new out.new err.new)
+        (outside_of (S.told shelf.old) (O.told out.old) (E.told err.old))
+        (outside_of (S.told shelf.new) (O.told out.new) (E.told err.new))
         result }
-    ensures order { CreatesInOrder (texts words.now) (S.files shelf.old) (sinks_of S.created S.closed shelf.old) (sinks_of S.created S.closed shelf.new) result }
     ensures made { AsksToMake (texts words.now) → EndsApart (texts words.now)
-        (moment_of S.files S.created S.read_count S.write_count O.held O.faults E.held E.faults shelf.old out.old err.old)
-        (moment_of S.files S.created S.read_count S.write_count O.held O.faults E.held E.faults shelf.new out.new err.new)
+        (outside_of (S.told shelf.old) (O.told out.old) (E.told err.old))
+        (outside_of (S.told shelf.new) (O.told out.new) (E.told err.new))
         result }
     ensures untouched { AsksToMake (texts words.now) → shelf.new ≡ shelf.old }
 {
@@ -162,9 +156,9 @@ fn finish<O: Sink, E: Sink>(
     out: &mut O,
     err: &mut E,
 ) -> u8
-    requires out_room { O.room out.old ≡ None }
-    requires err_room { E.room err.old ≡ None }
-    ensures { Finishes O.held O.faults E.held E.faults job out.old out.new err.old err.new result }
+    requires out_room { (O.told out.old).room ≡ None }
+    requires err_room { (E.told err.old).room ≡ None }
+    ensures { Finishes job (O.told out.old) (O.told out.new) (E.told err.old) (E.told err.new) result }
 {
     match job {
         Ok(report) => tell(out, report.as_str(), DONE),
@@ -177,8 +171,8 @@ fn finish<O: Sink, E: Sink>(
 
 // Writes the line of a refusal.
 fn refuse<E: Sink>(alloc: Global, fault: &Fault, err: &mut E) -> u8
-    requires { E.room err.old ≡ None }
-    ensures { MayTell E.held E.faults (line_of fault.now) 1 err.old err.new result }
+    requires { (E.told err.old).room ≡ None }
+    ensures { MayTell (line_of fault.now) 1 (E.told err.old) (E.told err.new) result }
 {
     match fault.line(alloc) {
         Ok(line) => tell(err, line.as_str(), REFUSED),
@@ -188,8 +182,8 @@ fn refuse<E: Sink>(alloc: Global, fault: &Fault, err: &mut E) -> u8
 
 // Writes the one text of a call, and answers this status if all of it was written.
 fn tell<W: Sink>(sink: &mut W, text: &str, status: u8) -> u8
-    requires { W.room sink.old ≡ None }
-    ensures { Tells W.held W.faults text.now status sink.old sink.new result }
+    requires { (W.told sink.old).room ≡ None }
+    ensures { Tells text.now status (W.told sink.old) (W.told sink.new) result }
 {
     match sink.append(text.as_bytes()) {
         Ok(()) => status,

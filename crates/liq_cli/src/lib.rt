@@ -2,21 +2,6 @@
 #![tactic(auto)]
 
 mod call;
-mod clash;
-mod form;
-mod halt;
-mod jobs;
-mod laws;
-mod making;
-mod options;
-mod prepare;
-mod replaying;
-mod samples;
-mod size;
-mod summary;
-mod ticks;
-mod traces;
-mod window;
-mod words;
+pub mod laws;
 
 pub use call::{liq, liq_alone};

@@ -15,7 +15,7 @@ use Rattle.typing_rules.specs.declared.parameter.Parameter.{Parameter as AParame
 use Rattle.name_scope.specs.declared.parameter.Given.{Given as AGiven}
 use Rattle.typing_rules.specs.declared.fault.NameFault.{NameFault}
 use Rattle.typing_rules.specs.declared.fault.NameFault.TheVariants.{Extra}
-use Rattle.typing_rules.specs.NameFaults.{is_among, missing_at, name_of, repeated_at, repeats, token_of}
+use Rattle.typing_rules.specs.NameFaults.{is_among, missing_at, param_name, repeated_at, repeats, token_of}
 use Rattle.name_scope.specs.Noted.{all_sooner, mismatches, missing_with, sooner}
 use Rattle.name_scope.specs.Seen.{form_seen, seen_given, seen_parameter}
 use Rattle.typing_rules.proofs.Searches.{search_default}
@@ -131,7 +131,7 @@ abbrev pub repeats_of : List (List ℕ) → List Param → List NameFault
 repeats_of earlier [] = []
 repeats_of earlier (p ∷ ps) = repeated_at p.at (is_among p.name earlier) ++ repeats_of (earlier ++ p.name ∷ []) ps
 
-name_same : (at : ℕ) (name : List ℕ) (f : ParamForm) → name_of (param_of at name f) ≡ name
+name_same : (at : ℕ) (name : List ℕ) (f : ParamForm) → param_name (param_of at name f) ≡ name
 name_same at name form.Plain = refl
 name_same at name form.Labelled = refl
 name_same at name (form.Optional f) = refl

@@ -125,7 +125,7 @@ fn goes_for(shape: &Shape<'_>, clocks: &ClockStates, k: u32, time: WeekTime) -> 
 fn most_used(clocks: &ClockStates, k: u32) -> u32
     requires within { k < length clocks.now.states.items }
     ensures some { 0 < result }
-    ensures short { result ≤ 1024 }
+    ensures short { result ≤ 2048 }
 {
     match clocks.states[k as usize].room() {
         0 => MAX_STRETCH,
@@ -138,7 +138,7 @@ fn wanted(clocks: &ClockStates, k: u32, rest: u32) -> u32
     requires within { k < length clocks.now.states.items }
     ensures rest { result ≤ rest }
     ensures room { result ≤ room_at clocks.now.states.items k }
-    ensures short { result ≤ 1024 }
+    ensures short { result ≤ 2048 }
 {
     rest.min(clocks.states[k as usize].room()).min(MAX_STRETCH)
 }
@@ -150,7 +150,7 @@ fn fill_lane(shape: &Shape<'_>, clocks: &mut ClockStates, k: u32, many: u32)
     requires clocks { AreClockStatesOver shape.now clocks.old }
     requires within { k < length shape.now.plan.now.nodes }
     requires some { 0 < many }
-    requires short { many ≤ 1024 }
+    requires short { many ≤ 2048 }
     requires room { many ≤ room_at clocks.old.states.items k }
     requires later { many ≤ shape.now.plan.now.rate }
     requires idle { IsIdle (slice_index_or shape.now.clocks.now k (InMain 0)) clocks.old }
@@ -191,7 +191,7 @@ fn fill_samples(
     title: u32,
     count: usize,
 )
-    requires short { count ≤ 1024 }
+    requires short { count ≤ 2048 }
     requires some { 0 < count }
     requires room { count ≤ room state.old }
     ensures fits { (library : Sounds) (children : ℕ) → Fits library children state.old → Fits library children state.new }

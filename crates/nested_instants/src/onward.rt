@@ -31,7 +31,7 @@ pub fn run_clock(
     requires levels { HasLevels shape.now.clocks.now clock levels }
     requires idle { IsIdle clock clocks.old }
     requires some { 0 < many }
-    requires short { many ≤ 1024 }
+    requires short { many ≤ 2048 }
     requires later { many ≤ shape.now.plan.now.rate }
     requires ahead { AllLieAheadOver shape.now clock clocks.old.room.held.items clocks.old.states.items many }
     requires through { AllPassOnOver shape.now clock clocks.old.room.held.items clocks.old.states.items clocks.old.room.rests.items many }
@@ -56,7 +56,7 @@ fn run_subs(shape: &Shape<'_>, clocks: &mut ClockStates, clock: NodeClock, many:
     requires levels { HasLevels shape.now.clocks.now clock levels }
     requires idle { IsIdle clock clocks.old }
     requires some { 0 < many }
-    requires short { many ≤ 1024 }
+    requires short { many ≤ 2048 }
     requires later { many ≤ shape.now.plan.now.rate }
     requires through { AllPassOnOver shape.now clock clocks.old.room.held.items clocks.old.states.items clocks.old.room.rests.items many }
     ensures clocks { AreClockStatesOver shape.now clocks.new }
@@ -84,7 +84,7 @@ fn run_sub(shape: &Shape<'_>, clocks: &mut ClockStates, i: u32, many: u32, level
     requires levels { HasLevels shape.now.clocks.now (slice_index_or shape.now.clocks.now i (InMain 0)) levels }
     requires idle { IsIdle (slice_index_or shape.now.clocks.now i (InMain 0)) clocks.old }
     requires some { 0 < many }
-    requires short { many ≤ 1024 }
+    requires short { many ≤ 2048 }
     requires later { many ≤ shape.now.plan.now.rate }
     requires through { (gave_at clocks.old.room.held.items i && passes_at clocks.old.states.items i) ≡ true → many ≤ rest_at clocks.old i }
     ensures clocks { AreClockStatesOver shape.now clocks.new }
@@ -122,7 +122,7 @@ fn run_own(shape: &Shape<'_>, clocks: &mut ClockStates, clock: NodeClock, many: 
     requires clocks { AreClockStatesOver shape.now clocks.old }
     requires idle { IsIdle clock clocks.old }
     requires some { 0 < many }
-    requires short { many ≤ 1024 }
+    requires short { many ≤ 2048 }
     requires ahead { AllLieAheadOver shape.now clock clocks.old.room.held.items clocks.old.states.items many }
     ensures clocks { AreClockStatesOver shape.now clocks.new }
     ensures latest { clocks.new.latest ≡ clocks.old.latest }

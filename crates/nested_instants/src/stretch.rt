@@ -28,7 +28,7 @@ pub fn make_stretch(
     requires idle { IsIdle clock clocks.old }
     requires rate { time.rate ≡ shape.now.plan.now.rate }
     requires frame { time.frame ≡ shape.now.plan.now.frame }
-    requires short { most ≤ 1024 }
+    requires short { most ≤ 2048 }
     ensures clocks { AreClockStatesOver shape.now clocks.new }
     ensures within { result ≤ most }
     ensures later { result ≤ time.rate }

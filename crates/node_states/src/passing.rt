@@ -20,7 +20,7 @@ pub fn pass_child(
 )
     requires passes { passes state.old ≡ true }
     requires same { length right.old ≡ length left.old }
-    requires short { length left.old ≤ 1024 }
+    requires short { length left.old ≤ 2048 }
     ensures overlap { (child : ℕ) → slice_get children.now 0 ≡ Some child → state.new.overlap ≡ state.old.overlap }
     ensures stands { (child p : ℕ) (slots : List Slot) → slice_get children.now 0 ≡ Some child → StandsFor state.old slots p
         → StandsFor state.new (slots ++ map Some (cells_before title before.now child (length left.old))) (p + length left.old) }

@@ -37,7 +37,7 @@ impl NodeState {
         requires few { length node.now.children ≤ MAX_CHILDREN }
         requires same { length right.old ≡ length left.old }
         requires some { 0 < length left.old }
-        requires short { length left.old ≤ 1024 }
+        requires short { length left.old ≤ 2048 }
         requires ahead { LiesAhead library.now self.old (length left.old) }
         ensures fits { Fits library.now (length node.now.children) self.new }
         ensures stands { (setting : Setting) (sub : ℕ → ℕ → List TheSlot) (clock : Clock) (past : List Moment) (filled i : ℕ)
@@ -82,7 +82,7 @@ fn copy_picked(
     right: &mut [i16],
 )
     requires same { length right.old ≡ length left.old }
-    requires short { length left.old ≤ 1024 }
+    requires short { length left.old ≤ 2048 }
     ensures left { (place child : ℕ) → pick ≡ Some place → slice_get children.now place ≡ Some child → left.new ≡ samples_of before.now.left.now child (length left.old) }
     ensures right { (place child : ℕ) → pick ≡ Some place → slice_get children.now place ≡ Some child → right.new ≡ samples_of before.now.right.now child (length left.old) }
 {

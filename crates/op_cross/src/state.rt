@@ -15,7 +15,7 @@ use std::alloc::Global;
 use std::marker::Model;
 
 /// The most cells that are passed on at once.
-pub const MAX_STRETCH: u32 = 1024;
+pub const MAX_STRETCH: u32 = 2048;
 
 // How many items are mixed at once.
 const BLOCK: usize = 256;
@@ -40,7 +40,7 @@ impl Model for CrossState {
 
     ghost view = { λ s. record { overlap = s.overlap; cells = s.cells.cells; next = s.next.cells; ready = s.ready; whole = s.whole; gap = s.gap } };
 
-    ghost invariant = { λ s. IsCrossing (record { overlap = s.overlap; cells = s.cells.cells; next = s.next.cells; ready = s.ready; whole = s.whole; gap = s.gap }) × (s.cells.room ≡ s.overlap + 1025) × (s.next.room ≡ s.overlap) };
+    ghost invariant = { λ s. IsCrossing (record { overlap = s.overlap; cells = s.cells.cells; next = s.next.cells; ready = s.ready; whole = s.whole; gap = s.gap }) × (s.cells.room ≡ s.overlap + 2049) × (s.next.room ≡ s.overlap) };
 }
 
 impl CrossState {
@@ -165,7 +165,7 @@ impl CrossState {
         requires passes { passes self.old ≡ true }
         requires from { length from_right.now ≡ length from_left.now }
         requires same { (length left.old ≡ length from_left.now) × (length right.old ≡ length from_left.now) }
-        requires few { length from_left.now ≤ 1024 }
+        requires few { length from_left.now ≤ 2048 }
         ensures overlap { self.new.overlap ≡ self.old.overlap }
         ensures passes { passes self.new ≡ true }
         ensures stands { (slots : List Slot) (p : ℕ) → StandsFor self.old slots p

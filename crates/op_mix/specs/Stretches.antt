@@ -22,7 +22,7 @@ lane_at lanes i = option_map_or (λ lane. lane.items) (slice_get lanes i) []
 
 -- node i has a lane with room for any run
 abbrev pub HasLane : Lanes → ℕ → Type 0
-HasLane lanes i = 1024 ≤ length (lane_at lanes i)
+HasLane lanes i = 2048 ≤ length (lane_at lanes i)
 
 -- the samples of a lane over so many instants; silence where it has no room for them
 abbrev pub heard_of : List ℤ → (count : ℕ) → List ℤ

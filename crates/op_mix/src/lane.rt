@@ -27,7 +27,7 @@ impl Mixer {
     )
         requires few { length children.now ≤ 65535 }
         requires same { length right.old ≡ length left.old }
-        requires short { length left.old ≤ 1024 }
+        requires short { length left.old ≤ 2048 }
         ensures lane { (slots : ℕ → ℕ → Slot)
             → AreHeard slots (offers_in before.now.parts.now) (λ child. samples_of before.now.left.now child (length left.old)) (λ child. samples_of before.now.right.now child (length left.old)) (length left.old) children.now
             → 0 < many_give (offers_in before.now.parts.now) children.now
@@ -51,7 +51,7 @@ impl Mixer {
         right: &mut [i16],
     )
         requires same { length right.old ≡ length left.old }
-        requires short { length left.old ≤ 1024 }
+        requires short { length left.old ≤ 2048 }
         ensures left { (first : ℕ) → first_that_gives (offers_in before.now.parts.now) children.now ≡ Some first
             → left.new ≡ changed_left (mixing_of self.now) (samples_of before.now.left.now first (length left.old)) (samples_of before.now.right.now first (length left.old)) }
         ensures right { (first : ℕ) → first_that_gives (offers_in before.now.parts.now) children.now ≡ Some first
@@ -106,7 +106,7 @@ pub fn sum_lane(
     into: &mut [i16],
 )
     requires few { length children.now ≤ 65535 }
-    requires short { length into.old ≤ 1024 }
+    requires short { length into.old ≤ 2048 }
     requires sums { length into.old ≤ length sums.old }
     requires counts { length into.old ≤ length counts.old }
     ensures sum { 0 < many_give (offers_in parts.now) children.now
@@ -124,7 +124,7 @@ pub fn sum_lane(
 // Adds the samples of the children that offer, at each instant, and answers how many they are.
 fn add_all(children: &[u32], parts: &[Part], lanes: &[Vec<i16>], sums: &mut [i32]) -> u16
     requires few { length children.now ≤ 65535 }
-    requires short { length sums.old ≤ 1024 }
+    requires short { length sums.old ≤ 2048 }
     ensures count { result ≡ many_give (offers_in parts.now) children.now }
     ensures sums { sums.new ≡ summed_lanes (offers_in parts.now) (λ child. samples_of lanes.now child (length sums.old)) (replicate (length sums.old) (pos 0)) children.now }
     ensures fit { All (IsSumOf result) sums.new }

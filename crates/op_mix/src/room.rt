@@ -9,7 +9,7 @@ use std::marker::Model;
 use stream_meaning::Part;
 
 /// The most instants of a run.
-pub const MAX_STRETCH: u32 = 1024;
+pub const MAX_STRETCH: u32 = 2048;
 
 /// Room for a sum at each instant of a run, and for how many samples it has. Contracts see for how many instants, which is
 /// `MAX_STRETCH`.
@@ -26,7 +26,7 @@ impl Model for Sums {
 
     ghost view = { λ s. length s.sums.items };
 
-    ghost invariant = { λ s. (length s.sums.items ≡ 1024) × (length s.counts.items ≡ 1024) };
+    ghost invariant = { λ s. (length s.sums.items ≡ 2048) × (length s.counts.items ≡ 2048) };
 }
 
 impl Sums {
@@ -47,7 +47,7 @@ impl Sums {
         into: &mut [i16],
     )
         requires few { length children.now ≤ 65535 }
-        requires short { length into.old ≤ 1024 }
+        requires short { length into.old ≤ 2048 }
         ensures sum { 0 < many_give (offers_in parts.now) children.now
             → into.new ≡ levels_of normalize (many_give (offers_in parts.now) children.now)
             (summed_lanes (offers_in parts.now) (λ child. samples_of lanes.now child (length into.old)) (replicate (length into.old) (pos 0)) children.now) }

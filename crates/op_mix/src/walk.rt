@@ -32,7 +32,7 @@ pub fn first_that_offers(children: &[u32], parts: &[Part]) -> Option<u32>
 
 /// The samples of a node over so many instants of a run, by the lanes of the nodes: silence where it has no lane.
 pub fn samples_of(lanes: &[Vec<i16>], node: u32, count: usize) -> &[i16]
-    requires short { count ≤ 1024 }
+    requires short { count ≤ 2048 }
     ensures is { result.now ≡ samples_of lanes.now node count }
     ensures long { length result.now ≡ count }
 {
@@ -56,7 +56,7 @@ fn lane_of(lanes: &[Vec<i16>], node: u32) -> &[i16]
 
 // So many samples of silence.
 fn silence(count: usize) -> &'static [i16]
-    requires short { count ≤ 1024 }
+    requires short { count ≤ 2048 }
     ensures { result.now ≡ replicate count (pos 0) }
 {
     let (front, _) = SILENCE.split_at(count);

@@ -5,9 +5,9 @@ use Rattle.plan_core.specs.declared.node.Node.{Node}
 use Rattle.plan_core.specs.declared.plan.Plan.{Plan}
 use Rattle.clock_infer.specs.declared.clock_map.ClockMap.{ClockMap}
 use Rattle.clock_infer.specs.declared.clock_map.ClockFault.{ClockFault}
-use Rattle.plan_picture.specs.Texts.{escaped, numbered}
+use Rattle.plan_blames.specs.Texts.{escaped, numbered}
 use Rattle.plan_picture.specs.Sources.{words}
-use Rattle.plan_picture.specs.Blames.{node_red, red_words}
+use Rattle.plan_blames.specs.Blames.{node_red, red_words}
 
 -- a source that may offer nothing has a dashed border
 abbrev pub border : (infallible : Bool) → List ℕ

@@ -12,10 +12,10 @@ use Rattle.plan_core.specs.declared.sink.SinkPlan.TheVariants.{Output, Feed}
 use Rattle.plan_core.specs.Plans.{buffer_read}
 use Rattle.clock_infer.specs.declared.clock_map.ClockMap.{ClockMap}
 use Rattle.clock_infer.specs.declared.clock_map.ClockFault.{ClockFault}
-use Rattle.plan_picture.specs.Texts.{numbered}
+use Rattle.plan_blames.specs.Texts.{numbered}
 use Rattle.plan_picture.specs.Numbers.{seconds}
 use Rattle.plan_picture.specs.Predicates.{pred_text}
-use Rattle.plan_picture.specs.Blames.{edge_red}
+use Rattle.plan_blames.specs.Blames.{edge_red}
 use Rattle.plan_picture.specs.Boxes.{is_refused, output_box}
 
 abbrev pub pred_at : List Predicate → (place : ℕ) → List ℕ

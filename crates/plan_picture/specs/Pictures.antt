@@ -5,7 +5,7 @@ use Rattle.plan_core.specs.declared.plan.Plan.{Plan}
 use Rattle.clock_infer.specs.declared.clock_map.ClockMap.{ClockMap}
 use Rattle.clock_infer.specs.declared.clock_map.ClockFault.{ClockFault}
 use Rattle.clock_infer.specs.Ties.{IsGrouping}
-use Rattle.plan_picture.specs.Blames.{reds_from, refused_node}
+use Rattle.plan_blames.specs.Blames.{reds_from, refused_node}
 use Rattle.plan_picture.specs.Boxes.{node_boxes}
 use Rattle.plan_picture.specs.Edges.{node_edges, sink_texts}
 use Rattle.plan_picture.specs.Regions.{regions_of}

@@ -1,7 +1,7 @@
 -- Predicates as a script writes them.
 use Rattle.std.specs.Prelude.{ℕ, zero, suc, Bool, true, false, Option, Some, None, List, [], ◌++◌, codes, decimal}
 use Rattle.fixed_text.specs.declared.time_mark.TimeMark.{TimeMark}
-use Rattle.time_pred.specs.Predicates.{Tree, One, Many, Always, Never, At, Between, Not, All, Any, none, more}
+use Rattle.time_pred.specs.Predicates.{PredicateTree, One, Many, Always, Never, At, Between, Not, All, Any, none, more}
 
 abbrev pub part_text : Option ℕ → (unit : List ℕ) → List ℕ
 part_text (Some n) unit = decimal n ++ unit
@@ -29,7 +29,7 @@ before_part word (suc n) = word
 
 -- a predicate, in brackets where it has parts and stands within another
 abbrev mutual
-  pub pred_text : (within : Bool) → Tree One → List ℕ
+  pub pred_text : (within : Bool) → PredicateTree One → List ℕ
   pred_text within Always = codes "true"
   pred_text within Never = codes "false"
   pred_text within (At mark) = mark_text mark
@@ -39,6 +39,6 @@ abbrev mutual
   pred_text within (Any ps) = opening within ++ (joined (codes " or ") 0 ps ++ closing within)
 
   -- parts, of which the first has this number
-  pub joined : (word : List ℕ) → ℕ → Tree Many → List ℕ
+  pub joined : (word : List ℕ) → ℕ → PredicateTree Many → List ℕ
   joined word n none = []
   joined word n (more p ps) = (before_part word n ++ pred_text true p) ++ joined word (suc n) ps

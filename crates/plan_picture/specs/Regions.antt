@@ -9,8 +9,8 @@ use Rattle.clock_infer.specs.declared.clock_map.ClockFault.{ClockFault}
 use Rattle.clock_infer.specs.declared.clock_map.NodeClock.{NodeClock}
 use Rattle.clock_infer.specs.declared.clock_map.NodeClock.TheVariants.{Main, Sub}
 use Rattle.clock_infer.specs.Ties.{fades}
-use Rattle.plan_picture.specs.Texts.{escaped, numbered}
-use Rattle.plan_picture.specs.Faults.{fault_text}
+use Rattle.plan_blames.specs.Texts.{escaped, numbered}
+use Rattle.plan_blames.specs.Faults.{fault_text}
 
 abbrev pub clock_of : List NodeClock → (node : ℕ) → NodeClock
 clock_of of node = slice_index_or of node (Main 0)

@@ -6,7 +6,7 @@ use Rattle.plan_core.specs.declared.node.Op.TheVariants.{Single, Playlist, Blank
 use Rattle.plan_core.specs.declared.plan.Plan.{Plan}
 use Rattle.plan_core.specs.declared.sink.BufferPlan.{BufferPlan}
 use Rattle.clock_infer.specs.Forcings.{id_or}
-use Rattle.plan_picture.specs.Texts.{escaped}
+use Rattle.plan_blames.specs.Texts.{escaped}
 use Rattle.plan_picture.specs.Numbers.{seconds, signed}
 
 -- a choice that changes within a track says so

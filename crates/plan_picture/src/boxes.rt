@@ -3,11 +3,12 @@ ghost use Rattle.std.specs.Prelude.{◌≡◌, ◌<◌, ◌++◌, OnOk, codes};
 ghost use Rattle.fallible_infer.specs.Infallible.{mark_at};
 ghost use Rattle.plan_picture.specs.Boxes.{border, box_end, box_front, box_label, fallible_words, is_refused, node_box, node_boxes, output_box, output_front, output_label, red_style, sheet, silence_words};
 
-use crate::blames::{is_red, mark, push_red_words};
-use crate::texts::{push_between, push_escaped, push_number, push_plain};
 use crate::words::push_words;
 use clock_infer::{ClockFault, ClockMap};
 use liq_base::{Memory, Text};
+use plan_blames::{
+    is_red, mark, push_between, push_escaped, push_number, push_plain, push_red_words,
+};
 use plan_core::{Node, Plan};
 use std::alloc::Global;
 

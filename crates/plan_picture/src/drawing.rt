@@ -7,14 +7,12 @@ ghost use Rattle.plan_picture.specs.Edges.{sink_texts};
 ghost use Rattle.plan_picture.specs.Regions.{regions_of};
 ghost use Rattle.plan_picture.specs.Pictures.{beginning, IsPicture, picture_with, reds};
 
-use crate::blames::refused_node;
 use crate::boxes::push_nodes;
 use crate::edges::{push_edges, push_sinks};
-use crate::reds::reds;
 use crate::regions::push_regions;
-use crate::texts::push_plain;
 use clock_infer::{ClockFault, ClockMap, groups_of};
 use liq_base::Memory;
+use plan_blames::{push_plain, reds, refused_node};
 use plan_core::Plan;
 use std::alloc::Global;
 

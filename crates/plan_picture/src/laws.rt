@@ -1,6 +1,6 @@
 // What is promised of names. A caller that needs the law calls its function, which does nothing.
 ghost use Rattle.std.specs.Prelude.{◌≡◌, ℕ, List};
-ghost use Rattle.plan_picture.specs.Texts.{escaped, unescaped};
+ghost use Rattle.plan_blames.specs.Texts.{escaped, unescaped};
 
 /// A name is read back from its text, so different names have different texts.
 pub fn names_come_back()

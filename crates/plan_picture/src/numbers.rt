@@ -2,9 +2,9 @@
 ghost use Rattle.std.specs.Prelude.{◌≡◌, ◌<◌, ◌++◌, OnOk, codes, decimal};
 ghost use Rattle.plan_picture.specs.Numbers.{fraction, further, pointed, samples_word, seconds, signed, thousandths};
 
-use crate::texts::{push_number, push_plain};
 use fixed_text::{Decimal, write_u64};
 use liq_base::Memory;
+use plan_blames::{push_number, push_plain};
 
 const MILLION: u64 = 1_000_000;
 

@@ -4,9 +4,9 @@ ghost use Rattle.time_pred.specs.Predicates.{parts_of};
 ghost use Rattle.time_pred.specs.View.{view_pred};
 ghost use Rattle.plan_picture.specs.Predicates.{before_part, closing, interval_text, joined, mark_text, opening, part_text, pred_text};
 
-use crate::texts::push_plain;
 use fixed_text::{TimeMark, write_u64};
 use liq_base::Memory;
+use plan_blames::push_plain;
 use time_pred::Pred;
 
 /// Appends a predicate, in brackets where it has parts and stands within another.

@@ -1,6 +1,5 @@
 // A byte sink that drops what it takes.
-ghost use Rattle.std.specs.Prelude.{◌≡◌, ◌+◌, ◌-◌, ◌^◌, length, min, None, OnOk, Ok};
-ghost use Rattle.liq_base.specs.Pieces.{Took};
+ghost use Rattle.std.specs.Prelude.{◌≡◌, ◌+◌, ◌-◌, ◌^◌, length, min, Ok};
 
 use liq_base::{Failed, Sink};
 
@@ -13,21 +12,12 @@ pub struct DroppingSink {
 }
 
 impl Sink for DroppingSink {
-    ghost use Rattle.std.specs.Prelude.{None};
+    ghost use Rattle.liq_base.specs.Untold.{faults_alone};
 
-    ghost held = { λ s. None };
-
-    ghost name = { λ s. None };
-
-    ghost room = { λ s. None };
-
-    ghost appends = { λ s. None };
-
-    ghost faults = { λ s. 0 };
+    ghost told = { λ s. faults_alone 0 };
 
     fn append(&mut self, piece: &[u8]) -> Result<(), Failed>
         ensures sure { result ≡ Ok tt }
-        ensures took { OnOk result (Took (λ s. None) (λ s. None) piece.now self.old self.new) }
         ensures count { self.new.taken ≡ min (self.old.taken + length piece.now) (2 ^ 64 - 1) }
     {
         self.taken = self.taken.saturating_add(piece.len() as u64);

@@ -15,3 +15,5 @@ mod time_pred_tests;
 mod token_table_tests;
 #[cfg(test)]
 mod type_terms_tests;
+#[cfg(test)]
+mod week_plan_tests;

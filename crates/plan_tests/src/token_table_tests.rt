@@ -1,6 +1,6 @@
 // What no clause says: that a table takes values where memory is ample.
+use liq_base::TokenTable;
 use std::test::Fail;
-use token_table::TokenTable;
 
 #[test]
 fn a_table_keeps_the_value_of_each_token(rt: HostRuntime) -> Result<(), Fail> {

@@ -4,7 +4,7 @@ use std::alloc::Global;
 use std::fmt::Write;
 use std::process::Abort;
 use std::test::Fail;
-use type_terms::{KindTerm, Subst, Ty, renamed, resolved, unify, variables};
+use type_terms::{KindTerm, Subst, Ty, resolved, unify};
 
 fn list(alloc: Global, item: Ty) -> Result<Ty, Memory> {
     Ok(Ty::List(Box::new(alloc, item)?))
@@ -134,74 +134,24 @@ fn check_rows(rt: &impl Abort, alloc: Global, rows: &[&str]) -> Result<(), Fail>
     Ok(())
 }
 
+const ROWS: &[&str] = &[
+    "int = text is clash",
+    "var-0 = var-1 is Var(0)",
+    "var-1 = var-0 is Var(0)",
+    "number-2 = int is Int",
+    "number-2 = text is clash",
+    "var-0 = number-2 is Var(2)",
+    "mono = stereo is clash",
+    "kind-0 = mono is Source(Fixed(Mono))",
+    "list number-2 = list decimal is List(Decimal)",
+    "var-0 var-0 = var-1 text is Tuple([Text, Text])",
+    "var-0 = list var-0 is clash",
+    "int text = list int is clash",
+];
+
 #[test]
 fn types_that_can_be_made_equal_and_not(rt: HostRuntime) -> Result<(), Fail> {
-    let rows = [
-        "int = text is clash",
-        "bool = bool is Bool",
-        "pred = bool is clash",
-        "var-0 = var-0 is Var(0)",
-        "var-0 = var-1 is Var(0)",
-        "var-1 = var-0 is Var(0)",
-        "var-0 = format is Format",
-        "number-2 = int is Int",
-        "decimal = number-2 is Decimal",
-        "number-2 = text is clash",
-    ];
-    check_rows(&rt, rt.alloc(), &rows)
-}
-
-#[test]
-fn variables_that_can_be_made_equal_and_not(rt: HostRuntime) -> Result<(), Fail> {
-    let rows = [
-        "number-2 = number-3 is Var(2)",
-        "var-0 = number-2 is Var(2)",
-        "number-2 = var-0 is Var(2)",
-        "mono = stereo is clash",
-        "kind-0 = mono is Source(Fixed(Mono))",
-        "stereo = kind-1 is Source(Fixed(Stereo))",
-        "kind-0 = kind-1 is Source(Var(0))",
-        "kind-0 = unit is clash",
-    ];
-    check_rows(&rt, rt.alloc(), &rows)
-}
-
-#[test]
-fn lists_and_tuples_that_can_be_made_equal_and_not(rt: HostRuntime) -> Result<(), Fail> {
-    let rows = [
-        "list var-0 = list int is List(Int)",
-        "list number-2 = list decimal is List(Decimal)",
-        "list number-2 = list bool is clash",
-        "var-0 text = int var-1 is Tuple([Int, Text])",
-        "var-0 text = int bool is clash",
-        "var-0 var-0 = int text is clash",
-        "var-0 var-0 = var-1 text is Tuple([Text, Text])",
-        "int = list int is clash",
-        "number-2 = list int is clash",
-        "var-0 = list var-0 is clash",
-        "int text = list int is clash",
-    ];
-    check_rows(&rt, rt.alloc(), &rows)
-}
-
-// A new variable that is bound to the list of variable 0, with room for it made before.
-fn bound_to_a_list(rt: &impl Abort, alloc: Global, subst: &mut Subst) -> Result<Ty, Memory> {
-    let bound = list(alloc, Ty::Var(0))?;
-    let covered = subst.covers(alloc, &bound)?;
-    assert!(rt; covered);
-    subst.reserve(1, 1)?;
-    Ok(Ty::Var(subst.fresh_bound(bound)?))
-}
-
-#[test]
-fn a_new_variable_means_what_it_is_bound_to(rt: HostRuntime) -> Result<(), Fail> {
-    let alloc = rt.alloc();
-    let mut subst = six_variables(alloc)?;
-    let top = bound_to_a_list(&rt, alloc, &mut subst)?;
-    let ints = list(alloc, Ty::Int)?;
-    let told = outcome(&rt, alloc, &mut subst, &top, &ints)?;
-    assert_eq!(rt; told.as_str(), "List(Int)");
-    Ok(())
+    check_rows(&rt, rt.alloc(), ROWS)
 }
 
 fn number_of(ty: &Ty) -> u64 {
@@ -308,39 +258,4 @@ fn more_than_a_thousand_levels_are_not(rt: HostRuntime) -> Result<(), Fail> {
     let refused = unified(&rt, rt.alloc(), &mut subst, &Ty::Var(1), &deep);
     assert_eq!(rt; refused, Err(Memory));
     Ok(())
-}
-
-fn variables_text(alloc: Global, ty: &Ty) -> Result<String, Fail> {
-    let found = variables(alloc, ty)?;
-    Ok(format!(in alloc; "{found:?}")?)
-}
-
-fn renamed_text(alloc: Global, ty: &Ty) -> Result<String, Fail> {
-    let other = renamed(alloc, ty, &[5], &[7])?;
-    Ok(format!(in alloc; "{other:?}")?)
-}
-
-fn pair_in_pair(alloc: Global) -> Result<Ty, Memory> {
-    let inner = made(alloc, "var-1 kind-0")?;
-    pair(alloc, inner, Ty::Var(0))
-}
-
-fn check_variables(rt: &impl Abort, alloc: Global, ty: &Ty) -> Result<(), Fail> {
-    let found = variables_text(alloc, ty)?;
-    assert_eq!(rt;
-        found.as_str(),
-        "VariableNumbers { types: [1, 0], kinds: [0] }"
-    );
-    let other = renamed_text(alloc, ty)?;
-    assert_eq!(rt;
-        other.as_str(),
-        "Tuple([Tuple([Var(1), Source(Var(7))]), Var(5)])"
-    );
-    Ok(())
-}
-
-#[test]
-fn the_variables_of_a_type_and_an_instance(rt: HostRuntime) -> Result<(), Fail> {
-    let ty = pair_in_pair(rt.alloc())?;
-    check_variables(&rt, rt.alloc(), &ty)
 }

@@ -11,8 +11,6 @@ mod liq_cli_tests;
 #[cfg(test)]
 mod real_files_tests;
 #[cfg(test)]
-mod replays_tests;
-#[cfg(test)]
 mod threads_tests;
 #[cfg(test)]
 mod traces_tests;

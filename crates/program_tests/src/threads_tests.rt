@@ -24,10 +24,6 @@ const JOINED: &str =
 const SHARED: &str =
     "set(\"frame.audio.samplerate\", 8000)\nset(\"frame.duration\", 0.001)\ns = blank()\noutput.file(%wav, \"A\", s)\noutput.file(%wav, \"C\", clock(id=\"b\", s))\n";
 
-/// Two clocks that no buffer joins, each with a buffer of its own.
-const APART: &str =
-    "set(\"frame.audio.samplerate\", 8000)\nset(\"frame.duration\", 0.001)\ns = single(\"B\")\noutput.file(%wav, \"A\", mksafe(buffer(buffer=0.002, max=0.002, s)))\nt = single(\"B\")\noutput.file(%wav, \"C\", clock(id=\"b\", fallback([t, buffer(buffer=0., max=0., t)])))\n";
-
 /// A script, and the audio file that it names.
 pub fn shelf(alloc: Global, script: &str) -> Result<MemShelf, AllocError> {
     let script = (
@@ -151,56 +147,6 @@ fn two_clocks_at_once(rt: HostRuntime) -> Result<(), Fail> {
     check_output(&rt, shelf.get("A").unwrap_or(&[]), 11);
     check_output(&rt, shelf.get("C").unwrap_or(&[]), 8);
     Ok(())
-}
-
-// What a call left, as one text: the status, the report, the output `A`, and the output `C`.
-fn joined(alloc: Global, status: u8, report: &[u8], shelf: &MemShelf) -> Result<Vec<u8>, Fail> {
-    let mut left = vec![in alloc; status]?;
-    left.extend_from_slice(report)?;
-    left.extend_from_slice(shelf.get("A").unwrap_or(&[]))?;
-    left.extend_from_slice(shelf.get("C").unwrap_or(&[]))?;
-    Ok(left)
-}
-
-// What a call of these words leaves.
-fn rendered<R: Threads + Wait + Sync>(
-    rt: &R,
-    alloc: Global,
-    script: &str,
-    line: &str,
-) -> Result<Vec<u8>, Fail> {
-    let mut shelf = shelf(alloc, script)?;
-    let mut out = sink(alloc)?;
-    let status = call(rt, alloc, line, &mut shelf, &mut out, &FreeGate)?;
-    joined(alloc, status, out.held(), &shelf)
-}
-
-const WINDOWS: &[&str] = &[
-    "render f 7 --window=1",
-    "render f 7 --window=3",
-    "render f 7 --window=16",
-    "render f 7",
-];
-
-// A script in which no buffer joins two clocks leaves the same in windows of any length, and on one thread.
-fn check_windows<R: Abort + Threads + Wait + Sync>(
-    rt: &R,
-    alloc: Global,
-    script: &str,
-) -> Result<(), Fail> {
-    let alone = rendered(rt, alloc, script, "render f 7 --one-thread")?;
-    assert!(rt; alone.starts_with(b"\0output A samples 56 gaps 0\noutput C samples 56 gaps 0\n"));
-    for line in WINDOWS {
-        let left = rendered(rt, alloc, script, line)?;
-        assert!(rt; left.as_slice() == alone.as_slice());
-    }
-    Ok(())
-}
-
-#[test]
-fn windows_of_any_length_render_what_one_thread_does(rt: HostRuntime) -> Result<(), Fail> {
-    check_windows(&rt, rt.alloc(), SHARED)?;
-    check_windows(&rt, rt.alloc(), APART)
 }
 
 /// Words, and what is answered where no threads are there.

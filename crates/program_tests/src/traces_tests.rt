@@ -1,6 +1,7 @@
-// Traces, and workloads from a number. Expected lines stand in the documents, or are worked out by hand from them.
-use crate::threads_tests::{call, shelf, sink};
-use liq_base::{FreeGate, MemShelf, MemSink};
+// Traces that fail. What is left is worked out by hand from the rules in `docs/`.
+use crate::threads_tests::{ONE_TWO_THREE, call, shelf, sink, words_of};
+use liq_base::{FreeGate, MemShelf};
+use liq_cli::liq_alone;
 use std::alloc::Global;
 use std::process::Abort;
 use std::sync::Wait;
@@ -8,13 +9,8 @@ use std::test::Fail;
 use std::thread::Threads;
 
 /// A source in the clock `main`, and a buffer that carries it to the clock `b` and waits for two chunks. A tick has 8 samples.
-pub const CARRIED: &str =
+const CARRIED: &str =
     "set(\"frame.audio.samplerate\", 8000)\nset(\"frame.duration\", 0.001)\ns = single(\"B\")\noutput.file(%wav, \"A\", s)\noutput.file(%wav, \"C\", clock(id=\"b\", mksafe(buffer(buffer=0.002, max=0.01, s))))\n";
-
-/// Its trace of one tick, where the reader comes before the chunk, and where it comes later.
-const EARLY: &[u8] = b"liq trace 1 1 16 1\nwindow 0 buffer 0 puts A takes E\n";
-
-const LATE: &[u8] = b"liq trace 1 1 16 1\nwindow 0 buffer 0 puts A takes GE\n";
 
 /// Bytes of an output of one tick.
 const OUTPUT_BYTES: usize = 76;
@@ -40,17 +36,6 @@ fn traced<R: Threads + Wait + Sync>(
 fn check_outputs(rt: &impl Abort, shelf: &MemShelf) {
     assert_eq!(rt; shelf.get("A").unwrap_or(&[]).len(), OUTPUT_BYTES);
     assert_eq!(rt; shelf.get("C").unwrap_or(&[]).len(), OUTPUT_BYTES);
-}
-
-#[test]
-fn a_trace_tells_what_was_answered(rt: HostRuntime) -> Result<(), Fail> {
-    let mut shelf = shelf(rt.alloc(), CARRIED)?;
-    let status = traced(&rt, rt.alloc(), &mut shelf)?;
-    assert_eq!(rt; status, 0);
-    check_outputs(&rt, &shelf);
-    let trace = shelf.get("T").unwrap_or(&[]);
-    assert!(rt; trace == EARLY || trace == LATE);
-    Ok(())
 }
 
 /// Which call for the trace fails.
@@ -97,64 +82,61 @@ fn a_trace_that_fails_leaves_the_outputs_whole(rt: HostRuntime) -> Result<(), Fa
     check_failing(&rt, rt.alloc(), Failing::Closing, NOTHING)
 }
 
-const SUMMARY_OF_1: &[u8] =
-    b"output one.wav samples 32000 gaps 0 sum 6805540\noutput two.wav samples 32000 gaps 0 sum 4619408\n";
-
-const SUMMARY_OF_7: &[u8] =
-    b"output one.wav samples 32000 gaps 0 sum -3166598\noutput two.wav samples 32000 gaps 0 sum 1444726\n";
-
-// Lets the first call of each sort fail.
-fn let_all_fail(shelf: &mut MemShelf) -> Result<(), Fail> {
-    shelf.fail_read(0)?;
-    shelf.fail_create(0)?;
-    shelf.fail_close(0)?;
-    Ok(())
+/// A call of a replay that fails, each counted from 0; of the first output's tick five bytes are taken.
+#[derive(Clone, Copy)]
+enum FailingReplay {
+    Read(u64),
+    Creation(u64),
+    Tick,
+    Closing(u64),
 }
 
-// A workload is told so, in a sink whose appends fail so, and leaves the shelf as it was.
-fn check_made<R: Abort + Threads + Wait + Sync>(
-    rt: &R,
-    alloc: Global,
-    line: &str,
-    shelf: &mut MemShelf,
-    out: &mut MemSink,
-    status: u8,
-    summary: &[u8],
-) -> Result<(), Fail> {
-    let found = call(rt, alloc, line, shelf, out, &FreeGate)?;
-    assert_eq!(rt; found, status);
-    assert_eq!(rt; out.held(), summary);
-    assert!(rt; shelf.get("one.wav").is_none());
-    assert!(rt; shelf.get("make.liq").is_none());
-    Ok(())
-}
+/// What fails of a replay of one tick, its status, and how many bytes its first output has then, if it is there.
+const REPLAYS: &[(FailingReplay, u8, Option<usize>)] = &[
+    (FailingReplay::Read(0), 3, None),
+    (FailingReplay::Read(1), 3, None),
+    (FailingReplay::Read(2), 3, None),
+    (FailingReplay::Read(3), 0, Some(76)),
+    (FailingReplay::Creation(0), 4, None),
+    (FailingReplay::Creation(1), 4, Some(44)),
+    (FailingReplay::Creation(2), 0, Some(76)),
+    (FailingReplay::Tick, 4, Some(49)),
+    (FailingReplay::Closing(0), 4, None),
+    (FailingReplay::Closing(1), 4, Some(76)),
+    (FailingReplay::Closing(2), 0, Some(76)),
+];
 
-// All of the summary is told.
-fn check_summary<R: Abort + Threads + Wait + Sync>(
-    rt: &R,
-    alloc: Global,
-    line: &str,
-    shelf: &mut MemShelf,
-    summary: &[u8],
-) -> Result<(), Fail> {
-    let mut out = sink(alloc)?;
-    check_made(rt, alloc, line, shelf, &mut out, 0, summary)
-}
+/// A trace of one tick, whose reader came later than the chunk.
+const TRACE: &[u8] = b"liq trace 1 1 16 1\nwindow 0 buffer 0 puts A takes GE\n";
 
-#[test]
-fn a_workload_is_told_the_same_each_time(rt: HostRuntime) -> Result<(), Fail> {
-    let alloc = rt.alloc();
-    let mut shelf = shelf(alloc, CARRIED)?;
-    let_all_fail(&mut shelf)?;
-    check_summary(&rt, alloc, "make 1 3", &mut shelf, SUMMARY_OF_1)?;
-    check_summary(&rt, alloc, "make 1 3", &mut shelf, SUMMARY_OF_1)?;
-    check_summary(&rt, alloc, "make 7 100", &mut shelf, SUMMARY_OF_7)
+// The script, its audio file and the trace, with a call that fails.
+fn replayed_shelf(alloc: Global, failing: FailingReplay) -> Result<MemShelf, Fail> {
+    let script = (
+        String::from_str(alloc, "f")?,
+        CARRIED.as_bytes().to_vec(alloc)?,
+    );
+    let audio = (String::from_str(alloc, "B")?, ONE_TWO_THREE.to_vec(alloc)?);
+    let trace = (String::from_str(alloc, "T")?, TRACE.to_vec(alloc)?);
+    let mut shelf = MemShelf::new(alloc, vec![in alloc; script, audio, trace]?);
+    match failing {
+        FailingReplay::Read(number) => shelf.fail_read(number)?,
+        FailingReplay::Creation(number) => shelf.fail_create(number)?,
+        FailingReplay::Tick => shelf.fail_append(0, 1, 5)?,
+        FailingReplay::Closing(number) => shelf.fail_close(number)?,
+    }
+    Ok(shelf)
 }
 
 #[test]
-fn a_summary_may_break_off(rt: HostRuntime) -> Result<(), Fail> {
-    let alloc = rt.alloc();
-    let mut shelf = shelf(alloc, CARRIED)?;
-    let mut out = MemSink::new(alloc, 1000, vec![in alloc; (0, 4)]?)?;
-    check_made(&rt, alloc, "make 1 3", &mut shelf, &mut out, 4, b"outp")
+fn each_call_of_a_replay_fails(rt: HostRuntime) -> Result<(), Fail> {
+    let words = words_of(rt.alloc(), "replay f 1 T")?;
+    for (failing, status, held) in REPLAYS {
+        let mut shelf = replayed_shelf(rt.alloc(), *failing)?;
+        let mut out = sink(rt.alloc())?;
+        let mut err = sink(rt.alloc())?;
+        let found = liq_alone(rt.alloc(), &words, &mut shelf, &mut out, &mut err);
+        assert!(rt; found == Some(*status));
+        assert_eq!(rt; shelf.get("A").map(|bytes| bytes.len()), *held);
+    }
+    Ok(())
 }

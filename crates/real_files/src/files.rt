@@ -1,14 +1,12 @@
 // Real files as a shelf. It tells no files; it counts its failures.
-ghost use Rattle.std.specs.Prelude.{◌≡◌, ◌≢◌, ◌≤◌, ◌+◌, vec_len, Ok};
-ghost use Rattle.real_files.specs.Reading.{Extends};
+ghost use Rattle.std.specs.Prelude.{◌≡◌, ◌≤◌, ◌+◌, vec_len, Ok};
+ghost use Rattle.file_sinks.specs.Reading.{Extends};
 
-use crate::outputs::FileSink;
 use crate::places::Places;
-use crate::reading::read_rest;
+use file_sinks::{FileSink, read_rest, unopened};
 use liq_base::{Failed, Fetched, Shelf, ShelfFault};
 use std::alloc::Global;
 use std::fs::File;
-use std::io::ErrorKind;
 use std::rt::Files;
 
 /// The files of the system, by their paths, for one run: each real file is created once.
@@ -38,17 +36,9 @@ impl<'a, R: Files<File = File> + Alloc<A = Global>> FileShelf<'a, R> {
 impl<'a, R: Files<File = File> + Alloc<A = Global>> Shelf for FileShelf<'a, R> {
     type Out = FileSink<File>;
 
-    ghost use Rattle.std.specs.Prelude.{None};
+    ghost use Rattle.liq_base.specs.Untold.{counts_alone};
 
-    ghost files = { λ s. None };
-
-    ghost created = { λ s. None };
-
-    ghost closed = { λ s. None };
-
-    ghost read_count = { λ s. s.read_faults };
-
-    ghost write_count = { λ s. s.write_faults };
+    ghost told = { λ s. counts_alone s.read_faults s.write_faults };
 
     fn read(&mut self, name: &str, into: &mut Vec<u8>, most: u64) -> Result<Fetched, ShelfFault> {
         let before = into.len();
@@ -93,15 +83,4 @@ fn read_file<R: Files<File = File>>(
         Ok(mut file) => read_rest(&mut file, into, most),
         Err(error) => unopened(error.kind()),
     }
-}
-
-// What a failed opening says of a file: it is missing only where the system did not find it.
-fn unopened(kind: ErrorKind) -> Result<Fetched, ShelfFault>
-    ensures missing { result ≡ Ok Fetched.Missing → kind ≡ ErrorKind.NotFound }
-    ensures no_file { result ≢ Ok Fetched.Found }
-{
-    if kind == ErrorKind::NotFound {
-        return Ok(Fetched::Missing);
-    }
-    Err(ShelfFault::Failed)
 }

@@ -1,12 +1,12 @@
 // Where the outputs of a run are written, and how they get to their places.
 ghost use Rattle.std.specs.Prelude.{◌≡◌, OnOk, IfOk};
+ghost use Rattle.file_sinks.specs.Sinks.{faults_of, room_of, taken_of};
 
 use crate::names::{split_path, temporary_path};
-use crate::outputs::{FileSink, KEPT, Place};
-use crate::streams::OutSink;
 use crate::system::{
-    FileId, copy_access, is_writable, may_replace, remove, shared_access, takes_report,
+    FileId, Folder, Unseen, copy_access, is_writable, may_replace, new_mode, remove, takes_report,
 };
+use file_sinks::{Certain, FileSink, KEPT, Place};
 use liq_base::{Failed, ShelfFault};
 use std::alloc::{AllocError, Global};
 use std::fs::{File, Metadata, OpenOptions};
@@ -42,6 +42,21 @@ enum Found {
     File(String, Option<Metadata>),
     // something else, or a file whose path cannot be told
     Other(Metadata),
+}
+
+// A file that was made beside the name of an output, and its temporary path.
+#[derive(Drop)]
+struct Made {
+    temporary: String,
+    file: File,
+}
+
+// What becomes of an old file for which a new one was made beside it.
+enum Standing {
+    // the new one may take its place
+    Replaced,
+    // it may not, so the old one is written in place
+    Stays,
 }
 
 // Why no file was made beside a name.
@@ -82,9 +97,9 @@ impl Places {
         name: &str,
         room: u64,
     ) -> Result<FileSink<File>, ShelfFault>
-        ensures faults { IfOk result (λ out. out.to.faults ≡ 0) }
-        ensures empty { IfOk result (λ out. out.taken ≡ 0) }
-        ensures room { IfOk result (λ out. out.room ≡ room) }
+        ensures faults { IfOk result (λ out. faults_of out ≡ 0) }
+        ensures empty { IfOk result (λ out. taken_of out ≡ 0) }
+        ensures room { IfOk result (λ out. room_of out ≡ room) }
     {
         self.give_way(rt, name)?;
         match find(rt, name)? {
@@ -93,46 +108,73 @@ impl Places {
         }
     }
 
-    /// Closes an output: a file beside its name takes its place if it is whole, and is removed if it is not. `Ok` says
-    /// that no piece failed and that it got exactly the bytes that its creation was told.
+    /// Closes an output: a file beside its name takes its place if it is whole and the system has made its bytes certain,
+    /// and is removed else. `Ok` says that no piece failed, and that it got exactly the bytes that its creation was told.
     pub fn close<R: Files<File = File>>(&self, rt: &R, out: FileSink<File>) -> Result<(), Failed>
-        ensures faults { OnOk result (out.to.faults ≡ 0) }
-        ensures length { OnOk result (out.taken ≡ out.room) }
+        ensures faults { OnOk result (faults_of out ≡ 0) }
+        ensures length { OnOk result (taken_of out ≡ room_of out) }
     {
-        let mut out = out;
-        let is_handed = out.hand_on().is_ok();
-        let is_whole = is_handed && out.is_whole();
-        let (to, place) = out.into_parts();
-        let is_placed = match place {
-            Place::Own => true,
-            Place::Beside(at) => self.put(rt, at, is_whole),
-        };
-        drop(to);
-        if is_whole && is_placed {
-            Ok(())
-        } else {
-            Err(Failed)
+        match out.finish() {
+            Ok(certain) => self.put(rt, certain),
+            Err(broken) => {
+                self.discard(rt, &broken);
+                Err(Failed)
+            }
         }
     }
 
-    // Puts the temporary file of an output in its place if it is whole, else removes it. One that is no longer there, or
-    // is not the file that was made, is left alone; nor does a file take the place of another output of this run.
-    fn put<R: Files<File = File>>(&self, rt: &R, at: usize, is_whole: bool) -> bool {
-        let Some(output) = self.beside.get(at) else {
-            return false;
+    // Puts the temporary file of an output in its place, and has the system make certain that it stays there. One that is
+    // no longer there, or is not the file that was made, is left alone.
+    fn put<R: Files<File = File>>(&self, rt: &R, certain: Certain<File>) -> Result<(), Failed> {
+        let Place::Beside(at) = certain.place() else {
+            return Ok(());
         };
-        let (temporary, path) = (output.temporary.as_str(), output.path.as_str());
-        if FileId::named(rt, temporary) != Some(output.file) {
-            return false;
+        let Some(output) = self.beside.get(at) else {
+            return Err(Failed);
+        };
+        if !is_there(rt, output)? {
+            return Err(Failed);
         }
-        if is_whole
-            && !self.is_made(FileId::named(rt, path))
-            && fs::rename(rt, temporary, path).is_ok()
-        {
-            return true;
+        match self.replace(rt, output, certain) {
+            Ok(folder) => folder.sync(),
+            Err(Failed) => {
+                remove(rt, output.temporary.as_str());
+                Err(Failed)
+            }
         }
-        remove(rt, temporary);
-        false
+    }
+
+    // Renames the temporary file of an output, all of whose bytes are certain. No file takes the place of another output
+    // of this run. The handle is given back before the folder is opened, so that a closing needs no handle more.
+    fn replace<R: Files<File = File>>(
+        &self,
+        rt: &R,
+        output: &Beside,
+        certain: Certain<File>,
+    ) -> Result<Folder, Failed> {
+        drop(certain);
+        let path = output.path.as_str();
+        let folder = Folder::open(rt, split_path(path).0)?;
+        if self.is_made(FileId::named(rt, path)?) {
+            return Err(Failed);
+        }
+        match fs::rename(rt, output.temporary.as_str(), path) {
+            Ok(()) => Ok(folder),
+            Err(_) => Err(Failed),
+        }
+    }
+
+    // Removes the temporary file of an output that is not whole, where it is still the file that was made.
+    fn discard<R: Files<File = File>>(&self, rt: &R, broken: &FileSink<File>) {
+        let Place::Beside(at) = broken.place() else {
+            return;
+        };
+        let Some(output) = self.beside.get(at) else {
+            return;
+        };
+        if let Ok(true) = is_there(rt, output) {
+            remove(rt, output.temporary.as_str());
+        }
     }
 
     // Whether this is a file that this run made for an output.
@@ -146,21 +188,14 @@ impl Places {
             && split_path(output.path.as_str()).1 == last)
     }
 
-    // Whether an output still has its temporary file: one that was closed has none, and stands in its place.
-    fn is_open<R: Files<File = File>>(&self, rt: &R, at: usize) -> bool {
-        match self.beside.get(at) {
-            Some(output) => { FileId::named(rt, output.temporary.as_str()) == Some(output.file) }
-            None => false,
-        }
-    }
-
-    // Moves a temporary file of this run away, where it has the name of an output.
+    // Moves a temporary file of this run away, where it has the name of an output. An output that was closed has none, and
+    // stands in its place.
     fn give_way<R: Files<File = File> + Alloc<A = Global>>(
         &mut self,
         rt: &R,
         name: &str,
     ) -> Result<(), ShelfFault> {
-        let found = FileId::at(rt, name);
+        let found = FileId::at(rt, name)?;
         let Some(at) = self
             .beside
             .iter()
@@ -168,31 +203,38 @@ impl Places {
         else {
             return Ok(());
         };
-        if !self.is_open(rt, at) {
+        let Some(moved) = self.moved(rt, at)? else {
             return Ok(());
-        }
-        let moved = self.moved(rt, at)?;
+        };
         if let Some(output) = self.beside.get_mut(at) {
             output.temporary = moved;
         }
         Ok(())
     }
 
-    // Moves the temporary file of an output to the next name that is free.
+    // Moves the temporary file of an output to the next name that is free, if it is there.
     fn moved<R: Files<File = File> + Alloc<A = Global>>(
         &self,
         rt: &R,
         at: usize,
-    ) -> Result<String, ShelfFault> {
+    ) -> Result<Option<String>, ShelfFault> {
         let Some(output) = self.beside.get(at) else {
             return Err(ShelfFault::Failed);
         };
-        let (free, taken) = self.make_temporary(rt, output.folder, output.path.as_str(), NEW_MODE)?;
-        drop(taken);
-        if fs::rename(rt, output.temporary.as_str(), free.as_str()).is_ok() {
-            return Ok(free);
+        if !is_there(rt, output)? {
+            return Ok(None);
         }
-        remove(rt, free.as_str());
+        let Made { temporary, file } = self.make_temporary(
+            rt,
+            output.folder,
+            output.path.as_str(),
+            NEW_MODE,
+        )?;
+        drop(file);
+        if fs::rename(rt, output.temporary.as_str(), temporary.as_str()).is_ok() {
+            return Ok(Some(temporary));
+        }
+        remove(rt, temporary.as_str());
         Err(ShelfFault::Failed)
     }
 
@@ -204,9 +246,9 @@ impl Places {
         old: Option<Metadata>,
         room: u64,
     ) -> Result<FileSink<File>, ShelfFault>
-        ensures faults { IfOk result (λ out. out.to.faults ≡ 0) }
-        ensures empty { IfOk result (λ out. out.taken ≡ 0) }
-        ensures room { IfOk result (λ out. out.room ≡ room) }
+        ensures faults { IfOk result (λ out. faults_of out ≡ 0) }
+        ensures empty { IfOk result (λ out. taken_of out ≡ 0) }
+        ensures room { IfOk result (λ out. room_of out ≡ room) }
     {
         let (folder_path, last) = split_path(path.as_str());
         let Ok(folder) = fs::metadata(rt, folder_path) else {
@@ -217,19 +259,11 @@ impl Places {
             return Err(ShelfFault::Failed);
         }
         let Some(old) = old else {
-            let (temporary, file) = self.make_temporary(rt, id, path.as_str(), NEW_MODE)?;
-            return self.keep(rt, id, path, temporary, file, room);
+            let made = self.make_temporary(rt, id, path.as_str(), NEW_MODE)?;
+            return self.keep(rt, id, path, made, room);
         };
-        match self.make_temporary(rt, id, path.as_str(), shared_access(old.mode())) {
-            Ok((temporary, file)) => {
-                if self.may_take_place(rt, &folder, path.as_str(), &old, &file) {
-                    copy_access(&old, &file);
-                    return self.keep(rt, id, path, temporary, file, room);
-                }
-                drop(file);
-                remove(rt, temporary.as_str());
-                self.open_in_place(rt, path.as_str(), &old, room)
-            }
+        match self.make_temporary(rt, id, path.as_str(), new_mode(old.mode(), false)) {
+            Ok(made) => self.open_beside(rt, &folder, path, &old, made, room),
             Err(Unmade::Refused(kind)) if is_refusal(kind) => {
                 self.open_in_place(rt, path.as_str(), &old, room)
             }
@@ -237,38 +271,74 @@ impl Places {
         }
     }
 
-    // Whether a file that was made beside this path can take the place of the old file there.
-    fn may_take_place<R: Files<File = File> + Alloc<A = Global>>(
+    // Opens an output at whose path an old file stands, and beside which a file was made.
+    fn open_beside<R: Files<File = File> + Alloc<A = Global>>(
+        &mut self,
+        rt: &R,
+        folder: &Metadata,
+        path: String,
+        old: &Metadata,
+        made: Made,
+        room: u64,
+    ) -> Result<FileSink<File>, ShelfFault>
+        ensures faults { IfOk result (λ out. faults_of out ≡ 0) }
+        ensures empty { IfOk result (λ out. taken_of out ≡ 0) }
+        ensures room { IfOk result (λ out. room_of out ≡ room) }
+    {
+        match self.standing(rt, folder, path.as_str(), old, &made.file) {
+            Ok(Standing::Replaced) => {
+                copy_access(old, &made.file);
+                self.keep(rt, FileId::of(folder), path, made, room)
+            }
+            Ok(Standing::Stays) => {
+                remove(rt, made.temporary.as_str());
+                self.open_in_place(rt, path.as_str(), old, room)
+            }
+            Err(fault) => {
+                remove(rt, made.temporary.as_str());
+                Err(fault)
+            }
+        }
+    }
+
+    // What becomes of the old file at this path, beside which a file was made. Where the system does not tell, neither is
+    // known, and the creation fails.
+    fn standing<R: Files<File = File> + Alloc<A = Global>>(
         &self,
         rt: &R,
         folder: &Metadata,
         path: &str,
         old: &Metadata,
         file: &File,
-    ) -> bool {
+    ) -> Result<Standing, ShelfFault> {
         let Ok(ours) = file.metadata() else {
-            return false;
+            return Err(ShelfFault::Failed);
         };
-        may_replace(folder, old, &ours) && !self.is_mounted(rt, folder, path)
+        if !may_replace(folder, old, &ours) || self.is_mounted(rt, folder, path)? {
+            return Ok(Standing::Stays);
+        }
+        Ok(Standing::Replaced)
     }
 
-    // Whether a file is mounted at this path, so that no other can take its place: no link to it can be made beside it.
+    // Whether a file is mounted at this path, so that no other can take its place: the system makes no link to it beside
+    // it, since they are on two devices. A link that is refused for another cause tells of no mount. If there is one after
+    // all, the closing fails, and the old file is whole.
     fn is_mounted<R: Files<File = File> + Alloc<A = Global>>(
         &self,
         rt: &R,
         folder: &Metadata,
         path: &str,
-    ) -> bool {
+    ) -> Result<bool, ShelfFault> {
         let linked = self.at_free_name(rt, FileId::of(folder), path, |free: &str| {
             fs::hard_link(rt, path, free)
         });
         match linked {
             Ok((link, ())) => {
                 remove(rt, link.as_str());
-                false
+                Ok(false)
             }
-            Err(Unmade::Refused(kind)) => kind == ErrorKind::CrossesDevices,
-            Err(Unmade::Memory) => false,
+            Err(Unmade::Refused(kind)) => Ok(kind == ErrorKind::CrossesDevices),
+            Err(Unmade::Memory) => Err(ShelfFault::Memory),
         }
     }
 
@@ -278,16 +348,16 @@ impl Places {
         rt: &R,
         folder: FileId,
         path: String,
-        temporary: String,
-        file: File,
+        made: Made,
         room: u64,
     ) -> Result<FileSink<File>, ShelfFault>
-        ensures faults { IfOk result (λ out. out.to.faults ≡ 0) }
-        ensures empty { IfOk result (λ out. out.taken ≡ 0) }
-        ensures room { IfOk result (λ out. out.room ≡ room) }
+        ensures faults { IfOk result (λ out. faults_of out ≡ 0) }
+        ensures empty { IfOk result (λ out. taken_of out ≡ 0) }
+        ensures room { IfOk result (λ out. room_of out ≡ room) }
     {
         let at = self.beside.len();
-        let Ok(made) = file.metadata() else {
+        let Made { temporary, file } = made;
+        let Ok(found) = file.metadata() else {
             remove(rt, temporary.as_str());
             return Err(ShelfFault::Failed);
         };
@@ -299,7 +369,7 @@ impl Places {
             folder,
             path,
             temporary,
-            file: FileId::of(&made),
+            file: FileId::of(&found),
         };
         match self.beside.push(output) {
             Ok(()) => Ok(sink),
@@ -318,9 +388,9 @@ impl Places {
         found: &Metadata,
         room: u64,
     ) -> Result<FileSink<File>, ShelfFault>
-        ensures faults { IfOk result (λ out. out.to.faults ≡ 0) }
-        ensures empty { IfOk result (λ out. out.taken ≡ 0) }
-        ensures room { IfOk result (λ out. out.room ≡ room) }
+        ensures faults { IfOk result (λ out. faults_of out ≡ 0) }
+        ensures empty { IfOk result (λ out. taken_of out ≡ 0) }
+        ensures room { IfOk result (λ out. room_of out ≡ room) }
     {
         let file = FileId::of(found);
         if self.in_place.contains(&file) {
@@ -348,12 +418,13 @@ impl Places {
         folder: FileId,
         path: &str,
         mode: u32,
-    ) -> Result<(String, File), Unmade> {
-        self.at_free_name(rt, folder, path, |free: &str| {
+    ) -> Result<Made, Unmade> {
+        let (temporary, file) = self.at_free_name(rt, folder, path, |free: &str| {
             let mut options = OpenOptions::new();
             options.write(true).create_new(true).mode(mode);
             options.open(rt, free)
-        })
+        })?;
+        Ok(Made { temporary, file })
     }
 
     // What a call makes under the first temporary name beside a path at which nothing stands, and which no output has.
@@ -381,8 +452,13 @@ impl Places {
     }
 }
 
-// Whether the system makes no file at all there, so that an old file is written in place. Where it has no room for one,
-// the old file is not touched.
+// Whether the temporary file of an output is there, and still the file that was made.
+fn is_there<R: Files<File = File>>(rt: &R, output: &Beside) -> Result<bool, Unseen> {
+    Ok(FileId::named(rt, output.temporary.as_str())? == Some(output.file))
+}
+
+// Whether the system makes or names no file at all there, so that an old file is written in place. Where it has no room
+// for one, or tells another fault, the old file is not touched.
 fn is_refusal(kind: ErrorKind) -> bool {
     matches!(
         kind,
@@ -421,15 +497,27 @@ fn identify<R: Files<File = File> + Alloc<A = Global>>(
     if !found.is_file() {
         return Ok(Found::Other(found));
     }
-    if takes_report(rt, &found) || !is_writable(rt, name) {
+    if takes_report(rt, &found)? || !is_writable(rt, name) {
         return Err(ShelfFault::Failed);
     }
     match fs::symlink_metadata(rt, name) {
-        Ok(named) if named.is_symlink() => match fs::canonicalize(rt, name) {
-            Ok(path) => Ok(Found::File(path.into_string(), Some(found))),
-            Err(_) => Ok(Found::Other(found)),
-        },
+        Ok(named) if named.is_symlink() => follow(rt, name, found),
         Ok(_) => Ok(Found::File(text(rt.alloc(), name)?, Some(found))),
+        Err(_) => Err(ShelfFault::Failed),
+    }
+}
+
+// Finds out how a file is written to which a link leads: beside it, and in place where no path of ours names it, as one that
+// is too long or no UTF-8.
+fn follow<R: Files<File = File> + Alloc<A = Global>>(
+    rt: &R,
+    name: &str,
+    found: Metadata,
+) -> Result<Found, ShelfFault> {
+    match fs::canonicalize(rt, name) {
+        Ok(path) => Ok(Found::File(path.into_string(), Some(found))),
+        Err(error) if is_refusal(error.kind()) => Ok(Found::Other(found)),
+        Err(error) if error.kind() == ErrorKind::OutOfMemory => Err(ShelfFault::Memory),
         Err(_) => Err(ShelfFault::Failed),
     }
 }

@@ -1,18 +1,38 @@
 // What the system says of a file.
 ghost use Rattle.std.specs.Prelude.{◌≡◌, ◌/◌, ◌%◌};
 ghost use Rattle.std.specs.Int.Bits.{bit_and};
+ghost use Rattle.real_files.specs.Modes.{group_access, others_access};
 
-use std::fs;
+use file_sinks::is_certain;
+use liq_base::{Failed, ShelfFault};
 use std::fs::{File, Metadata, OpenOptions, Permissions};
+use std::io::ErrorKind;
 use std::os::fd::AsFd;
 use std::os::unix::fs::{MetadataExt, PermissionsExt, fchown};
 use std::rt::Files;
+use std::{fs, io};
 
 /// The bit of a folder in which a file may be replaced by its owner and the folder's alone.
 const STICKY: u32 = 0o1000;
 
 /// Where the report goes.
 const REPORT: &str = "/dev/stdout";
+
+/// The system did not let us look, so nothing is known: neither that something is there nor that nothing is.
+#[derive(Drop)]
+pub(crate) struct Unseen;
+
+impl From<Unseen> for ShelfFault {
+    fn from(_unseen: Unseen) -> ShelfFault {
+        ShelfFault::Failed
+    }
+}
+
+impl From<Unseen> for Failed {
+    fn from(_unseen: Unseen) -> Failed {
+        Failed
+    }
+}
 
 /// What tells a real file from all others that are there at the same time.
 #[derive(Clone, Copy, PartialEq, Eq)]
@@ -30,20 +50,32 @@ impl FileId {
         }
     }
 
-    /// The file to which a path leads, if there is one.
-    pub fn at<R: Files<File = File>>(rt: &R, path: &str) -> Option<FileId> {
-        Some(FileId::of(&fs::metadata(rt, path).ok()?))
+    /// The file to which a path leads, or nothing where none is there.
+    pub fn at<R: Files<File = File>>(rt: &R, path: &str) -> Result<Option<FileId>, Unseen> {
+        FileId::seen(fs::metadata(rt, path))
     }
 
-    /// The file of a name that is no link, if there is one.
-    pub fn named<R: Files<File = File>>(rt: &R, path: &str) -> Option<FileId> {
-        Some(FileId::of(&fs::symlink_metadata(rt, path).ok()?))
+    /// The file of a name that is no link, or nothing where none is there.
+    pub fn named<R: Files<File = File>>(rt: &R, path: &str) -> Result<Option<FileId>, Unseen> {
+        FileId::seen(fs::symlink_metadata(rt, path))
+    }
+
+    // What a look tells.
+    fn seen(looked: io::Result<Metadata>) -> Result<Option<FileId>, Unseen> {
+        match looked {
+            Ok(found) => Ok(Some(FileId::of(&found))),
+            Err(error) if error.kind() == ErrorKind::NotFound => Ok(None),
+            Err(_) => Err(Unseen),
+        }
     }
 }
 
 /// Whether this is a regular file into which the report is written.
-pub(crate) fn takes_report<R: Files<File = File>>(rt: &R, found: &Metadata) -> bool {
-    found.is_file() && FileId::at(rt, REPORT) == Some(FileId::of(found))
+pub(crate) fn takes_report<R: Files<File = File>>(
+    rt: &R,
+    found: &Metadata,
+) -> Result<bool, Unseen> {
+    Ok(found.is_file() && FileId::at(rt, REPORT)? == Some(FileId::of(found)))
 }
 
 /// Whether a file that is there may be written.
@@ -57,38 +89,69 @@ pub(crate) fn may_replace(folder: &Metadata, old: &Metadata, ours: &Metadata) ->
     folder.mode() & STICKY == 0 || us == 0 || us == old.uid() || us == folder.uid()
 }
 
-/// What a mode says of who may do what, without the bits of other owners' programs and of sticky folders.
-pub(crate) fn access(mode: u32) -> u32
-    ensures { result ≡ mode % 512 }
+/// The mode of a new file in place of one of this mode: what it says of who may do what, without the bits of other owners'
+/// programs and of sticky folders. Where the new file has another group than the old one, its group and all others may do
+/// what both the old group and all others might before, so that nobody gains.
+pub(crate) fn new_mode(old: u32, has_group: bool) -> u32
+    ensures owner { result / 64 ≡ old / 64 % 8 }
+    ensures group { result / 8 % 8 ≡ group_access has_group old }
+    ensures others { result % 8 ≡ others_access has_group old }
 {
-    mode % 0o1000
+    if has_group {
+        old % 0o1000
+    } else {
+        shared_access(old)
+    }
 }
 
-/// The same for a file of another group than the old one's: the group and all others may do what both might before, so
-/// that nobody gains.
-pub(crate) fn shared_access(mode: u32) -> u32
-    ensures owner { result / 64 ≡ mode / 64 % 8 }
-    ensures group { result / 8 % 8 ≡ bit_and (mode / 8 % 8) (mode % 8) }
-    ensures others { result % 8 ≡ bit_and (mode / 8 % 8) (mode % 8) }
+// The mode for another group.
+fn shared_access(old: u32) -> u32
+    ensures owner { result / 64 ≡ old / 64 % 8 }
+    ensures group { result / 8 % 8 ≡ bit_and (old / 8 % 8) (old % 8) }
+    ensures others { result % 8 ≡ bit_and (old / 8 % 8) (old % 8) }
 {
-    let both = (mode / 8 % 8) & (mode % 8);
-    mode / 64 % 8 * 64 + both * 8 + both
+    let both = (old / 8 % 8) & (old % 8);
+    old / 64 % 8 * 64 + both * 8 + both
 }
 
-/// Gives a new file the group, the owner and the access of an old one, as far as the system lets us: where it refuses the
-/// group, `shared_access`.
+/// Gives a new file the group, the owner and the mode of an old one, as far as the system lets us.
 pub(crate) fn copy_access(old: &Metadata, new: &File) {
     let has_group = fchown(new.as_fd(), None, Some(old.gid())).is_ok();
     let _ = fchown(new.as_fd(), Some(old.uid()), None);
-    let mode = if has_group {
-        access(old.mode())
-    } else {
-        shared_access(old.mode())
-    };
+    let mode = new_mode(old.mode(), has_group);
     let _ = new.set_permissions(Permissions::from_mode(mode));
 }
 
 /// Removes a file, if it is there and may be removed.
 pub(crate) fn remove<R: Files<File = File>>(rt: &R, path: &str) {
     let _ = fs::remove_file(rt, path);
+}
+
+/// A folder whose names are made to last. Of one that this user may not read nothing can be asked.
+#[derive(Drop)]
+pub(crate) struct Folder {
+    opened: Option<File>,
+}
+
+impl Folder {
+    /// Opens a folder, where this user may read it.
+    pub fn open<R: Files<File = File>>(rt: &R, path: &str) -> Result<Folder, Failed> {
+        match File::open(rt, path) {
+            Ok(opened) => Ok(Folder {
+                opened: Some(opened),
+            }),
+            Err(error) if error.kind() == ErrorKind::PermissionDenied => {
+                Ok(Folder { opened: None })
+            }
+            Err(_) => Err(Failed),
+        }
+    }
+
+    /// Has the system make its names certain.
+    pub fn sync(&self) -> Result<(), Failed> {
+        match &self.opened {
+            Some(opened) if !is_certain(opened) => Err(Failed),
+            _ => Ok(()),
+        }
+    }
 }

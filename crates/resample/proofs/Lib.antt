@@ -1,4 +1,5 @@
 pub mod Quotients
+pub mod Inverses
 pub mod Moves
 pub mod Laws
 pub mod Rounds

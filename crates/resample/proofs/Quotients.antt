@@ -117,20 +117,27 @@ small_abs : (a : ℤ) → FitsSigned w16 a → unsigned_abs a ≤ 32768
 small_abs (pos m) fits = let out = fits_out w16 (pos m) fits in omega (arith, out.0)
 small_abs (negsuc m) fits = let out = fits_out w16 (negsuc m) fits in omega (arith, out.1)
 
-product_fits : (a : ℤ) (times : ℕ) → FitsSigned w16 a → times < 2 ^ 32 → FitsSigned w64 (a *ℤ pos times)
+pub product_fits : (a : ℤ) (times : ℕ) → FitsSigned w16 a → times < 2 ^ 32 → FitsSigned w64 (a *ℤ pos times)
 product_fits a times fits small = fits_signed_mul w64 a (pos times) 32768 (2 ^ 32) (small_abs a fits) (omega (arith, small)) (omega arith)
 
 -- a sum of both products lies between a sample's bounds, that many times
-pub sum_fits : (a b : ℤ) (part whole : ℕ) → FitsSigned w16 a → FitsSigned w16 b → part < whole → whole < 2 ^ 32 →
-    FitsSigned w64 ((a *ℤ pos (whole - part)) +ℤ (b *ℤ pos part))
-sum_fits a b part whole fit_a fit_b less small =
+pub sum_bounds : (a b : ℤ) (part whole : ℕ) → FitsSigned w16 a → FitsSigned w16 b → part < whole →
+    (up ((a *ℤ pos (whole - part)) +ℤ (b *ℤ pos part)) ≤ 32767 * whole + down ((a *ℤ pos (whole - part)) +ℤ (b *ℤ pos part)))
+    × (down ((a *ℤ pos (whole - part)) +ℤ (b *ℤ pos part)) ≤ 32768 * whole + up ((a *ℤ pos (whole - part)) +ℤ (b *ℤ pos part)))
+sum_bounds a b part whole fit_a fit_b less =
     let top_a = times_le a (pos 32767) (whole - part) (omega (arith, ints, fit_a)) in
     let top_b = times_le b (pos 32767) part (omega (arith, ints, fit_b)) in
     let low_a = times_le (negsuc 32767) a (whole - part) (omega (arith, ints, fit_a)) in
     let low_b = times_le (negsuc 32767) b part (omega (arith, ints, fit_b)) in
     let neg_a = neg_parts (32768 * (whole - part)) in
     let neg_b = neg_parts (32768 * part) in
-    omega (arith, ints, top_a, top_b, low_a, low_b, neg_a.0, neg_a.1, neg_b.0, neg_b.1, less, small)
+    (omega (arith, ints, top_a, top_b, less), omega (arith, ints, low_a, low_b, neg_a.0, neg_a.1, neg_b.0, neg_b.1, less))
+
+pub sum_fits : (a b : ℤ) (part whole : ℕ) → FitsSigned w16 a → FitsSigned w16 b → part < whole → whole < 2 ^ 32 →
+    FitsSigned w64 ((a *ℤ pos (whole - part)) +ℤ (b *ℤ pos part))
+sum_fits a b part whole fit_a fit_b less small =
+    let bounds = sum_bounds a b part whole fit_a fit_b less in
+    omega (arith, ints, bounds.0, bounds.1, small)
 
 -- what the code computes
 pub computed : (x y d a b : ℤ) (part whole : ℕ) → x ≡ to_z w16 (of_z w16 a) *ℤ pos (whole - part) → y ≡ to_z w16 (of_z w16 b) *ℤ pos part → d ≡ pos whole →

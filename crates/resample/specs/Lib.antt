@@ -1,2 +1,3 @@
 pub mod Resampled
 pub mod Places
+pub mod Reciprocals

@@ -1,15 +1,75 @@
 // Numbers between two samples.
-ghost use Rattle.std.specs.Prelude.{◌≡◌, ◌<◌, ◌*ℤ◌, pos};
+ghost use Rattle.std.specs.Prelude.{◌≡◌, ◌<◌, ◌≤◌, ◌*◌, ◌*ℤ◌, pos, int_div, unsigned_abs};
+ghost use Rattle.resample.specs.Reciprocals.{inverse_of, signed_as};
 ghost use Rattle.resample.specs.Resampled.{between};
 
-/// The number that lies `part` of `whole` parts behind one sample on the way to another, rounded toward zero.
-pub fn between(before: i16, behind: i16, part: u32, whole: u32) -> i16
+// Up to so many parts a product takes the place of the division.
+const MOST: u32 = 92_681;
+
+/// The number that lies `part` of `whole` parts behind one sample on the way to another, rounded toward zero. `inverse`
+/// is that of `whole`.
+pub fn number_between(inverse: u64, before: i16, behind: i16, part: u32, whole: u32) -> i16
+    requires within { part < whole }
+    requires inverse { inverse ≡ inverse_of whole }
+    ensures { result ≡ between before behind part whole }
+{
+    if whole <= MOST {
+        between_by(inverse, before, behind, part, whole)
+    } else {
+        between(before, behind, part, whole)
+    }
+}
+
+/// 2^48 divided by a number of parts, and up to 1 more.
+pub fn inverse_of(whole: u32) -> u64
+    requires { 0 < whole }
+    ensures { result ≡ inverse_of whole }
+{
+    281_474_976_710_656 / u64::from(whole) + 1
+}
+
+// By a product with 2^48 / whole.
+fn between_by(inverse: u64, before: i16, behind: i16, part: u32, whole: u32) -> i16
+    requires within { part < whole }
+    requires short { whole ≤ 92681 }
+    requires inverse { inverse ≡ inverse_of whole }
+    ensures { result ≡ between before behind part whole }
+{
+    let sum = weighted(before, whole - part) + weighted(behind, part);
+    quotient(sum, inverse, whole) as i16
+}
+
+// By a division.
+fn between(before: i16, behind: i16, part: u32, whole: u32) -> i16
     requires { part < whole }
     ensures { result ≡ between before behind part whole }
 {
     let parts = i64::from(whole);
     let sum = weighted(before, whole - part) + weighted(behind, part);
     (sum / parts) as i16
+}
+
+// A sum divided by a number of parts.
+fn quotient(sum: i64, inverse: u64, whole: u32) -> i32
+    requires short { (0 < whole) × (whole ≤ 92681) }
+    requires inverse { inverse ≡ inverse_of whole }
+    requires small { unsigned_abs sum ≤ 32768 * whole }
+    ensures { result ≡ int_div sum (pos whole) }
+{
+    let size = sum.unsigned_abs() * inverse / 281_474_976_710_656;
+    signed_as(sum, size)
+}
+
+// A size with the sign of a number.
+fn signed_as(number: i64, size: u64) -> i32
+    requires { size ≤ 32768 }
+    ensures { result ≡ signed_as number size }
+{
+    if number < 0 {
+        -(size as i32)
+    } else {
+        size as i32
+    }
 }
 
 // A sample, so many times.

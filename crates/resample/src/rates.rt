@@ -1,9 +1,10 @@
 // A file at another rate.
 ghost use Rattle.std.specs.Prelude.{◌≡◌, ◌<◌, ◌≤◌, ◌*◌, ℕ, length};
 ghost use Rattle.liq_base.specs.Kinds.{channels_of};
+ghost use Rattle.liq_base.specs.declared.memory.Kind.TheVariants.{Mono, Stereo};
 ghost use Rattle.resample.specs.Resampled.{AreRates, IsFile, LiesBetween, blocks_of, length_at, resampled, sample_before, sample_behind, side_at};
 
-use crate::midway::between;
+use crate::midway::{inverse_of, number_between};
 use crate::place::{Place, moved, step_of};
 use liq_base::Kind;
 
@@ -32,17 +33,49 @@ pub fn fill(from: u32, to: u32, kind: Kind, samples: &[i16], into: &mut [i16])
         LiesBetween (sample_before from to kind samples.now j side) (sample_behind from to kind samples.now j side) (side_at kind into.new j side) }
     ensures unchanged { from ≡ to → into.new ≡ samples.now }
 {
-    let channels = usize::from(kind.channels());
-    let last = samples.len() / channels - 1;
+    match kind {
+        Kind::Mono => fill_mono(from, to, samples, into),
+        Kind::Stereo => fill_stereo(from, to, samples, into),
+    }
+}
+
+// Writes a file of one channel.
+fn fill_mono(from: u32, to: u32, samples: &[i16], into: &mut [i16])
+    requires rates { AreRates from to }
+    requires file { IsFile Mono samples.now }
+    requires room { length into.old ≡ length_at (blocks_of Mono samples.now) from to * channels_of Mono }
+    ensures { into.new ≡ resampled from to Mono samples.now }
+{
+    let last = samples.len() - 1;
     let step = step_of(from, to);
+    let inverse = inverse_of(to);
     let mut place = Place { block: 0, part: 0 };
-    for block in 0..into.len() / channels {
-        let next = last.min(place.block + 1);
-        for side in 0..channels {
-            let before = samples[place.block * channels + side];
-            let behind = samples[next * channels + side];
-            into[block * channels + side] = between(before, behind, place.part, to);
-        }
+    for block in 0..into.len() {
+        let before = samples[place.block];
+        let behind = samples[last.min(place.block + 1)];
+        into[block] = number_between(inverse, before, behind, place.part, to);
+        place = moved(place, step, to);
+    }
+}
+
+// Writes a file of two channels.
+fn fill_stereo(from: u32, to: u32, samples: &[i16], into: &mut [i16])
+    requires rates { AreRates from to }
+    requires file { IsFile Stereo samples.now }
+    requires room { length into.old ≡ length_at (blocks_of Stereo samples.now) from to * channels_of Stereo }
+    ensures { into.new ≡ resampled from to Stereo samples.now }
+{
+    let last = samples.len() / 2 - 1;
+    let step = step_of(from, to);
+    let inverse = inverse_of(to);
+    let mut place = Place { block: 0, part: 0 };
+    for block in 0..into.len() / 2 {
+        let at = 2 * place.block;
+        let next = 2 * last.min(place.block + 1);
+        let left = number_between(inverse, samples[at], samples[next], place.part, to);
+        let right = number_between(inverse, samples[at + 1], samples[next + 1], place.part, to);
+        into[2 * block] = left;
+        into[2 * block + 1] = right;
         place = moved(place, step, to);
     }
 }

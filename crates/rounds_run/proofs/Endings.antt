@@ -6,7 +6,7 @@ use Rattle.std.specs.Option.{option_map_or}
 use Rattle.std.proofs.lemmas.Bool.{le-ltb}
 use Rattle.std.proofs.lemmas.List.{length-map}
 use Rattle.std.proofs.lemmas.Option.{get_or_from_slice_get, slice_get-get_or as read, slice_get_within}
-use Rattle.liq_base.specs.Pieces.{grown}
+use Rattle.liq_base.specs.Pieces.{SinkTold, grown}
 use Rattle.plan_core.specs.declared.plan.Plan.{Plan}
 use Rattle.plan_core.specs.Plans.{IsWellFormed}
 use Rattle.plan_core.specs.declared.sink.BufferPlan.{BufferPlan}
@@ -26,7 +26,7 @@ use Rattle.buffer_ends.specs.Same.{SameBuffers}
 use Rattle.buffer_ends.specs.declared.run_end.End.{End}
 use Rattle.buffer_ends.specs.declared.run_end.End.TheVariants.{Done, Write, Memory as NoMemory}
 use Rattle.rounds_run.specs.Rounds.{AreTurnsBegun, HasRunTurns, HasRunPart, HaveRunPart, IsWriteEnd, RoundsMade, RoundsStopped, made_by, nothing, ticks_by, world}
-use Rattle.buffer_sides.specs.Logs.{told}
+use Rattle.buffer_sides.specs.Logs.{told as told_of}
 use Rattle.rounds_run.specs.Runs.{AreOver, HasRunAll, HasRunSome, HasRunTicks, counts_of_windows}
 use Rattle.rounds_run.proofs.Worlds.{meets, meets_is}
 use Rattle.rounds_run.proofs.Going.{none_read, run_none, run_part}
@@ -106,14 +106,14 @@ module _ (plan : Plan) (calls : List Call) (lists : List LocalBuffer) (same : Sa
   logs_of_lists [] = refl
   logs_of_lists (x ∷ xs) = ap (λ (rest : List (List Answers)). closed_windows (closed x) ∷ rest) (logs_of_lists xs)
 
-  logs_told : map closed_windows (map closed lists) ≡ map (λ (windows : List Window). map told windows) (windows_from calls 0 (length plan.buffers))
+  logs_told : map closed_windows (map closed lists) ≡ map (λ (windows : List Window). map told_of windows) (windows_from calls 0 (length plan.buffers))
   logs_told =
       logs_of_lists lists
-      ∙ windows_mapped (λ (list : LocalBuffer). closed_windows (closed list)) (λ (windows : List Window). map told windows) calls 0 lists
-      (λ k list at. let same_place : k ≡ 0 + k = omega arith in logged k calls list (planned_at k list at).3 (led k list at) ∙ ap (λ (b : ℕ). map told (window_of b calls ∷ [])) same_place)
-      ∙ ap (λ (n : ℕ). map (λ (windows : List Window). map told windows) (windows_from calls 0 n)) many_lists
+      ∙ windows_mapped (λ (list : LocalBuffer). closed_windows (closed list)) (λ (windows : List Window). map told_of windows) calls 0 lists
+      (λ k list at. let same_place : k ≡ 0 + k = omega arith in logged k calls list (planned_at k list at).3 (led k list at) ∙ ap (λ (b : ℕ). map told_of (window_of b calls ∷ [])) same_place)
+      ∙ ap (λ (n : ℕ). map (λ (windows : List Window). map told_of windows) (windows_from calls 0 n)) many_lists
 
-module _ {S : Type 0} (held name : S → Option (List ℕ)) (room : S → Option ℕ) (faults : S → ℕ) (appends : S → Option ℕ) (plan : Plan) (ticks : ℕ) (setting : Setting) (first now : List (ClockEngine S)) (over : AreOver room plan ticks setting first) where
+module _ {S : Type 0} (told : S → SinkTold) (plan : Plan) (ticks : ℕ) (setting : Setting) (first now : List (ClockEngine S)) (over : AreOver told plan ticks setting first) where
   abbrev many : ℕ
   many = length setting.plan.buffers
 
@@ -123,25 +123,25 @@ module _ {S : Type 0} (held name : S → Option (List ℕ)) (room : S → Option
       → (round clock : ℕ) → ((rest : ℕ → List Answer) → (accepted : ℕ → ℕ → ℕ → Bool)
       × IsBegin (rounds_to (setting_then setting (run_of many calls) rest) accepted (length first) round clock) calls
       × IsBegin calls (rounds_to (setting_then setting (run_of many calls) rest) accepted (length first) round (suc clock)))
-      → HaveRunPart held name faults appends (world setting calls) (ticks_by ticks round clock) (ticks_by ticks round (clock + 1)) first now
-      → ((failed sink : ℕ) → end ≡ Write failed sink → IsWriteEnd faults clock first now end) → HasRunSome held name faults appends setting ticks first now end
+      → HaveRunPart told (world setting calls) (ticks_by ticks round clock) (ticks_by ticks round (clock + 1)) first now
+      → ((failed sink : ℕ) → end ≡ Write failed sink → IsWriteEnd told clock first now end) → HasRunSome told setting ticks first now end
   broken end calls begun in_order round clock turn part write =
       let well = subst (λ p. IsWellFormed p) (sym over.plan_is) over.well in
       record {
         run = run_of many calls;
         begun = rounds_begun setting well (length first) (ticks * length first) calls begun ticks refl round clock turn in_order;
-        part = subst (λ (worlds : (ℕ → List Answer) → Setting). HaveRunPart held name faults appends worlds (ticks_by ticks round clock) (ticks_by ticks round (clock + 1)) first now)
+        part = subst (λ (worlds : (ℕ → List Answer) → Setting). HaveRunPart told worlds (ticks_by ticks round clock) (ticks_by ticks round (clock + 1)) first now)
             (fun_ext (λ rest. sym (then_is setting well (length first) (ticks * length first) calls begun rest))) part;
         write = write;
       }
 
   -- an engine that has run whole ticks
-  ticks_told : (calls : List Call) (V : Setting) → V ≡ world setting calls nothing → (t : ℕ) (before after : ClockEngine S) → setting_of before.parts ≡ setting → HasRunTurns held name faults appends calls t before after
-      → HasRunTicks held name faults appends V t before after
+  ticks_told : (calls : List Call) (V : Setting) → V ≡ world setting calls nothing → (t : ℕ) (before after : ClockEngine S) → setting_of before.parts ≡ setting → HasRunTurns told calls t before after
+      → HasRunTicks told V t before after
   ticks_told calls V is t before after same run =
       let rest = meets (setting_of before.parts) (Main before.parts.clock) calls run.answers run.own nothing in
       let given : with_rest (setting_of before.parts) run.answers rest ≡ V =
-      meets_is (setting_of before.parts) (Main before.parts.clock) calls run.answers run.own nothing (none_read held name room faults appends t calls before after after run) ∙ ap (λ s. world s calls nothing) same ∙ sym is in
+      meets_is (setting_of before.parts) (Main before.parts.clock) calls run.answers run.own nothing (none_read told t calls before after after run) ∙ ap (λ s. world s calls nothing) same ∙ sym is in
       record {
         over = run.setting;
         clock = run.clock;
@@ -150,11 +150,9 @@ module _ {S : Type 0} (held name : S → Option (List ℕ)) (room : S → Option
         rest = rest;
         given = given;
         stands = run.stands;
-        grew = λ sink node output. run.grew.each rest sink node output ∙ ap (λ W. grown (ticks_bytes W output.wide node t) (held_of held before sink)) given;
+        grew = λ sink node output. run.grew.each rest sink node output ∙ ap (λ W. grown (ticks_bytes W output.wide node t) (held_of told before sink)) given;
         pieces = run.pieces;
-        none_fell = run.none_fell;
         outs = run.outs;
-        kept = run.kept;
       }
 
   module _ (taps_first taps_now : List LocalBuffer) (empty : taps_first ≡ map planned plan.buffers) (stands : LocalStands taps_first []) (same : SameBuffers taps_first taps_now) where
@@ -162,14 +160,14 @@ module _ {S : Type 0} (held name : S → Option (List ℕ)) (room : S → Option
     same_here = subst (λ lists. SameBuffers lists taps_now) empty same
 
     -- a fault of a tick
-    pub one_stopped : (end : End) → RoundsStopped held name faults appends LocalStands setting ticks (ticks * length first) first now taps_first taps_now end → HasRunSome held name faults appends setting ticks first now end
+    pub one_stopped : (end : End) → RoundsStopped told LocalStands setting ticks (ticks * length first) first now taps_first taps_now end → HasRunSome told setting ticks first now end
     one_stopped end stopped =
         broken end stopped.calls stopped.begun (lists_follow plan stopped.calls taps_now same_here (stopped.taps [] stands) setting over.plan_is) stopped.round stopped.clock
         (turn_is setting (subst (λ p. IsWellFormed p) (sym over.plan_is) over.well) (length first) (ticks * length first) stopped.calls stopped.begun stopped.round stopped.clock stopped.below stopped.turn) stopped.part (write_only end _ stopped.cause)
 
-    module _ (made : RoundsMade held name faults appends LocalStands setting ticks (ticks * length first) first now taps_first taps_now) where
+    module _ (made : RoundsMade told LocalStands setting ticks (ticks * length first) first now taps_first taps_now) where
       -- all ticks
-      pub all_made : (end : End) → ((end ≡ Done → ⊥) → end ≡ NoMemory) → HasRunSome held name faults appends setting ticks first now end
+      pub all_made : (end : End) → ((end ≡ Done → ⊥) → end ≡ NoMemory) → HasRunSome told setting ticks first now end
       all_made end is =
           broken end made.calls (turned_begun setting (length first) (ticks * length first) made.calls made.turned)
           (lists_follow plan made.calls taps_now same_here (made.taps [] stands) setting over.plan_is) ticks 0
@@ -177,14 +175,14 @@ module _ {S : Type 0} (held name : S → Option (List ℕ)) (room : S → Option
           (record {
             size = made.run.size;
             each = λ k before after was at.
-                subst (λ s. HasRunPart held name faults appends (world s made.calls) (ticks_by ticks ticks 0 k) (ticks_by ticks ticks (0 + 1) k) before after) (over.are.over k before was)
-                (run_part held name room faults appends ticks made.calls before after after (made.run.each k before after was at) (ticks_by ticks ticks 0 k) (ticks_by ticks ticks (0 + 1) k)
+                subst (λ s. HasRunPart told (world s made.calls) (ticks_by ticks ticks 0 k) (ticks_by ticks ticks (0 + 1) k) before after) (over.are.over k before was)
+                (run_part told ticks made.calls before after after (made.run.each k before after was at) (ticks_by ticks ticks 0 k) (ticks_by ticks ticks (0 + 1) k)
                 (min-le_left ticks (made_by ticks 0 k))
                 (let least = made_least ticks (0 + 1) k in let all = min-eq_left {n = ticks} {m = made_by ticks (0 + 1) k} least in omega (arith, all)));
           }) (λ failed sink e. absurd (no_write end is failed sink e))
 
       -- all ticks, with their answers
-      pub all_told : HasRunAll held name faults appends setting ticks first now (map (λ list. counts_of (all_answers list)) taps_now) (map closed_windows (map closed taps_now))
+      pub all_told : HasRunAll told setting ticks first now (map (λ list. counts_of (all_answers list)) taps_now) (map closed_windows (map closed taps_now))
       all_told =
           let well = subst (λ p. IsWellFormed p) (sym over.plan_is) over.well in
           let begun = turned_begun setting (length first) (ticks * length first) made.calls made.turned in
@@ -198,21 +196,21 @@ module _ {S : Type 0} (held name : S → Option (List ℕ)) (room : S → Option
               each = λ k before after was at. ticks_told made.calls (setting_in setting (run_of many made.calls)) (in_is setting well (length first) (ticks * length first) made.calls begun) ticks before after (over.are.over k before was) (made.run.each k before after was at);
             };
             counts_are = counts_told plan made.calls taps_now same_here stood ∙ ap (λ (n : ℕ). map counts_of_windows (windows_from made.calls 0 n)) buffers;
-            logs_are = logs_told plan made.calls taps_now same_here stood ∙ ap (λ (n : ℕ). map (λ (windows : List Window). map told windows) (windows_from made.calls 0 n)) buffers;
+            logs_are = logs_told plan made.calls taps_now same_here stood ∙ ap (λ (n : ℕ). map (λ (windows : List Window). map told_of windows) (windows_from made.calls 0 n)) buffers;
           }
 
 -- no tick
-pub none_made : {S : Type 0} (held name : S → Option (List ℕ)) (room : S → Option ℕ) (faults : S → ℕ) (appends : S → Option ℕ) (plan : Plan) (ticks : ℕ) (setting : Setting) (first : List (ClockEngine S)) → AreOver room plan ticks setting first
-    → (end : End) → end ≡ NoMemory → HasRunSome held name faults appends setting ticks first first end
-none_made held name room faults appends plan ticks setting first over end is =
-    broken held name room faults appends plan ticks setting first first over end [] (record { accepted = λ turn buffer. true; begun = λ rest. begin_none _ }) (λ b low. ([], refl)) 0 0 (λ rest. ((λ m t buffer. true), begin_none [], begin_none _))
+pub none_made : {S : Type 0} (told : S → SinkTold) (plan : Plan) (ticks : ℕ) (setting : Setting) (first : List (ClockEngine S)) → AreOver told plan ticks setting first
+    → (end : End) → end ≡ NoMemory → HasRunSome told setting ticks first first end
+none_made told plan ticks setting first over end is =
+    broken told plan ticks setting first first over end [] (record { accepted = λ turn buffer. true; begun = λ rest. begin_none _ }) (λ b low. ([], refl)) 0 0 (λ rest. ((λ m t buffer. true), begin_none [], begin_none _))
     (record {
       size = refl;
       each = λ k before after was at.
           let same_some : Some before ≡ Some after = sym was ∙ at in
           let same : before ≡ after = cc in
-          subst (λ s. HasRunPart held name faults appends (world s []) (ticks_by ticks 0 0 k) (ticks_by ticks 0 (0 + 1) k) before after) (over.are.over k before was)
-          (subst (λ e. HasRunPart held name faults appends (world (setting_of before.parts) []) (ticks_by ticks 0 0 k) (ticks_by ticks 0 (0 + 1) k) before e) same
-          (run_part held name room faults appends 0 [] before before before (run_none held name room faults appends ticks before (over.are.each k before was)) (ticks_by ticks 0 0 k) (ticks_by ticks 0 (0 + 1) k)
+          subst (λ s. HasRunPart told (world s []) (ticks_by ticks 0 0 k) (ticks_by ticks 0 (0 + 1) k) before after) (over.are.over k before was)
+          (subst (λ e. HasRunPart told (world (setting_of before.parts) []) (ticks_by ticks 0 0 k) (ticks_by ticks 0 (0 + 1) k) before e) same
+          (run_part told 0 [] before before before (run_none told ticks before (over.are.each k before was)) (ticks_by ticks 0 0 k) (ticks_by ticks 0 (0 + 1) k)
           (let none : made_by 0 0 k ≡ 0 = rw (le-ltb k 0 (omega arith)) refl in let low = min-le_right ticks (made_by 0 0 k) in omega (arith, none, low)) (omega arith)));
     }) (λ failed sink e. absurd (no_write end (λ done. is) failed sink e))

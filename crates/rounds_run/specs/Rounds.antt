@@ -1,18 +1,17 @@
 -- Runs of the engines of all clocks, in rounds: each clock makes a tick, then each makes the next.
 use Rattle.std.specs.Prelude.{◌≡◌, ◌+◌, ◌/◌, ◌%◌, ℕ, suc, Bool, Option, Some, List, [], length, slice_get, ◌⊎◌, true, ◌<◌, ◌*◌}
 pub use Rattle.run_records.specs.Records.{made_by, ticks_by}
-use Rattle.liq_base.specs.Pieces.{IsPrefix, grown}
+use Rattle.liq_base.specs.Pieces.{IsPrefix, SinkTold, grown}
 use Rattle.clock_infer.specs.declared.clock_map.NodeClock.TheVariants.{Main}
 use Rattle.frame_core.specs.Calls.{Adds, Call, Answer}
 use Rattle.stream_meaning.specs.Instants.{Setting, with_rest}
 use Rattle.stream_meaning.specs.Calls.{IsBegin, IsUnread, answers_in, calls_of_tick, joined_upto}
 use Rattle.stream_meaning.specs.Sinks.{ticks_bytes, IsOutput}
 use Rattle.node_states.specs.Ticks.{HoldTicks}
-use Rattle.clock_outputs.specs.Appends.{AreKept, NoneFell, RoseAt}
 use Rattle.clock_ticks.specs.declared.engine.ClockEngine.{ClockEngine}
 use Rattle.clock_ticks.specs.Engines.{EngineStands, held_of, outputs_of, setting_of}
 use Rattle.clock_ticks.specs.Ticks.{HaveTicksRoom}
-use Rattle.clock_ticks.specs.Pieces.{GotBetween, GotPieces}
+use Rattle.clock_ticks.specs.Pieces.{GotBetween, GotPieces, RoseAt}
 use Rattle.buffer_ends.specs.declared.run_end.End.{End}
 use Rattle.buffer_ends.specs.declared.run_end.End.TheVariants.{Write, Memory as NoMemory}
 
@@ -46,57 +45,53 @@ abbrev pub nothing : ℕ → List Answer
 nothing buffer = []
 
 -- an engine may begin: it made no tick and did not stop, and its sinks have room for so many ticks
-pub record MayRun {S : Type 0} (room : S → Option ℕ) (ticks : ℕ) (engine : ClockEngine S) : Type 0 where
+pub record MayRun {S : Type 0} (told : S → SinkTold) (ticks : ℕ) (engine : ClockEngine S) : Type 0 where
   pub fresh : EngineStands engine.parts 0 nothing
-  pub rooms : HaveTicksRoom room engine.parts engine.outs ticks
+  pub rooms : HaveTicksRoom told engine.parts engine.outs ticks
 
 -- the engines of a run, one per clock, in clock order, over one plan with its files, clocks and start
-pub record AreEngines {S : Type 0} (room : S → Option ℕ) (ticks : ℕ) (setting : Setting) (engines : List (ClockEngine S)) : Type 0 where
-  pub each : (k : ℕ) (engine : ClockEngine S) → slice_get engines k ≡ Some engine → MayRun room ticks engine
+pub record AreEngines {S : Type 0} (told : S → SinkTold) (ticks : ℕ) (setting : Setting) (engines : List (ClockEngine S)) : Type 0 where
+  pub each : (k : ℕ) (engine : ClockEngine S) → slice_get engines k ≡ Some engine → MayRun told ticks engine
   pub in_order : (k : ℕ) (engine : ClockEngine S) → slice_get engines k ≡ Some engine → engine.parts.clock ≡ k
   pub over : (k : ℕ) (engine : ClockEngine S) → slice_get engines k ≡ Some engine → setting_of engine.parts ≡ setting
 
 -- an engine has gone from `old` to `new` by so many ticks, none of them with a fault, in a run that made these calls: it has taken the
--- answers of the buffers that it reads; each output holds its bytes of these ticks more, and its sink got a piece for each of them; no
--- count of faults fell, and its sinks are those that they were, by their names; and it keeps its marks if it did
-pub record HasRunTurns {S : Type 0} (held name : S → Option (List ℕ)) (faults : S → ℕ) (appends : S → Option ℕ) (calls : List Call) (ticks : ℕ) (old new : ClockEngine S) : Type 0 where
+-- answers of the buffers that it reads; each output holds its bytes of these ticks more, and its sink got a piece for each of them; and it
+-- keeps its marks if it did
+pub record HasRunTurns {S : Type 0} (told : S → SinkTold) (calls : List Call) (ticks : ℕ) (old new : ClockEngine S) : Type 0 where
   pub setting : setting_of new.parts ≡ setting_of old.parts
   pub clock : new.parts.clock ≡ old.parts.clock
   pub keeping : new.parts.cues.keeping ≡ old.parts.cues.keeping
   pub answers : ℕ → List Answer
   pub own : (buffer : ℕ) → (answers buffer ≡ answers_in buffer calls) ⊎ IsUnread (setting_of old.parts) (Main old.parts.clock) buffer
   pub stands : EngineStands new.parts ticks answers
-  pub grew : HoldTicks (setting_of old.parts) old.parts.clock ticks answers (held_of held old) (held_of held new)
-  pub pieces : GotPieces appends ticks old.outs new.outs
-  pub none_fell : NoneFell faults old.outs new.outs
+  pub grew : HoldTicks (setting_of old.parts) old.parts.clock ticks answers (held_of told old) (held_of told new)
+  pub pieces : GotPieces told ticks old.outs new.outs
   pub outs : length new.outs ≡ length old.outs
-  pub kept : AreKept name faults old.outs new.outs
 
 -- an engine has gone from `old` to `new` by at least and at most so many ticks: each output holds its bytes of the first more, and
 -- then a front of those of the others, whatever answers follow those that were got, and its sink got a piece for each of the first and
--- at most one for each of the others; no count of faults fell, and its sinks are those that they were, by their names
-pub record HasRunPart {S : Type 0} (held name : S → Option (List ℕ)) (faults : S → ℕ) (appends : S → Option ℕ) (world : (ℕ → List Answer) → Setting) (least most : ℕ) (old new : ClockEngine S) : Type 0 where
+-- at most one for each of the others
+pub record HasRunPart {S : Type 0} (told : S → SinkTold) (world : (ℕ → List Answer) → Setting) (least most : ℕ) (old new : ClockEngine S) : Type 0 where
   pub setting : setting_of new.parts ≡ setting_of old.parts
   pub clock : new.parts.clock ≡ old.parts.clock
   pub part : (rest : ℕ → List Answer) (sink node : ℕ) (output : IsOutput (setting_of old.parts) old.parts.clock sink node)
-      → (bytes : List ℕ) × IsPrefix (ticks_bytes (world rest) output.wide node least) bytes × IsPrefix bytes (ticks_bytes (world rest) output.wide node most) × (held_of held new sink ≡ grown bytes (held_of held old sink))
-  pub pieces : GotBetween appends least most old.outs new.outs
-  pub none_fell : NoneFell faults old.outs new.outs
+      → (bytes : List ℕ) × IsPrefix (ticks_bytes (world rest) output.wide node least) bytes × IsPrefix bytes (ticks_bytes (world rest) output.wide node most) × (held_of told new sink ≡ grown bytes (held_of told old sink))
+  pub pieces : GotBetween told least most old.outs new.outs
   pub outs : length new.outs ≡ length old.outs
-  pub kept : AreKept name faults old.outs new.outs
 
 -- each engine has run so many ticks
-pub record HaveRun {S : Type 0} (held name : S → Option (List ℕ)) (faults : S → ℕ) (appends : S → Option ℕ) (calls : List Call) (ticks : ℕ → ℕ) (old new : List (ClockEngine S)) : Type 0 where
+pub record HaveRun {S : Type 0} (told : S → SinkTold) (calls : List Call) (ticks : ℕ → ℕ) (old new : List (ClockEngine S)) : Type 0 where
   pub size : length new ≡ length old
-  pub each : (k : ℕ) (before after : ClockEngine S) → slice_get old k ≡ Some before → slice_get new k ≡ Some after → HasRunTurns held name faults appends calls (ticks k) before after
+  pub each : (k : ℕ) (before after : ClockEngine S) → slice_get old k ≡ Some before → slice_get new k ≡ Some after → HasRunTurns told calls (ticks k) before after
 
 -- clock k has made at least and at most so many ticks
-pub record HaveRunPart {S : Type 0} (held name : S → Option (List ℕ)) (faults : S → ℕ) (appends : S → Option ℕ) (world : (ℕ → List Answer) → Setting) (least most : ℕ → ℕ) (old new : List (ClockEngine S)) : Type 0 where
+pub record HaveRunPart {S : Type 0} (told : S → SinkTold) (world : (ℕ → List Answer) → Setting) (least most : ℕ → ℕ) (old new : List (ClockEngine S)) : Type 0 where
   pub size : length new ≡ length old
-  pub each : (k : ℕ) (before after : ClockEngine S) → slice_get old k ≡ Some before → slice_get new k ≡ Some after → HasRunPart held name faults appends world (least k) (most k) before after
+  pub each : (k : ℕ) (before after : ClockEngine S) → slice_get old k ≡ Some before → slice_get new k ≡ Some after → HasRunPart told world (least k) (most k) before after
 
 -- the end names an output of this clock, whose sink's count of faults rose
-pub record IsWriteEnd {S : Type 0} (faults : S → ℕ) (clock : ℕ) (old new : List (ClockEngine S)) (end : End) : Type 0 where
+pub record IsWriteEnd {S : Type 0} (told : S → SinkTold) (clock : ℕ) (old new : List (ClockEngine S)) (end : End) : Type 0 where
   pub before : ClockEngine S
   pub after : ClockEngine S
   pub was : slice_get old clock ≡ Some before
@@ -106,28 +101,28 @@ pub record IsWriteEnd {S : Type 0} (faults : S → ℕ) (clock : ℕ) (old new :
   pub node : ℕ
   pub there : slice_get (outputs_of (setting_of before.parts) clock) place ≡ Some (sink, node)
   pub end_is : end ≡ Write clock sink
-  pub rose : RoseAt faults place before.outs after.outs
+  pub rose : RoseAt told place before.outs after.outs
 
 -- between two ticks of a run: the calls so far, what each engine has run, and the room that is left for the ticks that are not made
-pub record AreGoing {S T : Type 0} (held name : S → Option (List ℕ)) (room : S → Option ℕ) (faults : S → ℕ) (appends : S → Option ℕ) (stands : T → List Call → Type 0) (setting : Setting)
+pub record AreGoing {S T : Type 0} (told : S → SinkTold) (stands : T → List Call → Type 0) (setting : Setting)
     (total : ℕ) (made : ℕ → ℕ) (turns : ℕ) (first now : List (ClockEngine S)) (taps_first taps_now : T) : Type 0 where
   pub calls : List Call
   pub taps : Adds stands taps_first taps_now calls
   pub turned : AreTurns setting (length first) turns calls
-  pub run : HaveRun held name faults appends calls made first now
-  pub rooms : (k left : ℕ) (engine : ClockEngine S) → slice_get now k ≡ Some engine → made k + left ≡ total → HaveTicksRoom room engine.parts engine.outs left
+  pub run : HaveRun told calls made first now
+  pub rooms : (k left : ℕ) (engine : ClockEngine S) → slice_get now k ≡ Some engine → made k + left ≡ total → HaveTicksRoom told engine.parts engine.outs left
 
 -- all rounds were made, by these calls
-pub record RoundsMade {S T : Type 0} (held name : S → Option (List ℕ)) (faults : S → ℕ) (appends : S → Option ℕ) (stands : T → List Call → Type 0) (setting : Setting)
+pub record RoundsMade {S T : Type 0} (told : S → SinkTold) (stands : T → List Call → Type 0) (setting : Setting)
     (ticks turns : ℕ) (first now : List (ClockEngine S)) (taps_first taps_now : T) : Type 0 where
   pub calls : List Call
   pub taps : Adds stands taps_first taps_now calls
   pub turned : AreTurns setting (length first) turns calls
-  pub run : HaveRun held name faults appends calls (λ clock. ticks) first now
+  pub run : HaveRun told calls (λ clock. ticks) first now
 
 -- A fault ended the rounds, after these calls, in the turn of clock `clock` in round `round`: the clocks below it have made their tick
 -- of this round, those above it have not, and it has made at most a part of it.
-pub record RoundsStopped {S T : Type 0} (held name : S → Option (List ℕ)) (faults : S → ℕ) (appends : S → Option ℕ) (stands : T → List Call → Type 0) (setting : Setting)
+pub record RoundsStopped {S T : Type 0} (told : S → SinkTold) (stands : T → List Call → Type 0) (setting : Setting)
     (ticks turns : ℕ) (first now : List (ClockEngine S)) (taps_first taps_now : T) (end : End) : Type 0 where
   pub calls : List Call
   pub taps : Adds stands taps_first taps_now calls
@@ -136,8 +131,8 @@ pub record RoundsStopped {S T : Type 0} (held name : S → Option (List ℕ)) (f
   pub clock : ℕ
   pub below : clock < length first
   pub turn : AreTurnsUpto setting (length first) (round * length first + clock) calls
-  pub part : HaveRunPart held name faults appends (world setting calls) (ticks_by ticks round clock) (ticks_by ticks round (clock + 1)) first now
-  pub cause : (end ≡ NoMemory) ⊎ IsWriteEnd faults clock first now end
+  pub part : HaveRunPart told (world setting calls) (ticks_by ticks round clock) (ticks_by ticks round (clock + 1)) first now
+  pub cause : (end ≡ NoMemory) ⊎ IsWriteEnd told clock first now end
 
 -- no engine keeps its marks
 pub record KeepNone {S : Type 0} (engines : List (ClockEngine S)) : Type 0 where

@@ -1,14 +1,13 @@
 -- Whole runs over buffers that are lists, and their records.
 use Rattle.std.specs.Prelude.{◌≡◌, ◌+◌, ℕ, count_by, is_none, is_some, Option, Some, List, length, map, slice_get}
 use Rattle.std.specs.List.{flat_map}
-use Rattle.liq_base.specs.Pieces.{grown}
+use Rattle.liq_base.specs.Pieces.{SinkTold, grown}
 use Rattle.plan_core.specs.declared.plan.Plan.{Plan}
 use Rattle.plan_core.specs.Plans.{IsWellFormed}
 use Rattle.frame_core.specs.Calls.{Answer}
 use Rattle.stream_meaning.specs.Instants.{Setting, with_rest}
 use Rattle.stream_meaning.specs.Sinks.{ticks_bytes, IsOutput}
 use Rattle.run_records.specs.Records.{AreRoundsBegun, IsRounds, Run, Window, setting_in, setting_then}
-use Rattle.clock_outputs.specs.Appends.{AreKept, NoneFell}
 use Rattle.clock_ticks.specs.declared.engine.ClockEngine.{ClockEngine}
 use Rattle.clock_ticks.specs.Engines.{EngineStands, held_of, setting_of}
 use Rattle.clock_ticks.specs.Pieces.{GotPieces}
@@ -16,19 +15,19 @@ use Rattle.buffer_ends.specs.Local.{Answers}
 use Rattle.buffer_ends.specs.declared.counts.Counts.{Counts}
 use Rattle.buffer_ends.specs.declared.run_end.End.{End}
 use Rattle.buffer_ends.specs.declared.run_end.End.TheVariants.{Write}
-use Rattle.buffer_sides.specs.Logs.{told}
+use Rattle.buffer_sides.specs.Logs.{told as told_of}
 use Rattle.rounds_run.specs.Rounds.{AreEngines, HaveRunPart, IsWriteEnd, ticks_by}
 
 -- the engines of a run, one per clock, in clock order, over this plan with its files, clocks and start
-pub record AreOver {S : Type 0} (room : S → Option ℕ) (plan : Plan) (ticks : ℕ) (setting : Setting) (engines : List (ClockEngine S)) : Type 0 where
+pub record AreOver {S : Type 0} (told : S → SinkTold) (plan : Plan) (ticks : ℕ) (setting : Setting) (engines : List (ClockEngine S)) : Type 0 where
   pub plan_is : setting.plan ≡ plan
   pub well : IsWellFormed plan
-  pub are : AreEngines room ticks setting engines
+  pub are : AreEngines told ticks setting engines
 
 -- an engine has gone from `old` to `new` by so many ticks, none of them with a fault, in this setting: it has taken the answers of the
--- buffers that it reads; each output holds its bytes of these ticks more, and its sink got a piece for each of them; no count of faults
--- fell, and its sinks are those that they were, by their names; and it keeps its marks if it did
-pub record HasRunTicks {S : Type 0} (held name : S → Option (List ℕ)) (faults : S → ℕ) (appends : S → Option ℕ) (setting : Setting) (ticks : ℕ) (old new : ClockEngine S) : Type 0 where
+-- buffers that it reads; each output holds its bytes of these ticks more, and its sink got a piece for each of them; and it keeps its marks
+-- if it did
+pub record HasRunTicks {S : Type 0} (told : S → SinkTold) (setting : Setting) (ticks : ℕ) (old new : ClockEngine S) : Type 0 where
   pub over : setting_of new.parts ≡ setting_of old.parts
   pub clock : new.parts.clock ≡ old.parts.clock
   pub keeping : new.parts.cues.keeping ≡ old.parts.cues.keeping
@@ -36,16 +35,14 @@ pub record HasRunTicks {S : Type 0} (held name : S → Option (List ℕ)) (fault
   pub rest : ℕ → List Answer
   pub given : with_rest (setting_of old.parts) answers rest ≡ setting
   pub stands : EngineStands new.parts ticks answers
-  pub grew : (sink node : ℕ) (output : IsOutput (setting_of old.parts) old.parts.clock sink node) → held_of held new sink ≡ grown (ticks_bytes setting output.wide node ticks) (held_of held old sink)
-  pub pieces : GotPieces appends ticks old.outs new.outs
-  pub none_fell : NoneFell faults old.outs new.outs
+  pub grew : (sink node : ℕ) (output : IsOutput (setting_of old.parts) old.parts.clock sink node) → held_of told new sink ≡ grown (ticks_bytes setting output.wide node ticks) (held_of told old sink)
+  pub pieces : GotPieces told ticks old.outs new.outs
   pub outs : length new.outs ≡ length old.outs
-  pub kept : AreKept name faults old.outs new.outs
 
 -- each engine has run so many ticks in this setting
-pub record HaveRunTicks {S : Type 0} (held name : S → Option (List ℕ)) (faults : S → ℕ) (appends : S → Option ℕ) (setting : Setting) (ticks : ℕ) (old new : List (ClockEngine S)) : Type 0 where
+pub record HaveRunTicks {S : Type 0} (told : S → SinkTold) (setting : Setting) (ticks : ℕ) (old new : List (ClockEngine S)) : Type 0 where
   pub size : length new ≡ length old
-  pub each : (k : ℕ) (before after : ClockEngine S) → slice_get old k ≡ Some before → slice_get new k ≡ Some after → HasRunTicks held name faults appends setting ticks before after
+  pub each : (k : ℕ) (before after : ClockEngine S) → slice_get old k ≡ Some before → slice_get new k ≡ Some after → HasRunTicks told setting ticks before after
 
 -- how many puts of these windows were accepted and how many found the buffer full, and how many takes got a chunk and how many found
 -- it empty
@@ -62,23 +59,23 @@ abbrev pub counts_of_run : Run → List Counts
 counts_of_run run = map counts_of_windows run.buffers
 
 abbrev pub logs_of_run : Run → List (List Answers)
-logs_of_run run = map (λ windows. map told windows) run.buffers
+logs_of_run run = map (λ windows. map told_of windows) run.buffers
 
 -- All rounds were made, and this is their record: each engine has run all its ticks, given what the record's takes got, and the counts
 -- and logs are the record's.
-pub record HasRunAll {S : Type 0} (held name : S → Option (List ℕ)) (faults : S → ℕ) (appends : S → Option ℕ) (setting : Setting) (ticks : ℕ)
+pub record HasRunAll {S : Type 0} (told : S → SinkTold) (setting : Setting) (ticks : ℕ)
     (first now : List (ClockEngine S)) (counts : List Counts) (logs : List (List Answers)) : Type 0 where
   pub run : Run
   pub rounds : IsRounds setting (length first) ticks run
-  pub engines : HaveRunTicks held name faults appends (setting_in setting run) ticks first now
+  pub engines : HaveRunTicks told (setting_in setting run) ticks first now
   pub counts_are : counts ≡ counts_of_run run
   pub logs_are : logs ≡ logs_of_run run
 
 -- The rounds came so far, and this is their record: in the turn that it names, of a clock in a round, where the clocks below it have made
 -- their tick of this round, those above it have not, and it has made at most a part of it. A write that ended the run is one of this
 -- clock.
-pub record HasRunSome {S : Type 0} (held name : S → Option (List ℕ)) (faults : S → ℕ) (appends : S → Option ℕ) (setting : Setting) (ticks : ℕ) (first now : List (ClockEngine S)) (end : End) : Type 0 where
+pub record HasRunSome {S : Type 0} (told : S → SinkTold) (setting : Setting) (ticks : ℕ) (first now : List (ClockEngine S)) (end : End) : Type 0 where
   pub run : Run
   pub begun : AreRoundsBegun setting (length first) ticks run
-  pub part : HaveRunPart held name faults appends (setting_then setting run) (ticks_by ticks begun.round begun.clock) (ticks_by ticks begun.round (begun.clock + 1)) first now
-  pub write : (failed sink : ℕ) → end ≡ Write failed sink → IsWriteEnd faults begun.clock first now end
+  pub part : HaveRunPart told (setting_then setting run) (ticks_by ticks begun.round begun.clock) (ticks_by ticks begun.round (begun.clock + 1)) first now
+  pub write : (failed sink : ℕ) → end ≡ Write failed sink → IsWriteEnd told begun.clock first now end

@@ -30,13 +30,13 @@ pub fn make_rounds<O: Sink, T: Taps>(
     taps: &mut T,
     ticks: u64,
 ) -> Result<(), End>
-    requires engines { (setting : Setting) × AreEngines O.room ticks setting engines.old }
+    requires engines { (setting : Setting) × AreEngines O.told ticks setting engines.old }
     requires few { ticks ≤ 1000000000 }
     requires buffers { HaveBuffers (T.buffers taps.old) engines.old }
-    ensures done { OnOk result ((setting : Setting) → AreEngines O.room ticks setting engines.old
-        → RoundsMade O.held O.name O.faults O.appends T.stands setting ticks (ticks * length engines.old) engines.old engines.new taps.old taps.new) }
-    ensures stopped { IfErr result (λ end. (setting : Setting) → AreEngines O.room ticks setting engines.old
-        → RoundsStopped O.held O.name O.faults O.appends T.stands setting ticks (ticks * length engines.old) engines.old engines.new taps.old taps.new end) }
+    ensures done { OnOk result ((setting : Setting) → AreEngines O.told ticks setting engines.old
+        → RoundsMade O.told T.stands setting ticks (ticks * length engines.old) engines.old engines.new taps.old taps.new) }
+    ensures stopped { IfErr result (λ end. (setting : Setting) → AreEngines O.told ticks setting engines.old
+        → RoundsStopped O.told T.stands setting ticks (ticks * length engines.old) engines.old engines.new taps.old taps.new end) }
     ensures memory { KeepNone engines.old → IfErr result (λ end. end ≡ NoMemory → 0 < T.buffers taps.old) }
     ensures buffers { T.buffers taps.new ≡ T.buffers taps.old }
     ensures same { T.same taps.old taps.new }

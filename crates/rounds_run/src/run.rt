@@ -22,12 +22,12 @@ pub fn run_rounds<O: Sink>(
     engines: &mut [ClockEngine<'_, O>],
     ticks: u64,
 ) -> RunEnd
-    requires engines { (setting : Setting) × AreOver O.room plan.now ticks setting engines.old }
+    requires engines { (setting : Setting) × AreOver O.told plan.now ticks setting engines.old }
     requires few { ticks ≤ 1000000000 }
-    ensures done { result.end ≡ Done → (setting : Setting) → AreOver O.room plan.now ticks setting engines.old
-        → HasRunAll O.held O.name O.faults O.appends setting ticks engines.old engines.new result.counts.items result.logs.items }
-    ensures part { (setting : Setting) → AreOver O.room plan.now ticks setting engines.old
-        → HasRunSome O.held O.name O.faults O.appends setting ticks engines.old engines.new result.end }
+    ensures done { result.end ≡ Done → (setting : Setting) → AreOver O.told plan.now ticks setting engines.old
+        → HasRunAll O.told setting ticks engines.old engines.new result.counts.items result.logs.items }
+    ensures part { (setting : Setting) → AreOver O.told plan.now ticks setting engines.old
+        → HasRunSome O.told setting ticks engines.old engines.new result.end }
     ensures memory { KeepNone engines.old → result.end ≡ NoMemory → 0 < length plan.now.buffers }
 {
     let Ok(mut taps) = LocalTaps::new(alloc, plan) else {

@@ -20,12 +20,12 @@ use Rattle.frame_core.specs.Calls.{Call, takes_of, puts_to}
 use Rattle.stream_meaning.specs.Instants.{Setting, answered}
 use Rattle.stream_meaning.specs.Calls.{joined_upto}
 use Rattle.stream_meaning.specs.Settings.{IsSetting}
-use Rattle.stream_meaning.specs.Sinks.{ticks_bytes, gaps}
+use Rattle.stream_meaning.specs.Sinks.{cues, gaps, ticks_bytes}
 use Rattle.run_records.specs.Buffers.{feeder, reader}
 use Rattle.frame_core.specs.declared.cell.Cell.{Cell}
 use Rattle.frame_core.specs.Legal.{IsHistory}
 use Rattle.std.proofs.lemmas.Bool.{cases_lt}
-use Rattle.run_records.specs.Records.{Window, Run, windows_of, setting_in, capacity_of, on, Follows, rounds_of, IsRounds, calls_in, IsLawful, answers_of}
+use Rattle.run_records.specs.Records.{Window, Run, windows_of, setting_in, capacity_of, on, Follows, rounds_of, IsRounds, calls_in, AreWindows, answers_of}
 use Rattle.run_records.proofs.Running.{rounds_in, own_in, rests_in}
 use Rattle.run_records.proofs.Resting.{feeder_takes_none, none_joined, reader_takes_none, windows_follow}
 use Rattle.run_records.specs.Rounds.{as_one, merged, HasNoJoin, IsAsOnOneThread}
@@ -39,7 +39,7 @@ long_map f (x ∷ xs) = ap suc (long_map f xs)
 pub merged_setting : (setting : Setting) (run : Run) → setting_in setting (merged run) ≡ setting_in setting run
 merged_setting setting run = ap (answered setting) (fun_ext (merged_answers run))
 
-pub lawful_rounds : (setting : Setting) (clock_map : ClockMap) → IsSetting setting clock_map → (clocks W N : ℕ) (run : Run) → HasNoJoin setting clocks → ((b : ℕ) → b < length setting.plan.buffers → feeder setting b < clocks) → IsLawful setting clocks W N run → IsRounds setting clocks N (merged run)
+pub lawful_rounds : (setting : Setting) (clock_map : ClockMap) → IsSetting setting clock_map → (clocks W N : ℕ) (run : Run) → HasNoJoin setting clocks → ((b : ℕ) → b < length setting.plan.buffers → feeder setting b < clocks) → AreWindows setting clocks W N run → IsRounds setting clocks N (merged run)
 lawful_rounds setting clock_map is clocks W N run local runs lawful = record {
   buffers = long_map as_one run.buffers ∙ lawful.buffers;
   accepted = lawful.accepted;
@@ -114,17 +114,18 @@ feeder_runs setting clock_map is b less =
     let main : feeder setting b ≡ runs.0 = ap (main_of setting) source ∙ ap (main_within setting (length setting.plan.nodes)) place in
     let run = runs.1 in omega (arith, main, run)
 
-pub lawful_is_rounds : (setting : Setting) (clock_map : ClockMap) → IsSetting setting clock_map → (W N : ℕ) (run : Run) → HasNoJoin setting clock_map.running → IsLawful setting clock_map.running W N run
+pub lawful_is_rounds : (setting : Setting) (clock_map : ClockMap) → IsSetting setting clock_map → (W N : ℕ) (run : Run) → HasNoJoin setting clock_map.running → AreWindows setting clock_map.running W N run
     → IsRounds setting clock_map.running N (merged run)
 lawful_is_rounds setting clock_map is W N run local lawful = lawful_rounds setting clock_map is clock_map.running W N run local (feeder_runs setting clock_map is) lawful
 
 -- the bytes of threads are those of one thread where no buffer joins two clocks
-pub as_on_one_thread : (setting : Setting) (clock_map : ClockMap) → IsSetting setting clock_map → (W N : ℕ) (run other : Run) → HasNoJoin setting clock_map.running → IsLawful setting clock_map.running W N run
+pub as_on_one_thread : (setting : Setting) (clock_map : ClockMap) → IsSetting setting clock_map → (W N : ℕ) (run other : Run) → HasNoJoin setting clock_map.running → AreWindows setting clock_map.running W N run
     → IsRounds setting clock_map.running N other → IsAsOnOneThread setting run other
 as_on_one_thread setting clock_map is W N run other local lawful rounds = record {
   same_record = same;
   same_bytes = λ wide i t. ap (λ (s : Setting). ticks_bytes s wide i t) settings;
   same_gaps = λ i t. ap (λ (s : Setting). gaps s i t) settings;
+  same_cues = λ i t. ap (λ (s : Setting). cues s i t) settings;
 }
   where
     same : merged run ≡ other

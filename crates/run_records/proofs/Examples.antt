@@ -15,7 +15,7 @@ use Rattle.run_records.specs.Pace.{IsDrawn, KeepPace, has_none}
 use Rattle.run_records.specs.Heard.{HasRoom, IsHeard}
 use Rattle.run_records.proofs.Sunk.{sink_is_drawn}
 use Rattle.run_records.specs.Buffers.{feeder, reader}
-use Rattle.run_records.specs.Records.{AreWindowsBegun, Run, IsLawful, IsRounds, rounds_of, Window, Follows, windows_of, setting_in, capacity_of, on, start, calls_in, windows_in}
+use Rattle.run_records.specs.Records.{AreWindowsBegun, Run, AreWindows, IsRounds, rounds_of, Window, Follows, windows_of, setting_in, capacity_of, on, start, calls_in, windows_in}
 use Rattle.run_records.specs.Parting.{ArePart}
 use Rattle.run_records.specs.Ordered.{HasSameText, told, made, got_by, kept_by, IsOrdered}
 
@@ -46,7 +46,7 @@ abbrev first_only : (m t buffer : ℕ) → Bool
 first_only m zero buffer = true
 first_only m (suc t) buffer = false
 
-filled_is_lawful : IsLawful unread 1 2 2 filled
+filled_is_lawful : AreWindows unread 1 2 2 filled
 filled_is_lawful = record {
   buffers = refl;
   accepted = first_only;
@@ -67,7 +67,7 @@ joined = setting (node (Single []) [] ∷ node (Buffer 0) [] ∷ []) (Feed 0 0 �
 abbrev late : Run
 late = record { buffers = ((Some one ∷ None ∷ [], None ∷ Some one ∷ []) ∷ []) ∷ [] }
 
-late_is_lawful : IsLawful joined 2 2 2 late
+late_is_lawful : AreWindows joined 2 2 2 late
 late_is_lawful = record {
   buffers = refl;
   accepted = first_only;
@@ -106,7 +106,7 @@ rounds_are = record {
       (two ∷ [], (refl, (omega arith, ([], refl, (omega arith, refl)))));
 }
 
-windows_are : IsLawful alone 1 1 2 windows
+windows_are : AreWindows alone 1 1 2 windows
 windows_are = record {
   buffers = refl;
   accepted = all;
@@ -189,7 +189,7 @@ once : (chunk : List Cell) → (b : ℕ) → b < 2 → (rest : List (List Cell))
 once chunk = two_alone (λ b. (rest : List (List Cell)) × IsHistory (capacity_of ring b) [] (windows_of (turning chunk) b) rest)
     ([], ([], Legal.accepted (omega arith) (Legal.got Legal.ended), refl)) ([], ([], Legal.accepted (omega arith) (Legal.got Legal.ended), refl))
 
-turns : (chunk : List Cell) → ((b : ℕ) → b < 2 → windows_of (turning chunk) b ≡ windows_in (setting_in ring (turning chunk)) 2 first_only b 1 1 1) → IsLawful ring 2 1 1 (turning chunk)
+turns : (chunk : List Cell) → ((b : ℕ) → b < 2 → windows_of (turning chunk) b ≡ windows_in (setting_in ring (turning chunk)) 2 first_only b 1 1 1) → AreWindows ring 2 1 1 (turning chunk)
 turns chunk are = record {
   buffers = refl;
   accepted = first_only;
@@ -202,10 +202,10 @@ turns chunk are = record {
       (λ e. zero_one e) (λ e. zero_one (sym e));
 }
 
-turns_one : IsLawful ring 2 1 1 (turning one)
+turns_one : AreWindows ring 2 1 1 (turning one)
 turns_one = turns one (two_alone (λ b. windows_of (turning one) b ≡ windows_in (setting_in ring (turning one)) 2 first_only b 1 1 1) refl refl)
 
-turns_other : IsLawful ring 2 1 1 (turning other)
+turns_other : AreWindows ring 2 1 1 (turning other)
 turns_other = turns other (two_alone (λ b. windows_of (turning other) b ≡ windows_in (setting_in ring (turning other)) 2 first_only b 1 1 1) refl refl)
 
 same_text : HasSameText ring (turning one) (turning other)

@@ -20,7 +20,7 @@ use Rattle.run_records.proofs.Ticking.{is_answered, reads_op}
 use Rattle.run_records.specs.Buffers.{feeder, reader}
 use Rattle.run_records.specs.Heard.{HasRoom, IsHeard, prefill_ticks}
 use Rattle.run_records.specs.Pace.{AreSmall, AreTicks, IsDrawn, KeepPace, has_none}
-use Rattle.run_records.specs.Records.{AreWindowsBegun, IsLawful, Run, Window, answers_of, calls_in, capacity_of, puts_of, setting_then, start, windows_in, windows_of}
+use Rattle.run_records.specs.Records.{AreWindows, AreWindowsBegun, Run, Window, answers_of, calls_in, capacity_of, puts_of, setting_then, start, windows_in, windows_of}
 use Rattle.run_records.proofs.Flattening.{all_puts, flat_snoc, puts-append}
 use Rattle.run_records.proofs.Heard.{heard_is_drawn, heard_runs, heard_with}
 use Rattle.run_records.proofs.Owing.{windows_keep_pace}
@@ -93,7 +93,7 @@ module _ (setting : Setting) (clocks : ClockMap) (is : IsSetting setting clocks)
   drawn : (answers : ℕ → List Answer) → IsDrawn (answered setting answers) b m i reads.0
   drawn answers = heard_is_drawn (answered setting answers) clocks (is_answered setting clocks is answers) m b above i reads.0 reads.1 reads.2 (heard_with setting answers m above i heard)
 
-  lawful_none : IsLawful setting clocks.running W N run → has_none (puts_of run b) ≡ false
+  lawful_none : AreWindows setting clocks.running W N run → has_none (puts_of run b) ≡ false
   lawful_none lawful = roomy_buffers_refuse_nothing setting clocks is W N D b m i reads.0 run lawful known (drawn (answers_of run)) runs low wide
 
   module _ (begun : AreWindowsBegun setting clocks.running W N run) where
@@ -169,7 +169,7 @@ module _ (setting : Setting) (clocks : ClockMap) (is : IsSetting setting clocks)
         (then_none (capacity_of setting b) W D wide closed last legal.0 pace few (subst (λ (l : List Window). IsHistory (capacity_of setting b) [] l legal.0) windows legal.1)))
 
 pub heard_buffers_refuse_nothing : (setting : Setting) (clocks : ClockMap) → IsSetting setting clocks → (W N buffer m : ℕ) (above : List ℕ) (i : ℕ) (run : Run) → ReadsBuffer setting.plan buffer i
-    → IsHeard setting m above i → HasRoom setting W buffer → IsLawful setting clocks.running W N run → count_by is_none (puts_of run buffer) ≡ 0
+    → IsHeard setting m above i → HasRoom setting W buffer → AreWindows setting clocks.running W N run → count_by is_none (puts_of run buffer) ≡ 0
 heard_buffers_refuse_nothing setting clocks is W N buffer m above i run reads heard fits lawful = none_counted (puts_of run buffer) (lawful_none setting clocks is W N buffer m above i run reads heard fits lawful)
 
 pub broken_windows_refuse_nothing : (setting : Setting) (clocks : ClockMap) → IsSetting setting clocks → (W N buffer m : ℕ) (above : List ℕ) (i : ℕ) (run : Run) → ReadsBuffer setting.plan buffer i

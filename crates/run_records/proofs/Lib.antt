@@ -13,6 +13,10 @@ pub mod Running
 pub mod Flattening
 pub mod Resting
 pub mod Alone
+pub mod OneWindow
+pub mod Gotten
+pub mod Gaining
+pub mod OneThread
 pub mod Beginning
 pub mod Replaying
 pub mod Pace

@@ -12,7 +12,7 @@ use Rattle.stream_meaning.specs.Instants.{Setting}
 use Rattle.stream_meaning.specs.Calls.{joined_upto, joined_between}
 use Rattle.stream_meaning.specs.Settings.{IsSetting}
 use Rattle.run_records.specs.Buffers.{feeder, reader}
-use Rattle.run_records.specs.Records.{Window, Run, windows_of, setting_in, start, ticks_of, calls_in, windows_in, IsLawful, answers_of, puts_of}
+use Rattle.run_records.specs.Records.{Window, Run, windows_of, setting_in, start, ticks_of, calls_in, windows_in, AreWindows, answers_of, puts_of}
 use Rattle.run_records.proofs.Running.{runs_in, rests_in, own_in}
 use Rattle.run_records.proofs.Alone.{feeder_runs}
 use Rattle.run_records.specs.Parting.{Differ, Goes}
@@ -77,14 +77,14 @@ puts_cons : (b : ℕ) (chunk : List Cell) (accepted : Bool) (calls : List Call) 
 puts_cons b chunk accepted calls = ap (λ (t : Bool). cond t (put_of chunk accepted ∷ puts_to b calls) (puts_to b calls)) (equal_self b)
 
 -- the take at a place of tick t, among those of this tick and of all ticks
-takes_now : (b : ℕ) (calls : ℕ → List Call) (t : ℕ) (front behind : List Call) (answer : Answer) → calls t ≡ front ++ Took b answer ∷ behind
+pub takes_now : (b : ℕ) (calls : ℕ → List Call) (t : ℕ) (front behind : List Call) (answer : Answer) → calls t ≡ front ++ Took b answer ∷ behind
     → takes_of b (joined_upto calls (suc t)) ≡ (takes_of b (joined_upto calls t) ++ takes_of b front) ++ answer ∷ takes_of b behind
 takes_now b calls t front behind answer e =
     takes-append b (joined_upto calls t) (calls t) ∙ ap (λ (l : List Call). takes_of b (joined_upto calls t) ++ takes_of b l) e
     ∙ ap (λ (l : List Answer). takes_of b (joined_upto calls t) ++ l) (takes-append b front (Took b answer ∷ behind) ∙ ap (λ (l : List Answer). takes_of b front ++ l) (takes_cons b answer behind))
     ∙ sym (append_assoc (takes_of b (joined_upto calls t)) (takes_of b front) (answer ∷ takes_of b behind))
 
-takes_all : (b : ℕ) (calls : ℕ → List Call) (t N : ℕ) (front behind : List Call) (answer : Answer) → t < N → calls t ≡ front ++ Took b answer ∷ behind
+pub takes_all : (b : ℕ) (calls : ℕ → List Call) (t N : ℕ) (front behind : List Call) (answer : Answer) → t < N → calls t ≡ front ++ Took b answer ∷ behind
     → (rest : List Answer) × (takes_of b (joined_upto calls N) ≡ (takes_of b (joined_upto calls t) ++ takes_of b front) ++ answer ∷ rest)
 takes_all b calls t N front behind answer low e =
     let more = joined_first calls (suc t) N low in (
@@ -143,7 +143,7 @@ pub record AreMade (setting : Setting) (clocks : ℕ) (run other : Run) (first s
   pub alike : IsTickAlike setting (answers_of run) (answers_of other) m n
 
 -- the puts and takes of a lawful record
-module _ (setting : Setting) (clocks W N : ℕ) (run : Run) (lawful : IsLawful setting clocks W N run) (b : ℕ) (less : b < length setting.plan.buffers) where
+module _ (setting : Setting) (clocks W N : ℕ) (run : Run) (lawful : AreWindows setting clocks W N run) (b : ℕ) (less : b < length setting.plan.buffers) where
   lawful_takes : answers_of run b ≡ takes_of b (joined_upto (calls_in (setting_in setting run) clocks lawful.accepted (reader setting b)) N)
   lawful_takes =
       ap (flat_map (λ (w : Window). w.1)) (lawful.are b less) ∙ all_takes (setting_in setting run) clocks lawful.accepted b W N lawful.count
@@ -175,7 +175,7 @@ told_long [] = refl
 told_long (w ∷ windows) = ap suc (told_long windows)
 
 module _ (setting : Setting) (clock_map : ClockMap) (is : IsSetting setting clock_map) (W N : ℕ) (run other : Run)
-    (one : IsLawful setting clock_map.running W N run) (two : IsLawful setting clock_map.running W N other) (text : HasSameText setting run other) (ordered : IsOrdered (setting_in setting run) clock_map.running one.accepted N) where
+    (one : AreWindows setting clock_map.running W N run) (two : AreWindows setting clock_map.running W N other) (text : HasSameText setting run other) (ordered : IsOrdered (setting_in setting run) clock_map.running one.accepted N) where
   abbrev calls : ℕ → ℕ → List Call
   calls m t = calls_in (setting_in setting run) clock_map.running one.accepted m t
 
@@ -340,6 +340,6 @@ module _ (setting : Setting) (clock_map : ClockMap) (is : IsSetting setting cloc
           let less : b < length setting.plan.buffers = (let size = one.buffers in omega (arith, low, size)) in
           one.are b less ∙ windows_same b less one.count ∙ ap (windows_in (setting_in setting other) clock_map.running two.accepted b W N) (same_count b less) ∙ sym (two.are b less))
 
-pub text_is_whole : (setting : Setting) (clock_map : ClockMap) → IsSetting setting clock_map → (W N : ℕ) (run other : Run) (one : IsLawful setting clock_map.running W N run)
-    → IsLawful setting clock_map.running W N other → HasSameText setting run other → IsOrdered (setting_in setting run) clock_map.running one.accepted N → run ≡ other
+pub text_is_whole : (setting : Setting) (clock_map : ClockMap) → IsSetting setting clock_map → (W N : ℕ) (run other : Run) (one : AreWindows setting clock_map.running W N run)
+    → AreWindows setting clock_map.running W N other → HasSameText setting run other → IsOrdered (setting_in setting run) clock_map.running one.accepted N → run ≡ other
 text_is_whole setting clock_map is W N run other one two text ordered = same_records setting clock_map is W N run other one two text ordered

@@ -8,7 +8,7 @@ use Rattle.stream_meaning.specs.Settings.{IsSetting}
 use Rattle.stream_meaning.specs.Instants.{Setting, prefill, new_reading, work_at}
 use Rattle.run_records.proofs.Ticking.{reads_op}
 use Rattle.run_records.specs.Buffers.{feeder}
-use Rattle.run_records.specs.Records.{Run, Window, IsLawful, windows_of, answers_of, puts_of, capacity_of, setting_in, start}
+use Rattle.run_records.specs.Records.{Run, Window, AreWindows, windows_of, answers_of, puts_of, capacity_of, setting_in, start}
 use Rattle.run_records.specs.Pace.{has_none, AreSmall, AreTicks, IsDrawn}
 use Rattle.run_records.proofs.Flattening.{all_puts}
 use Rattle.run_records.proofs.Pace.{paced_windows_refuse_nothing}
@@ -16,7 +16,7 @@ use Rattle.run_records.proofs.Owing.{windows_keep_pace}
 use Rattle.run_records.proofs.Paced.{drawn_ticks}
 use Rattle.run_records.proofs.Short.{from_empty, upto_small}
 
-module _ (setting : Setting) (clocks : ClockMap) (is : IsSetting setting clocks) (W N D b m i : ℕ) (node : Node) (run : Run) (lawful : IsLawful setting clocks.running W N run)
+module _ (setting : Setting) (clocks : ClockMap) (is : IsSetting setting clocks) (W N D b m i : ℕ) (node : Node) (run : Run) (lawful : AreWindows setting clocks.running W N run)
     (less : b < length setting.plan.buffers) (drawn : IsDrawn (setting_in setting run) b m i node) (runs : m < clocks.running) where
   only : (k : ℕ) (other : Node) → slice_get setting.plan.nodes k ≡ Some other → work_at setting k other ≡ Reads b → k ≡ i
   only k other at does =
@@ -49,7 +49,7 @@ module _ (setting : Setting) (clocks : ClockMap) (is : IsSetting setting clocks)
       (record { some = is.plan.frame.0; held = held; low = low; small = small }) D (omega arith, inr (refl, held, refl)) ticks)
       whole.1
 
-pub roomy_buffers_refuse_nothing : (setting : Setting) (clocks : ClockMap) → IsSetting setting clocks → (W N D buffer m i : ℕ) (node : Node) (run : Run) → IsLawful setting clocks.running W N run
+pub roomy_buffers_refuse_nothing : (setting : Setting) (clocks : ClockMap) → IsSetting setting clocks → (W N D buffer m i : ℕ) (node : Node) (run : Run) → AreWindows setting clocks.running W N run
     → buffer < length setting.plan.buffers → IsDrawn (setting_in setting run) buffer m i node → m < clocks.running
     → max 1 (prefill setting buffer) ≤ suc D * setting.plan.frame → W + W + D ≤ capacity_of setting buffer → has_none (puts_of run buffer) ≡ false
 roomy_buffers_refuse_nothing setting clocks is W N D buffer m i node run lawful less drawn runs low wide = refuses_nothing setting clocks is W N D buffer m i node run lawful less drawn runs low wide

@@ -1,5 +1,5 @@
 -- The record of a run: what its buffers answered. It is lawful, or that of rounds on one thread.
-use Rattle.std.specs.Prelude.{◌≡◌, ◌<◌, ◌≤◌, ◌*◌, ℕ, zero, suc, min, Bool, true, false, Option, Some, None, List, [], ◌∷◌, ◌++◌, length, slice_get, slice_index_or, nat_eq, nat_lt, if◌then◌else◌}
+use Rattle.std.specs.Prelude.{◌≡◌, ◌⊎◌, ◌<◌, ◌≤◌, ◌*◌, ℕ, zero, suc, min, Bool, true, false, Option, Some, None, List, [], ◌∷◌, ◌++◌, length, slice_get, slice_index_or, nat_eq, nat_lt, if◌then◌else◌}
 use Rattle.std.specs.List.{flat_map}
 use Rattle.std.specs.Option.{option_map_or}
 use Rattle.frame_core.specs.declared.cell.Cell.{Cell}
@@ -80,7 +80,7 @@ windows_in setting clocks accepted buffer W N (suc j) =
 -- A lawful record of N ticks of each running clock in windows of W ticks: each buffer's windows hold the puts and the takes of
 -- these ticks and are one history of a bounded queue; those of a buffer with both ends in one clock stand in the order in which
 -- this clock calls.
-pub record IsLawful (setting : Setting) (clocks W N : ℕ) (run : Run) : Type 0 where
+pub record AreWindows (setting : Setting) (clocks W N : ℕ) (run : Run) : Type 0 where
   pub buffers : length run.buffers ≡ length setting.plan.buffers
   pub accepted : (m t buffer : ℕ) → Bool
   pub count : ℕ
@@ -138,9 +138,10 @@ pub record IsWithin (s e made tried : ℕ) : Type 0 where
   pub one_more : tried ≤ suc made
 
 -- The record of a run in windows that was broken off: so many windows were closed, and each clock made so many ticks, tried at most one
--- more, in which it stopped, and is not past the next window; those that did not stop made as many, and where one stopped, they ended this window. Since the last closing it made these calls: those of the ticks that it made,
--- and a beginning of those of the one in which it stopped, whatever answers follow. All windows of a buffer, the open one too, are one
--- history; and the calls on a buffer with both ends in one clock stand in the order in which this clock makes them.
+-- more, in which it stopped, and is not past the next window; those that did not stop made as many, and where one stopped, they ended this
+-- window; where none stopped, each stands at its border. Since the last closing it made these calls: those of the ticks that it made, and a
+-- beginning of those of the one in which it stopped, whatever answers follow. All windows of a buffer, the open one too, are one history;
+-- and the calls on a buffer with both ends in one clock stand in the order in which this clock makes them.
 pub record AreWindowsBegun (setting : Setting) (clocks W N : ℕ) (run : Run) : Type 0 where
   pub buffers : length run.buffers ≡ length setting.plan.buffers
   pub accepted : (m t buffer : ℕ) → Bool
@@ -151,6 +152,7 @@ pub record AreWindowsBegun (setting : Setting) (clocks W N : ℕ) (run : Run) : 
   pub within : (m : ℕ) → IsWithin (start W N closed) (start W N (suc closed)) (made m) (tried m)
   pub level : (m n : ℕ) → m < clocks → n < clocks → tried m ≡ made m → tried n ≡ made n → made m ≡ made n
   pub ended : (m n : ℕ) → m < clocks → tried n ≡ suc (made n) → tried m ≡ made m → made m ≡ start W N (suc closed)
+  pub border : ((m : ℕ) → m < clocks → tried m ≡ made m) → (m : ℕ) → m < clocks → (made m ≡ start W N closed) ⊎ (made m ≡ start W N (suc closed))
   pub whole : (rest : ℕ → List Answer) (m : ℕ)
       → IsBegin (joined_between (calls_in (setting_then setting run rest) clocks accepted m) (start W N closed) (made m)) (since m)
   pub begun : (rest : ℕ → List Answer) (m : ℕ)

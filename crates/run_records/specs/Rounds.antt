@@ -2,7 +2,7 @@
 use Rattle.std.specs.Prelude.{◌≡◌, ◌⊎◌, ◌<◌, ◌≤◌, ℕ, Bool, List, [], ◌∷◌, length, map}
 use Rattle.std.specs.List.{flat_map}
 use Rattle.stream_meaning.specs.Instants.{Setting}
-use Rattle.stream_meaning.specs.Sinks.{ticks_bytes, gaps}
+use Rattle.stream_meaning.specs.Sinks.{cues, gaps, ticks_bytes}
 use Rattle.run_records.specs.Buffers.{feeder, reader}
 use Rattle.frame_core.specs.Calls.{Answer}
 use Rattle.run_records.specs.Records.{Window, Run, setting_in, setting_then}
@@ -18,12 +18,13 @@ merged run = record { buffers = map as_one run.buffers }
 abbrev pub HasNoJoin : Setting → (clocks : ℕ) → Type 0
 HasNoJoin setting clocks = (buffer : ℕ) → buffer < length setting.plan.buffers → (feeder setting buffer ≡ reader setting buffer) ⊎ (clocks ≤ reader setting buffer)
 
--- A run is that of one thread: its answers, in one window a buffer, are that record, and the bytes and the gaps of each node are
--- the same.
+-- A run is that of one thread: its answers, in one window a buffer, are that record, and the bytes, the gaps and the cues of each node
+-- are the same.
 pub record IsAsOnOneThread (setting : Setting) (run one_thread : Run) : Type 0 where
   pub same_record : merged run ≡ one_thread
   pub same_bytes : (wide : Bool) (i t : ℕ) → ticks_bytes (setting_in setting run) wide i t ≡ ticks_bytes (setting_in setting one_thread) wide i t
   pub same_gaps : (i t : ℕ) → gaps (setting_in setting run) i t ≡ gaps (setting_in setting one_thread) i t
+  pub same_cues : (i t : ℕ) → cues (setting_in setting run) i t ≡ cues (setting_in setting one_thread) i t
 
 -- A run that was broken off begins these rounds: with some answers behind those that it got, its takes get what theirs do. So what is
 -- said of it whatever answers follow is said of the rounds.

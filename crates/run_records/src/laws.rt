@@ -15,9 +15,10 @@ ghost use Rattle.stream_meaning.specs.Calls.{calls_of_tick};
 ghost use Rattle.run_records.specs.Buffers.{feeder};
 ghost use Rattle.run_records.specs.Heard.{HasRoom, IsHeard};
 ghost use Rattle.run_records.specs.Ordered.{HasSameText, IsOrdered};
+ghost use Rattle.run_records.specs.OneThread.{rounds_record};
 ghost use Rattle.run_records.specs.Owning.{IsOwn};
 ghost use Rattle.run_records.specs.Pace.{IsDrawn, KeepPace, has_none};
-ghost use Rattle.run_records.specs.Records.{AreRoundsBegun, AreWindowsBegun, IsLawful, IsRounds, Run, Window, capacity_of, puts_of, setting_in};
+ghost use Rattle.run_records.specs.Records.{AreRoundsBegun, AreWindows, AreWindowsBegun, IsRounds, Run, Window, capacity_of, puts_of, setting_in};
 ghost use Rattle.run_records.specs.Rounds.{BeginsRounds, HasNoJoin, IsAsOnOneThread, merged};
 
 /// The calls of a clock's first ticks are the same whatever the buffers answer, up to a call that got another answer: they
@@ -60,22 +61,34 @@ pub fn rounds_are_one()
         → IsRounds setting running N run → IsRounds setting running N other → run ≡ other }
 {}
 
+/// And they have one: that which follows from the setting, tick by tick, each take with what its buffer then holds.
+pub fn rounds_have_a_record()
+    ensures { (setting : Setting) (clocks : Map) → IsSetting setting clocks → (running N : ℕ)
+        → IsRounds setting running N (rounds_record setting running N) }
+{}
+
 /// Where no buffer joins two clocks, a lawful record is that of rounds, whatever the length of its windows.
 pub fn lawful_records_are_rounds()
     ensures { (setting : Setting) (clocks : Map) → IsSetting setting clocks → (W N : ℕ) (run : Run) → HasNoJoin setting clocks.running
-        → IsLawful setting clocks.running W N run → IsRounds setting clocks.running N (merged run) }
+        → AreWindows setting clocks.running W N run → IsRounds setting clocks.running N (merged run) }
 {}
 
-/// Where no buffer joins two clocks, threads answer, write and miss what rounds on one thread do.
+/// Rounds on one thread are one window: their record is also that of clocks in windows of as many ticks as they make, at least one.
+pub fn rounds_are_lawful()
+    ensures { (setting : Setting) (clocks : Map) → IsSetting setting clocks → (N : ℕ) (run : Run) → 0 < N
+        → IsRounds setting clocks.running N run → AreWindows setting clocks.running N N run }
+{}
+
+/// Where no buffer joins two clocks, threads answer, write and miss what rounds on one thread do, and begin tracks where they do.
 pub fn as_on_one_thread()
     ensures { (setting : Setting) (clocks : Map) → IsSetting setting clocks → (W N : ℕ) (run other : Run) → HasNoJoin setting clocks.running
-        → IsLawful setting clocks.running W N run → IsRounds setting clocks.running N other → IsAsOnOneThread setting run other }
+        → AreWindows setting clocks.running W N run → IsRounds setting clocks.running N other → IsAsOnOneThread setting run other }
 {}
 
 /// A text tells a whole record: two lawful records with the same text, of which one can be ordered, are the same.
 pub fn text_is_whole()
     ensures { (setting : Setting) (clocks : Map) → IsSetting setting clocks → (W N : ℕ) (run other : Run)
-        → (one : IsLawful setting clocks.running W N run) → IsLawful setting clocks.running W N other → HasSameText setting run other
+        → (one : AreWindows setting clocks.running W N run) → AreWindows setting clocks.running W N other → HasSameText setting run other
         → IsOrdered (setting_in setting run) clocks.running one.accepted N → run ≡ other }
 {}
 
@@ -103,7 +116,7 @@ pub fn paced_windows_refuse_nothing()
 /// D + 1 frames and its reader lies in a main clock that runs and is demanded at each instant.
 pub fn roomy_buffers_refuse_nothing()
     ensures { (setting : Setting) (clocks : Map) → IsSetting setting clocks → (W N D buffer m i : ℕ) (node : PlanNode) (run : Run)
-        → IsLawful setting clocks.running W N run → buffer < length setting.plan.buffers → IsDrawn (setting_in setting run) buffer m i node
+        → AreWindows setting clocks.running W N run → buffer < length setting.plan.buffers → IsDrawn (setting_in setting run) buffer m i node
         → m < clocks.running → max 1 (prefill setting buffer) ≤ suc D * setting.plan.frame → W + W + D ≤ capacity_of setting buffer
         → has_none (puts_of run buffer) ≡ false }
 {}
@@ -113,7 +126,7 @@ pub fn roomy_buffers_refuse_nothing()
 pub fn heard_buffers_refuse_nothing()
     ensures { (setting : Setting) (clocks : Map) → IsSetting setting clocks → (W N buffer m : ℕ) (above : List ℕ) (i : ℕ) (run : Run)
         → ReadsBuffer setting.plan buffer i → IsHeard setting m above i → HasRoom setting W buffer
-        → IsLawful setting clocks.running W N run → count_by is_none (puts_of run buffer) ≡ 0 }
+        → AreWindows setting clocks.running W N run → count_by is_none (puts_of run buffer) ≡ 0 }
 {}
 
 /// And neither does the record of a run in windows that was broken off.

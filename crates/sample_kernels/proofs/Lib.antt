@@ -6,6 +6,7 @@ pub mod Places
 pub mod Blocks
 pub mod Cuts
 pub mod Means
+pub mod Silences
 pub mod Floors
 pub mod Products
 pub mod Inverses

@@ -6,6 +6,7 @@ ghost use Rattle.sample_kernels.specs.Reciprocals.{per_sample, signed_as};
 
 use crate::loading::load_samples;
 use crate::signs::signed_as;
+use crate::silence::are_silent;
 use fixed_text::Decimal;
 use std::simd::prelude::*;
 
@@ -17,6 +18,10 @@ pub fn scale(factor: Decimal, from: &[i16], into: &mut [i16])
     requires same { length into.old ≡ length from.now }
     ensures { into.new ≡ map (scaled factor.millionths) from.now }
 {
+    if are_silent(from) {
+        into.fill(0);
+        return;
+    }
     // A larger factor gives the same samples: all but 0 are cut.
     let millionths = factor.millionths.clamp(-32_768_000_000, 32_768_000_000);
     if millionths.unsigned_abs() <= MOST {

@@ -6,6 +6,7 @@ mod gain;
 mod loading;
 mod mixing;
 mod signs;
+mod silence;
 mod sums;
 mod wide;
 

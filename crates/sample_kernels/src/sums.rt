@@ -5,6 +5,7 @@ ghost use Rattle.std.specs.Simd.Lanes.{zip2, chunk, put_chunk, Each1, Each2};
 ghost use Rattle.sample_kernels.specs.Samples.{IsSumOf, clamped, mean_of};
 
 use crate::loading::{load_samples, load_sums};
+use crate::silence::are_zeros;
 use std::simd::prelude::*;
 
 /// Adds a sample to each sum. A sum of up to 65535 samples has room for one more.
@@ -31,6 +32,10 @@ pub fn divide(sum: &[i32], by: &[u16], into: &mut [i16])
     requires sums { Each2 IsSumOf by.now sum.now }
     ensures { into.new ≡ zip2 mean_of sum.now by.now }
 {
+    if are_zeros(sum) {
+        into.fill(0);
+        return;
+    }
     let mut done = 0;
     while into.len() - done >= 8 {
         divide_eight(sum, by, into, done);

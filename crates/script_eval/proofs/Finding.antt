@@ -11,7 +11,7 @@ use Rattle.script_grammar.specs.declared.tree.Stmt.{Stmt}
 use Rattle.typing_rules.specs.declared.uses.Use.{Use}
 use Rattle.script_values.specs.declared.fault.EvalFault.{EvalFault}
 use Rattle.script_values.specs.declared.machine.Machine.{Machine}
-use Rattle.script_values.specs.Slots.{Slot}
+use Rattle.script_values.specs.Slots.{SlotValue}
 use Rattle.script_values.specs.declared.fault.EvalFault.TheVariants as told
 use Rattle.script_values.specs.Machines.{first_machine}
 use Rattle.eval_meaning.specs.Scripts.{Answers, Ending, Ends, and_then, closed, ended, evaluation, plan_of, statements, tick_of, turned}
@@ -23,10 +23,10 @@ abbrev pub rest_of : List Stmt → ℕ → Tree (Many AStmt)
 rest_of stmts i = listed (map view_stmt (drop i stmts))
 
 -- what is found behind a statement
-abbrev behind : Script → List Use → ℕ → List Stmt → ℕ → ℕ → List Slot × Machine → Result (Option ℕ) Ending
+abbrev behind : Script → List Use → ℕ → List Stmt → ℕ → ℕ → List SlotValue × Machine → Result (Option ℕ) Ending
 behind script uses source stmts i k x = or_later (nat_lt source (length x.1.plan.nodes)) k (maker_among script uses source (rest_of stmts (i + 1)) k x.0 x.1)
 
-front : (script : Script) (uses : List Use) (source : ℕ) (stmts : List Stmt) (i : ℕ) (s : Stmt) (n k : ℕ) (slots : List Slot) (m : Machine) → i < length stmts → s ≡ get_or stmts i s → k ≡ n + 1
+front : (script : Script) (uses : List Use) (source : ℕ) (stmts : List Stmt) (i : ℕ) (s : Stmt) (n k : ℕ) (slots : List SlotValue) (m : Machine) → i < length stmts → s ≡ get_or stmts i s → k ≡ n + 1
     → maker_among script uses source (rest_of stmts i) n slots m ≡ and_then (turned script uses (view_part s.part) k slots m) (behind script uses source stmts i k)
 unfolding maker_among
 front script uses source stmts i s n k slots m lt is next =
@@ -35,14 +35,14 @@ front script uses source stmts i s n k slots m lt is next =
     ∙ ap (λ (j : ℕ). and_then (turned script uses (view_part s.part) j slots m) (behind script uses source stmts i j)) (sym next)
 
 -- a statement that went well
-turned_well : (script : Script) (uses : List Use) (source : ℕ) (stmts : List Stmt) (i : ℕ) (s : Stmt) (n k : ℕ) (slots slots' : List Slot) (m m' : Machine) (whole : Result (Option ℕ) Ending)
+turned_well : (script : Script) (uses : List Use) (source : ℕ) (stmts : List Stmt) (i : ℕ) (s : Stmt) (n k : ℕ) (slots slots' : List SlotValue) (m m' : Machine) (whole : Result (Option ℕ) Ending)
     → maker_among script uses source (rest_of stmts i) n slots m ≡ whole → i < length stmts → s ≡ get_or stmts i s → k ≡ n + 1
     → turned script uses (view_part s.part) k slots m ≡ Ok (slots', m')
     → behind script uses source stmts i k (slots', m') ≡ whole
 turned_well script uses source stmts i s n k slots slots' m m' whole so lt is next went =
-    sym (front script uses source stmts i s n k slots m lt is next ∙ ap (λ (r : Result (List Slot × Machine) Ending). and_then r (behind script uses source stmts i k)) went) ∙ so
+    sym (front script uses source stmts i s n k slots m lt is next ∙ ap (λ (r : Result (List SlotValue × Machine) Ending). and_then r (behind script uses source stmts i k)) went) ∙ so
 
-pub maker_turn : (script : Script) (uses : List Use) (source : ℕ) (stmts : List Stmt) (i : ℕ) (s : Stmt) (n k : ℕ) (slots slots' : List Slot) (m m' : Machine) (whole : Result (Option ℕ) Ending)
+pub maker_turn : (script : Script) (uses : List Use) (source : ℕ) (stmts : List Stmt) (i : ℕ) (s : Stmt) (n k : ℕ) (slots slots' : List SlotValue) (m m' : Machine) (whole : Result (Option ℕ) Ending)
     → maker_among script uses source (rest_of stmts i) n slots m ≡ whole → i < length stmts → s ≡ get_or stmts i s → k ≡ n + 1
     → turned script uses (view_part s.part) k slots m ≡ Ok (slots', m') → nat_lt source (length m'.plan.nodes) ≡ false
     → maker_among script uses source (rest_of stmts (i + 1)) k slots' m' ≡ whole
@@ -50,7 +50,7 @@ maker_turn script uses source stmts i s n k slots slots' m m' whole so lt is nex
     sym (ap (λ (b : Bool). or_later b k (maker_among script uses source (rest_of stmts (i + 1)) k slots' m')) few)
     ∙ turned_well script uses source stmts i s n k slots slots' m m' whole so lt is next went
 
-pub maker_here : (script : Script) (uses : List Use) (source : ℕ) (stmts : List Stmt) (i : ℕ) (s : Stmt) (n k : ℕ) (slots slots' : List Slot) (m m' : Machine) (whole : Result (Option ℕ) Ending)
+pub maker_here : (script : Script) (uses : List Use) (source : ℕ) (stmts : List Stmt) (i : ℕ) (s : Stmt) (n k : ℕ) (slots slots' : List SlotValue) (m m' : Machine) (whole : Result (Option ℕ) Ending)
     → maker_among script uses source (rest_of stmts i) n slots m ≡ whole → i < length stmts → s ≡ get_or stmts i s → k ≡ n + 1
     → turned script uses (view_part s.part) k slots m ≡ Ok (slots', m') → nat_lt source (length m'.plan.nodes) ≡ true
     → whole ≡ Ok (Some k)
@@ -58,7 +58,7 @@ maker_here script uses source stmts i s n k slots slots' m m' whole so lt is nex
     sym (turned_well script uses source stmts i s n k slots slots' m m' whole so lt is next went)
     ∙ ap (λ (b : Bool). or_later b k (maker_among script uses source (rest_of stmts (i + 1)) k slots' m')) many
 
-pub maker_stop : (script : Script) (uses : List Use) (source : ℕ) (stmts : List Stmt) (i : ℕ) (s : Stmt) (n k : ℕ) (slots : List Slot) (m : Machine) (whole : Result (Option ℕ) Ending) (e : EvalFault)
+pub maker_stop : (script : Script) (uses : List Use) (source : ℕ) (stmts : List Stmt) (i : ℕ) (s : Stmt) (n k : ℕ) (slots : List SlotValue) (m : Machine) (whole : Result (Option ℕ) Ending) (e : EvalFault)
     → maker_among script uses source (rest_of stmts i) n slots m ≡ whole → i < length stmts → s ≡ get_or stmts i s → k ≡ n + 1
     → Ends e (turned script uses (view_part s.part) k slots m)
     → Ends e whole
@@ -66,7 +66,7 @@ maker_stop script uses source stmts i s n k slots m whole e so lt is next fault 
     ends_same e _ whole (sym (front script uses source stmts i s n k slots m lt is next) ∙ so)
     (ends_then e (turned script uses (view_part s.part) k slots m) (behind script uses source stmts i k) fault)
 
-pub maker_end : (script : Script) (uses : List Use) (source : ℕ) (stmts : List Stmt) (i n : ℕ) (slots : List Slot) (m : Machine) (whole : Result (Option ℕ) Ending)
+pub maker_end : (script : Script) (uses : List Use) (source : ℕ) (stmts : List Stmt) (i n : ℕ) (slots : List SlotValue) (m : Machine) (whole : Result (Option ℕ) Ending)
     → maker_among script uses source (rest_of stmts i) n slots m ≡ whole → length stmts ≤ i → whole ≡ Ok None
 unfolding maker_among
 maker_end script uses source stmts i n slots m whole so over = sym so ∙ at_drop_all (λ (l : List Stmt). maker_among script uses source (listed (map view_stmt l)) n slots m) stmts i over
@@ -109,7 +109,7 @@ none_by : (b : Bool) (source count n : ℕ) (later : Result (Option ℕ) Ending)
 none_by true source count n later test is = absurd cc
 none_by false source count n later test is = (is, grind arith)
 
-none_left : (script : Script) (uses : List Use) (source : ℕ) (stmts : Tree (Many AStmt)) (n : ℕ) (slots : List Slot) (m last : Machine) → length m.plan.nodes ≤ source
+none_left : (script : Script) (uses : List Use) (source : ℕ) (stmts : Tree (Many AStmt)) (n : ℕ) (slots : List SlotValue) (m last : Machine) → length m.plan.nodes ≤ source
     → maker_among script uses source stmts n slots m ≡ Ok None → statements script uses stmts n slots m ≡ Ok last → length last.plan.nodes ≤ source
 unfolding maker_among statements
 none_left script uses source none n slots m last few found is = let same = last_by m.settings.allowed m last is in omega (arith, same, few)
@@ -146,7 +146,7 @@ same_fault : {A B C : Type 0} (r : Result A Ending) (f : A → Result B Ending) 
 same_fault (Ok x) f g e on is = on x is
 same_fault (Err d) f g e on is = ap (λ (x : Ending). Err x) (ending_of d e is)
 
-faults_left : (script : Script) (uses : List Use) (source : ℕ) (stmts : Tree (Many AStmt)) (n : ℕ) (slots : List Slot) (m : Machine) (e : Ending)
+faults_left : (script : Script) (uses : List Use) (source : ℕ) (stmts : Tree (Many AStmt)) (n : ℕ) (slots : List SlotValue) (m : Machine) (e : Ending)
     → maker_among script uses source stmts n slots m ≡ Err e → statements script uses stmts n slots m ≡ Err e
 unfolding maker_among statements
 faults_left script uses source none n slots m e found = absurd cc

@@ -13,7 +13,7 @@ use Rattle.script_values.specs.declared.fault.EvalFault.TheVariants as told
 use Rattle.script_values.specs.declared.machine.Machine.{Machine}
 use Rattle.script_values.specs.Faults.{fault_in}
 use Rattle.script_values.specs.Gives.{Fails}
-use Rattle.script_values.specs.Slots.{Slot}
+use Rattle.script_values.specs.Slots.{SlotValue}
 use Rattle.eval_meaning.specs.Safety.{IsNotStuck}
 use Rattle.eval_meaning.specs.Scripts.{Ending, Ends, and_then, in_statement, settled, statements, turned}
 
@@ -42,7 +42,7 @@ ends_then (told.TooLarge limit) r f is = ap (λ (x : Result _ Ending). and_then 
 pub ends_same : {A : Type 0} (e : EvalFault) (r q : Result A Ending) → r ≡ q → Ends e r → Ends e q
 ends_same e r q same is = subst (λ (x : Result _ Ending). Ends e x) same is
 
-front : (script : Script) (uses : List Use) (stmts : List Stmt) (i : ℕ) (s : Stmt) (n k : ℕ) (slots : List Slot) (m : Machine) → i < length stmts → s ≡ get_or stmts i s → k ≡ n + 1
+front : (script : Script) (uses : List Use) (stmts : List Stmt) (i : ℕ) (s : Stmt) (n k : ℕ) (slots : List SlotValue) (m : Machine) → i < length stmts → s ≡ get_or stmts i s → k ≡ n + 1
     → statements script uses (listed (map view_stmt (drop i stmts))) n slots m
     ≡ and_then (turned script uses (view_part s.part) k slots m) (λ x. statements script uses (listed (map view_stmt (drop (i + 1) stmts))) k x.0 x.1)
 unfolding statements
@@ -51,14 +51,14 @@ front script uses stmts i s n k slots m lt is next =
     ∙ ap (λ (t : Stmt). statements script uses (more (view_stmt t) (listed (map view_stmt (drop (i + 1) stmts)))) n slots m) (sym is)
     ∙ ap (λ (j : ℕ). and_then (turned script uses (view_part s.part) j slots m) (λ x. statements script uses (listed (map view_stmt (drop (i + 1) stmts))) j x.0 x.1)) (sym next)
 
-pub stmt_turn : (script : Script) (uses : List Use) (stmts : List Stmt) (i : ℕ) (s : Stmt) (n k : ℕ) (slots slots' : List Slot) (m m' : Machine) (whole : Result Machine Ending)
+pub stmt_turn : (script : Script) (uses : List Use) (stmts : List Stmt) (i : ℕ) (s : Stmt) (n k : ℕ) (slots slots' : List SlotValue) (m m' : Machine) (whole : Result Machine Ending)
     → statements script uses (listed (map view_stmt (drop i stmts))) n slots m ≡ whole → i < length stmts → s ≡ get_or stmts i s → k ≡ n + 1
     → turned script uses (view_part s.part) k slots m ≡ Ok (slots', m')
     → statements script uses (listed (map view_stmt (drop (i + 1) stmts))) k slots' m' ≡ whole
 stmt_turn script uses stmts i s n k slots slots' m m' whole so lt is next went =
-    sym (front script uses stmts i s n k slots m lt is next ∙ ap (λ (r : Result (List Slot × Machine) Ending). and_then r (λ x. statements script uses (listed (map view_stmt (drop (i + 1) stmts))) k x.0 x.1)) went) ∙ so
+    sym (front script uses stmts i s n k slots m lt is next ∙ ap (λ (r : Result (List SlotValue × Machine) Ending). and_then r (λ x. statements script uses (listed (map view_stmt (drop (i + 1) stmts))) k x.0 x.1)) went) ∙ so
 
-pub stmt_stop : (script : Script) (uses : List Use) (stmts : List Stmt) (i : ℕ) (s : Stmt) (n k : ℕ) (slots : List Slot) (m : Machine) (whole : Result Machine Ending) (e : EvalFault)
+pub stmt_stop : (script : Script) (uses : List Use) (stmts : List Stmt) (i : ℕ) (s : Stmt) (n k : ℕ) (slots : List SlotValue) (m : Machine) (whole : Result Machine Ending) (e : EvalFault)
     → statements script uses (listed (map view_stmt (drop i stmts))) n slots m ≡ whole → i < length stmts → s ≡ get_or stmts i s → k ≡ n + 1
     → Ends e (turned script uses (view_part s.part) k slots m)
     → Ends e whole
@@ -66,7 +66,7 @@ stmt_stop script uses stmts i s n k slots m whole e so lt is next fault =
     ends_same e _ whole (sym (front script uses stmts i s n k slots m lt is next) ∙ so)
     (ends_then e (turned script uses (view_part s.part) k slots m) (λ x. statements script uses (listed (map view_stmt (drop (i + 1) stmts))) k x.0 x.1) fault)
 
-pub stmt_end : (script : Script) (uses : List Use) (stmts : List Stmt) (i n : ℕ) (slots : List Slot) (m : Machine) (whole : Result Machine Ending)
+pub stmt_end : (script : Script) (uses : List Use) (stmts : List Stmt) (i n : ℕ) (slots : List SlotValue) (m : Machine) (whole : Result Machine Ending)
     → statements script uses (listed (map view_stmt (drop i stmts))) n slots m ≡ whole → length stmts ≤ i → whole ≡ settled false m
 unfolding statements
 stmt_end script uses stmts i n slots m whole so over = sym so ∙ at_drop_all (λ (l : List Stmt). statements script uses (listed (map view_stmt l)) n slots m) stmts i over
@@ -78,7 +78,7 @@ first_not_stuck (Ok x) f is = tt
 first_not_stuck (Err (Some fault)) f is = tt
 first_not_stuck (Err None) f is = absurd is
 
-pub turn_not_stuck : (script : Script) (uses : List Use) (stmts : List Stmt) (i : ℕ) (s : Stmt) (n k : ℕ) (slots : List Slot) (m : Machine) (whole : Result Machine Ending)
+pub turn_not_stuck : (script : Script) (uses : List Use) (stmts : List Stmt) (i : ℕ) (s : Stmt) (n k : ℕ) (slots : List SlotValue) (m : Machine) (whole : Result Machine Ending)
     → statements script uses (listed (map view_stmt (drop i stmts))) n slots m ≡ whole → i < length stmts → s ≡ get_or stmts i s → k ≡ n + 1
     → IsNotStuck whole → IsNotStuck (turned script uses (view_part s.part) k slots m)
 turn_not_stuck script uses stmts i s n k slots m whole so lt is next safe =

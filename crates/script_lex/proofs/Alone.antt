@@ -4,7 +4,7 @@ use Rattle.std.proofs.lemmas.Bool.{or_cases, eqb-true}
 use Rattle.std.specs.Str.Parse.{IsNumeral, AllDigits}
 use Rattle.script_lex.specs.Bytes.{is_unit, starts_digit}
 use Rattle.script_lex.specs.Words.{keyword_of, symbol_of, symbol_with_equals, symbol_text}
-use Rattle.script_lex.specs.Spelling.{Shape, AWord, AnOpen, AnInt, ANumber, ATime, AText, AWav, ASymbol, Spells, IsDotted, behind_points, IsShortTime, IsTimeText, time_text}
+use Rattle.script_lex.specs.Spelling.{Shape, AWord, AnOpen, AnInt, ANumber, ATime, AText, AWav, ASymbol, SpellsShape, IsDotted, behind_points, IsShortTime, IsTimeText, time_text}
 use Rattle.script_lex.specs.Reading.{Found, front, after_name, after_digits, word_or_open, word_at, number_from, number_at, part_at, minutes_after, time_at, wav_at, symbol_at, shape_at}
 use Rattle.script_lex.specs.declared.token.Keyword.{Keyword}
 use Rattle.script_lex.specs.declared.token.Symbol.{Symbol}
@@ -158,7 +158,7 @@ symbol_alone symbols.Tilde = refl
 abbrev pub Whole : Shape → List ℕ → Type 0
 Whole shape text = shape_at text ≡ Ok (shape, [])
 
-pub read_alone : (shape : Shape) (text : List ℕ) → Spells shape text → ((value : List ℕ) → shape ≡ AText value → ⊥) → Whole shape text
+pub read_alone : (shape : Shape) (text : List ℕ) → SpellsShape shape text → ((value : List ℕ) → shape ≡ AText value → ⊥) → Whole shape text
 read_alone (AWord w) text s other =
     let C : List ℕ → Type 0 = λ l. shape_at l ≡ Ok (word_at l) in
     subst C (append_nil text) (by_letter text s.0 []) ∙ ap Ok (word_alone text s.0 ∙ ap (λ x. (AWord x, [])) (sym s.1))

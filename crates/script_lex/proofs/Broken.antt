@@ -4,7 +4,7 @@ use Rattle.std.proofs.lemmas.Bool.{ltb-true, ltb-false}
 use Rattle.std.proofs.lemmas.Str.{IsUtf8-append, IsUtf8-encode, encode_ascii, len_utf8_bounds, length-encode}
 use Rattle.std.proofs.Math.Utf8.{encode, encodes, low_scalar}
 use Rattle.script_lex.specs.Reading.{body_end}
-use Rattle.script_lex.specs.Spelling.{IsBadInText, IsQuote, written, Piece, Plain, Escaped, IsPiece}
+use Rattle.script_lex.specs.Spelling.{IsBadInText, IsQuote, written, TextPiece, Plain, Escaped, IsPiece}
 use Rattle.script_lex.proofs.Fronts.{choose}
 use Rattle.script_lex.proofs.Pieces.{Stop, quote_low, stop_le, piece_eaten, pieces_eaten}
 use Rattle.script_lex.proofs.Closed.{Written, pieces_of, high_not_escapable}
@@ -92,6 +92,6 @@ not_utf8_bad q a rest x xs p =
       place = refl;
     }
   where
-    none : (pc : Piece) (r : List ℕ) → IsPiece q pc → (x ∷ xs) ++ rest ≡ written pc ++ r → ⊥
+    none : (pc : TextPiece) (r : List ℕ) → IsPiece q pc → (x ∷ xs) ++ rest ≡ written pc ++ r → ⊥
     none (Plain c) r piece is = plain_none q a rest x xs p c r piece is
     none (Escaped c) r piece is = let same = head_is x 92 (xs ++ rest) (c ∷ r) is in let high = first_high q a rest x xs p in omega arith

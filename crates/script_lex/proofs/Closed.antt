@@ -6,14 +6,14 @@ use Rattle.std.proofs.Math.Utf8.{encode, encodes, scalar, scalars}
 use Rattle.std.specs.List.{flat_map}
 use Rattle.script_lex.specs.Bytes.{is_inner, is_escapable}
 use Rattle.script_lex.specs.Reading.{body_end, unescaped}
-use Rattle.script_lex.specs.Spelling.{Piece, Plain, Escaped, written, meant, IsPiece, ArePieces, IsQuote}
+use Rattle.script_lex.specs.Spelling.{TextPiece, Plain, Escaped, written, meant, IsPiece, ArePieces, IsQuote}
 use Rattle.script_lex.specs.declared.body.BodyEnd.TheVariants as ends
 use Rattle.script_lex.proofs.Fronts.{choose}
 use Rattle.script_lex.proofs.Pieces.{Stop, quote_low, at_quote, at_inner, at_bad, at_escape, escape_good, escape_bad, stop_le, AllHigh, encode_high, high_eaten}
 
 -- the characters of these bytes of a text
 pub record Written (q : ℕ) (body : List ℕ) : Type 0 where
-  pub pieces : List Piece
+  pub pieces : List TextPiece
   pub allowed : ArePieces q pieces
   pub spelled : body ≡ flat_map written pieces
   pub means : unescaped body ≡ flat_map meant pieces

@@ -6,7 +6,7 @@ use Rattle.std.specs.List.{flat_map}
 use Rattle.std.specs.Str.Parse.{IsNumeral}
 use Rattle.script_lex.specs.Bytes.{is_letter, is_quote}
 use Rattle.script_lex.specs.Words.{symbol_text}
-use Rattle.script_lex.specs.Spelling.{Shape, AWord, AnOpen, AnInt, ANumber, ATime, AText, AWav, ASymbol, Spells, IsDotted, behind_points, written, IsQuote}
+use Rattle.script_lex.specs.Spelling.{Shape, AWord, AnOpen, AnInt, ANumber, ATime, AText, AWav, ASymbol, SpellsShape, IsDotted, behind_points, written, IsQuote}
 use Rattle.script_lex.specs.declared.token.Symbol.{Symbol}
 use Rattle.script_lex.specs.declared.token.Symbol.TheVariants as symbols
 use Rattle.fixed_text.proofs.Numerals.{digit_back}
@@ -100,7 +100,7 @@ append_nil : (a : List ℕ) → a ++ [] ≡ a
 append_nil [] = refl
 append_nil (x ∷ a) = ap (λ (l : List ℕ). x ∷ l) (append_nil a)
 
-pub starts : (shape : Shape) (text : List ℕ) → Spells shape text → Starts (class shape) text
+pub starts : (shape : Shape) (text : List ℕ) → SpellsShape shape text → Starts (class shape) text
 starts (AWord w) text s = dotted_starts text s.0
 starts (AnOpen name) text s = let d = dotted_starts name s.0 in record { head = d.head; tail = d.tail ++ 40 ∷ []; is = s.2 ∙ ap (λ (l : List ℕ). l ++ 40 ∷ []) d.is; first = d.first }
 starts (AnInt digits) text s = starts_at Digit text (text ++ []) (sym (append_nil text)) (numeral_starts text [] s.0)
@@ -111,7 +111,7 @@ starts AWav text s = record { head = 37; tail = 119 ∷ 97 ∷ 118 ∷ []; is = 
 starts (ASymbol symbol) text s = starts_at Sign text (symbol_text symbol) s (symbol_starts symbol)
 
 -- the first byte of the bytes decides
-pub first_of : (shape : Shape) (b : ℕ) (bs text behind : List ℕ) → Spells shape text → b ∷ bs ≡ text ++ behind → class_of b ≡ class shape
+pub first_of : (shape : Shape) (b : ℕ) (bs text behind : List ℕ) → SpellsShape shape text → b ∷ bs ≡ text ++ behind → class_of b ≡ class shape
 first_of shape b bs text behind s is =
     let st = starts shape text s in
     let whole : b ∷ bs ≡ st.head ∷ (st.tail ++ behind) = is ∙ ap (λ (l : List ℕ). l ++ behind) st.is in
@@ -119,5 +119,5 @@ first_of shape b bs text behind s is =
     ap class_of (sym same) ∙ st.first
 
 -- no shape of another class begins there
-pub foreign : (shape : Shape) (b : ℕ) (bs text behind : List ℕ) (here : Class) → Spells shape text → b ∷ bs ≡ text ++ behind → class_of b ≡ here → here ≡ class shape
+pub foreign : (shape : Shape) (b : ℕ) (bs text behind : List ℕ) (here : Class) → SpellsShape shape text → b ∷ bs ≡ text ++ behind → class_of b ≡ here → here ≡ class shape
 foreign shape b bs text behind here s is at = sym at ∙ first_of shape b bs text behind s is

@@ -3,7 +3,7 @@ use Rattle.std.proofs.Common.{◌≡◌, ℕ, suc, ◌+◌, ◌≤◌, true, fal
 use Rattle.std.proofs.lemmas.Bool.{eqb-true, eq-eqb}
 use Rattle.script_lex.specs.Bytes.{is_letter}
 use Rattle.script_lex.specs.Words.{keyword_of}
-use Rattle.script_lex.specs.Spelling.{Shape, AWord, AnOpen, Spells, IsDotted, behind_points}
+use Rattle.script_lex.specs.Spelling.{Shape, AWord, AnOpen, SpellsShape, IsDotted, behind_points}
 use Rattle.script_lex.specs.Reading.{Found, after_name, word_or_open, word_at, front}
 use Rattle.script_lex.specs.declared.token.Keyword.{Keyword}
 use Rattle.script_lex.proofs.Fronts.{choose, front_is}
@@ -32,13 +32,13 @@ module _ (t rest : List ℕ) (dotted : IsDotted t) (ends_here : after_name (t ++
 opened : (n behind : List ℕ) (l more : List ℕ) → more ≡ n ++ 40 ∷ [] → l ≡ more ++ behind → l ≡ n ++ (40 ∷ behind)
 opened n behind l more m is = is ∙ ap (λ (x : List ℕ). x ++ behind) m ∙ append_assoc n (40 ∷ []) behind
 
-letter_first : (t rest : List ℕ) → IsDotted t → (other : Shape) (more behind : List ℕ) → t ++ rest ≡ more ++ behind → Spells other more → Letter ≡ class other
+letter_first : (t rest : List ℕ) → IsDotted t → (other : Shape) (more behind : List ℕ) → t ++ rest ≡ more ++ behind → SpellsShape other more → Letter ≡ class other
 letter_first t rest dotted other more behind is s =
     let d = dotted_starts t dotted in
     sym d.first ∙ first_of other d.head (d.tail ++ rest) more behind s (sym (ap (λ (l : List ℕ). l ++ rest) d.is) ∙ is)
 
 -- no spelling is longer than the word, unless it is a name and a bracket
-among : (t rest : List ℕ) → IsDotted t → after_name (t ++ rest) ≡ rest → (other : Shape) (more behind : List ℕ) → t ++ rest ≡ more ++ behind → Spells other more → (limit : ℕ) → length t ≤ limit → ((n : List ℕ) → keyword_of n ≡ None → t ≡ n → rest ≡ 40 ∷ behind → suc (length t) ≤ limit) → length more ≤ limit
+among : (t rest : List ℕ) → IsDotted t → after_name (t ++ rest) ≡ rest → (other : Shape) (more behind : List ℕ) → t ++ rest ≡ more ++ behind → SpellsShape other more → (limit : ℕ) → length t ≤ limit → ((n : List ℕ) → keyword_of n ≡ None → t ≡ n → rest ≡ 40 ∷ behind → suc (length t) ≤ limit) → length more ≤ limit
 among t rest dotted here (AWord n) more behind is s limit low brackets = let le = no_longer t rest dotted here more behind s.0 is in omega arith
 among t rest dotted here (AnOpen n) more behind is s limit low brackets =
     let o = open_here t rest dotted here n behind s.0 (opened n behind (t ++ rest) more s.2 is) in

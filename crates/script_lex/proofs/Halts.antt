@@ -3,25 +3,25 @@ use Rattle.std.proofs.Common.{◌≡◌, ℕ, ◌<◌, List, [], ◌∷◌, ◌+
 use Rattle.std.proofs.lemmas.Str.{encode_same, char_from_byte, len_utf8_bounds, length-encode}
 use Rattle.std.proofs.Math.Utf8.{encode}
 use Rattle.std.specs.List.{flat_map}
-use Rattle.script_lex.specs.Spelling.{Piece, Plain, Escaped, written, IsPiece, ArePieces, IsQuote, IsQuotedText, IsUnclosed, IsBadInText}
+use Rattle.script_lex.specs.Spelling.{TextPiece, Plain, Escaped, written, IsPiece, ArePieces, IsQuote, IsQuotedText, IsUnclosed, IsBadInText}
 use Rattle.script_lex.proofs.Pieces.{quote_low}
 use Rattle.script_lex.proofs.Apart.{cons_head, cons_tail}
 
 -- no character of a text begins these bytes
 abbrev pub Stuck : ℕ → List ℕ → Type 0
-Stuck q bytes = (p : Piece) (rest : List ℕ) → IsPiece q p → bytes ≡ written p ++ rest → ⊥
+Stuck q bytes = (p : TextPiece) (rest : List ℕ) → IsPiece q p → bytes ≡ written p ++ rest → ⊥
 
 -- bytes that begin with this one begin with that character
 low_first : (b c : ℕ) (bs rest : List ℕ) → b < 128 → b ∷ bs ≡ encode c ++ rest → c ≡ b
 low_first b c bs rest low is = char_from_byte (b ∷ bs) rest c is low (omega arith)
 
-piece_same : (q : ℕ) (p r : Piece) (x y : List ℕ) → IsPiece q p → IsPiece q r → written p ++ x ≡ written r ++ y → (p ≡ r) × (x ≡ y)
+piece_same : (q : ℕ) (p r : TextPiece) (x y : List ℕ) → IsPiece q p → IsPiece q r → written p ++ x ≡ written r ++ y → (p ≡ r) × (x ≡ y)
 piece_same q (Plain c) (Plain d) x y h k is = let e = encode_same c d x y is in (ap Plain e.0, e.1)
 piece_same q (Escaped c) (Escaped d) x y h k is = let e : c ≡ d = cc in (ap Escaped e, cc)
 piece_same q (Plain c) (Escaped d) x y h k is = absurd (h.3 (low_first 92 c (d ∷ y) x (omega arith) (sym is)))
 piece_same q (Escaped c) (Plain d) x y h k is = absurd (k.3 (low_first 92 d (c ∷ x) y (omega arith) is))
 
-pieces_same : (q : ℕ) (ps rs : List Piece) (x y : List ℕ) → ArePieces q ps → ArePieces q rs → Stuck q x → Stuck q y → flat_map written ps ++ x ≡ flat_map written rs ++ y → (ps ≡ rs) × (x ≡ y)
+pieces_same : (q : ℕ) (ps rs : List TextPiece) (x y : List ℕ) → ArePieces q ps → ArePieces q rs → Stuck q x → Stuck q y → flat_map written ps ++ x ≡ flat_map written rs ++ y → (ps ≡ rs) × (x ≡ y)
 pieces_same q [] [] x y h k a b is = (refl, is)
 pieces_same q [] (r ∷ rs) x y h k a b is = absurd (a r (flat_map written rs ++ y) k.0 (is ∙ append_assoc (written r) (flat_map written rs) y))
 pieces_same q (p ∷ ps) [] x y h k a b is = absurd (b p (flat_map written ps ++ x) h.0 (sym is ∙ append_assoc (written p) (flat_map written ps) x))
@@ -29,13 +29,13 @@ pieces_same q (p ∷ ps) (r ∷ rs) x y h k a b is =
     let whole : written p ++ (flat_map written ps ++ x) ≡ written r ++ (flat_map written rs ++ y) = sym (append_assoc (written p) (flat_map written ps) x) ∙ is ∙ append_assoc (written r) (flat_map written rs) y in
     let e = piece_same q p r (flat_map written ps ++ x) (flat_map written rs ++ y) h.0 k.0 whole in
     let more = pieces_same q ps rs x y h.1 k.1 a b e.1 in
-    let both : p ∷ ps ≡ r ∷ rs = ap (λ z. z ∷ ps) e.0 ∙ ap (λ (zs : List Piece). r ∷ zs) more.0 in
+    let both : p ∷ ps ≡ r ∷ rs = ap (λ z. z ∷ ps) e.0 ∙ ap (λ (zs : List TextPiece). r ∷ zs) more.0 in
     (both, more.1)
 
 -- a quote, characters, and where they stop
 pub record Halt (bytes : List ℕ) : Type 0 where
   pub quote : ℕ
-  pub pieces : List Piece
+  pub pieces : List TextPiece
   pub end : List ℕ
   pub is_quote : IsQuote quote
   pub allowed : ArePieces quote pieces
@@ -54,21 +54,21 @@ halts_one bytes a b =
 pub stuck_quote : (q : ℕ) → IsQuote q → (r : List ℕ) → Stuck q (q ∷ r)
 stuck_quote q quote r = λ p rest piece is. by_piece q quote r p rest piece is
   where
-    by_piece : (q : ℕ) → IsQuote q → (r : List ℕ) (p : Piece) (rest : List ℕ) → IsPiece q p → q ∷ r ≡ written p ++ rest → ⊥
+    by_piece : (q : ℕ) → IsQuote q → (r : List ℕ) (p : TextPiece) (rest : List ℕ) → IsPiece q p → q ∷ r ≡ written p ++ rest → ⊥
     by_piece q quote r (Plain c) rest piece is = let low = (quote_low q quote).0 in piece.4 (low_first q c r rest (omega arith) is)
     by_piece q quote r (Escaped c) rest piece is = let low = (quote_low q quote).0 in let same = cons_head q 92 r (c ∷ rest) is in omega arith
 
 pub stuck_empty : (q : ℕ) → Stuck q []
 stuck_empty q = λ p rest piece is. by_piece q p rest piece is
   where
-    by_piece : (q : ℕ) (p : Piece) (rest : List ℕ) → IsPiece q p → [] ≡ written p ++ rest → ⊥
+    by_piece : (q : ℕ) (p : TextPiece) (rest : List ℕ) → IsPiece q p → [] ≡ written p ++ rest → ⊥
     by_piece q (Plain c) rest piece is = let size = ap length is in let sum = length-append (encode c) rest in let n = len_utf8_bounds c in let l = length-encode c in omega arith
     by_piece q (Escaped c) rest piece is = cc
 
 pub stuck_slash : (q : ℕ) → Stuck q (92 ∷ [])
 stuck_slash q = λ p rest piece is. by_piece q p rest piece is
   where
-    by_piece : (q : ℕ) (p : Piece) (rest : List ℕ) → IsPiece q p → 92 ∷ [] ≡ written p ++ rest → ⊥
+    by_piece : (q : ℕ) (p : TextPiece) (rest : List ℕ) → IsPiece q p → 92 ∷ [] ≡ written p ++ rest → ⊥
     by_piece q (Plain c) rest piece is = piece.3 (low_first 92 c [] rest (omega arith) is)
     by_piece q (Escaped c) rest piece is = let size = ap length is in omega arith
 

@@ -1,8 +1,8 @@
--- What is told of a text.
+-- What is placed_fault of a text.
 use Rattle.std.proofs.Common.{◌≡◌, ◌≢◌, ℕ, ◌≤◌, List, length, refl, sym, ap, ◌∙◌, arith, Option, Some, None, ◌⊎◌, inl, inr}
 use Rattle.liq_base.specs.declared.limits.TheConstants.{MAX_SCRIPT_BYTES}
 use Rattle.script_lex.specs.Spelling.{Fault, Bad, Open, Large}
-use Rattle.script_lex.specs.Tokens.{Runs, AreTokens, HasFault, StandsIn, told}
+use Rattle.script_lex.specs.Tokens.{Runs, AreTokens, HasFault, StandsIn, placed_fault}
 use Rattle.script_lex.specs.Gives.{IfFault, RunsInto, told_as}
 use Rattle.script_lex.specs.declared.token.Token.{Token}
 use Rattle.script_lex.specs.declared.token.LexFault.{LexFault}
@@ -34,34 +34,34 @@ no_fault text ts f short run fault = by_fault f fault
 no_tokens : (text : List ℕ) (f : Fault) (ts : List Token) → RunsInto text f → Runs text ts None → ⊥
 no_tokens text f ts fault run = none_some f (runs_one text ts fault.0 None (Some f) run fault.1).1
 
--- a refusal is told as the fault of the text
+-- a refusal is placed_fault as the fault of the text
 pub told_fault : (text : List ℕ) (e : Refusal) → length text ≤ MAX_SCRIPT_BYTES → IfFault e (RunsInto text) → told_as (length text) e ≢ faults.Memory → HasFault text (told_as (length text) e)
 told_fault text refusals.Memory short h some = absurd (some refl)
 told_fault text (refusals.BadByte n) short h some = (short, (h.0, Bad n, h.1, refl))
 told_fault text (refusals.UnclosedString n) short h some = (short, (h.0, Open n, h.1, refl))
 told_fault text (refusals.NumberTooLarge n) short h some = (short, (h.0, Large n, h.1, refl))
 
--- where the text has tokens, only want of memory is told
+-- where the text has tokens, only want of memory is placed_fault
 pub told_memory : (text : List ℕ) (e : Refusal) (ts : List Token) → IfFault e (RunsInto text) → AreTokens text ts → told_as (length text) e ≡ faults.Memory
 told_memory text refusals.Memory ts h are = refl
 told_memory text (refusals.BadByte n) ts h are = absurd (no_tokens text (Bad n) ts h are.1)
 told_memory text (refusals.UnclosedString n) ts h are = absurd (no_tokens text (Open n) ts h are.1)
 told_memory text (refusals.NumberTooLarge n) ts h are = absurd (no_tokens text (Large n) ts h are.1)
 
-one_told : (text : List ℕ) (x : Fault) (f : LexFault) → length text ≤ MAX_SCRIPT_BYTES → RunsInto text x → HasFault text f → told (length text) x ≡ f
+one_told : (text : List ℕ) (x : Fault) (f : LexFault) → length text ≤ MAX_SCRIPT_BYTES → RunsInto text x → HasFault text f → placed_fault (length text) x ≡ f
 one_told text x f short run fault = by_fault f fault
   where
-    stands : (f : LexFault) → StandsIn text f → told (length text) x ≡ f
-    stands f s = ap (told (length text)) (some_is x s.1.1 (runs_one text run.0 s.1.0 (Some x) (Some s.1.1) run.1 s.1.2).1) ∙ sym s.1.3
+    stands : (f : LexFault) → StandsIn text f → placed_fault (length text) x ≡ f
+    stands f s = ap (placed_fault (length text)) (some_is x s.1.1 (runs_one text run.0 s.1.0 (Some x) (Some s.1.1) run.1 s.1.2).1) ∙ sym s.1.3
 
-    by_fault : (f : LexFault) → HasFault text f → told (length text) x ≡ f
+    by_fault : (f : LexFault) → HasFault text f → placed_fault (length text) x ≡ f
     by_fault faults.TextTooLong h = absurd (omega arith)
     by_fault faults.Memory h = absurd h
     by_fault (faults.BadByte n) h = stands (faults.BadByte n) h
     by_fault (faults.UnclosedString n) h = stands (faults.UnclosedString n) h
     by_fault (faults.NumberTooLarge n) h = stands (faults.NumberTooLarge n) h
 
--- where the text has a fault, it is told, or want of memory
+-- where the text has a fault, it is placed_fault, or want of memory
 pub told_only : (text : List ℕ) (e : Refusal) (f : LexFault) → length text ≤ MAX_SCRIPT_BYTES → IfFault e (RunsInto text) → HasFault text f → (told_as (length text) e ≡ f) ⊎ (told_as (length text) e ≡ faults.Memory)
 told_only text refusals.Memory f short h fault = inr refl
 told_only text (refusals.BadByte n) f short h fault = inl (one_told text (Bad n) f short h fault)

@@ -4,7 +4,7 @@ use Rattle.std.proofs.lemmas.Bool.{eqb-true, or_cases}
 use Rattle.std.specs.Char.{is_ascii_digit}
 use Rattle.std.specs.Str.Parse.{IsNumeral}
 use Rattle.script_lex.specs.Bytes.{is_unit, starts_digit}
-use Rattle.script_lex.specs.Spelling.{Shape, AnInt, ANumber, ATime, Spells, IsDigits, IsTimeText, part_text, time_text}
+use Rattle.script_lex.specs.Spelling.{Shape, AnInt, ANumber, ATime, SpellsShape, IsDigits, IsTimeText, part_text, time_text}
 use Rattle.script_lex.specs.Reading.{Found, after_digits, front, part_at, minutes_after, time_at}
 use Rattle.script_lex.proofs.Fronts.{choose, after_digits_le}
 use Rattle.script_lex.proofs.Eaten.{digits_eaten, front_digits, numeral_front}
@@ -43,7 +43,7 @@ behind_unit bytes c cs first unit here =
     time_far o.0 o.1 o.2 o.3 bytes (digits ++ c ∷ []) cs o.4 whole
 
 -- and as far as any shape
-all_far : (b : ℕ) (bs : List ℕ) (c : ℕ) (cs : List ℕ) → is_ascii_digit b ≡ true → is_unit c ≡ true → after_digits (b ∷ bs) ≡ c ∷ cs → (other : Shape) (more behind : List ℕ) → b ∷ bs ≡ more ++ behind → Spells other more → length (time_at (b ∷ bs)).1 ≤ length behind
+all_far : (b : ℕ) (bs : List ℕ) (c : ℕ) (cs : List ℕ) → is_ascii_digit b ≡ true → is_unit c ≡ true → after_digits (b ∷ bs) ≡ c ∷ cs → (other : Shape) (more behind : List ℕ) → b ∷ bs ≡ more ++ behind → SpellsShape other more → length (time_at (b ∷ bs)).1 ≤ length behind
 all_far b bs c cs digit unit here (ATime day hour minute second) more behind is s = time_far day hour minute second (b ∷ bs) more behind s is
 all_far b bs c cs digit unit here (AnInt n) more behind is s =
     let over : c ∷ cs ≡ after_digits behind = sym here ∙ ap after_digits is ∙ digits_eaten more behind s.0.1 in

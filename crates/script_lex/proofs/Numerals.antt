@@ -4,7 +4,7 @@ use Rattle.std.proofs.lemmas.Bool.{eqb-true, eq-eqb}
 use Rattle.std.specs.Char.{is_ascii_digit}
 use Rattle.std.specs.Str.Parse.{AllDigits}
 use Rattle.script_lex.specs.Bytes.{is_unit}
-use Rattle.script_lex.specs.Spelling.{Shape, AnInt, ANumber, ATime, Spells, IsTimeText}
+use Rattle.script_lex.specs.Spelling.{Shape, AnInt, ANumber, ATime, SpellsShape, IsTimeText}
 use Rattle.script_lex.specs.Reading.{after_digits, front, number_from, number_at, time_at}
 use Rattle.fixed_text.proofs.Numerals.{digit_is, digit_back}
 use Rattle.script_lex.proofs.Fronts.{choose, front_is, after_digits_le}
@@ -24,11 +24,11 @@ unit_here d rest here day hour minute second more behind is t =
     let whole : d ++ rest ≡ s.digits ++ (s.unit ∷ (s.more ++ behind)) = is ∙ ap (λ (x : List ℕ). x ++ behind) s.is ∙ append_assoc s.digits (s.unit ∷ s.more) behind in
     (s.unit, s.more ++ behind, s.is_unit, rest_is d rest here s.digits (s.unit ∷ (s.more ++ behind)) s.numeral.1 whole ∙ digits_stop s.unit (s.more ++ behind) (unit_not_digit s.unit s.is_unit))
 
-digit_first : (b : ℕ) (d rest : List ℕ) → AllDigits 10 (b ∷ d) → (other : Shape) (more behind : List ℕ) → (b ∷ d) ++ rest ≡ more ++ behind → Spells other more → Digit ≡ class other
+digit_first : (b : ℕ) (d rest : List ℕ) → AllDigits 10 (b ∷ d) → (other : Shape) (more behind : List ℕ) → (b ∷ d) ++ rest ≡ more ++ behind → SpellsShape other more → Digit ≡ class other
 digit_first b d rest all other more behind is s = sym (digit_class b (digit_back b all.0)) ∙ first_of other b (d ++ rest) more behind s is
 
 -- no spelling is longer than the digits, unless it is the digits, a point and digits, or a time
-among : (b : ℕ) (d rest : List ℕ) (all : AllDigits 10 (b ∷ d)) → after_digits ((b ∷ d) ++ rest) ≡ rest → (other : Shape) (more behind : List ℕ) → (b ∷ d) ++ rest ≡ more ++ behind → Spells other more → (limit : ℕ) → suc (length d) ≤ limit → ((f : List ℕ) → AllDigits 10 f → rest ≡ 46 ∷ (f ++ behind) → suc (suc (length d)) + length f ≤ limit) → ((u : ℕ) (x : List ℕ) → is_unit u ≡ true → rest ≡ u ∷ x → ⊥) → length more ≤ limit
+among : (b : ℕ) (d rest : List ℕ) (all : AllDigits 10 (b ∷ d)) → after_digits ((b ∷ d) ++ rest) ≡ rest → (other : Shape) (more behind : List ℕ) → (b ∷ d) ++ rest ≡ more ++ behind → SpellsShape other more → (limit : ℕ) → suc (length d) ≤ limit → ((f : List ℕ) → AllDigits 10 f → rest ≡ 46 ∷ (f ++ behind) → suc (suc (length d)) + length f ≤ limit) → ((u : ℕ) (x : List ℕ) → is_unit u ≡ true → rest ≡ u ∷ x → ⊥) → length more ≤ limit
 among b d rest all here (AnInt n) more behind is s limit low points units =
     let r = ap length (rest_is (b ∷ d) rest here more behind s.0.1 is) in
     let le = after_digits_le behind in

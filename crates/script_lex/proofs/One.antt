@@ -1,7 +1,7 @@
 -- At one place stands one token, or one fault.
 use Rattle.std.proofs.Common.{◌≡◌, ◌≢◌, ℕ, List, [], ◌∷◌, ◌++◌, length, refl, sym, ap, ◌∙◌, subst, arith, Ok, Err, ⊎_elim}
 use Rattle.std.specs.List.{flat_map}
-use Rattle.script_lex.specs.Spelling.{Shape, ANumber, AText, Spells, IsLongest, IsToken, Means, is_within, Fault, Bad, Open, Large, FaultAt, IsUnclosed, IsBadInText, BeginsNothing, IsQuote, meant}
+use Rattle.script_lex.specs.Spelling.{Shape, ANumber, AText, SpellsShape, IsLongest, IsToken, Means, is_within, Fault, Bad, Open, Large, FaultAt, IsUnclosed, IsBadInText, BeginsNothing, IsQuote, meant}
 use Rattle.script_lex.specs.Reading.{Found, Read, shape_at}
 use Rattle.script_lex.specs.declared.token.TokenKind.{TokenKind}
 use Rattle.script_lex.specs.declared.token.TokenKind.TheVariants as kinds
@@ -29,7 +29,7 @@ append_nil : (a : List ℕ) → a ++ [] ≡ a
 append_nil [] = refl
 append_nil (x ∷ a) = ap (λ (l : List ℕ). x ∷ l) (append_nil a)
 
-same_class : (x y : Shape) (text : List ℕ) → Spells x text → Spells y text → class x ≡ class y
+same_class : (x y : Shape) (text : List ℕ) → SpellsShape x text → SpellsShape y text → class x ≡ class y
 same_class x y text a b =
     let s = starts x text a in
     sym s.first ∙ first_of y s.head s.tail text [] b (sym s.is ∙ sym (append_nil text))
@@ -37,7 +37,7 @@ same_class x y text a b =
 not_text : (x : Shape) → (class x ≡ Quote → ⊥) → (value : List ℕ) → x ≡ AText value → ⊥
 not_text x other value is = other (ap class is)
 
-by_reading : (x y : Shape) (text : List ℕ) → Spells x text → Spells y text → (class x ≡ Quote → ⊥) → (class y ≡ Quote → ⊥) → x ≡ y
+by_reading : (x y : Shape) (text : List ℕ) → SpellsShape x text → SpellsShape y text → (class x ≡ Quote → ⊥) → (class y ≡ Quote → ⊥) → x ≡ y
 by_reading x y text a b p q =
     let first : Found → Shape = λ f. f.0 in
     let left : Whole x text = read_alone x text a (not_text x p) in
@@ -45,7 +45,7 @@ by_reading x y text a b p q =
     ap first (ok_is (x, []) (y, []) (sym left ∙ right))
 
 -- one text spells one shape
-one_shape : (x y : Shape) (text : List ℕ) → Spells x text → Spells y text → x ≡ y
+one_shape : (x y : Shape) (text : List ℕ) → SpellsShape x text → SpellsShape y text → x ≡ y
 one_shape (AText v) (AText w) text a b =
     let h = halts_one text (closed_halt v text [] text a (sym (append_nil text))) (closed_halt w text [] text b (sym (append_nil text))) in
     ap AText (a.means ∙ ap (flat_map meant) h.0 ∙ sym b.means)
@@ -57,7 +57,7 @@ pub one_longest : (bs : List ℕ) (f g : Found) → FoundAt bs f → FoundAt bs 
 one_longest bs f g a b =
     let rest = one_rest f.0 g.0 bs f.1 g.1 a b in
     let text : a.text ≡ b.text = same_front a.text b.text f.1 (sym a.split ∙ b.split ∙ ap (λ (l : List ℕ). b.text ++ l) (sym rest)) in
-    let S : List ℕ → Type 0 = λ l. Spells f.0 l in
+    let S : List ℕ → Type 0 = λ l. SpellsShape f.0 l in
     let shape = one_shape f.0 g.0 b.text (subst S text a.spelled) b.spelled in
     let left : (f.0, f.1) ≡ (g.0, f.1) = ap (λ s. (s, f.1)) shape in
     let right : (g.0, f.1) ≡ (g.0, g.1) = ap (λ (r : List ℕ). (g.0, r)) rest in

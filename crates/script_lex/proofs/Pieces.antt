@@ -6,7 +6,7 @@ use Rattle.std.proofs.Math.Utf8.{encode}
 use Rattle.std.specs.List.{flat_map}
 use Rattle.script_lex.specs.Bytes.{is_inner, is_escapable}
 use Rattle.script_lex.specs.Reading.{body_end, escape_end}
-use Rattle.script_lex.specs.Spelling.{Piece, Plain, Escaped, written, IsPiece, ArePieces, IsQuote}
+use Rattle.script_lex.specs.Spelling.{TextPiece, Plain, Escaped, written, IsPiece, ArePieces, IsQuote}
 use Rattle.script_lex.specs.declared.body.BodyEnd.{BodyEnd}
 use Rattle.script_lex.specs.declared.body.BodyEnd.TheVariants as ends
 use Rattle.script_lex.proofs.Fronts.{choose}
@@ -103,10 +103,10 @@ plain_eaten q c quote low not_del not_slash not_quote r =
     (λ e. let below = ltb-true c 128 e in ap (λ (l : List ℕ). body_end q (l ++ r)) (encode_ascii c below) ∙ at_inner q c r (ne_eqb c q not_quote) (ne_eqb c 92 not_slash) (or_left (leb 32 c && leb c 126) (leb 128 c) (and_from (leb 32 c) (leb c 126) (le-leb 32 c low) (le-leb c 126 (omega arith)))))
     (λ e. high_eaten q quote (encode c) r (encode_high c (ltb-false c 128 e)))
 
-pub piece_eaten : (q : ℕ) → IsQuote q → (p : Piece) → IsPiece q p → (r : List ℕ) → body_end q (written p ++ r) ≡ body_end q r
+pub piece_eaten : (q : ℕ) → IsQuote q → (p : TextPiece) → IsPiece q p → (r : List ℕ) → body_end q (written p ++ r) ≡ body_end q r
 piece_eaten q quote (Plain c) h r = plain_eaten q c quote h.1 h.2 h.3 h.4 r
 piece_eaten q quote (Escaped c) h r = at_escape q (c ∷ r) (quote_low q quote).1 ∙ escape_good q c r h
 
-pub pieces_eaten : (q : ℕ) → IsQuote q → (ps : List Piece) → ArePieces q ps → (r : List ℕ) → body_end q (flat_map written ps ++ r) ≡ body_end q r
+pub pieces_eaten : (q : ℕ) → IsQuote q → (ps : List TextPiece) → ArePieces q ps → (r : List ℕ) → body_end q (flat_map written ps ++ r) ≡ body_end q r
 pieces_eaten q quote [] h r = refl
 pieces_eaten q quote (p ∷ ps) h r = ap (body_end q) (append_assoc (written p) (flat_map written ps) r) ∙ piece_eaten q quote p h.0 (flat_map written ps ++ r) ∙ pieces_eaten q quote ps h.1 r

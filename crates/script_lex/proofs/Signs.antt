@@ -2,7 +2,7 @@
 use Rattle.std.proofs.Common.{◌≡◌, ℕ, ◌≤◌, Bool, true, false, eqb, List, [], ◌∷◌, ◌++◌, length, refl, sym, ap, ◌∙◌, subst, arith, Option, Some, None, if◌then◌else◌}
 use Rattle.std.proofs.lemmas.Bool.{eqb-true, eq-eqb}
 use Rattle.script_lex.specs.Words.{symbol_text, symbol_of, symbol_with_equals}
-use Rattle.script_lex.specs.Spelling.{Shape, AWav, ASymbol, Spells}
+use Rattle.script_lex.specs.Spelling.{Shape, AWav, ASymbol, SpellsShape}
 use Rattle.script_lex.specs.Reading.{Found, symbol_before, first_of_two, symbol_at, wav_at}
 use Rattle.script_lex.specs.declared.token.Symbol.{Symbol}
 use Rattle.script_lex.specs.declared.token.Symbol.TheVariants as symbols
@@ -148,7 +148,7 @@ module _ (b : ℕ) (bs : List ℕ) (sign : class_of b ≡ Sign) (no_wav : wav_at
       let more_than = two s behind (ap symbol_with_equals same ∙ symbol) (cons_tail b c bs (61 ∷ behind) whole) in
       omega arith
 
-  among : (other : Shape) (more behind : List ℕ) → b ∷ bs ≡ more ++ behind → Spells other more → (limit : ℕ) → 1 ≤ limit → ((s : Symbol) (cs : List ℕ) → symbol_with_equals b ≡ Some s → bs ≡ 61 ∷ cs → 2 ≤ limit) → length more ≤ limit
+  among : (other : Shape) (more behind : List ℕ) → b ∷ bs ≡ more ++ behind → SpellsShape other more → (limit : ℕ) → 1 ≤ limit → ((s : Symbol) (cs : List ℕ) → symbol_with_equals b ≡ Some s → bs ≡ 61 ∷ cs → 2 ≤ limit) → length more ≤ limit
   among (ASymbol s) more behind is text limit low two = among_symbols s more behind is text (written_by s) limit low two
   among AWav more behind is text limit low two = absurd (wav_none (b ∷ bs) behind no_wav (is ∙ ap (λ (l : List ℕ). l ++ behind) text))
   among other more behind is text limit low two = let k : Sign ≡ class other = sym sign ∙ first_of other b bs more behind text is in absurd cc
@@ -190,7 +190,7 @@ module _ (b : ℕ) (bs : List ℕ) (sign : class_of b ≡ Sign) (no_wav : wav_at
       none_is b s symbol_with_equals c (alone behind (cons_tail b c bs (61 ∷ behind) whole)) symbol (sym (cons_head b c bs (61 ∷ behind) whole))
 
   -- where neither stands, nothing is spelled
-  nothing_spelled : symbol_of b ≡ None → ((cs : List ℕ) → bs ≡ 61 ∷ cs → symbol_with_equals b ≡ None) → (other : Shape) (more behind : List ℕ) → b ∷ bs ≡ more ++ behind → Spells other more → ⊥
+  nothing_spelled : symbol_of b ≡ None → ((cs : List ℕ) → bs ≡ 61 ∷ cs → symbol_with_equals b ≡ None) → (other : Shape) (more behind : List ℕ) → b ∷ bs ≡ more ++ behind → SpellsShape other more → ⊥
   nothing_spelled never alone (ASymbol s) more behind is text = no_symbol s more behind is text (written_by s) never alone
   nothing_spelled never alone AWav more behind is text = wav_none (b ∷ bs) behind no_wav (is ∙ ap (λ (l : List ℕ). l ++ behind) text)
   nothing_spelled never alone other more behind is text = let k : Sign ≡ class other = sym sign ∙ first_of other b bs more behind text is in cc
@@ -198,13 +198,13 @@ module _ (b : ℕ) (bs : List ℕ) (sign : class_of b ≡ Sign) (no_wav : wav_at
 pub symbol_found : (b : ℕ) (bs : List ℕ) → class_of b ≡ Sign → wav_at (b ∷ bs) ≡ None → (f : Found) → symbol_at b bs ≡ Some f → FoundAt (b ∷ bs) f
 symbol_found b bs sign no_wav f is = let P : Option Found → Type 0 = λ r. SymbolRead b bs r in found_by b bs sign no_wav f (subst P is (symbol_read b bs))
 
-pub symbol_nothing : (b : ℕ) (bs : List ℕ) → class_of b ≡ Sign → wav_at (b ∷ bs) ≡ None → symbol_at b bs ≡ None → (other : Shape) (more behind : List ℕ) → b ∷ bs ≡ more ++ behind → Spells other more → ⊥
+pub symbol_nothing : (b : ℕ) (bs : List ℕ) → class_of b ≡ Sign → wav_at (b ∷ bs) ≡ None → symbol_at b bs ≡ None → (other : Shape) (more behind : List ℕ) → b ∷ bs ≡ more ++ behind → SpellsShape other more → ⊥
 symbol_nothing b bs sign no_wav is = let P : Option Found → Type 0 = λ r. SymbolRead b bs r in none_by (subst P is (symbol_read b bs))
   where
     found_never : (f : Found) → let x : Option Found = None in x ≡ Some f → ⊥
     found_never f is = cc
 
-    none_by : SymbolRead b bs None → (other : Shape) (more behind : List ℕ) → b ∷ bs ≡ more ++ behind → Spells other more → ⊥
+    none_by : SymbolRead b bs None → (other : Shape) (more behind : List ℕ) → b ∷ bs ≡ more ++ behind → SpellsShape other more → ⊥
     none_by (Double s cs at symbol same) = absurd (found_never (ASymbol s, cs) same)
     none_by (Single s symbol alone same) = absurd (found_never (ASymbol s, bs) same)
     none_by (Neither never alone same) = nothing_spelled b bs sign no_wav never alone

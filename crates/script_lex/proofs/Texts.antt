@@ -8,7 +8,7 @@ use Rattle.std.specs.Str.Lossy.{utf8_valid_len}
 use Rattle.std.specs.List.{flat_map}
 use Rattle.script_lex.specs.Bytes.{is_escapable}
 use Rattle.script_lex.specs.Reading.{Found, body_end, unescaped, tail, text_at, text_from, front}
-use Rattle.script_lex.specs.Spelling.{Shape, AText, Spells, IsUnclosed, IsBadInText, Fault, Bad, Open, BeginsNoPiece, IsQuote, written, meant, Piece, Plain, Escaped, IsPiece, ArePieces}
+use Rattle.script_lex.specs.Spelling.{Shape, AText, SpellsShape, IsUnclosed, IsBadInText, Fault, Bad, Open, BeginsNoPiece, IsQuote, written, meant, TextPiece, Plain, Escaped, IsPiece, ArePieces}
 use Rattle.script_lex.specs.declared.body.BodyEnd.{BodyEnd}
 use Rattle.script_lex.specs.declared.body.BodyEnd.TheVariants as ends
 use Rattle.script_lex.proofs.Fronts.{choose, front_is}
@@ -32,7 +32,7 @@ stop_rest : (q : ℕ) (bs : List ℕ) (e f : BodyEnd) (x y : List ℕ) → body_
 stop_rest q bs e f x y a b = let second : Stop → List ℕ = λ s. s.1 in ap second (sym a ∙ b)
 
 -- no spelling is longer than the text that closes there
-closed_longest : (q : ℕ) → IsQuote q → (t r : List ℕ) → body_end q (t ++ (q ∷ r)) ≡ (ends.Closed, q ∷ r) → (other : Shape) (more behind : List ℕ) → q ∷ (t ++ (q ∷ r)) ≡ more ++ behind → Spells other more → length more ≤ suc (suc (length t))
+closed_longest : (q : ℕ) → IsQuote q → (t r : List ℕ) → body_end q (t ++ (q ∷ r)) ≡ (ends.Closed, q ∷ r) → (other : Shape) (more behind : List ℕ) → q ∷ (t ++ (q ∷ r)) ≡ more ++ behind → SpellsShape other more → length more ≤ suc (suc (length t))
 closed_longest q quote t r stop (AText v) more behind is s =
     let whole : q ∷ (t ++ (q ∷ r)) ≡ s.quote ∷ (flat_map written s.pieces ++ (s.quote ∷ behind)) = is ∙ ap (λ (l : List ℕ). l ++ behind) s.spelled ∙ ap (λ (l : List ℕ). s.quote ∷ l) (append_assoc (flat_map written s.pieces) (s.quote ∷ []) behind) in
     let inner = cons_tail q s.quote _ _ whole in
@@ -76,7 +76,7 @@ broken_here q quote bs stop some = record {
   no_end = (λ is. let other : Stop = (ends.Cut, []) in let here : Stop = (ends.Broken, bs) in cut_broken other here (sym (ap (body_end q) is) ∙ stop) refl refl, λ is. let other : Stop = (ends.Cut, 92 ∷ []) in let here : Stop = (ends.Broken, bs) in cut_broken other here (sym (ap (body_end q) is ∙ at_escape q [] (quote_low q quote).1) ∙ stop) refl refl);
 }
   where
-    piece_some : (p : Piece) → 1 ≤ length (written p)
+    piece_some : (p : TextPiece) → 1 ≤ length (written p)
     piece_some (Plain c) = let n = len_utf8_bounds c in let l = length-encode c in omega arith
     piece_some (Escaped c) = omega arith
 
@@ -134,7 +134,7 @@ text_found q quote bs f is =
     (λ u. let is' = subst P u is in cc)
 
 -- the characters of a text are UTF-8
-meant_utf8 : (q : ℕ) (p : Piece) → IsPiece q p → IsUtf8 (meant p)
+meant_utf8 : (q : ℕ) (p : TextPiece) → IsPiece q p → IsUtf8 (meant p)
 meant_utf8 q (Plain c) h = IsUtf8-encode c h.0
 meant_utf8 q (Escaped c) h = let low = escapable_low c h in subst IsUtf8 (encode_ascii c low) (IsUtf8-encode c (low_scalar c (omega arith)))
   where
@@ -144,7 +144,7 @@ meant_utf8 q (Escaped c) h = let low = escapable_low c h in subst IsUtf8 (encode
         (λ e. ⊎_elim (λ x. let is = eqb-true c 39 x in omega arith) (λ x. let is = eqb-true c 92 x in omega arith) (or_cases (eqb c 39) (eqb c 92) e))
         (or_cases (eqb c 34) _ h)
 
-all_meant_utf8 : (q : ℕ) (ps : List Piece) → ArePieces q ps → IsUtf8 (flat_map meant ps)
+all_meant_utf8 : (q : ℕ) (ps : List TextPiece) → ArePieces q ps → IsUtf8 (flat_map meant ps)
 all_meant_utf8 q [] h = IsUtf8-nil
 all_meant_utf8 q (p ∷ ps) h = IsUtf8-append (meant p) (flat_map meant ps) (meant_utf8 q p h.0) (all_meant_utf8 q ps h.1)
 

@@ -2,7 +2,7 @@
 use Rattle.std.proofs.Common.{◌≡◌, ℕ, ◌≤◌, Bool, ◌&&◌, eqb, List, [], ◌∷◌, ◌++◌, length, refl, ap, subst, arith, Option, Some, None, if◌then◌else◌}
 use Rattle.std.proofs.lemmas.Bool.{eqb-true, and_parts}
 use Rattle.script_lex.specs.Words.{symbol_text}
-use Rattle.script_lex.specs.Spelling.{Shape, AWav, ASymbol, Spells}
+use Rattle.script_lex.specs.Spelling.{Shape, AWav, ASymbol, SpellsShape}
 use Rattle.script_lex.specs.Reading.{Found, wav_at}
 use Rattle.script_lex.specs.declared.token.Symbol.{Symbol}
 use Rattle.script_lex.proofs.Fronts.{choose}
@@ -14,7 +14,7 @@ symbol_short : (s : Symbol) → Written s → length (symbol_text s) ≤ 4
 symbol_short s (One c form symbol) = let size = ap length form in omega arith
 symbol_short s (Two c form symbol) = let size = ap length form in omega arith
 
-among : (bs more behind : List ℕ) (other : Shape) → 37 ∷ bs ≡ more ++ behind → Spells other more → length more ≤ 4
+among : (bs more behind : List ℕ) (other : Shape) → 37 ∷ bs ≡ more ++ behind → SpellsShape other more → length more ≤ 4
 among bs more behind (ASymbol s) is text = let size = ap length text in let short = symbol_short s (written_by s) in omega arith
 among bs more behind AWav is text = let size = ap length text in omega arith
 among bs more behind other is text = let k : Sign ≡ class other = first_of other 37 bs more behind text is in absurd cc

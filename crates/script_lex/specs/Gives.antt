@@ -2,7 +2,7 @@
 use Rattle.std.specs.Prelude.{◌≡◌, ℕ, true, false, Result, Ok, Err, List, Some}
 use Rattle.script_lex.specs.Spelling.{Fault, Bad, Open, Large, Means, is_within}
 use Rattle.script_lex.specs.Reading.{Read}
-use Rattle.script_lex.specs.Tokens.{Runs, told}
+use Rattle.script_lex.specs.Tokens.{Runs, placed_fault}
 use Rattle.script_lex.specs.declared.token.Token.{Token}
 use Rattle.script_lex.specs.declared.token.TokenKind.{TokenKind}
 use Rattle.script_lex.specs.declared.token.LexFault.{LexFault}
@@ -39,12 +39,12 @@ IfFault (refusals.BadByte n) P = P (Bad n)
 IfFault (refusals.UnclosedString n) P = P (Open n)
 IfFault (refusals.NumberTooLarge n) P = P (Large n)
 
--- what a refusal is told as
+-- what a refusal is placed_fault as
 abbrev pub told_as : ℕ → Refusal → LexFault
 told_as total refusals.Memory = faults.Memory
-told_as total (refusals.BadByte n) = told total (Bad n)
-told_as total (refusals.UnclosedString n) = told total (Open n)
-told_as total (refusals.NumberTooLarge n) = told total (Large n)
+told_as total (refusals.BadByte n) = placed_fault total (Bad n)
+told_as total (refusals.UnclosedString n) = placed_fault total (Open n)
+told_as total (refusals.NumberTooLarge n) = placed_fault total (Large n)
 
 -- the fault of a text, behind some tokens
 abbrev pub RunsInto : List ℕ → Fault → Type 0

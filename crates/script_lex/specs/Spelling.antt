@@ -74,24 +74,24 @@ pub record IsTimeText (day hour minute second : Option (List ℕ)) (text : List 
   pub spelled : (text ≡ time_text day hour minute second) ⊎ IsShortTime day hour minute second text
 
 -- a character of a text: itself, or behind a backslash
-pub data Piece : Type 0 where
-  Plain : ℕ → Piece
-  Escaped : ℕ → Piece
+pub data TextPiece : Type 0 where
+  Plain : ℕ → TextPiece
+  Escaped : ℕ → TextPiece
 
-abbrev pub written : Piece → List ℕ
+abbrev pub written : TextPiece → List ℕ
 written (Plain c) = encode_utf8 c
 written (Escaped c) = 92 ∷ c ∷ []
 
-abbrev pub meant : Piece → List ℕ
+abbrev pub meant : TextPiece → List ℕ
 meant (Plain c) = encode_utf8 c
 meant (Escaped c) = c ∷ []
 
 -- U+0020 to U+007E other than the backslash and the quote, or a character from U+0080 on; or one of the three behind a backslash
-abbrev pub IsPiece : ℕ → Piece → Type 0
+abbrev pub IsPiece : ℕ → TextPiece → Type 0
 IsPiece quote (Plain c) = IsScalar c × (32 ≤ c) × (c ≢ 127) × (c ≢ 92) × (c ≢ quote)
 IsPiece quote (Escaped c) = is_escapable c ≡ true
 
-abbrev pub ArePieces : ℕ → List Piece → Type 0
+abbrev pub ArePieces : ℕ → List TextPiece → Type 0
 ArePieces quote [] = Unit {0}
 ArePieces quote (p ∷ ps) = IsPiece quote p × ArePieces quote ps
 
@@ -101,22 +101,22 @@ IsQuote q = (q ≡ 34) ⊎ (q ≡ 39)
 -- a text between quotes, and the characters that it stands for
 pub record IsQuotedText (value text : List ℕ) : Type 0 where
   pub quote : ℕ
-  pub pieces : List Piece
+  pub pieces : List TextPiece
   pub is_quote : IsQuote quote
   pub allowed : ArePieces quote pieces
   pub spelled : text ≡ quote ∷ flat_map written pieces ++ quote ∷ []
   pub means : value ≡ flat_map meant pieces
 
 -- The spellings of each shape.
-abbrev pub Spells : Shape → List ℕ → Type 0
-Spells (AWord word) text = IsDotted text × (word ≡ text)
-Spells (AnOpen name) text = IsDotted name × (keyword_of name ≡ None) × (text ≡ name ++ 40 ∷ [])
-Spells (AnInt digits) text = IsNumeral 10 text × (digits ≡ text)
-Spells (ANumber whole fraction) text = IsNumeral 10 whole × AllDigits 10 fraction × (text ≡ whole ++ 46 ∷ fraction)
-Spells (ATime day hour minute second) text = IsTimeText day hour minute second text
-Spells (AText value) text = IsQuotedText value text
-Spells AWav text = text ≡ codes "%wav"
-Spells (ASymbol symbol) text = text ≡ symbol_text symbol
+abbrev pub SpellsShape : Shape → List ℕ → Type 0
+SpellsShape (AWord word) text = IsDotted text × (word ≡ text)
+SpellsShape (AnOpen name) text = IsDotted name × (keyword_of name ≡ None) × (text ≡ name ++ 40 ∷ [])
+SpellsShape (AnInt digits) text = IsNumeral 10 text × (digits ≡ text)
+SpellsShape (ANumber whole fraction) text = IsNumeral 10 whole × AllDigits 10 fraction × (text ≡ whole ++ 46 ∷ fraction)
+SpellsShape (ATime day hour minute second) text = IsTimeText day hour minute second text
+SpellsShape (AText value) text = IsQuotedText value text
+SpellsShape AWav text = text ≡ codes "%wav"
+SpellsShape (ASymbol symbol) text = text ≡ symbol_text symbol
 
 -- a part of a time passes no more than this
 abbrev pub is_up_to : ℕ → Option (List ℕ) → Bool
@@ -156,8 +156,8 @@ Means (ASymbol symbol) kind = kind ≡ kinds.Symbol symbol
 pub record IsLongest (shape : Shape) (bytes rest : List ℕ) : Type 0 where
   pub text : List ℕ
   pub split : bytes ≡ text ++ rest
-  pub spelled : Spells shape text
-  pub longest : (other : Shape) (more behind : List ℕ) → bytes ≡ more ++ behind → Spells other more → length more ≤ length text
+  pub spelled : SpellsShape shape text
+  pub longest : (other : Shape) (more behind : List ℕ) → bytes ≡ more ++ behind → SpellsShape other more → length more ≤ length text
 
 -- a token of this kind stands at the front of bytes, and rest is behind it
 pub record IsToken (bytes : List ℕ) (kind : TokenKind) (rest : List ℕ) : Type 0 where
@@ -182,7 +182,7 @@ pub record IsTooLarge (bytes : List ℕ) : Type 0 where
 -- a text that the end cuts; a backslash may be the last byte
 pub record IsUnclosed (bytes : List ℕ) : Type 0 where
   pub quote : ℕ
-  pub pieces : List Piece
+  pub pieces : List TextPiece
   pub last : List ℕ
   pub is_quote : IsQuote quote
   pub allowed : ArePieces quote pieces
@@ -191,14 +191,14 @@ pub record IsUnclosed (bytes : List ℕ) : Type 0 where
 
 -- neither a character of a text nor its quote begins these bytes, and they do not end
 pub record BeginsNoPiece (quote : ℕ) (bytes : List ℕ) : Type 0 where
-  pub no_piece : (p : Piece) (rest : List ℕ) → IsPiece quote p → bytes ≢ written p ++ rest
+  pub no_piece : (p : TextPiece) (rest : List ℕ) → IsPiece quote p → bytes ≢ written p ++ rest
   pub no_quote : (rest : List ℕ) → bytes ≢ quote ∷ rest
   pub no_end : (bytes ≢ []) × (bytes ≢ 92 ∷ [])
 
 -- within a text, so many bytes from the end, stands what may not stand there
 pub record IsBadInText (bytes : List ℕ) (left : ℕ) : Type 0 where
   pub quote : ℕ
-  pub pieces : List Piece
+  pub pieces : List TextPiece
   pub bad : List ℕ
   pub is_quote : IsQuote quote
   pub allowed : ArePieces quote pieces
@@ -209,7 +209,7 @@ pub record IsBadInText (bytes : List ℕ) (left : ℕ) : Type 0 where
 -- no token begins here, nor a text
 pub record BeginsNothing (bytes : List ℕ) : Type 0 where
   pub some : bytes ≢ []
-  pub no_shape : (shape : Shape) (text rest : List ℕ) → bytes ≡ text ++ rest → Spells shape text → ⊥
+  pub no_shape : (shape : Shape) (text rest : List ℕ) → bytes ≡ text ++ rest → SpellsShape shape text → ⊥
   pub no_quote : (quote : ℕ) (rest : List ℕ) → IsQuote quote → bytes ≢ quote ∷ rest
 
 -- the fault that stands at the front of bytes

@@ -29,14 +29,14 @@ abbrev pub Runs : List ℕ → List Token → Option Fault → Type 0
 Runs text ts end = (rest : List ℕ) × Leads (length text) text ts rest × EndsBy end (between false rest)
 
 -- the fault, with its place from the text's start
-abbrev pub told : ℕ → Fault → LexFault
-told total (Bad left) = faults.BadByte (total - left)
-told total (Open left) = faults.UnclosedString (total - left)
-told total (Large left) = faults.NumberTooLarge (total - left)
+abbrev pub placed_fault : ℕ → Fault → LexFault
+placed_fault total (Bad left) = faults.BadByte (total - left)
+placed_fault total (Open left) = faults.UnclosedString (total - left)
+placed_fault total (Large left) = faults.NumberTooLarge (total - left)
 
 -- a fault stands behind some tokens, at its place
 abbrev pub StandsIn : List ℕ → LexFault → Type 0
-StandsIn text fault = (length text ≤ MAX_SCRIPT_BYTES) × ((ts : List Token) × (stop : Fault) × Runs text ts (Some stop) × (fault ≡ told (length text) stop))
+StandsIn text fault = (length text ≤ MAX_SCRIPT_BYTES) × ((ts : List Token) × (stop : Fault) × Runs text ts (Some stop) × (fault ≡ placed_fault (length text) stop))
 
 -- the tokens of a text
 abbrev pub AreTokens : List ℕ → List Token → Type 0

@@ -31,7 +31,8 @@ pub enum Named {
 
 /// The place that a line of a fault names, by its number: E02 to E04 a byte, E06 to E11 and E14 a token, E13 and E15 a
 /// statement, E12 what fits no types in one, E18, E20, E21, E23 and E29 a text, E25 what may be silent in an output, E26 and
-/// E27 a source. `docs/faults.md` has the forms. Nothing where the line is none of them.
+/// E27 a source; so does a line of `week_program`. `docs/faults.md` and `docs/formats.md` have the forms. Nothing where the line is none
+/// of them.
 pub fn named_in(line: &str) -> Option<Named> {
     let (number, rest) = line.split_once(' ')?;
     match number {
@@ -49,6 +50,7 @@ pub fn named_in(line: &str) -> Option<Named> {
         "E29" => text(line, rest, "output too long ", 0),
         "E26" => Some(Named::Source(between(rest, "source ", ' ')?)),
         "E27" => Some(Named::Source(between(rest, "crossfade ", ' ')?)),
+        "switch" => Some(Named::Source(between(rest, "", ':')?)),
         _ => None,
     }
 }

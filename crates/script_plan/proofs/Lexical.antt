@@ -5,7 +5,7 @@ use Rattle.script_lex.specs.declared.token.LexFault.{LexFault}
 use Rattle.script_lex.specs.declared.token.LexFault.TheVariants as faults
 use Rattle.script_lex.specs.declared.token.Token.{Token}
 use Rattle.script_lex.specs.Spelling.{Fault}
-use Rattle.script_lex.specs.Tokens.{AreTokens, HasFault, StandsIn, told}
+use Rattle.script_lex.specs.Tokens.{AreTokens, HasFault, StandsIn, placed_fault}
 use Rattle.script_lex.proofs.Lexed.{no_fault}
 use Rattle.script_lex.proofs.Runs.{runs_one}
 
@@ -32,7 +32,7 @@ some_is f g is = cc
 standing_one : (text : List ℕ) (f g : LexFault) → StandsIn text f → StandsIn text g → f ≡ g
 standing_one text f g a b =
     let same = (runs_one text a.1.0 b.1.0 (Some a.1.1) (Some b.1.1) a.1.2 b.1.2).1 in
-    a.1.3 ∙ ap (told (length text)) (some_is a.1.1 b.1.1 same) ∙ sym b.1.3
+    a.1.3 ∙ ap (placed_fault (length text)) (some_is a.1.1 b.1.1 same) ∙ sym b.1.3
 
 by_forms : (text : List ℕ) (f g : LexFault) → IsOf text f → IsOf text g → f ≡ g
 by_forms text f g (inl a) (inl b) = a.0 ∙ sym b.0

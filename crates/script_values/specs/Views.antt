@@ -2,10 +2,10 @@
 use Rattle.script_values.specs.declared.slots.Slot as slot
 use Rattle.script_values.specs.declared.slots.Given as given
 use Rattle.script_values.specs.View.{view_value}
-use Rattle.script_values.specs.Slots.{Slot, Given}
+use Rattle.script_values.specs.Slots.{SlotValue, Argument}
 
-abbrev pub view_slot : slot.Slot → Slot
+abbrev pub view_slot : slot.Slot → SlotValue
 view_slot s = (s.at, view_value s.value)
 
-abbrev pub view_given : given.Given → Given
+abbrev pub view_given : given.Given → Argument
 view_given g = (g.label, view_value g.value)

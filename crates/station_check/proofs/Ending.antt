@@ -3,6 +3,7 @@ use Rattle.std.proofs.Common.{◌≡◌, ◌⊎◌, ℕ, List, Some, refl, ⊎_e
 use Rattle.std.specs.Prelude.{Ok, Err, Result, Option, ◌≢◌, IfOk, IfErr, IsErrOf}
 use Rattle.std.specs.Option.{ForSome}
 use Rattle.liq_base.specs.Files.{Files}
+use Rattle.liq_base.specs.Shelves.{ShelfTold}
 use Rattle.frame_core.specs.Library.{IsLibrary, Sounds}
 use Rattle.plan_core.specs.declared.plan.Plan.{Plan}
 use Rattle.plan_core.specs.Plans.{IsWellFormed}
@@ -21,15 +22,15 @@ use Rattle.station_check.specs.declared.halt.Halt.TheVariants.{Refused, Read, Me
 use Rattle.station_check.proofs.Findings.{found_cause, found_file, found_gap, found_long}
 
 -- the loading of the files
-pub loading : (told : Option Files) (before after : ℕ) (reads : Files → List ℕ → Type 0) (plan : Plan) (fault : LoadFault)
-    → Ends told before after reads (λ files. load_of (rules_of plan) files plan.nodes) fault
-    → HaltsFor told before after (λ files f. (ticks : ℕ) → IsFound files plan ticks (Fails f)) (load_halt fault)
-loading told before after reads plan (Missing name) ends = λ files t ticks. found_file files plan ticks (Missing name) (ends files t) (ends files t)
-loading told before after reads plan (BadAudio name fault) ends = λ files t ticks. found_file files plan ticks (BadAudio name fault) (ends files t) (ends files t)
-loading told before after reads plan (FileTooLarge name) ends = λ files t ticks. found_file files plan ticks (FileTooLarge name) (ends files t) (ends files t)
-loading told before after reads plan AllTooLarge ends = λ files t ticks. found_file files plan ticks AllTooLarge (ends files t) (ends files t)
-loading told before after reads plan (ReadFault name) ends = ends.0
-loading told before after reads plan load_memory ends = tt
+pub loading : (old new : ShelfTold) (reads : Files → List ℕ → Type 0) (plan : Plan) (fault : LoadFault)
+    → Ends old new reads (λ files. load_of (rules_of plan) files plan.nodes) fault
+    → HaltsFor old new (λ files f. (ticks : ℕ) → IsFound files plan ticks (Fails f)) (load_halt fault)
+loading old new reads plan (Missing name) ends = λ files t ticks. found_file files plan ticks (Missing name) (ends files t) (ends files t)
+loading old new reads plan (BadAudio name fault) ends = λ files t ticks. found_file files plan ticks (BadAudio name fault) (ends files t) (ends files t)
+loading old new reads plan (FileTooLarge name) ends = λ files t ticks. found_file files plan ticks (FileTooLarge name) (ends files t) (ends files t)
+loading old new reads plan AllTooLarge ends = λ files t ticks. found_file files plan ticks AllTooLarge (ends files t) (ends files t)
+loading old new reads plan (ReadFault name) ends = ends.0
+loading old new reads plan load_memory ends = tt
 
 -- the clocks that are answered are the only ones
 pub clocks_found : (plan : Plan) (result : Result ClockMap ClockFault) (clocks : ClockMap) → result ≡ Ok clocks → IsClockMap plan clocks
@@ -89,12 +90,12 @@ length_ends plan ticks clocks Read well ungapped one h = absurd h
 length_ends plan ticks clocks Memory well ungapped one h = tt
 
 -- the rest ends for a plan whose files were loaded
-pub rest_ends : (told : Option Files) (before after : ℕ) (plan : Plan) (ticks : ℕ) (library : Sounds) (halt : Halt)
-    → ((files : Files) → told ≡ Some files → IsLoaded files plan library) → RestHalts plan ticks halt
-    → HaltsFor told before after (λ files fault. IsFound files plan ticks (Fails fault)) halt
-rest_ends told before after plan ticks library (Refused fault) loaded h = λ files t. h files library (loaded files t)
-rest_ends told before after plan ticks library Read loaded h = absurd h
-rest_ends told before after plan ticks library Memory loaded h = tt
+pub rest_ends : (old new : ShelfTold) (plan : Plan) (ticks : ℕ) (library : Sounds) (halt : Halt)
+    → ((files : Files) → old.files ≡ Some files → IsLoaded files plan library) → RestHalts plan ticks halt
+    → HaltsFor old new (λ files fault. IsFound files plan ticks (Fails fault)) halt
+rest_ends old new plan ticks library (Refused fault) loaded h = λ files t. h files library (loaded files t)
+rest_ends old new plan ticks library Read loaded h = absurd h
+rest_ends old new plan ticks library Memory loaded h = tt
 
 -- the clocks that the rest answers are those of a plan whose files were loaded
 pub rest_fits : (told : Option Files) (plan : Plan) (ticks : ℕ) (library : Sounds) (result : Result ClockMap Halt)
@@ -105,16 +106,16 @@ rest_fits told plan ticks library (Ok clocks) loaded sounds found = λ files t. 
 rest_fits told plan ticks library (Err halt) loaded sounds found = tt
 
 -- and so is its fault
-pub rest_fails : (told : Option Files) (before after : ℕ) (plan : Plan) (ticks : ℕ) (library : Sounds) (result : Result ClockMap Halt)
-    → ForSome told (λ files. IsLoaded files plan library) → IfErr result (RestHalts plan ticks)
-    → IfErr result (HaltsFor told before after (λ files fault. IsFound files plan ticks (Fails fault)))
-rest_fails told before after plan ticks library (Ok clocks) loaded h = tt
-rest_fails told before after plan ticks library (Err halt) loaded h = rest_ends told before after plan ticks library halt loaded h
+pub rest_fails : (old new : ShelfTold) (plan : Plan) (ticks : ℕ) (library : Sounds) (result : Result ClockMap Halt)
+    → ForSome old.files (λ files. IsLoaded files plan library) → IfErr result (RestHalts plan ticks)
+    → IfErr result (HaltsFor old new (λ files fault. IsFound files plan ticks (Fails fault)))
+rest_fails old new plan ticks library (Ok clocks) loaded h = tt
+rest_fails old new plan ticks library (Err halt) loaded h = rest_ends old new plan ticks library halt loaded h
 
 -- the loading ends for these ticks
-pub load_ends : (told : Option Files) (before after : ℕ) (plan : Plan) (ticks : ℕ) (halt : Halt)
-    → HaltsFor told before after (λ files fault. (ticks : ℕ) → IsFound files plan ticks (Fails fault)) halt
-    → HaltsFor told before after (λ files fault. IsFound files plan ticks (Fails fault)) halt
-load_ends told before after plan ticks (Refused fault) h = λ files t. h files t ticks
-load_ends told before after plan ticks Read h = h
-load_ends told before after plan ticks Memory h = tt
+pub load_ends : (old new : ShelfTold) (plan : Plan) (ticks : ℕ) (halt : Halt)
+    → HaltsFor old new (λ files fault. (ticks : ℕ) → IsFound files plan ticks (Fails fault)) halt
+    → HaltsFor old new (λ files fault. IsFound files plan ticks (Fails fault)) halt
+load_ends old new plan ticks (Refused fault) h = λ files t. h files t ticks
+load_ends old new plan ticks Read h = h
+load_ends old new plan ticks Memory h = tt

@@ -1,8 +1,9 @@
 -- How a check ends without the plan's audio files and clocks. Only private functions cite what stands below `HaltsFor`.
-use Rattle.std.specs.Prelude.{◌≡◌, ⊤, ℕ, Bool, List, Option, Some}
+use Rattle.std.specs.Prelude.{◌≡◌, ⊤, ℕ, Bool, List, Some}
 use Rattle.std.specs.Option.{ForSome}
 use Rattle.liq_base.specs.Counts.{Rose}
 use Rattle.liq_base.specs.Files.{Files}
+use Rattle.liq_base.specs.Shelves.{ShelfTold}
 use Rattle.frame_core.specs.Library.{Sounds}
 use Rattle.plan_core.specs.declared.plan.Plan.{Plan}
 use Rattle.clock_infer.specs.declared.clock_map.ClockFault.{ClockFault}
@@ -19,10 +20,10 @@ use Rattle.station_check.specs.declared.halt.Halt.TheVariants.{Refused, Read, Me
 
 -- a plan is refused for what is found where the files are told; a read failed where the count of failed reads rose; and
 -- memory may be refused anywhere
-abbrev pub HaltsFor : Option Files → (before after : ℕ) → (Files → StationFault → Type 0) → Halt → Type 0
-HaltsFor told before after IsTold (Refused fault) = ForSome told (λ files. IsTold files fault)
-HaltsFor told before after IsTold Read = Rose before after
-HaltsFor told before after IsTold Memory = ⊤
+abbrev pub HaltsFor : (old new : ShelfTold) → (Files → StationFault → Type 0) → Halt → Type 0
+HaltsFor old new IsTold (Refused fault) = ForSome old.files (λ files. IsTold files fault)
+HaltsFor old new IsTold Read = Rose old.reads new.reads
+HaltsFor old new IsTold Memory = ⊤
 
 -- how a check ends at a fault of files, and at one of clocks
 abbrev pub load_halt : LoadFault → Halt

@@ -7,6 +7,7 @@ ghost use Rattle.liq_base.specs.Files.{Files};
 ghost use Rattle.stations.specs.Findings.{Fails, Fits, IsFit, IsFound, IsLoaded, first_name, is_too_long};
 ghost use Rattle.station_check.specs.Halts.{HaltsFor, RestHalts};
 ghost use Rattle.station_check.specs.Steps.{FitsBy, IsUngapped, OnlyClocks};
+ghost use Rattle.liq_base.specs.Shelves.{OnlyRead};
 
 use crate::Halt;
 use crate::clocks::find_clocks;
@@ -31,17 +32,13 @@ pub fn check_plan<S: Shelf>(
     requires plan { IsWellFormed plan.now }
     requires few { ticks ≤ 1000000000 }
     // What is answered is what is found of the plan, and nothing else is.
-    ensures found { IfOk result (λ ready. ForSome (S.files shelf.old) (λ files. IsFound files plan.now ticks (Fits ready.library ready.clocks))) }
+    ensures found { IfOk result (λ ready. ForSome (S.told shelf.old).files (λ files. IsFound files plan.now ticks (Fits ready.library ready.clocks))) }
     // What is refused is refused for the fault that is found, and nothing else is; `Read` comes only where a read failed.
-    ensures fault { IfErr result (HaltsFor (S.files shelf.old) (S.read_count shelf.old) (S.read_count shelf.new) (λ files fault. IsFound files plan.now ticks (Fails fault))) }
+    ensures fault { IfErr result (HaltsFor (S.told shelf.old) (S.told shelf.new) (λ files fault. IsFound files plan.now ticks (Fails fault))) }
     // Whatever the shelf tells, what is answered can be rendered, and no output that needs an infallible source lacks one.
     ensures fit { IfOk result (λ ready. IsFit plan.now ready.library ready.clocks ticks) }
     ensures safe { OnOk result (IsUngapped plan.now) }
-    ensures files { S.files shelf.new ≡ S.files shelf.old }
-    ensures created { S.created shelf.new ≡ S.created shelf.old }
-    ensures closed { S.closed shelf.new ≡ S.closed shelf.old }
-    ensures reads { S.read_count shelf.old ≤ S.read_count shelf.new }
-    ensures writes { S.write_count shelf.old ≤ S.write_count shelf.new }
+    ensures shelf { OnlyRead (S.told shelf.old) (S.told shelf.new) }
 {
     let files = read_files(alloc, plan, shelf)?;
     let clocks = check_rest(alloc, plan, ticks)?;
@@ -60,17 +57,13 @@ pub fn check_clocks<S: Shelf>(
     requires plan { IsWellFormed plan.now }
     requires few { ticks ≤ 1000000000 }
     // The plan is found to be one with some audio files and these clocks, and nothing else is found.
-    ensures found { IfOk result (λ clocks. ForSome (S.files shelf.old) (λ files. FitsBy files plan.now ticks clocks)) }
+    ensures found { IfOk result (λ clocks. ForSome (S.told shelf.old).files (λ files. FitsBy files plan.now ticks clocks)) }
     // Whatever the shelf tells, they are the clocks of the plan, which has no others, and the plan has no other fault than one of files.
     ensures map { IfOk result (λ clocks. OnlyClocks plan.now clocks) }
     ensures safe { OnOk result (IsUngapped plan.now) }
     ensures short { OnOk result (first_name (is_too_long plan.now ticks) plan.now.sinks ≡ None) }
-    ensures fault { IfErr result (HaltsFor (S.files shelf.old) (S.read_count shelf.old) (S.read_count shelf.new) (λ files fault. IsFound files plan.now ticks (Fails fault))) }
-    ensures files { S.files shelf.new ≡ S.files shelf.old }
-    ensures created { S.created shelf.new ≡ S.created shelf.old }
-    ensures closed { S.closed shelf.new ≡ S.closed shelf.old }
-    ensures reads { S.read_count shelf.old ≤ S.read_count shelf.new }
-    ensures writes { S.write_count shelf.old ≤ S.write_count shelf.new }
+    ensures fault { IfErr result (HaltsFor (S.told shelf.old) (S.told shelf.new) (λ files fault. IsFound files plan.now ticks (Fails fault))) }
+    ensures shelf { OnlyRead (S.told shelf.old) (S.told shelf.new) }
 {
     let files = read_files(alloc, plan, shelf)?;
     drop(files);

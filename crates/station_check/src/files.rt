@@ -4,6 +4,7 @@ ghost use Rattle.plan_core.specs.Plans.{IsWellFormed};
 ghost use Rattle.stations.specs.Findings.{Fails, IsFound, rules_of};
 ghost use Rattle.station_check.specs.Halts.{HaltsFor, load_halt};
 ghost use Rattle.track_library.specs.Loads.{AreLoaded};
+ghost use Rattle.liq_base.specs.Shelves.{OnlyRead};
 
 use crate::Halt;
 use liq_base::Shelf;
@@ -16,14 +17,10 @@ use track_library::{LoadFault, PlanFiles, Sizes, find_files};
 /// The audio files of a plan, each read once and none decoded; or the first fault of their loading.
 pub fn read_files<S: Shelf>(alloc: Global, plan: &Plan, shelf: &mut S) -> Result<PlanFiles, Halt>
     requires { IsWellFormed plan.now }
-    ensures loaded { IfOk result (AreLoaded (S.files shelf.old) (rules_of plan.now) plan.now.nodes) }
-    ensures fault { IfErr result (HaltsFor (S.files shelf.old) (S.read_count shelf.old) (S.read_count shelf.new)
+    ensures loaded { IfOk result (AreLoaded (S.told shelf.old).files (rules_of plan.now) plan.now.nodes) }
+    ensures fault { IfErr result (HaltsFor (S.told shelf.old) (S.told shelf.new)
         (λ files fault. (ticks : ℕ) → IsFound files plan.now ticks (Fails fault))) }
-    ensures files { S.files shelf.new ≡ S.files shelf.old }
-    ensures created { S.created shelf.new ≡ S.created shelf.old }
-    ensures closed { S.closed shelf.new ≡ S.closed shelf.old }
-    ensures reads { S.read_count shelf.old ≤ S.read_count shelf.new }
-    ensures writes { S.write_count shelf.old ≤ S.write_count shelf.new }
+    ensures shelf { OnlyRead (S.told shelf.old) (S.told shelf.new) }
 {
     let sizes = Sizes {
         file: MAX_FILE_BYTES,

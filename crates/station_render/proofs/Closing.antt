@@ -1,18 +1,18 @@
 -- Sinks that are closed one after another.
-use Rattle.std.proofs.Common.{◌≡◌, ◌<◌, ◌≤◌, ◌∙◌, ◌⊎◌, ℕ, zero, suc, Bool, true, List, [], ◌∷◌, ◌++◌, append_assoc, length, slice_get, nat_eq, arith, refl, ap, sym, subst, inl, inr, if◌then◌else◌}
+use Rattle.std.proofs.Common.{◌≡◌, ◌<◌, ◌≤◌, ◌∙◌, ◌⊎◌, ℕ, zero, suc, Bool, true, false, List, [], ◌∷◌, ◌++◌, append-nil, append_assoc, length, map, slice_get, nat_eq, arith, refl, ap, sym, subst, inl, inr, if◌then◌else◌}
 use Rattle.std.specs.Prelude.{Option, Some, None, Result, Ok, Err, OnOk, OnErr, IsSomeAnd}
 use Rattle.std.specs.Option.{ForSome}
 use Rattle.std.proofs.lemmas.Bool.{cases_Bool, eqb-true, eqb-false, eq-eqb}
 use Rattle.liq_base.specs.Counts.{Rose}
 use Rattle.liq_base.specs.Files.{Files, with_file, Closed, ClosedPart, HoldsPart as FileHoldsPart}
 use Rattle.liq_base.specs.Kept.{some_and}
-use Rattle.liq_base.specs.Pieces.{HasRoom, IsPrefix, grown}
-use Rattle.stations.specs.Outputs.{OutputFile, OutputPart, with_outputs, HoldsBetween, HoldsParts}
-use Rattle.station_render.specs.OutputSinks.{HasEnded, HasEndedPart, HaveRooms, HoldsBody, HoldsFrontIf, last_byte}
+use Rattle.liq_base.specs.Pieces.{HasRoom, IsPrefix, SinkTold, TookPart, grown}
+use Rattle.stations.specs.Outputs.{HoldsBetween, HoldsEnds, HoldsParts, OutputPart, unended, whole_of, with_outputs}
+use Rattle.station_render.specs.OutputSinks.{HasEnded, HaveRooms, HoldsBody, HoldsSoMuch, last_byte}
 use Rattle.station_render.specs.Sinks.{AreCreated, AreAllEmpty, HasFailed, HaveSizes, HoldsFront, WasTaken, count_of}
 use Rattle.station_render.specs.declared.output_sink.OutputSink.{OutputSink}
 use Rattle.station_render.proofs.Lists.{within, no_items, set_here, set_many, set_other}
-use Rattle.station_render.proofs.Creating.{created_as}
+use Rattle.station_render.proofs.Creating.{created_as, created_mapped}
 use Rattle.station_render.proofs.Dealing.{first_so, others_so}
 
 -- nothing was created
@@ -23,8 +23,8 @@ pub all_empty : {S : Type 0} (order : List ℕ) (groups : List (List S)) → len
 all_empty [] groups none sizes m group there = no_items group (sizes.each m group there)
 all_empty (c ∷ order) groups none sizes m group there = absurd (omega (arith, none))
 
-pub none_failed : {S P : Type 0} (order : List ℕ) (groups : List (List S)) → length order ≡ 0 → HaveSizes order groups → (faults : S → ℕ) → HasFailed faults groups → P
-none_failed order groups none sizes faults failed =
+pub none_failed : {S P : Type 0} (order : List ℕ) (groups : List (List S)) → length order ≡ 0 → HaveSizes order groups → (told : S → SinkTold) → HasFailed told groups → P
+none_failed order groups none sizes told failed =
     let empty : failed.group ≡ [] = all_empty order groups none sizes failed.clock failed.group failed.there in
     let at : slice_get [] failed.place ≡ Some failed.sink = ap (λ g. slice_get g failed.place) (sym empty) ∙ failed.stands in
     absurd (cc)
@@ -43,15 +43,23 @@ part_within files name h most p after (inl kept) = inl kept
 part_within files name h most p after (inr part) = inr (part.0, prefix_then part.0 h most part.1 p, part.2)
 
 -- whatever a closing answered, the name holds what its sink held; or, where the sink or the closing failed, a prefix or what it held
-closed_between : {E : Type 0} (r : Result (Unit {0}) E) (w0 w1 : ℕ) (before mid : Option Files) (name held : Option (List ℕ)) (files : Files) (output : OutputPart) (h : List ℕ)
-    → OnOk r (Closed before name held mid) → OnErr r (ClosedPart before name held mid) → OnErr r (Rose w0 w1) → IsPrefix output.least h ⊎ Rose w0 w1
-    → before ≡ Some files → name ≡ Some output.name → held ≡ Some h → IsPrefix h output.most → IsSomeAnd mid (HoldsBetween (Rose w0 w1) files output)
-closed_between (Ok x) w0 w1 before mid name held files output h whole part why (inl least) b m k p =
+closed_between : {E : Type 0} (r : Result (Unit {0}) E) (w0 w1 : ℕ) (before mid : Option Files) (last : SinkTold) (files : Files) (output : OutputPart) (h : List ℕ)
+    → OnOk r (Closed last before mid) → OnErr r (ClosedPart last before mid) → OnErr r (Rose w0 w1) → IsPrefix output.least h ⊎ Rose w0 w1
+    → before ≡ Some files → last.name ≡ Some output.name → last.held ≡ Some h → IsPrefix h output.most → IsSomeAnd mid (HoldsBetween (Rose w0 w1) files output)
+closed_between (Ok x) w0 w1 before mid last files output h whole part why (inl least) b m k p =
     subst (λ a. IsSomeAnd a (HoldsBetween (Rose w0 w1) files output)) (sym (whole files b output.name m h k)) (inl (h, least, p, refl))
-closed_between (Ok x) w0 w1 before mid name held files output h whole part why (inr rose) b m k p =
+closed_between (Ok x) w0 w1 before mid last files output h whole part why (inr rose) b m k p =
     subst (λ a. IsSomeAnd a (HoldsBetween (Rose w0 w1) files output)) (sym (whole files b output.name m h k)) (inr (rose, inr (h, p, refl)))
-closed_between (Err x) w0 w1 before mid name held files output h whole part why least b m k p =
+closed_between (Err x) w0 w1 before mid last files output h whole part why least b m k p =
     some_and mid (FileHoldsPart files output.name h) (HoldsBetween (Rose w0 w1) files output) (λ after held_part. inr (why, part_within files output.name h output.most p after held_part)) (part files b output.name m h k)
+
+-- a prefix of what its sink held, at least
+closed_front : {E : Type 0} (r : Result (Unit {0}) E) (before mid : Option Files) (last : SinkTold) (files : Files) (name most h : List ℕ)
+    → OnOk r (Closed last before mid) → OnErr r (ClosedPart last before mid) → before ≡ Some files → last.name ≡ Some name → last.held ≡ Some h → IsPrefix h most → IsSomeAnd mid (FileHoldsPart files name most)
+closed_front (Ok x) before mid last files name most h whole part b m k p =
+    subst (λ a. IsSomeAnd a (FileHoldsPart files name most)) (sym (whole files b name m h k)) (inr (h, p, refl))
+closed_front (Err x) before mid last files name most h whole part b m k p =
+    some_and mid (FileHoldsPart files name h) (FileHoldsPart files name most) (part_within files name h most p) (part files b name m h k)
 
 -- one name, and then the others
 one_part : (w0 w1 w2 : ℕ) → w0 ≤ w1 → (files : Files) (output : OutputPart) (outputs : List OutputPart) (mid after : Option Files)
@@ -60,6 +68,32 @@ one_part : (w0 w1 w2 : ℕ) → w0 ≤ w1 → (files : Files) (output : OutputPa
 one_part w0 w1 w2 low files output outputs None after first rest = absurd first
 one_part w0 w1 w2 low files output outputs (Some mid) after first rest =
     some_and after (λ now. HoldsParts w1 mid outputs now w2) (λ now. HoldsParts w0 files (output ∷ outputs) now w2) (λ now parts. (mid, w1, low, first, parts)) (rest mid refl)
+
+-- the first name that broke, and then the others
+broken_part : (w0 w1 w2 : ℕ) → Rose w0 w1 → (files : Files) (output : OutputPart) (outputs : List OutputPart) (mid after : Option Files)
+    → IsSomeAnd mid (FileHoldsPart files output.name output.most) → ForSome mid (λ found. IsSomeAnd after (λ now. HoldsParts w1 found (map unended outputs) now w2))
+    → IsSomeAnd after (λ now. HoldsEnds w0 files (output ∷ outputs) now w2)
+broken_part w0 w1 w2 rose files output outputs None after first rest = absurd first
+broken_part w0 w1 w2 rose files output outputs (Some mid) after first rest =
+    some_and after (λ now. HoldsParts w1 mid (map unended outputs) now w2) (λ now. HoldsEnds w0 files (output ∷ outputs) now w2)
+    (λ now behind. record { whole = []; broken = output; others = outputs; outputs_are = refl; midway = mid; next = w1; rose = rose; part = first; behind = behind }) (rest mid refl)
+
+-- or a first one that is whole
+whole_part : (w0 w1 w2 : ℕ) → w0 ≤ w1 → (files : Files) (output : OutputPart) (outputs : List OutputPart) (after : Option Files)
+    → IsSomeAnd after (λ now. HoldsEnds w1 (with_file files output.name output.most) outputs now w2) → IsSomeAnd after (λ now. HoldsEnds w0 files (output ∷ outputs) now w2)
+whole_part w0 w1 w2 low files output outputs after ends =
+    some_and after (λ now. HoldsEnds w1 (with_file files output.name output.most) outputs now w2) (λ now. HoldsEnds w0 files (output ∷ outputs) now w2)
+    (λ now others. record {
+      whole = output ∷ others.whole;
+      broken = others.broken;
+      others = others.others;
+      outputs_are = ap (λ ys. output ∷ ys) others.outputs_are;
+      midway = others.midway;
+      next = others.next;
+      rose = (let rose = others.rose in omega (arith, rose, low));
+      part = others.part;
+      behind = others.behind;
+    }) ends
 
 -- the sink held as much as it should, or its closing raised the count
 least_or : (faults w0 w1 : ℕ) (least : Type 0) → (0 < faults → Rose w0 w1) → least ⊎ (0 < faults) → least ⊎ Rose w0 w1
@@ -99,8 +133,8 @@ module _ {S : Type 0} (order rest : List ℕ) (clock : ℕ) (split : order ≡ c
     }
 
     -- a sink that failed is the first, or one of the others
-    pub failed_left : (faults : S → ℕ) → HasFailed faults old → (0 < faults sink) ⊎ HasFailed faults new
-    failed_left faults failed = elim (cases_Bool (nat_eq clock failed.clock)) [
+    pub failed_left : (told : S → SinkTold) → HasFailed told old → (0 < (told sink).faults) ⊎ HasFailed told new
+    failed_left told failed = elim (cases_Bool (nat_eq clock failed.clock)) [
       | inl same ↦ (let is_here : clock ≡ failed.clock = eqb-true clock failed.clock same in
           let at : Some (sink ∷ taken.rest) ≡ Some failed.group = sym taken.was ∙ ap (slice_get old) is_here ∙ failed.there in
           let is : sink ∷ taken.rest ≡ failed.group = cc in
@@ -116,8 +150,8 @@ module _ {S : Type 0} (order rest : List ℕ) (clock : ℕ) (split : order ≡ c
       })
     ]
       where
-        first_or_other : (place : ℕ) → slice_get (sink ∷ taken.rest) place ≡ Some failed.sink → 0 < faults failed.sink → (0 < faults sink) ⊎ HasFailed faults new
-        first_or_other zero at more = (let same : sink ≡ failed.sink = (cc) in inl (subst (λ s. 0 < faults s) (sym same) more))
+        first_or_other : (place : ℕ) → slice_get (sink ∷ taken.rest) place ≡ Some failed.sink → 0 < (told failed.sink).faults → (0 < (told sink).faults) ⊎ HasFailed told new
+        first_or_other zero at more = (let same : sink ≡ failed.sink = (cc) in inl (subst (λ s. 0 < (told s).faults) (sym same) more))
         first_or_other (suc place) at more = inr (record {
           clock = clock;
           place = place;
@@ -128,70 +162,131 @@ module _ {S : Type 0} (order rest : List ℕ) (clock : ℕ) (split : order ≡ c
           failed = more;
         })
 
--- the first output got the byte that it owed, and was closed, and then the others were
-module _ {O : Type 0} (order rest : List ℕ) (clock : ℕ) (split : order ≡ clock ∷ rest) (old new : List (List (OutputSink O))) (sink : OutputSink O) (taken : WasTaken clock old sink new)
-    (name held : O → Option (List ℕ)) (out : O) (kept : name out ≡ name sink.sink) (before mid after : Option Files) where
-  pub whole_then : HasEnded held sink.odd sink.sink out → Closed before (name out) (held out) mid
-      → ForSome mid (λ files. (outputs : List OutputFile) → AreCreated (HoldsBody name held) outputs rest new → after ≡ Some (with_outputs files outputs))
-      → ForSome before (λ files. (outputs : List OutputFile) → AreCreated (HoldsBody name held) outputs order old → after ≡ Some (with_outputs files outputs))
+-- the first output was closed, and then the others were; `last` is what its sink told then
+module _ {O : Type 0} (told : O → SinkTold) (order rest : List ℕ) (clock : ℕ) (split : order ≡ clock ∷ rest) (old new : List (List (OutputSink O))) (sink : OutputSink O) (taken : WasTaken clock old sink new)
+    (last : SinkTold) (before mid after : Option Files) where
+  -- with the byte that it owed it holds all bytes
+  all_held : (odd : Bool) (was now : SinkTold) (name least most : List ℕ) → HasEnded odd was now → was.name ≡ Some name → was.held ≡ Some least → most ≡ least ++ last_byte odd → (now.name ≡ Some name) × (now.held ≡ Some most)
+  all_held false was now name least most same named holds whole =
+      (ap (λ (s : SinkTold). s.name) same ∙ named, ap (λ (s : SinkTold). s.held) same ∙ holds ∙ ap Some (sym (whole ∙ append-nil least)))
+  all_held true was now name least most took named holds whole = (took.name_kept ∙ named, took.held_grew ∙ ap (grown (0 ∷ [])) holds ∙ ap Some (sym whole))
+
+  pub whole_then : HasEnded sink.odd (told sink.sink) last → Closed last before mid
+      → ForSome mid (λ files. (outputs : List OutputPart) → AreCreated (HoldsBody told) outputs rest new → after ≡ Some (with_outputs files (map whole_of outputs)))
+      → ForSome before (λ files. (outputs : List OutputPart) → AreCreated (HoldsBody told) outputs order old → after ≡ Some (with_outputs files (map whole_of outputs)))
   whole_then ended closed others files at [] are = (let size = are.size in let long = ap length split in absurd (omega (arith, size, long)))
   whole_then ended closed others files at (y ∷ ys) are =
-      let these = subst (λ o. AreCreated (HoldsBody name held) (y ∷ ys) o old) split are in
-      let so = (first_so (HoldsBody name held) clock rest old new sink taken y ys these).0 in
-      let holds : held out ≡ Some y.bytes = ended ∙ ap (grown (last_byte sink.odd)) so.holds ∙ ap Some (sym so.whole) in
-      others (with_file files y.name y.bytes) (closed files at y.name (kept ∙ so.named) y.bytes holds) ys (others_so (HoldsBody name held) clock rest old new sink taken y ys these)
+      let these = subst (λ o. AreCreated (HoldsBody told) (y ∷ ys) o old) split are in
+      let so = (first_so (HoldsBody told) clock rest old new sink taken y ys these).0 in
+      let all = all_held sink.odd (told sink.sink) last y.name y.least y.most ended so.named so.holds so.whole in
+      others (with_file files y.name y.most) (closed files at y.name all.0 y.most all.1) ys (others_so (HoldsBody told) clock rest old new sink taken y ys these)
 
-  module _ (faults : O → ℕ) (well goes : Bool) (still : goes ≡ true → well ≡ true) (fewer : faults sink.sink ≤ faults out) where
-    least_later : (least part : List ℕ) → IsPrefix least part ⊎ (0 < faults sink.sink) → IsPrefix least (part ++ 0 ∷ []) ⊎ (0 < faults out)
-    least_later least part (inl front) = inl (record { rest = front.rest ++ 0 ∷ []; whole_is = ap (λ v. v ++ 0 ∷ []) front.whole_is ∙ append_assoc least front.rest (0 ∷ []) })
-    least_later least part (inr failed) = inr (omega (arith, failed, fewer))
+  -- a fault came behind it
+  pub ends_then : (w0 w1 w2 : ℕ) → w0 ≤ w1 → HasEnded sink.odd (told sink.sink) last → Closed last before mid
+      → ForSome mid (λ files. (outputs : List OutputPart) → AreCreated (HoldsBody told) outputs rest new → IsSomeAnd after (λ now. HoldsEnds w1 files outputs now w2))
+      → ForSome before (λ files. (outputs : List OutputPart) → AreCreated (HoldsBody told) outputs order old → IsSomeAnd after (λ now. HoldsEnds w0 files outputs now w2))
+  ends_then w0 w1 w2 low ended closed others files at [] are = (let size = are.size in let long = ap length split in absurd (omega (arith, size, long)))
+  ends_then w0 w1 w2 low ended closed others files at (y ∷ ys) are =
+      let these = subst (λ o. AreCreated (HoldsBody told) (y ∷ ys) o old) split are in
+      let so = (first_so (HoldsBody told) clock rest old new sink taken y ys these).0 in
+      let all = all_held sink.odd (told sink.sink) last y.name y.least y.most ended so.named so.holds so.whole in
+      whole_part w0 w1 w2 low files y ys after
+      (others (with_file files y.name y.most) (closed files at y.name all.0 y.most all.1) ys (others_so (HoldsBody told) clock rest old new sink taken y ys these))
 
-    least_same : (least part : List ℕ) → IsPrefix least part ⊎ (0 < faults sink.sink) → IsPrefix least part ⊎ (0 < faults out)
-    least_same least part (inl front) = inl front
-    least_same least part (inr failed) = inr (omega (arith, failed, fewer))
+  -- an output without its last byte
+  without_end : (y : OutputPart) (x : OutputSink O) → HoldsBody told y x → HoldsSoMuch told (unended y) x
+  without_end y x is = record {
+    named = is.named;
+    part = y.least;
+    holds = is.holds;
+    most = record { rest = []; whole_is = sym (append-nil y.least) };
+    least = inl (record { rest = []; whole_is = sym (append-nil y.least) });
+  }
 
-    -- the first one holds as much as it should, with the byte or without
-    after_end : (y : OutputPart) → HasEndedPart held well sink.odd sink.sink out → HoldsFrontIf well name held faults y sink → HoldsFront name held faults y out
-    after_end y (inl same) so = record {
-      named = kept ∙ so.front.named;
-      part = so.front.part;
-      holds = same ∙ so.front.holds;
-      most = so.front.most;
-      least = least_same y.least so.front.part so.front.least;
-    }
-    after_end y (inr ended) so = record {
-      named = kept ∙ so.front.named;
-      part = so.front.part ++ 0 ∷ [];
-      holds = ended.2 ∙ ap (grown (0 ∷ [])) so.front.holds;
-      most = so.more ended.0 ended.1;
-      least = least_later y.least so.front.part so.front.least;
-    }
+  -- what its sink held at least, and all of it
+  some_held : (odd : Bool) (was now : SinkTold) (name least most : List ℕ) → TookPart (0 ∷ []) was now → odd ≡ true → was.name ≡ Some name → was.held ≡ Some least → most ≡ least ++ last_byte odd
+      → (h : List ℕ) × (now.name ≡ Some name) × (now.held ≡ Some h) × IsPrefix h most
+  some_held odd was now name least most part owes named holds whole = (
+    least ++ part.taken,
+    part.took.name_kept ∙ named,
+    part.took.held_grew ∙ ap (grown part.taken) holds,
+    record {
+      rest = part.is_front.rest;
+      whole_is = whole ∙ ap (λ b. least ++ last_byte b) owes ∙ ap (λ z. least ++ z) part.is_front.whole_is ∙ sym (append_assoc least part.taken part.is_front.rest);
+    },
+  )
 
-    pub part_then : {E : Type 0} (r : Result (Unit {0}) E) (w0 w1 w2 : ℕ) → w0 ≤ w1 → HasEndedPart held well sink.odd sink.sink out
-        → OnOk r (Closed before (name out) (held out) mid) → OnErr r (ClosedPart before (name out) (held out) mid) → OnErr r (Rose w0 w1) → (0 < faults out → Rose w0 w1)
-        → ForSome mid (λ files. (outputs : List OutputPart) → AreCreated (HoldsFrontIf goes name held faults) outputs rest new → IsSomeAnd after (λ now. HoldsParts w1 files outputs now w2))
-        → ForSome before (λ files. (outputs : List OutputPart) → AreCreated (HoldsFrontIf well name held faults) outputs order old → IsSomeAnd after (λ now. HoldsParts w0 files outputs now w2))
-    part_then r w0 w1 w2 low ended closed part cause failed others files at [] are = (let size = are.size in let long = ap length split in absurd (omega (arith, size, long)))
-    part_then r w0 w1 w2 low ended closed part cause failed others files at (y ∷ ys) are =
-        let So = HoldsFrontIf well name held faults in
-        let these = subst (λ o. AreCreated (HoldsFrontIf well name held faults) (y ∷ ys) o old) split are in
-        let so = after_end y ended (first_so So clock rest old new sink taken y ys these).0 in
-        let left = created_as So (HoldsFrontIf goes name held faults) (λ z out is. record { front = is.front; more = λ on odd. is.more (still on) odd }) ys rest new (others_so So clock rest old new sink taken y ys these) in
-        one_part w0 w1 w2 low files y ys mid after
-        (closed_between r w0 w1 before mid (name out) (held out) files y so.part closed part cause (least_or (faults out) w0 w1 (IsPrefix y.least so.part) failed so.least) at so.named so.holds so.most)
-        (λ found there. others found there ys left)
+  -- the fault came at it
+  ends_first : {E : Type 0} (r : Result (Unit {0}) E) (w0 w1 w2 : ℕ) → Rose w0 w1
+      → ((y : OutputPart) → HoldsBody told y sink → (h : List ℕ) × (last.name ≡ Some y.name) × (last.held ≡ Some h) × IsPrefix h y.most)
+      → OnOk r (Closed last before mid) → OnErr r (ClosedPart last before mid)
+      → ForSome mid (λ files. (outputs : List OutputPart) → AreCreated (HoldsSoMuch told) outputs rest new → IsSomeAnd after (λ now. HoldsParts w1 files outputs now w2))
+      → ForSome before (λ files. (outputs : List OutputPart) → AreCreated (HoldsBody told) outputs order old → IsSomeAnd after (λ now. HoldsEnds w0 files outputs now w2))
+  ends_first r w0 w1 w2 rose held closed part others files at [] are = (let size = are.size in let long = ap length split in absurd (omega (arith, size, long)))
+  ends_first r w0 w1 w2 rose held closed part others files at (y ∷ ys) are =
+      let these = subst (λ o. AreCreated (HoldsBody told) (y ∷ ys) o old) split are in
+      let so = held y (first_so (HoldsBody told) clock rest old new sink taken y ys these).0 in
+      let left = created_mapped unended (HoldsSoMuch told) ys rest new
+      (created_as (HoldsBody told) (λ z x. HoldsSoMuch told (unended z) x) without_end ys rest new (others_so (HoldsBody told) clock rest old new sink taken y ys these)) in
+      broken_part w0 w1 w2 rose files y ys mid after (closed_front r before mid last files y.name y.most so.0 closed part at so.1 so.2 so.3)
+      (λ found there. others found there (map unended ys) left)
+
+  pub ends_unended : {E : Type 0} (r : Result (Unit {0}) E) (w0 w1 w2 : ℕ) → Rose w0 w1 → TookPart (0 ∷ []) (told sink.sink) last → sink.odd ≡ true
+      → OnOk r (Closed last before mid) → OnErr r (ClosedPart last before mid)
+      → ForSome mid (λ files. (outputs : List OutputPart) → AreCreated (HoldsSoMuch told) outputs rest new → IsSomeAnd after (λ now. HoldsParts w1 files outputs now w2))
+      → ForSome before (λ files. (outputs : List OutputPart) → AreCreated (HoldsBody told) outputs order old → IsSomeAnd after (λ now. HoldsEnds w0 files outputs now w2))
+  ends_unended r w0 w1 w2 rose part owes =
+      ends_first r w0 w1 w2 rose (λ y is. some_held sink.odd (told sink.sink) last y.name y.least y.most part owes is.named is.holds is.whole)
+
+  pub ends_unclosed : {E : Type 0} (r : Result (Unit {0}) E) (w0 w1 w2 : ℕ) → Rose w0 w1
+      → OnOk r (Closed last before mid) → OnErr r (ClosedPart last before mid)
+      → ForSome mid (λ files. (outputs : List OutputPart) → AreCreated (HoldsSoMuch told) outputs rest new → IsSomeAnd after (λ now. HoldsParts w1 files outputs now w2))
+      → HasEnded sink.odd (told sink.sink) last
+      → ForSome before (λ files. (outputs : List OutputPart) → AreCreated (HoldsBody told) outputs order old → IsSomeAnd after (λ now. HoldsEnds w0 files outputs now w2))
+  ends_unclosed r w0 w1 w2 rose closed part others ended =
+      ends_first r w0 w1 w2 rose (λ y is.
+      let all = all_held sink.odd (told sink.sink) last y.name y.least y.most ended is.named is.holds is.whole in
+      (y.most, all.0, all.1, record { rest = []; whole_is = sym (append-nil y.most) })) closed part others
+
+  -- after a fault, as it is
+  pub part_then : {E : Type 0} (r : Result (Unit {0}) E) (w0 w1 w2 : ℕ) → w0 ≤ w1 → last ≡ told sink.sink
+      → OnOk r (Closed last before mid) → OnErr r (ClosedPart last before mid) → OnErr r (Rose w0 w1) → (0 < last.faults → Rose w0 w1)
+      → ForSome mid (λ files. (outputs : List OutputPart) → AreCreated (HoldsSoMuch told) outputs rest new → IsSomeAnd after (λ now. HoldsParts w1 files outputs now w2))
+      → ForSome before (λ files. (outputs : List OutputPart) → AreCreated (HoldsSoMuch told) outputs order old → IsSomeAnd after (λ now. HoldsParts w0 files outputs now w2))
+  part_then r w0 w1 w2 low same closed part cause failed others files at [] are = (let size = are.size in let long = ap length split in absurd (omega (arith, size, long)))
+  part_then r w0 w1 w2 low same closed part cause failed others files at (y ∷ ys) are =
+      let these = subst (λ o. AreCreated (HoldsSoMuch told) (y ∷ ys) o old) split are in
+      let so : HoldsFront y last = subst (HoldsFront y) (sym same) (first_so (HoldsSoMuch told) clock rest old new sink taken y ys these).0 in
+      one_part w0 w1 w2 low files y ys mid after
+      (closed_between r w0 w1 before mid last files y so.part closed part cause (least_or last.faults w0 w1 (IsPrefix y.least so.part) failed so.least) at so.named so.holds so.most)
+      (λ found there. others found there ys (others_so (HoldsSoMuch told) clock rest old new sink taken y ys these))
 
 -- where all went well before, and still does
 pub whole_if : {T E : Type 0} (r : Result T E) (well goes : Bool) (P Q : Type 0) → (well ≡ true → goes ≡ true) → (well ≡ true → P → Q) → OnOk r (goes ≡ true → P) → OnOk r (well ≡ true → Q)
 whole_if (Ok x) well goes P Q still f p = λ on. f on (p (still on))
 whole_if (Err e) well goes P Q still f p = tt
 
+pub ends_if : {T E : Type 0} (r : Result T E) (well goes : Bool) (P Q : Type 0) → (well ≡ true → goes ≡ true) → (well ≡ true → P → Q) → OnErr r (goes ≡ true → P) → OnErr r (well ≡ true → Q)
+ends_if (Ok x) well goes P Q still f p = tt
+ends_if (Err e) well goes P Q still f p = λ on. f on (p (still on))
+
+-- one after the other, and the same for whatever is given
+pub given : {A B C : Type 0} → (B → C) → (A → B) → A → C
+given f g a = f (g a)
+
+pub for_any : {A B : Type 0} → B → A → B
+for_any b a = b
+
+-- a call that did not go well is no Ok
+pub err_there : {T E : Type 0} (r : Result T E) (e : E) (P : Type 0) → r ≡ Err e → OnErr r P → P
+err_there r e P is p = subst (λ x. OnErr x P) is p
+
 -- the first of the sinks, and the others, have room for what they owe
-module _ {O : Type 0} (room : O → Option ℕ) (clock : ℕ) (old new : List (List (OutputSink O))) (sink : OutputSink O) (taken : WasTaken clock old sink new) where
-  pub rooms_first : HaveRooms room old → sink.odd ≡ true → HasRoom (room sink.sink) 1
+module _ {O : Type 0} (told : O → SinkTold) (clock : ℕ) (old new : List (List (OutputSink O))) (sink : OutputSink O) (taken : WasTaken clock old sink new) where
+  pub rooms_first : HaveRooms told old → sink.odd ≡ true → HasRoom (told sink.sink).room 1
   rooms_first rooms odd = rooms clock 0 (sink ∷ taken.rest) sink taken.was refl odd
 
-  pub rooms_left : HaveRooms room old → HaveRooms room new
+  pub rooms_left : HaveRooms told old → HaveRooms told new
   rooms_left rooms m k group output there at odd = elim (cases_Bool (nat_eq clock m)) [
     | inl same ↦ (let is_here : clock ≡ m = eqb-true clock m same in
         let found : Some taken.rest ≡ Some group = sym (set_here old clock taken.rest (within old clock (sink ∷ taken.rest) taken.was))

@@ -1,14 +1,13 @@
 -- Outputs that are created one after another.
 use Rattle.std.proofs.Common.{◌≡◌, ◌<◌, ◌≤◌, ◌+◌, ◌-◌, ◌*◌, ◌%◌, ◌∙◌, ◌++◌, ◌⊎◌, ℕ, zero, suc, Bool, List, [], ◌∷◌, length, map, take, drop, slice_get, arith, refl, ap, sym, subst, inl, inr, true, false, nat_eq, append_assoc, add-one, if◌then◌else◌}
-use Rattle.std.specs.Prelude.{Option, Some, None, IsSome, is_some}
+use Rattle.std.specs.Prelude.{Option, Some, None, is_some}
 use Rattle.std.specs.Option.{ForSome}
 use Rattle.std.specs.List.{AllZip}
 use Rattle.std.proofs.Math.Nat.{mod-lt}
-use Rattle.std.proofs.lemmas.List.{map-append, append-nil, length-append}
-use Rattle.liq_base.specs.Created.{is_told}
-use Rattle.liq_base.specs.Counts.{Rose}
-use Rattle.liq_base.specs.Files.{Files}
-use Rattle.liq_base.specs.Pieces.{HasRoom, Took, TookPart, grown, narrowed}
+use Rattle.std.proofs.lemmas.List.{map-append, append-nil}
+use Rattle.liq_base.specs.Counts.{counted}
+use Rattle.liq_base.specs.Pieces.{HasRoom, SinkTold, Took, TookPart, grown, narrowed}
+use Rattle.liq_base.specs.Shelves.{IsFresh, ShelfTold, noted}
 use Rattle.plan_core.specs.declared.sink.SinkPlan.{SinkPlan}
 use Rattle.plan_core.specs.declared.sink.SinkPlan.TheVariants.{Output, Feed}
 use Rattle.clock_infer.specs.declared.clock_map.NodeClock.TheVariants.{Main}
@@ -17,14 +16,17 @@ use Rattle.stream_meaning.specs.Instants.{Setting, answered, clock_of}
 use Rattle.stream_meaning.specs.Sinks.{ticks_bytes}
 use Rattle.run_records.specs.Buffers.{main_of as main_clock}
 use Rattle.stations.specs.Creations.{after_making, names_in}
-use Rattle.stations.proofs.Making.{names_both, then_made}
+use Rattle.stations.proofs.Making.{names_both, one_more, then_made}
 use Rattle.stations.specs.Streams.{body_size, ends_in, file_bytes, front_bytes, header_for, outputs_in, parts_in}
-use Rattle.station_render.specs.OutputSinks.{but_one, but_one_if, owed, owed_by, spared, told}
+use Rattle.station_render.specs.Listed.{TellsSinks}
+use Rattle.station_render.specs.OutputSinks.{but_one, but_one_if, owed_by}
 use Rattle.station_render.specs.declared.output_sink.OutputSink.{OutputSink}
-use Rattle.station_render.specs.Sinks.{AreCreated, HasFailed, HoldsPart, HoldsWhole, WasAdded, of_clock}
-use Rattle.station_render.specs.Renders.{AreBegun, IsPart, IsReady, NoneCreated, WasBroken, WasCreated, Written, debt_of, end_of, file_of, front_file, main_of, order_of, written}
+use Rattle.station_render.specs.Shelves.{OnlyCreates}
+use Rattle.station_render.specs.Sinks.{AreCreated, HasFailed, WasAdded, of_clock}
+use Rattle.station_render.specs.Renders.{AreBegun, IsCutShort, IsOpened, IsPart, IsReady, NoneCreated, WasCreated, Written, debt_of, end_of, file_of, front_file, main_of, order_of, whole_size, written}
 use Rattle.station_render.proofs.Lists.{got_is, set_here, set_many, many_mapped}
 use Rattle.station_render.proofs.Dealing.{one_added}
+use Rattle.station_render.proofs.Measures.{fresh_empty, fresh_measured, fresh_named, fresh_told, took_size, took_told}
 
 pub take_more : {A : Type 0} (xs : List A) (k : ℕ) (x : A) → slice_get xs k ≡ Some x → take (suc k) xs ≡ take k xs ++ x ∷ []
 take_more [] k x at = absurd (cc)
@@ -76,13 +78,6 @@ pub names_written : (sinks : List SinkPlan) → names_in sinks ≡ map (λ (outp
 names_written [] = refl
 names_written (Output name node fallible wide ∷ sinks) = ap (λ ns. name ∷ ns) (names_written sinks)
 names_written (Feed buffer node ∷ sinks) = names_written sinks
-
--- no sink was made, or one of this name and clock
-abbrev pub MayHaveMade : (clock : ℕ) (title : List ℕ) (order order_new : List ℕ) (before after : Option (List (List ℕ))) → Type 0
-MayHaveMade clock title order order_new before after = ((order_new ≡ order) × (after ≡ before)) ⊎ ((order_new ≡ order ++ clock ∷ []) × (after ≡ after_making (title ∷ []) before))
-
-not_longer : (order : List ℕ) (clock : ℕ) → order ≡ order ++ clock ∷ [] → ⊥
-not_longer order clock same = let long = ap length same in let more = length-append order (clock ∷ []) in omega (arith, long, more)
 
 zip_as : {Y S : Type 0} (So Other : Y → S → Type 0) → ((y : Y) (x : S) → So y x → Other y x) → (ys : List Y) (xs : List S) → AllZip So ys xs → AllZip Other ys xs
 zip_as So Other f [] [] z = tt
@@ -151,121 +146,152 @@ module _ (header body : ℕ) (odd : Bool) (odd_is : odd ≡ nat_eq (body % 2) 1)
   pub owed_left : (before after : Option ℕ) → ForSome before (λ told. told ≡ header + body + body % 2) → after ≡ narrowed header before → owed_by odd after ≡ debt_of body
   owed_left before after told fell = let low = mod-lt body {m = 2} (omega arith) in (room_by (body % 2) odd odd_is low before after told fell).1
 
-module _ {S : Type 0} (name held : S → Option (List ℕ)) (left : S → Option ℕ) (debt : S → ℕ) (faults : S → ℕ) (files : Option Files) where
-  -- a new sink that took its header whole, or a part of it
-  pub told_whole : (old new : S) (title bytes : List ℕ) → (IsSome files → IsSome (name old) × IsSome (held old)) → ForSome (name old) (λ told. told ≡ title) → ForSome (held old) (λ told. told ≡ [])
-      → name new ≡ name old → held new ≡ grown bytes (held old) → ForSome files (λ all. HoldsWhole name held (record { name = title; bytes = bytes }) new)
-  told_whole old new title bytes tells named empty kept grew all at =
-      let t = tells (ap is_some at) in
-      record { named = kept ∙ is_told (name old) title t.0 named; holds = grew ∙ ap (grown bytes) (is_told (held old) [] t.1 empty) }
+-- a shelf that only creates sinks tells its files and closings still
+module _ (first now : ShelfTold) (same : OnlyCreates first now) where
+  pub tells_now : TellsSinks first → TellsSinks now
+  tells_now (inl files) = inl (ap is_some same.files_kept ∙ files)
+  tells_now (inr closed) = inr (ap is_some same.closed_kept ∙ closed)
 
-  pub told_part : (old new : S) (title bytes : List ℕ) → (IsSome files → IsSome (name old) × IsSome (held old)) → ForSome (name old) (λ told. told ≡ title) → ForSome (held old) (λ told. told ≡ [])
-      → name new ≡ name old → TookPart held left bytes old new → ForSome files (λ all. HoldsPart name held (record { name = title; bytes = bytes }) new)
-  told_part old new title bytes tells named empty kept part all at =
-      let t = tells (ap is_some at) in
+module _ {O : Type 0} (told : O → SinkTold) where
+  -- a new sink that took its header whole, or a part of it
+  pub is_opened : (shelf : ShelfTold) (name bytes : List ℕ) (body : ℕ) → length bytes ≡ 44 → (first : SinkTold) (sink : OutputSink O) → sink.odd ≡ nat_eq (body % 2) 1
+      → IsFresh name (44 + body + body % 2) shelf first → Took bytes first (told sink.sink) → IsOpened told shelf name bytes body sink
+  is_opened shelf name bytes body long first sink odd fresh took =
+      let fell : (told sink.sink).room ≡ narrowed 44 first.room = took.room_fell ∙ ap (λ n. narrowed n first.room) long in
       record {
-        named = kept ∙ is_told (name old) title t.0 named;
-        part = part.taken;
-        holds = part.took.held_grew ∙ ap (grown part.taken) (is_told (held old) [] t.1 empty);
-        front = part.is_front;
+        holds = λ tells. record {
+          named = took.name_kept ∙ fresh_named name (44 + body + body % 2) shelf first fresh tells;
+          holds = took.held_grew ∙ ap (grown bytes) (fresh_empty name (44 + body + body % 2) shelf first fresh tells);
+        };
+        measured = λ before at.
+            let is = fresh_measured name (44 + body + body % 2) shelf first fresh before at in
+            record {
+              size_is = took_size bytes first (told sink.sink) (λ left there. let low : left ≡ 44 + body + body % 2 = fresh.roomy left there in omega (arith, low, long)) took ∙ is.size_is;
+              pieces_are = took.once ∙ ap counted is.pieces_are;
+            };
+        room = room_left 44 body sink.odd odd first.room (told sink.sink).room fresh.roomy fell;
+        owes = owed_left 44 body sink.odd odd first.room (told sink.sink).room fresh.roomy fell;
       }
 
-  pub rose_above : (before after : ℕ) → Rose before after → 0 < after
-  rose_above before after rose = omega (arith, rose)
+  pub is_cut_short : (shelf : ShelfTold) (name bytes : List ℕ) (room : ℕ) (first : SinkTold) (sink : OutputSink O)
+      → IsFresh name room shelf first → TookPart bytes first (told sink.sink) → IsCutShort told shelf name bytes sink
+  is_cut_short shelf name bytes room first sink fresh part = record {
+    holds = λ tells. record {
+      named = part.took.name_kept ∙ fresh_named name room shelf first fresh tells;
+      part = part.taken;
+      holds = part.took.held_grew ∙ ap (grown part.taken) (fresh_empty name room shelf first fresh tells);
+      front = part.is_front;
+    };
+    measured = λ before at. took_told part.taken first (told sink.sink) part.took (fresh_told name room shelf first fresh before at);
+    failed = (let rose = part.rose in omega (arith, rose));
+  }
 
-  module _ (setting : Setting) (ticks : ℕ) where
+  -- it was added
+  pub was_created : (Is : OutputSink O → Type 0) (clock : ℕ) (name : List ℕ) (before after : Option (List (List ℕ))) (sink : OutputSink O) (order order_new : List ℕ) (old between new : List (List (OutputSink O)))
+      → after ≡ noted name before → order_new ≡ order ++ clock ∷ [] → between ≡ old → WasAdded clock sink between new → Is sink → WasCreated Is clock name before after order order_new old new
+  was_created Is clock name before after sink order order_new old between new made more same added is = record {
+    sink = sink;
+    order_is = more;
+    added = subst (λ gs. WasAdded clock sink gs new) same added;
+    made_is = made ∙ one_more name before;
+    is = is;
+  }
+
+  module _ (shelf : ShelfTold) (setting : Setting) (ticks : ℕ) where
     -- the header is what an output has before any tick, whatever buffers answer
-    pub part_of_ready : (made tried : ℕ → ℕ) → ((k : ℕ) → made k ≡ 0) → (answers : ℕ → List Answer) (output : Written) (sink : S) → IsReady name held left debt files setting ticks output sink
-        → IsPart name held faults files (answered setting answers) ticks made tried output sink
-    part_of_ready made tried none answers output sink ready all at =
+    pub part_of_ready : (made tried : ℕ → ℕ) → ((k : ℕ) → made k ≡ 0) → (answers : ℕ → List Answer) (output : Written) (sink : OutputSink O) → IsReady told shelf setting ticks output sink
+        → IsPart told shelf (answered setting answers) ticks made tried output sink
+    part_of_ready made tried none answers output sink ready =
         let world : Setting = answered setting answers in let m = main_clock world output.node in let header = header_for setting output.wide ticks output.node in
         record {
-          named = (ready.told all at).named;
-          part = header;
-          holds = (ready.told all at).holds;
-          most = record { rest = ticks_bytes world output.wide output.node (tried m); whole_is = refl };
-          least = inl (record { rest = []; whole_is = sym (append-nil (header ++ ticks_bytes world output.wide output.node (made m)) ∙ ap (λ n. header ++ ticks_bytes world output.wide output.node n) (none m) ∙ append-nil header) });
+          holds = λ tells. record {
+            named = (ready.holds tells).named;
+            part = header;
+            holds = (ready.holds tells).holds;
+            most = record { rest = ticks_bytes world output.wide output.node (tried m); whole_is = refl };
+            least = inl (record { rest = []; whole_is = sym (append-nil (header ++ ticks_bytes world output.wide output.node (made m)) ∙ ap (λ n. header ++ ticks_bytes world output.wide output.node n) (none m) ∙ append-nil header) });
+          };
+          measured = λ before at. let is = ready.measured before at in record { size_told = ap is_some is.size_is; pieces_told = ap is_some is.pieces_are };
         }
 
-    pub ready_more : (ys : List Written) (output : Written) (clock : ℕ) (header : List ℕ) (body : ℕ) (order order_new : List ℕ) (old new : List (List S)) → clock < length old
-        → header ≡ header_for setting output.wide ticks output.node → body ≡ body_size setting output.wide ticks output.node
-        → AreCreated (IsReady name held left debt files setting ticks) ys order old
-        → WasCreated name held left debt files clock output.name header body order order_new old new
-        → AreCreated (IsReady name held left debt files setting ticks) (ys ++ output ∷ []) order_new new
-    ready_more ys output clock header body order order_new old new low header_is body_is are was =
-        let ready : IsReady name held left debt files setting ticks output was.sink = record {
-          told = subst (λ h. ForSome files (λ all. HoldsWhole name held (record { name = output.name; bytes = h }) was.sink)) header_is was.told;
-          room = subst (λ n. HasRoom (left was.sink) n) body_is was.room;
-          owes = was.owes ∙ ap debt_of body_is;
-        } in
-        subst (λ o. AreCreated (IsReady name held left debt files setting ticks) (ys ++ output ∷ []) o new) (sym was.order_is)
-        (one_added (IsReady name held left debt files setting ticks) ys order old new output clock was.sink low are ready was.added)
+    -- an output that was opened by the shelf as it is now
+    pub opened_ready : (now : ShelfTold) → OnlyCreates shelf now → (output : Written) (name bytes : List ℕ) (body : ℕ) (sink : OutputSink O) → name ≡ output.name → bytes ≡ header_for setting output.wide ticks output.node
+        → body ≡ body_size setting output.wide ticks output.node → IsOpened told now name bytes body sink → IsReady told shelf setting ticks output sink
+    opened_ready now same output name bytes body sink name_is header_is body_is opened = record {
+      holds = λ tells. let held = opened.holds (tells_now shelf now same tells) in record { named = held.named ∙ ap (λ n. Some n) name_is; holds = held.holds ∙ ap (λ h. Some h) header_is };
+      measured = λ before at.
+          let is = opened.measured before (same.closed_kept ∙ at) in record { size_is = is.size_is ∙ ap (λ n. Some (whole_size n)) body_is; pieces_are = is.pieces_are };
+      room = subst (λ n. HasRoom (but_one_if sink.odd (told sink.sink).room) n) body_is opened.room;
+      owes = opened.owes ∙ ap debt_of body_is;
+    }
 
-    pub part_more : (made tried : ℕ → ℕ) → ((k : ℕ) → made k ≡ 0) → (answers : ℕ → List Answer) (ys : List Written) (output : Written) (clock : ℕ) (header : List ℕ) (order order_new : List ℕ) (old new : List (List S)) → clock < length old
-        → header ≡ header_for setting output.wide ticks output.node
-        → AreCreated (IsReady name held left debt files setting ticks) ys order old
-        → WasBroken name held faults files clock output.name header order order_new old new
-        → AreCreated (IsPart name held faults files (answered setting answers) ticks made tried) (ys ++ output ∷ []) order_new new
-    part_more made tried none answers ys output clock header order order_new old new low header_is are was =
+    -- or one whose header broke off
+    short_part : (made tried : ℕ → ℕ) (answers : ℕ → List Answer) (now : ShelfTold) → OnlyCreates shelf now → (output : Written) (name bytes : List ℕ) (sink : OutputSink O) → name ≡ output.name
+        → bytes ≡ header_for setting output.wide ticks output.node → IsCutShort told now name bytes sink → IsPart told shelf (answered setting answers) ticks made tried output sink
+    short_part made tried answers now same output name bytes sink name_is header_is short =
         let world : Setting = answered setting answers in let n = tried (main_clock world output.node) in
-        let part : IsPart name held faults files world ticks made tried output was.sink = λ all at.
-        let told = was.told all at in
-        let whole : front_bytes world output.wide ticks n output.node ≡ header ++ ticks_bytes world output.wide output.node n = ap (λ h. h ++ ticks_bytes world output.wide output.node n) (sym header_is) in
         record {
-          named = told.named;
-          part = told.part;
-          holds = told.holds;
-          most = record {
-            rest = told.front.rest ++ ticks_bytes world output.wide output.node n;
-            whole_is = whole ∙ ap (λ h. h ++ ticks_bytes world output.wide output.node n) told.front.whole_is ∙ append_assoc told.part told.front.rest (ticks_bytes world output.wide output.node n);
-          };
-          least = inr was.failed;
-        } in
-        subst (λ o. AreCreated (IsPart name held faults files world ticks made tried) (ys ++ output ∷ []) o new) (sym was.order_is)
-        (one_added (IsPart name held faults files world ticks made tried) ys order old new output clock was.sink low
-        (created_as (IsReady name held left debt files setting ticks) (IsPart name held faults files world ticks made tried) (part_of_ready made tried none answers) ys order old are) part was.added)
+          holds = λ tells.
+              let held = short.holds (tells_now shelf now same tells) in
+              let whole : front_bytes world output.wide ticks n output.node ≡ bytes ++ ticks_bytes world output.wide output.node n = ap (λ h. h ++ ticks_bytes world output.wide output.node n) (sym header_is) in
+              record {
+                named = held.named ∙ ap (λ m. Some m) name_is;
+                part = held.part;
+                holds = held.holds;
+                most = record {
+                  rest = held.front.rest ++ ticks_bytes world output.wide output.node n;
+                  whole_is = whole ∙ ap (λ h. h ++ ticks_bytes world output.wide output.node n) held.front.whole_is ∙ append_assoc held.part held.front.rest (ticks_bytes world output.wide output.node n);
+                };
+                least = inr short.failed;
+              };
+          measured = λ before at. short.measured before (same.closed_kept ∙ at);
+        }
 
     -- what is begun, where the first sinks were gone through
     module _ (answers : (ℕ → List Answer) → ℕ → List Answer) (made tried : ℕ → ℕ) (none : (k : ℕ) → made k ≡ 0) where
-      pub begun_here : (k : ℕ) (order : List ℕ) (groups : List (List S)) (made_before made_after : Option (List (List ℕ))) → made_after ≡ after_making (names_in (take k setting.plan.sinks)) made_before → AreCreated (IsReady name held left debt files setting ticks) (written (take k setting.plan.sinks)) order groups
-          → AreBegun name held faults files setting answers ticks made tried order groups made_before made_after
-      begun_here k order groups made_before made_after is are = record {
+      Ready : Written → OutputSink O → Type 0
+      Ready = IsReady told shelf setting ticks
+
+      pub begun_here : (k : ℕ) (order : List ℕ) (groups : List (List (OutputSink O))) (made_now : Option (List (List ℕ))) → made_now ≡ after_making (names_in (take k setting.plan.sinks)) shelf.created
+          → AreCreated (IsReady told shelf setting ticks) (written (take k setting.plan.sinks)) order groups
+          → AreBegun told shelf setting answers ticks made tried order groups made_now
+      begun_here k order groups made_now is are = record {
         created = written (take k setting.plan.sinks);
         others = written (drop k setting.plan.sinks);
         all = ap written (taken_and_left setting.plan.sinks k) ∙ written_both (take k setting.plan.sinks) (drop k setting.plan.sinks);
-        told = is ∙ ap (λ ns. after_making ns made_before) (names_written (take k setting.plan.sinks));
-        parts = λ rest. created_as (IsReady name held left debt files setting ticks) (IsPart name held faults files (answered setting (answers rest)) ticks made tried) (part_of_ready made tried none (answers rest))
+        made_are = is ∙ ap (λ ns. after_making ns shelf.created) (names_written (take k setting.plan.sinks));
+        parts = λ rest. created_as (IsReady told shelf setting ticks) (IsPart told shelf (answered setting (answers rest)) ticks made tried) (part_of_ready made tried none (answers rest))
             (written (take k setting.plan.sinks)) order groups are;
       }
 
-      pub begun_next : (k : ℕ) (title : List ℕ) (node : ℕ) (fallible wide : Bool) (order : List ℕ) (groups : List (List S)) (made_before made_after : Option (List (List ℕ))) → made_after ≡ after_making (names_in (take k setting.plan.sinks) ++ title ∷ []) made_before
-          → slice_get setting.plan.sinks k ≡ Some (Output title node fallible wide)
-          → ((rest : ℕ → List Answer) → AreCreated (IsPart name held faults files (answered setting (answers rest)) ticks made tried) (written (take k setting.plan.sinks) ++ (record { name = title; node = node; wide = wide }) ∷ []) order groups)
-          → AreBegun name held faults files setting answers ticks made tried order groups made_before made_after
-      begun_next k title node fallible wide order groups made_before made_after is at are = record {
-        created = written (take (suc k) setting.plan.sinks);
-        others = written (drop (suc k) setting.plan.sinks);
-        all = ap written (taken_and_left setting.plan.sinks (suc k)) ∙ written_both (take (suc k) setting.plan.sinks) (drop (suc k) setting.plan.sinks);
-        told = is ∙ ap (λ ns. after_making ns made_before) (sym (ap names_in (take_more setting.plan.sinks k (Output title node fallible wide) at) ∙ names_both (take k setting.plan.sinks) (Output title node fallible wide ∷ []))
-            ∙ names_written (take (suc k) setting.plan.sinks));
-        parts = λ rest. subst (λ ys. AreCreated (IsPart name held faults files (answered setting (answers rest)) ticks made tried) ys order groups) (sym (written_more setting.plan.sinks k title node fallible wide at)) (are rest);
-      }
-
       -- after a creation that broke off
-      pub begun_broken : (k : ℕ) (title : List ℕ) (node : ℕ) (fallible wide : Bool) (clock : ℕ) (header : List ℕ) (order order_new : List ℕ) (old new : List (List S)) → clock < length old
-          → slice_get setting.plan.sinks k ≡ Some (Output title node fallible wide) → header ≡ header_for setting wide ticks node
-          → AreCreated (IsReady name held left debt files setting ticks) (written (take k setting.plan.sinks)) order old
-          → (made_before between made_after : Option (List (List ℕ))) → between ≡ after_making (names_in (take k setting.plan.sinks)) made_before
-          → NoneCreated order order_new old new ⊎ WasBroken name held faults files clock title header order order_new old new → MayHaveMade clock title order order_new between made_after
-          → AreBegun name held faults files setting answers ticks made tried order_new new made_before made_after
-      begun_broken k title node fallible wide clock header order order_new old new low at header_is are made_before between made_after so_far (inl same) (inl none) =
-          subst (λ o. AreBegun name held faults files setting answers ticks made tried o new made_before made_after) (sym same.order_is)
-          (subst (λ gs. AreBegun name held faults files setting answers ticks made tried order gs made_before made_after) (sym same.same) (begun_here k order old made_before made_after (none.1 ∙ so_far) are))
-      begun_broken k title node fallible wide clock header order order_new old new low at header_is are made_before between made_after so_far (inl same) (inr one) = absurd (not_longer order clock (sym same.order_is ∙ one.0))
-      begun_broken k title node fallible wide clock header order order_new old new low at header_is are made_before between made_after so_far (inr broken) (inl none) = absurd (not_longer order clock (sym none.0 ∙ broken.order_is))
-      begun_broken k title node fallible wide clock header order order_new old new low at header_is are made_before between made_after so_far (inr broken) (inr one) =
-          begun_next k title node fallible wide order_new new made_before made_after (then_made (names_in (take k setting.plan.sinks)) (title ∷ []) made_before between made_after so_far one.1) at
-          (λ rest. part_more made tried none (answers rest) (written (take k setting.plan.sinks)) (record { name = title; node = node; wide = wide }) clock header order order_new old new low header_is are broken)
+      pub begun_broken : (k : ℕ) (name said : List ℕ) (node : ℕ) (fallible wide : Bool) (clock : ℕ) (header : List ℕ) (order order_new : List ℕ) (old new : List (List (OutputSink O))) → clock < length old
+          → slice_get setting.plan.sinks k ≡ Some (Output name node fallible wide) → said ≡ name → header ≡ header_for setting wide ticks node
+          → AreCreated (IsReady told shelf setting ticks) (written (take k setting.plan.sinks)) order old
+          → (now : ShelfTold) → OnlyCreates shelf now → (made_now : Option (List (List ℕ))) → now.created ≡ after_making (names_in (take k setting.plan.sinks)) shelf.created
+          → NoneCreated now.created made_now order order_new old new ⊎ WasCreated (IsCutShort told now said header) clock said now.created made_now order order_new old new
+          → AreBegun told shelf setting answers ticks made tried order_new new made_now
+      begun_broken k name said node fallible wide clock header order order_new old new low at said_is header_is are now same made_now so_far (inl none_made) =
+          subst (λ (z : List ℕ × List (List (OutputSink O))). AreBegun told shelf setting answers ticks made tried z.0 z.1 made_now) (λ i. (sym none_made.order_is i, sym none_made.same i))
+          (begun_here k order old made_now (none_made.made_none ∙ so_far) are)
+      begun_broken k name said node fallible wide clock header order order_new old new low at said_is header_is are now same made_now so_far (inr short) =
+          let output : Written = record { name = name; node = node; wide = wide } in
+          record {
+            created = written (take (suc k) setting.plan.sinks);
+            others = written (drop (suc k) setting.plan.sinks);
+            all = ap written (taken_and_left setting.plan.sinks (suc k)) ∙ written_both (take (suc k) setting.plan.sinks) (drop (suc k) setting.plan.sinks);
+            made_are = then_made (names_in (take k setting.plan.sinks)) (said ∷ []) shelf.created now.created made_now so_far short.made_is
+                ∙ ap (λ n. after_making (names_in (take k setting.plan.sinks) ++ n ∷ []) shelf.created) said_is
+                ∙ ap (λ ns. after_making ns shelf.created) (sym (ap names_in (take_more setting.plan.sinks k (Output name node fallible wide) at) ∙ names_both (take k setting.plan.sinks) (Output name node fallible wide ∷ []))
+                ∙ names_written (take (suc k) setting.plan.sinks));
+            parts = λ rest.
+                let Part = IsPart told shelf (answered setting (answers rest)) ticks made tried in
+                subst (λ (z : List Written × List ℕ). AreCreated (IsPart told shelf (answered setting (answers rest)) ticks made tried) z.0 z.1 new)
+                (λ i. (sym (written_more setting.plan.sinks k name node fallible wide at) i, sym short.order_is i))
+                (one_added Part (written (take k setting.plan.sinks)) order old new output clock short.sink low
+                (created_as (IsReady told shelf setting ticks) Part (part_of_ready made tried none (answers rest)) (written (take k setting.plan.sinks)) order old are)
+                (short_part made tried (answers rest) now same output said header short.sink said_is header_is short.is) short.added);
+          }
 
 pub written_next : (sinks : List SinkPlan) (k : ℕ) (name : List ℕ) (node : ℕ) (fallible wide : Bool) → slice_get sinks k ≡ Some (Output name node fallible wide)
     → written (take (k + 1) sinks) ≡ written (take k sinks) ++ (record { name = name; node = node; wide = wide }) ∷ []
@@ -277,28 +303,20 @@ written_still sinks k buffer node at = ap (λ n. written (take n sinks)) (add-on
 pub created_by : {S : Type 0} {So : Written → S → Type 0} (ys zs : List Written) (order : List ℕ) (groups : List (List S)) → zs ≡ ys → AreCreated So ys order groups → AreCreated So zs order groups
 created_by {S} {So} ys zs order groups same are = subst (λ ws. AreCreated So ws order groups) (sym same) are
 
-module _ {S : Type 0} (name held : S → Option (List ℕ)) (left : S → Option ℕ) (debt : S → ℕ) (faults : S → ℕ) (files before : Option Files) (same : before ≡ files) (setting : Setting) (ticks : ℕ) (k : ℕ)
-    (title said : List ℕ) (node : ℕ) (fallible wide : Bool) (at : slice_get setting.plan.sinks k ≡ Some (Output title node fallible wide)) (said_is : said ≡ title)
-    (clock : ℕ) (header : List ℕ) (body : ℕ) (order order_new : List ℕ) (old new : List (List S)) (low : clock < length old) (header_is : header ≡ header_for setting wide ticks node)
-    (are : AreCreated (IsReady name held left debt files setting ticks) (written (take k setting.plan.sinks)) order old) where
-  -- after one more creation
-  pub next_ready : body ≡ body_size setting wide ticks node → WasCreated name held left debt before clock said header body order order_new old new
-      → AreCreated (IsReady name held left debt files setting ticks) (written (take (k + 1) setting.plan.sinks)) order_new new
-  next_ready body_is was =
-      created_by (written (take k setting.plan.sinks) ++ (record { name = title; node = node; wide = wide }) ∷ []) (written (take (k + 1) setting.plan.sinks)) order_new new (written_next setting.plan.sinks k title node fallible wide at)
-      (ready_more name held left debt faults files setting ticks (written (take k setting.plan.sinks)) (record { name = title; node = node; wide = wide }) clock header body order order_new old new low header_is body_is are
-      (subst (λ f. WasCreated name held left debt f clock title header body order order_new old new) same (subst (λ t. WasCreated name held left debt before clock t header body order order_new old new) said_is was)))
-
-  -- after one that broke off
-  pub broken_off : (answers : (ℕ → List Answer) → ℕ → List Answer) (made tried : ℕ → ℕ) → ((k : ℕ) → made k ≡ 0) → (made_before between made_after : Option (List (List ℕ)))
-      → between ≡ after_making (names_in (take k setting.plan.sinks)) made_before → MayHaveMade clock said order order_new between made_after
-      → NoneCreated order order_new old new ⊎ WasBroken name held faults before clock said header order order_new old new
-      → AreBegun name held faults files setting answers ticks made tried order_new new made_before made_after
-  broken_off answers made tried none made_before between made_after so_far made_one was =
-      begun_broken name held left debt faults files setting ticks answers made tried none k title node fallible wide clock header order order_new old new low at header_is are made_before between made_after so_far
-      (subst (λ f. NoneCreated order order_new old new ⊎ WasBroken name held faults f clock title header order order_new old new) same
-      (subst (λ t. NoneCreated order order_new old new ⊎ WasBroken name held faults before clock t header order order_new old new) said_is was))
-      (subst (λ t. MayHaveMade clock t order order_new between made_after) said_is made_one)
+-- after one more creation
+pub next_ready : {O : Type 0} (told : O → SinkTold) (shelf now : ShelfTold) → OnlyCreates shelf now → (setting : Setting) (ticks k : ℕ) (name said : List ℕ) (node : ℕ) (fallible wide : Bool)
+    → slice_get setting.plan.sinks k ≡ Some (Output name node fallible wide) → said ≡ name
+    → (clock : ℕ) (header : List ℕ) (body : ℕ) (order order_new : List ℕ) (old new : List (List (OutputSink O))) → clock < length old → header ≡ header_for setting wide ticks node → body ≡ body_size setting wide ticks node
+    → AreCreated (IsReady told shelf setting ticks) (written (take k setting.plan.sinks)) order old
+    → (before after : Option (List (List ℕ))) → WasCreated (IsOpened told now said header body) clock said before after order order_new old new
+    → AreCreated (IsReady told shelf setting ticks) (written (take (k + 1) setting.plan.sinks)) order_new new
+next_ready told shelf now same setting ticks k name said node fallible wide at said_is clock header body order order_new old new low header_is body_is are before after was =
+    let output : Written = record { name = name; node = node; wide = wide } in
+    let Ready = IsReady told shelf setting ticks in
+    created_by (written (take k setting.plan.sinks) ++ output ∷ []) (written (take (k + 1) setting.plan.sinks)) order_new new (written_next setting.plan.sinks k name node fallible wide at)
+    (subst (λ o. AreCreated (IsReady told shelf setting ticks) (written (take k setting.plan.sinks) ++ output ∷ []) o new) (sym was.order_is)
+    (one_added Ready (written (take k setting.plan.sinks)) order old new output clock was.sink low are
+    (opened_ready told shelf setting ticks now same output said header body was.sink said_is header_is body_is was.is) was.added))
 
 pub added_many : {S : Type 0} (clock : ℕ) (sink : S) (old new : List (List S)) → WasAdded clock sink old new → length new ≡ length old
 added_many clock sink old new added = ap length added.is ∙ set_many old clock (added.before ++ sink ∷ [])
@@ -315,8 +333,8 @@ at_last [] x = refl
 at_last (y ∷ xs) x = at_last xs x
 
 -- a sink that failed and was added
-pub added_failed : {S : Type 0} (faults : S → ℕ) (clock : ℕ) (sink : S) (old new : List (List S)) → clock < length old → WasAdded clock sink old new → 0 < faults sink → HasFailed faults new
-added_failed faults clock sink old new low added failed = record {
+pub added_failed : {S : Type 0} (told : S → SinkTold) (clock : ℕ) (sink : S) (old new : List (List S)) → clock < length old → WasAdded clock sink old new → 0 < (told sink).faults → HasFailed told new
+added_failed told clock sink old new low added failed = record {
   clock = clock;
   place = length added.before;
   group = added.before ++ sink ∷ [];
@@ -326,31 +344,11 @@ added_failed faults clock sink old new low added failed = record {
   failed = failed;
 }
 
--- the sink of a new output took its header, wholly or in part, and was added
-module _ {O : Type 0} (name held : O → Option (List ℕ)) (room : O → Option ℕ) (files : Option Files) (clock : ℕ) (title bytes : List ℕ) where
-  pub was_created : (body : ℕ) → length bytes ≡ 44 → (first : O) (sink : OutputSink O) → sink.odd ≡ nat_eq (body % 2) 1 → (IsSome files → IsSome (name first) × IsSome (held first)) → ForSome (name first) (λ told. told ≡ title)
-      → ForSome (held first) (λ told. told ≡ []) → ForSome (room first) (λ told. told ≡ 44 + body + body % 2) → name sink.sink ≡ name first → Took held room bytes first sink.sink
-      → (order order_new : List ℕ) (old between new : List (List (OutputSink O))) → order_new ≡ order ++ clock ∷ [] → between ≡ old → WasAdded clock sink between new
-      → WasCreated (told name) (told held) (spared room) (owed room) files clock title bytes body order order_new old new
-  was_created body long first sink odd tells named empty left kept took order order_new old between new more same added =
-      let fell : room sink.sink ≡ narrowed 44 (room first) = took.room_fell ∙ ap (λ n. narrowed n (room first)) long in
-      record {
-        sink = sink;
-        order_is = more;
-        added = subst (λ gs. WasAdded clock sink gs new) same added;
-        told = λ all at. let so = told_whole name held room (λ s. 0) (λ s. 0) files first sink.sink title bytes tells named empty kept took.held_grew all at in record { named = so.named; holds = so.holds };
-        room = room_left 44 body sink.odd odd (room first) (room sink.sink) left fell;
-        owes = owed_left 44 body sink.odd odd (room first) (room sink.sink) left fell;
-      }
-
-  pub was_broken : (faults : O → ℕ) (first : O) (sink : OutputSink O) → (IsSome files → IsSome (name first) × IsSome (held first)) → ForSome (name first) (λ told. told ≡ title) → ForSome (held first) (λ told. told ≡ [])
-      → name sink.sink ≡ name first → TookPart held room bytes first sink.sink → 0 < faults sink.sink
-      → (order order_new : List ℕ) (old between new : List (List (OutputSink O))) → order_new ≡ order ++ clock ∷ [] → between ≡ old → WasAdded clock sink between new
-      → NoneCreated order order_new old new ⊎ WasBroken (told name) (told held) (told faults) files clock title bytes order order_new old new
-  was_broken faults first sink tells named empty kept part failed order order_new old between new more same added = inr (record {
-    sink = sink;
-    order_is = more;
-    added = subst (λ gs. WasAdded clock sink gs new) same added;
-    told = λ all at. let so = told_part name held room (λ s. 0) (λ s. 0) files first sink.sink title bytes tells named empty kept part all at in record { named = so.named; part = so.part; holds = so.holds; front = so.front };
-    failed = failed;
-  })
+-- sinks were only created
+pub creates_then : (first between last : ShelfTold) → OnlyCreates first between → OnlyCreates between last → OnlyCreates first last
+creates_then first between last one more = record {
+  files_kept = more.files_kept ∙ one.files_kept;
+  closed_kept = more.closed_kept ∙ one.closed_kept;
+  reads_grew = (let a = one.reads_grew in let b = more.reads_grew in omega (arith, a, b));
+  writes_grew = (let a = one.writes_grew in let b = more.writes_grew in omega (arith, a, b));
+}

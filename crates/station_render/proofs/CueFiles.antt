@@ -4,15 +4,16 @@ use Rattle.std.specs.Prelude.{Option, Some, IsSomeAnd, Vec}
 use Rattle.std.specs.declared.alloc.Global.{Global}
 use Rattle.std.specs.Option.{ForSome}
 use Rattle.std.proofs.lemmas.List.{map-append}
-use Rattle.liq_base.specs.Files.{Closing, Files}
+use Rattle.liq_base.specs.Files.{Files}
+use Rattle.liq_base.specs.Shelves.{Closing, ShelfTold}
 use Rattle.frame_core.specs.Library.{Sounds}
 use Rattle.plan_core.specs.declared.sink.SinkPlan.{SinkPlan}
 use Rattle.plan_core.specs.declared.sink.SinkPlan.TheVariants.{Output, Feed}
 use Rattle.stream_meaning.specs.Sinks.{Cue}
-use Rattle.stations.specs.Creations.{HaveClosed, MadeFront, after_making, names_in}
+use Rattle.stations.specs.Creations.{CreatedFront, HaveClosed, HaveListed, after_making, closing_at_once, names_in}
 use Rattle.stations.specs.Cues.{cue_name, cue_names_in}
 use Rattle.stations.specs.Outputs.{HoldsUpto, with_outputs}
-use Rattle.stations.proofs.Making.{front_made, then_closed, then_front, then_made}
+use Rattle.stations.proofs.Making.{front_made, then_closed, then_front, then_listed, then_made}
 use Rattle.stations.proofs.Parts.{upto_all}
 use Rattle.clock_ticks.specs.declared.cues.CueMark.{CueMark}
 use Rattle.station_render.specs.Marks.{cue_file, cue_files_with, cue_of, cues_of}
@@ -127,15 +128,6 @@ module _ (sinks : List SinkPlan) (k : ℕ) (before between : Option (List (List 
     cues_next one =
         then_made (cue_names_in (take k sinks)) (cue_name said ∷ []) before between after so_far one ∙ ap (λ names. after_making names before) (sym cue_next)
 
-    pub cues_front : (closed_before closed_between closed_after : Option (List Closing)) → HaveClosed (cue_names_in (take k sinks)) closed_before closed_between
-        → MadeFront (cue_name said ∷ []) between after closed_between closed_after → MadeFront (cue_names_in sinks) before after closed_before closed_after
-    cues_front closed_before closed_between closed_after closed front =
-        let whole : cue_names_in sinks ≡ (cue_names_in (take k sinks) ++ cue_name said ∷ []) ++ cue_names_in (drop (k + 1) sinks) =
-        ap cue_names_in (taken_and_left sinks (k + 1)) ∙ cue_names_both (take (k + 1) sinks) (drop (k + 1) sinks) ∙ ap (λ names. names ++ cue_names_in (drop (k + 1) sinks)) cue_next in
-        subst (λ names. MadeFront names before after closed_before closed_after) (sym whole)
-        (front_made (cue_names_in (take k sinks) ++ cue_name said ∷ []) (cue_names_in (drop (k + 1) sinks)) before after closed_before closed_after
-        (then_front (cue_names_in (take k sinks)) (cue_name said ∷ []) before between after closed_before closed_between closed_after so_far closed front))
-
 -- and for the closings
 module _ (sinks : List SinkPlan) (k : ℕ) (before between : Option (List Closing)) (so_far : HaveClosed (cue_names_in (take k sinks)) before between) where
   pub closed_still : (buffer node : ℕ) → slice_get sinks k ≡ Some (Feed buffer node) → HaveClosed (cue_names_in (take (k + 1) sinks)) before between
@@ -149,6 +141,37 @@ module _ (sinks : List SinkPlan) (k : ℕ) (before between : Option (List Closin
       (ap (λ n. cue_names_in (take k sinks) ++ cue_name n ∷ []) said_is ∙ ap (λ names. names ++ cue_name name ∷ []) (cue_names_are (take k sinks))
       ∙ sym (map-append cue_name (names_in (take k sinks)) (name ∷ [])) ∙ ap (map cue_name) (sym (names_next sinks k name node fallible wide at)) ∙ sym (cue_names_are (take (k + 1) sinks)))
       (then_closed (cue_names_in (take k sinks)) (cue_name said ∷ []) before between after so_far one)
+
+-- a front of them, by what a shelf tells
+pub cues_front : (sinks : List SinkPlan) (k : ℕ) (first between last : ShelfTold) → between.created ≡ after_making (cue_names_in (take k sinks)) first.created
+    → (name said : List ℕ) (node : ℕ) (fallible wide : Bool) → slice_get sinks k ≡ Some (Output name node fallible wide) → said ≡ name
+    → HaveClosed (cue_names_in (take k sinks)) first.closed between.closed → CreatedFront (cue_name said ∷ []) between last → CreatedFront (cue_names_in sinks) first last
+cues_front sinks k first between last so_far name said node fallible wide at said_is closed front =
+    let next = cue_next sinks k first.created between.created so_far name said node fallible wide at said_is last.created in
+    let whole : cue_names_in sinks ≡ (cue_names_in (take k sinks) ++ cue_name said ∷ []) ++ cue_names_in (drop (k + 1) sinks) =
+    ap cue_names_in (taken_and_left sinks (k + 1)) ∙ cue_names_both (take (k + 1) sinks) (drop (k + 1) sinks) ∙ ap (λ names. names ++ cue_names_in (drop (k + 1) sinks)) next in
+    subst (λ names. CreatedFront names first last) (sym whole)
+    (front_made (cue_names_in (take k sinks) ++ cue_name said ∷ []) (cue_names_in (drop (k + 1) sinks)) first last
+    (then_front (cue_names_in (take k sinks)) (cue_name said ∷ []) first between last so_far closed front))
+
+-- and what is listed of them
+module _ (library : Sounds) (sinks : List SinkPlan) (marks : List (List Cue)) (k : ℕ) (before between : Option (List Closing))
+    (so_far : HaveListed (map closing_at_once (cue_files_with library (take k sinks) marks)) before between) where
+  pub listed_still : (buffer node : ℕ) → slice_get sinks k ≡ Some (Feed buffer node) → HaveListed (map closing_at_once (cue_files_with library (take (k + 1) sinks) marks)) before between
+  listed_still buffer node at =
+      subst (λ files. HaveListed (map closing_at_once files) before between)
+      (sym (ap (λ n. cue_files_with library (take n sinks) marks) (add-one k) ∙ files_same library sinks marks k buffer node at)) so_far
+
+  pub listed_next : (name said : List ℕ) (node : ℕ) (fallible wide : Bool) → slice_get sinks k ≡ Some (Output name node fallible wide) → said ≡ name → (cues : List Cue) → slice_get marks (length (written (take k sinks))) ≡ Some cues
+      → (after : Option (List Closing)) → HaveListed (map closing_at_once (cue_file library said cues ∷ [])) between after → HaveListed (map closing_at_once (cue_files_with library (take (k + 1) sinks) marks)) before after
+  listed_next name said node fallible wide at said_is cues there after one =
+      let files = cue_files_with library (take k sinks) marks in
+      let file = cue_file library name cues in
+      let next : cue_files_with library (take (k + 1) sinks) marks ≡ files ++ file ∷ [] =
+      ap (λ n. cue_files_with library (take n sinks) marks) (add-one k) ∙ files_more library sinks marks k name node fallible wide cues at there in
+      subst (λ fs. HaveListed fs before after) (sym (ap (map closing_at_once) next ∙ map-append closing_at_once files (file ∷ [])))
+      (then_listed (map closing_at_once files) (map closing_at_once (file ∷ [])) before between after so_far
+      (subst (λ n. HaveListed (map closing_at_once (cue_file library n cues ∷ [])) between after) said_is one))
 
 -- the marks of an output, by its place
 pub marks_at : (marks : List (Vec CueMark Global)) (place index : ℕ) → place ≡ index → (found : Vec CueMark Global) → place < length marks → found ≡ get_or marks place found → (slice : List CueMark) → slice ≡ found.items

@@ -1,6 +1,6 @@
 -- What a rendering leaves in the files, once its sinks are closed.
-use Rattle.std.proofs.Common.{◌≡◌, ◌<◌, ◌≤◌, ◌*◌, ◌%◌, ◌∙◌, ◌⊎◌, ◌++◌, ℕ, zero, suc, Bool, true, false, List, [], ◌∷◌, map, replicate, arith, refl, ap, sym, subst, inl, inr}
-use Rattle.std.specs.Prelude.{Option, Some, None, Result, Ok, Err, IfOk, OnOk, IsSomeAnd, is_ok}
+use Rattle.std.proofs.Common.{◌≡◌, ◌<◌, ◌≤◌, ◌+◌, ◌*◌, ◌%◌, ◌^◌, ◌∙◌, ◌⊎◌, ◌++◌, ℕ, zero, suc, Bool, true, false, List, [], ◌∷◌, map, replicate, arith, refl, ap, sym, subst, inl, inr}
+use Rattle.std.specs.Prelude.{Option, Some, None, Result, Ok, Err, IfOk, OnOk, IsSomeAnd, is_ok, is_some}
 use Rattle.std.specs.Option.{ForSome}
 use Rattle.std.proofs.Math.Nat.{mod-lt}
 use Rattle.std.proofs.lemmas.Bool.{true≢false}
@@ -8,26 +8,31 @@ use Rattle.std.proofs.lemmas.List.{append-nil, map-append}
 use Rattle.liq_base.specs.Counts.{Rose}
 use Rattle.liq_base.specs.Files.{Files}
 use Rattle.liq_base.specs.Kept.{rose_within, some_and}
+use Rattle.liq_base.specs.Pieces.{HasRoom, SinkTold}
+use Rattle.liq_base.specs.Shelves.{Closing, ShelfTold}
+use Rattle.plan_core.specs.declared.sink.SinkPlan.{SinkPlan}
+use Rattle.plan_core.specs.declared.sink.SinkPlan.TheVariants.{Output, Feed}
 use Rattle.frame_core.specs.Calls.{Answer}
 use Rattle.stream_meaning.specs.Instants.{Setting, answered}
-use Rattle.liq_base.specs.Pieces.{HasRoom}
-use Rattle.stations.specs.Outputs.{HoldsParts, HoldsSome, HoldsUpto, OutputFile, OutputPart, with_outputs}
-use Rattle.stations.proofs.Parts.{parts_within}
-use Rattle.stations.specs.Renderings.{WroteLastPart, WroteOutputsPart, WrotePart}
-use Rattle.stations.specs.Stations.{Station, made_of, setting_of_run, setting_with, tried_of}
-use Rattle.stations.specs.Streams.{body_size, ends_of, output_bytes, output_files, parts_with, zeros_after}
-use Rattle.stations.specs.Traces.{later_files}
-use Rattle.station_render.specs.OutputSinks.{HaveRooms, HoldsBody, HoldsFrontIf, last_byte, owed, owed_by, told}
+use Rattle.stations.specs.Creations.{HaveListed, after_making, closings_in, names_in}
+use Rattle.stations.specs.Outputs.{HoldsEnds, HoldsParts, HoldsSome, OutputPart, whole_of, with_outputs}
+use Rattle.stations.proofs.Parts.{ends_within}
+use Rattle.stations.specs.Renderings.{StoppedBehindTicks, StoppedInTicks}
+use Rattle.stations.specs.Stations.{Station, setting_of_run, setting_with}
+use Rattle.stations.specs.Streams.{body_size, ends_in, ends_of, file_bytes, output_bytes, outputs_in, parts_with, zeros_after}
+use Rattle.station_render.specs.Listed.{TellsSinks, WillList}
+use Rattle.station_render.specs.OutputSinks.{HaveRooms, HoldsBody, HoldsSoMuch, last_byte, owed_by}
+use Rattle.station_render.specs.Shelves.{OnlyCreates}
 use Rattle.station_render.specs.Sinks.{AreCreated, of_clock}
 use Rattle.station_render.specs.declared.output_sink.OutputSink.{OutputSink}
-use Rattle.station_render.specs.Renders.{AreBegun, IsPart, IsWhole, Written, debt_of, end_of, file_of, front_file, written}
+use Rattle.station_render.specs.Renders.{AreBegun, IsPart, IsWhole, Written, debt_of, end_of, front_file, written}
 use Rattle.station_render.specs.Runs.{RanPart, RanWhole, WroteOutputs}
 use Rattle.station_render.specs.declared.rendered.Rendered.{Rendered}
-use Rattle.station_render.proofs.Creating.{created_as, created_mapped, ends_are, files_are, fronts_are, names_written}
-use Rattle.stations.specs.Creations.{after_making, names_in}
+use Rattle.station_render.proofs.Creating.{created_as, created_mapped, ends_are, fronts_are, names_written}
 use Rattle.station_render.proofs.Lists.{within}
 use Rattle.station_render.proofs.Dealing.{zip_at, zip_size}
 use Rattle.station_render.proofs.Closing.{in_list}
+use Rattle.station_render.proofs.Listing.{will_list}
 
 -- what an output's sink owes is the last byte of its file
 owed_byte : (r : ℕ) (odd : Bool) (room : Option ℕ) → owed_by odd room ≡ 2 * r → r < 2 → replicate r 0 ≡ last_byte odd
@@ -42,31 +47,13 @@ owed_byte (suc (suc r)) odd room owes low = absurd (omega (arith, low))
 zeros_are : (size : ℕ) (odd : Bool) (room : Option ℕ) → owed_by odd room ≡ debt_of size → zeros_after size ≡ last_byte odd
 zeros_are size odd room owes = owed_byte (size % 2) odd room owes (mod-lt size {m = 2} (omega arith))
 
-module _ {O : Type 0} (name held : O → Option (List ℕ)) (room : O → Option ℕ) where
-  pub body_held : (files : Option Files) (world : Setting) (ticks : ℕ) (output : Written) (sink : OutputSink O) → IsWhole (told name) (told held) (owed room) files world ticks output sink
-      → ForSome files (λ all. HoldsBody name held (file_of world ticks output) sink)
-  body_held files world ticks output sink is all at = record {
-    named = (is.told all at).named;
-    body = output_bytes world output.wide ticks output.node;
-    holds = (is.told all at).holds;
-    whole = ap (λ zeros. output_bytes world output.wide ticks output.node ++ zeros) (zeros_are (body_size world output.wide ticks output.node) sink.odd (room sink.sink) is.owes);
+module _ {O : Type 0} (told : O → SinkTold) (shelf : ShelfTold) (world : Setting) (ticks : ℕ) where
+  pub body_held : TellsSinks shelf → (output : Written) (sink : OutputSink O) → IsWhole told shelf world ticks output sink → HoldsBody told (end_of world ticks output) sink
+  body_held tells output sink is = record {
+    named = (is.holds tells).named;
+    holds = (is.holds tells).holds;
+    whole = ap (λ zeros. output_bytes world output.wide ticks output.node ++ zeros) (zeros_are (body_size world output.wide ticks output.node) sink.odd (told sink.sink).room is.owes);
   }
-
-  pub end_held : (faults : O → ℕ) (files : Option Files) (world : Setting) (ticks : ℕ) (output : Written) (sink : OutputSink O) → IsWhole (told name) (told held) (owed room) files world ticks output sink
-      → ForSome files (λ all. HoldsFrontIf true name held faults (end_of world ticks output) sink)
-  end_held faults files world ticks output sink is all at =
-      let bytes = output_bytes world output.wide ticks output.node in
-      let zeros = zeros_are (body_size world output.wide ticks output.node) sink.odd (room sink.sink) is.owes in
-      record {
-        front = record {
-          named = (is.told all at).named;
-          part = bytes;
-          holds = (is.told all at).holds;
-          most = record { rest = zeros_after (body_size world output.wide ticks output.node); whole_is = refl };
-          least = inl (record { rest = []; whole_is = sym (append-nil bytes) });
-        };
-        more = λ well odd. record { rest = []; whole_is = ap (λ z. bytes ++ z) (zeros ∙ ap last_byte odd) ∙ sym (append-nil (bytes ++ 0 ∷ [])) };
-      }
 
   -- a sink that owes a byte has room for it
   has_room : (size : ℕ) (left : Option ℕ) → owed_by true left ≡ debt_of size → HasRoom left 1
@@ -74,117 +61,129 @@ module _ {O : Type 0} (name held : O → Option (List ℕ)) (room : O → Option
   has_room size (Some zero) owes more at = let e : 1 ≡ 2 * (size % 2) = owes in absurd (omega (arith, e))
   has_room size (Some (suc left)) owes more at = let same : Some (suc left) ≡ Some more = at in let is : suc left ≡ more = cc in omega (arith, is)
 
-  pub rooms_are : (files : Option Files) (world : Setting) (ticks : ℕ) (ys : List Written) (order : List ℕ) (groups : List (List (OutputSink O)))
-      → AreCreated (IsWhole (told name) (told held) (owed room) files world ticks) ys order groups → HaveRooms room groups
-  rooms_are files world ticks ys order groups are m k group sink there at odd =
-      let So = IsWhole (told name) (told held) (owed room) files world ticks in
+  pub rooms_are : (ys : List Written) (order : List ℕ) (groups : List (List (OutputSink O))) → AreCreated (IsWhole told shelf world ticks) ys order groups → HaveRooms told groups
+  rooms_are ys order groups are m k group sink there at odd =
+      let So = IsWhole told shelf world ticks in
       let zip = are.each m group there in
       let size = zip_size So (of_clock m order ys) group zip in
       let low = within group k sink at in
       let found = in_list (of_clock m order ys) k (omega (arith, size, low)) in
       let is = zip_at So (of_clock m order ys) group k found.0 sink zip found.1 at in
-      has_room (body_size world found.0.wide ticks found.0.node) (room sink.sink) (ap (λ b. owed_by b (room sink.sink)) (sym odd) ∙ is.owes)
+      has_room (body_size world found.0.wide ticks found.0.node) (told sink.sink).room (ap (λ b. owed_by b (told sink.sink).room) (sym odd) ∙ is.owes)
+
+  -- all outputs, as files
+  ends_whole : (sinks : List SinkPlan) → map whole_of (ends_in world ticks sinks) ≡ outputs_in world ticks sinks
+  ends_whole [] = refl
+  ends_whole (Output name node fallible wide ∷ sinks) = ap (λ zs. (record { name = name; bytes = file_bytes world wide ticks node }) ∷ zs) (ends_whole sinks)
+  ends_whole (Feed buffer node ∷ sinks) = ends_whole sinks
+
+  pub bodies_held : (files : Files) → shelf.files ≡ Some files → (sinks : List SinkPlan) (order : List ℕ) (groups : List (List (OutputSink O))) → AreCreated (IsWhole told shelf world ticks) (written sinks) order groups
+      → AreCreated (HoldsBody told) (ends_in world ticks sinks) order groups
+  bodies_held files at sinks order groups are =
+      subst (λ ys. AreCreated (HoldsBody told) ys order groups) (sym (ends_are world ticks sinks))
+      (created_mapped (end_of world ticks) (HoldsBody told) (written sinks) order groups
+      (created_as (IsWhole told shelf world ticks) (λ output sink. HoldsBody told (end_of world ticks output) sink) (body_held (inl (ap is_some at))) (written sinks) order groups are))
 
 -- where all went well, the sinks have room for what they owe
-pub rooms_if : {T E O : Type 0} (room : O → Option ℕ) (groups : List (List (OutputSink O))) (r : Result T E) → is_ok r ≡ true → OnOk r (HaveRooms room groups) → HaveRooms room groups
-rooms_if room groups (Ok x) is rooms = rooms
-rooms_if room groups (Err e) is rooms = absurd (true≢false (sym is))
+pub rooms_if : {T E O : Type 0} (told : O → SinkTold) (groups : List (List (OutputSink O))) (r : Result T E) → is_ok r ≡ true → OnOk r (HaveRooms told groups) → HaveRooms told groups
+rooms_if told groups (Ok x) is rooms = rooms
+rooms_if told groups (Err e) is rooms = absurd (true≢false (sym is))
 
 -- the names of outputs, and of what was written of them
 fronts_named : (setting : Setting) (ticks : ℕ) (made tried : ℕ → ℕ) (outputs : List Written) → map (λ (output : Written). output.name) outputs ≡ map (λ (output : OutputPart). output.name) (map (front_file setting ticks made tried) outputs)
 fronts_named setting ticks made tried [] = refl
 fronts_named setting ticks made tried (output ∷ outputs) = ap (λ ns. output.name ∷ ns) (fronts_named setting ticks made tried outputs)
 
-module _ (station : Station) where
+module _ {O : Type 0} (told : O → SinkTold) (station : Station) (first old new : ShelfTold) (same : OnlyCreates first old) (order : List ℕ) (groups : List (List (OutputSink O))) where
   -- the sinks have room for what they owe
-  pub rooms_of : {O : Type 0} (name held : O → Option (List ℕ)) (room : O → Option ℕ) (before : Option Files) (order : List ℕ) (groups : List (List (OutputSink O))) {E : Type 0} (wrote : Result Rendered E)
-      → IfOk wrote (RanWhole (told name) (told held) (owed room) before station order groups) → OnOk wrote (HaveRooms room groups)
-  rooms_of name held room before order groups (Ok rendered) whole = rooms_are name held room before (setting_of_run station whole.run) station.ticks (written station.plan.sinks) order groups whole.whole
-  rooms_of name held room before order groups (Err fault) whole = tt
+  pub rooms_of : {E : Type 0} (wrote : Result Rendered E) → IfOk wrote (RanWhole told first station order groups) → OnOk wrote (HaveRooms told groups)
+  rooms_of (Ok rendered) whole = rooms_are told first (setting_of_run station whole.run) station.ticks (written station.plan.sinks) order groups whole.whole
+  rooms_of (Err fault) whole = tt
 
-  module _ {O : Type 0} (name held : O → Option (List ℕ)) (room : O → Option ℕ) (before mid after : Option Files) (same : mid ≡ before) (order : List ℕ) (groups : List (List (OutputSink O))) where
-    -- all outputs were created, and closed without a fault
-    pub all_written : (rendered : Rendered) → RanWhole (told name) (told held) (owed room) before station order groups rendered
-        → ForSome mid (λ files. (outputs : List OutputFile) → AreCreated (HoldsBody name held) outputs order groups → after ≡ Some (with_outputs files outputs))
-        → WroteOutputs station before after rendered
-    all_written rendered whole closed =
-        let world : Setting = setting_of_run station whole.run in
-        let file : Written → OutputFile = file_of world station.ticks in
-        record {
-          run = whole.run;
-          lawful = whole.lawful;
-          told = whole.told;
-          outputs_written = λ files at.
-              let are : AreCreated (λ output sink. HoldsBody name held (file_of world station.ticks output) sink) (written station.plan.sinks) order groups =
-              created_as (IsWhole (told name) (told held) (owed room) before world station.ticks) (λ output sink. HoldsBody name held (file_of world station.ticks output) sink)
-              (λ output sink is. body_held name held room before world station.ticks output sink is files at) (written station.plan.sinks) order groups whole.whole in
-              closed files (same ∙ at) (map (file_of world station.ticks) (written station.plan.sinks)) (created_mapped (file_of world station.ticks) (HoldsBody name held) (written station.plan.sinks) order groups are)
-              ∙ ap (λ outputs. Some (with_outputs files outputs)) (sym (files_are world station.ticks station.plan.sinks));
-        }
+  -- all outputs were created, and closed without a fault
+  pub all_written : station.ticks + 2 < 2 ^ 64 → (rendered : Rendered) → RanWhole told first station order groups rendered
+      → ForSome old.files (λ files. (outputs : List OutputPart) → AreCreated (HoldsBody told) outputs order groups → new.files ≡ Some (with_outputs files (map whole_of outputs)))
+      → ((closings : List Closing) → AreCreated (WillList told old.closed) closings order groups → HaveListed closings old.closed new.closed)
+      → WroteOutputs station first new rendered
+  all_written few rendered whole closed lists =
+      let world : Setting = setting_of_run station whole.run in
+      let sinks = station.plan.sinks in
+      record {
+        run = whole.run;
+        lawful = whole.lawful;
+        told = whole.tells;
+        outputs_written = λ files at.
+            closed files (same.files_kept ∙ at) (ends_in world station.ticks sinks) (bodies_held told first world station.ticks files at sinks order groups whole.whole)
+            ∙ ap (λ outputs. Some (with_outputs files outputs)) (ends_whole told first world station.ticks sinks);
+        listed = subst (λ cs. HaveListed (closings_in world station.ticks sinks) cs new.closed) same.closed_kept
+            (lists (closings_in world station.ticks sinks)
+            (subst (λ cs. AreCreated (WillList told cs) (closings_in world station.ticks sinks) order groups) (sym same.closed_kept)
+            (will_list told first world station.ticks few sinks order groups whole.whole)));
+      }
 
-    -- they were closed, and maybe one of them not well
-    pub ends_written : (faults : O → ℕ) (w0 w1 w2 : ℕ) → w0 ≤ w1 → (rendered : Rendered) → RanWhole (told name) (told held) (owed room) before station order groups rendered
-        → ForSome mid (λ files. (outputs : List OutputPart) → AreCreated (HoldsFrontIf true name held faults) outputs order groups → IsSomeAnd after (λ now. HoldsParts w1 files outputs now w2))
-        → ForSome before (λ files. WroteLastPart station w0 w2 files after)
-    ends_written faults w0 w1 w2 low rendered whole closed files at =
-        let world : Setting = setting_of_run station whole.run in
-        let later : Files → Type 0 = HoldsUpto (with_outputs files (output_files station whole.run)) (later_files station whole.run) in
-        let are : AreCreated (λ output sink. HoldsFrontIf true name held faults (end_of world station.ticks output) sink) (written station.plan.sinks) order groups =
-        created_as (IsWhole (told name) (told held) (owed room) before world station.ticks) (λ output sink. HoldsFrontIf true name held faults (end_of world station.ticks output) sink)
-        (λ output sink is. end_held name held room faults before world station.ticks output sink is files at) (written station.plan.sinks) order groups whole.whole in
-        let parts = closed files (same ∙ at) (map (end_of world station.ticks) (written station.plan.sinks)) (created_mapped (end_of world station.ticks) (HoldsFrontIf true name held faults) (written station.plan.sinks) order groups are) in
-        record {
-          run = whole.run;
-          lawful = whole.lawful;
-          part = some_and after (λ now. HoldsParts w1 files (map (end_of world station.ticks) (written station.plan.sinks)) now w2) (λ now. HoldsParts w0 files (ends_of station whole.run) now w2 ⊎ later now)
-              (λ now found. inl (subst (λ outputs. HoldsParts w0 files outputs now w2) (sym (ends_are world station.ticks station.plan.sinks))
-              (parts_within w0 w1 w2 w2 low (omega arith) files (map (end_of world station.ticks) (written station.plan.sinks)) now found))) parts;
-        }
+  -- a fault came while they were closed
+  pub ends_written : (rendered : Rendered) → RanWhole told first station order groups rendered
+      → ForSome old.files (λ files. (outputs : List OutputPart) → AreCreated (HoldsBody told) outputs order groups → IsSomeAnd new.files (λ now. HoldsEnds old.writes files outputs now new.writes))
+      → ForSome first.files (λ files. StoppedBehindTicks station files first new)
+  ends_written rendered whole closed files at =
+      let world : Setting = setting_of_run station whole.run in
+      let ends = closed files (same.files_kept ∙ at) (ends_of station whole.run) (bodies_held told first world station.ticks files at station.plan.sinks order groups whole.whole) in
+      record {
+        run = whole.run;
+        lawful = whole.lawful;
+        part = some_and new.files (λ now. HoldsEnds old.writes files (ends_of station whole.run) now new.writes) _
+            (λ now found. inl (ends_within first.writes old.writes new.writes same.writes_grew files (ends_of station whole.run) now found)) ends;
+      }
 
-    -- some were created, and all of them closed
-    pub some_written : (faults : O → ℕ) (w0 w1 w2 : ℕ) → w0 ≤ w1 → (made_before made_mid made_after : Option (List (List ℕ))) → made_after ≡ made_mid → RanPart (told name) (told held) (told faults) before station order groups made_before made_mid
-        → ForSome mid (λ files. (outputs : List OutputPart) → AreCreated (HoldsFrontIf false name held faults) outputs order groups → IsSomeAnd after (λ now. HoldsParts w1 files outputs now w2))
-        → ForSome before (λ files. WroteOutputsPart station w0 w2 files after made_before made_after)
-    some_written faults w0 w1 w2 low made_before made_mid made_after kept ran closed files at = record {
-      run = ran.run;
-      begun = ran.begun;
-      parts = λ rest.
-          let world : Setting = setting_with station ran.run rest in
-          let made = made_of station ran.run ran.begun in let tried = tried_of station ran.run ran.begun in
-          let front : Written → OutputPart = front_file world station.ticks made tried in
-          let created = ran.parts.created in
-          let are : AreCreated (λ output sink. HoldsFrontIf false name held faults (front_file world station.ticks made tried output) sink) created order groups =
-          created_as (IsPart (told name) (told held) (told faults) before world station.ticks made tried) (λ output sink. HoldsFrontIf false name held faults (front_file world station.ticks made tried output) sink)
-          (λ output sink is. record { front = is files at; more = λ well odd. absurd (true≢false (sym well)) }) created order groups (ran.parts.parts rest) in
-          let parts = closed files (same ∙ at) (map (front_file world station.ticks made tried) created) (created_mapped (front_file world station.ticks made tried) (HoldsFrontIf false name held faults) created order groups are) in
-          some_and after (λ now. HoldsParts w1 files (map (front_file world station.ticks made tried) created) now w2) (λ now. HoldsSome w0 files (parts_with station ran.run ran.begun rest) now w2 made_before made_after)
-          (λ now found. record {
-            created = map (front_file world station.ticks made tried) created;
-            others = map (front_file world station.ticks made tried) ran.parts.others;
-            told = kept ∙ ran.parts.told ∙ ap (λ ns. after_making ns made_before) (fronts_named world station.ticks made tried created);
-            outputs_are = fronts_are world station.ticks made tried station.plan.sinks ∙ ap (map (front_file world station.ticks made tried)) ran.parts.all ∙ map-append (front_file world station.ticks made tried) created ran.parts.others;
-            parts = parts_within w0 w1 w2 w2 low (omega arith) files (map (front_file world station.ticks made tried) created) now found;
-          }) parts;
-    }
+  -- some were created, and all of them closed
+  pub some_written : (device : Bool) (ran : RanPart told first station order groups old.created) → (device ≡ true → (ran.parts.others ≡ []) ⊎ Rose first.writes old.writes ⊎ Rose old.writes new.writes) → new.created ≡ old.created
+      → ForSome old.files (λ files. (outputs : List OutputPart) → AreCreated (HoldsSoMuch told) outputs order groups → IsSomeAnd new.files (λ now. HoldsParts old.writes files outputs now new.writes))
+      → ForSome first.files (λ files. StoppedInTicks station device files first new)
+  some_written device ran risen kept closed files at = record {
+    run = ran.run;
+    begun = ran.begun;
+    parts = λ rest.
+        let world : Setting = setting_with station ran.run rest in
+        let made = ran.begun.made in let tried = ran.begun.tried in
+        let front : Written → OutputPart = front_file world station.ticks made tried in
+        let created = ran.parts.created in
+        let are : AreCreated (λ output sink. HoldsSoMuch told (front_file world station.ticks made tried output) sink) created order groups =
+        created_as (IsPart told first world station.ticks made tried) (λ output sink. HoldsSoMuch told (front_file world station.ticks made tried output) sink)
+        (λ output sink is. is.holds (inl (ap is_some at))) created order groups (ran.parts.parts rest) in
+        let parts = closed files (same.files_kept ∙ at) (map (front_file world station.ticks made tried) created) (created_mapped (front_file world station.ticks made tried) (HoldsSoMuch told) created order groups are) in
+        some_and new.files (λ now. HoldsParts old.writes files (map (front_file world station.ticks made tried) created) now new.writes)
+        (λ now. HoldsSome device first.writes files (parts_with station ran.run ran.begun rest) now new.writes first.created new.created)
+        (λ now found. record {
+          created = map (front_file world station.ticks made tried) created;
+          others = map (front_file world station.ticks made tried) ran.parts.others;
+          told = kept ∙ ran.parts.made_are ∙ ap (λ ns. after_making ns first.created) (fronts_named world station.ticks made tried created);
+          outputs_are = fronts_are world station.ticks made tried station.plan.sinks ∙ ap (map (front_file world station.ticks made tried)) ran.parts.all ∙ map-append (front_file world station.ticks made tried) created ran.parts.others;
+          first = old.writes;
+          grew = same.writes_grew;
+          risen = λ did. by_cause (front_file world station.ticks made tried) (risen did);
+          parts = found;
+        }) parts;
+  }
+    where
+      by_cause : (f : Written → OutputPart) → (ran.parts.others ≡ []) ⊎ Rose first.writes old.writes ⊎ Rose old.writes new.writes
+          → (map f ran.parts.others ≡ []) ⊎ Rose first.writes old.writes ⊎ Rose old.writes new.writes
+      by_cause f (inl none) = inl (ap (map f) none)
+      by_cause f (inr rose) = inr rose
 
-    -- whatever was written
-    pub part_written : {E : Type 0} (faults : O → ℕ) (w0 w1 w2 : ℕ) → w0 ≤ w1 → (made_before made_mid made_after : Option (List (List ℕ))) → made_after ≡ made_mid → (wrote : Result Rendered E) (well : Bool) → well ≡ is_ok wrote → RanPart (told name) (told held) (told faults) before station order groups made_before made_mid
-        → IfOk wrote (RanWhole (told name) (told held) (owed room) before station order groups)
-        → ForSome mid (λ files. (outputs : List OutputPart) → AreCreated (HoldsFrontIf well name held faults) outputs order groups → IsSomeAnd after (λ now. HoldsParts w1 files outputs now w2))
-        → ForSome before (λ files. WrotePart station w0 w2 files after made_before made_after)
-    part_written faults w0 w1 w2 low made_before made_mid made_after kept (Ok rendered) well is ran whole closed files at =
-        inr (ends_written faults w0 w1 w2 low rendered whole (subst (λ b. ForSome mid (λ files. (outputs : List OutputPart) → AreCreated (HoldsFrontIf b name held faults) outputs order groups → IsSomeAnd after (λ now. HoldsParts w1 files outputs now w2))) is closed) files at)
-    part_written faults w0 w1 w2 low made_before made_mid made_after kept (Err fault) well is ran whole closed files at =
-        inl (some_written faults w0 w1 w2 low made_before made_mid made_after kept ran (subst (λ b. ForSome mid (λ files. (outputs : List OutputPart) → AreCreated (HoldsFrontIf b name held faults) outputs order groups → IsSomeAnd after (λ now. HoldsParts w1 files outputs now w2))) is closed) files at)
+-- a creation raised the count, or a sink that failed does at its closing
+pub with_failed : {none rose later failed : Type 0} → rose ⊎ failed → (failed → later) → none ⊎ rose ⊎ later
+with_failed (inl rose) close = inr (inl rose)
+with_failed (inr failed) close = inr (inr (close failed))
 
 -- all outputs of a plan are begun, where each holds a part of its bytes
-pub begun_all : {S : Type 0} (name held : S → Option (List ℕ)) (faults : S → ℕ) (files : Option Files) (setting : Setting) (answers : (ℕ → List Answer) → ℕ → List Answer) (ticks : ℕ) (made tried : ℕ → ℕ) (order : List ℕ) (groups : List (List S)) (made_before made_after : Option (List (List ℕ)))
-    → made_after ≡ after_making (names_in setting.plan.sinks) made_before → ((rest : ℕ → List Answer) → AreCreated (IsPart name held faults files (answered setting (answers rest)) ticks made tried) (written setting.plan.sinks) order groups) → AreBegun name held faults files setting answers ticks made tried order groups made_before made_after
-begun_all name held faults files setting answers ticks made tried order groups made_before made_after is are = record {
+abbrev pub begun_all : {O : Type 0} (told : O → SinkTold) (shelf : ShelfTold) (setting : Setting) (answers : (ℕ → List Answer) → ℕ → List Answer) (ticks : ℕ) (made tried : ℕ → ℕ) (order : List ℕ) (groups : List (List (OutputSink O)))
+    (made_now : Option (List (List ℕ))) → made_now ≡ after_making (names_in setting.plan.sinks) shelf.created
+    → ((rest : ℕ → List Answer) → AreCreated (IsPart told shelf (answered setting (answers rest)) ticks made tried) (written setting.plan.sinks) order groups) → AreBegun told shelf setting answers ticks made tried order groups made_now
+begun_all told shelf setting answers ticks made tried order groups made_now is are = record {
   created = written setting.plan.sinks;
   others = [];
   all = sym (append-nil (written setting.plan.sinks));
-  told = is ∙ ap (λ ns. after_making ns made_before) (names_written setting.plan.sinks);
+  made_are = is ∙ ap (λ ns. after_making ns shelf.created) (names_written setting.plan.sinks);
   parts = are;
 }
 

@@ -1,27 +1,38 @@
 -- The files behind the outputs: the cue files, and the trace.
-use Rattle.std.proofs.Common.{◌≡◌, ◌∙◌, ◌++◌, ℕ, suc, Bool, true, false, List, [], ◌∷◌, length, append-nil, refl, ap, sym, subst, inr, true≢false}
-use Rattle.std.specs.Prelude.{Option, Some, Result, Ok, Err, OnOk, IfOk, IsSomeAnd, Vec}
+use Rattle.std.proofs.Common.{◌≡◌, ◌≤◌, ◌∙◌, ◌++◌, ℕ, suc, Bool, true, false, List, [], ◌∷◌, length, map, refl, ap, sym, subst, inr, true≢false}
+use Rattle.std.specs.Prelude.{Option, Some, Result, Ok, Err, OnOk, IfOk, IsErrOf, IsSomeAnd, Vec}
 use Rattle.std.specs.declared.alloc.Global.{Global}
 use Rattle.std.specs.Option.{ForSome}
+use Rattle.std.proofs.lemmas.List.{map-append}
+use Rattle.liq_base.specs.Counts.{Rose}
 use Rattle.liq_base.specs.Files.{Files, HoldsPart}
+use Rattle.liq_base.specs.Shelves.{ShelfTold}
 use Rattle.liq_base.specs.Kept.{some_and}
 use Rattle.plan_core.specs.declared.sink.SinkPlan.{SinkPlan}
 use Rattle.plan_core.specs.declared.sink.SinkPlan.TheVariants.{Output, Feed}
 use Rattle.stream_meaning.specs.Instants.{Setting}
 use Rattle.stream_meaning.specs.Sinks.{cues}
 use Rattle.clock_ticks.specs.declared.cues.CueMark.{CueMark}
+use Rattle.run_records.specs.Records.{Run}
 use Rattle.buffer_ends.specs.Local.{Answers}
-use Rattle.trace_log.specs.Values.{TraceValue}
-use Rattle.stations.specs.Cues.{cue_files, cues_if, cues_in, marks_if, marks_in}
+use Rattle.buffer_sides.specs.Logs.{told as told_of}
+use Rattle.stations.specs.Creations.{CreatedFront, HaveListed, after_making, closing_at_once, closings_in, names_in, names_of, trace_names_in}
+use Rattle.stations.specs.Cues.{cue_files, cue_names_if, cues_if, cues_in, marks_if, marks_in}
 use Rattle.stations.specs.Outputs.{HoldsUpto, OutputFile, with_outputs}
 use Rattle.stations.specs.Renderings.{WrotePart}
-use Rattle.stations.specs.Stations.{Station, InRounds, InWindows, Again, setting_of_run}
+use Rattle.stations.specs.Stations.{Station, Way, InRounds, InWindows, Again, setting_of_run}
 use Rattle.stations.specs.Streams.{output_files}
-use Rattle.stations.specs.Traces.{later_files, traced, traces_in, traces_of}
+use Rattle.stations.specs.Traces.{later_files, traced, traces_in}
+use Rattle.stations.proofs.Making.{front_made, then_listed}
 use Rattle.stations.proofs.Parts.{both_outputs, upto_front, upto_none, upto_then}
+use Rattle.station_render.specs.Faults.{ended_by_device, is_device}
 use Rattle.station_render.specs.Marks.{cue_file, cue_files_if, cue_files_with, cues_of}
 use Rattle.station_render.specs.Renders.{written}
-use Rattle.station_render.specs.Runs.{IsRendered, IsTold, WroteOutputs}
+use Rattle.station_render.specs.Renderings.{Renders}
+use Rattle.station_render.specs.Runs.{IsRendered, IsTold, WroteOutputs, name_in, station_in, traces_by}
+use Rattle.station_render.specs.declared.fault.RenderFault.{RenderFault}
+use Rattle.station_render.specs.declared.fault.RenderFault.TheVariants.{Write}
+use Rattle.station_render.specs.declared.job.Job.{Job}
 use Rattle.station_render.specs.declared.rendered.Rendered.{Rendered}
 
 -- the cue files, by the marks
@@ -38,6 +49,12 @@ pub marks_many : (setting : Setting) (ticks : ℕ) (sinks : List SinkPlan) → l
 marks_many setting ticks [] = refl
 marks_many setting ticks (Output name node fallible wide ∷ sinks) = ap suc (marks_many setting ticks sinks)
 marks_many setting ticks (Feed buffer node ∷ sinks) = marks_many setting ticks sinks
+
+-- the trace of a run, by its logs
+traces_are : (way : Way) (station : Station) (run : Run) (logs : List (List Answers)) → logs ≡ map (map told_of) run.buffers → traces_in way station run ≡ traces_by way station.trace station.ticks logs
+traces_are InRounds station run logs are = refl
+traces_are (InWindows window) station run logs are = ap (λ (bs : List (List Answers)). traced station.trace (record { ticks = station.ticks; window = window; buffers = bs })) (sym are)
+traces_are (Again trace) station run logs are = refl
 
 -- files that were written up to one of them, where those before them are told
 module _ (before mid after : Option Files) (cues traces : List OutputFile) where
@@ -67,26 +84,30 @@ one_part before after name bytes part files at =
     }) (part files at)
 
 -- the outputs were written, and then the files behind them
-module _ (station : Station) (before mid : Option Files) (rendered : Rendered) (wrote : WroteOutputs station before mid rendered) where
-  pub later_part : (count last : ℕ) (made_before made_after : Option (List (List ℕ))) (later : List OutputFile) (after : Option Files) → later_files station wrote.run ≡ later → ForSome mid (λ files. IsSomeAnd after (HoldsUpto files later))
-      → ForSome before (λ files. WrotePart station count last files after made_before made_after)
-  later_part count last made_before made_after later after is part files at =
+module _ (station : Station) (first mid : ShelfTold) (rendered : Rendered) (wrote : WroteOutputs station first mid rendered) where
+  pub later_part : (device : Bool) (last : ShelfTold) (later : List OutputFile) → later_files station wrote.run ≡ later → ForSome mid.files (λ files. IsSomeAnd last.files (HoldsUpto files later))
+      → ForSome first.files (λ files. WrotePart station device files first last)
+  later_part device last later is part files at =
       let outputs = output_files station wrote.run in
       inr (record {
         run = wrote.run;
         lawful = wrote.lawful;
-        part = some_and after (HoldsUpto (with_outputs files outputs) later) _ (λ now upto. inr (subst (λ l. HoldsUpto (with_outputs files outputs) l now) (sym is) upto)) (part (with_outputs files outputs) (wrote.outputs_written files at));
+        part = some_and last.files (HoldsUpto (with_outputs files outputs) later) _ (λ now upto. inr (subst (λ l. HoldsUpto (with_outputs files outputs) l now) (sym is) upto)) (part (with_outputs files outputs) (wrote.outputs_written files at));
       })
 
-  pub later_whole : (later : List OutputFile) (after : Option Files) (said : Rendered) → later_files station wrote.run ≡ later → IsTold station wrote.run said
-      → ForSome mid (λ files. after ≡ Some (with_outputs files later)) → IsRendered station before after said
-  later_whole later after said is told whole = record {
+  pub later_whole : (later : List OutputFile) (last : ShelfTold) (said : Rendered) → later_files station wrote.run ≡ later → IsTold station wrote.run said
+      → ForSome mid.files (λ files. last.files ≡ Some (with_outputs files later)) → last.created ≡ after_making (names_of station) first.created → HaveListed (map closing_at_once later) mid.closed last.closed
+      → IsRendered station first last said
+  later_whole later last said is told whole made listed = record {
     run = wrote.run;
     lawful = wrote.lawful;
     told = told;
     all_written = λ files at.
         let outputs = output_files station wrote.run in
         whole (with_outputs files outputs) (wrote.outputs_written files at) ∙ ap Some (sym (both_outputs files outputs later) ∙ ap (λ l. with_outputs files (outputs ++ l)) (sym is));
+    made = made;
+    closed = then_listed (closings_in (setting_of_run station wrote.run) station.ticks station.plan.sinks) (map closing_at_once (later_files station wrote.run)) first.closed mid.closed last.closed wrote.listed
+        (subst (λ l. HaveListed (map closing_at_once l) mid.closed last.closed) (sym is) listed);
   }
 
   -- the cue files are those of the marks
@@ -108,29 +129,14 @@ module _ (station : Station) (before mid : Option Files) (rendered : Rendered) (
       many_lists [] = refl
       many_lists (one ∷ others) = ap suc (many_lists others)
 
-  module _ (window : ℕ) (in_windows : station.way ≡ InWindows window) where
-    pub trace_is : traces_of station wrote.run ≡ traced station.trace (record { ticks = station.ticks; window = window; buffers = rendered.logs.items })
-    trace_is =
-        ap (λ w. traces_in w station wrote.run) in_windows
-        ∙ ap (λ (bs : List (List Answers)). traced station.trace (record { ticks = station.ticks; window = window; buffers = bs })) (sym wrote.told.logs_are)
-
   abbrev cue_part : List OutputFile
   cue_part = cue_files_if station.cues station.library station.plan.sinks (cues_of rendered.cues.items)
 
-  abbrev trace_part : (window : ℕ) → List OutputFile
-  trace_part window = traced station.trace (record { ticks = station.ticks; window = window; buffers = rendered.logs.items })
+  abbrev trace_part : List OutputFile
+  trace_part = traces_by station.way station.trace station.ticks rendered.logs.items
 
-  -- by threads
-  pub later_by : (window : ℕ) → station.way ≡ InWindows window → later_files station wrote.run ≡ cue_part ++ trace_part window
-  later_by window in_windows = λ i. cues_are i ++ trace_is window in_windows i
-
-  -- on one thread
-  pub later_alone : station.way ≡ InRounds → later_files station wrote.run ≡ cue_part
-  later_alone alone = ap (λ w. cue_files station wrote.run ++ traces_in w station wrote.run) alone ∙ append-nil (cue_files station wrote.run) ∙ cues_are
-
-  -- and again, as a trace tells
-  pub later_again : (trace : TraceValue) → station.way ≡ Again trace → later_files station wrote.run ≡ cue_part
-  later_again trace again = ap (λ w. cue_files station wrote.run ++ traces_in w station wrote.run) again ∙ append-nil (cue_files station wrote.run) ∙ cues_are
+  pub later_are : later_files station wrote.run ≡ cue_part ++ trace_part
+  later_are = λ i. cues_are i ++ traces_are station.way station wrote.run rendered.logs.items wrote.told.logs_are i
 
   -- what is told stays, where the run's record is handed on
   pub told_again : (said : Rendered) → said.gaps.items ≡ rendered.gaps.items → said.counts.items ≡ rendered.counts.items → said.logs.items ≡ rendered.logs.items → said.cues.items ≡ rendered.cues.items
@@ -142,10 +148,34 @@ module _ (station : Station) (before mid : Option Files) (rendered : Rendered) (
     cues_are = ap cues_of cues ∙ wrote.told.cues_are;
   }
 
-  pub rendered_by : {E : Type 0} (r : Result Rendered E) (window : ℕ) → station.way ≡ InWindows window → (between after : Option Files)
-      → ForSome mid (λ files. between ≡ Some (with_outputs files cue_part)) → IfOk r (λ said. said.gaps.items ≡ rendered.gaps.items) → IfOk r (λ said. said.counts.items ≡ rendered.counts.items)
+  pub rendered_by : {E : Type 0} (r : Result Rendered E) (between last : ShelfTold)
+      → ForSome mid.files (λ files. between.files ≡ Some (with_outputs files cue_part)) → IfOk r (λ said. said.gaps.items ≡ rendered.gaps.items) → IfOk r (λ said. said.counts.items ≡ rendered.counts.items)
       → IfOk r (λ said. said.logs.items ≡ rendered.logs.items) → IfOk r (λ said. said.cues.items ≡ rendered.cues.items)
-      → OnOk r (ForSome between (λ files. after ≡ Some (with_outputs files (trace_part window)))) → IfOk r (IsRendered station before after)
-  rendered_by (Ok said) window in_windows between after cues gaps counts logs marks traces =
-      later_whole (cue_part ++ trace_part window) after said (later_by window in_windows) (told_again said gaps counts logs marks) (whole_behind mid between after cue_part (trace_part window) cues traces)
-  rendered_by (Err e) window in_windows between after cues gaps counts logs marks traces = tt
+      → OnOk r (ForSome between.files (λ files. last.files ≡ Some (with_outputs files trace_part))) → OnOk r (last.created ≡ after_making (names_of station) first.created)
+      → HaveListed (map closing_at_once cue_part) mid.closed between.closed → OnOk r (HaveListed (map closing_at_once trace_part) between.closed last.closed)
+      → IfOk r (IsRendered station first last)
+  rendered_by (Ok said) between last cues gaps counts logs marks traces made listed more =
+      later_whole (cue_part ++ trace_part) last said later_are (told_again said gaps counts logs marks) (whole_behind mid.files between.files last.files cue_part trace_part cues traces) made
+      (subst (λ cs. HaveListed cs mid.closed last.closed) (sym (map-append closing_at_once cue_part trace_part))
+      (then_listed (map closing_at_once cue_part) (map closing_at_once trace_part) mid.closed between.closed last.closed listed more))
+  rendered_by (Err e) between last cues gaps counts logs marks traces made listed more = tt
+
+-- a rendering that broke off
+pub broke_off : (station : Station) (old new : ShelfTold) (r : Result Rendered RenderFault) (e : RenderFault) → r ≡ Err e
+    → ForSome old.files (λ files. WrotePart station (is_device e) files old new) → (IsErrOf r Write → Rose old.writes new.writes)
+    → CreatedFront (names_of station) old new → old.reads ≤ new.reads → old.writes ≤ new.writes → Renders station old new r
+broke_off station old new r e is part cause front reads writes = record {
+  done = subst (λ x. IfOk x (IsRendered station old new)) (sym is) tt;
+  part = subst (λ x. ForSome old.files (λ files. WrotePart station (ended_by_device x) files old new)) (sym is) part;
+  cause = cause;
+  front = front;
+  reads_grew = reads;
+  writes_grew = writes;
+}
+
+-- a rendering whose outputs were not opened
+pub not_opened : (job : Job) (way : Way) (old new : ShelfTold) (r : Result Rendered RenderFault) (e : RenderFault) → r ≡ Err e
+    → ForSome old.files (λ files. WrotePart (station_in job way) (is_device e) files old new) → (IsErrOf r Write → Rose old.writes new.writes)
+    → CreatedFront (names_in job.plan.now.sinks) old new → old.reads ≤ new.reads → old.writes ≤ new.writes → Renders (station_in job way) old new r
+not_opened job way old new r e is part cause front = broke_off (station_in job way) old new r e is part cause
+    (front_made (names_in job.plan.now.sinks) (cue_names_if job.cues job.plan.now.sinks ++ trace_names_in way (name_in job)) old new front)

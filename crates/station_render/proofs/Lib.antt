@@ -14,8 +14,7 @@ pub mod Returning
 pub mod Tracing
 pub mod Leaving
 pub mod CueFiles
-pub mod Writing
-pub mod Known
+pub mod Measures
 pub mod Marking
 pub mod Listing
 pub mod Staging

@@ -1,13 +1,13 @@
 -- What a run leaves in the sinks of a clock, place by place.
-use Rattle.std.proofs.Common.{◌≡◌, ◌<◌, ◌+◌, ◌*◌, ◌∙◌, ◌++◌, ℕ, zero, suc, Bool, true, false, List, [], ◌∷◌, length, map, slice_get, get_or, nat_eq, arith, refl, ap, sym, subst, append_assoc, inl, if◌then◌else◌}
-use Rattle.std.specs.Prelude.{Option, Some, None, is_some}
+use Rattle.std.proofs.Common.{◌≡◌, ◌<◌, ◌+◌, ◌*◌, ◌^◌, ◌∙◌, ◌++◌, ℕ, zero, suc, Bool, true, false, List, [], ◌∷◌, length, map, slice_get, get_or, nat_eq, arith, refl, ap, sym, subst, append_assoc, inl, if◌then◌else◌}
+use Rattle.std.specs.Prelude.{Some, is_some}
 use Rattle.std.specs.Fn.{iterate}
 use Rattle.liq_base.specs.Counts.{counted}
 use Rattle.std.specs.List.{AllZip}
 use Rattle.std.specs.Option.{option_map_or}
 use Rattle.std.proofs.lemmas.Bool.{eq-eqb, false_from_ne_true, eqb-true}
-use Rattle.liq_base.specs.Files.{Files}
-use Rattle.liq_base.specs.Pieces.{HasRoom, IsPrefix, grown}
+use Rattle.liq_base.specs.Pieces.{HasRoom, IsPrefix, SinkTold, grown}
+use Rattle.liq_base.specs.Shelves.{ShelfTold}
 use Rattle.plan_core.specs.declared.plan.Plan.{Plan}
 use Rattle.plan_core.specs.declared.sink.SinkPlan.{SinkPlan}
 use Rattle.plan_core.specs.declared.sink.SinkPlan.TheVariants.{Output, Feed}
@@ -21,6 +21,7 @@ use Rattle.clock_ticks.specs.declared.engine.ClockEngine.{ClockEngine}
 use Rattle.clock_ticks.specs.Engines.{EngineStands, held_in, held_of, outputs_from, outputs_of, setting_of}
 use Rattle.clock_ticks.specs.Ticks.{HaveTicksRoom, piece_size}
 use Rattle.clock_ticks.specs.Cues.{mark_of}
+use Rattle.clock_ticks.specs.Pieces.{HasGot}
 use Rattle.clock_ticks.specs.declared.cues.CueMark.{CueMark}
 use Rattle.clock_ticks.proofs.Numbered.{are_there}
 use Rattle.rounds_run.specs.Rounds.{AreEngines, HasRunPart, HaveRunPart}
@@ -33,7 +34,9 @@ use Rattle.station_render.specs.Renders.{IsPart, IsReady, IsWhole, Written, main
 use Rattle.station_render.proofs.Lists.{got_is, mapped, many_mapped, unmapped, within}
 use Rattle.station_render.proofs.Dealing.{zip_at, zip_from, zip_size}
 use Rattle.station_render.proofs.Closing.{in_list}
-use Rattle.station_render.proofs.Listing.{counted_any}
+use Rattle.station_render.proofs.Measures.{any_still, count_many, known_alike}
+use Rattle.station_render.specs.OutputSinks.{output_told}
+use Rattle.station_render.specs.declared.output_sink.OutputSink.{OutputSink}
 
 -- the nodes of these sinks lie in main clocks
 abbrev pub LieInMain : Setting → List SinkPlan → Type 0
@@ -100,18 +103,18 @@ rising setting m i (Output name node fallible wide ∷ sinks) =
 rising setting m i (Feed buffer node ∷ sinks) = rising setting m (suc i) sinks
 
 -- what the sink of a number holds, by its place
-held_at : {S : Type 0} (held : S → Option (List ℕ)) (outputs : List (ℕ × ℕ)) (outs : List S) (j : ℕ) (output : ℕ × ℕ) (out : S)
+held_at : {S : Type 0} (told : S → SinkTold) (outputs : List (ℕ × ℕ)) (outs : List S) (j : ℕ) (output : ℕ × ℕ) (out : S)
     → ((k : ℕ) (other : ℕ × ℕ) → k < j → slice_get outputs k ≡ Some other → nat_eq other.0 output.0 ≡ false)
-    → slice_get outputs j ≡ Some output → slice_get outs j ≡ Some out → held_in held outputs outs output.0 ≡ held out
-held_at held [] outs j output out before at there = absurd (cc)
-held_at held (p ∷ outputs) [] j output out before at there = absurd (cc)
-held_at held (p ∷ outputs) (o ∷ outs) zero output out before at there =
+    → slice_get outputs j ≡ Some output → slice_get outs j ≡ Some out → held_in told outputs outs output.0 ≡ (told out).held
+held_at told [] outs j output out before at there = absurd (cc)
+held_at told (p ∷ outputs) [] j output out before at there = absurd (cc)
+held_at told (p ∷ outputs) (o ∷ outs) zero output out before at there =
     let same : p ≡ output = (cc) in
     let same_out : o ≡ out = (cc) in
-    ap (λ b. if b then held o else held_in held outputs outs output.0) (eq-eqb p.0 output.0 (ap (λ (q : ℕ × ℕ). q.0) same)) ∙ ap held same_out
-held_at held (p ∷ outputs) (o ∷ outs) (suc j) output out before at there =
-    ap (λ b. if b then held o else held_in held outputs outs output.0) (before 0 p (omega arith) refl)
-    ∙ held_at held outputs outs j output out (λ k other low found. before (suc k) other (omega (arith, low)) found) at there
+    ap (λ b. if b then (told o).held else held_in told outputs outs output.0) (eq-eqb p.0 output.0 (ap (λ (q : ℕ × ℕ). q.0) same)) ∙ ap (λ x. (told x).held) same_out
+held_at told (p ∷ outputs) (o ∷ outs) (suc j) output out before at there =
+    ap (λ b. if b then (told o).held else held_in told outputs outs output.0) (before 0 p (omega arith) refl)
+    ∙ held_at told outputs outs j output out (λ k other low found. before (suc k) other (omega (arith, low)) found) at there
 
 -- the place of an output among those of a clock
 record IsPlaced (setting : Setting) (m j : ℕ) (output : Written) : Type 0 where
@@ -151,7 +154,7 @@ placed_at setting m main j output at =
           false_from_ne_true (nat_eq other.0 found.0.0) (λ e. let same : other.0 ≡ found.0.0 = eqb-true other.0 found.0.0 e in omega (arith, less, same));
     }
 
-module _ {S : Type 0} (held name : S → Option (List ℕ)) (faults : S → ℕ) (appends : S → Option ℕ) (ticks : ℕ) (old new : ClockEngine S) (main : LieInMain (setting_of old.parts) (setting_of old.parts).plan.sinks) where
+module _ {S : Type 0} (told : S → SinkTold) (ticks : ℕ) (old new : ClockEngine S) (main : LieInMain (setting_of old.parts) (setting_of old.parts).plan.sinks) where
   abbrev here : Setting
   here = setting_of old.parts
 
@@ -160,37 +163,39 @@ module _ {S : Type 0} (held name : S → Option (List ℕ)) (faults : S → ℕ)
 
   held_both : setting_of new.parts ≡ here → new.parts.clock ≡ old.parts.clock → (j : ℕ) (output : Written) (before after : S)
       → slice_get mine j ≡ Some output → slice_get old.outs j ≡ Some before → slice_get new.outs j ≡ Some after
-      → (sink : ℕ) × (is : IsOutput here old.parts.clock sink output.node) × (is.wide ≡ output.wide) × (held_of held old sink ≡ held before) × (held_of held new sink ≡ held after)
+      → (sink : ℕ) × (is : IsOutput here old.parts.clock sink output.node) × (is.wide ≡ output.wide) × (held_of told old sink ≡ (told before).held) × (held_of told new sink ≡ (told after).held)
   held_both over clock j output before after at was is =
       let place = placed_at here old.parts.clock main j output at in (
         place.sink,
         place.is_output,
         place.wide_is,
-        held_at held (outputs_of here old.parts.clock) old.outs j (place.sink, output.node) before place.before place.there was,
-        ap (λ s. held_in held (outputs_of s new.parts.clock) new.outs place.sink) over
-            ∙ ap (λ c. held_in held (outputs_of here c) new.outs place.sink) clock
-            ∙ held_at held (outputs_of here old.parts.clock) new.outs j (place.sink, output.node) after place.before place.there is,
+        held_at told (outputs_of here old.parts.clock) old.outs j (place.sink, output.node) before place.before place.there was,
+        ap (λ s. held_in told (outputs_of s new.parts.clock) new.outs place.sink) over
+            ∙ ap (λ c. held_in told (outputs_of here c) new.outs place.sink) clock
+            ∙ held_at told (outputs_of here old.parts.clock) new.outs j (place.sink, output.node) after place.before place.there is,
       )
 
   -- after all ticks
-  pub whole_at : (world : Setting) → HasRunTicks held name faults appends world ticks old new → (j : ℕ) (output : Written) (before after : S)
+  pub whole_at : (world : Setting) → HasRunTicks told world ticks old new → (j : ℕ) (output : Written) (before after : S)
       → slice_get mine j ≡ Some output → slice_get old.outs j ≡ Some before → slice_get new.outs j ≡ Some after
-      → (name after ≡ name before) × (held after ≡ grown (ticks_bytes world output.wide output.node ticks) (held before))
+      → HasGot ticks (told before) (told after) × ((told after).held ≡ grown (ticks_bytes world output.wide output.node ticks) (told before).held)
   whole_at world run j output before after at was is =
       let both = held_both run.over run.clock j output before after at was is in (
-        (run.kept.each j before after was is).0,
-        sym both.4 ∙ run.grew both.0 output.node both.1 ∙ ap (λ w. grown (ticks_bytes world w output.node ticks) (held_of held old both.0)) both.2 ∙ ap (grown (ticks_bytes world output.wide output.node ticks)) both.3,
+        run.pieces.each j before after was is,
+        sym both.4 ∙ run.grew both.0 output.node both.1 ∙ ap (λ w. grown (ticks_bytes world w output.node ticks) (held_of told old both.0)) both.2 ∙ ap (grown (ticks_bytes world output.wide output.node ticks)) both.3,
       )
 
   -- after a part of them
-  pub part_at : (worlds : (ℕ → List Answer) → Setting) (least most : ℕ) → HasRunPart held name faults appends worlds least most old new → (rest : ℕ → List Answer) (j : ℕ) (output : Written) (before after : S)
+  pub part_at : (worlds : (ℕ → List Answer) → Setting) (least most : ℕ) → HasRunPart told worlds least most old new → (rest : ℕ → List Answer) (j : ℕ) (output : Written) (before after : S)
       → slice_get mine j ≡ Some output → slice_get old.outs j ≡ Some before → slice_get new.outs j ≡ Some after
-      → (name after ≡ name before)
-      × ((bytes : List ℕ) × IsPrefix (ticks_bytes (worlds rest) output.wide output.node least) bytes × IsPrefix bytes (ticks_bytes (worlds rest) output.wide output.node most) × (held after ≡ grown bytes (held before)))
+      → ((told after).name ≡ (told before).name) × (is_some (told after).appends ≡ is_some (told before).appends)
+      × ((bytes : List ℕ) × IsPrefix (ticks_bytes (worlds rest) output.wide output.node least) bytes × IsPrefix bytes (ticks_bytes (worlds rest) output.wide output.node most) × ((told after).held ≡ grown bytes (told before).held))
   part_at worlds least most run rest j output before after at was is =
       let both = held_both run.setting run.clock j output before after at was is in
-      let part = run.part rest both.0 output.node both.1 in (
-        (run.kept.each j before after was is).0,
+      let part = run.part rest both.0 output.node both.1 in
+      let got = run.pieces.each j before after was is in (
+        got.3.name_kept,
+        ap is_some got.3.appends_are ∙ any_still got.0 (told before).appends,
         (
           part.0,
           subst (λ w. IsPrefix (ticks_bytes (worlds rest) w output.node least) part.0) both.2 part.1,
@@ -204,26 +209,22 @@ module _ {S : Type 0} (held name : S → Option (List ℕ)) (faults : S → ℕ)
   lies_here j output at = (placed_at here old.parts.clock main j output at).is_output.in_clock
 
   -- the room of each sink is that for its output
-  pub rooms_at : (left : S → Option ℕ) → ((j : ℕ) (output : Written) (out : S) → slice_get mine j ≡ Some output → slice_get old.outs j ≡ Some out → HasRoom (left out) (body_size here output.wide ticks output.node))
-      → length old.outs ≡ length mine → HaveTicksRoom left old.parts old.outs ticks
-  rooms_at left each size = record {
+  pub rooms_at : ((j : ℕ) (output : Written) (out : S) → slice_get mine j ≡ Some output → slice_get old.outs j ≡ Some out → HasRoom (told out).room (body_size here output.wide ticks output.node))
+      → length old.outs ≡ length mine → HaveTicksRoom told old.parts old.outs ticks
+  rooms_at each size = record {
     each = λ k sink node out at there.
         let low = within old.outs k out there in
         let found = in_list mine k (omega (arith, size, low)) in
         let place = placed_at here old.parts.clock main k found.0 found.1 in
         let pairs : (place.sink, found.0.node) ≡ (sink, node) = (let e : Some (place.sink, found.0.node) ≡ Some (sink, node) = sym place.there ∙ at in cc) in
         let width : is_wide here sink ≡ found.0.wide = ap (λ (p : ℕ × ℕ). is_wide here p.0) (sym pairs) ∙ place.width_is in
-        subst (λ n. HasRoom (left out) (ticks * piece_size here sink n)) (ap (λ (p : ℕ × ℕ). p.1) pairs)
-        (subst (λ w. HasRoom (left out) (ticks * (here.plan.frame * block_length w (kind_of here found.0.node)))) (sym width) (each k found.0 out found.1 there));
+        subst (λ n. HasRoom (told out).room (ticks * piece_size here sink n)) (ap (λ (p : ℕ × ℕ). p.1) pairs)
+        (subst (λ w. HasRoom (told out).room (ticks * (here.plan.frame * block_length w (kind_of here found.0.node)))) (sym width) (each k found.0 out found.1 there));
   }
 
 -- a front stays one behind a header
 headed : (header part rest whole : List ℕ) → whole ≡ part ++ rest → header ++ whole ≡ header ++ part ++ rest
 headed header part rest whole is = ap (λ b. header ++ b) is ∙ sym (append_assoc header part rest)
-
--- sinks that are known by one name have one title, and owe as much
-abbrev pub AreAlike : {S : Type 0} → (name title : S → Option (List ℕ)) → (debt : S → ℕ) → Type 0
-AreAlike name title debt = (one other : _) → name one ≡ name other → (title one ≡ title other) × (debt one ≡ debt other)
 
 -- an engine before a run, at the place of one after it
 before_at : {S : Type 0} (old new : List (ClockEngine S)) → length new ≡ length old → (m : ℕ) (group : List S) → slice_get (outs_of new) m ≡ Some group
@@ -233,52 +234,6 @@ before_at {S} old new size m group at =
     let low = within new m after.0 after.1 in
     let before = in_list old m (omega (arith, low, size)) in
     (before.0, after.0, before.1, after.1, after.2)
-
--- pieces change nothing in whether their number is told
-any_still : (pieces : ℕ) (told : Option ℕ) → is_some (iterate counted pieces told) ≡ is_some told
-any_still zero told = refl
-any_still (suc pieces) told = any_still pieces (counted told) ∙ counted_any told
-
--- what stands so of sinks by what they are known by, and by whether they tell how many pieces they got, does so after a run
-pub stand_still : {Y S : Type 0} (So : Y → S → Type 0) (held name : S → Option (List ℕ)) (faults : S → ℕ) (appends : S → Option ℕ) (world : (ℕ → List Answer) → Setting) (least most : ℕ → ℕ)
-    → ((y : Y) (one other : S) → name one ≡ name other → is_some (appends one) ≡ is_some (appends other) → So y other → So y one) → (old new : List (ClockEngine S)) → HaveRunPart held name faults appends world least most old new
-    → (ys : List Y) (order : List ℕ) → AreCreated So ys order (outs_of old) → AreCreated So ys order (outs_of new)
-stand_still So held name faults appends world least most keeps old new run ys order are = record {
-  size = are.size;
-  below = λ k clock there. subst (λ n. clock < n) (sym (many_mapped (λ (e : ClockEngine _). e.outs) new ∙ run.size ∙ sym (many_mapped (λ (e : ClockEngine _). e.outs) old))) (are.below k clock there);
-  each = λ m group there.
-      let found = before_at old new run.size m group there in
-      let ran = run.each m found.0 found.1 found.2 found.3 in
-      let zip = are.each m found.0.outs (mapped (λ (e : ClockEngine _). e.outs) old m found.0 found.2) in
-      subst (λ g. AllZip So (of_clock m order ys) g) found.4
-      (zip_from So (of_clock m order ys) found.1.outs (ran.outs ∙ zip_size So (of_clock m order ys) found.0.outs zip)
-      (λ j y after mine_at after_at.
-      let low = within found.1.outs j after after_at in
-      let size = ran.outs in
-      let before = in_list found.0.outs j (omega (arith, low, size)) in
-      let got = ran.pieces.each j before.0 after before.1 after_at in
-      keeps y after before.0 (ran.kept.each j before.0 after before.1 after_at).0 (ap is_some got.3 ∙ any_still got.0 (appends before.0)) (zip_at So (of_clock m order ys) found.0.outs j y before.0 zip mine_at before.1)));
-}
-
--- the same where all ticks were made: so many pieces came
-pub stand_counted : {Y S : Type 0} (So Then : Y → S → Type 0) (held name : S → Option (List ℕ)) (faults : S → ℕ) (appends : S → Option ℕ) (world : Setting) (ticks : ℕ)
-    → ((y : Y) (one other : S) → name one ≡ name other → appends one ≡ iterate counted ticks (appends other) → So y other → Then y one) → (old new : List (ClockEngine S)) → HaveRunTicks held name faults appends world ticks old new
-    → (ys : List Y) (order : List ℕ) → AreCreated So ys order (outs_of old) → AreCreated Then ys order (outs_of new)
-stand_counted So Then held name faults appends world ticks keeps old new run ys order are = record {
-  size = are.size;
-  below = λ k clock there. subst (λ n. clock < n) (sym (many_mapped (λ (e : ClockEngine _). e.outs) new ∙ run.size ∙ sym (many_mapped (λ (e : ClockEngine _). e.outs) old))) (are.below k clock there);
-  each = λ m group there.
-      let found = before_at old new run.size m group there in
-      let ran = run.each m found.0 found.1 found.2 found.3 in
-      let zip = are.each m found.0.outs (mapped (λ (e : ClockEngine _). e.outs) old m found.0 found.2) in
-      subst (λ g. AllZip Then (of_clock m order ys) g) found.4
-      (zip_from Then (of_clock m order ys) found.1.outs (ran.outs ∙ zip_size So (of_clock m order ys) found.0.outs zip)
-      (λ j y after mine_at after_at.
-      let low = within found.1.outs j after after_at in
-      let size = ran.outs in
-      let before = in_list found.0.outs j (omega (arith, low, size)) in
-      keeps y after before.0 (ran.kept.each j before.0 after before.1 after_at).0 (ran.pieces.each j before.0 after before.1 after_at) (zip_at So (of_clock m order ys) found.0.outs j y before.0 zip mine_at before.1)));
-}
 
 -- the sinks of all clocks
 module _ {S : Type 0} (setting : Setting) (ticks : ℕ) (main : LieInMain setting setting.plan.sinks) where
@@ -297,112 +252,126 @@ module _ {S : Type 0} (setting : Setting) (ticks : ℕ) (main : LieInMain settin
   mine_is engine m is = ap (λ s. of_clock engine.parts.clock (order_of s (written s.plan.sinks)) (written s.plan.sinks)) is.over ∙ ap (λ c. of_clock c (order_of setting (written setting.plan.sinks)) (written setting.plan.sinks)) is.clock_is
 
   -- the engines may run
-  pub may_run : (left : S → Option ℕ) (engines : List (ClockEngine S)) → AreAt setting engines
-      → AreCreated (λ output sink. HasRoom (left sink) (body_size setting output.wide ticks output.node)) (written setting.plan.sinks) (order_of setting (written setting.plan.sinks)) (outs_of engines) → AreEngines left ticks setting engines
-  may_run left engines at rooms = record {
+  pub may_run : (told : S → SinkTold) (engines : List (ClockEngine S)) → AreAt setting engines
+      → AreCreated (λ output sink. HasRoom (told sink).room (body_size setting output.wide ticks output.node)) (written setting.plan.sinks) (order_of setting (written setting.plan.sinks)) (outs_of engines) → AreEngines told ticks setting engines
+  may_run told engines at rooms = record {
     each = λ m engine there.
         let is = at.each m engine there in
         let zip = rooms.each m engine.outs (mapped (λ (e : ClockEngine S). e.outs) engines m engine there) in
         record {
           fresh = is.stands;
-          rooms = rooms_at (λ s. None) (λ s. None) (λ s. 0) (λ s. None) ticks engine engine (main_here engine is.over) left
+          rooms = rooms_at told ticks engine engine (main_here engine is.over)
               (λ j output out mine_at out_at.
-              subst (λ s. HasRoom (left out) (body_size s output.wide ticks output.node)) (sym is.over)
-              (zip_at (λ output sink. HasRoom (left sink) (body_size setting output.wide ticks output.node)) (of_clock m (order_of setting (written setting.plan.sinks)) (written setting.plan.sinks)) engine.outs j output out zip
+              subst (λ s. HasRoom (told out).room (body_size s output.wide ticks output.node)) (sym is.over)
+              (zip_at (λ output sink. HasRoom (told sink).room (body_size setting output.wide ticks output.node)) (of_clock m (order_of setting (written setting.plan.sinks)) (written setting.plan.sinks)) engine.outs j output out zip
               (ap (λ ws. slice_get ws j) (sym (mine_is engine m is)) ∙ mine_at) out_at))
-              (zip_size (λ output sink. HasRoom (left sink) (body_size setting output.wide ticks output.node)) (of_clock m (order_of setting (written setting.plan.sinks)) (written setting.plan.sinks)) engine.outs zip ∙ sym (ap length (mine_is engine m is)));
+              (zip_size (λ output sink. HasRoom (told sink).room (body_size setting output.wide ticks output.node)) (of_clock m (order_of setting (written setting.plan.sinks)) (written setting.plan.sinks)) engine.outs zip ∙ sym (ap length (mine_is engine m is)));
         };
     in_order = λ m engine there. (at.each m engine there).clock_is;
     over = λ m engine there. (at.each m engine there).over;
   }
 
-  module _ (name title held : S → Option (List ℕ)) (left : S → Option ℕ) (debt faults : S → ℕ) (appends : S → Option ℕ) (alike : AreAlike name title debt) (files : Option Files) (old new : List (ClockEngine S)) (at : AreAt setting old)
-      (ready : AreCreated (IsReady title held left debt files setting ticks) (written setting.plan.sinks) (order_of setting (written setting.plan.sinks)) (outs_of old)) where
-    same_many : length new ≡ length old → length (outs_of new) ≡ length (outs_of old)
-    same_many size = many_mapped (λ (e : ClockEngine S). e.outs) new ∙ size ∙ sym (many_mapped (λ (e : ClockEngine S). e.outs) old)
+-- the sinks of opened outputs, after a run
+module _ {O : Type 0} (told : O → SinkTold) (shelf : ShelfTold) (setting : Setting) (ticks : ℕ) (main : LieInMain setting setting.plan.sinks) (old new : List (ClockEngine (OutputSink O))) (at : AreAt setting old)
+    (ready : AreCreated (IsReady told shelf setting ticks) (written setting.plan.sinks) (order_of setting (written setting.plan.sinks)) (outs_of old)) where
+  abbrev own : (m : ℕ) → List Written
+  own m = of_clock m (order_of setting (written setting.plan.sinks)) (written setting.plan.sinks)
 
-    pub all_whole : (answers : ℕ → List Answer) → HaveRunTicks held name faults appends (answered setting answers) ticks old new → AreCreated (IsWhole title held debt files (answered setting answers) ticks) (written setting.plan.sinks) (order_of setting (written setting.plan.sinks)) (outs_of new)
-    all_whole answers run = record {
-      size = ready.size;
-      below = λ k clock there. subst (λ n. clock < n) (sym (same_many run.size)) (ready.below k clock there);
-      each = λ m group there.
-          let found = before_at old new run.size m group there in
-          let is = at.each m found.0 found.2 in
-          let ran = run.each m found.0 found.1 found.2 found.3 in
-          let zip = ready.each m found.0.outs (mapped (λ (e : ClockEngine S). e.outs) old m found.0 found.2) in
-          subst (λ g. AllZip (IsWhole title held debt files (answered setting answers) ticks) (of_clock m (order_of setting (written setting.plan.sinks)) (written setting.plan.sinks)) g) found.4
-          (zip_from (IsWhole title held debt files (answered setting answers) ticks) (of_clock m (order_of setting (written setting.plan.sinks)) (written setting.plan.sinks)) found.1.outs
-          (ran.outs ∙ zip_size (IsReady title held left debt files setting ticks) (of_clock m (order_of setting (written setting.plan.sinks)) (written setting.plan.sinks)) found.0.outs zip)
-          (λ j output after mine_at after_at.
-          let low = within found.1.outs j after after_at in
-          let size = ran.outs in
-          let before = in_list found.0.outs j (omega (arith, low, size)) in
-          let told = zip_at (IsReady title held left debt files setting ticks) (of_clock m (order_of setting (written setting.plan.sinks)) (written setting.plan.sinks)) found.0.outs j output before.0 zip mine_at before.1 in
-          let did = whole_at held name faults appends ticks found.0 found.1 (main_here found.0 is.over) (answered setting answers) ran j output before.0 after
-          (ap (λ ws. slice_get ws j) (mine_is found.0 m is) ∙ mine_at) before.1 after_at in
-          let same = alike after before.0 did.0 in
-          record {
-            told = λ all here. record {
-              named = same.0 ∙ (told.told all here).named;
-              holds = did.1 ∙ ap (grown (ticks_bytes (answered setting answers) output.wide output.node ticks)) (told.told all here).holds;
-            };
-            owes = same.1 ∙ told.owes;
-          }));
-    }
+  same_many : length new ≡ length old → length (outs_of new) ≡ length (outs_of old)
+  same_many size = many_mapped (λ (e : ClockEngine (OutputSink O)). e.outs) new ∙ size ∙ sym (many_mapped (λ (e : ClockEngine (OutputSink O)). e.outs) old)
 
-    pub all_part : (answers : (ℕ → List Answer) → ℕ → List Answer) (least most : ℕ → ℕ) → HaveRunPart held name faults appends (λ rest. answered setting (answers rest)) least most old new → (rest : ℕ → List Answer)
-        → AreCreated (IsPart title held faults files (answered setting (answers rest)) ticks least most) (written setting.plan.sinks) (order_of setting (written setting.plan.sinks)) (outs_of new)
-    all_part answers least most run rest = record {
-      size = ready.size;
-      below = λ k clock there. subst (λ n. clock < n) (sym (same_many run.size)) (ready.below k clock there);
-      each = λ m group there.
-          let world : Setting = answered setting (answers rest) in
-          let found = before_at old new run.size m group there in
-          let is = at.each m found.0 found.2 in
-          let ran = run.each m found.0 found.1 found.2 found.3 in
-          let zip = ready.each m found.0.outs (mapped (λ (e : ClockEngine S). e.outs) old m found.0 found.2) in
-          subst (λ g. AllZip (IsPart title held faults files world ticks least most) (of_clock m (order_of setting (written setting.plan.sinks)) (written setting.plan.sinks)) g) found.4
-          (zip_from (IsPart title held faults files world ticks least most) (of_clock m (order_of setting (written setting.plan.sinks)) (written setting.plan.sinks)) found.1.outs
-          (ran.outs ∙ zip_size (IsReady title held left debt files setting ticks) (of_clock m (order_of setting (written setting.plan.sinks)) (written setting.plan.sinks)) found.0.outs zip)
-          (λ j output after mine_at after_at.
-          let low = within found.1.outs j after after_at in
-          let size = ran.outs in
-          let before = in_list found.0.outs j (omega (arith, low, size)) in
-          let told = zip_at (IsReady title held left debt files setting ticks) (of_clock m (order_of setting (written setting.plan.sinks)) (written setting.plan.sinks)) found.0.outs j output before.0 zip mine_at before.1 in
-          let mine_here = ap (λ ws. slice_get ws j) (mine_is found.0 m is) ∙ mine_at in
-          let did = part_at held name faults appends ticks found.0 found.1 (main_here found.0 is.over) (λ more. answered setting (answers more)) (least m) (most m) ran rest j output before.0 after mine_here before.1 after_at in
-          let lies : clock_of setting output.node ≡ Main m =
-          (λ i. clock_of (sym is.over i) output.node) ∙ lies_here held name faults appends ticks found.0 found.1 (main_here found.0 is.over) j output mine_here ∙ ap Main is.clock_is in
-          let clock : main_clock world output.node ≡ m = ap (main_within world (length world.plan.nodes)) lies in
-          let header = header_for setting output.wide ticks output.node in
-          λ all here. record {
-            named = (alike after before.0 did.0).0 ∙ (told.told all here).named;
-            part = header ++ did.1.0;
-            holds = did.1.3 ∙ ap (grown did.1.0) (told.told all here).holds;
+  pub all_whole : ticks + 2 < 2 ^ 64 → (answers : ℕ → List Answer) → HaveRunTicks (output_told told) (answered setting answers) ticks old new
+      → AreCreated (IsWhole told shelf (answered setting answers) ticks) (written setting.plan.sinks) (order_of setting (written setting.plan.sinks)) (outs_of new)
+  all_whole few answers run = record {
+    size = ready.size;
+    below = λ k clock there. subst (λ n. clock < n) (sym (same_many run.size)) (ready.below k clock there);
+    each = λ m group there.
+        let found = before_at old new run.size m group there in
+        let is = at.each m found.0 found.2 in
+        let ran = run.each m found.0 found.1 found.2 found.3 in
+        let zip = ready.each m found.0.outs (mapped (λ (e : ClockEngine (OutputSink O)). e.outs) old m found.0 found.2) in
+        subst (λ g. AllZip (IsWhole told shelf (answered setting answers) ticks) (own m) g) found.4
+        (zip_from (IsWhole told shelf (answered setting answers) ticks) (own m) found.1.outs
+        (ran.outs ∙ zip_size (IsReady told shelf setting ticks) (own m) found.0.outs zip)
+        (λ j output after mine_at after_at.
+        let low = within found.1.outs j after after_at in
+        let size = ran.outs in
+        let before = in_list found.0.outs j (omega (arith, low, size)) in
+        let was = zip_at (IsReady told shelf setting ticks) (own m) found.0.outs j output before.0 zip mine_at before.1 in
+        let did = whole_at (output_told told) ticks found.0 found.1 (main_here setting ticks main found.0 is.over) (answered setting answers) ran j output before.0 after
+        (ap (λ ws. slice_get ws j) (mine_is setting ticks main found.0 m is) ∙ mine_at) before.1 after_at in
+        let same = known_alike told after before.0 did.0.name_kept in
+        record {
+          holds = λ tells. record {
+            named = same.named ∙ (was.holds tells).named;
+            holds = did.1 ∙ ap (grown (ticks_bytes (answered setting answers) output.wide output.node ticks)) (was.holds tells).holds;
+          };
+          measured = λ closings here.
+              let measured = was.measured closings here in
+              record { size_is = same.sized ∙ measured.size_is; pieces_are = did.0.appends_are ∙ ap (iterate counted ticks) measured.pieces_are ∙ count_many ticks 1 (omega (arith, few)) };
+          owes = same.owes ∙ was.owes;
+        }));
+  }
+
+  pub all_part : (answers : (ℕ → List Answer) → ℕ → List Answer) (least most : ℕ → ℕ) → HaveRunPart (output_told told) (λ rest. answered setting (answers rest)) least most old new → (rest : ℕ → List Answer)
+      → AreCreated (IsPart told shelf (answered setting (answers rest)) ticks least most) (written setting.plan.sinks) (order_of setting (written setting.plan.sinks)) (outs_of new)
+  all_part answers least most run rest = record {
+    size = ready.size;
+    below = λ k clock there. subst (λ n. clock < n) (sym (same_many run.size)) (ready.below k clock there);
+    each = λ m group there.
+        let world : Setting = answered setting (answers rest) in
+        let found = before_at old new run.size m group there in
+        let is = at.each m found.0 found.2 in
+        let ran = run.each m found.0 found.1 found.2 found.3 in
+        let zip = ready.each m found.0.outs (mapped (λ (e : ClockEngine (OutputSink O)). e.outs) old m found.0 found.2) in
+        subst (λ g. AllZip (IsPart told shelf world ticks least most) (own m) g) found.4
+        (zip_from (IsPart told shelf world ticks least most) (own m) found.1.outs
+        (ran.outs ∙ zip_size (IsReady told shelf setting ticks) (own m) found.0.outs zip)
+        (λ j output after mine_at after_at.
+        let low = within found.1.outs j after after_at in
+        let size = ran.outs in
+        let before = in_list found.0.outs j (omega (arith, low, size)) in
+        let was = zip_at (IsReady told shelf setting ticks) (own m) found.0.outs j output before.0 zip mine_at before.1 in
+        let mine_here = ap (λ ws. slice_get ws j) (mine_is setting ticks main found.0 m is) ∙ mine_at in
+        let did = part_at (output_told told) ticks found.0 found.1 (main_here setting ticks main found.0 is.over) (λ more. answered setting (answers more)) (least m) (most m) ran rest j output before.0 after mine_here before.1 after_at in
+        let same = known_alike told after before.0 did.0 in
+        let lies : clock_of setting output.node ≡ Main m =
+        (λ i. clock_of (sym is.over i) output.node) ∙ lies_here (output_told told) ticks found.0 found.1 (main_here setting ticks main found.0 is.over) j output mine_here ∙ ap Main is.clock_is in
+        let clock : main_clock world output.node ≡ m = ap (main_within world (length world.plan.nodes)) lies in
+        let header = header_for setting output.wide ticks output.node in
+        record {
+          holds = λ tells. record {
+            named = same.named ∙ (was.holds tells).named;
+            part = header ++ did.2.0;
+            holds = did.2.3 ∙ ap (grown did.2.0) (was.holds tells).holds;
             most = record {
-              rest = did.1.2.rest;
-              whole_is = ap (λ k. header ++ ticks_bytes world output.wide output.node (most k)) clock ∙ headed header did.1.0 did.1.2.rest (ticks_bytes world output.wide output.node (most m)) did.1.2.whole_is;
+              rest = did.2.2.rest;
+              whole_is = ap (λ k. header ++ ticks_bytes world output.wide output.node (most k)) clock ∙ headed header did.2.0 did.2.2.rest (ticks_bytes world output.wide output.node (most m)) did.2.2.whole_is;
             };
             least = inl (record {
-              rest = did.1.1.rest;
-              whole_is = headed header (ticks_bytes world output.wide output.node (least m)) did.1.1.rest did.1.0 did.1.1.whole_is ∙ ap (λ k. (header ++ ticks_bytes world output.wide output.node (least k)) ++ did.1.1.rest) (sym clock);
+              rest = did.2.1.rest;
+              whole_is = headed header (ticks_bytes world output.wide output.node (least m)) did.2.1.rest did.2.0 did.2.1.whole_is ∙ ap (λ k. (header ++ ticks_bytes world output.wide output.node (least k)) ++ did.2.1.rest) (sym clock);
             });
-          }));
-    }
+          };
+          measured = λ closings here.
+              let measured = was.measured closings here in
+              record { size_told = ap is_some same.sized ∙ ap is_some measured.size_is; pieces_told = did.1 ∙ ap is_some measured.pieces_are };
+        }));
+  }
 
 -- and keep their marks, if they did
-pub keep_after : {S : Type 0} (held name : S → Option (List ℕ)) (faults : S → ℕ) (appends : S → Option ℕ) (world : Setting) (ticks : ℕ) (wanted : Bool) (old new : List (ClockEngine S)) → AreKeeping wanted old
-    → HaveRunTicks held name faults appends world ticks old new → AreKeeping wanted new
-keep_after held name faults appends world ticks wanted old new keep run is m after there =
+pub keep_after : {S : Type 0} (told : S → SinkTold) (world : Setting) (ticks : ℕ) (wanted : Bool) (old new : List (ClockEngine S)) → AreKeeping wanted old
+    → HaveRunTicks told world ticks old new → AreKeeping wanted new
+keep_after told world ticks wanted old new keep run is m after there =
     let low = within new m after there in
     let size = run.size in
     let before = in_list old m (omega (arith, low, size)) in
     (run.each m before.0 after before.1 there).keeping ∙ keep is m before.0 before.1
 
 -- after a run the engines stand for its ticks
-pub stand_after : {S : Type 0} (held name : S → Option (List ℕ)) (faults : S → ℕ) (appends : S → Option ℕ) (setting world : Setting) (ticks : ℕ) (old new : List (ClockEngine S)) → AreAt setting old
-    → HaveRunTicks held name faults appends world ticks old new → ArePast setting world ticks new
-stand_after held name faults appends setting world ticks old new at run = record {
+pub stand_after : {S : Type 0} (told : S → SinkTold) (setting world : Setting) (ticks : ℕ) (old new : List (ClockEngine S)) → AreAt setting old
+    → HaveRunTicks told world ticks old new → ArePast setting world ticks new
+stand_after told setting world ticks old new at run = record {
   each = λ m after there.
       let low = within new m after there in
       let size = run.size in

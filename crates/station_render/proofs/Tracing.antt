@@ -1,6 +1,6 @@
 -- The logs of a run by threads are a trace.
 use Rattle.std.proofs.Common.{◌≡◌, ◌<◌, ◌≤◌, ◌+◌, ◌*◌, ◌-◌, ◌/◌, ◌∙◌, ◌++◌, ◌⊎◌, ℕ, zero, suc, Bool, List, [], ◌∷◌, length, map, slice_index_or, arith, refl, ap, sym, subst, inl, inr}
-use Rattle.std.specs.Prelude.{Some}
+use Rattle.std.specs.Prelude.{IfSome, None, Option, Some}
 use Rattle.std.proofs.lemmas.Nat.{div-mul-add}
 use Rattle.std.proofs.Math.Nat.{min-eq_left, min-eq_right, suc-mul}
 use Rattle.plan_core.specs.Plans.{IsWellFormed, ReadsBuffer}
@@ -9,12 +9,14 @@ use Rattle.plan_core.specs.declared.node.Op.{Op}
 use Rattle.plan_core.specs.declared.node.Op.TheVariants.{Buffer}
 use Rattle.plan_core.specs.declared.plan.Plan.{Plan}
 use Rattle.stream_meaning.specs.Instants.{Setting}
-use Rattle.run_records.specs.Records.{IsLawful as AreWindows, Run, Window, setting_in, start, windows_in}
+use Rattle.run_records.specs.Records.{AreWindows, Run, Window, setting_in, start, windows_in}
 use Rattle.buffer_ends.specs.Local.{Answers}
 use Rattle.buffer_sides.specs.Logs.{told}
 use Rattle.clock_threads.proofs.Meeting.{low_or_high}
 use Rattle.clock_threads.proofs.Starts.{start_zero}
 use Rattle.trace_log.specs.Texts.{IsTrace, windows_of}
+use Rattle.stations.specs.Stations.{Again, InRounds, InWindows, IsLawfulIn, Way}
+use Rattle.station_render.specs.Runs.{window_of}
 use Rattle.station_render.proofs.Lists.{many_mapped, within}
 
 -- Where each of the numbers below m has a place below n, and no place is that of two, there are at least as many places.
@@ -125,3 +127,13 @@ is_trace setting clocks W N run buffers well ticks some few lawful are =
           ∙ ap length (lawful.are b (omega (arith, below, many))) ∙ windows_long (setting_in setting run) clocks lawful.accepted b W N lawful.count
           ∙ windows_counted W N lawful.count some lawful.whole lawful.tight;
     }
+
+-- so are those of a run in any way with windows
+pub trace_by_way : (setting : Setting) (clocks N : ℕ) (way : Way) (run : Run) (buffers : List (List Answers)) (window : Option ℕ) → window ≡ window_of way → IfSome window (λ W. (0 < W) × (W ≤ 1000000))
+    → IsWellFormed setting.plan → N ≤ 1000000000 → IsLawfulIn setting clocks N way run → buffers ≡ map (map told) run.buffers → IfSome window (λ W. IsTrace (record { ticks = N; window = W; buffers = buffers }))
+trace_by_way setting clocks N way run buffers None is bounds well ticks lawful are = tt
+trace_by_way setting clocks N InRounds run buffers (Some W) is bounds well ticks lawful are = absurd (cc)
+trace_by_way setting clocks N (InWindows V) run buffers (Some W) is bounds well ticks lawful are =
+    let same : W ≡ V = (cc) in
+    is_trace setting clocks W N run buffers well ticks bounds.0 bounds.1 (subst (λ v. AreWindows setting clocks v N run) (sym same) lawful) are
+trace_by_way setting clocks N (Again trace) run buffers (Some W) is bounds well ticks lawful are = absurd (cc)

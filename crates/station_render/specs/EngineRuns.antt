@@ -1,53 +1,55 @@
 -- What a run of the engines leaves.
-use Rattle.std.specs.Prelude.{◌≡◌, ℕ, List, Option, length, map}
-use Rattle.liq_base.specs.Files.{Files}
+use Rattle.std.specs.Prelude.{◌≡◌, ℕ, List, length, map}
+use Rattle.liq_base.specs.Pieces.{SinkTold}
+use Rattle.liq_base.specs.Shelves.{ShelfTold}
 use Rattle.clock_infer.specs.declared.clock_map.ClockMap.{ClockMap}
 use Rattle.stream_meaning.specs.Instants.{Setting}
 use Rattle.run_records.specs.Records.{Run, setting_in}
-use Rattle.stations.specs.Stations.{Way, IsBegunIn, IsLawfulIn, made_in, setting_after, tried_in}
+use Rattle.stations.specs.Stations.{Way, IsBegunIn, IsLawfulIn, setting_after}
 use Rattle.buffer_ends.specs.Local.{Answers}
 use Rattle.buffer_ends.specs.declared.counts.Counts.{Counts}
 use Rattle.buffer_ends.specs.declared.run_end.End.{End}
 use Rattle.buffer_ends.specs.declared.run_end.End.TheVariants.{Write}
 use Rattle.clock_ticks.specs.declared.engine.ClockEngine.{ClockEngine}
-use Rattle.buffer_sides.specs.Logs.{told}
+use Rattle.buffer_sides.specs.Logs.{told as told_of}
 use Rattle.rounds_run.specs.Rounds.{HaveRunPart}
 use Rattle.rounds_run.specs.Runs.{HaveRunTicks, counts_of_run}
 use Rattle.station_render.specs.Engines.{AreAt, AreEmptyBelow, ArePast, outs_of}
 use Rattle.station_render.specs.Sinks.{AreCreated, HasFailed}
 use Rattle.station_render.specs.Renders.{IsReady, order_of, written}
 use Rattle.station_render.specs.declared.job.Job.{Job}
+use Rattle.station_render.specs.declared.output_sink.OutputSink.{OutputSink}
 
 -- the engines of a job have made so many ticks, in some run
 abbrev pub HaveEnded : {S : Type 0} → Job → List (ClockEngine S) → Type 0
 HaveEnded job engines = (setting : Setting) × (world : Setting) × (ticks : ℕ) × (setting.plan ≡ job.plan.now) × (setting.clocks ≡ job.ready.now.clocks.of) × ArePast setting world ticks engines
 
--- The outputs of a plan were created, in this order of their clocks, and the engines of all clocks took the sinks, each of which holds
--- its header and has room for its samples. No tick was made.
-pub record AreOpened {S : Type 0} (name held : S → Option (List ℕ)) (left : S → Option ℕ) (debt : S → ℕ) (files : Option Files) (setting : Setting) (clocks : ClockMap) (ticks : ℕ)
-    (order : List ℕ) (engines : List (ClockEngine S)) (groups : List (List S)) : Type 0 where
+-- The outputs of a plan were created, in this order of their clocks, by a shelf that told this, and the engines of all clocks took the sinks,
+-- each of which holds its header and has room for its samples. No tick was made.
+pub record AreOpened {O : Type 0} (told : O → SinkTold) (shelf : ShelfTold) (setting : Setting) (clocks : ClockMap) (ticks : ℕ)
+    (order : List ℕ) (engines : List (ClockEngine (OutputSink O))) (groups : List (List (OutputSink O))) : Type 0 where
   pub order_is : order ≡ order_of setting (written setting.plan.sinks)
   pub all : length engines ≡ clocks.running
   pub at : AreAt setting engines
-  pub ready : AreCreated (IsReady name held left debt files setting ticks) (written setting.plan.sinks) (order_of setting (written setting.plan.sinks)) (outs_of engines)
+  pub ready : AreCreated (IsReady told shelf setting ticks) (written setting.plan.sinks) (order_of setting (written setting.plan.sinks)) (outs_of engines)
   pub many : length groups ≡ length engines
   pub taken : AreEmptyBelow (length engines) groups
 
 -- The engines of so many clocks made all ticks, and this is their record: each stands for its ticks and has written their bytes, one piece
 -- for each tick, given what the record's takes got, and these are the record's counts and logs.
-pub record RanAll {S : Type 0} (held name : S → Option (List ℕ)) (faults : S → ℕ) (appends : S → Option ℕ) (setting : Setting) (clocks ticks : ℕ) (way : Way)
+pub record RanAll {S : Type 0} (told : S → SinkTold) (setting : Setting) (clocks ticks : ℕ) (way : Way)
     (old new : List (ClockEngine S)) (counts : List Counts) (logs : List (List Answers)) : Type 0 where
   pub run : Run
   pub lawful : IsLawfulIn setting clocks ticks way run
-  pub engines : HaveRunTicks held name faults appends (setting_in setting run) ticks old new
+  pub engines : HaveRunTicks told (setting_in setting run) ticks old new
   pub counts_are : counts ≡ counts_of_run run
-  pub logs_are : logs ≡ map (map told) run.buffers
+  pub logs_are : logs ≡ map (map told_of) run.buffers
 
 -- The engines came so far, and this is their record: each has written its bytes of the ticks that it made, and a front of those of the one
 -- that it tried, whatever answers follow. A write that ended the run is one of a sink that failed.
-pub record RanSome {S : Type 0} (held name : S → Option (List ℕ)) (faults : S → ℕ) (appends : S → Option ℕ) (setting : Setting) (clocks ticks : ℕ) (way : Way)
+pub record RanSome {S : Type 0} (told : S → SinkTold) (setting : Setting) (clocks ticks : ℕ) (way : Way)
     (old new : List (ClockEngine S)) (end : End) : Type 0 where
   pub run : Run
   pub begun : IsBegunIn setting clocks ticks way run
-  pub part : HaveRunPart held name faults appends (setting_after way setting run) (made_in setting clocks ticks way run begun) (tried_in setting clocks ticks way run begun) old new
-  pub failed : (clock sink : ℕ) → end ≡ Write clock sink → HasFailed faults (outs_of new)
+  pub part : HaveRunPart told (setting_after way setting run) begun.made begun.tried old new
+  pub failed : (clock sink : ℕ) → end ≡ Write clock sink → HasFailed told (outs_of new)

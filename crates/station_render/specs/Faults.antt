@@ -1,4 +1,5 @@
 -- Which fault of a rendering one of the shelf becomes.
+use Rattle.std.specs.Prelude.{Bool, true, false, Ok, Err, Result}
 use Rattle.liq_base.specs.declared.shelf.ShelfFault.{ShelfFault}
 use Rattle.liq_base.specs.declared.shelf.ShelfFault.TheVariants.{Failed as device_failed, Memory as no_memory}
 use Rattle.station_render.specs.declared.fault.RenderFault.{RenderFault}
@@ -7,3 +8,12 @@ use Rattle.station_render.specs.declared.fault.RenderFault.TheVariants.{Write as
 abbrev pub render_fault_of : ShelfFault → RenderFault
 render_fault_of device_failed = write_fault
 render_fault_of no_memory = memory_fault
+
+-- it was a device that failed, and not memory that was refused
+abbrev pub is_device : RenderFault → Bool
+is_device write_fault = true
+is_device memory_fault = false
+
+abbrev pub ended_by_device : {T : Type 0} → Result T RenderFault → Bool
+ended_by_device (Ok value) = false
+ended_by_device (Err fault) = is_device fault

@@ -4,6 +4,7 @@ pub mod OutputSinks
 pub mod Renders
 pub mod Engines
 pub mod Runs
+pub mod Renderings
 pub mod EngineRuns
 pub mod Stages
 pub mod Marks

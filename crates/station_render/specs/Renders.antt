@@ -1,8 +1,8 @@
 -- What stands behind the outputs of a plan while they are rendered.
-use Rattle.std.specs.Prelude.{◌≡◌, ◌<◌, ℕ, Bool, ◌*◌, ◌%◌, List, [], ◌∷◌, ◌++◌, Option, Some, map, slice_get}
+use Rattle.std.specs.Prelude.{◌≡◌, ◌<◌, ℕ, suc, Bool, ◌+◌, ◌*◌, ◌%◌, List, [], ◌∷◌, ◌++◌, Option, Some, length, map, slice_get}
 use Rattle.std.specs.Option.{ForSome}
-use Rattle.liq_base.specs.Files.{Files}
-use Rattle.liq_base.specs.Pieces.{HasRoom}
+use Rattle.liq_base.specs.Pieces.{HasRoom, SinkTold}
+use Rattle.liq_base.specs.Shelves.{Closing, ShelfTold}
 use Rattle.plan_core.specs.declared.plan.Plan.{Plan}
 use Rattle.plan_core.specs.declared.sink.SinkPlan.{SinkPlan}
 use Rattle.plan_core.specs.declared.sink.SinkPlan.TheVariants.{Output, Feed}
@@ -15,7 +15,10 @@ use Rattle.stream_meaning.specs.Instants.{Setting, answered, clock_of}
 use Rattle.run_records.specs.Buffers.{main_of as main_clock}
 use Rattle.stations.specs.Outputs.{OutputFile, OutputPart, after_making}
 use Rattle.stations.specs.Streams.{body_size, file_bytes, front_bytes, header_for, output_bytes}
+use Rattle.station_render.specs.Listed.{AreTold, IsMeasured, TellsSinks}
+use Rattle.station_render.specs.OutputSinks.{but_one_if, owed_by}
 use Rattle.station_render.specs.Sinks.{AreCreated, HoldsFront, HoldsPart, HoldsWhole, WasAdded}
+use Rattle.station_render.specs.declared.output_sink.OutputSink.{OutputSink}
 
 -- an output of a plan: its name, its node, and whether its samples are wide
 pub record Written : Type 0 where
@@ -69,55 +72,76 @@ setting_for plan library clocks start = record { plan = plan; library = library;
 abbrev pub debt_of : (size : ℕ) → ℕ
 debt_of size = 2 * (size % 2)
 
--- a sink was created for an output: it holds the header, has room for the samples, and for the byte that it owes
-pub record IsReady {S : Type 0} (name held : S → Option (List ℕ)) (left : S → Option ℕ) (debt : S → ℕ) (files : Option Files) (setting : Setting) (ticks : ℕ) (output : Written) (sink : S) : Type 0 where
-  pub told : ForSome files (λ all. HoldsWhole name held (record { name = output.name; bytes = header_for setting output.wide ticks output.node }) sink)
-  pub room : HasRoom (left sink) (body_size setting output.wide ticks output.node)
-  pub owes : debt sink ≡ debt_of (body_size setting output.wide ticks output.node)
+-- what is listed of an output of which all ticks were made, once it is closed
+abbrev pub closing_of : Setting → (ticks : ℕ) → Written → Closing
+closing_of setting ticks output = record {
+  name = output.name;
+  room = length (file_bytes setting output.wide ticks output.node);
+  bytes = length (file_bytes setting output.wide ticks output.node);
+  pieces = suc ticks + body_size setting output.wide ticks output.node % 2;
+}
 
--- where files are told, a sink holds the bytes of an output but for the byte that it owes
-pub record IsWhole {S : Type 0} (name held : S → Option (List ℕ)) (debt : S → ℕ) (files : Option Files) (setting : Setting) (ticks : ℕ) (output : Written) (sink : S) : Type 0 where
-  pub told : ForSome files (λ all. HoldsWhole name held (body_of setting ticks output) sink)
-  pub owes : debt sink ≡ debt_of (body_size setting output.wide ticks output.node)
+-- the bytes of an output's file: 44 of its header, those of its samples, and a zero byte where these are odd
+abbrev pub whole_size : (body : ℕ) → ℕ
+whole_size body = 44 + body + body % 2
+
+-- A sink was created for an output, by a shelf that told this: it holds the header, its one piece, and it was created for just the bytes of
+-- the file; so it has room for the samples, and for the byte that it owes.
+pub record IsReady {O : Type 0} (told : O → SinkTold) (shelf : ShelfTold) (setting : Setting) (ticks : ℕ) (output : Written) (sink : OutputSink O) : Type 0 where
+  pub holds : TellsSinks shelf → HoldsWhole (record { name = output.name; bytes = header_for setting output.wide ticks output.node }) (told sink.sink)
+  pub measured : ForSome shelf.closed (λ before. IsMeasured (whole_size (body_size setting output.wide ticks output.node)) 1 (told sink.sink))
+  pub room : HasRoom (but_one_if sink.odd (told sink.sink).room) (body_size setting output.wide ticks output.node)
+  pub owes : owed_by sink.odd (told sink.sink).room ≡ debt_of (body_size setting output.wide ticks output.node)
+
+-- it holds the bytes of an output but for the byte that it owes, and got a piece for each tick behind the header
+pub record IsWhole {O : Type 0} (told : O → SinkTold) (shelf : ShelfTold) (setting : Setting) (ticks : ℕ) (output : Written) (sink : OutputSink O) : Type 0 where
+  pub holds : TellsSinks shelf → HoldsWhole (body_of setting ticks output) (told sink.sink)
+  pub measured : ForSome shelf.closed (λ before. IsMeasured (whole_size (body_size setting output.wide ticks output.node)) (1 + ticks) (told sink.sink))
+  pub owes : owed_by sink.odd (told sink.sink).room ≡ debt_of (body_size setting output.wide ticks output.node)
 
 -- or those of the ticks that its clock made, and a front of those of the ones that it tried
-abbrev pub IsPart : {S : Type 0} → (name held : S → Option (List ℕ)) → (S → ℕ) → Option Files → Setting → (ticks : ℕ) → (made tried : ℕ → ℕ) → Written → S → Type 0
-IsPart name held faults files setting ticks made tried output sink = ForSome files (λ all. HoldsFront name held faults (front_file setting ticks made tried output) sink)
+pub record IsPart {O : Type 0} (told : O → SinkTold) (shelf : ShelfTold) (setting : Setting) (ticks : ℕ) (made tried : ℕ → ℕ) (output : Written) (sink : OutputSink O) : Type 0 where
+  pub holds : TellsSinks shelf → HoldsFront (front_file setting ticks made tried output) (told sink.sink)
+  pub measured : ForSome shelf.closed (λ before. AreTold (told sink.sink))
 
 -- the first outputs of a plan were created, and each sink holds its bytes of the ticks that its clock made in a run, and a front of those of
 -- the ones that it tried, whatever answers follow: `answers` are then all those of the run; or it failed. The shelf tells of these sinks
 -- that it made them
-pub record AreBegun {S : Type 0} (name held : S → Option (List ℕ)) (faults : S → ℕ) (files : Option Files) (setting : Setting) (answers : (ℕ → List Answer) → ℕ → List Answer) (ticks : ℕ) (made tried : ℕ → ℕ) (order : List ℕ) (groups : List (List S))
-    (made_before made_after : Option (List (List ℕ))) : Type 0 where
+pub record AreBegun {O : Type 0} (told : O → SinkTold) (shelf : ShelfTold) (setting : Setting) (answers : (ℕ → List Answer) → ℕ → List Answer) (ticks : ℕ) (made tried : ℕ → ℕ)
+    (order : List ℕ) (groups : List (List (OutputSink O))) (created_now : Option (List (List ℕ))) : Type 0 where
   pub created : List Written
   pub others : List Written
   pub all : written setting.plan.sinks ≡ created ++ others
-  pub told : made_after ≡ after_making (map (λ output. output.name) created) made_before
-  pub parts : (rest : ℕ → List Answer) → AreCreated (IsPart name held faults files (answered setting (answers rest)) ticks made tried) created order groups
+  pub made_are : created_now ≡ after_making (map (λ output. output.name) created) shelf.created
+  pub parts : (rest : ℕ → List Answer) → AreCreated (IsPart told shelf (answered setting (answers rest)) ticks made tried) created order groups
 
--- a sink of this clock was created, and holds these bytes; it has room for so many more, and for the byte that it owes then
-pub record WasCreated {S : Type 0} (name held : S → Option (List ℕ)) (left : S → Option ℕ) (debt : S → ℕ) (files : Option Files) (clock : ℕ) (title bytes : List ℕ) (body : ℕ)
-    (order_old order_new : List ℕ) (old new : List (List S)) : Type 0 where
-  pub sink : S
+-- a sink of this clock was created, and holds these bytes, its one piece; it has room for so many more, and for the byte that it owes then
+pub record IsOpened {O : Type 0} (told : O → SinkTold) (shelf : ShelfTold) (name bytes : List ℕ) (body : ℕ) (sink : OutputSink O) : Type 0 where
+  pub holds : TellsSinks shelf → HoldsWhole (record { name = name; bytes = bytes }) (told sink.sink)
+  pub measured : ForSome shelf.closed (λ before. IsMeasured (whole_size body) 1 (told sink.sink))
+  pub room : HasRoom (but_one_if sink.odd (told sink.sink).room) body
+  pub owes : owed_by sink.odd (told sink.sink).room ≡ debt_of body
+
+-- or a first part of these bytes alone, and it failed
+pub record IsCutShort {O : Type 0} (told : O → SinkTold) (shelf : ShelfTold) (name bytes : List ℕ) (sink : OutputSink O) : Type 0 where
+  pub holds : TellsSinks shelf → HoldsPart (record { name = name; bytes = bytes }) (told sink.sink)
+  pub measured : ForSome shelf.closed (λ before. AreTold (told sink.sink))
+  pub failed : 0 < (told sink.sink).faults
+
+-- such a sink of this clock and name was created
+pub record WasCreated {O : Type 0} (Is : OutputSink O → Type 0) (clock : ℕ) (name : List ℕ) (before after : Option (List (List ℕ))) (order_old order_new : List ℕ)
+    (old new : List (List (OutputSink O))) : Type 0 where
+  pub sink : OutputSink O
   pub order_is : order_new ≡ order_old ++ clock ∷ []
   pub added : WasAdded clock sink old new
-  pub told : ForSome files (λ all. HoldsWhole name held (record { name = title; bytes = bytes }) sink)
-  pub room : HasRoom (left sink) body
-  pub owes : debt sink ≡ debt_of body
+  pub made_is : after ≡ after_making (name ∷ []) before
+  pub is : Is sink
 
--- so it was, but it holds a first part of the bytes alone, and it failed
-pub record WasBroken {S : Type 0} (name held : S → Option (List ℕ)) (faults : S → ℕ) (files : Option Files) (clock : ℕ) (title bytes : List ℕ)
-    (order_old order_new : List ℕ) (old new : List (List S)) : Type 0 where
-  pub sink : S
-  pub order_is : order_new ≡ order_old ++ clock ∷ []
-  pub added : WasAdded clock sink old new
-  pub told : ForSome files (λ all. HoldsPart name held (record { name = title; bytes = bytes }) sink)
-  pub failed : 0 < faults sink
-
--- or nothing was created
-pub record NoneCreated {S : Type 0} (order_old order_new : List ℕ) (old new : List (List S)) : Type 0 where
+-- or none was
+pub record NoneCreated {O : Type 0} (before after : Option (List (List ℕ))) (order_old order_new : List ℕ) (old new : List (List (OutputSink O))) : Type 0 where
   pub order_is : order_new ≡ order_old
   pub same : new ≡ old
+  pub made_none : after ≡ before
 
 -- the node of each output lies in a main clock that runs
 abbrev pub AreMain : Plan → ClockMap → Type 0

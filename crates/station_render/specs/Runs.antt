@@ -2,28 +2,30 @@
 use Rattle.std.specs.Borrow.{Bor}
 use Rattle.std.specs.Prelude.{◌≡◌, ℕ, suc, List, [], ◌∷◌, ◌++◌, Option, Some, None, map, option_map, ⊤}
 use Rattle.std.specs.Option.{ForSome}
-use Rattle.liq_base.specs.Files.{Files}
+use Rattle.liq_base.specs.Pieces.{SinkTold}
+use Rattle.liq_base.specs.Shelves.{ShelfTold}
 use Rattle.plan_core.specs.declared.sink.BufferPlan.{BufferPlan}
 use Rattle.stream_meaning.specs.Instants.{Setting}
 use Rattle.run_records.specs.Records.{Run, windows_of}
+use Rattle.stations.specs.Creations.{HaveListed, after_making, closings_in, closings_of, names_of}
 use Rattle.stations.specs.Cues.{marks_of}
 use Rattle.stations.specs.Findings.{IsFit}
-use Rattle.stations.specs.Outputs.{with_outputs}
+use Rattle.stations.specs.Outputs.{OutputFile, with_outputs}
 use Rattle.stations.specs.Reports.{answers_line}
-use Rattle.stations.specs.Stations.{Station, Way, InRounds, InWindows, Again, IsBegun, IsLawful, answers_with, bare, made_of, setting_of_run, station_of, tried_of}
+use Rattle.stations.specs.Stations.{Station, Way, InRounds, InWindows, Again, IsBegun, IsLawful, answers_with, bare, setting_of_run, station_of}
 use Rattle.stations.specs.Streams.{gaps_in_order, output_files}
-use Rattle.stations.specs.Traces.{files_of}
+use Rattle.stations.specs.Traces.{files_of, traced}
 use Rattle.buffer_ends.specs.declared.counts.Counts.{Counts}
-use Rattle.buffer_sides.specs.Logs.{told}
+use Rattle.buffer_ends.specs.Local.{Answers}
+use Rattle.buffer_sides.specs.Logs.{told as told_of}
 use Rattle.rounds_run.specs.Runs.{counts_of_windows}
-use Rattle.trace_log.specs.Values.{TraceValue}
 use Rattle.trace_replay.specs.Traces.{IsAccepted}
 use Rattle.station_render.specs.Sinks.{AreCreated}
 use Rattle.station_render.specs.Marks.{cues_of}
 use Rattle.station_render.specs.Renders.{AreBegun, IsWhole, setting_for, written}
 use Rattle.station_render.specs.declared.job.Job.{Job}
+use Rattle.station_render.specs.declared.output_sink.OutputSink.{OutputSink}
 use Rattle.station_render.specs.declared.rendered.Rendered.{Rendered}
-use Rattle.station_render.specs.declared.threading.Threading.{Threading}
 
 -- the counts of these buffers in a run, of which the first has this number
 abbrev pub counts_from : Run → (buffer : ℕ) → List BufferPlan → List Counts
@@ -35,8 +37,8 @@ abbrev pub counts_of : Station → Run → List Counts
 counts_of station run = counts_from run 0 station.plan.buffers
 
 -- the name of the trace, if one is wanted
-abbrev pub name_in : Threading → Option (List ℕ)
-name_in threading = option_map (λ (name : Bor (List ℕ)). name.now) threading.trace
+abbrev pub name_in : Job → Option (List ℕ)
+name_in job = option_map (λ (name : Bor (List ℕ)). name.now) job.trace
 
 -- what a job may rely on
 abbrev pub IsFitting : Job → Type 0
@@ -46,18 +48,21 @@ IsFitting job = IsFit job.plan.now job.ready.now.library job.ready.now.clocks jo
 abbrev pub setting_by : Job → Setting
 setting_by job = setting_for job.plan.now job.ready.now.library job.ready.now.clocks job.start.second
 
--- the station of a job that is rendered in such a way; with a trace of this name, if one is wanted
-abbrev pub station_in : Job → Way → (trace : Option (List ℕ)) → Station
-station_in job way trace = station_of job.plan.now job.ready.now job.start.second job.ticks way trace job.cues
+-- the station of a job that is rendered in such a way
+abbrev pub station_in : Job → Way → Station
+station_in job way = station_of job.plan.now job.ready.now job.start.second job.ticks way (name_in job) job.cues
 
-abbrev pub station_by : Job → Threading → Station
-station_by job threading = station_in job (InWindows threading.window) (name_in threading)
+-- the ticks of a window, where there are windows
+abbrev pub window_of : Way → Option ℕ
+window_of InRounds = None
+window_of (InWindows window) = Some window
+window_of (Again trace) = None
 
-abbrev pub station_alone : Job → Station
-station_alone job = station_in job InRounds None
-
-abbrev pub station_again : Job → TraceValue → Station
-station_again job trace = station_in job (Again trace) None
+-- the file of the trace of a run in this way, which these logs are of, where it is to leave one
+abbrev pub traces_by : Way → (name : Option (List ℕ)) → (ticks : ℕ) → List (List Answers) → List OutputFile
+traces_by InRounds name ticks logs = []
+traces_by (InWindows window) name ticks logs = traced name (record { ticks = ticks; window = window; buffers = logs })
+traces_by (Again trace) name ticks logs = []
 
 -- there is a record of a rendering in this way: a trace is one that is accepted
 abbrev pub HasRecord : Setting → (clocks ticks : ℕ) → Way → Type 0
@@ -70,36 +75,39 @@ HasRecord setting clocks ticks (Again trace) = IsAccepted setting clocks ticks t
 pub record IsTold (station : Station) (run : Run) (rendered : Rendered) : Type 0 where
   pub gaps_are : rendered.gaps.items ≡ gaps_in_order station run
   pub counts_are : rendered.counts.items ≡ counts_of station run
-  pub logs_are : rendered.logs.items ≡ map (map told) run.buffers
+  pub logs_are : rendered.logs.items ≡ map (map told_of) run.buffers
   pub cues_are : cues_of rendered.cues.items ≡ marks_of station run
 
--- a run of the station wrote all its outputs, and this is told of it
-pub record WroteOutputs (station : Station) (before after : Option Files) (rendered : Rendered) : Type 0 where
+-- a run of the station wrote all its outputs, which the shelf closed, and no other, and this is told of it
+pub record WroteOutputs (station : Station) (old new : ShelfTold) (rendered : Rendered) : Type 0 where
   pub run : Run
   pub lawful : IsLawful station run
   pub told : IsTold station run rendered
-  pub outputs_written : ForSome before (λ files. after ≡ Some (with_outputs files (output_files station run)))
+  pub outputs_written : ForSome old.files (λ files. new.files ≡ Some (with_outputs files (output_files station run)))
+  pub listed : HaveListed (closings_in (setting_of_run station run) station.ticks station.plan.sinks) old.closed new.closed
 
--- a run of the station wrote all its files, and this is told of it
-pub record IsRendered (station : Station) (before after : Option Files) (rendered : Rendered) : Type 0 where
+-- a run of the station wrote all its files, which the shelf made and closed, and no other, and this is told of it
+pub record IsRendered (station : Station) (old new : ShelfTold) (rendered : Rendered) : Type 0 where
   pub run : Run
   pub lawful : IsLawful station run
   pub told : IsTold station run rendered
-  pub all_written : ForSome before (λ files. after ≡ Some (with_outputs files (files_of station run)))
+  pub all_written : ForSome old.files (λ files. new.files ≡ Some (with_outputs files (files_of station run)))
+  pub made : new.created ≡ after_making (names_of station) old.created
+  pub closed : HaveListed (closings_of station run) old.closed new.closed
 
 -- a run of the station wrote all bytes of its outputs into their sinks, but for the ones that they owe, and this is told of it
-pub record RanWhole {S : Type 0} (name held : S → Option (List ℕ)) (debt : S → ℕ) (files : Option Files) (station : Station) (order : List ℕ) (groups : List (List S)) (rendered : Rendered) : Type 0 where
+pub record RanWhole {O : Type 0} (told : O → SinkTold) (shelf : ShelfTold) (station : Station) (order : List ℕ) (groups : List (List (OutputSink O))) (rendered : Rendered) : Type 0 where
   pub run : Run
   pub lawful : IsLawful station run
-  pub told : IsTold station run rendered
-  pub whole : AreCreated (IsWhole name held debt files (setting_of_run station run) station.ticks) (written station.plan.sinks) order groups
+  pub tells : IsTold station run rendered
+  pub whole : AreCreated (IsWhole told shelf (setting_of_run station run) station.ticks) (written station.plan.sinks) order groups
 
 -- a run of the station came so far, and each sink holds as much of its bytes
-pub record RanPart {S : Type 0} (name held : S → Option (List ℕ)) (faults : S → ℕ) (files : Option Files) (station : Station) (order : List ℕ) (groups : List (List S))
-    (made_before made_after : Option (List (List ℕ))) : Type 0 where
+pub record RanPart {O : Type 0} (told : O → SinkTold) (shelf : ShelfTold) (station : Station) (order : List ℕ) (groups : List (List (OutputSink O)))
+    (created_now : Option (List (List ℕ))) : Type 0 where
   pub run : Run
   pub begun : IsBegun station run
-  pub parts : AreBegun name held faults files (bare station) (answers_with station.way run) station.ticks (made_of station run begun) (tried_of station run begun) order groups made_before made_after
+  pub parts : AreBegun told shelf (bare station) (answers_with station.way run) station.ticks begun.made begun.tried order groups created_now
 
 -- the lines of these counts, of which the first is that of this buffer
 abbrev pub counted_lines : (buffer : ℕ) → List Counts → List ℕ

@@ -1,38 +1,43 @@
--- What a call does on a shelf.
-use Rattle.std.specs.Prelude.{◌≡◌, ◌≤◌, ℕ, List, [], ◌∷◌, Option, Some, IsSomeAnd}
+-- What a call does on a shelf, by what it tells before and after.
+use Rattle.std.specs.Prelude.{◌≡◌, ◌≤◌, List, [], ◌∷◌, ℕ, Some, IsSomeAnd, map}
 use Rattle.std.specs.Option.{ForSome}
-use Rattle.liq_base.specs.Files.{Closing, Files}
-use Rattle.stations.specs.Creations.{HaveClosed, MadeFront, after_making}
+use Rattle.liq_base.specs.Pieces.{SinkTold, Took}
+use Rattle.liq_base.specs.Shelves.{ShelfTold}
+use Rattle.stations.specs.Creations.{CreatedFront, HaveClosed, HaveListed, after_making, closing_at_once}
 use Rattle.stations.specs.Outputs.{HoldsUpto, OutputFile, with_outputs}
+
+-- a sink took these bytes in one piece, or, where there are none, is as it was
+abbrev pub TookAtOnce : List ℕ → (old new : SinkTold) → Type 0
+TookAtOnce [] old new = new ≡ old
+TookAtOnce (byte ∷ bytes) old new = Took (byte ∷ bytes) old new
 
 -- one file alone
 abbrev pub one_file : (name bytes : List ℕ) → List OutputFile
 one_file name bytes = record { name = name; bytes = bytes } ∷ []
 
--- all of these files were written, and their sinks were made and closed, in this order, and no other
-pub record WroteFiles {S : Type 0} (files : S → Option Files) (created : S → Option (List (List ℕ))) (closed : S → Option (List Closing)) (old new : S)
-    (names : List (List ℕ)) (outputs : List OutputFile) : Type 0 where
-  pub written : ForSome (files old) (λ all. files new ≡ Some (with_outputs all outputs))
-  pub made : created new ≡ after_making names (created old)
-  pub closes : HaveClosed names (closed old) (closed new)
+-- all of these files were written, each at once, and their sinks were made and closed, in this order, and no other
+pub record WroteFiles (old new : ShelfTold) (names : List (List ℕ)) (outputs : List OutputFile) : Type 0 where
+  pub written : ForSome old.files (λ all. new.files ≡ Some (with_outputs all outputs))
+  pub made : new.created ≡ after_making names old.created
+  pub closes : HaveClosed names old.closed new.closed
+  pub listed : HaveListed (map closing_at_once outputs) old.closed new.closed
 
 -- whatever was answered, the first of them were, and of the next one a part; no count of faults fell
-pub record WroteUpto {S : Type 0} (files : S → Option Files) (created : S → Option (List (List ℕ))) (closed : S → Option (List Closing)) (reads writes : S → ℕ) (old new : S)
-    (names : List (List ℕ)) (outputs : List OutputFile) : Type 0 where
-  pub part : ForSome (files old) (λ all. IsSomeAnd (files new) (HoldsUpto all outputs))
-  pub front : MadeFront names (created old) (created new) (closed old) (closed new)
-  pub reads_grew : reads old ≤ reads new
-  pub writes_grew : writes old ≤ writes new
+pub record WroteUpto (old new : ShelfTold) (names : List (List ℕ)) (outputs : List OutputFile) : Type 0 where
+  pub part : ForSome old.files (λ all. IsSomeAnd new.files (HoldsUpto all outputs))
+  pub front : CreatedFront names old new
+  pub reads_grew : old.reads ≤ new.reads
+  pub writes_grew : old.writes ≤ new.writes
 
 -- it creates sinks, and does no more
-pub record OnlyCreates {S : Type 0} (files : S → Option Files) (closed : S → Option (List Closing)) (reads writes : S → ℕ) (old new : S) : Type 0 where
-  pub files_kept : files new ≡ files old
-  pub closed_kept : closed new ≡ closed old
-  pub reads_grew : reads old ≤ reads new
-  pub writes_grew : writes old ≤ writes new
+pub record OnlyCreates (old new : ShelfTold) : Type 0 where
+  pub files_kept : new.files ≡ old.files
+  pub closed_kept : new.closed ≡ old.closed
+  pub reads_grew : old.reads ≤ new.reads
+  pub writes_grew : old.writes ≤ new.writes
 
 -- it closes sinks, and does no more
-pub record OnlyCloses {S : Type 0} (created : S → Option (List (List ℕ))) (reads writes : S → ℕ) (old new : S) : Type 0 where
-  pub created_kept : created new ≡ created old
-  pub reads_grew : reads old ≤ reads new
-  pub writes_grew : writes old ≤ writes new
+pub record OnlyCloses (old new : ShelfTold) : Type 0 where
+  pub created_kept : new.created ≡ old.created
+  pub reads_grew : old.reads ≤ new.reads
+  pub writes_grew : old.writes ≤ new.writes

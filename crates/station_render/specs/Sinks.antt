@@ -1,8 +1,8 @@
 -- The sinks of the outputs that were created, clock by clock.
-use Rattle.std.specs.Prelude.{◌≡◌, ◌⊎◌, ◌<◌, ◌≤◌, ◌+◌, ℕ, suc, List, [], ◌∷◌, ◌++◌, Option, Some, Vec, length, map, nat_eq, slice_get, if◌then◌else◌, vec_len, vec_capacity}
+use Rattle.std.specs.Prelude.{◌≡◌, ◌⊎◌, ◌<◌, ◌≤◌, ◌+◌, ℕ, suc, List, [], ◌∷◌, ◌++◌, Some, Vec, length, map, nat_eq, slice_get, if◌then◌else◌, vec_len, vec_capacity}
 use Rattle.std.specs.List.{AllZip, slice_set}
 use Rattle.std.specs.declared.alloc.Global.{Global}
-use Rattle.liq_base.specs.Pieces.{IsPrefix}
+use Rattle.liq_base.specs.Pieces.{IsPrefix, SinkTold}
 use Rattle.stations.specs.Outputs.{OutputFile, OutputPart}
 
 -- of these items, one for each of these clocks, those of clock m
@@ -61,30 +61,30 @@ pub record WasTaken {S : Type 0} (clock : ℕ) (old : List (List S)) (sink : S) 
   pub is : new ≡ slice_set old clock rest
 
 -- the sink has the name of the output, and holds all its bytes, or a first part of them
-pub record HoldsWhole {S : Type 0} (name held : S → Option (List ℕ)) (output : OutputFile) (sink : S) : Type 0 where
-  pub named : name sink ≡ Some output.name
-  pub holds : held sink ≡ Some output.bytes
+pub record HoldsWhole (output : OutputFile) (sink : SinkTold) : Type 0 where
+  pub named : sink.name ≡ Some output.name
+  pub holds : sink.held ≡ Some output.bytes
 
-pub record HoldsPart {S : Type 0} (name held : S → Option (List ℕ)) (output : OutputFile) (sink : S) : Type 0 where
-  pub named : name sink ≡ Some output.name
+pub record HoldsPart (output : OutputFile) (sink : SinkTold) : Type 0 where
+  pub named : sink.name ≡ Some output.name
   pub part : List ℕ
-  pub holds : held sink ≡ Some part
+  pub holds : sink.held ≡ Some part
   pub front : IsPrefix part output.bytes
 
 -- the sink has the name of the output, and holds at least and at most its bytes; or a prefix of them, and it failed
-pub record HoldsFront {S : Type 0} (name held : S → Option (List ℕ)) (faults : S → ℕ) (output : OutputPart) (sink : S) : Type 0 where
-  pub named : name sink ≡ Some output.name
+pub record HoldsFront (output : OutputPart) (sink : SinkTold) : Type 0 where
+  pub named : sink.name ≡ Some output.name
   pub part : List ℕ
-  pub holds : held sink ≡ Some part
+  pub holds : sink.held ≡ Some part
   pub most : IsPrefix part output.most
-  pub least : IsPrefix output.least part ⊎ (0 < faults sink)
+  pub least : IsPrefix output.least part ⊎ (0 < sink.faults)
 
 -- the count of faults of a sink is above 0
-pub record HasFailed {S : Type 0} (faults : S → ℕ) (groups : List (List S)) : Type 0 where
+pub record HasFailed {S : Type 0} (told : S → SinkTold) (groups : List (List S)) : Type 0 where
   pub clock : ℕ
   pub place : ℕ
   pub group : List S
   pub sink : S
   pub there : slice_get groups clock ≡ Some group
   pub stands : slice_get group place ≡ Some sink
-  pub failed : 0 < faults sink
+  pub failed : 0 < (told sink).faults

@@ -1,16 +1,17 @@
 // The sinks of the outputs are closed.
-ghost use Rattle.std.specs.Prelude.{◌≡◌, ◌<◌, ◌≤◌, ◌⊎◌, ◌∷◌, [], ℕ, List, Option, length, slice_get, Some, IfOk, IsErrOf, IsSomeAnd, OnOk, OnErr, is_ok, true};
+ghost use Rattle.std.specs.Prelude.{◌≡◌, ◌<◌, ◌+◌, ◌^◌, ◌⊎◌, ◌∷◌, [], ℕ, List, length, map, slice_get, Some, IfErr, IfOk, IsErrOf, IsSomeAnd, OnOk, OnErr, is_ok, true, false};
 ghost use Rattle.std.specs.Option.{ForSome};
 ghost use Rattle.liq_base.specs.Counts.{Rose};
-ghost use Rattle.liq_base.specs.Files.{Closing, Files};
-ghost use Rattle.stations.specs.Creations.{HaveClosed};
-ghost use Rattle.stations.specs.Outputs.{OutputFile, OutputPart, with_outputs, HoldsParts};
+ghost use Rattle.liq_base.specs.Shelves.{Closing, ShelfTold};
+ghost use Rattle.stations.specs.Creations.{HaveClosed, HaveListed};
+ghost use Rattle.stations.specs.Outputs.{HoldsEnds, HoldsParts, OutputPart, whole_of, with_outputs};
 ghost use Rattle.stations.specs.Renderings.{WrotePart};
 ghost use Rattle.stations.specs.Stations.{Station};
+ghost use Rattle.station_render.specs.Faults.{is_device};
+ghost use Rattle.station_render.specs.Listed.{WillClose, WillList};
+ghost use Rattle.station_render.specs.OutputSinks.{HaveRooms, HoldsBody, HoldsSoMuch, inner};
 ghost use Rattle.station_render.specs.Runs.{RanPart, RanWhole, WroteOutputs};
-ghost use Rattle.station_render.specs.Listed.{AreTelling, HaveAllListed, WillList};
-ghost use Rattle.station_render.specs.OutputSinks.{HaveRooms, HoldsBody, HoldsFrontIf, owed, told};
-ghost use Rattle.station_render.specs.Shelves.{OnlyCloses};
+ghost use Rattle.station_render.specs.Shelves.{OnlyCloses, OnlyCreates};
 ghost use Rattle.station_render.specs.Sinks.{AreCreated, HasFailed, HaveSizes, AreAllEmpty, WasTaken, lists_of};
 
 use crate::output_sink::{OutputSink, end_if};
@@ -25,22 +26,19 @@ pub(crate) fn close_all<S: Shelf>(
     wrote: Result<Rendered, RenderFault>,
 ) -> Result<Rendered, RenderFault>
     requires sizes { HaveSizes order.now (lists_of groups.items) }
-    requires rooms { OnOk wrote (HaveRooms S.Out.room (lists_of groups.items)) }
-    ensures done { (station : Station) (before : Option Files) → S.files shelf.old ≡ before
-        → IfOk wrote (RanWhole (told S.Out.name) (told S.Out.held) (owed S.Out.room) before station order.now (lists_of groups.items))
-        → IfOk result (WroteOutputs station before (S.files shelf.new)) }
-    ensures part { (station : Station) (before : Option Files) (count : ℕ) (made_before : Option (List (List ℕ))) → S.files shelf.old ≡ before → count ≤ S.write_count shelf.old
-        → RanPart (told S.Out.name) (told S.Out.held) (told S.Out.faults) before station order.now (lists_of groups.items) made_before (S.created shelf.old)
-        → IfOk wrote (RanWhole (told S.Out.name) (told S.Out.held) (owed S.Out.room) before station order.now (lists_of groups.items))
-        → ForSome before (λ files. WrotePart station count (S.write_count shelf.new) files (S.files shelf.new) made_before (S.created shelf.new)) }
-    ensures cause { IsErrOf result RenderFault.Write → IsErrOf wrote RenderFault.Write ⊎ Rose (S.write_count shelf.old) (S.write_count shelf.new) }
-    ensures failed { HasFailed (told S.Out.faults) (lists_of groups.items) → Rose (S.write_count shelf.old) (S.write_count shelf.new) }
+    requires rooms { OnOk wrote (HaveRooms S.Out.told (lists_of groups.items)) }
+    ensures done { (station : Station) (first : ShelfTold) → OnlyCreates first (S.told shelf.old) → station.ticks + 2 < 2 ^ 64
+        → IfOk wrote (RanWhole S.Out.told first station order.now (lists_of groups.items)) → IfOk result (WroteOutputs station first (S.told shelf.new)) }
+    ensures part { IfErr result (λ fault. (station : Station) (first : ShelfTold) → OnlyCreates first (S.told shelf.old)
+        → (ran : RanPart S.Out.told first station order.now (lists_of groups.items) (S.told shelf.old).created) → ran.parts.others ≡ []
+        → IfOk wrote (RanWhole S.Out.told first station order.now (lists_of groups.items))
+        → ForSome first.files (λ files. WrotePart station (is_device fault) files first (S.told shelf.new))) }
+    ensures cause { IsErrOf result RenderFault.Write → IsErrOf wrote RenderFault.Write ⊎ Rose (S.told shelf.old).writes (S.told shelf.new).writes }
+    ensures failed { HasFailed (inner S.Out.told) (lists_of groups.items) → Rose (S.told shelf.old).writes (S.told shelf.new).writes }
     ensures well { OnOk result (is_ok wrote ≡ true) }
-    ensures closed { (names : List (List ℕ)) → AreTelling (told S.Out.name) (told S.Out.appends) (S.closed shelf.old) names order.now (lists_of groups.items)
-        → HaveClosed names (S.closed shelf.old) (S.closed shelf.new) }
-    ensures pieces { OnOk result ((closings : List Closing) → AreCreated (WillList S.Out.name S.Out.appends (S.closed shelf.old)) closings order.now (lists_of groups.items)
-        → HaveAllListed closings (S.closed shelf.old) (S.closed shelf.new)) }
-    ensures shelf { OnlyCloses S.created S.read_count S.write_count shelf.old shelf.new }
+    ensures closed { (names : List (List ℕ)) → AreCreated (WillClose S.Out.told (S.told shelf.old).closed) names order.now (lists_of groups.items)
+        → HaveClosed names (S.told shelf.old).closed (S.told shelf.new).closed }
+    ensures shelf { OnlyCloses (S.told shelf.old) (S.told shelf.new) }
 {
     let closed = close_each(shelf, order, groups, wrote.is_ok());
     let rendered = wrote?;
@@ -57,13 +55,14 @@ pub(crate) fn close_broken<S: Shelf>(
 ) -> RenderFault
     requires { HaveSizes order.now (lists_of groups.items) }
     ensures same { result ≡ fault }
-    ensures part { (station : Station) (before : Option Files) (count : ℕ) (made_before : Option (List (List ℕ))) → S.files shelf.old ≡ before → count ≤ S.write_count shelf.old
-        → RanPart (told S.Out.name) (told S.Out.held) (told S.Out.faults) before station order.now (lists_of groups.items) made_before (S.created shelf.old)
-        → ForSome before (λ files. WrotePart station count (S.write_count shelf.new) files (S.files shelf.new) made_before (S.created shelf.new)) }
-    ensures failed { HasFailed (told S.Out.faults) (lists_of groups.items) → Rose (S.write_count shelf.old) (S.write_count shelf.new) }
-    ensures closed { (names : List (List ℕ)) → AreTelling (told S.Out.name) (told S.Out.appends) (S.closed shelf.old) names order.now (lists_of groups.items)
-        → HaveClosed names (S.closed shelf.old) (S.closed shelf.new) }
-    ensures shelf { OnlyCloses S.created S.read_count S.write_count shelf.old shelf.new }
+    ensures part { (station : Station) (first : ShelfTold) → OnlyCreates first (S.told shelf.old)
+        → RanPart S.Out.told first station order.now (lists_of groups.items) (S.told shelf.old).created
+        → (is_device fault ≡ true → Rose first.writes (S.told shelf.old).writes ⊎ HasFailed (inner S.Out.told) (lists_of groups.items))
+        → ForSome first.files (λ files. WrotePart station (is_device fault) files first (S.told shelf.new)) }
+    ensures failed { HasFailed (inner S.Out.told) (lists_of groups.items) → Rose (S.told shelf.old).writes (S.told shelf.new).writes }
+    ensures closed { (names : List (List ℕ)) → AreCreated (WillClose S.Out.told (S.told shelf.old).closed) names order.now (lists_of groups.items)
+        → HaveClosed names (S.told shelf.old).closed (S.told shelf.new).closed }
+    ensures shelf { OnlyCloses (S.told shelf.old) (S.told shelf.new) }
 {
     let _closed = close_each(shelf, order, groups, false);
     fault
@@ -78,19 +77,22 @@ fn close_each<S: Shelf>(
     well: bool,
 ) -> Result<(), Failed>
     requires sizes { HaveSizes order.now (lists_of groups.items) }
-    requires rooms { well ≡ true → HaveRooms S.Out.room (lists_of groups.items) }
-    ensures whole { OnOk result (well ≡ true → ForSome (S.files shelf.old) (λ files. (outputs : List OutputFile)
-        → AreCreated (HoldsBody S.Out.name S.Out.held) outputs order.now (lists_of groups.items) → S.files shelf.new ≡ Some (with_outputs files outputs))) }
-    ensures part { ForSome (S.files shelf.old) (λ files. (outputs : List OutputPart)
-        → AreCreated (HoldsFrontIf well S.Out.name S.Out.held S.Out.faults) outputs order.now (lists_of groups.items)
-        → IsSomeAnd (S.files shelf.new) (λ now. HoldsParts (S.write_count shelf.old) files outputs now (S.write_count shelf.new))) }
-    ensures cause { OnErr result (Rose (S.write_count shelf.old) (S.write_count shelf.new)) }
-    ensures failed { HasFailed (told S.Out.faults) (lists_of groups.items) → Rose (S.write_count shelf.old) (S.write_count shelf.new) }
-    ensures closed { (names : List (List ℕ)) → AreTelling (told S.Out.name) (told S.Out.appends) (S.closed shelf.old) names order.now (lists_of groups.items)
-        → HaveClosed names (S.closed shelf.old) (S.closed shelf.new) }
-    ensures pieces { OnOk result (well ≡ true → (closings : List Closing) → AreCreated (WillList S.Out.name S.Out.appends (S.closed shelf.old)) closings order.now (lists_of groups.items)
-        → HaveAllListed closings (S.closed shelf.old) (S.closed shelf.new)) }
-    ensures shelf { OnlyCloses S.created S.read_count S.write_count shelf.old shelf.new }
+    requires rooms { well ≡ true → HaveRooms S.Out.told (lists_of groups.items) }
+    ensures whole { OnOk result (well ≡ true → ForSome (S.told shelf.old).files (λ files. (outputs : List OutputPart)
+        → AreCreated (HoldsBody S.Out.told) outputs order.now (lists_of groups.items) → (S.told shelf.new).files ≡ Some (with_outputs files (map whole_of outputs)))) }
+    ensures ends { OnErr result (well ≡ true → ForSome (S.told shelf.old).files (λ files. (outputs : List OutputPart)
+        → AreCreated (HoldsBody S.Out.told) outputs order.now (lists_of groups.items)
+        → IsSomeAnd (S.told shelf.new).files (λ now. HoldsEnds (S.told shelf.old).writes files outputs now (S.told shelf.new).writes))) }
+    ensures part { well ≡ false → ForSome (S.told shelf.old).files (λ files. (outputs : List OutputPart)
+        → AreCreated (HoldsSoMuch S.Out.told) outputs order.now (lists_of groups.items)
+        → IsSomeAnd (S.told shelf.new).files (λ now. HoldsParts (S.told shelf.old).writes files outputs now (S.told shelf.new).writes)) }
+    ensures cause { OnErr result (Rose (S.told shelf.old).writes (S.told shelf.new).writes) }
+    ensures failed { HasFailed (inner S.Out.told) (lists_of groups.items) → Rose (S.told shelf.old).writes (S.told shelf.new).writes }
+    ensures closed { (names : List (List ℕ)) → AreCreated (WillClose S.Out.told (S.told shelf.old).closed) names order.now (lists_of groups.items)
+        → HaveClosed names (S.told shelf.old).closed (S.told shelf.new).closed }
+    ensures listed { OnOk result (well ≡ true → (closings : List Closing) → AreCreated (WillList S.Out.told (S.told shelf.old).closed) closings order.now (lists_of groups.items)
+        → HaveListed closings (S.told shelf.old).closed (S.told shelf.new).closed) }
+    ensures shelf { OnlyCloses (S.told shelf.old) (S.told shelf.new) }
 {
     let Some((clock, rest)) = order.split_first() else {
         end_all(groups);
@@ -111,7 +113,10 @@ fn close_each<S: Shelf>(
 // Whether all still goes well.
 fn still_well(well: bool, ended: Result<(), Failed>, closed: Result<(), Failed>) -> bool
     ensures before { result ≡ true → well ≡ true }
-    ensures still { OnOk ended (OnOk closed (well ≡ true → result ≡ true)) }
+    ensures unwell { well ≡ false → result ≡ false }
+    ensures ended { OnErr ended (result ≡ false) }
+    ensures closed { OnErr closed (result ≡ false) }
+    ensures still { OnOk ended (OnOk closed (result ≡ well)) }
 {
     well && ended.is_ok() && closed.is_ok()
 }

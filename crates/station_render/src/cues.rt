@@ -24,9 +24,9 @@ pub(crate) fn leave_wanted<S: Shelf>(
     shelf: &mut S,
 ) -> Result<(), RenderFault>
     requires many { job.now.cues ≡ true → length marks.now ≡ length (written job.now.plan.now.sinks) }
-    ensures all { OnOk result (WroteFiles S.files S.created S.closed shelf.old shelf.new (cue_names_if job.now.cues job.now.plan.now.sinks) (cue_files_by job.now (cues_of marks.now))) }
-    ensures some { WroteUpto S.files S.created S.closed S.read_count S.write_count shelf.old shelf.new (cue_names_if job.now.cues job.now.plan.now.sinks) (cue_files_by job.now (cues_of marks.now)) }
-    ensures cause { IsErrOf result RenderFault.Write → Rose (S.write_count shelf.old) (S.write_count shelf.new) }
+    ensures all { OnOk result (WroteFiles (S.told shelf.old) (S.told shelf.new) (cue_names_if job.now.cues job.now.plan.now.sinks) (cue_files_by job.now (cues_of marks.now))) }
+    ensures some { WroteUpto (S.told shelf.old) (S.told shelf.new) (cue_names_if job.now.cues job.now.plan.now.sinks) (cue_files_by job.now (cues_of marks.now)) }
+    ensures cause { IsErrOf result RenderFault.Write → Rose (S.told shelf.old).writes (S.told shelf.new).writes }
 {
     if !job.cues {
         return Ok(());
@@ -43,9 +43,9 @@ fn leave_cues<S: Shelf>(
     shelf: &mut S,
 ) -> Result<(), RenderFault>
     requires many { length marks.now ≡ length (written plan.now.sinks) }
-    ensures all { OnOk result (WroteFiles S.files S.created S.closed shelf.old shelf.new (cue_names_in plan.now.sinks) (cue_files_with library.now plan.now.sinks (cues_of marks.now))) }
-    ensures some { WroteUpto S.files S.created S.closed S.read_count S.write_count shelf.old shelf.new (cue_names_in plan.now.sinks) (cue_files_with library.now plan.now.sinks (cues_of marks.now)) }
-    ensures cause { IsErrOf result RenderFault.Write → Rose (S.write_count shelf.old) (S.write_count shelf.new) }
+    ensures all { OnOk result (WroteFiles (S.told shelf.old) (S.told shelf.new) (cue_names_in plan.now.sinks) (cue_files_with library.now plan.now.sinks (cues_of marks.now))) }
+    ensures some { WroteUpto (S.told shelf.old) (S.told shelf.new) (cue_names_in plan.now.sinks) (cue_files_with library.now plan.now.sinks (cues_of marks.now)) }
+    ensures cause { IsErrOf result RenderFault.Write → Rose (S.told shelf.old).writes (S.told shelf.new).writes }
 {
     let mut place = 0;
     for sink in plan.sinks.as_slice() {
@@ -66,9 +66,9 @@ fn leave_one<S: Shelf>(
     marks: &[CueMark],
     shelf: &mut S,
 ) -> Result<(), RenderFault>
-    ensures all { OnOk result (WroteFiles S.files S.created S.closed shelf.old shelf.new (cue_name name.now ∷ []) (cue_file library.now name.now (map cue_of marks.now) ∷ [])) }
-    ensures some { WroteUpto S.files S.created S.closed S.read_count S.write_count shelf.old shelf.new (cue_name name.now ∷ []) (cue_file library.now name.now (map cue_of marks.now) ∷ []) }
-    ensures cause { IsErrOf result RenderFault.Write → Rose (S.write_count shelf.old) (S.write_count shelf.new) }
+    ensures all { OnOk result (WroteFiles (S.told shelf.old) (S.told shelf.new) (cue_name name.now ∷ []) (cue_file library.now name.now (map cue_of marks.now) ∷ [])) }
+    ensures some { WroteUpto (S.told shelf.old) (S.told shelf.new) (cue_name name.now ∷ []) (cue_file library.now name.now (map cue_of marks.now) ∷ []) }
+    ensures cause { IsErrOf result RenderFault.Write → Rose (S.told shelf.old).writes (S.told shelf.new).writes }
 {
     let file = cue_file_name(alloc, name)?;
     let text = text_of(alloc, library, marks)?;

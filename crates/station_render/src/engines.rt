@@ -1,5 +1,5 @@
 // The engines of all clocks.
-ghost use Rattle.std.specs.Prelude.{◌≡◌, ◌<◌, ◌≤◌, ◌^◌, [], ◌∷◌, ℕ, List, length, map, slice_get, Some, true, IfOk, OnOk, OnErr, IsErrOf};
+ghost use Rattle.std.specs.Prelude.{◌≡◌, ◌<◌, ◌≤◌, ◌^◌, [], ◌∷◌, ℕ, List, length, map, slice_get, Some, true, false, IfOk, OnOk, OnErr, IsErrOf};
 ghost use Rattle.std.specs.List.{slice_set};
 ghost use Rattle.buffer_ends.specs.declared.run_end.End.TheVariants.{Done, Write as WriteEnd};
 ghost use Rattle.clock_ticks.specs.Engines.{EngineStands, outputs_of, setting_of};
@@ -41,7 +41,7 @@ fn take_out<O>(alloc: Global, groups: &mut Vec<Vec<O>>, clock: usize) -> Vec<O>
     mem::replace(&mut groups[clock], Vec::new(alloc))
 }
 
-// The engine, which keeps its marks if they are wanted.
+// The engine, which keeps its marks if they are wanted, and else is as it was made.
 fn keep_if<'a, O: Sink>(wanted: bool, engine: ClockEngine<'a, O>) -> ClockEngine<'a, O>
     requires { EngineStands engine.parts 0 nothing }
     ensures setting { setting_of result.parts ≡ setting_of engine.entry.parts }
@@ -49,6 +49,7 @@ fn keep_if<'a, O: Sink>(wanted: bool, engine: ClockEngine<'a, O>) -> ClockEngine
     ensures stands { EngineStands result.parts 0 nothing }
     ensures outs { result.outs ≡ engine.entry.outs }
     ensures keeping { wanted ≡ true → result.parts.cues.keeping ≡ true }
+    ensures unwanted { wanted ≡ false → result ≡ engine.entry }
 {
     let mut engine = engine;
     if wanted {

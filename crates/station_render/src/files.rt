@@ -1,8 +1,8 @@
 // A file that is written at once.
-ghost use Rattle.std.specs.Prelude.{◌≡◌, ◌≤◌, ◌∷◌, [], IsErrOf, OnErr, OnOk, is_some, length};
+ghost use Rattle.std.specs.Prelude.{◌≡◌, ◌∷◌, [], IsErrOf, OnErr, OnOk, length};
 ghost use Rattle.liq_base.specs.Counts.{Rose};
-ghost use Rattle.liq_base.specs.Pieces.{HasRoom, Took, TookPart};
-ghost use Rattle.station_render.specs.Shelves.{WroteFiles, WroteUpto, one_file};
+ghost use Rattle.liq_base.specs.Pieces.{HasRoom, TookPart};
+ghost use Rattle.station_render.specs.Shelves.{TookAtOnce, WroteFiles, WroteUpto, one_file};
 
 use crate::RenderFault;
 use liq_base::{Failed, Shelf, Sink};
@@ -14,9 +14,9 @@ pub(crate) fn write_file<S: Shelf>(
     name: &str,
     text: &[u8],
 ) -> Result<(), RenderFault>
-    ensures all { OnOk result (WroteFiles S.files S.created S.closed shelf.old shelf.new (name.now ∷ []) (one_file name.now text.now)) }
-    ensures some { WroteUpto S.files S.created S.closed S.read_count S.write_count shelf.old shelf.new (name.now ∷ []) (one_file name.now text.now) }
-    ensures cause { IsErrOf result RenderFault.Write → Rose (S.write_count shelf.old) (S.write_count shelf.new) }
+    ensures all { OnOk result (WroteFiles (S.told shelf.old) (S.told shelf.new) (name.now ∷ []) (one_file name.now text.now)) }
+    ensures some { WroteUpto (S.told shelf.old) (S.told shelf.new) (name.now ∷ []) (one_file name.now text.now) }
+    ensures cause { IsErrOf result RenderFault.Write → Rose (S.told shelf.old).writes (S.told shelf.new).writes }
 {
     let mut sink = shelf.create(name, text.len() as u64)?;
     let wrote = append_any(&mut sink, text);
@@ -28,13 +28,9 @@ pub(crate) fn write_file<S: Shelf>(
 
 // Hands over these bytes as one piece, if there are any.
 fn append_any<O: Sink>(sink: &mut O, text: &[u8]) -> Result<(), Failed>
-    requires { HasRoom (O.room sink.old) (length text.now) }
-    ensures took { OnOk result (Took O.held O.room text.now sink.old sink.new) }
-    ensures part { OnErr result (TookPart O.held O.room text.now sink.old sink.new) }
-    ensures name { O.name sink.new ≡ O.name sink.old }
-    ensures counts { is_some (O.appends sink.new) ≡ is_some (O.appends sink.old) }
-    ensures faults { O.faults sink.old ≤ O.faults sink.new }
-    ensures cause { OnErr result (Rose (O.faults sink.old) (O.faults sink.new)) }
+    requires { HasRoom (O.told sink.old).room (length text.now) }
+    ensures took { OnOk result (TookAtOnce text.now (O.told sink.old) (O.told sink.new)) }
+    ensures part { OnErr result (TookPart text.now (O.told sink.old) (O.told sink.new)) }
 {
     if text.is_empty() {
         return Ok(());

@@ -15,6 +15,9 @@ pub struct Job<'a> {
     /// How many ticks each clock makes, at most 1000000000.
     pub ticks: u64,
 
+    /// The name of the file that gets the trace, if one is wanted. Threads alone leave one.
+    pub trace: Option<&'a str>,
+
     /// Whether each output gets a cue file beside it.
     pub cues: bool,
 }

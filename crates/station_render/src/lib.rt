@@ -17,7 +17,6 @@ mod rendered;
 mod rendering;
 mod reports;
 mod sinks;
-mod threading;
 mod ticks;
 mod traces;
 
@@ -27,4 +26,3 @@ pub use job::Job;
 pub use rendered::Rendered;
 pub use rendering::{render, render_again, render_alone};
 pub use reports::report;
-pub use threading::Threading;

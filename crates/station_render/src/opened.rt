@@ -1,18 +1,18 @@
 // The outputs of a plan are opened, with the engines that write into them.
-ghost use Rattle.std.specs.Prelude.{◌≡◌, ◌≤◌, ◌⊎◌, [], List, Option, ℕ, IfOk, IsErrOf, OnErr, OnOk};
+ghost use Rattle.std.specs.Prelude.{◌≡◌, ◌≤◌, ◌⊎◌, [], IfErr, IfOk, IsErrOf, OnErr, OnOk};
 ghost use Rattle.std.specs.Option.{ForSome};
 ghost use Rattle.liq_base.specs.Counts.{Rose};
-ghost use Rattle.stations.specs.Creations.{MadeFront, after_making, names_in};
+ghost use Rattle.stations.specs.Creations.{CreatedFront, after_making, names_in};
 ghost use Rattle.stations.specs.Renderings.{WrotePart};
-ghost use Rattle.station_render.specs.Listed.{AreCounted, CreatedFront};
 ghost use Rattle.stations.specs.Stations.{Way};
-ghost use Rattle.station_render.specs.Engines.{AreKeeping, outs_of};
-ghost use Rattle.station_render.specs.OutputSinks.{owed, spared, told};
+ghost use Rattle.station_render.specs.Engines.{AreKeeping};
 ghost use Rattle.station_render.specs.EngineRuns.{AreOpened};
+ghost use Rattle.station_render.specs.Faults.{is_device};
+ghost use Rattle.station_render.specs.OutputSinks.{inner};
 ghost use Rattle.station_render.specs.Runs.{HasRecord, IsFitting, RanPart, setting_by, station_in};
 ghost use Rattle.station_render.specs.Shelves.{OnlyCreates};
 ghost use Rattle.station_render.specs.Sinks.{AreEmpty, HasFailed, lists_of};
-ghost use Rattle.station_render.specs.Stages.{HaveOpened};
+ghost use Rattle.station_render.specs.Stages.{HaveOpened, OnlyOpened};
 
 use crate::close::close_broken;
 use crate::create::create_each;
@@ -45,18 +45,14 @@ pub(crate) fn open_outputs<'a, S: Shelf>(
     RenderFault,
 >
     requires fit { IsFitting job.now }
-    ensures opened { IfOk result (λ opened. HaveOpened S.Out.name S.Out.held S.Out.room S.Out.appends (S.files shelf.old) (S.closed shelf.new) job.now
-        opened.0.order.items (lists_of opened.0.groups.items) opened.1.items) }
-    ensures part { OnErr result ((way : Way) (trace : Option (List ℕ)) → HasRecord (setting_by job.now) job.now.ready.now.clocks.running job.now.ticks way
-        → ForSome (S.files shelf.old) (λ files. WrotePart (station_in job.now way trace)
-        (S.write_count shelf.old) (S.write_count shelf.new) files (S.files shelf.new) (S.created shelf.old) (S.created shelf.new))) }
-    ensures cause { IsErrOf result RenderFault.Write → Rose (S.write_count shelf.old) (S.write_count shelf.new) }
-    ensures files { OnOk result (S.files shelf.new ≡ S.files shelf.old) }
-    ensures made { OnOk result (S.created shelf.new ≡ after_making (names_in job.now.plan.now.sinks) (S.created shelf.old)) }
-    ensures closed { OnOk result (S.closed shelf.new ≡ S.closed shelf.old) }
-    ensures front { OnErr result (MadeFront (names_in job.now.plan.now.sinks) (S.created shelf.old) (S.created shelf.new) (S.closed shelf.old) (S.closed shelf.new)) }
-    ensures reads { S.read_count shelf.old ≤ S.read_count shelf.new }
-    ensures writes { S.write_count shelf.old ≤ S.write_count shelf.new }
+    ensures opened { IfOk result (λ opened. HaveOpened S.Out.told (S.told shelf.old) job.now opened.0.order.items (lists_of opened.0.groups.items) opened.1.items) }
+    ensures part { IfErr result (λ fault. (way : Way) → HasRecord (setting_by job.now) job.now.ready.now.clocks.running job.now.ticks way
+        → ForSome (S.told shelf.old).files (λ files. WrotePart (station_in job.now way) (is_device fault) files (S.told shelf.old) (S.told shelf.new))) }
+    ensures cause { IsErrOf result RenderFault.Write → Rose (S.told shelf.old).writes (S.told shelf.new).writes }
+    ensures shelf { OnOk result (OnlyOpened job.now (S.told shelf.old) (S.told shelf.new)) }
+    ensures front { OnErr result (CreatedFront (names_in job.now.plan.now.sinks) (S.told shelf.old) (S.told shelf.new)) }
+    ensures reads { (S.told shelf.old).reads ≤ (S.told shelf.new).reads }
+    ensures writes { (S.told shelf.old).writes ≤ (S.told shelf.new).writes }
 {
     let mut order = Vec::new(alloc);
     let mut groups = no_sinks(alloc, job.ready.clocks.running)?;
@@ -78,16 +74,14 @@ fn open_all<'a, S: Shelf>(
     requires fit { IsFitting job.now }
     requires none { order.old.items ≡ [] }
     requires empty { AreEmpty job.now.ready.now.clocks.running (lists_of groups.old.items) }
-    ensures opened { IfOk result (λ engines. AreOpened (told S.Out.name) (told S.Out.held) (spared S.Out.room) (owed S.Out.room) (S.files shelf.old) (setting_by job.now) job.now.ready.now.clocks job.now.ticks
+    ensures opened { IfOk result (λ engines. AreOpened S.Out.told (S.told shelf.old) (setting_by job.now) job.now.ready.now.clocks job.now.ticks
         order.new.items engines.items (lists_of groups.new.items)) }
     ensures keeping { IfOk result (λ engines. AreKeeping job.now.cues engines.items) }
-    ensures part { OnErr result ((way : Way) (trace : Option (List ℕ)) → HasRecord (setting_by job.now) job.now.ready.now.clocks.running job.now.ticks way
-        → RanPart (told S.Out.name) (told S.Out.held) (told S.Out.faults) (S.files shelf.old) (station_in job.now way trace) order.new.items (lists_of groups.new.items) (S.created shelf.old) (S.created shelf.new)) }
-    ensures cause { IsErrOf result RenderFault.Write → Rose (S.write_count shelf.old) (S.write_count shelf.new) ⊎ HasFailed (told S.Out.faults) (lists_of groups.new.items) }
-    ensures made { OnOk result (S.created shelf.new ≡ after_making (names_in job.now.plan.now.sinks) (S.created shelf.old)) }
-    ensures counted { IfOk result (λ engines. AreCounted (told S.Out.name) (told S.Out.appends) (S.closed shelf.old) 1 (names_in job.now.plan.now.sinks) order.new.items (outs_of engines.items)) }
-    ensures front { OnErr result (CreatedFront (told S.Out.name) (told S.Out.appends) (S.closed shelf.old) (names_in job.now.plan.now.sinks) (S.created shelf.old) (S.created shelf.new) order.new.items (lists_of groups.new.items)) }
-    ensures shelf { OnlyCreates S.files S.closed S.read_count S.write_count shelf.old shelf.new }
+    ensures part { OnErr result ((way : Way) → HasRecord (setting_by job.now) job.now.ready.now.clocks.running job.now.ticks way
+        → RanPart S.Out.told (S.told shelf.old) (station_in job.now way) order.new.items (lists_of groups.new.items) (S.told shelf.new).created) }
+    ensures cause { IsErrOf result RenderFault.Write → Rose (S.told shelf.old).writes (S.told shelf.new).writes ⊎ HasFailed (inner S.Out.told) (lists_of groups.new.items) }
+    ensures made { OnOk result ((S.told shelf.new).created ≡ after_making (names_in job.now.plan.now.sinks) (S.told shelf.old).created) }
+    ensures shelf { OnlyCreates (S.told shelf.old) (S.told shelf.new) }
 {
     create_each(job.plan, &job.ready.clocks, job.ticks, shelf, order, groups)?;
     Ok(make_engines(alloc, job, groups)?)

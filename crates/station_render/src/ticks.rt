@@ -30,8 +30,8 @@ pub(crate) fn tick_by_threads<'a, O: Sink + Send, G: Gate + Sync, R: Threads + W
 ) -> (Vec<ClockEngine<'a, O>>, RunEnd)
     requires fit { IsFitting job.now }
     requires some { 0 < window }
-    requires ready { AreReady O.room job.now engines.items }
-    ensures ticked { HaveTicked O.held O.name O.faults O.appends job.now (InWindows window) engines.entry.items result.0.items result.1 }
+    requires ready { AreReady O.told job.now engines.items }
+    ensures ticked { HaveTicked O.told job.now (InWindows window) engines.entry.items result.0.items result.1 }
 {
     run_threads(
         rt,
@@ -52,8 +52,8 @@ pub(crate) fn tick_in_rounds<'a, O: Sink>(
     engines: Vec<ClockEngine<'a, O>>,
 ) -> (Vec<ClockEngine<'a, O>>, RunEnd)
     requires fit { IsFitting job.now }
-    requires ready { AreReady O.room job.now engines.items }
-    ensures ticked { HaveTicked O.held O.name O.faults O.appends job.now InRounds engines.entry.items result.0.items result.1 }
+    requires ready { AreReady O.told job.now engines.items }
+    ensures ticked { HaveTicked O.told job.now InRounds engines.entry.items result.0.items result.1 }
 {
     let mut engines = engines;
     let run = run_rounds(alloc, job.plan, &mut engines, job.ticks);
@@ -72,8 +72,8 @@ pub(crate) fn tick_again<'a, O: Sink>(
     requires trace { IsTrace trace.now }
     requires accepted { IsAccepted (setting_by job.now) job.now.ready.now.clocks.running job.now.ticks trace.now }
     requires chunks { AreAllChunks (setting_by job.now) job.now.ready.now.clocks trace.now chunks }
-    requires ready { AreReady O.room job.now engines.items }
-    ensures ticked { HaveTicked O.held O.name O.faults O.appends job.now (Again trace.now) engines.entry.items result.0.items result.1 }
+    requires ready { AreReady O.told job.now engines.items }
+    ensures ticked { HaveTicked O.told job.now (Again trace.now) engines.entry.items result.0.items result.1 }
 {
     let mut engines = engines;
     let run = replay(

@@ -1,38 +1,42 @@
 // The trace of a rendering.
-ghost use Rattle.std.specs.Prelude.{◌≡◌, ◌∷◌, [], IfOk, IsErrOf, OnOk};
+ghost use Rattle.std.specs.Prelude.{◌≡◌, ◌∷◌, [], IfOk, IfSome, IsErrOf, OnOk};
 ghost use Rattle.liq_base.specs.Counts.{Rose};
 ghost use Rattle.trace_log.specs.Texts.{IsTrace, trace_text};
-ghost use Rattle.stations.specs.Creations.{trace_name};
-ghost use Rattle.stations.specs.Traces.{traced};
+ghost use Rattle.stations.specs.Creations.{trace_names_in};
+ghost use Rattle.stations.specs.Stations.{Way};
 ghost use Rattle.station_render.specs.Shelves.{WroteFiles, WroteUpto, one_file};
-ghost use Rattle.station_render.specs.Runs.{name_in};
+ghost use Rattle.station_render.specs.Runs.{name_in, traces_by, window_of};
 
 use crate::files::write_file;
-use crate::{RenderFault, Rendered, Threading};
+use crate::{Job, RenderFault, Rendered};
 use liq_base::Shelf;
 use std::alloc::Global;
 use trace_log::{Trace, print};
 
-/// Leaves the trace of a run of so many ticks, where one is wanted, and hands on what is told of the run.
+/// Leaves the trace of a run of this job, where one is wanted and the ticks were made in windows of so many, and hands on what is told of
+/// the run.
 pub(crate) fn leave_trace<S: Shelf>(
     alloc: Global,
-    ticks: u64,
-    threading: Threading<'_>,
+    job: &Job<'_>,
+    window: Option<u64>,
     shelf: &mut S,
     rendered: Rendered,
 ) -> Result<Rendered, RenderFault>
-    requires trace { IsTrace (record { ticks = ticks; window = threading.window; buffers = rendered.logs.items }) }
+    requires trace { IfSome window (λ window. IsTrace (record { ticks = job.now.ticks; window = window; buffers = rendered.logs.items })) }
     ensures gaps { IfOk result (λ told. told.gaps.items ≡ rendered.gaps.items) }
     ensures counts { IfOk result (λ told. told.counts.items ≡ rendered.counts.items) }
     ensures logs { IfOk result (λ told. told.logs.items ≡ rendered.logs.items) }
     ensures cues { IfOk result (λ told. told.cues.items ≡ rendered.cues.items) }
-    ensures all { OnOk result (WroteFiles S.files S.created S.closed shelf.old shelf.new (trace_name (name_in threading.entry))
-        (traced (name_in threading.entry) (record { ticks = ticks; window = threading.entry.window; buffers = rendered.logs.items }))) }
-    ensures some { WroteUpto S.files S.created S.closed S.read_count S.write_count shelf.old shelf.new (trace_name (name_in threading.entry))
-        (traced (name_in threading.entry) (record { ticks = ticks; window = threading.entry.window; buffers = rendered.logs.items })) }
-    ensures cause { IsErrOf result RenderFault.Write → Rose (S.write_count shelf.old) (S.write_count shelf.new) }
+    ensures all { (way : Way) → window ≡ window_of way → OnOk result (WroteFiles (S.told shelf.old) (S.told shelf.new)
+        (trace_names_in way (name_in job.now)) (traces_by way (name_in job.now) job.now.ticks rendered.logs.items)) }
+    ensures some { (way : Way) → window ≡ window_of way → WroteUpto (S.told shelf.old) (S.told shelf.new)
+        (trace_names_in way (name_in job.now)) (traces_by way (name_in job.now) job.now.ticks rendered.logs.items) }
+    ensures cause { IsErrOf result RenderFault.Write → Rose (S.told shelf.old).writes (S.told shelf.new).writes }
 {
-    let Some(name) = threading.trace else {
+    let Some(window) = window else {
+        return Ok(rendered);
+    };
+    let Some(name) = job.trace else {
         return Ok(rendered);
     };
     let Rendered {
@@ -42,8 +46,8 @@ pub(crate) fn leave_trace<S: Shelf>(
         cues,
     } = rendered;
     let trace = Trace {
-        ticks,
-        window: threading.window,
+        ticks: job.ticks,
+        window,
         buffers: logs,
     };
     let wrote = write_trace(alloc, shelf, name, &trace);
@@ -66,9 +70,9 @@ fn write_trace<S: Shelf>(
     trace: &Trace,
 ) -> Result<(), RenderFault>
     requires { IsTrace trace.now }
-    ensures all { OnOk result (WroteFiles S.files S.created S.closed shelf.old shelf.new (name.now ∷ []) (one_file name.now (trace_text trace.now))) }
-    ensures some { WroteUpto S.files S.created S.closed S.read_count S.write_count shelf.old shelf.new (name.now ∷ []) (one_file name.now (trace_text trace.now)) }
-    ensures cause { IsErrOf result RenderFault.Write → Rose (S.write_count shelf.old) (S.write_count shelf.new) }
+    ensures all { OnOk result (WroteFiles (S.told shelf.old) (S.told shelf.new) (name.now ∷ []) (one_file name.now (trace_text trace.now))) }
+    ensures some { WroteUpto (S.told shelf.old) (S.told shelf.new) (name.now ∷ []) (one_file name.now (trace_text trace.now)) }
+    ensures cause { IsErrOf result RenderFault.Write → Rose (S.told shelf.old).writes (S.told shelf.new).writes }
 {
     let mut text = Vec::new(alloc);
     print(trace, &mut text)?;

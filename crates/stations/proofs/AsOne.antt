@@ -8,7 +8,7 @@ use Rattle.plan_core.specs.declared.sink.SinkPlan.TheVariants.{Output, Feed}
 use Rattle.stream_meaning.specs.Instants.{Setting}
 use Rattle.stream_meaning.specs.Settings.{IsSetting}
 use Rattle.stream_meaning.specs.Sinks.{gaps}
-use Rattle.run_records.specs.Records.{AreRoundsBegun, AreWindowsBegun, IsLawful as AreWindows, IsRounds, Run, Window, answers_of, puts_of, setting_in}
+use Rattle.run_records.specs.Records.{AreRoundsBegun, AreWindowsBegun, AreWindows, IsRounds, Run, Window, answers_of, puts_of, setting_in}
 use Rattle.run_records.specs.Rounds.{BeginsRounds, HasNoJoin, as_one, merged}
 use Rattle.run_records.proofs.Alone.{merged_setting}
 use Rattle.run_records.proofs.Flattening.{merged_answers}
@@ -128,7 +128,7 @@ again_as_one are_rounds are_one station run is trace replay (inr local) = λ alo
 pub begins_as_one : BeginWindows → BeginRounds → AreRounds → AreOne → (station : Station) (run : Run) → IsSetting (bare station) station.clocks → (way : Way)
     → IsBegunIn (bare station) station.clocks.running station.ticks way run → (way ≡ InRounds) ⊎ HasNoJoin (bare station) station.clocks.running
     → (alone : Run) → IsRounds (bare station) station.clocks.running station.ticks alone → BeginsRoundsIn way (bare station) run alone
-begins_as_one windows rounds are_rounds are_one station run is InRounds begun determined = λ alone are. rounds (bare station) station.clocks is station.clocks.running station.ticks run alone begun are
+begins_as_one windows rounds are_rounds are_one station run is InRounds begun determined = λ alone are. rounds (bare station) station.clocks is station.clocks.running station.ticks run alone begun.came.rounds are
 begins_as_one windows rounds are_rounds are_one station run is (InWindows window) begun (inl alone) = absurd cc
-begins_as_one windows rounds are_rounds are_one station run is (InWindows window) begun (inr local) = λ alone are. windows (bare station) station.clocks is window station.ticks run alone local begun are
-begins_as_one windows rounds are_rounds are_one station run is (Again trace) begun determined = again_as_one are_rounds are_one station run is trace begun.whole determined
+begins_as_one windows rounds are_rounds are_one station run is (InWindows window) begun (inr local) = λ alone are. windows (bare station) station.clocks is window station.ticks run alone local begun.came.windows are
+begins_as_one windows rounds are_rounds are_one station run is (Again trace) begun determined = again_as_one are_rounds are_one station run is trace begun.came determined

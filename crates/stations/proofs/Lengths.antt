@@ -12,7 +12,7 @@ use Rattle.wav_io.specs.Header.{block_of, padded, wide_header_bytes}
 use Rattle.wav_io.proofs.Headers.{length_header}
 use Rattle.run_records.specs.Records.{Run}
 use Rattle.stations.specs.Stations.{Station, setting_of_run}
-use Rattle.stations.specs.Streams.{body_size, bytes_of, header_for, output_bytes, zeros_after}
+use Rattle.stations.specs.Streams.{body_size, bytes_of, file_bytes, header_for, output_bytes, zeros_after}
 use Rattle.stream_meaning.specs.Instants.{Setting, stream_of}
 use Rattle.stream_meaning.specs.Sinks.{block_length, kind_of, slot_block, tick_bytes, tick_slots, ticks_bytes}
 
@@ -60,6 +60,17 @@ header_long setting true ticks node = length_wide (kind_of setting node) setting
 same_block : (wide : Bool) (kind : Kind) → block_length wide kind ≡ block_of wide kind
 same_block false kind = refl
 same_block true kind = refl
+
+-- the bytes of a file, by those of its samples
+pub file_long : (setting : Setting) (wide : Bool) (ticks node : ℕ) → length (file_bytes setting wide ticks node) ≡ 44 + body_size setting wide ticks node + body_size setting wide ticks node % 2
+file_long setting wide ticks node =
+    let size = body_size setting wide ticks node in
+    let whole = length-append (output_bytes setting wide ticks node) (zeros_after size) in
+    let both = length-append (header_for setting wide ticks node) (ticks_bytes setting wide node ticks) in
+    let front = header_long setting wide ticks node in
+    let back = ticks_long setting wide node ticks in
+    let last = length-replicate {A = ℕ} (size % 2) 0 in
+    omega (arith, whole, both, front, back, last)
 
 pub output_long : (station : Station) (run : Run) (wide : Bool) (node : ℕ) → length (bytes_of station run wide node)
     ≡ 44 + padded (station.ticks * station.plan.frame * block_of wide (kind_of (setting_of_run station run) node))

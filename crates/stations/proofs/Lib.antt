@@ -1,5 +1,5 @@
 mod Walked
-mod Lengths
+pub mod Lengths
 mod Gapless
 mod AsOne
 mod CueRows

@@ -3,14 +3,14 @@ use Rattle.std.proofs.Common.{◌≡◌, ◌∙◌, ◌++◌, ℕ, List, [], ◌
 use Rattle.std.specs.Prelude.{Option, Some, None}
 use Rattle.std.proofs.lemmas.List.{append-nil, map-append}
 use Rattle.std.specs.Option.{ForSome}
-use Rattle.liq_base.specs.Files.{Closing, noted}
+use Rattle.liq_base.specs.Shelves.{Closing, ShelfTold, noted}
 use Rattle.plan_core.specs.declared.sink.SinkPlan.{SinkPlan}
 use Rattle.plan_core.specs.declared.sink.SinkPlan.TheVariants.{Output, Feed}
 use Rattle.stream_meaning.specs.Instants.{Setting}
 use Rattle.run_records.specs.Records.{Run}
 use Rattle.trace_log.specs.Values.{TraceValue}
 use Rattle.stations.specs.Cues.{cue_name, cue_names_if, cue_names_in, cues_if, cues_in}
-use Rattle.stations.specs.Creations.{AreNamesOfFiles, HaveClosed, HaveListed, MadeFront, after_making, names_in, trace_name, trace_name_in}
+use Rattle.stations.specs.Creations.{AreNamesOfFiles, CreatedFront, HaveClosed, HaveListed, after_making, names_in, trace_names, trace_names_in}
 use Rattle.stations.specs.Outputs.{OutputFile}
 use Rattle.stations.specs.Stations.{Station, Way, InRounds, InWindows, Again, setting_of_run}
 use Rattle.stations.specs.Streams.{outputs_in}
@@ -39,12 +39,8 @@ pub none_closed : (before after : Option (List Closing)) → after ≡ before �
 none_closed before after same told at = record { closings = []; names_are = refl; told = same ∙ at ∙ ap Some (sym (append-nil told)) }
 
 -- one more was
-pub one_closed : (name : List ℕ) (pieces : ℕ) (before after : Option (List Closing)) → after ≡ noted (record { name = name; pieces = pieces }) before → HaveClosed (name ∷ []) before after
-one_closed name pieces before after is told at = record {
-  closings = (record { name = name; pieces = pieces }) ∷ [];
-  names_are = refl;
-  told = is ∙ ap (noted (record { name = name; pieces = pieces })) at;
-}
+pub one_closed : (closing : Closing) (before after : Option (List Closing)) → after ≡ noted closing before → HaveClosed (closing.name ∷ []) before after
+one_closed closing before after is told at = record { closings = closing ∷ []; names_are = refl; told = is ∙ ap (noted closing) at }
 
 -- these were, and then those
 pub then_closed : (xs ys : List (List ℕ)) (before between after : Option (List Closing)) → HaveClosed xs before between → HaveClosed ys between after → HaveClosed (xs ++ ys) before after
@@ -57,35 +53,36 @@ then_closed xs ys before between after first others told at =
       told = more.told ∙ ap Some (append_assoc told one.closings more.closings);
     }
 
--- all of some outputs, and then others
-pub listed_all : (closings : List Closing) (before after : Option (List Closing)) → ForSome before (λ told. after ≡ Some (told ++ closings)) → HaveListed closings before after
-listed_all closings before after listed told at = record { more = []; told = listed told at ∙ ap Some (sym (append-nil (told ++ closings))) }
+-- these closings were listed, and then those
+pub none_listed : (before after : Option (List Closing)) → after ≡ before → HaveListed [] before after
+none_listed before after same told at = same ∙ at ∙ ap Some (sym (append-nil told))
 
-pub listed_then : (closings : List Closing) (names : List (List ℕ)) (before between after : Option (List Closing)) → HaveListed closings before between → HaveClosed names between after → HaveListed closings before after
-listed_then closings names before between after first others told at =
-    let one = first told at in
-    let more = others ((told ++ closings) ++ one.more) one.told in
-    record { more = one.more ++ more.closings; told = more.told ∙ ap Some (append_assoc (told ++ closings) one.more more.closings) }
+pub one_listed : (closing : Closing) (before after : Option (List Closing)) → after ≡ noted closing before → HaveListed (closing ∷ []) before after
+one_listed closing before after is told at = is ∙ ap (noted closing) at
+
+pub then_listed : (xs ys : List Closing) (before between after : Option (List Closing)) → HaveListed xs before between → HaveListed ys between after → HaveListed (xs ++ ys) before after
+then_listed xs ys before between after first others told at = others (told ++ xs) (first told at) ∙ ap Some (append_assoc told xs ys)
+
+-- what was listed was closed, by the names of it
+pub closed_listed : (closings : List Closing) (before after : Option (List Closing)) → HaveListed closings before after → HaveClosed (map (λ closing. closing.name) closings) before after
+closed_listed closings before after listed told at = record { closings = closings; names_are = refl; told = listed told at }
 
 -- all of them are a front of them, and so are none
-pub all_made : (names : List (List ℕ)) (before after : Option (List (List ℕ))) (closed_before closed_after : Option (List Closing)) → after ≡ after_making names before → HaveClosed names closed_before closed_after
-    → MadeFront names before after closed_before closed_after
-all_made names before after closed_before closed_after is closed = record { made = names; others = []; names_are = sym (append-nil names); told = is; closed = closed }
+pub all_made : (names : List (List ℕ)) (old new : ShelfTold) → new.created ≡ after_making names old.created → HaveClosed names old.closed new.closed → CreatedFront names old new
+all_made names old new is closed = record { made = names; others = []; names_are = sym (append-nil names); told = is; closed = closed }
 
-pub none_made : (names : List (List ℕ)) (before after : Option (List (List ℕ))) (closed_before closed_after : Option (List Closing)) → after ≡ before → closed_after ≡ closed_before
-    → MadeFront names before after closed_before closed_after
-none_made names before after closed_before closed_after is same = record {
+pub none_made : (names : List (List ℕ)) (old new : ShelfTold) → new.created ≡ old.created → new.closed ≡ old.closed → CreatedFront names old new
+none_made names old new is same = record {
   made = [];
   others = names;
   names_are = refl;
-  told = is ∙ none_more before;
-  closed = none_closed closed_before closed_after same;
+  told = is ∙ none_more old.created;
+  closed = none_closed old.closed new.closed same;
 }
 
 -- a front is one of more names
-pub front_made : (names more : List (List ℕ)) (before after : Option (List (List ℕ))) (closed_before closed_after : Option (List Closing)) → MadeFront names before after closed_before closed_after
-    → MadeFront (names ++ more) before after closed_before closed_after
-front_made names more before after closed_before closed_after front = record {
+pub front_made : (names more : List (List ℕ)) (old new : ShelfTold) → CreatedFront names old new → CreatedFront (names ++ more) old new
+front_made names more old new front = record {
   made = front.made;
   others = front.others ++ more;
   names_are = ap (λ ns. ns ++ more) front.names_are ∙ append_assoc front.made front.others more;
@@ -94,15 +91,14 @@ front_made names more before after closed_before closed_after front = record {
 }
 
 -- all of some names, and then a front of others
-pub then_front : (names more : List (List ℕ)) (before between after : Option (List (List ℕ))) (closed_before closed_between closed_after : Option (List Closing))
-    → between ≡ after_making names before → HaveClosed names closed_before closed_between → MadeFront more between after closed_between closed_after
-    → MadeFront (names ++ more) before after closed_before closed_after
-then_front names more before between after closed_before closed_between closed_after first closed front = record {
+pub then_front : (names more : List (List ℕ)) (old between new : ShelfTold) → between.created ≡ after_making names old.created → HaveClosed names old.closed between.closed → CreatedFront more between new
+    → CreatedFront (names ++ more) old new
+then_front names more old between new first closed front = record {
   made = names ++ front.made;
   others = front.others;
   names_are = ap (λ ns. names ++ ns) front.names_are ∙ sym (append_assoc names front.made front.others);
-  told = then_made names front.made before between after first front.told;
-  closed = then_closed names front.made closed_before closed_between closed_after closed front.closed;
+  told = then_made names front.made old.created between.created new.created first front.told;
+  closed = then_closed names front.made old.closed between.closed new.closed closed front.closed;
 }
 
 -- the names of two rows of sinks
@@ -117,11 +113,11 @@ outputs_named setting ticks [] = refl
 outputs_named setting ticks (Output name node fallible wide ∷ sinks) = ap (λ zs. name ∷ zs) (outputs_named setting ticks sinks)
 outputs_named setting ticks (Feed buffer node ∷ sinks) = outputs_named setting ticks sinks
 
-trace_named : (name : Option (List ℕ)) (trace : TraceValue) → map (λ (file : OutputFile). file.name) (traced name trace) ≡ trace_name name
+trace_named : (name : Option (List ℕ)) (trace : TraceValue) → map (λ (file : OutputFile). file.name) (traced name trace) ≡ trace_names name
 trace_named None trace = refl
 trace_named (Some name) trace = refl
 
-traces_named : (way : Way) (station : Station) (run : Run) → map (λ (file : OutputFile). file.name) (traces_in way station run) ≡ trace_name_in way station.trace
+traces_named : (way : Way) (station : Station) (run : Run) → map (λ (file : OutputFile). file.name) (traces_in way station run) ≡ trace_names_in way station.trace
 traces_named InRounds station run = refl
 traces_named (InWindows window) station run = trace_named station.trace _
 traces_named (Again trace) station run = refl

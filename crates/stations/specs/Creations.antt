@@ -1,16 +1,17 @@
 -- The names under which a rendering creates its files, in order, and what a shelf tells of them.
-use Rattle.std.specs.Prelude.{◌≡◌, ℕ, suc, ◌+◌, ◌%◌, List, [], ◌∷◌, ◌++◌, Option, Some, None, map}
+use Rattle.std.specs.Prelude.{◌≡◌, ℕ, suc, ◌+◌, ◌%◌, List, [], ◌∷◌, ◌++◌, length, Option, Some, None, map}
 use Rattle.std.specs.Option.{ForSome}
-use Rattle.liq_base.specs.Files.{Closing}
+use Rattle.liq_base.specs.Shelves.{Closing, ShelfTold}
 use Rattle.plan_core.specs.declared.sink.SinkPlan.{SinkPlan}
 use Rattle.plan_core.specs.declared.sink.SinkPlan.TheVariants.{Output, Feed}
 use Rattle.run_records.specs.Records.{Run}
 pub use Rattle.stations.specs.Outputs.{after_making}
 use Rattle.stream_meaning.specs.Instants.{Setting}
-use Rattle.stations.specs.Stations.{Station, Way, InRounds, InWindows, Again, bare}
-use Rattle.stations.specs.Streams.{body_size}
+use Rattle.stations.specs.Outputs.{OutputFile}
+use Rattle.stations.specs.Stations.{Station, Way, InRounds, InWindows, Again, setting_of_run}
+use Rattle.stations.specs.Streams.{body_size, file_bytes}
 use Rattle.stations.specs.Cues.{cue_names_if}
-use Rattle.stations.specs.Traces.{files_of}
+use Rattle.stations.specs.Traces.{files_of, later_files}
 
 -- the names of the outputs among these sinks, in their order
 abbrev pub names_in : List SinkPlan → List (List ℕ)
@@ -19,19 +20,19 @@ names_in (Output name node fallible wide ∷ sinks) = name ∷ names_in sinks
 names_in (Feed buffer node ∷ sinks) = names_in sinks
 
 -- the name of a trace, where one is wanted
-abbrev pub trace_name : Option (List ℕ) → List (List ℕ)
-trace_name None = []
-trace_name (Some name) = name ∷ []
+abbrev pub trace_names : Option (List ℕ) → List (List ℕ)
+trace_names None = []
+trace_names (Some name) = name ∷ []
 
 -- the name of the trace, where a run by threads is to leave one
-abbrev pub trace_name_in : Way → (name : Option (List ℕ)) → List (List ℕ)
-trace_name_in InRounds name = []
-trace_name_in (InWindows window) name = trace_name name
-trace_name_in (Again trace) name = []
+abbrev pub trace_names_in : Way → (name : Option (List ℕ)) → List (List ℕ)
+trace_names_in InRounds name = []
+trace_names_in (InWindows window) name = trace_names name
+trace_names_in (Again trace) name = []
 
 -- the names of all files of a rendering: of the outputs in sink order, then of their cue files, and then of the trace
 abbrev pub names_of : Station → List (List ℕ)
-names_of station = names_in station.plan.sinks ++ (cue_names_if station.cues station.plan.sinks ++ trace_name_in station.way station.trace)
+names_of station = names_in station.plan.sinks ++ (cue_names_if station.cues station.plan.sinks ++ trace_names_in station.way station.trace)
 
 -- they are the names of the files that each run writes, in their order
 abbrev pub AreNamesOfFiles : Station → Run → Type 0
@@ -49,29 +50,41 @@ HaveClosed names before after = ForSome before (λ closings. AreClosed names clo
 
 -- The first of these names were made, one after another, and no other, and each of them was closed, in the same order, and no other: maybe
 -- none, and maybe all.
-pub record MadeFront (names : List (List ℕ)) (before after : Option (List (List ℕ))) (closed_before closed_after : Option (List Closing)) : Type 0 where
+pub record CreatedFront (names : List (List ℕ)) (old new : ShelfTold) : Type 0 where
   pub made : List (List ℕ)
   pub others : List (List ℕ)
   pub names_are : names ≡ made ++ others
-  pub told : after ≡ after_making made before
-  pub closed : HaveClosed made closed_before closed_after
+  pub told : new.created ≡ after_making made old.created
+  pub closed : HaveClosed made old.closed new.closed
 
--- what a shelf lists of the outputs among these sinks, of which all ticks were made, once they are closed: the name of each, and its pieces,
--- which are its header, one for each tick, and its last zero byte, if it has one
+-- what a shelf lists of the outputs among these sinks, of which all ticks were made, once they are closed: the name of each; that it was
+-- created for just the bytes of its file, and holds as many; and its pieces, which are its header, one for each tick, and its last zero
+-- byte, if it has one
 abbrev pub closings_in : Setting → (ticks : ℕ) → List SinkPlan → List Closing
 closings_in setting ticks [] = []
 closings_in setting ticks (Output name node fallible wide ∷ sinks) =
-    record { name = name; pieces = suc ticks + body_size setting wide ticks node % 2 } ∷ closings_in setting ticks sinks
+    record {
+      name = name;
+      room = length (file_bytes setting wide ticks node);
+      bytes = length (file_bytes setting wide ticks node);
+      pieces = suc ticks + body_size setting wide ticks node % 2;
+    } ∷ closings_in setting ticks sinks
 closings_in setting ticks (Feed buffer node ∷ sinks) = closings_in setting ticks sinks
 
--- those of all outputs of a station
-abbrev pub output_closings : Station → List Closing
-output_closings station = closings_in (bare station) station.ticks station.plan.sinks
+-- the pieces of a file that is written at once: one, or none if it is empty
+abbrev pub pieces_of : (bytes : List ℕ) → ℕ
+pieces_of [] = 0
+pieces_of (byte ∷ bytes) = 1
 
--- where the shelf tells of its closings, these came first, and then others, or none
-pub record AreListed (closings before : List Closing) (after : Option (List Closing)) : Type 0 where
-  pub more : List Closing
-  pub told : after ≡ Some ((before ++ closings) ++ more)
+-- what a shelf lists of a file that was written at once, for whose bytes alone it was created
+abbrev pub closing_at_once : OutputFile → Closing
+closing_at_once file = record { name = file.name; room = length file.bytes; bytes = length file.bytes; pieces = pieces_of file.bytes }
 
+-- what a shelf lists of all files of a run, once they are closed: of its outputs, then of its cue files, and then of its trace
+abbrev pub closings_of : Station → Run → List Closing
+closings_of station run =
+    closings_in (setting_of_run station run) station.ticks station.plan.sinks ++ map closing_at_once (later_files station run)
+
+-- where a shelf tells of its closings, these came, one after another, and no other
 abbrev pub HaveListed : List Closing → (before after : Option (List Closing)) → Type 0
-HaveListed closings before after = ForSome before (λ told. AreListed closings told after)
+HaveListed closings before after = ForSome before (λ told. after ≡ Some (told ++ closings))

@@ -63,7 +63,7 @@ pub record IsClocked (files : Files) (plan : Plan) (library : Sounds) (clocks : 
   pub map : IsClockMap plan clocks
 
 -- the plan is rendered for so many ticks: no output is too long
-pub record IsAccepted (files : Files) (plan : Plan) (ticks : ℕ) (library : Sounds) (clocks : ClockMap) : Type 0 where
+pub record IsRenderable (files : Files) (plan : Plan) (ticks : ℕ) (library : Sounds) (clocks : ClockMap) : Type 0 where
   pub clocked : IsClocked files plan library clocks
   pub sounds : IsLibrary library
   pub none : first_name (is_too_long plan ticks) plan.sinks ≡ None
@@ -115,7 +115,7 @@ pub data Finding : Type 0 where
   Fails : StationFault → Finding
 
 abbrev pub IsFinding : Files → Plan → (ticks : ℕ) → Finding → Type 0
-IsFinding files plan ticks (Fits library clocks) = IsAccepted files plan ticks library clocks
+IsFinding files plan ticks (Fits library clocks) = IsRenderable files plan ticks library clocks
 IsFinding files plan ticks (Fails fault) = IsStationFault files plan ticks fault
 
 -- this is found, and nothing else

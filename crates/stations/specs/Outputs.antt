@@ -1,5 +1,5 @@
 -- What a rendering writes, and what a shelf holds after it.
-use Rattle.std.specs.Prelude.{◌≡◌, ◌⊎◌, ◌≤◌, ℕ, List, [], ◌∷◌, ◌++◌, Option, Some, None, map}
+use Rattle.std.specs.Prelude.{◌≡◌, ◌⊎◌, ◌≤◌, Bool, true, ℕ, List, [], ◌∷◌, ◌++◌, Option, Some, None, map}
 use Rattle.liq_base.specs.Counts.{Rose}
 use Rattle.liq_base.specs.Files.{Files, HoldsPart, with_file}
 use Rattle.liq_base.specs.Pieces.{IsPrefix}
@@ -37,13 +37,39 @@ after_making more None = None
 after_making more (Some before) = Some (before ++ more)
 
 -- So it is for the first of the outputs, which were created, as the shelf tells of the sinks that it made; the others were not. Files do
--- not tell which were created.
-pub record HoldsSome (count : ℕ) (files : Files) (outputs : List OutputPart) (after : Files) (last : ℕ) (made_before made_after : Option (List (List ℕ))) : Type 0 where
+-- not tell which were created. `first` is where the count stood when their closings began. Where a device failed and not all were created,
+-- the count rose before that, as a creation failed, which then excuses no file; or it rose at a closing, as a header broke off.
+pub record HoldsSome (device : Bool) (count : ℕ) (files : Files) (outputs : List OutputPart) (after : Files) (last : ℕ)
+    (made_before made_after : Option (List (List ℕ))) : Type 0 where
   pub created : List OutputPart
   pub others : List OutputPart
   pub outputs_are : outputs ≡ created ++ others
   pub told : made_after ≡ after_making (map (λ output. output.name) created) made_before
-  pub parts : HoldsParts count files created after last
+  pub first : ℕ
+  pub grew : count ≤ first
+  pub risen : device ≡ true → (others ≡ []) ⊎ Rose count first ⊎ Rose first last
+  pub parts : HoldsParts first files created after last
+
+-- all bytes of an output that has its last ones, and what it holds without them
+abbrev pub whole_of : OutputPart → OutputFile
+whole_of output = record { name = output.name; bytes = output.most }
+
+abbrev pub unended : OutputPart → OutputPart
+unended output = record { name = output.name; least = output.least; most = output.least }
+
+-- Outputs that lack nothing but their last bytes were ended and closed, one after another, and a fault came, while a count of failed writes
+-- rose from `count` to `last`: those before the fault hold all their bytes; the one at which it came holds a prefix of them, or what it held;
+-- those behind it hold theirs without the last ones, or, where the count rose at their closing, a prefix of these or what they held.
+pub record HoldsEnds (count : ℕ) (files : Files) (outputs : List OutputPart) (after : Files) (last : ℕ) : Type 0 where
+  pub whole : List OutputPart
+  pub broken : OutputPart
+  pub others : List OutputPart
+  pub outputs_are : outputs ≡ whole ++ broken ∷ others
+  pub midway : Files
+  pub next : ℕ
+  pub rose : Rose count next
+  pub part : HoldsPart (with_outputs files (map whole_of whole)) broken.name broken.most midway
+  pub behind : HoldsParts next midway (map unended others) after last
 
 -- the name of the first of these files, if there is one, holds a prefix of its bytes, or what it held; nothing else changed
 abbrev pub HoldsNext : Files → List OutputFile → Files → Type 0

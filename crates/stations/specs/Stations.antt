@@ -1,13 +1,13 @@
 -- What an accepted script renders.
-use Rattle.std.specs.Prelude.{◌≡◌, ◌≤◌, ℕ, ◌+◌, ◌++◌, suc, List, [], Option, Bool}
+use Rattle.std.specs.Prelude.{◌≡◌, ℕ, ◌+◌, ◌++◌, List, [], Option, Bool}
 use Rattle.frame_core.specs.Library.{Sounds}
 use Rattle.plan_core.specs.declared.plan.Plan.{Plan}
 use Rattle.clock_infer.specs.declared.clock_map.ClockMap.{ClockMap}
 use Rattle.stream_meaning.specs.Instants.{Setting, answered}
 use Rattle.frame_core.specs.Calls.{Answer}
-use Rattle.run_records.specs.Records.{AreRoundsBegun, AreWindowsBegun, IsLawful as AreWindows, IsRounds, Run, answers_of, setting_in, ticks_by}
+use Rattle.run_records.specs.Records.{AreRoundsBegun, AreWindowsBegun, AreWindows, IsRounds, IsWithin, Run, answers_of, setting_in, ticks_by}
 use Rattle.trace_log.specs.Values.{TraceValue}
-use Rattle.trace_replay.specs.Replays.{IsRecordOf, ticks_to}
+use Rattle.trace_replay.specs.Replays.{IsRecordOf}
 use Rattle.stations.specs.declared.ready.Ready.{Ready}
 
 -- how a station is rendered: on one thread, in rounds; by threads, in windows of so many ticks; or again, on one thread, as a trace tells
@@ -61,28 +61,36 @@ pub record IsReplay (setting : Setting) (clocks ticks : ℕ) (trace : TraceValue
   pub ticks_are : trace.ticks ≡ ticks
   pub of : IsRecordOf setting clocks trace run
 
--- A replay of that record came so far, one clock after another: the clocks below one made all ticks, those above it none, and it made
--- so many and tried at most one more.
-pub record IsReplayBegun (setting : Setting) (clocks ticks : ℕ) (trace : TraceValue) (run : Run) : Type 0 where
-  pub whole : IsReplay setting clocks ticks trace run
-  pub clock : ℕ
-  pub made : ℕ
-  pub tried : ℕ
-  pub no_fewer : made ≤ tried
-  pub one_more : tried ≤ suc made
-  pub most : tried ≤ ticks
-
 -- so many clocks made all their ticks: in rounds on one thread, by threads in windows of so many ticks, or as a trace tells
 abbrev pub IsLawfulIn : Setting → (clocks ticks : ℕ) → Way → Run → Type 0
 IsLawfulIn setting clocks ticks InRounds run = IsRounds setting clocks ticks run
 IsLawfulIn setting clocks ticks (InWindows window) run = AreWindows setting clocks window ticks run
 IsLawfulIn setting clocks ticks (Again trace) run = IsReplay setting clocks ticks trace run
 
--- or as many as they came to
-abbrev pub IsBegunIn : Setting → (clocks ticks : ℕ) → Way → Run → Type 0
-IsBegunIn setting clocks ticks InRounds run = AreRoundsBegun setting clocks ticks run
-IsBegunIn setting clocks ticks (InWindows window) run = AreWindowsBegun setting clocks window ticks run
-IsBegunIn setting clocks ticks (Again trace) run = IsReplayBegun setting clocks ticks trace run
+-- rounds came to the turn of one clock: each clock made and tried so many ticks
+pub record AreRoundsAt (setting : Setting) (clocks ticks : ℕ) (run : Run) (made tried : ℕ → ℕ) : Type 0 where
+  pub rounds : AreRoundsBegun setting clocks ticks run
+  pub made_are : (m : ℕ) → made m ≡ ticks_by ticks rounds.round rounds.clock m
+  pub tried_are : (m : ℕ) → tried m ≡ ticks_by ticks rounds.round (rounds.clock + 1) m
+
+-- windows came so far
+pub record AreWindowsAt (setting : Setting) (clocks ticks window : ℕ) (run : Run) (made tried : ℕ → ℕ) : Type 0 where
+  pub windows : AreWindowsBegun setting clocks window ticks run
+  pub made_are : (m : ℕ) → made m ≡ windows.made m
+  pub tried_are : (m : ℕ) → tried m ≡ windows.tried m
+
+-- the record of a run in which each clock made and tried so many ticks; that of a replay is whole, in whatever order its clocks make theirs
+abbrev pub CameTo : Setting → (clocks ticks : ℕ) → Way → Run → (made tried : ℕ → ℕ) → Type 0
+CameTo setting clocks ticks InRounds run made tried = AreRoundsAt setting clocks ticks run made tried
+CameTo setting clocks ticks (InWindows window) run made tried = AreWindowsAt setting clocks ticks window run made tried
+CameTo setting clocks ticks (Again trace) run made tried = IsReplay setting clocks ticks trace run
+
+-- Or they came so far: each made so many of their ticks, and tried no more, or the one in which it stopped.
+pub record IsBegunIn (setting : Setting) (clocks ticks : ℕ) (way : Way) (run : Run) : Type 0 where
+  pub made : ℕ → ℕ
+  pub tried : ℕ → ℕ
+  pub within : (m : ℕ) → IsWithin 0 ticks (made m) (tried m)
+  pub came : CameTo setting clocks ticks way run made tried
 
 -- the run is one of this station: to its end, or as far as it came
 abbrev pub IsLawful : Station → Run → Type 0
@@ -90,24 +98,6 @@ IsLawful station run = IsLawfulIn (bare station) station.clocks.running station.
 
 abbrev pub IsBegun : Station → Run → Type 0
 IsBegun station run = IsBegunIn (bare station) station.clocks.running station.ticks station.way run
-
--- how many ticks each clock has made in a run that came so far
-abbrev pub made_in : (setting : Setting) (clocks ticks : ℕ) (way : Way) (run : Run) → IsBegunIn setting clocks ticks way run → ℕ → ℕ
-made_in setting clocks ticks InRounds run begun m = ticks_by ticks begun.round begun.clock m
-made_in setting clocks ticks (InWindows window) run begun m = begun.made m
-made_in setting clocks ticks (Again trace) run begun m = ticks_to ticks begun.clock begun.made m
-
--- and how many it has tried: no more, or the one in which it stopped
-abbrev pub tried_in : (setting : Setting) (clocks ticks : ℕ) (way : Way) (run : Run) → IsBegunIn setting clocks ticks way run → ℕ → ℕ
-tried_in setting clocks ticks InRounds run begun m = ticks_by ticks begun.round (begun.clock + 1) m
-tried_in setting clocks ticks (InWindows window) run begun m = begun.tried m
-tried_in setting clocks ticks (Again trace) run begun m = ticks_to ticks begun.clock begun.tried m
-
-abbrev pub made_of : (station : Station) (run : Run) → IsBegun station run → ℕ → ℕ
-made_of station run begun = made_in (bare station) station.clocks.running station.ticks station.way run begun
-
-abbrev pub tried_of : (station : Station) (run : Run) → IsBegun station run → ℕ → ℕ
-tried_of station run begun = tried_in (bare station) station.clocks.running station.ticks station.way run begun
 
 -- the station of a plan with these files and clocks
 abbrev pub station_of : Plan → Ready → (start ticks : ℕ) → Way → (trace : Option (List ℕ)) → (cues : Bool) → Station

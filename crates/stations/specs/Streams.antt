@@ -11,7 +11,7 @@ use Rattle.stations.specs.Outputs.{OutputFile, OutputPart}
 use Rattle.frame_core.specs.Calls.{Answer}
 use Rattle.run_records.specs.Buffers.{main_of}
 use Rattle.run_records.specs.Records.{Run}
-use Rattle.stations.specs.Stations.{IsBegun, Station, made_of, setting_of_run, setting_with, tried_of}
+use Rattle.stations.specs.Stations.{IsBegun, Station, setting_of_run, setting_with}
 
 -- the header before so many samples of 16 or 24 bits
 abbrev pub header_bytes_at : (wide : Bool) → Kind → (rate samples : ℕ) → List ℕ
@@ -84,7 +84,7 @@ output_files station run = outputs_in (setting_of_run station run) station.ticks
 
 -- what a run which was broken off has written of its outputs, if these answers had followed
 abbrev pub parts_with : (station : Station) (run : Run) → IsBegun station run → (rest : ℕ → List Answer) → List OutputPart
-parts_with station run begun rest = parts_in (setting_with station run rest) station.ticks (made_of station run begun) (tried_of station run begun) station.plan.sinks
+parts_with station run begun rest = parts_in (setting_with station run rest) station.ticks begun.made begun.tried station.plan.sinks
 
 -- what the outputs hold of a run that ended well, before they are closed
 abbrev pub ends_of : Station → Run → List OutputPart

@@ -1,17 +1,13 @@
 -- What a run leaves as a trace.
-use Rattle.std.specs.Prelude.{ℕ, List, [], ◌∷◌, ◌++◌, Option, Some, None, map}
+use Rattle.std.specs.Prelude.{ℕ, List, [], ◌∷◌, ◌++◌, Option, Some, None}
 use Rattle.run_records.specs.Records.{Run}
-use Rattle.buffer_sides.specs.Logs.{told}
 use Rattle.trace_log.specs.Texts.{trace_text}
 use Rattle.trace_log.specs.Values.{TraceValue}
+use Rattle.trace_replay.specs.Traces.{trace_of}
 use Rattle.stations.specs.Cues.{cue_files}
 use Rattle.stations.specs.Outputs.{OutputFile}
 use Rattle.stations.specs.Stations.{Station, Way, InRounds, InWindows, Again}
 use Rattle.stations.specs.Streams.{output_files}
-
--- the trace of a run, in windows of so many ticks: for each buffer and window, which puts were accepted and which takes got a chunk
-abbrev pub trace_of : Station → (window : ℕ) → Run → TraceValue
-trace_of station window run = record { ticks = station.ticks; window = window; buffers = map (map told) run.buffers }
 
 -- the file of a trace, where it has a name
 abbrev pub traced : (name : Option (List ℕ)) → TraceValue → List OutputFile
@@ -21,7 +17,7 @@ traced (Some name) trace = record { name = name; bytes = trace_text trace } ∷ 
 -- the file of the trace, where a run by threads is to leave one
 abbrev pub traces_in : Way → Station → Run → List OutputFile
 traces_in InRounds station run = []
-traces_in (InWindows window) station run = traced station.trace (trace_of station window run)
+traces_in (InWindows window) station run = traced station.trace (trace_of window station.ticks run)
 traces_in (Again trace) station run = []
 
 abbrev pub traces_of : Station → Run → List OutputFile

@@ -6,7 +6,7 @@ ghost use Rattle.liq_base.specs.Files.{Files};
 ghost use Rattle.plan_core.specs.Plans.{IsWellFormed};
 ghost use Rattle.plan_core.specs.declared.plan.Plan.{Plan as ThePlan};
 ghost use Rattle.stations.specs.Creations.{AreNamesOfFiles};
-ghost use Rattle.stations.specs.Findings.{IsAccepted};
+ghost use Rattle.stations.specs.Findings.{IsRenderable};
 ghost use Rattle.run_records.specs.Records.{Run};
 ghost use Rattle.run_records.specs.Rounds.{HasNoJoin};
 ghost use Rattle.stations.specs.Renderings.{BeginsAsOneThread, HasOneRecord, IsDetermined, RendersAsOneThread};
@@ -18,7 +18,7 @@ ghost use Rattle.wav_io.specs.Header.{block_of, padded};
 /// Whatever buffers answer, an output of an infallible node has no gap.
 pub fn infallible_outputs_have_no_gaps()
     ensures { (files : Files) (station : Station) (run : Run) → IsWellFormed station.plan
-        → IsAccepted files station.plan station.ticks station.library station.clocks → station.start < 604800
+        → IsRenderable files station.plan station.ticks station.library station.clocks → station.start < 604800
         → HasNoGaps station run }
 {
     stream_meaning::laws::infallible_nodes_offer();
@@ -27,7 +27,7 @@ pub fn infallible_outputs_have_no_gaps()
 /// Where no buffer joins two clocks, a lawful run renders what one thread renders, whatever the length of its windows: also a replay.
 pub fn threads_render_as_one_thread()
     ensures { (files : Files) (station : Station) (run : Run) → IsWellFormed station.plan
-        → IsAccepted files station.plan station.ticks station.library station.clocks → station.start < 604800
+        → IsRenderable files station.plan station.ticks station.library station.clocks → station.start < 604800
         → IsLawful station run → HasNoJoin (bare station) station.clocks.running → RendersAsOneThread station run }
 {
     run_records::laws::lawful_records_are_rounds();
@@ -37,7 +37,7 @@ pub fn threads_render_as_one_thread()
 /// A rendering on one thread has one record, so it always writes and tells the same: rounds, and the replay of a trace.
 pub fn one_thread_has_one_record()
     ensures { (files : Files) (station : Station) (run : Run) → IsWellFormed station.plan
-        → IsAccepted files station.plan station.ticks station.library station.clocks → station.start < 604800
+        → IsRenderable files station.plan station.ticks station.library station.clocks → station.start < 604800
         → IsLawful station run → HasOneRecord station run }
 {
     run_records::laws::rounds_are_one();
@@ -48,13 +48,14 @@ pub fn one_thread_has_one_record()
 /// two clocks.
 pub fn broken_renderings_begin_those_of_one_thread()
     ensures { (files : Files) (station : Station) (run : Run) → IsWellFormed station.plan
-        → IsAccepted files station.plan station.ticks station.library station.clocks → station.start < 604800
+        → IsRenderable files station.plan station.ticks station.library station.clocks → station.start < 604800
         → IsBegun station run → IsDetermined station → BeginsAsOneThread station run }
 {
     run_records::laws::broken_windows_begin_rounds();
     run_records::laws::broken_rounds_begin_rounds();
     run_records::laws::lawful_records_are_rounds();
     run_records::laws::rounds_are_one();
+    run_records::laws::rounds_have_a_record();
 }
 
 /// The bytes of an output are its header, then those of all ticks, as many as its samples take, and then one zero byte, where these are odd.

@@ -2,10 +2,10 @@
 use Rattle.std.proofs.Common.{◌≡◌, ℕ, true, false, not, refl, ap, inl, inr}
 use Rattle.std.proofs.lemmas.Bool.{and_parts, and_from, or_cases}
 use Rattle.std.proofs.Math.Bool.{or-true, and-false}
-use Rattle.time_pred.specs.Predicates.{Tree, One, Many, Always, Never, At, Between, Not, All, Any, none, more, holds, all_hold, some_holds, is_always, is_never, all_always, some_always, all_never, some_never}
+use Rattle.time_pred.specs.Predicates.{PredicateTree, One, Many, Always, Never, At, Between, Not, All, Any, none, more, holds, all_hold, some_holds, is_always, is_never, all_always, some_always, all_never, some_never}
 
 mutual
-  pub always_holds : (p : Tree One) (at : ℕ) → is_always p ≡ true → holds p at ≡ true
+  pub always_holds : (p : PredicateTree One) (at : ℕ) → is_always p ≡ true → holds p at ≡ true
   always_holds Always at is = refl
   always_holds Never at is = cc
   always_holds (At mark) at is = cc
@@ -14,7 +14,7 @@ mutual
   always_holds (All ps) at is = all_always_hold ps at is
   always_holds (Any ps) at is = some_always_holds ps at is
 
-  pub never_holds : (p : Tree One) (at : ℕ) → is_never p ≡ true → holds p at ≡ false
+  pub never_holds : (p : PredicateTree One) (at : ℕ) → is_never p ≡ true → holds p at ≡ false
   never_holds Always at is = cc
   never_holds Never at is = refl
   never_holds (At mark) at is = cc
@@ -23,13 +23,13 @@ mutual
   never_holds (All ps) at is = some_never_hold ps at is
   never_holds (Any ps) at is = all_never_hold ps at is
 
-  all_always_hold : (ps : Tree Many) (at : ℕ) → all_always ps ≡ true → all_hold ps at ≡ true
+  all_always_hold : (ps : PredicateTree Many) (at : ℕ) → all_always ps ≡ true → all_hold ps at ≡ true
   all_always_hold none at is = refl
   all_always_hold (more p ps) at is =
       let both = and_parts (is_always p) (all_always ps) is in
       and_from (holds p at) (all_hold ps at) (always_holds p at both.0) (all_always_hold ps at both.1)
 
-  some_always_holds : (ps : Tree Many) (at : ℕ) → some_always ps ≡ true → some_holds ps at ≡ true
+  some_always_holds : (ps : PredicateTree Many) (at : ℕ) → some_always ps ≡ true → some_holds ps at ≡ true
   some_always_holds none at is = cc
   some_always_holds (more p ps) at is =
       elim (or_cases (is_always p) (some_always ps) is) [
@@ -37,13 +37,13 @@ mutual
         | inr rest ↦ rw (some_always_holds ps at rest) (or-true (holds p at))
       ]
 
-  all_never_hold : (ps : Tree Many) (at : ℕ) → all_never ps ≡ true → some_holds ps at ≡ false
+  all_never_hold : (ps : PredicateTree Many) (at : ℕ) → all_never ps ≡ true → some_holds ps at ≡ false
   all_never_hold none at is = refl
   all_never_hold (more p ps) at is =
       let both = and_parts (is_never p) (all_never ps) is in
       rw (never_holds p at both.0, all_never_hold ps at both.1) refl
 
-  some_never_hold : (ps : Tree Many) (at : ℕ) → some_never ps ≡ true → all_hold ps at ≡ false
+  some_never_hold : (ps : PredicateTree Many) (at : ℕ) → some_never ps ≡ true → all_hold ps at ≡ false
   some_never_hold none at is = cc
   some_never_hold (more p ps) at is =
       elim (or_cases (is_never p) (some_never ps) is) [

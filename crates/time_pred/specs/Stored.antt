@@ -3,7 +3,7 @@ use Rattle.std.specs.Prelude.{◌≡◌, ℕ, zero, suc, Option, Some, None, ref
 use base.Stored.{Coded, Gv, gnil, gnum, gcons, num}
 use Rattle.std.proofs.Common.{sym, ap, ◌∙◌}
 use Rattle.fixed_text.specs.declared.time_mark.TimeMark.{TimeMark}
-use Rattle.time_pred.specs.Predicates.{Tree, One, Many, Predicate, Always, Never, At, Between, Not, All, Any, none, more}
+use Rattle.time_pred.specs.Predicates.{PredicateTree, One, Many, Predicate, Always, Never, At, Between, Not, All, Any, none, more}
 
 abbrev part_code : Option ℕ → Gv
 part_code None = gnil
@@ -38,7 +38,7 @@ pub mark_same : (m : TimeMark) → mark_back (mark_code m) ≡ m
 mark_same m = λ i. record { day = part_same m.day i; hour = part_same m.hour i; minute = part_same m.minute i; second = part_same m.second i }
 
 abbrev mutual
-  code : Tree One → Gv
+  code : PredicateTree One → Gv
   code Always = gcons (gnum 0) gnil
   code Never = gcons (gnum 1) gnil
   code (At mark) = gcons (gnum 2) (mark_code mark)
@@ -47,11 +47,11 @@ abbrev mutual
   code (All ps) = gcons (gnum 5) (codes ps)
   code (Any ps) = gcons (gnum 6) (codes ps)
 
-  codes : Tree Many → Gv
+  codes : PredicateTree Many → Gv
   codes none = gnil
   codes (more p ps) = gcons (code p) (codes ps)
 
-abbrev by_tag : ℕ → Gv → Tree One → Tree Many → Tree One
+abbrev by_tag : ℕ → Gv → PredicateTree One → PredicateTree Many → PredicateTree One
 by_tag zero g p ps = Always
 by_tag (suc zero) g p ps = Never
 by_tag (suc (suc zero)) g p ps = At (mark_back g)
@@ -60,13 +60,13 @@ by_tag (suc (suc (suc (suc zero)))) g p ps = Not p
 by_tag (suc (suc (suc (suc (suc zero))))) g p ps = All ps
 by_tag (suc (suc (suc (suc (suc (suc n)))))) g p ps = Any ps
 
-abbrev back : Gv → Tree One × Tree Many
+abbrev back : Gv → PredicateTree One × PredicateTree Many
 back gnil = (Never, none)
 back (gnum n) = (Never, none)
 back (gcons a b) = (by_tag (num a) b (back b).0 (back b).1, more (back a).0 (back b).1)
 
 mutual
-  pub back_same : (p : Tree One) → (back (code p)).0 ≡ p
+  pub back_same : (p : PredicateTree One) → (back (code p)).0 ≡ p
   back_same Always = refl
   back_same Never = refl
   back_same (At mark) = ap At (mark_same mark)
@@ -75,7 +75,7 @@ mutual
   back_same (All ps) = ap All (backs_same ps)
   back_same (Any ps) = ap Any (backs_same ps)
 
-  pub backs_same : (ps : Tree Many) → (back (codes ps)).1 ≡ ps
+  pub backs_same : (ps : PredicateTree Many) → (back (codes ps)).1 ≡ ps
   backs_same none = refl
   backs_same (more p ps) = λ i. more (back_same p i) (backs_same ps i)
 

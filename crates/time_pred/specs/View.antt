@@ -1,9 +1,9 @@
 -- The plain tree that a predicate stands for.
 use Rattle.time_pred.specs.declared.pred.Pred as pred
-use Rattle.time_pred.specs.Predicates.{Tree, One, Many, Always, Never, At, Between, Not, All, Any, none, more}
+use Rattle.time_pred.specs.Predicates.{PredicateTree, One, Many, Always, Never, At, Between, Not, All, Any, none, more}
 
 abbrev mutual
-  pub view_pred : pred.Pred → Tree One
+  pub view_pred : pred.Pred → PredicateTree One
   view_pred pred.Always = Always
   view_pred pred.Never = Never
   view_pred (pred.At mark) = At mark
@@ -12,6 +12,6 @@ abbrev mutual
   view_pred (pred.All' shape parts) = All (view_parts parts)
   view_pred (pred.Any' shape parts) = Any (view_parts parts)
 
-  pub view_parts : {m : _} → pred.Row_of-Pred m → Tree Many
+  pub view_parts : {m : _} → pred.Row_of-Pred m → PredicateTree Many
   view_parts pred.end_of-Pred = none
   view_parts (pred.more_of-Pred p rest) = more (view_pred p) (view_parts rest)

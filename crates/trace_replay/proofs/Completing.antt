@@ -24,7 +24,7 @@ use Rattle.run_records.proofs.Ticking.{reads_op}
 use Rattle.run_records.specs.Buffers.{feeder, reader}
 use Rattle.run_records.specs.Ordered.{IsOrdered, made as counted, told}
 use Rattle.run_records.specs.Owning.{IsOwn}
-use Rattle.run_records.specs.Records.{Follows, IsLawful, Run, Window, answers_of, calls_in, capacity_of, on, puts_of, setting_in, start, windows_in, windows_of}
+use Rattle.run_records.specs.Records.{AreWindows, Follows, Run, Window, answers_of, calls_in, capacity_of, on, puts_of, setting_in, start, windows_in, windows_of}
 use Rattle.run_records.proofs.Alone.{feeder_runs}
 use Rattle.run_records.proofs.Flattening.{all_puts, all_takes, start_most}
 use Rattle.run_records.proofs.Owning.{own_tick}
@@ -149,7 +149,7 @@ module _ (base : Setting) (map_of : ClockMap) (is : IsSetting base map_of) (W N 
       no_window (suc j) b ends high known = absurd (let many = formed.many b known in start_some W N j formed.count (omega (arith, high, many)) formed.whole (formed.tight j (omega (arith, high, many))) ends)
 
   -- the text of a lawful record
-  module _ (run : Run) (lawful : IsLawful base C W N run) (is_told : IsTold base text run) where
+  module _ (run : Run) (lawful : AreWindows base C W N run) (is_told : IsTold base text run) where
     pub record_formed : IsFormed B W N text
     record_formed = record { count = lawful.count; whole = lawful.whole; tight = lawful.tight; many = text_long base map_of is W N text run lawful is_told }
 
@@ -437,7 +437,7 @@ module _ (base : Setting) (map_of : ClockMap) (is : IsSetting base map_of) (W N 
         let many = formed.many b known in
         ap (map told) (window_at b known) ∙ windows_told b formed.count known (omega arith) ∙ take_all formed.count (text b) (omega (arith, many))
 
-    lawful_now : IsLawful base C W N run
+    lawful_now : AreWindows base C W N run
     lawful_now = record {
       buffers = from_long 0 B;
       accepted = at.accepted;

@@ -12,7 +12,7 @@ use Rattle.stream_meaning.specs.Settings.{IsSetting}
 use Rattle.run_records.specs.Outputs.{first_calls}
 use Rattle.run_records.specs.Buffers.{feeder, reader}
 use Rattle.run_records.specs.Ordered.{IsOrdered, made as counted, told}
-use Rattle.run_records.specs.Records.{IsLawful, Run, Window, answers_of, calls_in, capacity_of, puts_of, setting_in, windows_of}
+use Rattle.run_records.specs.Records.{AreWindows, Run, Window, answers_of, calls_in, capacity_of, puts_of, setting_in, windows_of}
 use Rattle.run_records.proofs.Alone.{feeder_runs}
 use Rattle.trace_replay.specs.Clocks.{Log, got_in, put_by}
 use Rattle.trace_replay.specs.Passes.{AreOrdered}
@@ -74,7 +74,7 @@ module _ (base : Setting) (clocks : ℕ) (ticks : ℕ → ℕ → List Call) (ma
       by k false e = refl
   extend (suc t) within order are = goes_on t within (extend t (omega (arith, within)) order are)
 
-module _ (base : Setting) (map_of : ClockMap) (is : IsSetting base map_of) (W N : ℕ) (run : Run) (lawful : IsLawful base map_of.running W N run) (listing : List ℕ) (lead : LeadOnward base map_of.running listing) where
+module _ (base : Setting) (map_of : ClockMap) (is : IsSetting base map_of) (W N : ℕ) (run : Run) (lawful : AreWindows base map_of.running W N run) (listing : List ℕ) (lead : LeadOnward base map_of.running listing) where
   abbrev C : ℕ
   C = map_of.running
 

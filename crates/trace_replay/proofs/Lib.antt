@@ -16,6 +16,7 @@ pub mod Turned
 pub mod Playing
 pub mod Beginning
 pub mod Readying
+pub mod Unbuffered
 pub mod Finding
 pub mod Joining
 pub mod Accepting

@@ -3,7 +3,7 @@ use Rattle.std.proofs.Common.{◌≡◌, ◌<◌, ◌≤◌, ◌∙◌, ◌++◌
 use Rattle.std.specs.Prelude.{All}
 use mathlib.Core.Path.{fun_ext}
 use Rattle.std.proofs.lemmas.Bool.{cases_lt, cases_eq}
-use Rattle.liq_base.specs.Pieces.{IsPrefix, grown}
+use Rattle.liq_base.specs.Pieces.{IsPrefix, SinkTold, grown}
 use Rattle.clock_infer.specs.declared.clock_map.ClockMap.{ClockMap}
 use Rattle.clock_infer.specs.declared.clock_map.NodeClock.TheVariants.{Main}
 use Rattle.frame_core.specs.declared.cell.Cell.{Cell}
@@ -18,7 +18,7 @@ use Rattle.run_records.specs.Outputs.{first_calls}
 use Rattle.clock_instants.proofs.Reading.{op_of_reads}
 use Rattle.run_records.specs.Buffers.{feeder, reader}
 use Rattle.run_records.specs.Owning.{IsOwn}
-use Rattle.run_records.specs.Records.{IsLawful, Run, Window, answers_of, calls_in, setting_in}
+use Rattle.run_records.specs.Records.{AreWindows, Run, Window, answers_of, calls_in, setting_in}
 use Rattle.run_records.proofs.Flattening.{takes-append}
 use Rattle.clock_ticks.specs.declared.engine.ClockEngine.{ClockEngine}
 use Rattle.clock_ticks.specs.Engines.{held_of, setting_of}
@@ -49,7 +49,7 @@ past (x ∷ xs) (suc b) d high = past xs b d (omega (arith, high))
 pub told_of : (base : Setting) (text : ℕ → Log) (m : ℕ) (chunks : ℕ → List (List Cell)) (states : List BufferState) → AreOf base text m chunks states → AreTold base text states
 told_of base text m chunks states of = record { many = of.many; puts = of.puts; takes = of.takes; capacity = of.capacity }
 
-module _ (base : Setting) (clocks : ClockMap) (is : IsSetting base clocks) (text : ℕ → Log) (W N : ℕ) (states : List BufferState) (told : AreTold base text states) (found : HaveFound base clocks W N text states)
+module _ (base : Setting) (clocks : ClockMap) (is : IsSetting base clocks) (text : ℕ → Log) (W N : ℕ) (states : List BufferState) (tells : AreTold base text states) (found : HaveFound base clocks W N text states)
     (m : ℕ) (low : m < clocks.running) where
   abbrev B : ℕ
   B = length base.plan.buffers
@@ -76,9 +76,9 @@ module _ (base : Setting) (clocks : ClockMap) (is : IsSetting base clocks) (text
   score_here = record { base = base; clocks = clocks; text = text; chunks = chunks_of states }
 
   -- before the first tick
-  pub may_replay : {S : Type 0} (room : S → Option ℕ) (engine : ClockEngine S) (feeders readers f r : List ℕ) (clock : ℕ) (new : List BufferState) → engine.parts.clock ≡ m → setting_of engine.parts ≡ base → MayRun room N engine
-      → f ≡ feeders → r ≡ readers → clock ≡ m → AreSides base feeders readers → length new ≡ length states → HaveBegun f r clock states new → MayReplay room score_here N engine.parts.clock engine new
-  may_replay room engine feeders readers f r clock new clock_is over may feeders_are readers_are number sides many begun =
+  pub may_replay : {S : Type 0} (told : S → SinkTold) (engine : ClockEngine S) (feeders readers f r : List ℕ) (clock : ℕ) (new : List BufferState) → engine.parts.clock ≡ m → setting_of engine.parts ≡ base → MayRun told N engine
+      → f ≡ feeders → r ≡ readers → clock ≡ m → AreSides base feeders readers → length new ≡ length states → HaveBegun f r clock states new → MayReplay told score_here N engine.parts.clock engine new
+  may_replay told engine feeders readers f r clock new clock_is over may feeders_are readers_are number sides many begun =
       let begun_is : HaveBegun feeders readers m states new =
       subst (λ (l : List ℕ). HaveBegun l readers m states new) feeders_are (subst (λ (l : List ℕ). HaveBegun f l m states new) readers_are (subst (λ (k : ℕ). HaveBegun f r k states new) number begun)) in
       record {
@@ -87,8 +87,8 @@ module _ (base : Setting) (clocks : ClockMap) (is : IsSetting base clocks) (text
         clock = refl;
         fresh = may.fresh;
         rooms = may.rooms;
-        of = subst (λ (k : ℕ). AreOf base text k (chunks_of states) new) (sym clock_is) (of_begun base text m feeders readers states new told sides many begun_is);
-        stand = stand_begun base text m feeders readers states new told sides many begun_is;
+        of = subst (λ (k : ℕ). AreOf base text k (chunks_of states) new) (sym clock_is) (of_begun base text m feeders readers states new tells sides many begun_is);
+        stand = stand_begun base text m feeders readers states new tells sides many begun_is;
         window = W;
         given = got_then calls nothing;
         taken = kept;
@@ -96,23 +96,23 @@ module _ (base : Setting) (clocks : ClockMap) (is : IsSetting base clocks) (text
       }
 
   -- of so many ticks
-  pub replaying_here : {S : Type 0} (held name : S → Option (List ℕ)) (room : S → Option ℕ) (faults : S → ℕ) (appends : S → Option ℕ) (n : ℕ) (first now : ClockEngine S) (new after : List BufferState) → n ≡ N → first.parts.clock ≡ m
-      → MayReplay room score_here N first.parts.clock first new
-      → ((score : Score) → MayReplay room score n first.parts.clock first new → IsReplaying held name room faults appends score n first.parts.clock n first now after) → IsReplaying held name room faults appends score_here N m N first now after
-  replaying_here held name room faults appends n first now new after same clock_is may told_run =
-      subst (λ (k : ℕ). IsReplaying held name room faults appends score_here N k N first now after) clock_is
-      (subst (λ (t : ℕ). MayReplay room score_here t first.parts.clock first new → IsReplaying held name room faults appends score_here t first.parts.clock t first now after) same (told_run score_here) may)
+  pub replaying_here : {S : Type 0} (told : S → SinkTold) (n : ℕ) (first now : ClockEngine S) (new after : List BufferState) → n ≡ N → first.parts.clock ≡ m
+      → MayReplay told score_here N first.parts.clock first new
+      → ((score : Score) → MayReplay told score n first.parts.clock first new → IsReplaying told score n first.parts.clock n first now after) → IsReplaying told score_here N m N first now after
+  replaying_here told n first now new after same clock_is may told_run =
+      subst (λ (k : ℕ). IsReplaying told score_here N k N first now after) clock_is
+      (subst (λ (t : ℕ). MayReplay told score_here t first.parts.clock first new → IsReplaying told score_here t first.parts.clock t first now after) same (told_run score_here) may)
 
-  pub broken_here : {S : Type 0} (held name : S → Option (List ℕ)) (room : S → Option ℕ) (faults : S → ℕ) (appends : S → Option ℕ) (n : ℕ) (first now : ClockEngine S) (new : List BufferState) → n ≡ N → first.parts.clock ≡ m
-      → MayReplay room score_here N first.parts.clock first new
-      → ((score : Score) → MayReplay room score n first.parts.clock first new → IsBrokenOff held name faults appends score n first.parts.clock first now) → IsBrokenOff held name faults appends score_here N m first now
-  broken_here held name room faults appends n first now new same clock_is may told_run =
-      subst (λ (k : ℕ). IsBrokenOff held name faults appends score_here N k first now) clock_is
-      (subst (λ (t : ℕ). MayReplay room score_here t first.parts.clock first new → IsBrokenOff held name faults appends score_here t first.parts.clock first now) same (told_run score_here) may)
+  pub broken_here : {S : Type 0} (told : S → SinkTold) (n : ℕ) (first now : ClockEngine S) (new : List BufferState) → n ≡ N → first.parts.clock ≡ m
+      → MayReplay told score_here N first.parts.clock first new
+      → ((score : Score) → MayReplay told score n first.parts.clock first new → IsBrokenOff told score n first.parts.clock first now) → IsBrokenOff told score_here N m first now
+  broken_here told n first now new same clock_is may told_run =
+      subst (λ (k : ℕ). IsBrokenOff told score_here N k first now) clock_is
+      (subst (λ (t : ℕ). MayReplay told score_here t first.parts.clock first new → IsBrokenOff told score_here t first.parts.clock first now) same (told_run score_here) may)
 
   -- behind the last one
-  module _ {S : Type 0} (held name : S → Option (List ℕ)) (room : S → Option ℕ) (faults : S → ℕ) (appends : S → Option ℕ) (first now : ClockEngine S) (after : List BufferState)
-      (run : IsReplaying held name room faults appends score_here N m N first now after) where
+  module _ {S : Type 0} (told : S → SinkTold) (first now : ClockEngine S) (after : List BufferState)
+      (run : IsReplaying told score_here N m N first now after) where
     own_now : All (IsOwn base m) run.calls
     own_now = own_made base clocks is m N run.accepted run.calls run.are
 
@@ -127,7 +127,7 @@ module _ (base : Setting) (clocks : ClockMap) (is : IsSetting base clocks) (text
 
     chunks_same : (b : ℕ) → chunks_of after b ≡ chunks_of states b
     chunks_same b = elim (cases_lt b B) [
-      | inr high ↦ (let many = run.of.many in let size = told.many in
+      | inr high ↦ (let many = run.of.many in let size = tells.many in
           ap (λ (s : BufferState). s.chunks) (past after b no_state (omega (arith, high, many))) ∙ sym (ap (λ (s : BufferState). s.chunks) (past states b no_state (omega (arith, high, size)))))
       | inl known ↦ elim (cases_eq (feeder base b) m) [
         | inl fed ↦ chunks_fed base text m (chunks_of states) after run.of run.calls run.stand own_now no_state b known fed
@@ -140,7 +140,7 @@ module _ (base : Setting) (clocks : ClockMap) (is : IsSetting base clocks) (text
     still_found = record { made = found.made; all = found.all; at = subst (AreAt base clocks.running W N text found.made) (fun_ext (λ b. sym (chunks_same b))) found.at }
 
   -- beside the record that is told
-  module _ (run : Run) (lawful : IsLawful base clocks.running W N run) (told_is : IsTold base text run) where
+  module _ (run : Run) (lawful : AreWindows base clocks.running W N run) (told_is : IsTold base text run) where
     record_calls : calls ≡ first_calls (answered base (answers_of run)) (lawful.accepted m) m N
     record_calls = at.forced run lawful told_is
 
@@ -181,13 +181,13 @@ module _ (base : Setting) (clocks : ClockMap) (is : IsSetting base clocks) (text
       world_is : world base xs rest_of ≡ setting_in base run
       world_is = ap (answered base) (fun_ext (λ b. (remains b).1))
 
-      module _ {S : Type 0} (held name : S → Option (List ℕ)) (room : S → Option ℕ) (faults : S → ℕ) (appends : S → Option ℕ) (first now : ClockEngine S) (over : setting_of first.parts ≡ base) where
+      module _ {S : Type 0} (told : S → SinkTold) (first now : ClockEngine S) (over : setting_of first.parts ≡ base) where
         -- whole ticks
-        pub ticks_match : HasRunTurns held name faults appends xs N first now → HasRunTicks held name faults appends (setting_in base run) N first now
+        pub ticks_match : HasRunTurns told xs N first now → HasRunTicks told (setting_in base run) N first now
         ticks_match turns =
             let rest = meets (setting_of first.parts) (Main first.parts.clock) xs turns.answers turns.own rest_of in
             let given : with_rest (setting_of first.parts) turns.answers rest ≡ setting_in base run =
-            meets_is (setting_of first.parts) (Main first.parts.clock) xs turns.answers turns.own rest_of (none_read held name room faults appends N xs first now now turns) ∙ ap (λ (s : Setting). world s xs rest_of) over ∙ world_is in
+            meets_is (setting_of first.parts) (Main first.parts.clock) xs turns.answers turns.own rest_of (none_read told N xs first now now turns) ∙ ap (λ (s : Setting). world s xs rest_of) over ∙ world_is in
             record {
               over = turns.setting;
               clock = turns.clock;
@@ -196,37 +196,33 @@ module _ (base : Setting) (clocks : ClockMap) (is : IsSetting base clocks) (text
               rest = rest;
               given = given;
               stands = turns.stands;
-              grew = λ sink node output. turns.grew.each rest sink node output ∙ ap (λ (V : Setting). grown (ticks_bytes V output.wide node N) (held_of held first sink)) given;
+              grew = λ sink node output. turns.grew.each rest sink node output ∙ ap (λ (V : Setting). grown (ticks_bytes V output.wide node N) (held_of told first sink)) given;
               pieces = turns.pieces;
-              none_fell = turns.none_fell;
               outs = turns.outs;
-              kept = turns.kept;
             }
 
         -- and a part of one more
-        pub part_matches : (least most : ℕ) → HasRunPart held name faults appends (world (setting_of first.parts) xs) least most first now → HasRunPart held name faults appends (λ rest. setting_in base run) least most first now
+        pub part_matches : (least most : ℕ) → HasRunPart told (world (setting_of first.parts) xs) least most first now → HasRunPart told (λ rest. setting_in base run) least most first now
         part_matches least most part =
             let here : world (setting_of first.parts) xs rest_of ≡ setting_in base run = ap (λ (s : Setting). world s xs rest_of) over ∙ world_is in
             record {
               setting = part.setting;
               clock = part.clock;
               part = λ rest sink node output.
-                  subst (λ (V : Setting). (bytes : List ℕ) × IsPrefix (ticks_bytes V output.wide node least) bytes × IsPrefix bytes (ticks_bytes V output.wide node most) × (held_of held now sink ≡ grown bytes (held_of held first sink))) here
+                  subst (λ (V : Setting). (bytes : List ℕ) × IsPrefix (ticks_bytes V output.wide node least) bytes × IsPrefix bytes (ticks_bytes V output.wide node most) × (held_of told now sink ≡ grown bytes (held_of told first sink))) here
                   (part.part rest_of sink node output);
               pieces = part.pieces;
-              none_fell = part.none_fell;
               outs = part.outs;
-              kept = part.kept;
             }
 
-    module _ {S : Type 0} (held name : S → Option (List ℕ)) (room : S → Option ℕ) (faults : S → ℕ) (appends : S → Option ℕ) (first now : ClockEngine S) (over : setting_of first.parts ≡ base) where
+    module _ {S : Type 0} (told : S → SinkTold) (first now : ClockEngine S) (over : setting_of first.parts ≡ base) where
       -- all ticks of the record
-      pub engine_done : (after : List BufferState) → IsReplaying held name room faults appends score_here N m N first now after → HasRunTicks held name faults appends (setting_in base run) N first now
+      pub engine_done : (after : List BufferState) → IsReplaying told score_here N m N first now after → HasRunTicks told (setting_in base run) N first now
       engine_done after replay =
-          ticks_match calls (front_all calls) held name room faults appends first now over (subst (λ (l : List Call). HasRunTurns held name faults appends l N first now) (same_calls held name room faults appends first now after replay) replay.run)
+          ticks_match calls (front_all calls) told first now over (subst (λ (l : List Call). HasRunTurns told l N first now) (same_calls told first now after replay) replay.run)
 
       -- or up to a fault
-      pub engine_broke : IsBrokenOff held name faults appends score_here N m first now → HasReplayedPart held name faults appends (setting_in base run) N first now
+      pub engine_broke : IsBrokenOff told score_here N m first now → HasReplayedPart told (setting_in base run) N first now
       engine_broke broken =
           let front : IsFront (broken.calls ++ broken.made) calls = subst (IsFront (broken.calls ++ broken.made)) (sym calls_are) (broken.front W (got_then calls nothing) kept replayed_here) in
-          record { n = broken.n; low = broken.low; part = part_matches (broken.calls ++ broken.made) front held name room faults appends first now over broken.n (suc broken.n) broken.part }
+          record { n = broken.n; low = broken.low; part = part_matches (broken.calls ++ broken.made) front told first now over broken.n (suc broken.n) broken.part }

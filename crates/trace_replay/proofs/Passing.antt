@@ -13,7 +13,7 @@ use Rattle.run_records.specs.Outputs.{first_calls}
 use Rattle.run_records.proofs.Parting.{joined_first}
 use Rattle.run_records.specs.Buffers.{feeder, reader}
 use Rattle.run_records.specs.Ordered.{got_by, made as counted}
-use Rattle.run_records.specs.Records.{IsLawful, Run, answers_of, calls_in, puts_of, setting_in}
+use Rattle.run_records.specs.Records.{AreWindows, Run, answers_of, calls_in, puts_of, setting_in}
 use Rattle.run_records.proofs.Alone.{feeder_runs}
 use Rattle.run_records.proofs.Running.{own_in}
 use Rattle.trace_replay.specs.Clocks.{IsFront, Log, got_in, put_by}
@@ -70,7 +70,7 @@ module _ (base : Setting) (map_of : ClockMap) (is : IsSetting base map_of) (W N 
   C = map_of.running
 
   -- what was put in the first ticks of a record is a beginning of what was accepted
-  pub chunks_agree : (made : ℕ → ℕ) (chunks : ℕ → List (List Cell)) → AreAt base C W N text made chunks → (run : Run) (lawful : IsLawful base C W N run) → IsTold base text run
+  pub chunks_agree : (made : ℕ → ℕ) (chunks : ℕ → List (List Cell)) → AreAt base C W N text made chunks → (run : Run) (lawful : AreWindows base C W N run) → IsTold base text run
       → (b : ℕ) → b < B → IsFront (chunks b) (somes (puts_of run b))
   chunks_agree made chunks at run lawful is_told b low =
       let f = feeder base b in let runs : f < C = feeder_runs base map_of is b low in

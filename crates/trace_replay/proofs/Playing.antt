@@ -4,6 +4,7 @@ use mathlib.Core.Path.{fun_ext}
 use native.Mathlib.Nat.{mul_comm}
 use Rattle.std.proofs.lemmas.Bool.{cases_lt}
 use Rattle.std.proofs.Math.Nat.{div-add-mod, min-eq_left, min-eq_right, mod-lt, mul-le-mul_right}
+use Rattle.liq_base.specs.Pieces.{SinkTold}
 use Rattle.frame_core.specs.Calls.{Call, puts_to, takes_of, Answer}
 use Rattle.stream_meaning.specs.Instants.{Setting, answered}
 use Rattle.stream_meaning.specs.Calls.{answers_in, calls_of_tick}
@@ -65,13 +66,13 @@ module _ (score : Score) (W N m : ℕ) (ends : List Ends) (first : EngineParts) 
   }
 
   -- a tick that was made
-  module _ {S : Type 0} (held : S → Option (List ℕ)) (outs_old outs_new : List S) (n : ℕ) (less : n < N) (some : 1 ≤ W) (parts parts_new : EngineParts) (taps taps_new : ToldTaps) (run : Runs n parts taps.buffers.items)
+  module _ {S : Type 0} (told : S → SinkTold) (outs_old outs_new : List S) (n : ℕ) (less : n < N) (some : 1 ≤ W) (parts parts_new : EngineParts) (taps taps_new : ToldTaps) (run : Runs n parts taps.buffers.items)
       (goes : taps.course ≡ Goes) (over_new : setting_of parts_new ≡ setting_of parts) (clock_new : parts_new.clock ≡ parts.clock)
-      (made : HasMade held (λ (t : ToldTaps) calls. TapsStand t.course t.buffers.items calls) parts parts_new outs_old outs_new taps taps_new) (changed : SameBuffers taps.buffers.items taps_new.buffers.items) where
+      (made : HasMade told (λ (t : ToldTaps) calls. TapsStand t.course t.buffers.items calls) parts parts_new outs_old outs_new taps taps_new) (changed : SameBuffers taps.buffers.items taps_new.buffers.items) where
     abbrev more : List Call
     more = made.more
 
-    ticked : HasTicked (EngineStands parts_new) (setting_of parts) parts.clock n (λ b. answers_in b run.calls) more (held_in held (outputs_of (setting_of parts) parts.clock) outs_old) (held_in held (outputs_of (setting_of parts_new) parts_new.clock) outs_new)
+    ticked : HasTicked (EngineStands parts_new) (setting_of parts) parts.clock n (λ b. answers_in b run.calls) more (held_in told (outputs_of (setting_of parts) parts.clock) outs_old) (held_in told (outputs_of (setting_of parts_new) parts_new.clock) outs_new)
     ticked = made.engine n (λ b. answers_in b run.calls) run.engine
 
     tick : (rest : ℕ → List Answer) → more ≡ calls_of_tick (answered base (λ b. (answers_in b run.calls ++ answers_in b more) ++ rest b)) ticked.accepted m n

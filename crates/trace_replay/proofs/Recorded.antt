@@ -20,7 +20,7 @@ use Rattle.run_records.specs.Outputs.{first_calls}
 use Rattle.run_records.specs.Buffers.{feeder, reader}
 use Rattle.run_records.specs.Ordered.{told}
 use Rattle.run_records.specs.Owning.{IsOwn}
-use Rattle.run_records.specs.Records.{Follows, IsLawful, Run, Window, answers_of, calls_in, capacity_of, on, puts_of, setting_in, start, windows_in, windows_of}
+use Rattle.run_records.specs.Records.{AreWindows, Follows, Run, Window, answers_of, calls_in, capacity_of, on, puts_of, setting_in, start, windows_in, windows_of}
 use Rattle.run_records.proofs.Flattening.{all_puts, all_takes}
 use Rattle.run_records.proofs.Rounding.{follows_split, on-append}
 use Rattle.run_records.proofs.Running.{own_in, runs_in}
@@ -158,7 +158,7 @@ windows_first setting clocks accepted b W N j (suc count) low =
           ∙ windows_first setting clocks accepted b W N j count within
     ]
 
-module _ (base : Setting) (map_of : ClockMap) (is : IsSetting base map_of) (W N : ℕ) (text : ℕ → Log) (run : Run) (lawful : IsLawful base map_of.running W N run)
+module _ (base : Setting) (map_of : ClockMap) (is : IsSetting base map_of) (W N : ℕ) (text : ℕ → Log) (run : Run) (lawful : AreWindows base map_of.running W N run)
     (told_is : (b : ℕ) → b < length base.plan.buffers → map told (windows_of run b) ≡ text b) where
   -- the chunks that a buffer accepted
   abbrev pub chunks_in : ℕ → List (List Cell)

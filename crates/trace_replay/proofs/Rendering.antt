@@ -1,19 +1,20 @@
 -- The run of an engine over all the chunks of a record.
 use Rattle.std.proofs.Common.{◌≡◌, ◌<◌, ◌≤◌, ◌+◌, ◌-◌, ◌*◌, ◌∙◌, ◌++◌, ◌⊎◌, ℕ, suc, Bool, true, inl, inr, Option, Some, List, [], length, add-one, suc-mul, refl, ap, slice_get, sym, subst, arith}
 use mathlib.Core.Path.{fun_ext}
+use Rattle.liq_base.specs.Pieces.{SinkTold}
 use Rattle.frame_core.specs.Calls.{Call, Answer}
 use Rattle.stream_meaning.specs.Instants.{Setting, answered}
 use Rattle.stream_meaning.specs.Calls.{IsBegin, answers_in, calls_of_tick}
 use Rattle.stream_meaning.proofs.Answering.{answers_in-append}
 use Rattle.run_records.specs.Outputs.{first_calls}
 use Rattle.node_states.specs.Ticks.{HasStopped, HasTicked}
-use Rattle.clock_outputs.specs.Appends.{AreKept, GotOnePiece, NoneFell}
-use Rattle.clock_outputs.proofs.Since.{rose_since}
+use Rattle.clock_ticks.proofs.Pieces.{kept_got, rose_since}
 use Rattle.clock_ticks.specs.declared.engine.ClockEngine.{ClockEngine}
 use Rattle.clock_ticks.specs.declared.fault.TickFault.{TickFault}
 use Rattle.clock_ticks.specs.declared.fault.TickFault.TheVariants.{Write as TickWrite}
 use Rattle.clock_ticks.specs.Engines.{AreParts, EngineStands, held_in, outputs_of, setting_of}
-use Rattle.clock_ticks.specs.Ticks.{GotSomePieces, HasFailed as TickFailed, HasMade, HaveTickRoom, HaveTicksRoom, IsWriteFault, piece_size}
+use Rattle.clock_ticks.specs.Pieces.{GotSomePieces}
+use Rattle.clock_ticks.specs.Ticks.{HasFailed as TickFailed, HasMade, HaveTickRoom, HaveTicksRoom, IsWriteFault, TookTick, piece_size}
 use Rattle.rounds_run.proofs.Going.{run_failed, run_more, run_none}
 use Rattle.trace_replay.specs.declared.course.Course.{Course}
 use Rattle.trace_replay.specs.declared.course.Course.TheVariants.{Goes, Waits, Fails}
@@ -34,7 +35,7 @@ course_is Waits = inr (inl refl)
 course_is Fails = inr (inr refl)
 
 -- room for a tick, of the room for more
-pub room_now : {S : Type 0} (room : S → Option ℕ) (N n : ℕ) (engine : ClockEngine S) → n < N → ((left : ℕ) → n + left ≡ N → HaveTicksRoom room engine.parts engine.outs left) → HaveTickRoom room engine.parts engine.outs
+pub room_now : {S : Type 0} (told : S → SinkTold) (N n : ℕ) (engine : ClockEngine S) → n < N → ((left : ℕ) → n + left ≡ N → HaveTicksRoom told engine.parts engine.outs left) → HaveTickRoom told engine.parts engine.outs
 room_now room N n engine low rooms = record {
   each = λ k sink node out at_output at_out m e.
       let size : ℕ = piece_size (setting_of engine.parts) sink node in
@@ -44,8 +45,8 @@ room_now room N n engine low rooms = record {
       omega (arith, more, parts);
 }
 
-module _ {S : Type 0} (held name : S → Option (List ℕ)) (room : S → Option ℕ) (faults : S → ℕ) (appends : S → Option ℕ) (score : Score) (N m : ℕ) where
-  pub replay_begins : (engine : ClockEngine S) (states : List BufferState) → MayReplay room score N m engine states → IsReplaying held name room faults appends score N m 0 engine engine states
+module _ {S : Type 0} (told : S → SinkTold) (score : Score) (N m : ℕ) where
+  pub replay_begins : (engine : ClockEngine S) (states : List BufferState) → MayReplay told score N m engine states → IsReplaying told score N m 0 engine engine states
   replay_begins engine states may = record {
     calls = [];
     accepted = λ t b. true;
@@ -55,20 +56,20 @@ module _ {S : Type 0} (held name : S → Option (List ℕ)) (room : S → Option
     engine = may.fresh;
     stand = may.stand;
     of = may.of;
-    run = run_none held name room faults appends N engine (record { fresh = may.fresh; rooms = may.rooms });
-    rooms = λ left e. subst (HaveTicksRoom room engine.parts engine.outs) (sym e ∙ (let z : 0 + left ≡ left = omega arith in z)) may.rooms;
+    run = run_none told N engine (record { fresh = may.fresh; rooms = may.rooms });
+    rooms = λ left e. subst (HaveTicksRoom told engine.parts engine.outs) (sym e ∙ (let z : 0 + left ≡ left = omega arith in z)) may.rooms;
   }
 
-  module _ (n : ℕ) (less : n < N) (first old new : ClockEngine S) (opening : List BufferState) (may : MayReplay room score N m first opening) (taps taps_new : ToldTaps)
-      (now : IsReplaying held name room faults appends score N m n first old taps.buffers.items) (goes : taps.course ≡ Goes) (changed : SameBuffers taps.buffers.items taps_new.buffers.items)
+  module _ (n : ℕ) (less : n < N) (first old new : ClockEngine S) (opening : List BufferState) (may : MayReplay told score N m first opening) (taps taps_new : ToldTaps)
+      (now : IsReplaying told score N m n first old taps.buffers.items) (goes : taps.course ≡ Goes) (changed : SameBuffers taps.buffers.items taps_new.buffers.items)
       (over_new : setting_of new.parts ≡ setting_of old.parts) (clock_new : new.parts.clock ≡ old.parts.clock) where
     -- a tick that was made
-    module _ (made : HasMade held taps_stand old.parts new.parts old.outs new.outs taps taps_new) (fit : AreParts old.parts) (fell : NoneFell faults old.outs new.outs) (many : length new.outs ≡ length old.outs)
-        (kept : AreKept name faults old.outs new.outs) (once : GotOnePiece appends (length old.outs) old.outs new.outs) (keeping : new.parts.cues.keeping ≡ old.parts.cues.keeping) (rooms : (ticks : ℕ) → HaveTicksRoom room old.parts old.outs (ticks + 1) → HaveTicksRoom room new.parts new.outs ticks) where
+    module _ (made : HasMade told taps_stand old.parts new.parts old.outs new.outs taps taps_new) (fit : AreParts old.parts) (many : length new.outs ≡ length old.outs)
+        (took : TookTick told old.parts old.outs new.outs) (keeping : new.parts.cues.keeping ≡ old.parts.cues.keeping) (rooms : (ticks : ℕ) → HaveTicksRoom told old.parts old.outs (ticks + 1) → HaveTicksRoom told new.parts new.outs ticks) where
       abbrev more : List Call
       more = made.more
 
-      ticked : HasTicked (EngineStands new.parts) (setting_of old.parts) old.parts.clock n (λ b. answers_in b now.calls) more (held_in held (outputs_of (setting_of old.parts) old.parts.clock) old.outs) (held_in held (outputs_of (setting_of new.parts) new.parts.clock) new.outs)
+      ticked : HasTicked (EngineStands new.parts) (setting_of old.parts) old.parts.clock n (λ b. answers_in b now.calls) more (held_in told (outputs_of (setting_of old.parts) old.parts.clock) old.outs) (held_in told (outputs_of (setting_of new.parts) new.parts.clock) new.outs)
       ticked = made.engine n (λ b. answers_in b now.calls) now.engine
 
       tick : (rest : ℕ → List Answer) → more ≡ calls_of_tick (answered score.base (λ b. (answers_in b now.calls ++ answers_in b more) ++ rest b)) ticked.accepted m n
@@ -88,7 +89,7 @@ module _ {S : Type 0} (held name : S → Option (List ℕ)) (room : S → Option
           by (inr (inr e)) = absurd (never_fails score.base score.clocks may.is score.text may.window N m n score.chunks taps.buffers.items taps_new.buffers.items now.of changed now.calls now.accepted now.are now.stand more ticked.accepted tick less
               may.given may.taken may.whole (subst (λ (c : Course). TapsStand c taps_new.buffers.items (now.calls ++ more)) e stand_then))
 
-      pub replay_goes_on : IsReplaying held name room faults appends score N m (suc n) first new taps_new.buffers.items
+      pub replay_goes_on : IsReplaying told score N m (suc n) first new taps_new.buffers.items
       replay_goes_on = record {
         calls = now.calls ++ more;
         accepted = accepted_then score.base m n now.accepted now.calls now.are more ticked.accepted tick;
@@ -98,24 +99,22 @@ module _ {S : Type 0} (held name : S → Option (List ℕ)) (room : S → Option
         engine = subst (EngineStands new.parts (suc n)) (fun_ext (λ b. sym (answers_in-append b now.calls more))) ticked.stand;
         stand = subst (λ (c : Course). TapsStand c taps_new.buffers.items (now.calls ++ more)) still_goes stand_then;
         of = of_same score.base score.text m score.chunks taps.buffers.items now.of taps_new.buffers.items changed;
-        run = run_more held name room faults appends n now.calls first old new now.run taps_stand taps taps_new (record {
+        run = run_more told n now.calls first old new now.run taps_stand taps taps_new (record {
           fit = fit;
           setting = over_new;
           clock = clock_new;
           keeping = keeping;
           ticked = made;
-          none_fell = fell;
           outs = many;
-          kept = kept;
-          once = once;
+          took = took;
           rooms = rooms;
         });
         rooms = λ left e. rooms left (now.rooms (left + 1) (omega (arith, e)));
       }
 
     -- a fault
-    module _ (failed : TickFailed held taps_stand old.parts new.parts old.outs new.outs taps taps_new) where
-      stopped : HasStopped (setting_of old.parts) old.parts.clock n (λ b. answers_in b now.calls) failed.made (held_in held (outputs_of (setting_of old.parts) old.parts.clock) old.outs) (held_in held (outputs_of (setting_of new.parts) new.parts.clock) new.outs)
+    module _ (failed : TickFailed told taps_stand old.parts new.parts old.outs new.outs taps taps_new) where
+      stopped : HasStopped (setting_of old.parts) old.parts.clock n (λ b. answers_in b now.calls) failed.made (held_in told (outputs_of (setting_of old.parts) old.parts.clock) old.outs) (held_in told (outputs_of (setting_of new.parts) new.parts.clock) new.outs)
       stopped = failed.engine n (λ b. answers_in b now.calls) now.engine
 
       begun : (rest : ℕ → List Answer) → IsBegin failed.made (calls_of_tick (answered score.base (λ b. (answers_in b now.calls ++ answers_in b failed.made) ++ rest b)) stopped.accepted m n)
@@ -140,18 +139,18 @@ module _ {S : Type 0} (held name : S → Option (List ℕ)) (room : S → Option
         front_now = stopped_front score.base score.clocks may.is score.text N m n less score.chunks taps_new.buffers.items of_now now.accepted now.calls now.are failed.made stopped.accepted begun
             W given taken whole (all_stand (course_is taps_new.course))
 
-      pub replay_breaks : GotSomePieces appends old.outs new.outs → NoneFell faults old.outs new.outs → length new.outs ≡ length old.outs → AreKept name faults old.outs new.outs → IsBrokenOff held name faults appends score N m first new
-      replay_breaks some fell many kept = record {
+      pub replay_breaks : GotSomePieces told old.outs new.outs → length new.outs ≡ length old.outs → IsBrokenOff told score N m first new
+      replay_breaks some many = record {
         n = n;
         low = less;
         calls = now.calls;
         made = failed.made;
         front = front_now;
-        part = run_failed held name room faults appends n now.calls first old new now.run taps_stand taps taps_new n (suc n) (omega arith) (omega arith) failed some fell many kept over_new clock_new;
+        part = run_failed told n now.calls first old new now.run taps_stand taps taps_new n (suc n) (omega arith) (omega arith) failed some many over_new clock_new;
       }
 
     -- whose sink failed
-    pub sink_failed : (fault : TickFault) → IsWriteFault faults appends old.parts old.outs new.outs fault → (sink : ℕ) → fault ≡ TickWrite sink → HasSinkFailed faults sink first new
+    pub sink_failed : (fault : TickFault) → IsWriteFault told old.parts old.outs new.outs fault → (sink : ℕ) → fault ≡ TickWrite sink → HasSinkFailed told sink first new
     sink_failed fault cause sink e =
         let both : TickWrite cause.sink ≡ TickWrite sink = sym cause.fault_is ∙ e in
         let same : cause.sink ≡ sink = cc in
@@ -160,5 +159,5 @@ module _ {S : Type 0} (held name : S → Option (List ℕ)) (room : S → Option
           node = cause.node;
           there = subst (λ (s : ℕ). slice_get (outputs_of (setting_of first.parts) first.parts.clock) cause.place ≡ Some (s, cause.node)) same
               (ap (λ (s : Setting). slice_get (outputs_of s first.parts.clock) cause.place) (sym now.run.setting) ∙ ap (λ (k : ℕ). slice_get (outputs_of (setting_of old.parts) k) cause.place) (sym now.run.clock) ∙ cause.there);
-          rose = rose_since faults cause.place first.outs old.outs new.outs now.run.outs now.run.none_fell cause.rose;
+          rose = rose_since told cause.place first.outs old.outs new.outs now.run.outs (kept_got told n first.outs old.outs now.run.pieces) cause.rose;
         }

@@ -5,7 +5,7 @@ use Rattle.clock_infer.specs.declared.clock_map.ClockMap.{ClockMap}
 use Rattle.stream_meaning.specs.Instants.{Setting}
 use Rattle.stream_meaning.specs.Settings.{IsSetting}
 use Rattle.run_records.specs.Ordered.{told}
-use Rattle.run_records.specs.Records.{IsLawful, Run, Window, windows_of}
+use Rattle.run_records.specs.Records.{AreWindows, Run, Window, windows_of}
 use Rattle.run_records.proofs.Replaying.{text_is_whole}
 use Rattle.buffer_ends.specs.Local.{Answers, yes}
 use Rattle.buffer_sides.specs.Logs.{told as log_of}
@@ -93,7 +93,7 @@ logs_told base clocks trace run of = ap (λ (t : TraceValue). t.buffers) of.leav
 
 -- a record whose ticks can be ordered is the one of a run that left the trace
 pub run_told : (base : Setting) (clocks : ClockMap) → IsSetting base clocks → (trace : TraceValue) (run other : Run) → IsRecordOf base clocks.running trace run
-    → IsLawful base clocks.running trace.window trace.ticks other → trace ≡ trace_of trace.window trace.ticks other → run ≡ other
+    → AreWindows base clocks.running trace.window trace.ticks other → trace ≡ trace_of trace.window trace.ticks other → run ≡ other
 run_told base clocks is trace run other of lawful e =
     text_is_whole base clocks is trace.window trace.ticks run other of.lawful lawful
     (λ b low. told_by base clocks.running trace run of b low ∙ ap (λ (t : TraceValue). text_of t.buffers b) e ∙ ap (map pair_of) (log_at other.buffers b) ∙ same_text (windows_of other b)) of.ordered

@@ -8,7 +8,7 @@ use Rattle.stream_meaning.specs.Calls.{answers_in}
 use Rattle.run_records.specs.Outputs.{first_calls}
 use Rattle.run_records.specs.Buffers.{feeder, reader}
 use Rattle.run_records.specs.Ordered.{IsOrdered, made as counted, told}
-use Rattle.run_records.specs.Records.{IsLawful, Run, answers_of, capacity_of, setting_in, start, windows_of}
+use Rattle.run_records.specs.Records.{AreWindows, Run, answers_of, capacity_of, setting_in, start, windows_of}
 use Rattle.trace_replay.specs.Clocks.{AreAnswered, AreInOrder, HasReplayed, Log, Waits, got_in, put_by, takes_in}
 use Rattle.trace_replay.specs.Told.{are_legal}
 
@@ -19,7 +19,7 @@ IsTold base text run = (b : ℕ) → b < length base.plan.buffers → map told (
 -- The text is that of a lawful record of N ticks in windows of W ticks, whose ticks can be ordered.
 pub record IsOrderedText (base : Setting) (clocks W N : ℕ) (text : ℕ → Log) : Type 0 where
   pub run : Run
-  pub lawful : IsLawful base clocks W N run
+  pub lawful : AreWindows base clocks W N run
   pub told : IsTold base text run
   pub ordered : IsOrdered (setting_in base run) clocks lawful.accepted N
 
@@ -44,7 +44,7 @@ pub record ClockIsAt (base : Setting) (clocks W N : ℕ) (text : ℕ → Log) (c
   pub within : n ≤ N
   pub are : IsMadeBy base m n accepted calls
   pub replayed : HasReplayed base text W N m n chunks (got_then calls nothing) accepted
-  pub forced : (run : Run) (lawful : IsLawful base clocks W N run) → IsTold base text run → calls ≡ first_calls (answered base (answers_of run)) (lawful.accepted m) m n
+  pub forced : (run : Run) (lawful : AreWindows base clocks W N run) → IsTold base text run → calls ≡ first_calls (answered base (answers_of run)) (lawful.accepted m) m n
 
 -- Ticks in an order in which each chunk that a tick got was put in an earlier one; `ticks m t` are the calls of the first t ticks of
 -- clock m, of which so many are in the order

@@ -33,12 +33,12 @@ pub fn replay_clock<O: Sink>(
 ) -> Result<(), TickFault>
     requires few { ticks ≤ 1000000000 }
     requires goes { taps.old.course ≡ IsGoing }
-    requires play { (score : Score) × MayReplay O.room score ticks engine.old.parts.clock engine.old taps.old.buffers.items }
-    ensures done { OnOk result ((score : Score) → MayReplay O.room score ticks engine.old.parts.clock engine.old taps.old.buffers.items
-        → IsReplaying O.held O.name O.room O.faults O.appends score ticks engine.old.parts.clock ticks engine.old engine.new taps.new.buffers.items) }
-    ensures part { OnErr result ((score : Score) → MayReplay O.room score ticks engine.old.parts.clock engine.old taps.old.buffers.items
-        → IsBrokenOff O.held O.name O.faults O.appends score ticks engine.old.parts.clock engine.old engine.new) }
-    ensures cause { IfErr result (λ fault. (sink : ℕ) → fault ≡ TickWrite sink → HasSinkFailed O.faults sink engine.old engine.new) }
+    requires play { (score : Score) × MayReplay O.told score ticks engine.old.parts.clock engine.old taps.old.buffers.items }
+    ensures done { OnOk result ((score : Score) → MayReplay O.told score ticks engine.old.parts.clock engine.old taps.old.buffers.items
+        → IsReplaying O.told score ticks engine.old.parts.clock ticks engine.old engine.new taps.new.buffers.items) }
+    ensures part { OnErr result ((score : Score) → MayReplay O.told score ticks engine.old.parts.clock engine.old taps.old.buffers.items
+        → IsBrokenOff O.told score ticks engine.old.parts.clock engine.old engine.new) }
+    ensures cause { IfErr result (λ fault. (sink : ℕ) → fault ≡ TickWrite sink → HasSinkFailed O.told sink engine.old engine.new) }
 {
     for _tick in 0..ticks {
         engine.tick(alloc, taps)?;
@@ -70,18 +70,18 @@ fn replay_engine<O: Sink>(
     requires few { trace.now.ticks ≤ 1000000000 }
     requires setting { IsSetting (base_at station.now) station.now.clocks.now }
     requires sides { AreSides (base_at station.now) sides.now.feeders.items sides.now.readers.items }
-    requires engine { MayRun O.room trace.now.ticks engine.old }
+    requires engine { MayRun O.told trace.now.ticks engine.old }
     requires over { setting_of engine.old.parts ≡ base_at station.now }
     requires runs { engine.old.parts.clock < station.now.clocks.now.running }
     requires told { AreTold (base_at station.now) (text_of trace.now.buffers) taps.old.buffers.items }
     requires found { HaveFound (base_at station.now) station.now.clocks.now trace.now.window trace.now.ticks (text_of trace.now.buffers) taps.old.buffers.items }
     ensures done { OnOk result ((run : Run) → IsRecordOf (base_at station.now) station.now.clocks.now.running trace.now run
-        → HasRunTicks O.held O.name O.faults O.appends (setting_in (base_at station.now) run) trace.now.ticks engine.old engine.new) }
+        → HasRunTicks O.told (setting_in (base_at station.now) run) trace.now.ticks engine.old engine.new) }
     ensures told { OnOk result (AreTold (base_at station.now) (text_of trace.now.buffers) taps.new.buffers.items) }
     ensures found { OnOk result (HaveFound (base_at station.now) station.now.clocks.now trace.now.window trace.now.ticks (text_of trace.now.buffers) taps.new.buffers.items) }
     ensures part { OnErr result ((run : Run) → IsRecordOf (base_at station.now) station.now.clocks.now.running trace.now run
-        → HasReplayedPart O.held O.name O.faults O.appends (setting_in (base_at station.now) run) trace.now.ticks engine.old engine.new) }
-    ensures cause { IfErr result (λ fault. (sink : ℕ) → fault ≡ TickWrite sink → HasSinkFailed O.faults sink engine.old engine.new) }
+        → HasReplayedPart O.told (setting_in (base_at station.now) run) trace.now.ticks engine.old engine.new) }
+    ensures cause { IfErr result (λ fault. (sink : ℕ) → fault ≡ TickWrite sink → HasSinkFailed O.told sink engine.old engine.new) }
 {
     begin_run(
         &mut taps.buffers,
@@ -105,14 +105,14 @@ pub fn replay_engines<O: Sink>(
     requires few { trace.now.ticks ≤ 1000000000 }
     requires setting { IsSetting (base_at station.now) station.now.clocks.now }
     requires sides { AreSides (base_at station.now) sides.now.feeders.items sides.now.readers.items }
-    requires engines { AreEngines O.room trace.now.ticks (base_at station.now) engines.old }
+    requires engines { AreEngines O.told trace.now.ticks (base_at station.now) engines.old }
     requires all { length engines.old ≡ station.now.clocks.now.running }
     requires told { AreTold (base_at station.now) (text_of trace.now.buffers) taps.old.buffers.items }
     requires found { HaveFound (base_at station.now) station.now.clocks.now trace.now.window trace.now.ticks (text_of trace.now.buffers) taps.old.buffers.items }
     ensures done { OnOk result ((run : Run) → IsRecordOf (base_at station.now) station.now.clocks.now.running trace.now run
-        → HaveRunTicks O.held O.name O.faults O.appends (setting_in (base_at station.now) run) trace.now.ticks engines.old engines.new) }
+        → HaveRunTicks O.told (setting_in (base_at station.now) run) trace.now.ticks engines.old engines.new) }
     ensures part { IfErr result (λ end. (run : Run) → IsRecordOf (base_at station.now) station.now.clocks.now.running trace.now run
-        → HasReplayedTo O.held O.name O.faults O.appends (setting_in (base_at station.now) run) trace.now.ticks engines.old engines.new end) }
+        → HasReplayedTo O.told (setting_in (base_at station.now) run) trace.now.ticks engines.old engines.new end) }
     ensures stopped { IfErr result (λ end. end ≡ Done → ⊥) }
 {
     for k in 0..engines.len() {

@@ -7,7 +7,7 @@ ghost use Rattle.frame_core.specs.Legal.{Legal};
 ghost use Rattle.stream_meaning.specs.Instants.{Setting};
 ghost use Rattle.stream_meaning.specs.Settings.{IsSetting};
 ghost use Rattle.run_records.specs.Ordered.{IsOrdered};
-ghost use Rattle.run_records.specs.Records.{IsLawful, Run, setting_in};
+ghost use Rattle.run_records.specs.Records.{AreWindows, Run, setting_in};
 ghost use Rattle.buffer_ends.specs.Local.{Answers};
 ghost use Rattle.buffer_sides.specs.Logs.{told};
 ghost use Rattle.trace_replay.specs.Listings.{LeadOnward};
@@ -25,36 +25,36 @@ pub fn told_windows_are_legal()
 /// Where the main clocks can be listed so that each buffer that joins two clocks leads to a later one, the ticks of every lawful
 /// record can be ordered.
 pub fn onward_records_are_ordered()
-    ensures { (base : Setting) (clocks : Map) → IsSetting base clocks → (W N : ℕ) (run : Run) → (lawful : IsLawful base clocks.running W N run) → (listing : List ℕ)
+    ensures { (base : Setting) (clocks : Map) → IsSetting base clocks → (W N : ℕ) (run : Run) → (lawful : AreWindows base clocks.running W N run) → (listing : List ℕ)
         → LeadOnward base clocks.running listing → IsOrdered (setting_in base run) clocks.running lawful.accepted N }
 {}
 
 /// The trace of a lawful record whose ticks can be ordered is accepted.
 pub fn ordered_traces_are_accepted()
-    ensures { (base : Setting) (clocks : Map) → IsSetting base clocks → (W N : ℕ) (run : Run) → (lawful : IsLawful base clocks.running W N run)
+    ensures { (base : Setting) (clocks : Map) → IsSetting base clocks → (W N : ℕ) (run : Run) → (lawful : AreWindows base clocks.running W N run)
         → IsOrdered (setting_in base run) clocks.running lawful.accepted N → IsAccepted base clocks.running N (trace_of W N run) }
 {}
 
 /// So where the main clocks can be listed so, the trace of every lawful record is accepted.
 pub fn onward_traces_are_accepted()
-    ensures { (base : Setting) (clocks : Map) → IsSetting base clocks → (W N : ℕ) (run : Run) → IsLawful base clocks.running W N run → (listing : List ℕ)
+    ensures { (base : Setting) (clocks : Map) → IsSetting base clocks → (W N : ℕ) (run : Run) → AreWindows base clocks.running W N run → (listing : List ℕ)
         → LeadOnward base clocks.running listing → IsAccepted base clocks.running N (trace_of W N run) }
 {}
 
 /// So is that of a run by threads, whose logs are the answers of a lawful record.
 pub fn logs_of_onward_runs_are_accepted()
-    ensures { (base : Setting) (clocks : Map) → IsSetting base clocks → (W N : ℕ) (run : Run) → IsLawful base clocks.running W N run → (logs : List (List Answers)) → logs ≡ map (map told) run.buffers
+    ensures { (base : Setting) (clocks : Map) → IsSetting base clocks → (W N : ℕ) (run : Run) → AreWindows base clocks.running W N run → (logs : List (List Answers)) → logs ≡ map (map told) run.buffers
         → (listing : List ℕ) → LeadOnward base clocks.running listing → IsAccepted base clocks.running N (record { ticks = N; window = W; buffers = logs }) }
 {}
 
 /// An accepted trace tells one record: that of the run that left it, if a run left it.
 pub fn accepted_traces_tell_one_record()
     ensures { (base : Setting) (clocks : Map) → IsSetting base clocks → (N : ℕ) (trace : TraceValue) → (accepted : IsAccepted base clocks.running N trace)
-        → (run : Run) → IsLawful base clocks.running trace.window N run → trace ≡ trace_of trace.window N run → accepted.ordered.run ≡ run }
+        → (run : Run) → AreWindows base clocks.running trace.window N run → trace ≡ trace_of trace.window N run → accepted.ordered.run ≡ run }
 {}
 
 /// The record of a replay is that of the run that left the trace, if a run left it: so the replay makes the run's bytes.
 pub fn replays_are_of_the_run()
     ensures { (base : Setting) (clocks : Map) → IsSetting base clocks → (trace : TraceValue) (run other : Run) → IsRecordOf base clocks.running trace run
-        → IsLawful base clocks.running trace.window trace.ticks other → trace ≡ trace_of trace.window trace.ticks other → run ≡ other }
+        → AreWindows base clocks.running trace.window trace.ticks other → trace ≡ trace_of trace.window trace.ticks other → run ≡ other }
 {}

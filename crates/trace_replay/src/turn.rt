@@ -1,6 +1,5 @@
 // The run of one clock, as far as it can be made.
 ghost use Rattle.std.specs.Prelude.{◌≡◌, ◌≤◌, ◌<◌, ℕ, None, length, OnOk, IfOk, Ok};
-ghost use Rattle.liq_base.specs.Pieces.{Took};
 ghost use Rattle.trace_replay.specs.declared.course.Course.TheVariants.{Goes as IsGoing};
 ghost use Rattle.trace_replay.specs.declared.turn.Turn.TheVariants.{Made as HasMadeTicks, Refused as IsRefusedTurn};
 ghost use Rattle.trace_replay.specs.Answering.{SameBuffers};
@@ -22,21 +21,12 @@ use std::alloc::Global;
 pub struct NoSink;
 
 impl Sink for NoSink {
-    ghost use Rattle.std.specs.Prelude.{None};
+    ghost use Rattle.liq_base.specs.Untold.{faults_alone};
 
-    ghost held = { λ s. None };
-
-    ghost name = { λ s. None };
-
-    ghost room = { λ s. None };
-
-    ghost appends = { λ s. None };
-
-    ghost faults = { λ s. 0 };
+    ghost told = { λ s. faults_alone 0 };
 
     fn append(&mut self, _piece: &[u8]) -> Result<(), Failed>
         ensures sure { result ≡ Ok tt }
-        ensures took { OnOk result (Took (λ s. None) (λ s. None) _piece.now self.old self.new) }
     {
         Ok(())
     }
@@ -83,7 +73,7 @@ pub fn run_clock(
     Ok(Turn::Made(ticks))
 }
 
-/// Runs a clock from its first tick on, with the chunks that are there.
+/// Runs a clock from its first tick on, with the chunks that are there. Where the plan has no buffer no tick waits, and none is made.
 pub fn run_turn(
     alloc: Global,
     station: &Station<'_>,
@@ -108,6 +98,9 @@ pub fn run_turn(
     ensures refused { IfOk result (λ turn. (text : ℕ → Log) → turn ≡ IsRefusedTurn → AreFit (base_of station.now.plan.now station.now.library.now station.now.clocks.now station.now.start.second) window ticks text taps.old.buffers.items ends.now
         → IsRefused (base_of station.now.plan.now station.now.library.now station.now.clocks.now station.now.start.second) window ticks text (chunks_of taps.old.buffers.items) clock) }
 {
+    if station.plan.buffers.as_slice().is_empty() {
+        return Ok(Turn::Made(ticks));
+    }
     let outs = sinks_of(alloc, station.plan, station.clocks, clock)?;
     let Ok(mut engine) = ClockEngine::new(
         alloc,

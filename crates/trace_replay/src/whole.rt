@@ -137,12 +137,12 @@ pub fn replay<O: Sink>(
     requires setting { IsSetting (base_of plan.now library.now clocks.now start.second) clocks.now }
     requires trace { IsTrace trace.now }
     requires accepted { IsAccepted (base_of plan.now library.now clocks.now start.second) clocks.now.running trace.now.ticks trace.now }
-    requires engines { AreEngines O.room trace.now.ticks (base_of plan.now library.now clocks.now start.second) engines.old }
+    requires engines { AreEngines O.told trace.now.ticks (base_of plan.now library.now clocks.now start.second) engines.old }
     requires all { length engines.old ≡ clocks.now.running }
     requires chunks { AreAllChunks (base_of plan.now library.now clocks.now start.second) clocks.now trace.now chunks }
     ensures done { result.end ≡ Done
-        → HasReplayedAll O.held O.name O.faults O.appends (base_of plan.now library.now clocks.now start.second) clocks.now.running trace.now engines.old engines.new result.counts.items result.logs.items }
-    ensures part { HasReplayedSome O.held O.name O.faults O.appends (base_of plan.now library.now clocks.now start.second) clocks.now.running trace.now engines.old engines.new result.end }
+        → HasReplayedAll O.told (base_of plan.now library.now clocks.now start.second) clocks.now.running trace.now engines.old engines.new result.counts.items result.logs.items }
+    ensures part { HasReplayedSome O.told (base_of plan.now library.now clocks.now start.second) clocks.now.running trace.now engines.old engines.new result.end }
 {
     let station = Station {
         plan,

@@ -2,6 +2,7 @@
 use Rattle.std.specs.Prelude.{◌≡◌, ℕ, List, length, Option, Ok}
 use Rattle.std.specs.Option.{ForSome}
 use Rattle.liq_base.specs.Files.{Files}
+use Rattle.liq_base.specs.Shelves.{ShelfTold}
 use Rattle.plan_core.specs.declared.node.Node.{Node}
 use Rattle.plan_core.specs.declared.plan.Plan.{Plan}
 use Rattle.frame_core.specs.Library.{IsLibrary, Sounds}
@@ -25,5 +26,5 @@ pub record AreLoaded (told : Option Files) (rules : Rules) (nodes : List Node) (
   pub sounds : IsLibrary library
 
 -- why the audio files of the nodes are not loaded
-abbrev pub LoadEnds : Option Files → (before after : ℕ) → Rules → List Node → LoadFault → Type 0
-LoadEnds told before after rules nodes = Ends told before after (λ files. LoadReads rules files nodes) (λ files. load_of rules files nodes)
+abbrev pub LoadEnds : (old new : ShelfTold) → Rules → List Node → LoadFault → Type 0
+LoadEnds old new rules nodes = Ends old new (λ files. LoadReads rules files nodes) (λ files. load_of rules files nodes)

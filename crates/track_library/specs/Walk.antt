@@ -5,6 +5,7 @@ use Rattle.std.specs.Option.{ForSome}
 use Rattle.std.specs.Str.{bytes_eq}
 use Rattle.liq_base.specs.Counts.{Rose}
 use Rattle.liq_base.specs.Files.{Files, file_at}
+use Rattle.liq_base.specs.Shelves.{ShelfTold}
 use Rattle.plan_core.specs.declared.node.Node.{Node}
 use Rattle.plan_core.specs.declared.node.Op.{Op}
 use Rattle.plan_core.specs.declared.node.Op.TheVariants.{Single, Playlist, Blank, Square, Fail, Fallback, Switch, Sequence, Rotate, Random, Add, Amplify, Mean, Stereo, Crossfade, Buffer, Clock}
@@ -202,22 +203,22 @@ load_of rules files nodes = sounds_of (nodes_walked rules files nodes (Ok (nothi
 
 -- why a step ends with this fault: a read that failed let the count of failed reads rise, and is one of those of the
 -- step; memory may be refused anywhere; every other fault is the one of the files, where they are told
-abbrev pub Ends : {X : Type 0} → Option Files → ℕ → ℕ → (Files → List ℕ → Type 0) → (Files → Result X LoadFault) → LoadFault → Type 0
-Ends told before after reads step (Missing name) = ForSome told (λ files. step files ≡ Err (Missing name))
-Ends told before after reads step (BadAudio name fault) = ForSome told (λ files. step files ≡ Err (BadAudio name fault))
-Ends told before after reads step (FileTooLarge name) = ForSome told (λ files. step files ≡ Err (FileTooLarge name))
-Ends told before after reads step AllTooLarge = ForSome told (λ files. step files ≡ Err AllTooLarge)
-Ends told before after reads step (ReadFault name) = Rose before after × ForSome told (λ files. reads files name)
-Ends told before after reads step Memory = ⊤
+abbrev pub Ends : {X : Type 0} → (old new : ShelfTold) → (Files → List ℕ → Type 0) → (Files → Result X LoadFault) → LoadFault → Type 0
+Ends old new reads step (Missing name) = ForSome old.files (λ files. step files ≡ Err (Missing name))
+Ends old new reads step (BadAudio name fault) = ForSome old.files (λ files. step files ≡ Err (BadAudio name fault))
+Ends old new reads step (FileTooLarge name) = ForSome old.files (λ files. step files ≡ Err (FileTooLarge name))
+Ends old new reads step AllTooLarge = ForSome old.files (λ files. step files ≡ Err AllTooLarge)
+Ends old new reads step (ReadFault name) = Rose old.reads new.reads × ForSome old.files (λ files. reads files name)
+Ends old new reads step Memory = ⊤
 
 -- the reading of a file ends with these faults alone
-abbrev pub IsReading : List ℕ → ℕ → ℕ → LoadFault → Type 0
-IsReading file before after (Missing name) = ⊥
-IsReading file before after (BadAudio name fault) = ⊥
-IsReading file before after (FileTooLarge name) = ⊥
-IsReading file before after AllTooLarge = ⊥
-IsReading file before after (ReadFault name) = Rose before after × (name ≡ file)
-IsReading file before after Memory = ⊤
+abbrev pub IsReading : List ℕ → (old new : ShelfTold) → LoadFault → Type 0
+IsReading file old new (Missing name) = ⊥
+IsReading file old new (BadAudio name fault) = ⊥
+IsReading file old new (FileTooLarge name) = ⊥
+IsReading file old new AllTooLarge = ⊥
+IsReading file old new (ReadFault name) = Rose old.reads new.reads × (name ≡ file)
+IsReading file old new Memory = ⊤
 
 -- a step that reads nothing ends with its fault, or for want of memory
 abbrev pub EndsAt : {X : Type 0} → Result X LoadFault → LoadFault → Type 0

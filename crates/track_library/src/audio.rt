@@ -5,6 +5,7 @@ ghost use Rattle.frame_core.specs.Sounds.{IsSound};
 ghost use Rattle.track_library.specs.Walk.{Ends, EndsAt, first_use, use_audio, value_of};
 ghost use Rattle.track_library.specs.Reads.{FirstRead};
 ghost use Rattle.track_library.specs.States.{heard_of, AreRules, Finds, IsHeard};
+ghost use Rattle.liq_base.specs.Shelves.{OnlyRead};
 
 use crate::fault::{LoadFault, Unusable};
 use crate::reading::read_audio;
@@ -106,14 +107,10 @@ impl AudioFiles {
     ) -> Result<Result<u32, Unusable>, LoadFault>
         requires heard { IsHeard (heard_of self.old) }
         requires rules { AreRules rules }
-        ensures used { IfOk result (λ found. ForSome (S.files shelf.old) (λ files. use_audio rules files (heard_of self.old) name.now ≡ Ok (heard_of self.new, found))) }
+        ensures used { IfOk result (λ found. ForSome (S.told shelf.old).files (λ files. use_audio rules files (heard_of self.old) name.now ≡ Ok (heard_of self.new, found))) }
         ensures finds { IfOk result (λ found. Finds (heard_of self.old) (heard_of self.new) found) }
-        ensures fault { IfErr result (Ends (S.files shelf.old) (S.read_count shelf.old) (S.read_count shelf.new) (λ _. FirstRead (heard_of self.old).names name.now) (λ files. use_audio rules files (heard_of self.old) name.now)) }
-        ensures files { S.files shelf.new ≡ S.files shelf.old }
-        ensures created { S.created shelf.new ≡ S.created shelf.old }
-        ensures closed { S.closed shelf.new ≡ S.closed shelf.old }
-        ensures reads { S.read_count shelf.old ≤ S.read_count shelf.new }
-        ensures writes { S.write_count shelf.old ≤ S.write_count shelf.new }
+        ensures fault { IfErr result (Ends (S.told shelf.old) (S.told shelf.new) (λ _. FirstRead (heard_of self.old).names name.now) (λ files. use_audio rules files (heard_of self.old) name.now)) }
+        ensures shelf { OnlyRead (S.told shelf.old) (S.told shelf.new) }
     {
         if let Some(found) = self.known(name) {
             return Ok(found);

@@ -4,6 +4,7 @@ ghost use Rattle.std.specs.Option.{ForSome};
 ghost use Rattle.track_library.specs.Walk.{Ends, use_list, value_of};
 ghost use Rattle.track_library.specs.Reads.{FirstRead};
 ghost use Rattle.track_library.specs.States.{lists_of, names_at};
+ghost use Rattle.liq_base.specs.Shelves.{OnlyRead};
 
 use crate::fault::{LoadFault, fault_of};
 use crate::list::read_list;
@@ -27,14 +28,10 @@ impl ReadLists {
         shelf: &mut S,
         name: &str,
     ) -> Result<usize, LoadFault>
-        ensures used { IfOk result (λ at. ForSome (S.files shelf.old) (λ files. use_list files (lists_of self.old) name.now ≡ Ok (lists_of self.new, names_at (lists_of self.new) at))) }
+        ensures used { IfOk result (λ at. ForSome (S.told shelf.old).files (λ files. use_list files (lists_of self.old) name.now ≡ Ok (lists_of self.new, names_at (lists_of self.new) at))) }
         ensures within { IfOk result (λ at. at < length (lists_of self.new)) }
-        ensures fault { IfErr result (Ends (S.files shelf.old) (S.read_count shelf.old) (S.read_count shelf.new) (λ _. FirstRead (lists_of self.old) name.now) (λ files. use_list files (lists_of self.old) name.now)) }
-        ensures files { S.files shelf.new ≡ S.files shelf.old }
-        ensures created { S.created shelf.new ≡ S.created shelf.old }
-        ensures closed { S.closed shelf.new ≡ S.closed shelf.old }
-        ensures reads { S.read_count shelf.old ≤ S.read_count shelf.new }
-        ensures writes { S.write_count shelf.old ≤ S.write_count shelf.new }
+        ensures fault { IfErr result (Ends (S.told shelf.old) (S.told shelf.new) (λ _. FirstRead (lists_of self.old) name.now) (λ files. use_list files (lists_of self.old) name.now)) }
+        ensures shelf { OnlyRead (S.told shelf.old) (S.told shelf.new) }
     {
         if let Some(at) = self.lists.get_index_of(name) {
             return Ok(at);

@@ -8,6 +8,7 @@ ghost use Rattle.resample.specs.Resampled.{AreRates, blocks_of, resampled};
 ghost use Rattle.track_library.specs.Walk.{audio_at, audio_in, bytes_in, items_of, samples_at, IsReading};
 ghost use Rattle.track_library.specs.Files.{IsReadable, sound_in};
 ghost use Rattle.track_library.specs.States.{AreRules};
+ghost use Rattle.liq_base.specs.Shelves.{OnlyRead};
 
 use crate::fault::{LoadFault, Unusable};
 use crate::rules::Rules;
@@ -26,14 +27,10 @@ pub fn fetch<S: Shelf>(
     name: &str,
     most: u64,
 ) -> Result<Result<Vec<u8>, Unusable>, LoadFault>
-    ensures fetched { IfOk result (λ found. ForSome (S.files shelf.old) (λ files. bytes_in most (file_at files name.now) ≡ items_of found)) }
+    ensures fetched { IfOk result (λ found. ForSome (S.told shelf.old).files (λ files. bytes_in most (file_at files name.now) ≡ items_of found)) }
     ensures few { IfOk result (λ found. IfOk found (λ bytes. length bytes.items ≤ most)) }
-    ensures fault { IfErr result (λ fault. IsReading name.now (S.read_count shelf.old) (S.read_count shelf.new) fault) }
-    ensures files { S.files shelf.new ≡ S.files shelf.old }
-    ensures created { S.created shelf.new ≡ S.created shelf.old }
-    ensures closed { S.closed shelf.new ≡ S.closed shelf.old }
-    ensures reads { S.read_count shelf.old ≤ S.read_count shelf.new }
-    ensures writes { S.write_count shelf.old ≤ S.write_count shelf.new }
+    ensures fault { IfErr result (λ fault. IsReading name.now (S.told shelf.old) (S.told shelf.new) fault) }
+    ensures shelf { OnlyRead (S.told shelf.old) (S.told shelf.new) }
 {
     let mut bytes = Vec::new(alloc);
     match shelf.read(name, &mut bytes, most) {
@@ -119,14 +116,10 @@ pub fn read_audio<S: Shelf>(
     rules: Rules,
 ) -> Result<Result<(Undecoded, u64), Unusable>, LoadFault>
     requires { AreRules rules }
-    ensures audio { IfOk result (λ found. ForSome (S.files shelf.old) (λ files. audio_at rules files name.now ≡ found)) }
+    ensures audio { IfOk result (λ found. ForSome (S.told shelf.old).files (λ files. audio_at rules files name.now ≡ found)) }
     ensures sound { IfOk result (λ found. IfOk found (λ audio. IsSound audio.0)) }
-    ensures fault { IfErr result (λ fault. IsReading name.now (S.read_count shelf.old) (S.read_count shelf.new) fault) }
-    ensures files { S.files shelf.new ≡ S.files shelf.old }
-    ensures created { S.created shelf.new ≡ S.created shelf.old }
-    ensures closed { S.closed shelf.new ≡ S.closed shelf.old }
-    ensures reads { S.read_count shelf.old ≤ S.read_count shelf.new }
-    ensures writes { S.write_count shelf.old ≤ S.write_count shelf.new }
+    ensures fault { IfErr result (λ fault. IsReading name.now (S.told shelf.old) (S.told shelf.new) fault) }
+    ensures shelf { OnlyRead (S.told shelf.old) (S.told shelf.new) }
 {
     match fetch(alloc, shelf, name, rules.file)? {
         Ok(bytes) => Ok(use_bytes(bytes, rules)),

@@ -8,6 +8,7 @@ ghost use Rattle.track_library.specs.Loads.{AreLoaded, LoadEnds, rules_for};
 ghost use Rattle.track_library.specs.Reads.{EntriesRead, FirstRead, LeafReads};
 ghost use Rattle.track_library.specs.Singles.{HasOne};
 ghost use Rattle.track_library.specs.States.{heard_of, AreRules, IsHeard, Plays, walked_of, with_found};
+ghost use Rattle.liq_base.specs.Shelves.{OnlyRead};
 
 use crate::audio::AudioFiles;
 use crate::fault::{LoadFault, Unusable, fault_of};
@@ -56,15 +57,11 @@ impl Walk {
     ) -> Result<Vec<u32>, LoadFault>
         requires heard { IsHeard (heard_of self.old.audio) }
         requires rules { AreRules rules }
-        ensures leaf { IfOk result (λ leaf. ForSome (S.files shelf.old) (λ files. leaf_of rules files op.now (walked_of self.old) ≡ Ok (walked_of self.new, leaf.items))) }
-        ensures fault { IfErr result (Ends (S.files shelf.old) (S.read_count shelf.old) (S.read_count shelf.new) (λ files. LeafReads rules files op.now (walked_of self.old)) (λ files. leaf_of rules files op.now (walked_of self.old))) }
+        ensures leaf { IfOk result (λ leaf. ForSome (S.told shelf.old).files (λ files. leaf_of rules files op.now (walked_of self.old) ≡ Ok (walked_of self.new, leaf.items))) }
+        ensures fault { IfErr result (Ends (S.told shelf.old) (S.told shelf.new) (λ files. LeafReads rules files op.now (walked_of self.old)) (λ files. leaf_of rules files op.now (walked_of self.old))) }
         ensures plays { IfOk result (λ leaf. Plays (heard_of self.old.audio) (heard_of self.new.audio) leaf.items) }
         ensures single { IfOk result (λ leaf. HasOne op.now leaf.items) }
-        ensures files { S.files shelf.new ≡ S.files shelf.old }
-        ensures created { S.created shelf.new ≡ S.created shelf.old }
-        ensures closed { S.closed shelf.new ≡ S.closed shelf.old }
-        ensures reads { S.read_count shelf.old ≤ S.read_count shelf.new }
-        ensures writes { S.write_count shelf.old ≤ S.write_count shelf.new }
+        ensures shelf { OnlyRead (S.told shelf.old) (S.told shelf.new) }
     {
         match op {
             Op::Single(name) => find_single(alloc, shelf, &mut self.audio, name.as_str(), rules),
@@ -104,13 +101,9 @@ pub fn load<S: Shelf>(
     sizes: Sizes,
 ) -> Result<Library, LoadFault>
     requires { AreRules (rules_for plan.now sizes) }
-    ensures loaded { IfOk result (AreLoaded (S.files shelf.old) (rules_for plan.now sizes) plan.now.nodes) }
-    ensures fault { IfErr result (LoadEnds (S.files shelf.old) (S.read_count shelf.old) (S.read_count shelf.new) (rules_for plan.now sizes) plan.now.nodes) }
-    ensures files { S.files shelf.new ≡ S.files shelf.old }
-    ensures created { S.created shelf.new ≡ S.created shelf.old }
-    ensures closed { S.closed shelf.new ≡ S.closed shelf.old }
-    ensures reads { S.read_count shelf.old ≤ S.read_count shelf.new }
-    ensures writes { S.write_count shelf.old ≤ S.write_count shelf.new }
+    ensures loaded { IfOk result (AreLoaded (S.told shelf.old).files (rules_for plan.now sizes) plan.now.nodes) }
+    ensures fault { IfErr result (LoadEnds (S.told shelf.old) (S.told shelf.new) (rules_for plan.now sizes) plan.now.nodes) }
+    ensures shelf { OnlyRead (S.told shelf.old) (S.told shelf.new) }
 {
     let files = find_files(alloc, plan, shelf, sizes)?;
     Ok(files.decode(alloc)?)
@@ -124,13 +117,9 @@ pub fn find_files<S: Shelf>(
     sizes: Sizes,
 ) -> Result<PlanFiles, LoadFault>
     requires { AreRules (rules_for plan.now sizes) }
-    ensures loaded { IfOk result (AreLoaded (S.files shelf.old) (rules_for plan.now sizes) plan.now.nodes) }
-    ensures fault { IfErr result (LoadEnds (S.files shelf.old) (S.read_count shelf.old) (S.read_count shelf.new) (rules_for plan.now sizes) plan.now.nodes) }
-    ensures files { S.files shelf.new ≡ S.files shelf.old }
-    ensures created { S.created shelf.new ≡ S.created shelf.old }
-    ensures closed { S.closed shelf.new ≡ S.closed shelf.old }
-    ensures reads { S.read_count shelf.old ≤ S.read_count shelf.new }
-    ensures writes { S.write_count shelf.old ≤ S.write_count shelf.new }
+    ensures loaded { IfOk result (AreLoaded (S.told shelf.old).files (rules_for plan.now sizes) plan.now.nodes) }
+    ensures fault { IfErr result (LoadEnds (S.told shelf.old) (S.told shelf.new) (rules_for plan.now sizes) plan.now.nodes) }
+    ensures shelf { OnlyRead (S.told shelf.old) (S.told shelf.new) }
 {
     let rules = Rules {
         rate: plan.rate,
@@ -156,15 +145,11 @@ fn find_single<S: Shelf>(
 ) -> Result<Vec<u32>, LoadFault>
     requires heard { IsHeard (heard_of audio.old) }
     requires rules { AreRules rules }
-    ensures leaf { IfOk result (λ leaf. ForSome (S.files shelf.old) (λ files. single_leaf name.now (use_audio rules files (heard_of audio.old) name.now) ≡ Ok (heard_of audio.new, leaf.items))) }
-    ensures fault { IfErr result (Ends (S.files shelf.old) (S.read_count shelf.old) (S.read_count shelf.new) (λ _. FirstRead (heard_of audio.old).names name.now) (λ files. single_leaf name.now (use_audio rules files (heard_of audio.old) name.now))) }
+    ensures leaf { IfOk result (λ leaf. ForSome (S.told shelf.old).files (λ files. single_leaf name.now (use_audio rules files (heard_of audio.old) name.now) ≡ Ok (heard_of audio.new, leaf.items))) }
+    ensures fault { IfErr result (Ends (S.told shelf.old) (S.told shelf.new) (λ _. FirstRead (heard_of audio.old).names name.now) (λ files. single_leaf name.now (use_audio rules files (heard_of audio.old) name.now))) }
     ensures plays { IfOk result (λ leaf. Plays (heard_of audio.old) (heard_of audio.new) leaf.items) }
     ensures one { IfOk result (λ leaf. length leaf.items ≡ 1) }
-    ensures files { S.files shelf.new ≡ S.files shelf.old }
-    ensures created { S.created shelf.new ≡ S.created shelf.old }
-    ensures closed { S.closed shelf.new ≡ S.closed shelf.old }
-    ensures reads { S.read_count shelf.old ≤ S.read_count shelf.new }
-    ensures writes { S.write_count shelf.old ≤ S.write_count shelf.new }
+    ensures shelf { OnlyRead (S.told shelf.old) (S.told shelf.new) }
 {
     match audio.find(alloc, shelf, name, rules)? {
         Ok(number) => {
@@ -196,14 +181,10 @@ fn play_entries<S: Shelf>(
 ) -> Result<Vec<u32>, LoadFault>
     requires heard { IsHeard (heard_of audio.old) }
     requires rules { AreRules rules }
-    ensures leaf { IfOk result (λ leaf. ForSome (S.files shelf.old) (λ files. entries_played rules files names.now (Ok (heard_of audio.old, [])) ≡ Ok (heard_of audio.new, leaf.items))) }
-    ensures fault { IfErr result (Ends (S.files shelf.old) (S.read_count shelf.old) (S.read_count shelf.new) (λ files. EntriesRead rules files names.now (Ok (heard_of audio.old, []))) (λ files. entries_played rules files names.now (Ok (heard_of audio.old, [])))) }
+    ensures leaf { IfOk result (λ leaf. ForSome (S.told shelf.old).files (λ files. entries_played rules files names.now (Ok (heard_of audio.old, [])) ≡ Ok (heard_of audio.new, leaf.items))) }
+    ensures fault { IfErr result (Ends (S.told shelf.old) (S.told shelf.new) (λ files. EntriesRead rules files names.now (Ok (heard_of audio.old, []))) (λ files. entries_played rules files names.now (Ok (heard_of audio.old, [])))) }
     ensures plays { IfOk result (λ leaf. Plays (heard_of audio.old) (heard_of audio.new) leaf.items) }
-    ensures files { S.files shelf.new ≡ S.files shelf.old }
-    ensures created { S.created shelf.new ≡ S.created shelf.old }
-    ensures closed { S.closed shelf.new ≡ S.closed shelf.old }
-    ensures reads { S.read_count shelf.old ≤ S.read_count shelf.new }
-    ensures writes { S.write_count shelf.old ≤ S.write_count shelf.new }
+    ensures shelf { OnlyRead (S.told shelf.old) (S.told shelf.new) }
 {
     let mut leaf = Vec::new(alloc);
     for name in names {

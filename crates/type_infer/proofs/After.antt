@@ -21,16 +21,16 @@ use Rattle.type_steps.specs.Whole.{AreWhole, IsDoneCounted}
 use Rattle.type_steps.proofs.Appended.{known_more, whole_more}
 use Rattle.type_steps.proofs.Going.{no_bound, no_call, no_def, no_if, typings_bound, typings_call, typings_def, typings_if}
 use Rattle.type_steps.proofs.Wholes.{whole_apart}
-use Rattle.name_types.specs.Seen.{DefIs, IsSeen, def_seen, env_of, founds, newest_first, types_seen}
-use Rattle.name_types.specs.declared.environment.FoundUse.{FoundUse}
-use Rattle.name_types.specs.declared.environment.Known.{Known as AKnown}
-use Rattle.name_types.specs.declared.environment.Known.TheVariants as known
-use Rattle.name_types.specs.declared.environment.KnownDef.{KnownDef}
-use Rattle.name_types.specs.declared.environment.Names.{Names}
-use Rattle.name_types.specs.declared.environment.TypedName.{TypedName}
+use Rattle.expression_types.specs.Seen.{DefIs, IsSeen, def_seen, env_of, founds, newest_first, types_seen}
+use Rattle.expression_types.specs.declared.environment.FoundUse.{FoundUse}
+use Rattle.expression_types.specs.declared.environment.Known.{Known as AKnown}
+use Rattle.expression_types.specs.declared.environment.Known.TheVariants as known
+use Rattle.expression_types.specs.declared.environment.KnownDef.{KnownDef}
+use Rattle.expression_types.specs.declared.environment.Names.{Names}
+use Rattle.expression_types.specs.declared.environment.TypedName.{TypedName}
 use Rattle.expression_types.specs.Order.{AreAdded, said_at, said_of, tokens_used}
-use Rattle.def_types.specs.Answers.{AreSaidAs, IsNumberedDef, IsTypedDef, text_of}
-use Rattle.def_types.specs.Scope.{AreSeenDefs}
+use Rattle.type_infer.specs.Answers.{AreSaidAs, IsNumberedDef, IsTypedDef, text_of}
+use Rattle.type_infer.specs.Scope.{AreSeenDefs}
 use Rattle.type_infer.specs.Later.{HoldsLater, IsRenewed}
 use Rattle.type_infer.specs.Matches.{AreNumberedDefs, HaveCountsIn, IsTextCountedIn, aimed, opens_of}
 use Rattle.type_infer.specs.States.{IsAfter, IsDefKept, IsMore, IsNext, IsNoMore, IsNoted, IsReady, IsRunKept, IsSameTyping, IsTypedSo, IsTypedWith, IsValueKept, knowns}

@@ -8,8 +8,8 @@ use Rattle.typing_rules.specs.Scripts.{def_token}
 use Rattle.type_steps.specs.Environment.{Found, Known, TextUse, function}
 use Rattle.type_steps.specs.Counts.{AreCounted, HasCount, IsTextCounted, count_at, text_count}
 use Rattle.type_steps.specs.Statements.{Done, IsNewDef}
-use Rattle.name_types.specs.Seen.{def_seen}
-use Rattle.name_types.specs.declared.environment.KnownDef.{KnownDef}
+use Rattle.expression_types.specs.Seen.{def_seen}
+use Rattle.expression_types.specs.declared.environment.KnownDef.{KnownDef}
 use Rattle.type_infer.specs.Matches.{AreNumberedDefs, HasCountIn, HaveCountsIn, IsTextCountedIn, opens_of}
 use Rattle.type_infer.specs.Steps.{AreThere, defined_as, done_in, dones_in}
 use Rattle.type_infer.specs.declared.steps.Step.{Step}

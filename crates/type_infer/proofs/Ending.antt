@@ -14,7 +14,7 @@ use Rattle.typing_rules.specs.declared.uses.Use.{Use}
 use Rattle.typing_rules.specs.Kinds.{read}
 use Rattle.typing_rules.specs.NameFaults.{first_fault, in_statement}
 use Rattle.typing_rules.specs.Scoping.{Meaning, meanings_of, meant, names, target_in}
-use Rattle.typing_rules.specs.Scripts.{HasTyping, Targets, count, first_of}
+use Rattle.typing_rules.specs.Scripts.{HasTyping, Targets, statement_count, first_of}
 use Rattle.type_steps.specs.Environment.{entries_under}
 use Rattle.type_steps.specs.Statements.{AreTypings, HasNoTypings, known_of, scope_after, uses_under}
 use Rattle.type_steps.proofs.Readings.{dones_are_read}
@@ -86,7 +86,7 @@ turned xs n all o i x old new false f lt xis placed so step = stopped (target_in
 pub memory_clash : (targets : Targets) (script : Script) (n : ℕ) (f : TypeFault) → f ≡ fault.Memory → IsClashIn targets script n f
 memory_clash targets script n f e = subst (λ (g : TypeFault). IsClashIn targets script n g) (sym e) tt
 
-count_at_most : (xs : List (Tree AStmt)) (n : ℕ) → n ≡ length xs → count (listed xs) ≤ n
+count_at_most : (xs : List (Tree AStmt)) (n : ℕ) → n ≡ length xs → statement_count (listed xs) ≤ n
 count_at_most xs n e = let c = count_listed xs in omega (arith, c, e)
 
 targets_are : (all ms : List Meaning) → all ≡ ms → target_in all ≡ target_in ms
@@ -105,7 +105,7 @@ clash_answer : (xs : List (Tree AStmt)) (n : ℕ) (all : List Meaning) (o : Opti
 clash_answer xs n all o k f c =
     let targets = targets_are all (meanings_of (first_of n (listed xs))) f.names_are.all_are in
     let long = count_listed xs in
-    clash_in_front k n (listed xs) f.names_are.faultless c.first c.last (short n (length xs) (count (listed xs)) f.short long)
+    clash_in_front k n (listed xs) f.names_are.faultless c.first c.last (short n (length xs) (statement_count (listed xs)) f.short long)
     (subst (λ (x : Targets). HasTyping x (first_of (k - 1) (listed xs))) targets c.before)
     (λ h. c.none (subst (λ (x : Targets). HasTyping x (first_of k (listed xs))) (sym targets) h).0 (subst (λ (x : Targets). HasTyping x (first_of k (listed xs))) (sym targets) h).1 (subst (λ (x : Targets). HasTyping x (first_of k (listed xs))) (sym targets) h).2) where
       short : (m n i : ℕ) → m ≤ n → i ≡ n → m ≤ i

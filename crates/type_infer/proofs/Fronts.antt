@@ -10,7 +10,7 @@ use Rattle.typing_rules.specs.declared.uses.Target.{Target}
 use Rattle.typing_rules.specs.Answers.{IsNameFault, IsTypeClash}
 use Rattle.typing_rules.specs.NameFaults.{faults_in, first_fault, in_statement, or_later, told}
 use Rattle.typing_rules.specs.Scoping.{Meaning, Name, Scope, meanings_of, meant, names, target_in, used, with_statement}
-use Rattle.typing_rules.specs.Scripts.{HasTyping, Targets, count, first_of}
+use Rattle.typing_rules.specs.Scripts.{HasTyping, Targets, statement_count, first_of}
 use Rattle.type_steps.specs.Statements.{with_last}
 use Rattle.expression_types.specs.Order.{tokens_used}
 use Rattle.expression_types.proofs.NamesInOrder.{names_in_order}
@@ -28,11 +28,11 @@ first_next xs i x lt is =
     let on : i + 1 ≡ suc i = omega arith in
     ap (λ (n : ℕ). first_of n (listed xs)) on ∙ first_suc xs i x lt is
 
-pub count_listed : (xs : List (Tree AStmt)) → count (listed xs) ≡ length xs
+pub count_listed : (xs : List (Tree AStmt)) → statement_count (listed xs) ≡ length xs
 count_listed [] = refl
 count_listed (x ∷ xs) = let rest = count_listed xs in omega (arith, rest)
 
-pub first_all : (n : ℕ) (script : Script) → count script ≤ n → first_of n script ≡ script
+pub first_all : (n : ℕ) (script : Script) → statement_count script ≤ n → first_of n script ≡ script
 first_all zero none le = refl
 first_all zero (more s rest) le = absurd (omega (arith, le))
 first_all (suc n) none le = refl
@@ -147,11 +147,11 @@ fault_behind_front n script f first typing =
       before = subst (λ (k : ℕ). HasTyping (target_in (meanings_of script)) (first_of k script)) same (typing_in_script n n script le typing);
     }
 
-pub clash_in_front : (k n : ℕ) (script : Script) → first_fault 1 [] (first_of n script) ≡ None → 0 < k → k ≤ n → n ≤ count script →
+pub clash_in_front : (k n : ℕ) (script : Script) → first_fault 1 [] (first_of n script) ≡ None → 0 < k → k ≤ n → n ≤ statement_count script →
     HasTyping (target_in (meanings_of (first_of n script))) (first_of (k - 1) script) → (HasTyping (target_in (meanings_of (first_of n script))) (first_of k script) → ⊥) → IsTypeClash script k
 clash_in_front k n script faultless first last short before none_there =
     let le : k - 1 ≤ n = omega (arith, last) in
-    let few : k ≤ count script = omega (arith, last, short) in
+    let few : k ≤ statement_count script = omega (arith, last, short) in
     record {
       names = fewer_faultless k n 1 [] script last faultless;
       clash = record {

@@ -11,3 +11,13 @@ pub mod Taken
 pub mod Settled
 pub mod Overs
 pub mod Ending
+pub mod OfParams
+pub mod Inners
+pub mod Whole
+pub mod DefTaken
+pub mod General
+pub mod Behind
+pub mod Loops
+pub mod Chunks
+pub mod Answered
+pub mod Typings

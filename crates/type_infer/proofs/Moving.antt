@@ -7,8 +7,8 @@ use Rattle.type_terms.specs.Ground.{Ground, Grounds}
 use Rattle.typing_rules.specs.declared.uses.Target.{Target}
 use Rattle.typing_rules.specs.declared.uses.Target.TheVariants as target
 use Rattle.typing_rules.specs.Arguments.{Given, Matched}
-use Rattle.typing_rules.specs.Typing.{Applied, AreGiven, DefHas, DefaultHas, DefaultsHave, EachHas, Has, HaveAll, InnersHave, NameHas, Sight, Types}
-use Rattle.typing_rules.specs.Scripts.{Entry, HasTyping, IsTypedTo, Places, Targets, calls_of, def_token, function, params_of, sight, types_of, value}
+use Rattle.typing_rules.specs.Typing.{Applied, AreGiven, DefHas, DefaultHas, DefaultsHave, EachHas, Has, HaveAll, InnersHave, NameHas, Sight, TypesByToken}
+use Rattle.typing_rules.specs.Scripts.{Entry, HasTyping, IsTypedTo, Places, Targets, calls_behind, def_token, function, params_of, sight, types_of, value}
 use Rattle.expression_types.specs.Order.{tokens_used}
 
 -- the targets are the same at these tokens
@@ -30,26 +30,26 @@ Calls = ℕ → ℕ → List (Given Ground) → Ground → Type 0
 abbrev Kinds : Type 0
 Kinds = ℕ → Option (List Kind)
 
-abbrev seen : Targets → Types → Kinds → Calls → Sight
+abbrev seen : Targets → TypesByToken → Kinds → Calls → Sight
 seen ts types kinds calls = record { target = ts; types = types; kinds = kinds; call = calls }
 
 -- ---- expressions
 
 module _ (ts us : Targets) (kinds : Kinds) (calls others : Calls) (call : (at t : ℕ) (gs : List (Given Ground)) (g : Ground) → calls at t gs g → others at t gs g) where
-  name_moves : (types : Types) (o : Option Target) (g : Ground) → NameHas (seen ts types kinds calls) o g → NameHas (seen us types kinds others) o g
+  name_moves : (types : TypesByToken) (o : Option Target) (g : Ground) → NameHas (seen ts types kinds calls) o g → NameHas (seen us types kinds others) o g
   name_moves types (Some (target.Slot t)) g h = h
   name_moves types (Some (target.Def t)) g h = absurd h
   name_moves types (Some (target.Builtin b)) g h = absurd h
   name_moves types None g h = absurd h
 
-  call_moves : (types : Types) (at : ℕ) (o : Option Target) (gs : List (Given Ground)) (g : Ground) → Applied (seen ts types kinds calls) at o gs g → Applied (seen us types kinds others) at o gs g
+  call_moves : (types : TypesByToken) (at : ℕ) (o : Option Target) (gs : List (Given Ground)) (g : Ground) → Applied (seen ts types kinds calls) at o gs g → Applied (seen us types kinds others) at o gs g
   call_moves types at (Some (target.Slot t)) gs g h = absurd h
   call_moves types at (Some (target.Def t)) gs g h = (h.0, h.1, call at t gs g h.2)
   call_moves types at (Some (target.Builtin b)) gs g h = h
   call_moves types at None gs g h = absurd h
 
   mutual
-    pub moved : {r : Sort} (types : Types) (t : Tree r) → AllSame ts us (tokens_used t) → (g : Ground) → Has (seen ts types kinds calls) t g → Has (seen us types kinds others) t g
+    pub moved : {r : Sort} (types : TypesByToken) (t : Tree r) → AllSame ts us (tokens_used t) → (g : Ground) → Has (seen ts types kinds calls) t g → Has (seen us types kinds others) t g
     moved types (Negative at n) a g h = h
     moved types (Plain e) a g h = moved types e a g h
     moved types (Expr first rest) a g h = (moved types first (same_left ts us (tokens_used first) (tokens_used rest) a) g h.0, moved_each types rest (same_right ts us (tokens_used first) (tokens_used rest) a) g h.1, h.2)
@@ -103,36 +103,36 @@ module _ (ts us : Targets) (kinds : Kinds) (calls others : Calls) (call : (at t 
     moved types (Between x y) a g h = absurd h
     moved types (Grouped p) a g h = absurd h
 
-    moved_each : {r : Sort} (types : Types) (t : Tree (Many r)) → AllSame ts us (tokens_used t) → (g : Ground) → EachHas (seen ts types kinds calls) t g → EachHas (seen us types kinds others) t g
+    moved_each : {r : Sort} (types : TypesByToken) (t : Tree (Many r)) → AllSame ts us (tokens_used t) → (g : Ground) → EachHas (seen ts types kinds calls) t g → EachHas (seen us types kinds others) t g
     moved_each types none a g h = tt
     moved_each types (more x xs) a g h = (moved types x (same_left ts us (tokens_used x) (tokens_used xs) a) g h.0, moved_each types xs (same_right ts us (tokens_used x) (tokens_used xs) a) g h.1)
 
-    moved_all : (types : Types) (t : Tree (Many AFull)) → AllSame ts us (tokens_used t) → (gs : Grounds) → HaveAll (seen ts types kinds calls) t gs → HaveAll (seen us types kinds others) t gs
+    moved_all : (types : TypesByToken) (t : Tree (Many AFull)) → AllSame ts us (tokens_used t) → (gs : Grounds) → HaveAll (seen ts types kinds calls) t gs → HaveAll (seen us types kinds others) t gs
     moved_all types none a gs h = h
     moved_all types (more x xs) a gs h = (h.0, h.1, h.2, moved types x (same_left ts us (tokens_used x) (tokens_used xs) a) h.0 h.3, moved_all types xs (same_right ts us (tokens_used x) (tokens_used xs) a) h.1 h.4)
 
-    moved_given : (types : Types) (t : Tree (Many AnArg)) → AllSame ts us (tokens_used t) → (gs : List (Given Ground)) → AreGiven (seen ts types kinds calls) t gs → AreGiven (seen us types kinds others) t gs
+    moved_given : (types : TypesByToken) (t : Tree (Many AnArg)) → AllSame ts us (tokens_used t) → (gs : List (Given Ground)) → AreGiven (seen ts types kinds calls) t gs → AreGiven (seen us types kinds others) t gs
     moved_given types none a gs h = h
     moved_given types (more (Arg at label f) xs) a gs h = (h.0, h.1, h.2, moved types f (same_left ts us (tokens_used f) (tokens_used xs) a) h.0 h.3, moved_given types xs (same_right ts us (tokens_used f) (tokens_used xs) a) h.1 h.4)
 
   -- ---- defs
 
-  moved_default : (types : Types) (p : Tree AParam) → AllSame ts us (tokens_used p) → (t : Ground) → DefaultHas (seen ts types kinds calls) p t → DefaultHas (seen us types kinds others) p t
+  moved_default : (types : TypesByToken) (p : Tree AParam) → AllSame ts us (tokens_used p) → (t : Ground) → DefaultHas (seen ts types kinds calls) p t → DefaultHas (seen us types kinds others) p t
   moved_default types (Param at name) a t h = tt
   moved_default types (Labelled at name) a t h = tt
   moved_default types (Optional at name d) a t h = moved types d a t h
 
-  moved_defaults : (types : Types) (ps : Tree (Many AParam)) → AllSame ts us (tokens_used ps) → (gs : List Ground) → DefaultsHave (seen ts types kinds calls) ps gs → DefaultsHave (seen us types kinds others) ps gs
+  moved_defaults : (types : TypesByToken) (ps : Tree (Many AParam)) → AllSame ts us (tokens_used ps) → (gs : List Ground) → DefaultsHave (seen ts types kinds calls) ps gs → DefaultsHave (seen us types kinds others) ps gs
   moved_defaults types none a gs h = h
   moved_defaults types (more p ps) a [] h = absurd h
   moved_defaults types (more p ps) a (g ∷ gs) h = (moved_default types p (same_left ts us (tokens_used p) (tokens_used ps) a) g h.0, moved_defaults types ps (same_right ts us (tokens_used p) (tokens_used ps) a) gs h.1)
 
-  moved_inners : (types : Types) (is : Tree (Many AnInner)) → AllSame ts us (tokens_used is) → (xs ys : Types) → InnersHave (seen ts types kinds calls) is xs ys → InnersHave (seen us types kinds others) is xs ys
+  moved_inners : (types : TypesByToken) (is : Tree (Many AnInner)) → AllSame ts us (tokens_used is) → (xs ys : TypesByToken) → InnersHave (seen ts types kinds calls) is xs ys → InnersHave (seen us types kinds others) is xs ys
   moved_inners types none a xs ys h = h
   moved_inners types (more (Inner (Bind at name f) semicolon) is) a xs ys h =
       (h.0, moved (xs ++ types) f (same_left ts us (tokens_used f) (tokens_used is) a) h.0 h.1, moved_inners types is (same_right ts us (tokens_used f) (tokens_used is) a) (xs ++ (at, h.0) ∷ []) ys h.2)
 
-  pub moved_def : (types : Types) (d : Tree ADef) → AllSame ts us (tokens_used d) → (gs : List Ground) (g : Ground) → DefHas (seen ts types kinds calls) d gs g → DefHas (seen us types kinds others) d gs g
+  pub moved_def : (types : TypesByToken) (d : Tree ADef) → AllSame ts us (tokens_used d) → (gs : List Ground) (g : Ground) → DefHas (seen ts types kinds calls) d gs g → DefHas (seen us types kinds others) d gs g
   moved_def types (Def at name ps equals is e) a gs g h =
       let front = same_left ts us (tokens_used ps ++ tokens_used is) (tokens_used e) a in
       let last = same_right ts us (tokens_used ps ++ tokens_used is) (tokens_used e) a in (
@@ -154,14 +154,14 @@ both_move : (b : Bool) (A B C D : Type 0) → (A → C) → (B → D) → Chosen
 both_move true A B C D f k h = f h
 both_move false A B C D f k h = k h
 
-calls_move : (ts us : Targets) (kinds : Places) (es : List Entry) → AreSame ts us es → (chain : List ℕ) (at t : ℕ) (gs : List (Given Ground)) (g : Ground) → calls_of ts kinds es chain at t gs g → calls_of us kinds es chain at t gs g
+calls_move : (ts us : Targets) (kinds : Places) (es : List Entry) → AreSame ts us es → (chain : List ℕ) (at t : ℕ) (gs : List (Given Ground)) (g : Ground) → calls_behind ts kinds es chain at t gs g → calls_behind us kinds es chain at t gs g
 calls_move ts us kinds [] a chain at t gs g h = h
 calls_move ts us kinds (value x y ∷ es) a chain at t gs g h = calls_move ts us kinds es a chain at t gs g h
 calls_move ts us kinds (function d ∷ es) a chain at t gs g h =
     both_move (nat_eq (def_token d) t)
-    ((ws : List Ground) × Matched (params_of d) gs ws × DefHas (sight ts kinds es (at ∷ chain)) d ws g) (calls_of ts kinds es chain at t gs g)
-    ((ws : List Ground) × Matched (params_of d) gs ws × DefHas (sight us kinds es (at ∷ chain)) d ws g) (calls_of us kinds es chain at t gs g)
-    (λ x. (x.0, x.1, moved_def ts us (kinds (at ∷ chain)) (calls_of ts kinds es (at ∷ chain)) (calls_of us kinds es (at ∷ chain)) (calls_move ts us kinds es a.1 (at ∷ chain)) (types_of es) d a.0 x.0 g x.2))
+    ((ws : List Ground) × Matched (params_of d) gs ws × DefHas (sight ts kinds es (at ∷ chain)) d ws g) (calls_behind ts kinds es chain at t gs g)
+    ((ws : List Ground) × Matched (params_of d) gs ws × DefHas (sight us kinds es (at ∷ chain)) d ws g) (calls_behind us kinds es chain at t gs g)
+    (λ x. (x.0, x.1, moved_def ts us (kinds (at ∷ chain)) (calls_behind ts kinds es (at ∷ chain)) (calls_behind us kinds es (at ∷ chain)) (calls_move ts us kinds es a.1 (at ∷ chain)) (types_of es) d a.0 x.0 g x.2))
     (λ x. calls_move ts us kinds es a.1 chain at t gs g x) h
 
 -- ---- scripts
@@ -170,20 +170,20 @@ script_moves : (ts us : Targets) (kinds : Places) (es fs : List Entry) (script :
 script_moves ts us kinds es fs none a b h = h
 script_moves ts us kinds es fs (more (Stmt (BindPart (Bind at name f)) semicolon) rest) a b h = (
   h.0,
-  moved ts us (kinds []) (calls_of ts kinds es []) (calls_of us kinds es []) (calls_move ts us kinds es a []) (types_of es) f (same_left ts us (tokens_used f) (tokens_used rest) b) h.0 h.1,
+  moved ts us (kinds []) (calls_behind ts kinds es []) (calls_behind us kinds es []) (calls_move ts us kinds es a []) (types_of es) f (same_left ts us (tokens_used f) (tokens_used rest) b) h.0 h.1,
   script_moves ts us kinds (value at h.0 ∷ es) fs rest a (same_right ts us (tokens_used f) (tokens_used rest) b) h.2,
 )
 script_moves ts us kinds es fs (more (Stmt (DefPart d) semicolon) rest) a b h =
     let here = same_left ts us (tokens_used d) (tokens_used rest) b in (
-      (h.0.0, h.0.1, h.0.2, moved_def ts us (h.0.0 []) (calls_of ts h.0.0 es []) (calls_of us h.0.0 es []) (calls_move ts us h.0.0 es a []) (types_of es) d here h.0.1 h.0.2 h.0.3),
+      (h.0.0, h.0.1, h.0.2, moved_def ts us (h.0.0 []) (calls_behind ts h.0.0 es []) (calls_behind us h.0.0 es []) (calls_move ts us h.0.0 es a []) (types_of es) d here h.0.1 h.0.2 h.0.3),
       script_moves ts us kinds (function d ∷ es) fs rest (here, a) (same_right ts us (tokens_used d) (tokens_used rest) b) h.1,
     )
 script_moves ts us kinds es fs (more (Stmt (CallPart c) semicolon) rest) a b h = (
-  (h.0.0, moved ts us (kinds []) (calls_of ts kinds es []) (calls_of us kinds es []) (calls_move ts us kinds es a []) (types_of es) c (same_left ts us (tokens_used c) (tokens_used rest) b) h.0.0 h.0.1),
+  (h.0.0, moved ts us (kinds []) (calls_behind ts kinds es []) (calls_behind us kinds es []) (calls_move ts us kinds es a []) (types_of es) c (same_left ts us (tokens_used c) (tokens_used rest) b) h.0.0 h.0.1),
   script_moves ts us kinds es fs rest a (same_right ts us (tokens_used c) (tokens_used rest) b) h.1,
 )
 script_moves ts us kinds es fs (more (Stmt (IfPart c) semicolon) rest) a b h = (
-  (h.0.0, moved ts us (kinds []) (calls_of ts kinds es []) (calls_of us kinds es []) (calls_move ts us kinds es a []) (types_of es) c (same_left ts us (tokens_used c) (tokens_used rest) b) h.0.0 h.0.1),
+  (h.0.0, moved ts us (kinds []) (calls_behind ts kinds es []) (calls_behind us kinds es []) (calls_move ts us kinds es a []) (types_of es) c (same_left ts us (tokens_used c) (tokens_used rest) b) h.0.0 h.0.1),
   script_moves ts us kinds es fs rest a (same_right ts us (tokens_used c) (tokens_used rest) b) h.1,
 )
 

@@ -12,12 +12,12 @@ use Rattle.type_steps.specs.Statements.{found_said, scope_after, text_said, with
 use Rattle.type_steps.proofs.Appended.{used_more}
 use Rattle.type_steps.proofs.NameTokens.{RiseTo}
 use Rattle.type_steps.proofs.Wholes.{used_rise}
-use Rattle.name_types.specs.Seen.{env_of}
-use Rattle.name_types.specs.declared.environment.KnownDef.{KnownDef}
-use Rattle.name_types.specs.declared.environment.Names.{Names}
+use Rattle.expression_types.specs.Seen.{env_of}
+use Rattle.expression_types.specs.declared.environment.KnownDef.{KnownDef}
+use Rattle.expression_types.specs.declared.environment.Names.{Names}
 use Rattle.expression_types.specs.Order.{Said, kinds_count, said_at, said_of, tokens_used}
 use Rattle.expression_types.proofs.NamesInOrder.{names_in_order}
-use Rattle.def_types.specs.Answers.{said_in}
+use Rattle.type_infer.specs.Answers.{said_in}
 use Rattle.type_infer.specs.Matches.{AreAimed, HasCountIn, HaveCountsIn, IsTextCountedIn, aimed}
 use Rattle.type_infer.proofs.Fronts.{first_first, first_next, first_placed, front_used}
 

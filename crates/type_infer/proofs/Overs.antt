@@ -6,11 +6,11 @@ use Rattle.type_steps.specs.Environment.{AreKindsOver, AreKnownOver, ArePendingO
 use Rattle.type_steps.specs.Statements.{AreFoundsOver, Done, bound, defined, known_after, ran}
 use Rattle.typing_rules.specs.Scripts.{Targets}
 use Rattle.script_grammar.specs.Tree.{Script}
-use Rattle.name_types.specs.Seen.{founds, pending, text_use}
-use Rattle.name_types.specs.declared.environment.FoundUse.{FoundUse}
-use Rattle.name_types.specs.declared.environment.KnownDef.{KnownDef}
-use Rattle.name_types.specs.declared.environment.TextKind.{TextKind}
-use Rattle.name_types.specs.declared.environment.TextUse.{TextUse as ATextUse}
+use Rattle.expression_types.specs.Seen.{founds, pending, text_use}
+use Rattle.expression_types.specs.declared.environment.FoundUse.{FoundUse}
+use Rattle.expression_types.specs.declared.environment.KnownDef.{KnownDef}
+use Rattle.expression_types.specs.declared.environment.TextKind.{TextKind}
+use Rattle.expression_types.specs.declared.environment.TextUse.{TextUse as ATextUse}
 use Rattle.type_infer.specs.Settling.{AreDonesOver}
 use Rattle.type_infer.specs.States.{IsTypedSo, dones}
 use Rattle.type_infer.specs.Steps.{done_in, dones_in}

@@ -16,7 +16,7 @@ use Rattle.typing_rules.specs.declared.uses.Target.TheVariants as target
 use Rattle.typing_rules.specs.declared.uses.Use.{Use}
 use Rattle.typing_rules.specs.Arguments.{Given, Matched, Parameter}
 use Rattle.typing_rules.specs.Kinds.{kinds_of}
-use Rattle.typing_rules.specs.Scripts.{Entry, Places, Targets, behind, calls_of, def_token, params_of, sight}
+use Rattle.typing_rules.specs.Scripts.{Entry, Places, Targets, behind, calls_behind, def_token, params_of, sight}
 use Rattle.typing_rules.specs.Typing.{DefHas}
 use Rattle.typing_rules.proofs.TypedScripts.{call_typed, typed_call}
 use Rattle.typing_rules.proofs.Shift.{text_comes, text_goes}
@@ -28,13 +28,13 @@ use Rattle.type_steps.proofs.Tables.{env_later}
 use Rattle.type_steps.specs.Counts.{count_at, text_count}
 use Rattle.type_steps.specs.Defs.{IsTypingOf, outside}
 use Rattle.type_steps.specs.Statements.{IsNewDef}
-use Rattle.name_types.specs.Seen.{DefIs, def_known, def_seen, known_seen, newest_first}
-use Rattle.name_types.specs.declared.environment.Known.{Known as AKnown}
-use Rattle.name_types.specs.declared.environment.Known.TheVariants as known
-use Rattle.name_types.specs.declared.environment.KnownDef.{KnownDef}
-use Rattle.name_types.specs.declared.environment.TypedName.{TypedName}
-use Rattle.def_types.specs.Answers.{text_of}
-use Rattle.def_types.specs.Scope.{AreAmong, AreSeenDefs}
+use Rattle.expression_types.specs.Seen.{DefIs, def_known, def_seen, known_seen, newest_first}
+use Rattle.expression_types.specs.declared.environment.Known.{Known as AKnown}
+use Rattle.expression_types.specs.declared.environment.Known.TheVariants as known
+use Rattle.expression_types.specs.declared.environment.KnownDef.{KnownDef}
+use Rattle.expression_types.specs.declared.environment.TypedName.{TypedName}
+use Rattle.type_infer.specs.Answers.{text_of}
+use Rattle.type_infer.specs.Scope.{AreAmong, AreSeenDefs}
 
 -- ---- lists
 
@@ -165,7 +165,7 @@ TakesBy b xs kinds chain t ks us = elim b [ true ↦ TextTakes (CallTakes xs kin
 abbrev CallsBy : Bool → Targets → Places → List Entry → List ℕ → ℕ → ℕ → List (Given Ground) → Ground → Tree ADef → Type 0
 CallsBy b targets kinds es chain at t gs g d = elim b [
   | true ↦ ((ts : List Ground) × Matched (params_of d) gs ts × DefHas (sight targets kinds es (at ∷ chain)) d ts g)
-  | false ↦ calls_of targets kinds es chain at t gs g
+  | false ↦ calls_behind targets kinds es chain at t gs g
 ]
 
 def_behind_other : (s : Table) (targets : Targets) (ks : List Known) (d : Tree ADef) (us : List TextUse) (t : ℕ) (o : Option KnownDef) → nat_eq (def_token d) t ≡ false → DefIs s (outside targets ks) t o → DefIs s (outside targets (function d us ∷ ks)) t o

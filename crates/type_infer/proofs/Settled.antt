@@ -18,11 +18,11 @@ use Rattle.typing_rules.specs.declared.uses.KindOf.TheVariants as kind_of
 use Rattle.typing_rules.specs.declared.uses.Use.{Use}
 use Rattle.type_steps.specs.Environment.{Found, TextUse, settled, settled_use}
 use Rattle.type_steps.specs.Statements.{Done, found_use, uses_in, uses_under}
-use Rattle.name_types.specs.Seen.{found, founds, pending, text_use}
-use Rattle.name_types.specs.declared.environment.FoundUse.{FoundUse}
-use Rattle.name_types.specs.declared.environment.TextKind.{TextKind}
-use Rattle.name_types.specs.declared.environment.TextUse.{TextUse as ATextUse}
-use Rattle.name_types.specs.declared.environment.KnownDef.{KnownDef}
+use Rattle.expression_types.specs.Seen.{found, founds, pending, text_use}
+use Rattle.expression_types.specs.declared.environment.FoundUse.{FoundUse}
+use Rattle.expression_types.specs.declared.environment.TextKind.{TextKind}
+use Rattle.expression_types.specs.declared.environment.TextUse.{TextUse as ATextUse}
+use Rattle.expression_types.specs.declared.environment.KnownDef.{KnownDef}
 use Rattle.type_infer.specs.Settling.{AddsDones, AddsFounds, AddsTexts, AreDefaultOf, AreSettledKinds, AreSettledTexts, IsSettledKind, IsSettledText, free_kind}
 use Rattle.type_infer.specs.Steps.{done_in, dones_in}
 use Rattle.type_infer.specs.declared.steps.Step.{Step}

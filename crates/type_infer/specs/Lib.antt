@@ -6,3 +6,8 @@ pub mod Settling
 pub mod States
 pub mod Steps
 pub mod Turns
+pub mod PartsOf
+pub mod TextUses
+pub mod Answers
+pub mod Scope
+pub mod DefSteps

@@ -8,8 +8,8 @@ use Rattle.typing_rules.specs.Table.{signature}
 use Rattle.general_types.specs.Schemes.{scheme_of}
 use Rattle.type_steps.specs.Environment.{Found, Known, TextUse}
 use Rattle.type_steps.specs.Counts.{count_at, scheme_count}
-use Rattle.name_types.specs.Seen.{def_seen}
-use Rattle.name_types.specs.declared.environment.KnownDef.{KnownDef}
+use Rattle.expression_types.specs.Seen.{def_seen}
+use Rattle.expression_types.specs.declared.environment.KnownDef.{KnownDef}
 
 -- a token, and what the name there means
 abbrev pub aimed : Targets → ℕ → Meaning

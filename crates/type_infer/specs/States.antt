@@ -14,12 +14,12 @@ use Rattle.type_steps.specs.Environment.{Env, Known}
 use Rattle.type_steps.specs.Flow.{HasNoType, Infers}
 use Rattle.type_steps.specs.Statements.{AreTypings, Done, HasNoTypings, found_said, known_of, scope_after, uses_under, with_last}
 use Rattle.type_steps.specs.Whole.{AreWhole}
-use Rattle.name_types.specs.Seen.{founds, newest_first}
-use Rattle.name_types.specs.declared.environment.FoundUse.{FoundUse}
-use Rattle.name_types.specs.declared.environment.Known.TheVariants as known
-use Rattle.name_types.specs.declared.environment.KnownDef.{KnownDef}
+use Rattle.expression_types.specs.Seen.{founds, newest_first}
+use Rattle.expression_types.specs.declared.environment.FoundUse.{FoundUse}
+use Rattle.expression_types.specs.declared.environment.Known.TheVariants as known
+use Rattle.expression_types.specs.declared.environment.KnownDef.{KnownDef}
 use Rattle.expression_types.specs.Order.{tokens_used}
-use Rattle.def_types.specs.Scope.{AreSeenDefs}
+use Rattle.type_infer.specs.Scope.{AreSeenDefs}
 use Rattle.type_infer.specs.Later.{HoldsLater}
 use Rattle.type_infer.specs.Matches.{AreAimed, AreNumberedDefs, HaveCountsIn, aimed}
 use Rattle.type_infer.specs.Steps.{AreThere, dones_in}

@@ -4,9 +4,9 @@ use Rattle.std.specs.List.{flat_map}
 use Rattle.script_grammar.specs.View.{view_def}
 use Rattle.type_terms.specs.Term.{variable}
 use Rattle.type_steps.specs.Statements.{Done, bound, defined, ran}
-use Rattle.name_types.specs.Seen.{founds}
-use Rattle.name_types.specs.declared.environment.KnownDef.{KnownDef}
-use Rattle.def_types.specs.Answers.{text_of}
+use Rattle.expression_types.specs.Seen.{founds}
+use Rattle.expression_types.specs.declared.environment.KnownDef.{KnownDef}
+use Rattle.type_infer.specs.Answers.{text_of}
 use Rattle.type_infer.specs.declared.steps.Step.{Step}
 use Rattle.type_infer.specs.declared.steps.Step.TheVariants as step
 

@@ -12,19 +12,18 @@ ghost use Rattle.type_infer.specs.Fronts.{IsFront};
 ghost use Rattle.type_infer.specs.Settling.{AreDonesOver};
 ghost use Rattle.type_infer.specs.States.{AreDefaultUses, IsAfter, IsReady, IsSameTyping, IsStepped, IsTypedSo, dones};
 ghost use Rattle.type_infer.specs.Turns.{IsTurned};
-ghost use Rattle.name_types.specs.Tables.{targets_of};
+ghost use Rattle.expression_types.specs.Tables.{targets_of};
 
 use crate::front::{Front, resolve_front};
 use crate::settling::settled_uses;
 use crate::statements::type_part;
 use crate::steps::Typing;
+use expression_types::{Bindings, Defs, target_table};
 use general_types::Held;
-use liq_base::Memory;
+use liq_base::{Memory, TokenTable};
 use name_scope::Resolved;
-use name_types::{Bindings, Defs, target_table};
 use script_grammar::tree::{Script, Stmt, StmtPart};
 use std::alloc::Global;
-use token_table::TokenTable;
 use type_terms::Subst;
 use typing_rules::{Target, TypeFault, Use};
 

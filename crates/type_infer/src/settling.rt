@@ -1,14 +1,14 @@
 // The uses of statements under the default solution.
 ghost use Rattle.std.specs.Prelude.{◌≡◌, map, option_map, IfOk, OnOk};
 ghost use Rattle.type_steps.specs.Environment.{AreKindsOver, ArePendingOver, AreUsesOver, IsKindOver, IsPendingOver, IsTextOver};
-ghost use Rattle.name_types.specs.Seen.{founds, pending, text_use};
+ghost use Rattle.expression_types.specs.Seen.{founds, pending, text_use};
 ghost use Rattle.type_infer.specs.Settling.{AddsDones, AddsFounds, AddsTexts, AreDefaultOf, AreDonesOver, AreSettledKinds, AreSettledTexts, IsSettledKind, IsSettledText, free_kind as the_free_kind};
 ghost use Rattle.type_infer.specs.States.{dones};
 ghost use Rattle.type_infer.specs.Steps.{defined_as, done_in, dones_in};
 
 use crate::steps::{Step, Typing};
+use expression_types::{FoundUse, KnownDef, TextKind, TextUse};
 use liq_base::{Kind, Memory};
-use name_types::{FoundUse, KnownDef, TextKind, TextUse};
 use std::alloc::Global;
 use type_terms::{KindTerm, Subst, resolved_kind};
 use typing_rules::{KindOf, Use, UseKinds};

@@ -3,19 +3,18 @@ ghost use Rattle.std.specs.Prelude.{◌≡◌, [], IfOk, OnOk};
 ghost use Rattle.script_grammar.specs.Tree.{BindPart, CallPart, DefPart, IfPart};
 ghost use Rattle.script_grammar.specs.View.{view_bind, view_call, view_def, view_if, view_part};
 ghost use Rattle.general_types.specs.Holding.{AreThere};
-ghost use Rattle.name_types.specs.Tables.{targets_of};
+ghost use Rattle.expression_types.specs.Tables.{targets_of};
 ghost use Rattle.type_infer.specs.Later.{AddsValues, AreValues, IsRenewed};
 ghost use Rattle.type_infer.specs.States.{IsDefKept, IsReady, IsRunKept, IsStepped, IsValueKept};
 
+use crate::defs::type_def;
 use crate::steps::{Step, TypedExpr, Typing};
 use crate::values::{choice_type, run_type, value_type};
-use def_types::type_def;
+use expression_types::{Bindings, Defs, Known, KnownDef, Names, TypedName};
 use general_types::Held;
-use liq_base::Memory;
-use name_types::{Bindings, Defs, Known, KnownDef, Names, TypedName};
+use liq_base::{Memory, TokenTable};
 use script_grammar::tree::{Bind, Call, Def, If, StmtPart};
 use std::alloc::Global;
-use token_table::TokenTable;
 use type_terms::{Subst, Ty};
 use typing_rules::Target;
 

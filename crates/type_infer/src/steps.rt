@@ -1,6 +1,6 @@
 // The statements that were typed so far.
+use expression_types::{Bindings, Defs, FoundUse, TypedName};
 use general_types::Held;
-use name_types::{Bindings, Defs, FoundUse, TypedName};
 use type_terms::Subst;
 
 /// The variable that is the type of a value, and the uses in it.

@@ -1,13 +1,12 @@
 // The type of the value of a statement.
 ghost use Rattle.std.specs.Prelude.{[], IfOk};
 ghost use Rattle.script_grammar.specs.View.{view_call, view_full, view_if};
-ghost use Rattle.name_types.specs.Seen.{IsSeen, env_of};
+ghost use Rattle.expression_types.specs.Seen.{IsSeen, env_of};
 ghost use Rattle.type_infer.specs.States.{IsNoted, IsTypedAs};
 
 use crate::steps::TypedExpr;
-use expression_types::{type_call, type_choice, type_full};
+use expression_types::{FoundUse, Names, type_call, type_choice, type_full};
 use liq_base::Memory;
-use name_types::{FoundUse, Names};
 use script_grammar::tree::{Call, Full, If};
 use std::alloc::Global;
 use type_terms::Subst;

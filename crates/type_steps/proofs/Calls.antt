@@ -11,7 +11,7 @@ use Rattle.type_terms.specs.declared.ty.KindTerm.{KindTerm}
 use Rattle.typing_rules.specs.declared.uses.Target.{Target}
 use Rattle.typing_rules.specs.declared.uses.Target.TheVariants as target
 use Rattle.typing_rules.specs.Arguments.{Parameter, Given, Matched}
-use Rattle.typing_rules.specs.Typing.{Types, Has, AreGiven, Applied, NameHas, type_at}
+use Rattle.typing_rules.specs.Typing.{TypesByToken, Has, AreGiven, Applied, NameHas, type_at}
 use Rattle.typing_rules.specs.Scripts.{Places, types_of}
 use Rattle.type_steps.specs.Environment.{Env, Known, value, function, Found, Texts, AreFound, AreUsesOver, AreKindsOver, AreKnownOver, AreTypesOver, EachTakes, Takes, CallTakes, IsEnvOver, sight_under, texts_under, entries_under, types_under, term_at, term_before, or_else, term_seen, with_use}
 use Rattle.type_steps.specs.Flow.{Reached, FoundAs, GivenAs, Infers, HasNoType, InfersGiven, HaveNoGiven, Restricts, Never, Defines, AreTermsOver, IsCallable, IsInstantiated, given_under}
@@ -33,7 +33,7 @@ uses_with s (x ∷ fs) f o h = (o.0, uses_with s fs f o.1 h)
 
 -- ---- a name
 
-inner_at : (a : Assignment) (t : ℕ) (xs : List (ℕ × Term)) (vs : Types) (o : Option Term) → type_at t vs ≡ option_map (meaning a) o → type_at t (types_under a xs ++ vs) ≡ option_map (meaning a) (or_else (term_at t xs) o)
+inner_at : (a : Assignment) (t : ℕ) (xs : List (ℕ × Term)) (vs : TypesByToken) (o : Option Term) → type_at t vs ≡ option_map (meaning a) o → type_at t (types_under a xs ++ vs) ≡ option_map (meaning a) (or_else (term_at t xs) o)
 inner_at a t [] vs o e = e
 inner_at a t (x ∷ xs) vs o e = by_token (inner_at a t xs vs o e) (nat_eq x.0 t) where
   by_token : type_at t (types_under a xs ++ vs) ≡ option_map (meaning a) (or_else (term_at t xs) o) → (b : Bool) → cond b (Some (meaning a x.1)) (type_at t (types_under a xs ++ vs)) ≡ option_map (meaning a) (or_else (cond b (Some x.1) (term_at t xs)) o)

@@ -11,7 +11,7 @@ use Rattle.typing_rules.specs.declared.uses.KindOf.TheVariants.{Fixed}
 use Rattle.typing_rules.specs.declared.uses.Target.{Target}
 use Rattle.typing_rules.specs.declared.uses.Target.TheVariants as target
 use Rattle.typing_rules.specs.declared.uses.Use.{Use}
-use Rattle.typing_rules.specs.Kinds.{AreInOrder, Block, EachHasKinds, HasKinds, IsInOrder, IsNumbered, blocks, counted, kinds_listed, names_of, number_of, numbers_in, open_kinds, owner, said}
+use Rattle.typing_rules.specs.Kinds.{AreInOrder, Block, EachHasKinds, HasKinds, IsInOrder, AreKindsNumbered, blocks, counted, kinds_listed, block_names, number_of, numbers_in, open_kinds, owner, said}
 use Rattle.typing_rules.specs.Scoping.{Meaning, Name, Scope, meant, names, with_statement}
 use Rattle.typing_rules.specs.Scripts.{def_token}
 use Rattle.typing_rules.specs.Uses.{use_at}
@@ -83,7 +83,7 @@ module _ (a : Assignment) (script : Script) (xs : List Done) (whole : AreWhole s
     by : (⊥ ⊎ BlockOf (blocks [] script) 0 d us) → open_kinds (blocks [] script) all_uses (def_token d) ≡ text_count us
     by (inl h) = absurd h
     by (inr r) =
-        ap (λ (o : Option Block). counted 0 (numbers_in all_uses (names_of o))) r.found
+        ap (λ (o : Option Block). counted 0 (numbers_in all_uses (block_names o))) r.found
         ∙ ap (counted 0) (names_numbers all_uses (map (settled_use a) us) r.names (texts_said a us ∙ r.said) i ∙ text_numbers a us)
 
   -- a def that is known, by its token
@@ -174,7 +174,7 @@ module _ (a : Assignment) (script : Script) (xs : List Done) (whole : AreWhole s
       in_order (with_statement s sc) rest ys (known_with y ks) old h.1 c.1 (in_right all_uses (uses_in a y) (uses_under a ys) i),
     )
 
-    pub are_numbered : IsNumbered (blocks [] script) all_uses
+    pub are_numbered : AreKindsNumbered (blocks [] script) all_uses
     are_numbered = record {
       order = in_order [] script xs [] (λ d us l. l) whole.done whole.counted (whole_in a script xs whole);
       each = each_has [] xs (λ d us l. l) whole.counted;

@@ -1,4 +1,4 @@
--- Types, uses and environments at later substitutions, and under assignments that agree.
+-- TypesByToken, uses and environments at later substitutions, and under assignments that agree.
 use Rattle.std.proofs.Common.{◌≡◌, ◌∙◌, ap, ap₂, subst, refl, ℕ, List, [], ◌∷◌, map, arith}
 use Rattle.liq_base.specs.declared.memory.Kind.{Kind}
 use Rattle.type_terms.specs.Ground.{Assignment}
@@ -10,7 +10,7 @@ use Rattle.type_terms.proofs.Terms.{InTerm-map, InKind-map, meaning_same, kind_m
 use Rattle.typing_rules.specs.declared.uses.KindOf.TheVariants.{Fixed}
 use Rattle.typing_rules.specs.declared.uses.Target.{Target}
 use Rattle.typing_rules.specs.declared.uses.Use.{Use}
-use Rattle.typing_rules.specs.Typing.{Sight, Types, within}
+use Rattle.typing_rules.specs.Typing.{Sight, TypesByToken, within}
 use Rattle.typing_rules.specs.Scripts.{Entry, Places, sight, def_token}
 use Rattle.typing_rules.specs.Scripts as entry
 use Rattle.type_steps.specs.Flow.{Reached}
@@ -102,12 +102,12 @@ texts_over s a b (function d us ∷ ks) o g = ap₂ (λ x (xs : Texts). (def_tok
 
 types_over : (s : Table) (a b : Assignment) (xs : List (ℕ × Term)) → AreTypesOver s xs → Agrees s a b → types_under a xs ≡ types_under b xs
 types_over s a b [] o g = refl
-types_over s a b (x ∷ xs) o g = ap₂ (λ t (ts : Types). (x.0, t) ∷ ts) (meaning_over s a b x.1 o.0 g) (types_over s a b xs o.1 g)
+types_over s a b (x ∷ xs) o g = ap₂ (λ t (ts : TypesByToken). (x.0, t) ∷ ts) (meaning_over s a b x.1 o.0 g) (types_over s a b xs o.1 g)
 
 -- what holds of what is seen under one holds of what is seen under the other
 pub seen_over : (P : Sight → Type 0) (s : Table) (env : Env) (a b : Assignment) (kinds : Places) → IsEnvOver s env → Agrees s a b → P (sight_under env a kinds) → P (sight_under env b kinds)
 seen_over P s env a b kinds o g p =
-    subst (λ (ts : Types). P (within ts (sight env.targets kinds (entries_under b env.before) []))) (types_over s a b env.inner o.inner g)
+    subst (λ (ts : TypesByToken). P (within ts (sight env.targets kinds (entries_under b env.before) []))) (types_over s a b env.inner o.inner g)
     (subst (λ (es : List Entry). P (within (types_under a env.inner) (sight env.targets kinds es []))) (entries_over s a b env.before o.before g) p)
 
 each_over : (s : Table) (xs : Texts) (a b : Assignment) (kinds : Places) (fs : List Found) → AreUsesOver s fs → Agrees s a b → EachTakes xs kinds a fs → EachTakes xs kinds b fs

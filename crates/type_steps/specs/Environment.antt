@@ -11,7 +11,7 @@ use Rattle.typing_rules.specs.declared.uses.KindOf.{KindOf}
 use Rattle.typing_rules.specs.declared.uses.KindOf.TheVariants.{Fixed, Given}
 use Rattle.typing_rules.specs.declared.uses.Target.{Target}
 use Rattle.typing_rules.specs.declared.uses.Target.TheVariants as target
-use Rattle.typing_rules.specs.Typing.{Types, Sight, within}
+use Rattle.typing_rules.specs.Typing.{TypesByToken, Sight, within}
 use Rattle.typing_rules.specs.Scripts.{Entry, Targets, Places, def_token, sight}
 use Rattle.typing_rules.specs.Scripts as entry
 use Rattle.typing_rules.specs.Kinds.{kinds_of}
@@ -77,7 +77,7 @@ entries_under a [] = []
 entries_under a (value t u ∷ ks) = entry.value t (meaning a u) ∷ entries_under a ks
 entries_under a (function d us ∷ ks) = entry.function d ∷ entries_under a ks
 
-abbrev pub types_under : Assignment → List (ℕ × Term) → Types
+abbrev pub types_under : Assignment → List (ℕ × Term) → TypesByToken
 types_under a ts = map (λ x. (x.0, meaning a x.1)) ts
 
 abbrev pub sight_under : Env → Assignment → Places → Sight

@@ -13,8 +13,8 @@ use Rattle.typing_rules.specs.declared.uses.Builtin.TheVariants as builtin
 use Rattle.typing_rules.specs.declared.form.Form.TheVariants.{InPlace, Perhaps}
 use Rattle.typing_rules.specs.Arguments.{Given, Matched}
 use Rattle.typing_rules.specs.Table.{IsCallOf, params_of}
-use Rattle.typing_rules.specs.Typing.{DefaultsHave, NameHas, Types, type_at}
-use Rattle.typing_rules.specs.Scripts.{HasTyping, Places, Targets, calls_of, first_of, sight, value, function}
+use Rattle.typing_rules.specs.Typing.{DefaultsHave, NameHas, TypesByToken, type_at}
+use Rattle.typing_rules.specs.Scripts.{HasTyping, Places, Targets, calls_behind, first_of, sight, value, function}
 use Rattle.typing_rules.specs.Scoping.{target_in, meanings_of}
 use Rattle.typing_rules.specs.Answers.{IsTypeClash, IsTypeFault}
 use Rattle.typing_rules.specs.declared.fault.TypeFault.TheVariants as fault
@@ -104,7 +104,7 @@ none_restricted h =
     let x = h.2.1.0.0.0.0 in
     let def = h.2.2.0 in
     let result = def.3.1.2.0.0.0.0 in
-    let x_there : Some h.2.0 ≡ Some result.0 = subst (λ (us : Types). type_at 0 (us ++ (0, h.2.0) ∷ []) ≡ Some result.0) def.3.1.1 result.2.0.0.0.0.0 in
+    let x_there : Some h.2.0 ≡ Some result.0 = subst (λ (us : TypesByToken). type_at 0 (us ++ (0, h.2.0) ∷ []) ≡ Some result.0) def.3.1.1 result.2.0.0.0.0.0 in
     let ones = result.2.1.0.0.0.0.0 in
     let is_int : ones.0 ≡ base_type base.Int = ones.2.0.0.0.0.0 in
     let in_def : result.0 ≡ list ones.0 = ones.1 in
@@ -136,11 +136,11 @@ restricted_clashes = record {
 }
 
 -- def id(x) = x end, y = (id(1), id("a"))
-id_called : (ts : Targets) (at : ℕ) (g : Ground) → ts 5 ≡ Some (target.Slot 2) → calls_of ts all_stereo (function (Def 1 (codes "id") (one (Param 2 (codes "x"))) true none (lone (Named 5 (codes "x")))) ∷ []) [] at 1 ((None, g) ∷ []) g
+id_called : (ts : Targets) (at : ℕ) (g : Ground) → ts 5 ≡ Some (target.Slot 2) → calls_behind ts all_stereo (function (Def 1 (codes "id") (one (Param 2 (codes "x"))) true none (lone (Named 5 (codes "x")))) ∷ []) [] at 1 ((None, g) ∷ []) g
 id_called ts at g means = (
   g ∷ [],
   (refl, refl, (refl, tt)),
-  ((tt, refl), ((2, g) ∷ [], refl, ((((subst (λ (o : Option Target). NameHas (record { target = ts; types = (2, g) ∷ []; kinds = all_stereo (at ∷ []); call = calls_of ts all_stereo [] (at ∷ []) }) o g) (sym means) refl, tt, tt), tt, tt), tt, tt), tt, tt))),
+  ((tt, refl), ((2, g) ∷ [], refl, ((((subst (λ (o : Option Target). NameHas (record { target = ts; types = (2, g) ∷ []; kinds = all_stereo (at ∷ []); call = calls_behind ts all_stereo [] (at ∷ []) }) o g) (sym means) refl, tt, tt), tt, tt), tt, tt), tt, tt))),
 )
 
 pub two_types : HasTyping (target_in (meanings_of at_two_types)) at_two_types

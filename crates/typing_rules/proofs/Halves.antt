@@ -20,7 +20,7 @@ use Rattle.typing_rules.specs.Scoping.{meanings_of}
 use Rattle.typing_rules.specs.NameFaults.{first_fault}
 use Rattle.typing_rules.specs.Typing.{DefHas}
 use Rattle.typing_rules.specs.Scripts.{Entry, Places, function, sight, IsTypedTo}
-use Rattle.typing_rules.specs.Kinds.{said, target_at, read, blocks, open_kinds, IsNumbered}
+use Rattle.typing_rules.specs.Kinds.{said, target_at, read, blocks, open_kinds, AreKindsNumbered}
 use Rattle.typing_rules.proofs.Samples.{full, lone, one, two, called, calls, plain, by}
 use Rattle.typing_rules.proofs.ClashChecks.{always, blank_call}
 use Rattle.std.specs.Prelude.{map}
@@ -131,5 +131,5 @@ typed d e = (
   ),
 )
 
-pub numbered : (d e : Decimal) → IsNumbered (blocks [] (halves d e)) uses
+pub numbered : (d e : Decimal) → AreKindsNumbered (blocks [] (halves d e)) uses
 numbered d e = record { order = ((1, refl), (refl, (refl, tt))); each = (refl, (refl, (refl, (refl, (refl, (refl, (refl, (refl, (refl, (refl, tt)))))))))) }

@@ -12,7 +12,7 @@ use Rattle.typing_rules.specs.declared.form.Form.TheVariants.{InPlace, Perhaps}
 use Rattle.typing_rules.specs.Arguments.{Given, Matched, Parameter}
 use Rattle.typing_rules.specs.Table.{IsCallOf, params_of}
 use Rattle.typing_rules.specs.Scoping.{Name, target_of}
-use Rattle.typing_rules.specs.Typing.{DefHas, Types, type_at}
+use Rattle.typing_rules.specs.Typing.{DefHas, TypesByToken, type_at}
 use Rattle.typing_rules.specs.Scripts.{Entry, Places, function, sight, IsTypedTo}
 use Rattle.typing_rules.specs.Kinds.{Block, IsLess, IsUsedIn, MonoOnly, Stands, blocks, read, target_at}
 use Rattle.typing_rules.specs.Answers.{IsTyped}
@@ -47,7 +47,7 @@ body_kind d kinds chain w v u h =
     let call = h.1.2.0.0.0.0 in
     let first = call.1 in
     let second = first.4 in
-    let s_there : Some v ≡ Some second.0 = subst (λ (us : Types). type_at 7 (us ++ []) ≡ Some second.0) h.1.1 second.3.0.0.0.0 in
+    let s_there : Some v ≡ Some second.0 = subst (λ (us : TypesByToken). type_at 7 (us ++ []) ≡ Some second.0) h.1.1 second.3.0.0.0.0 in
     let all : call.0 ≡ (None, first.0) ∷ (None, second.0) ∷ [] = first.2 ∙ ap (λ (us : List (Given Ground)). (None, first.0) ∷ us) (second.2 ∙ ap (λ (us : List (Given Ground)). (None, second.0) ∷ us) second.4) in
     let row : IsCallOf builtin.Amplify call.0 call.2.0 u = call.2.2 in
     let k = row.at.kind_of 0 in

@@ -11,7 +11,7 @@ use Rattle.typing_rules.specs.declared.uses.Builtin.TheVariants as builtin
 use Rattle.typing_rules.specs.declared.uses.Target.TheVariants as target
 use Rattle.typing_rules.specs.Table.{IsCallOf, params_of}
 use Rattle.typing_rules.specs.Scoping.{Name, target_of}
-use Rattle.typing_rules.specs.Typing.{DefHas, Types, type_at}
+use Rattle.typing_rules.specs.Typing.{DefHas, TypesByToken, type_at}
 use Rattle.typing_rules.specs.Scripts.{Entry, IsTypedTo, Places, Targets, function, sight, value}
 use Rattle.typing_rules.specs.Kinds.{AreSame, IsLessInside, IsOpen, IsPlace, IsUsedIn, MonoWhere, Stands, blocks, read, target_at}
 use Rattle.typing_rules.specs.Answers.{IsTyped}
@@ -46,7 +46,7 @@ typed kinds = (list (source Stereo), (((((source Stereo, refl, tt), tt, tt), tt,
 text_kind : (x : Ground) (kinds : Places) (ts : List Ground) (g : Ground) → TextHas x kinds ts g → (k : Kind) × (kinds [] 12 ≡ Some (k ∷ [])) × (x ≡ list (source k))
 text_kind x kinds ts g h =
     let both = h.1.2.0.0.0.0 in
-    let x_there : Some x ≡ Some both.0 = subst (λ (us : Types). type_at 0 (us ++ (0, x) ∷ []) ≡ Some both.0) h.1.1 both.2.0.0.0.0.0 in
+    let x_there : Some x ≡ Some both.0 = subst (λ (us : TypesByToken). type_at 0 (us ++ (0, x) ∷ []) ≡ Some both.0) h.1.1 both.2.0.0.0.0.0 in
     let inner = both.2.1.0.0.0.0.0 in
     let call = inner.2.0.0.0.0.0 in
     let row : IsCallOf builtin.Blank call.0 call.2.0 inner.0 = call.2.2 in

@@ -8,7 +8,7 @@ use Rattle.typing_rules.specs.Scoping.{target_in, meanings_of}
 use Rattle.typing_rules.specs.declared.fault.NameFault.{NameFault}
 use Rattle.typing_rules.specs.NameFaults.{first_fault, in_statement}
 use Rattle.typing_rules.specs.Scripts.{Entry, Places, IsTypedTo, HasTyping, IsClash, first_of}
-use Rattle.typing_rules.specs.Kinds.{said, target_at, read, blocks, IsLess, IsLessInside, IsNumbered, IsOpen, Stands}
+use Rattle.typing_rules.specs.Kinds.{said, target_at, read, blocks, IsLess, IsLessInside, AreKindsNumbered, IsOpen, Stands}
 
 -- a typing with what the uses say, which is what evaluation needs
 abbrev pub IsTypedScript : Script → List Use → Type 0
@@ -23,7 +23,7 @@ pub record IsTyped (script : Script) (uses : List Use) : Type 0 where
   pub typing : IsTypedTo (target_at uses) (read [] uses) [] script entries
   pub least : (kinds : Places) (es : List Entry) → IsTypedTo (target_at uses) kinds [] script es → IsLess (blocks [] script) (read [] uses) kinds
   -- the open kinds of defs
-  pub numbered : IsNumbered (blocks [] script) uses
+  pub numbered : AreKindsNumbered (blocks [] script) uses
   pub opened : (d : Tree ADef) (before : List Entry) → Stands entries d before → IsOpen (blocks [] script) uses before d
   -- and in each def, whether it is called or not, the other kinds are the least
   pub least_inside : (kinds : Places) (es : List Entry) → IsTypedTo (target_at uses) kinds [] script es → IsLessInside (blocks [] script) uses es

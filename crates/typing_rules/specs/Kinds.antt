@@ -120,16 +120,16 @@ counted n [] = Some n
 counted n (j ∷ js) = cond (nat_lt j n) (counted n js) (cond (nat_eq j n) (counted (suc n) js) None)
 
 -- the number of a def's open kinds
-abbrev pub names_of : Option Block → List Name
-names_of None = []
-names_of (Some b) = b.1
+abbrev pub block_names : Option Block → List Name
+block_names None = []
+block_names (Some b) = b.1
 
 abbrev pub is_of : ℕ → Option ℕ → Bool
 is_of t None = false
 is_of t (Some u) = nat_eq u t
 
 abbrev pub open_kinds : List Block → List Use → ℕ → Option ℕ
-open_kinds bs uses t = counted 0 (numbers_in uses (names_of (find (λ b. is_of t b.0) bs)))
+open_kinds bs uses t = counted 0 (numbers_in uses (block_names (find (λ b. is_of t b.0) bs)))
 
 -- as many kinds as what is meant has open ones; none for a value
 abbrev pub HasKinds : List Block → List Use → Target → List KindOf → Type 0
@@ -151,7 +151,7 @@ AreInOrder bs uses [] = Unit {0}
 AreInOrder bs uses (b ∷ rest) = IsInOrder bs uses b × AreInOrder bs uses rest
 
 -- the numbers of open kinds begin from 0, in the order of tokens; and each use has as many kinds as what it means has open ones
-pub record IsNumbered (bs : List Block) (uses : List Use) : Type 0 where
+pub record AreKindsNumbered (bs : List Block) (uses : List Use) : Type 0 where
   pub order : AreInOrder bs uses bs
   pub each : EachHasKinds bs uses uses
 

@@ -37,10 +37,10 @@ all_faults [] = []
 all_faults (n ∷ ns) = faults_as n.at n.meant n.given ++ all_faults ns
 
 -- parameters of a name that an earlier parameter has
-abbrev pub name_of : Tree AParam → List ℕ
-name_of (Param at name) = name
-name_of (Labelled at name) = name
-name_of (Optional at name d) = name
+abbrev pub param_name : Tree AParam → List ℕ
+param_name (Param at name) = name
+param_name (Labelled at name) = name
+param_name (Optional at name d) = name
 
 abbrev pub is_among : List ℕ → List (List ℕ) → Bool
 is_among name [] = false
@@ -52,7 +52,7 @@ repeated_at at false = []
 
 abbrev pub repeats : List (List ℕ) → Tree (Many AParam) → List NameFault
 repeats earlier none = []
-repeats earlier (more p ps) = repeated_at (token_of p) (is_among (name_of p) earlier) ++ repeats (earlier ++ name_of p ∷ []) ps
+repeats earlier (more p ps) = repeated_at (token_of p) (is_among (param_name p) earlier) ++ repeats (earlier ++ param_name p ∷ []) ps
 
 abbrev pub repeats_in : Tree AStmt → List NameFault
 repeats_in (Stmt (DefPart (Def at name ps equals is e)) semicolon) = repeats [] ps

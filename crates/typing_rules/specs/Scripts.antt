@@ -6,14 +6,14 @@ use Rattle.type_terms.specs.Ground.{Ground}
 use Rattle.typing_rules.specs.declared.uses.Target.{Target}
 use Rattle.typing_rules.specs.Arguments.{Parameter, Given, Matched, parameters_of}
 use Rattle.typing_rules.specs.Scoping.{target_in, meanings_of}
-use Rattle.typing_rules.specs.Typing.{Types, Sight, Has, DefHas}
+use Rattle.typing_rules.specs.Typing.{TypesByToken, Sight, Has, DefHas}
 
 -- what a script's statements bind: the type of a value by its token, and the text of a def; the newest first, so that what stands behind a def is its environment
 pub data Entry : Type 0 where
   value : ℕ → Ground → Entry
   function : Tree ADef → Entry
 
-abbrev pub types_of : List Entry → Types
+abbrev pub types_of : List Entry → TypesByToken
 types_of [] = []
 types_of (value t g ∷ es) = (t, g) ∷ types_of es
 types_of (function d ∷ es) = types_of es
@@ -37,17 +37,17 @@ abbrev pub params_of : Tree ADef → List Parameter
 params_of (Def at name ps equals is e) = parameters_of ps
 
 -- Calls from the places behind a chain of calls. What a def's text sees is what stands before the def, and its calls are one longer.
-abbrev pub calls_of : Targets → Places → List Entry → List ℕ → ℕ → ℕ → List (Given Ground) → Ground → Type 0
-calls_of target kinds [] chain at t gs g = ⊥
-calls_of target kinds (value u h ∷ es) chain at t gs g = calls_of target kinds es chain at t gs g
-calls_of target kinds (function d ∷ es) chain at t gs g =
+abbrev pub calls_behind : Targets → Places → List Entry → List ℕ → ℕ → ℕ → List (Given Ground) → Ground → Type 0
+calls_behind target kinds [] chain at t gs g = ⊥
+calls_behind target kinds (value u h ∷ es) chain at t gs g = calls_behind target kinds es chain at t gs g
+calls_behind target kinds (function d ∷ es) chain at t gs g =
     elim (nat_eq (def_token d) t) [
-      | true ↦ ((ts : List Ground) × Matched (params_of d) gs ts × DefHas (record { target = target; types = types_of es; kinds = kinds (at ∷ chain); call = calls_of target kinds es (at ∷ chain) }) d ts g)
-      | false ↦ calls_of target kinds es chain at t gs g
+      | true ↦ ((ts : List Ground) × Matched (params_of d) gs ts × DefHas (record { target = target; types = types_of es; kinds = kinds (at ∷ chain); call = calls_behind target kinds es (at ∷ chain) }) d ts g)
+      | false ↦ calls_behind target kinds es chain at t gs g
     ]
 
 abbrev pub sight : Targets → Places → List Entry → List ℕ → Sight
-sight target kinds es chain = record { target = target; types = types_of es; kinds = kinds chain; call = calls_of target kinds es chain }
+sight target kinds es chain = record { target = target; types = types_of es; kinds = kinds chain; call = calls_behind target kinds es chain }
 
 -- a def has some typing, at kinds of its own, whether it is called or not
 abbrev pub HasSome : Targets → List Entry → Tree ADef → Type 0
@@ -71,13 +71,13 @@ first_of zero script = none
 first_of (suc n) none = none
 first_of (suc n) (more s rest) = more s (first_of n rest)
 
-abbrev pub count : Script → ℕ
-count none = 0
-count (more s rest) = 1 + count rest
+abbrev pub statement_count : Script → ℕ
+statement_count none = 0
+statement_count (more s rest) = 1 + statement_count rest
 
 -- the statements up to the n-th have no typing, those before it have one
 pub record IsClash (script : Script) (n : ℕ) : Type 0 where
   pub first : 0 < n
-  pub last : n ≤ count script
+  pub last : n ≤ statement_count script
   pub before : HasTyping (target_in (meanings_of script)) (first_of (n - 1) script)
   pub none : HasTyping (target_in (meanings_of script)) (first_of n script) → ⊥

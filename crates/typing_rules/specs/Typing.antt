@@ -14,14 +14,14 @@ pub use Rattle.typing_rules.specs.Arguments.{token_of}
 use Rattle.typing_rules.specs.Table.{IsCallOf}
 
 -- types of bindings by their tokens
-abbrev pub Types : Type 0
-Types = List (ℕ × Ground)
+abbrev pub TypesByToken : Type 0
+TypesByToken = List (ℕ × Ground)
 
 -- What is known where an expression stands: what the name at a token means, the type of the binding at a token, the kinds
 -- of the use at a token, and what a call may be: the token of the call, that of the def, the arguments' types and the result's.
 pub record Sight : Type 1 where
   pub target : ℕ → Option Target
-  pub types : Types
+  pub types : TypesByToken
   pub kinds : ℕ → Option (List Kind)
   pub call : ℕ → ℕ → List (Given Ground) → Ground → Type 0
 
@@ -32,7 +32,7 @@ abbrev pub literal_type : Literal → Ground
 literal_type (literal.Int n) = base_type base.Int
 literal_type (literal.Number d) = base_type base.Decimal
 
-abbrev pub type_at : ℕ → Types → Option Ground
+abbrev pub type_at : ℕ → TypesByToken → Option Ground
 type_at t [] = None
 type_at t (b ∷ bs) = cond (nat_eq b.0 t) (Some b.1) (type_at t bs)
 
@@ -100,11 +100,11 @@ abbrev mutual
   AreGiven s (more (Arg at label f) rest) gs = (t : Ground) × (us : List (Given Ground)) × (gs ≡ (label, t) ∷ us) × Has s f t × AreGiven s rest us
 
 -- the same with bindings of a def before the others
-abbrev pub within : Types → Sight → Sight
+abbrev pub within : TypesByToken → Sight → Sight
 within us s = record s { types = us ++ s.types }
 
 -- the parameters' types by their tokens
-abbrev pub typed_params : Tree (Many AParam) → List Ground → Types
+abbrev pub typed_params : Tree (Many AParam) → List Ground → TypesByToken
 typed_params none ts = []
 typed_params (more p ps) [] = []
 typed_params (more p ps) (t ∷ ts) = (token_of p, t) ∷ typed_params ps ts
@@ -121,10 +121,10 @@ DefaultsHave s (more p ps) [] = ⊥
 DefaultsHave s (more p ps) (t ∷ ts) = DefaultHas s p t × DefaultsHave s ps ts
 
 -- inner bindings, each behind the ones before it
-abbrev pub InnersHave : Sight → Tree (Many AnInner) → Types → Types → Type 0
+abbrev pub InnersHave : Sight → Tree (Many AnInner) → TypesByToken → TypesByToken → Type 0
 InnersHave s none us vs = vs ≡ us
 InnersHave s (more (Inner (Bind at name f) semicolon) is) us vs = (t : Ground) × Has (within us s) f t × InnersHave s is (us ++ (at, t) ∷ []) vs
 
 -- A def with parameters of these types has the type g. Its defaults are seen without its bindings.
 abbrev pub DefHas : Sight → Tree ADef → List Ground → Ground → Type 0
-DefHas s (Def at name ps equals is e) ts g = DefaultsHave s ps ts × ((us : Types) × InnersHave s is (typed_params ps ts) us × Has (within us s) e g)
+DefHas s (Def at name ps equals is e) ts g = DefaultsHave s ps ts × ((us : TypesByToken) × InnersHave s is (typed_params ps ts) us × Has (within us s) e g)

@@ -11,7 +11,7 @@ ghost use Rattle.typing_rules.specs.Answers.{IsTyped, IsTypeFault};
 ghost use Rattle.typing_rules.specs.Arguments.{Given, Matched};
 ghost use Rattle.typing_rules.specs.Defs.{AreDefsOf, IsDefOf, LeadsInto, def_at};
 ghost use Rattle.typing_rules.specs.Kinds.{around, kinds_in, read, target_at, target_said};
-ghost use Rattle.typing_rules.specs.Scripts.{Entry, HasTyping, IsTypedTo, Places, Targets, behind, calls_of, def_token, first_of, function, params_of, sight};
+ghost use Rattle.typing_rules.specs.Scripts.{Entry, HasTyping, IsTypedTo, Places, Targets, behind, calls_behind, def_token, first_of, function, params_of, sight};
 ghost use Rattle.typing_rules.specs.Typing.{DefHas};
 ghost use Rattle.typing_rules.specs.Uses.{use_at as the_use_at};
 
@@ -33,8 +33,8 @@ pub fn fewer_statements()
 
 /// A call of the newest def is a typing of its text in its environment.
 pub fn newest_call()
-    ensures typed { (ts : Targets) (kinds : Places) (es : List Entry) (d : Tree ADef) (chain : List ℕ) (at : ℕ) (gs : List (Given Ground)) (g : Ground) → calls_of ts kinds (function d ∷ es) chain at (def_token d) gs g → (us : List Ground) × Matched (params_of d) gs us × DefHas (sight ts kinds es (at ∷ chain)) d us g }
-    ensures call { (ts : Targets) (kinds : Places) (es : List Entry) (d : Tree ADef) (chain : List ℕ) (at : ℕ) (gs : List (Given Ground)) (g : Ground) → ((us : List Ground) × Matched (params_of d) gs us × DefHas (sight ts kinds es (at ∷ chain)) d us g) → calls_of ts kinds (function d ∷ es) chain at (def_token d) gs g }
+    ensures typed { (ts : Targets) (kinds : Places) (es : List Entry) (d : Tree ADef) (chain : List ℕ) (at : ℕ) (gs : List (Given Ground)) (g : Ground) → calls_behind ts kinds (function d ∷ es) chain at (def_token d) gs g → (us : List Ground) × Matched (params_of d) gs us × DefHas (sight ts kinds es (at ∷ chain)) d us g }
+    ensures call { (ts : Targets) (kinds : Places) (es : List Entry) (d : Tree ADef) (chain : List ℕ) (at : ℕ) (gs : List (Given Ground)) (g : Ground) → ((us : List Ground) × Matched (params_of d) gs us × DefHas (sight ts kinds es (at ∷ chain)) d us g) → calls_behind ts kinds (function d ∷ es) chain at (def_token d) gs g }
 {}
 
 /// The text of a def behind a chain of calls is its text by itself, with the places renamed.
@@ -61,6 +61,6 @@ pub fn found_def()
 
 /// A call in a typed script leads to one def, to what stood before it and to a typing of its text there; the def is what the search by its token finds.
 pub fn leads_to()
-    ensures leads { (script : Script) (ts : Targets) (kinds : Places) (es : List Entry) (chain : List ℕ) (at t : ℕ) (gs : List (Given Ground)) (g : Ground) → IsPlaced 0 script → AreDefsOf script es → calls_of ts kinds es chain at t gs g → LeadsInto script ts kinds es chain at t gs g }
+    ensures leads { (script : Script) (ts : Targets) (kinds : Places) (es : List Entry) (chain : List ℕ) (at t : ℕ) (gs : List (Given Ground)) (g : Ground) → IsPlaced 0 script → AreDefsOf script es → calls_behind ts kinds es chain at t gs g → LeadsInto script ts kinds es chain at t gs g }
     ensures defs { (script : Script) (ts : Targets) (kinds : Places) (es : List Entry) → IsTypedTo ts kinds [] script es → AreDefsOf script es }
 {}

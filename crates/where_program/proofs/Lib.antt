@@ -1,3 +1,4 @@
 pub mod Walks
 pub mod Faults
+pub mod Beginnings
 pub mod Causing

@@ -1,8 +1,5 @@
--- Calls that are closed among some tokens, one token at a time; and the node of a number.
-use Rattle.std.proofs.Common.{◌≡◌, ℕ, ◌+◌, ◌<◌, ◌≤◌, List, length, drop, get_or, Some, sym, ap, ◌∙◌}
-use Rattle.std.specs.Prelude.{slice_get}
-use Rattle.std.proofs.lemmas.Option.{slice_get-get_or}
-use Rattle.plan_core.specs.declared.node.Node.{Node}
+-- Calls that are closed among some tokens, one token at a time.
+use Rattle.std.proofs.Common.{◌≡◌, ℕ, ◌+◌, ◌<◌, ◌≤◌, List, length, drop, get_or, sym, ap, ◌∙◌}
 use Rattle.std.proofs.lemmas.List.{at_drop_more, at_drop_all}
 use Rattle.script_lex.specs.declared.token.Token.{Token}
 use Rattle.where_program.specs.Calls.{Closed, behind, calls_from}
@@ -17,6 +14,3 @@ call_more text tokens i t s whole so lt is =
 pub calls_end : (text : List ℕ) (tokens : List Token) (i : ℕ) (s : Closed) (whole : Closed) → calls_from text s (drop i tokens) ≡ whole → length tokens ≤ i → whole ≡ s
 unfolding calls_from
 calls_end text tokens i s whole so over = sym so ∙ at_drop_all (λ (l : List Token). calls_from text s l) tokens i over
-
-pub node_there : (nodes : List Node) (at : ℕ) (node : Node) → node ≡ get_or nodes at node → at < length nodes → slice_get nodes at ≡ Some node
-node_there nodes at node is lt = slice_get-get_or nodes at node lt ∙ ap (λ (n : Node). Some n) (sym is)

@@ -1,5 +1,5 @@
 -- The byte at which what a line names begins.
-use Rattle.std.specs.Prelude.{◌≡◌, ◌≤◌, ℕ, List, Some, length, ⊤}
+use Rattle.std.specs.Prelude.{◌≡◌, ◌≤◌, ℕ, List, Option, Some, None, length}
 use Rattle.plan_core.specs.declared.plan.Plan.{Plan}
 use Rattle.script_lex.specs.Tokens.{AreTokens}
 use Rattle.script_lex.specs.declared.token.Token.{Token}
@@ -14,6 +14,7 @@ use Rattle.script_places.specs.declared.named.Named.TheVariants.{Byte, Token as 
 use Rattle.where_program.specs.Calls.{part}
 use Rattle.where_program.specs.Causes.{IsCauseAt}
 use Rattle.where_program.specs.Clashes.{Clashes}
+use Rattle.where_program.specs.Nowhere.{HasNoOutput, HasNoStatement, HasNoText, HasNoTokens}
 use Rattle.where_program.specs.Sources.{IsInStatement, IsSourceAt}
 use Rattle.where_program.specs.Texts.{IsTextAt}
 
@@ -34,6 +35,11 @@ pub record IsStatementAt (text : List ℕ) (number at : ℕ) : Type 0 where
   pub first_is : first_token script number ≡ Some first
   pub begins : at ≡ start (length text) tokens first
 
+-- where a first token begins, if there is one; this is for `src/places.rt` alone
+abbrev pub beginning_of : ℕ → List Token → Option ℕ → Option ℕ
+beginning_of total tokens (Some first) = Some (start total tokens first)
+beginning_of total tokens None = None
+
 -- of a line and of a text
 abbrev pub Begins : List ℕ → List ℕ → Named → ℕ → Type 0
 Begins line text (Byte n) at = at ≡ n
@@ -44,12 +50,12 @@ Begins line text (Clash number) at = IsInStatement Clashes text number at
 Begins line text (Text from to) at = IsTextAt text (part line from to) at
 Begins line text (Fallible from to) at = IsCauseAt text (part line from to) at
 
--- what is known where nothing is answered: a script with a plan has no such source
-abbrev pub IsNowhere : List ℕ → Named → Type 0
-IsNowhere text (Source k) = (plan : Plan) → IsPlan text plan → length plan.nodes ≤ k
-IsNowhere text (Byte n) = ⊤
-IsNowhere text (NamedToken k) = ⊤
-IsNowhere text (Statement number) = ⊤
-IsNowhere text (Clash number) = ⊤
-IsNowhere text (Text from to) = ⊤
-IsNowhere text (Fallible from to) = ⊤
+-- what is known where nothing is answered: the script has no such place
+abbrev pub IsNowhere : List ℕ → List ℕ → Named → Type 0
+IsNowhere line text (Byte n) = ⊥
+IsNowhere line text (NamedToken k) = HasNoTokens text
+IsNowhere line text (Statement number) = HasNoStatement text number
+IsNowhere line text (Source k) = (plan : Plan) → IsPlan text plan → length plan.nodes ≤ k
+IsNowhere line text (Clash number) = HasNoStatement text number
+IsNowhere line text (Text from to) = HasNoText text (part line from to)
+IsNowhere line text (Fallible from to) = HasNoOutput text (part line from to)

@@ -3,6 +3,7 @@ pub mod Calls
 pub mod Candidates
 pub mod Causes
 pub mod Clashes
+pub mod Nowhere
 pub mod Sources
 pub mod Texts
 pub mod Wanted

@@ -1,5 +1,5 @@
 -- The statement that makes a source, and the call in it.
-use Rattle.std.specs.Prelude.{◌≡◌, ◌≢◌, ◌⊎◌, ℕ, ◌+◌, ◌-◌, Bool, List, length, take, drop, Option, Some, None, is_some}
+use Rattle.std.specs.Prelude.{◌≡◌, ◌≢◌, ◌⊎◌, ℕ, ◌+◌, Bool, List, length, take, drop, Option, Some, None, is_some}
 use Rattle.script_lex.specs.Tokens.{AreTokens}
 use Rattle.script_lex.specs.declared.token.Token.{Token}
 use Rattle.script_grammar.specs.Tree.{Script}

@@ -1,5 +1,5 @@
 // The call of a statement that tells what is wanted.
-ghost use Rattle.std.specs.Prelude.{◌≡◌, ◌++◌, IfOk, IfSome, OnOk, Some, take};
+ghost use Rattle.std.specs.Prelude.{◌≡◌, ◌++◌, false, IfOk, IfSome, OnOk, Some, take};
 ghost use Rattle.where_program.specs.declared.calls.Bracket.TheVariants as bracket;
 ghost use Rattle.where_program.specs.Calls.{IsCaller, calls_from, newest, brackets_behind, role_of, symbol_role, texts_behind, with_closed};
 ghost use Rattle.where_program.specs.Candidates.{AreCalls, IsCalled, IsCandidate};
@@ -55,18 +55,20 @@ pub struct Found {
 }
 
 /// The byte at which the call begins, among the tokens of a statement, that tells what is wanted behind a front of the
-/// script. Calls are made in the order in which they are closed.
+/// script; nothing where none is found. Calls are made in the order in which they are closed.
 pub fn caller(
     alloc: Global,
     text: &[u8],
     done: &[u8],
     tokens: &[Token],
     wanted: Wanted,
-) -> Option<usize>
-    ensures { IfSome result (IsCaller (Tells wanted) text.now done.now tokens.now) }
+) -> Result<Option<usize>, Memory>
+    ensures { IfOk result (λ at. IfSome at (IsCaller (Tells wanted) text.now done.now tokens.now)) }
 {
-    let found = candidate(alloc, text, done, tokens, wanted)?;
-    confirmed(alloc, text, done, &found, wanted)
+    match candidate(alloc, text, done, tokens, wanted)? {
+        Some(found) => confirmed(alloc, text, done, &found, wanted),
+        None => Ok(None),
+    }
 }
 
 // Where a call begins, if it tells what is wanted and those before it do not.
@@ -76,30 +78,46 @@ fn confirmed(
     done: &[u8],
     found: &Found,
     wanted: Wanted,
-) -> Option<usize>
-    ensures { IfSome result (IsCalled (Tells wanted) text.now done.now found.now) }
+) -> Result<Option<usize>, Memory>
+    ensures { IfOk result (λ at. IfSome at (IsCalled (Tells wanted) text.now done.now found.now)) }
 {
-    if tells_with(alloc, done, &found.texts, wanted)? {
-        return None;
+    match tells_with(alloc, done, &found.texts, wanted)? {
+        Some(false) => told_with_call(alloc, text, done, found, wanted),
+        Some(true) => Ok(None),
+        None => Ok(None),
     }
+}
+
+// The same, where those before it do not tell it.
+fn told_with_call(
+    alloc: Global,
+    text: &[u8],
+    done: &[u8],
+    found: &Found,
+    wanted: Wanted,
+) -> Result<Option<usize>, Memory>
+    requires { Tells wanted (done.now ++ found.now.texts.items) false }
+    ensures { IfOk result (λ at. IfSome at (IsCalled (Tells wanted) text.now done.now found.now)) }
+{
     let call = part(text, found.start, found.end);
-    let Ok(texts) = joined(alloc, front(&found.texts, found.others), call) else {
-        return None;
-    };
-    if tells_with(alloc, done, &texts, wanted)? {
-        Some(found.start)
-    } else {
-        None
+    let texts = joined(alloc, front(&found.texts, found.others), call)?;
+    match tells_with(alloc, done, &texts, wanted)? {
+        Some(true) => Ok(Some(found.start)),
+        Some(false) => Ok(None),
+        None => Ok(None),
     }
 }
 
 // Whether a front of the script with the texts of calls behind it tells what is wanted.
-fn tells_with(alloc: Global, done: &[u8], texts: &[u8], wanted: Wanted) -> Option<bool>
-    ensures { IfSome result (λ told. Tells wanted (done.now ++ texts.now) told) }
+fn tells_with(
+    alloc: Global,
+    done: &[u8],
+    texts: &[u8],
+    wanted: Wanted,
+) -> Result<Option<bool>, Memory>
+    ensures { IfOk result (λ told. IfSome told (Tells wanted (done.now ++ texts.now))) }
 {
-    let Ok(whole) = joined(alloc, done, texts) else {
-        return None;
-    };
+    let whole = joined(alloc, done, texts)?;
     tells(alloc, &whole, wanted)
 }
 
@@ -111,11 +129,13 @@ fn candidate(
     done: &[u8],
     tokens: &[Token],
     wanted: Wanted,
-) -> Option<Found>
-    ensures { IfSome result (IsCandidate text.now tokens.now) }
+) -> Result<Option<Found>, Memory>
+    ensures { IfOk result (λ found. IfSome found (IsCandidate text.now tokens.now)) }
 {
-    let low = last_token(alloc, text, done, tokens, wanted)?;
-    found_at(alloc, text, tokens, low)
+    match last_token(alloc, text, done, tokens, wanted)? {
+        Some(low) => found_at(alloc, text, tokens, low),
+        None => Ok(None),
+    }
 }
 
 // The number of the token that closes it.
@@ -125,9 +145,9 @@ fn last_token(
     done: &[u8],
     tokens: &[Token],
     wanted: Wanted,
-) -> Option<usize> {
+) -> Result<Option<usize>, Memory> {
     if is_source(wanted) && tokens.iter().any(|token| is_if(&token.kind)) {
-        return None;
+        return Ok(None);
     }
     let mut low: usize = 0;
     let mut high = tokens.len();
@@ -136,25 +156,32 @@ fn last_token(
         if middle == low {
             break;
         }
-        let calls = closed_calls(alloc, text, first_tokens(tokens, middle)).ok()?;
-        if tells_with(alloc, done, &calls.texts, wanted)? {
-            high = middle;
-        } else {
-            low = middle;
+        let calls = closed_calls(alloc, text, first_tokens(tokens, middle))?;
+        match tells_with(alloc, done, &calls.texts, wanted)? {
+            Some(true) => high = middle,
+            Some(false) => low = middle,
+            None => return Ok(None),
         }
     }
-    Some(low)
+    Ok(Some(low))
 }
 
 // The call that a token closes.
-fn found_at(alloc: Global, text: &[u8], tokens: &[Token], number: usize) -> Option<Found>
-    ensures { IfSome result (IsCandidate text.now tokens.now) }
+fn found_at(
+    alloc: Global,
+    text: &[u8],
+    tokens: &[Token],
+    number: usize,
+) -> Result<Option<Found>, Memory>
+    ensures { IfOk result (λ found. IfSome found (IsCandidate text.now tokens.now)) }
 {
-    let last = tokens.get(number)?;
-    let Ok(calls) = closed_calls(alloc, text, first_tokens(tokens, number)) else {
-        return None;
-    };
-    closed_by(calls, last.end as usize)
+    match tokens.get(number) {
+        Some(last) => {
+            let calls = closed_calls(alloc, text, first_tokens(tokens, number))?;
+            Ok(closed_by(calls, last.end as usize))
+        }
+        None => Ok(None),
+    }
 }
 
 // The call that ends here.

@@ -1,29 +1,65 @@
 // What leaves an output without a sound.
-ghost use Rattle.std.specs.Prelude.{◌≡◌, false, true, Contains, IfSome, MatchOption, Some, slice_get};
-ghost use Rattle.std.specs.List.{list_all};
-ghost use Rattle.fallible_infer.specs.Infallible.{mark_at};
-ghost use Rattle.plan_core.specs.declared.node.Node.{Node as PlanNode};
-ghost use Rattle.where_program.specs.Causes.{IsCauseAt, Leads, node_named, output_named};
+ghost use Rattle.std.specs.Prelude.{◌≡◌, ◌≢◌, ◌<◌, None, IfOk, IfSome, length};
+ghost use Rattle.plan_core.specs.Plans.{IsWellFormed};
+ghost use Rattle.script_plan.specs.Plans.{IsPlan};
+ghost use Rattle.where_program.specs.Causes.{IsCauseAt, IsCauseOf, node_named, output_named};
+ghost use Rattle.where_program.specs.Nowhere.{HasNoOutput};
 
-use crate::sources::source_place;
-use fallible_infer::infallible;
-use plan_core::{Node, SinkPlan};
-use script_plan::plan_of;
+use crate::sources::{nowhere, source_place};
+use liq_base::Memory;
+use plan_blames::cause;
+use plan_core::{Plan, SinkPlan};
+use script_plan::{laws, plan_of};
 use std::alloc::Global;
 
-/// The byte at which the call begins that makes a source below an output's, or the output's own, which may offer nothing
-/// though each source that it plays always offers something. Nothing where the script has no plan or no such output.
-pub fn cause_place(alloc: Global, text: &[u8], name: &[u8]) -> Option<usize>
-    ensures { IfSome result (IsCauseAt text.now name.now) }
+/// The byte at which the call begins that makes the source which is to be mended so that an output never falls silent: down
+/// from the output's, as long as one source alone is needed. Nothing where the script has no plan or no such output.
+pub fn cause_place(alloc: Global, text: &[u8], name: &[u8]) -> Result<Option<usize>, Memory>
+    ensures place { IfOk result (λ at. IfSome at (IsCauseAt text.now name.now)) }
+    ensures none { IfOk result (λ at. at ≡ None → HasNoOutput text.now name.now) }
 {
-    let plan = plan_of(alloc, text).ok()?;
-    let marks = infallible(alloc, &plan).ok()?;
-    let output = output_named(name, plan.sinks.as_slice())?;
-    let source = cause(plan.nodes.as_slice(), &marks, output)?;
-    source_place(alloc, text, u64::from(source)).ok()?
+    laws::one_answer();
+    match plan_of(alloc, text) {
+        Ok(plan) => cause_in(alloc, text, &plan, name),
+        Err(fault) => nowhere(&fault),
+    }
+}
+
+// The same, where this is the plan.
+fn cause_in(alloc: Global, text: &[u8], plan: &Plan, name: &[u8]) -> Result<Option<usize>, Memory>
+    requires plan { IsPlan text.now plan.now }
+    requires well_formed { IsWellFormed plan.now }
+    ensures place { IfOk result (λ at. IfSome at (IsCauseAt text.now name.now)) }
+    ensures none { IfOk result (λ at. at ≡ None → HasNoOutput text.now name.now) }
+{
+    laws::one_answer();
+    match output_of(plan, name) {
+        Some(output) => cause_of(alloc, text, plan, output),
+        None => Ok(None),
+    }
+}
+
+// The place of what is to be mended for a source.
+fn cause_of(alloc: Global, text: &[u8], plan: &Plan, output: u32) -> Result<Option<usize>, Memory>
+    requires plan { IsPlan text.now plan.now }
+    requires well_formed { IsWellFormed plan.now }
+    requires there { output < length plan.now.nodes }
+    ensures place { IfOk result (λ at. IfSome at (IsCauseOf text.now plan.now output)) }
+    ensures some { IfOk result (λ at. at ≢ None) }
+{
+    let source = cause(plan.nodes.as_slice(), output);
+    source_place(alloc, text, source as u64)
 }
 
 // The node of the first output of this name.
+fn output_of(plan: &Plan, name: &[u8]) -> Option<u32>
+    requires { IsWellFormed plan.now }
+    ensures named { result ≡ output_named name.now plan.now.sinks }
+    ensures there { IfSome result (λ node. node < length plan.now.nodes) }
+{
+    output_named(name, plan.sinks.as_slice())
+}
+
 fn output_named(name: &[u8], sinks: &[SinkPlan]) -> Option<u32>
     ensures { result ≡ output_named name.now sinks.now }
 {
@@ -52,37 +88,4 @@ fn node_named(name: &[u8], sink: &SinkPlan) -> Option<u32>
         }
         SinkPlan::Feed { .. } => None,
     }
-}
-
-// Down from a node, to one each of whose children always offers something.
-fn cause(nodes: &[Node], marks: &[bool], from: u32) -> Option<u32>
-    ensures { IfSome result (λ n. Leads nodes.now marks.now from n × ((node : PlanNode) × (slice_get nodes.now n ≡ Some node) × (list_all (mark_at marks.now) node.children ≡ true))) }
-{
-    let mut at = from;
-    for _ in 0..nodes.len() {
-        let node = nodes.get(at as usize)?;
-        match silent_child(node.children.as_slice(), marks) {
-            Some(child) => at = child,
-            None => return Some(at),
-        }
-    }
-    None
-}
-
-// The first child that may offer nothing.
-fn silent_child(children: &[u32], marks: &[bool]) -> Option<u32>
-    ensures { MatchOption result (list_all (mark_at marks.now) children.now ≡ true) (λ child. Contains children.now child × (mark_at marks.now child ≡ false)) }
-{
-    for child in children {
-        if !mark_at(marks, *child) {
-            return Some(*child);
-        }
-    }
-    None
-}
-
-fn mark_at(marks: &[bool], node: u32) -> bool
-    ensures { result ≡ mark_at marks.now node }
-{
-    marks.get(node as usize).copied().unwrap_or(false)
 }

@@ -5,6 +5,7 @@ mod calls;
 mod causes;
 mod fronts;
 mod places;
+mod reading;
 mod sources;
 mod texts;
 mod wanted;

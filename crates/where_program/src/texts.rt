@@ -1,17 +1,21 @@
 // Texts of a script.
-ghost use Rattle.std.specs.Prelude.{◌≡◌, IfSome};
+ghost use Rattle.std.specs.Prelude.{◌≡◌, None, IfOk, IfSome};
+ghost use Rattle.where_program.specs.Nowhere.{HasNoText};
 ghost use Rattle.where_program.specs.Texts.{IsTextAt, is_text, text_among};
 
+use crate::reading::no_tokens;
+use liq_base::Memory;
 use script_lex::{Token, TokenKind, lex};
 use std::alloc::Global;
 
 /// The byte at which the first token begins that is this text. Nothing where the script has no tokens or no such one.
-pub fn text_place(alloc: Global, text: &[u8], name: &[u8]) -> Option<usize>
-    ensures { IfSome result (IsTextAt text.now name.now) }
+pub fn text_place(alloc: Global, text: &[u8], name: &[u8]) -> Result<Option<usize>, Memory>
+    ensures place { IfOk result (λ at. IfSome at (IsTextAt text.now name.now)) }
+    ensures none { IfOk result (λ at. at ≡ None → HasNoText text.now name.now) }
 {
     match lex(alloc, text) {
-        Ok(tokens) => text_among(name, &tokens),
-        Err(_) => None,
+        Ok(tokens) => Ok(text_among(name, &tokens)),
+        Err(fault) => no_tokens(&fault),
     }
 }
 

@@ -1,10 +1,11 @@
 // What the call tells that is looked for: that the script makes a source, or that its types clash.
-ghost use Rattle.std.specs.Prelude.{◌≡◌, ◌≢◌, IfSome, is_some};
+ghost use Rattle.std.specs.Prelude.{◌≡◌, ◌≢◌, IfOk, IfSome, None};
 ghost use Rattle.script_plan.specs.declared.fault.ScriptFault.TheVariants as fault;
 ghost use Rattle.where_program.specs.Clashes.{Clashes, is_clash_fault, is_type_clash};
 ghost use Rattle.where_program.specs.Sources.{Makes};
 ghost use Rattle.where_program.specs.Wanted.{Tells};
 
+use liq_base::Memory;
 use script_plan::{ScriptFault, maker_of, plan_of};
 use std::alloc::Global;
 use typing_rules::TypeFault;
@@ -19,10 +20,9 @@ pub enum Wanted {
     Clash,
 }
 
-/// Whether a text tells what is wanted. Nothing where its statements have another fault than is wanted, or where memory was
-/// refused.
-pub fn tells(alloc: Global, text: &[u8], wanted: Wanted) -> Option<bool>
-    ensures { IfSome result (Tells wanted text.now) }
+/// Whether a text tells what is wanted. Nothing where its statements have another fault than is wanted.
+pub fn tells(alloc: Global, text: &[u8], wanted: Wanted) -> Result<Option<bool>, Memory>
+    ensures { IfOk result (λ told. IfSome told (Tells wanted text.now)) }
 {
     match wanted {
         Wanted::Source(source) => makes(alloc, text, source),
@@ -31,35 +31,48 @@ pub fn tells(alloc: Global, text: &[u8], wanted: Wanted) -> Option<bool>
 }
 
 // Whether the script of a text makes a source.
-fn makes(alloc: Global, text: &[u8], source: u64) -> Option<bool>
-    ensures { IfSome result (Makes source text.now) }
+fn makes(alloc: Global, text: &[u8], source: u64) -> Result<Option<bool>, Memory>
+    ensures { IfOk result (λ told. IfSome told (Makes source text.now)) }
 {
     match maker_of(alloc, text, source) {
-        Ok(number) => Some(number.is_some()),
-        Err(_) => None,
+        Ok(number) => Ok(Some(number.is_some())),
+        Err(fault) => untold(&fault),
+    }
+}
+
+// Nothing, where a text has a fault that is no want of memory.
+fn untold(told: &ScriptFault) -> Result<Option<bool>, Memory>
+    ensures { IfOk result (λ nothing. nothing ≡ None) }
+{
+    match told {
+        ScriptFault::Memory => Err(Memory),
+        _ => Ok(None),
     }
 }
 
 // Whether the types of a text clash.
-fn clashes(alloc: Global, text: &[u8]) -> Option<bool>
-    ensures { IfSome result (Clashes text.now) }
+fn clashes(alloc: Global, text: &[u8]) -> Result<Option<bool>, Memory>
+    ensures { IfOk result (λ told. IfSome told (Clashes text.now)) }
 {
     match plan_of(alloc, text) {
-        Ok(_) => Some(false),
-        Err(fault) => of_fault(&fault),
+        Ok(_) => Ok(Some(false)),
+        Err(fault) => {
+            let is = of_fault(&fault)?;
+            Ok(Some(is))
+        }
     }
 }
 
-// Whether a fault says that types clash; nothing of want of memory.
-fn of_fault(told: &ScriptFault) -> Option<bool>
-    ensures { IfSome result (λ is. (told.now ≢ fault.Memory) × (is ≡ is_clash_fault told.now)) }
+// Whether a fault says that types clash.
+fn of_fault(told: &ScriptFault) -> Result<bool, Memory>
+    ensures { IfOk result (λ is. (told.now ≢ fault.Memory) × (is ≡ is_clash_fault told.now)) }
 {
     match told {
-        ScriptFault::Lex(_) => Some(false),
-        ScriptFault::Parse(_) => Some(false),
-        ScriptFault::Type(inner) => Some(is_type_clash(inner)),
-        ScriptFault::Eval(_) => Some(false),
-        ScriptFault::Memory => None,
+        ScriptFault::Lex(_) => Ok(false),
+        ScriptFault::Parse(_) => Ok(false),
+        ScriptFault::Type(inner) => Ok(is_type_clash(inner)),
+        ScriptFault::Eval(_) => Ok(false),
+        ScriptFault::Memory => Err(Memory),
     }
 }
 

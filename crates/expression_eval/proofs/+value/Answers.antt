@@ -23,7 +23,7 @@ use Rattle.script_values.specs.declared.machine.Machine.{Machine}
 use Rattle.script_values.specs.Gives.{Gives}
 use Rattle.script_values.specs.Machines.{count}
 use Rattle.script_values.specs.Numbers.{compared, opposite}
-use Rattle.script_values.specs.Slots.{Given}
+use Rattle.script_values.specs.Slots.{Argument}
 use Rattle.typing_rules.specs.Uses.{use_at}
 use Rattle.expression_eval.specs.Steps.{after_count}
 use Rattle.eval_meaning.specs.Meaning as meaning
@@ -205,10 +205,10 @@ pub values::fulls-returns : goal.values::fulls-returns
 values::fulls-returns t c = ends view_full (meaning.fulls (scope_of c.args.scope.now)) c.args.parts.now c.turns.part-index (map view_value c.turns.values.items) c.turns.machine (meaning.fulls (scope_of c.args.scope.now) (listed (map view_full c.args.parts.now)) [] c.args.machine.now) c.turns.invariant c.turns-test.false ∙ fulls_none (scope_of c.args.scope.now) (map view_value c.turns.values.items) c.turns.machine
 
 pub calls::arguments-turns-preserved : goal.calls::arguments-turns-preserved
-calls::arguments-turns-preserved t c = turn view_arg (arguments_steps (scope_of c.args.scope.now)) c.args.args.now c.turns.arg-index c.arg-item.result (map view_given c.turns.given.items) (map view_given c.kept_argument.new.given.items) c.turns.machine c.put_full.new.machine (meaning.arguments (scope_of c.args.scope.now) (listed (map view_arg c.args.args.now)) [] c.args.machine.now) c.turns.invariant c.turns-test.true c.arg-item.is (ap (λ (o : Result (Given × Machine) Fault). o >>= with_last (map view_given c.turns.given.items)) (argued_means (scope_of c.args.scope.now) c.arg-item.result c.turns.machine) ∙ kept_on (λ v. (c.arg-item.result.label, v)) c.put_full.new.out c.kept_argument.new.out (map view_given c.turns.given.items) (map view_given c.kept_argument.new.given.items) c.put_full.new.machine (meaning.full (scope_of c.args.scope.now) (view_full c.arg-item.result.value) c.turns.machine) c.put_full.ensures (rw c.if-not-kept_argument.false at c.kept_argument.ensures))
+calls::arguments-turns-preserved t c = turn view_arg (arguments_steps (scope_of c.args.scope.now)) c.args.args.now c.turns.arg-index c.arg-item.result (map view_given c.turns.given.items) (map view_given c.kept_argument.new.given.items) c.turns.machine c.put_full.new.machine (meaning.arguments (scope_of c.args.scope.now) (listed (map view_arg c.args.args.now)) [] c.args.machine.now) c.turns.invariant c.turns-test.true c.arg-item.is (ap (λ (o : Result (Argument × Machine) Fault). o >>= with_last (map view_given c.turns.given.items)) (argued_means (scope_of c.args.scope.now) c.arg-item.result c.turns.machine) ∙ kept_on (λ v. (c.arg-item.result.label, v)) c.put_full.new.out c.kept_argument.new.out (map view_given c.turns.given.items) (map view_given c.kept_argument.new.given.items) c.put_full.new.machine (meaning.full (scope_of c.args.scope.now) (view_full c.arg-item.result.value) c.turns.machine) c.put_full.ensures (rw c.if-not-kept_argument.false at c.kept_argument.ensures))
 
 pub calls::arguments-returns-then-not-kept_argument : goal.calls::arguments-returns-then-not-kept_argument
-calls::arguments-returns-then-not-kept_argument t c = failed_stops view_arg (arguments_steps (scope_of c.args.scope.now)) c.args.args.now c.turns.arg-index c.arg-item.result (map view_given c.turns.given.items) c.turns.machine (meaning.arguments (scope_of c.args.scope.now) (listed (map view_arg c.args.args.now)) [] c.args.machine.now) c.kept_argument.new.out c.turns.invariant c.turns-test.true c.arg-item.is (failed_same c.kept_argument.new.out _ _ (sym (ap (λ (o : Result (Given × Machine) Fault). o >>= with_last (map view_given c.turns.given.items)) (argued_means (scope_of c.args.scope.now) c.arg-item.result c.turns.machine))) (kept_off (λ v. (c.arg-item.result.label, v)) c.put_full.new.out c.kept_argument.new.out (map view_given c.turns.given.items) (map view_given c.kept_argument.new.given.items) c.put_full.new.machine (meaning.full (scope_of c.args.scope.now) (view_full c.arg-item.result.value) c.turns.machine) c.put_full.ensures (rw c.if-not-kept_argument.true at c.kept_argument.ensures)))
+calls::arguments-returns-then-not-kept_argument t c = failed_stops view_arg (arguments_steps (scope_of c.args.scope.now)) c.args.args.now c.turns.arg-index c.arg-item.result (map view_given c.turns.given.items) c.turns.machine (meaning.arguments (scope_of c.args.scope.now) (listed (map view_arg c.args.args.now)) [] c.args.machine.now) c.kept_argument.new.out c.turns.invariant c.turns-test.true c.arg-item.is (failed_same c.kept_argument.new.out _ _ (sym (ap (λ (o : Result (Argument × Machine) Fault). o >>= with_last (map view_given c.turns.given.items)) (argued_means (scope_of c.args.scope.now) c.arg-item.result c.turns.machine))) (kept_off (λ v. (c.arg-item.result.label, v)) c.put_full.new.out c.kept_argument.new.out (map view_given c.turns.given.items) (map view_given c.kept_argument.new.given.items) c.put_full.new.machine (meaning.full (scope_of c.args.scope.now) (view_full c.arg-item.result.value) c.turns.machine) c.put_full.ensures (rw c.if-not-kept_argument.true at c.kept_argument.ensures)))
 
 pub calls::arguments-returns : goal.calls::arguments-returns
 calls::arguments-returns t c = ends view_arg (meaning.arguments (scope_of c.args.scope.now)) c.args.args.now c.turns.arg-index (map view_given c.turns.given.items) c.turns.machine (meaning.arguments (scope_of c.args.scope.now) (listed (map view_arg c.args.args.now)) [] c.args.machine.now) c.turns.invariant c.turns-test.false ∙ arguments_none (scope_of c.args.scope.now) (map view_given c.turns.given.items) c.turns.machine

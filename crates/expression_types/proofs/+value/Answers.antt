@@ -26,9 +26,9 @@ use Rattle.type_steps.proofs.Forms.{one_none}
 use Rattle.type_steps.proofs.Exits.{and_done, and_first, and_others, expr_done, expr_first, expr_others, product_done, product_first, product_others, sum_done, sum_first, sum_others}
 use Rattle.type_steps.proofs.Shapes.{choice_condition, choice_first, choice_untrue, list_infers, list_none}
 use Rattle.type_steps.proofs.Ends.{added_done, alone_infers, args_end, args_stop, branches_done, comparison_done, factor_done, fulls_end, fulls_stop, join_done, joins_end, joins_stop, leaf_infers, left_none, not_done, not_none, not_plain, numbers_never, right_none, tuple_done, tuple_empty, tuple_never, tuple_one}
-use Rattle.name_types.specs.Seen.{called_scheme, def_seen, env_of, founds}
-use Rattle.name_types.proofs.Calling.{args_none, builtin_called, call_done, call_no_def, call_none, call_value}
-use Rattle.name_types.proofs.Seeing.{seen_later}
+use Rattle.expression_types.specs.Seen.{called_scheme, def_seen, env_of, founds}
+use Rattle.expression_types.proofs.Calling.{args_none, builtin_called, call_done, call_no_def, call_none, call_value}
+use Rattle.expression_types.proofs.Seeing.{seen_later}
 use Rattle.expression_types.specs.Order.{tokens_used}
 use Rattle.expression_types.proofs.Adding.{added_if, added_where, all_added, alone_added, and_added, branches_added, call_added, compared_added, empty_added, expr_added, name_answered, none_added, not_added, part_added, product_added, sum_added, term_added, tuple_added, use_added}
 use Rattle.script_grammar.proofs.OneOperand.{lone_below}

@@ -1,7 +1,7 @@
 use Rattle.std.proofs.Common.{map, take}
 use Rattle.script_grammar.specs.View.{listed, view_added, view_and, view_arg, view_full, view_multiplied, view_not}
 use Rattle.type_steps.specs.Fitting.{seen_argument}
-use Rattle.name_types.specs.Seen.{founds}
+use Rattle.expression_types.specs.Seen.{founds}
 use Rattle.expression_types.proofs.Turns.{GivenSo, JoinedSo, TypedSo}
 use Rattle.expression_types.proofs.+value.Given as goal
 

@@ -4,4 +4,4 @@ use Rattle.clock_threads.proofs.unbuffered_window.run_unbuffered_ticks.Goals as 
 
 pub returns : goal.returns
 returns g c =
-    ran_with g.O.Sink.room c.args.count g.O.Sink.held g.O.Sink.name g.O.Sink.faults g.O.Sink.appends _ _ _ any_calls no_buffers any_taps (with_taps _ c.args.engine.now) (with_taps c.run_ticks.new.taps c.run_ticks.new.engine) tt tt (λ calls. tt) c.run_ticks.ensures
+    ran_with g.O.Sink.told c.args.count _ _ _ any_calls no_buffers any_taps (with_taps _ c.args.engine.now) (with_taps c.run_ticks.new.taps c.run_ticks.new.engine) tt tt (λ calls. tt) c.run_ticks.ensures

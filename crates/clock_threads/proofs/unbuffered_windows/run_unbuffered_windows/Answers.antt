@@ -6,7 +6,7 @@ use Rattle.clock_threads.proofs.Logging.{engines_refl}
 use Rattle.clock_threads.proofs.unbuffered_windows.run_unbuffered_windows.Goals as goal
 
 pub loop-made-init : goal.loop-made-init
-loop-made-init g c = loop_none g.O.Sink.held g.O.Sink.name g.O.Sink.room g.O.Sink.faults g.O.Sink.appends [] c.args.window c.args.ticks (unbuffered_tasks c.args.engines.now) [] c.requires.ready
+loop-made-init g c = loop_none g.O.Sink.told [] c.args.window c.args.ticks (unbuffered_tasks c.args.engines.now) [] c.requires.ready
 
 pub run_unbuffered_window-requires-clause-some : goal.run_unbuffered_window-requires-clause-some
 run_unbuffered_window-requires-clause-some g c =
@@ -14,41 +14,41 @@ run_unbuffered_window-requires-clause-some g c =
 
 pub run_unbuffered_window-requires-clause-can : goal.run_unbuffered_window-requires-clause-can
 run_unbuffered_window-requires-clause-can g c = λ κs lives.
-    unbuffered_can g.O.Sink.held g.O.Sink.name g.O.Sink.room g.O.Sink.faults g.O.Sink.appends c.args.window c.args.ticks c.min-count.result c.loop-made.engines
-    (loop_can g.O.Sink.held g.O.Sink.name g.O.Sink.room g.O.Sink.faults g.O.Sink.appends [] c.args.window c.args.ticks c.loop-made.made c.min-count.result (unbuffered_tasks c.args.engines.now) (unbuffered_tasks c.loop-made.engines) [] [] c.requires.ready c.requires.few
+    unbuffered_can g.O.Sink.told c.args.window c.args.ticks c.min-count.result c.loop-made.engines
+    (loop_can g.O.Sink.told [] c.args.window c.args.ticks c.loop-made.made c.min-count.result (unbuffered_tasks c.args.engines.now) (unbuffered_tasks c.loop-made.engines) [] [] c.requires.ready c.requires.few
     c.loop-made-test.true c.min-count.ensures c.loop-made.invariant)
 
 pub returns-in-Some-clause-part : goal.returns-in-Some-clause-part
 returns-in-Some-clause-part g c =
-    loop_broke g.O.Sink.held g.O.Sink.name g.O.Sink.room g.O.Sink.faults g.O.Sink.appends [] c.args.window c.args.ticks c.loop-made.made c.min-count.result (unbuffered_tasks c.args.engines.now) (unbuffered_tasks c.loop-made.engines) (unbuffered_tasks c.run_unbuffered_window.new.engines) [] [] c.requires.ready
+    loop_broke g.O.Sink.told [] c.args.window c.args.ticks c.loop-made.made c.min-count.result (unbuffered_tasks c.args.engines.now) (unbuffered_tasks c.loop-made.engines) (unbuffered_tasks c.run_unbuffered_window.new.engines) [] [] c.requires.ready
     c.loop-made-test.true c.min-count.ensures c.loop-made.invariant
-    (unbuffered_ran g.O.Sink.held g.O.Sink.name g.O.Sink.room g.O.Sink.faults g.O.Sink.appends c.args.window c.args.ticks c.min-count.result c.loop-made.engines c.run_unbuffered_window.new.engines c.run_unbuffered_window.auto.engines c.run_unbuffered_window.ensures.ran)
+    (unbuffered_ran g.O.Sink.told c.args.window c.args.ticks c.min-count.result c.loop-made.engines c.run_unbuffered_window.new.engines c.run_unbuffered_window.auto.engines c.run_unbuffered_window.ensures.ran)
     (unbuffered_long c.run_unbuffered_window.new.engines ∙ c.run_unbuffered_window.auto.engines ∙ sym (unbuffered_long c.loop-made.engines))
     (unbuffered_tasks c.run_unbuffered_window.new.engines) (none_shut (unbuffered_tasks c.run_unbuffered_window.new.engines)) (unbuffered_tasks c.run_unbuffered_window.new.engines) (engines_refl (unbuffered_tasks c.run_unbuffered_window.new.engines))
 
 pub returns-in-Some-clause-done : goal.returns-in-Some-clause-done
 returns-in-Some-clause-done g c = λ e.
-    let told = c.in-Some.ensures.some in
-    absurd (with_one (unbuffered_tasks c.run_unbuffered_window.new.engines) (let w = told.within in omega (arith, w)) (λ d. not_done _ told.fault (sym (told.end_is d) ∙ e)))
+    let ended_by = c.in-Some.ensures.some in
+    absurd (with_one (unbuffered_tasks c.run_unbuffered_window.new.engines) (let w = ended_by.within in omega (arith, w)) (λ d. not_done _ ended_by.fault (sym (ended_by.end_is d) ∙ e)))
 
 pub returns-in-Some-clause-memory : goal.returns-in-Some-clause-memory
 returns-in-Some-clause-memory g c =
-    unbuffered_memory g.O.Sink.held g.O.Sink.name g.O.Sink.room g.O.Sink.faults g.O.Sink.appends c.args.window c.args.ticks c.loop-made.made c.min-count.result c.args.engines.now c.loop-made.engines c.run_unbuffered_window.new.engines c.requires.ready
+    unbuffered_memory g.O.Sink.told c.args.window c.args.ticks c.loop-made.made c.min-count.result c.args.engines.now c.loop-made.engines c.run_unbuffered_window.new.engines c.requires.ready
     c.loop-made.invariant c.run_unbuffered_window.auto.engines c.run_unbuffered_window.ensures.ran _ c.in-Some.ensures.some
 
 pub returns-in-Some-clause-write : goal.returns-in-Some-clause-write
 returns-in-Some-clause-write g c =
-    loop_write g.O.Sink.held g.O.Sink.name g.O.Sink.room g.O.Sink.faults g.O.Sink.appends [] c.args.window c.args.ticks c.loop-made.made c.min-count.result (unbuffered_tasks c.args.engines.now) (unbuffered_tasks c.loop-made.engines) (unbuffered_tasks c.run_unbuffered_window.new.engines) [] [] c.requires.ready
+    loop_write g.O.Sink.told [] c.args.window c.args.ticks c.loop-made.made c.min-count.result (unbuffered_tasks c.args.engines.now) (unbuffered_tasks c.loop-made.engines) (unbuffered_tasks c.run_unbuffered_window.new.engines) [] [] c.requires.ready
     c.loop-made-test.true c.min-count.ensures c.loop-made.invariant
-    (unbuffered_ran g.O.Sink.held g.O.Sink.name g.O.Sink.room g.O.Sink.faults g.O.Sink.appends c.args.window c.args.ticks c.min-count.result c.loop-made.engines c.run_unbuffered_window.new.engines c.run_unbuffered_window.auto.engines c.run_unbuffered_window.ensures.ran)
+    (unbuffered_ran g.O.Sink.told c.args.window c.args.ticks c.min-count.result c.loop-made.engines c.run_unbuffered_window.new.engines c.run_unbuffered_window.auto.engines c.run_unbuffered_window.ensures.ran)
     (unbuffered_long c.run_unbuffered_window.new.engines ∙ c.run_unbuffered_window.auto.engines ∙ sym (unbuffered_long c.loop-made.engines)) _ c.in-Some.ensures.some
 
 pub loop-made-preserved : goal.loop-made-preserved
 loop-made-preserved g c =
     let now = unbuffered_tasks c.run_unbuffered_window.new.engines in
-    loop_more g.O.Sink.held g.O.Sink.name g.O.Sink.room g.O.Sink.faults g.O.Sink.appends [] c.args.window c.args.ticks c.loop-made.made c.min-count.result (unbuffered_tasks c.args.engines.now) (unbuffered_tasks c.loop-made.engines) now [] [] c.requires.ready
+    loop_more g.O.Sink.told [] c.args.window c.args.ticks c.loop-made.made c.min-count.result (unbuffered_tasks c.args.engines.now) (unbuffered_tasks c.loop-made.engines) now [] [] c.requires.ready
     c.loop-made-test.true c.min-count.ensures c.loop-made.invariant
-    (unbuffered_ran g.O.Sink.held g.O.Sink.name g.O.Sink.room g.O.Sink.faults g.O.Sink.appends c.args.window c.args.ticks c.min-count.result c.loop-made.engines c.run_unbuffered_window.new.engines c.run_unbuffered_window.auto.engines c.run_unbuffered_window.ensures.ran)
+    (unbuffered_ran g.O.Sink.told c.args.window c.args.ticks c.min-count.result c.loop-made.engines c.run_unbuffered_window.new.engines c.run_unbuffered_window.auto.engines c.run_unbuffered_window.ensures.ran)
     (unbuffered_long c.run_unbuffered_window.new.engines ∙ c.run_unbuffered_window.auto.engines ∙ sym (unbuffered_long c.loop-made.engines))
     (unbuffered_runs c.run_unbuffered_window.new.engines c.in_default.ensures.none) now now [] (none_closed now) (none_ended now)
 
@@ -61,8 +61,8 @@ returns-in-Some-clause-many g c = c.run_unbuffered_window.auto.engines ∙ sym (
 pub returns-clause-done : goal.returns-clause-done
 returns-clause-done g c = λ e.
     let high : c.args.ticks ≤ c.loop-made.made = search rules in
-    loop_all g.O.Sink.held g.O.Sink.name g.O.Sink.room g.O.Sink.faults g.O.Sink.appends [] c.args.window c.args.ticks c.loop-made.made (unbuffered_tasks c.args.engines.now) (unbuffered_tasks c.loop-made.engines) [] high c.loop-made.invariant
+    loop_all g.O.Sink.told [] c.args.window c.args.ticks c.loop-made.made (unbuffered_tasks c.args.engines.now) (unbuffered_tasks c.loop-made.engines) [] high c.loop-made.invariant
 
 pub returns-clause-part : goal.returns-clause-part
 returns-clause-part g c =
-    loop_part g.O.Sink.held g.O.Sink.name g.O.Sink.room g.O.Sink.faults g.O.Sink.appends [] c.args.window c.args.ticks c.loop-made.made (unbuffered_tasks c.args.engines.now) (unbuffered_tasks c.loop-made.engines) [] [] c.requires.ready c.loop-made.invariant
+    loop_part g.O.Sink.told [] c.args.window c.args.ticks c.loop-made.made (unbuffered_tasks c.args.engines.now) (unbuffered_tasks c.loop-made.engines) [] [] c.requires.ready c.loop-made.invariant

@@ -14,18 +14,18 @@ use Rattle.clock_threads.proofs.wired.run_wired.Goals as goal
 
 pub returns-in_default-clause-part : goal.returns-in_default-clause-part
 returns-in_default-clause-part g c = λ setting clocks fresh.
-    none_made g.O.Sink.held g.O.Sink.name g.O.Sink.room g.O.Sink.faults g.O.Sink.appends c.args.plan.now setting clocks c.args.window c.args.ticks c.args.engines.now.items _
+    none_made g.O.Sink.told c.args.plan.now setting clocks c.args.window c.args.ticks c.args.engines.now.items _
     (λ clock sink e. memory_no_write clock sink (sym c.ended.ensures.end ∙ e)) fresh.engines_are
 
 pub returns-in_default-make_queues-clause-part : goal.returns-in_default-make_queues-clause-part
 returns-in_default-make_queues-clause-part g c = λ setting clocks fresh.
-    none_made g.O.Sink.held g.O.Sink.name g.O.Sink.room g.O.Sink.faults g.O.Sink.appends c.args.plan.now setting clocks c.args.window c.args.ticks c.args.engines.now.items _
+    none_made g.O.Sink.told c.args.plan.now setting clocks c.args.window c.args.ticks c.args.engines.now.items _
     (λ clock sink e. memory_no_write clock sink (sym c.ended-in_default-make_queues.ensures.end ∙ e)) fresh.engines_are
 
 pub returns-in_default-tasks_of-clause-part : goal.returns-in_default-tasks_of-clause-part
 returns-in_default-tasks_of-clause-part g c = λ setting clocks fresh.
-    subst (λ (new : List (ClockEngine g.row.O.Denot)). HasRunSome g.O.Sink.held g.O.Sink.name g.O.Sink.faults g.O.Sink.appends setting clocks c.args.window c.args.ticks c.args.engines.now.items new c.ended-in_default-tasks_of.result.end) (sym c.in_default-tasks_of.ensures.kept)
-    (none_made g.O.Sink.held g.O.Sink.name g.O.Sink.room g.O.Sink.faults g.O.Sink.appends c.args.plan.now setting clocks c.args.window c.args.ticks c.args.engines.now.items c.ended-in_default-tasks_of.result.end
+    subst (λ (new : List (ClockEngine g.row.O.Denot)). HasRunSome g.O.Sink.told setting clocks c.args.window c.args.ticks c.args.engines.now.items new c.ended-in_default-tasks_of.result.end) (sym c.in_default-tasks_of.ensures.kept)
+    (none_made g.O.Sink.told c.args.plan.now setting clocks c.args.window c.args.ticks c.args.engines.now.items c.ended-in_default-tasks_of.result.end
     (λ clock sink e. memory_no_write clock sink (sym c.ended-in_default-tasks_of.ensures.end ∙ e)) fresh.engines_are)
 
 pub returns-clause-done : goal.returns-clause-done
@@ -41,10 +41,10 @@ returns-clause-done g c = λ e setting clocks fresh.
     let after_long : length after ≡ c.in-Ok.logs.len = (let n = c.as_mut_slice-3.ensures.len in let m = c.engines_of.auto.logs in omega (arith, n, m)) in
     let collected : AreCollected c.args.wires.now tasks logs after =
     subst (λ (z : List (Task g.row.O.Denot (ThreadTaps g.row.R.Denot)) × List (List Answers)). AreCollected c.args.wires.now z.0 z.1 after) (λ i. (tasks_are i, logs_are i)) c.engines_of.ensures.logs in
-    let run = c.run_tasks-end.ensures.done t.0 setting clocks (subst (AreFresh g.O.Sink.room c.args.plan.now c.args.wires.now c.args.ticks setting clocks) (sym same) fresh) in
-    subst (HasRunAll g.O.Sink.held g.O.Sink.name g.O.Sink.faults g.O.Sink.appends setting clocks c.args.window c.args.ticks old c.engines_of.new.engines.items c.told.result.counts.items)
+    let run = c.run_tasks-end.ensures.done t.0 setting clocks (subst (AreFresh g.O.Sink.told c.args.plan.now c.args.wires.now c.args.ticks setting clocks) (sym same) fresh) in
+    subst (HasRunAll g.O.Sink.told setting clocks c.args.window c.args.ticks old c.engines_of.new.engines.items c.told.result.counts.items)
     (sym (t.1 ∙ written_is _ after _ after_long))
-    (run_told g.O.Sink.held g.O.Sink.name g.O.Sink.faults g.O.Sink.appends c.args.wires.now setting clocks c.args.window c.args.ticks old (map engine_of c.as_mut_slice.result.now) c.engines_of.new.engines.items
+    (run_told g.O.Sink.told c.args.wires.now setting clocks c.args.window c.args.ticks old (map engine_of c.as_mut_slice.result.now) c.engines_of.new.engines.items
     tasks logs after c.told.result.counts.items run same collected (c.engines_of.ensures.engines ∙ ap (map engine_of) tasks_are) (t.2 ∙ ap (map counts_in) (written_is _ after _ after_long)))
 
 pub returns-clause-part : goal.returns-clause-part
@@ -55,7 +55,7 @@ returns-clause-part g c = λ setting clocks fresh.
     let tasks_long : length tasks ≡ c.in-Ok-tasks_of.tasks.len = (let n = c.as_mut_slice.ensures.len in let m = c.run_tasks-end.ensures.many in omega (arith, n, m)) in
     let engines : c.engines_of.new.engines.items ≡ map (engine_of {S = g.row.O.Denot} {R = g.row.R.Denot}) tasks =
     c.engines_of.ensures.engines ∙ ap (map engine_of) (with_items_is c.in-Ok-tasks_of.tasks tasks tasks_long) in
-    let run = c.run_tasks-end.ensures.part setting clocks (subst (AreFresh g.O.Sink.room c.args.plan.now c.args.wires.now c.args.ticks setting clocks) (sym same) fresh) in
-    some_told g.O.Sink.held g.O.Sink.name g.O.Sink.faults g.O.Sink.appends setting clocks c.args.window c.args.ticks old c.engines_of.new.engines.items c.run_tasks-end.result c.told.result.end c.told.ensures.write
-    (subst (λ (z : List (ClockEngine g.row.O.Denot) × List (ClockEngine g.row.O.Denot)). HasRunSome g.O.Sink.held g.O.Sink.name g.O.Sink.faults g.O.Sink.appends setting clocks c.args.window c.args.ticks z.0 z.1 c.run_tasks-end.result)
+    let run = c.run_tasks-end.ensures.part setting clocks (subst (AreFresh g.O.Sink.told c.args.plan.now c.args.wires.now c.args.ticks setting clocks) (sym same) fresh) in
+    some_told g.O.Sink.told setting clocks c.args.window c.args.ticks old c.engines_of.new.engines.items c.run_tasks-end.result c.told.result.end c.told.ensures.write
+    (subst (λ (z : List (ClockEngine g.row.O.Denot) × List (ClockEngine g.row.O.Denot)). HasRunSome g.O.Sink.told setting clocks c.args.window c.args.ticks z.0 z.1 c.run_tasks-end.result)
     (λ i. (same i, sym engines i)) run)

@@ -1,5 +1,9 @@
-use Rattle.liq_cli.proofs.Retelling.{left_trace, rendered_again}
+use Rattle.stations.specs.Stations.{bare}
+use Rattle.liq_cli.proofs.Retelling.{fit_setting, in_windows}
 use Rattle.liq_cli.proofs.laws.onward_runs_are_rendered_again.Goals as goal
 
 pub returns : goal.returns
-returns c = record { left = left_trace; again = rendered_again c.onward_traces_are_accepted.ensures c.replays_are_of_the_run.ensures }
+returns c = λ files file name station window run listing way some few fit early lawful lead has prepared.
+    c.accepted_runs_are_rendered_again.ensures files file name station window run way some few fit early lawful
+    (c.onward_traces_are_accepted.ensures (bare station) station.clocks (fit_setting station fit early) window station.ticks run (in_windows station window run way lawful) listing lead)
+    has prepared

@@ -1,10 +1,10 @@
 use Rattle.std.proofs.Common.{ℕ, List, Bool, ◌++◌, take, sym, ap, ◌∙◌, append_assoc}
 use Rattle.plan_core.specs.declared.node.Node.{Node}
 use Rattle.fallible_infer.specs.Infallible.{mark_at}
-use Rattle.plan_picture.specs.Blames.{node_red}
+use Rattle.plan_blames.specs.Blames.{node_red}
 use Rattle.plan_picture.specs.Boxes.{node_box}
-use Rattle.plan_picture.specs.Texts.{numbered}
-use Rattle.plan_picture.proofs.Numbering.{more}
+use Rattle.plan_blames.specs.Texts.{numbered}
+use Rattle.plan_blames.proofs.Numbering.{more}
 use Rattle.plan_picture.proofs.boxes.push_nodes.Goals as goal
 
 pub loop-k-preserved : goal.loop-k-preserved

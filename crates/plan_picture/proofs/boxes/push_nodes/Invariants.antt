@@ -1,7 +1,7 @@
 use Rattle.std.proofs.Common.{◌≡◌, ◌++◌, take}
-use Rattle.plan_picture.specs.Texts.{numbered}
+use Rattle.plan_blames.specs.Texts.{numbered}
 use Rattle.fallible_infer.specs.Infallible.{mark_at}
-use Rattle.plan_picture.specs.Blames.{node_red}
+use Rattle.plan_blames.specs.Blames.{node_red}
 use Rattle.plan_picture.specs.Boxes.{node_box}
 use Rattle.plan_picture.proofs.boxes.push_nodes.Given as goal
 

@@ -1,5 +1,5 @@
 use Rattle.std.proofs.Common.{◌≡◌, ◌++◌, take}
-use Rattle.plan_picture.specs.Texts.{numbered}
+use Rattle.plan_blames.specs.Texts.{numbered}
 use Rattle.plan_picture.specs.Edges.{reads, through}
 use Rattle.plan_picture.proofs.edges.push_feed.Given as goal
 

@@ -1,5 +1,5 @@
 use Rattle.std.proofs.Common.{◌≡◌, ◌++◌, take}
-use Rattle.plan_picture.specs.Texts.{numbered}
+use Rattle.plan_blames.specs.Texts.{numbered}
 use Rattle.fallible_infer.specs.Infallible.{mark_at}
 use Rattle.plan_picture.specs.Edges.{sink_text}
 use Rattle.plan_picture.proofs.edges.push_sinks.Given as goal

@@ -1,9 +1,9 @@
 use Rattle.std.proofs.Common.{rules, arith, ℕ, List, ◌++◌, take, sym, ap, ◌∙◌, append_assoc, true}
 use Rattle.time_pred.specs.declared.pred.Pred.{Pred}
 use Rattle.time_pred.specs.View.{view_pred}
-use Rattle.plan_picture.specs.Texts.{numbered}
+use Rattle.plan_blames.specs.Texts.{numbered}
 use Rattle.plan_picture.specs.Predicates.{before_part, pred_text}
-use Rattle.plan_picture.proofs.Numbering.{more}
+use Rattle.plan_blames.proofs.Numbering.{more}
 use Rattle.plan_picture.proofs.Parts.{all_parts, all_text, any_text, part_with}
 use Rattle.plan_picture.proofs.preds.+pred.Goals as goal
 

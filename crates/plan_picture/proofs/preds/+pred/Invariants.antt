@@ -1,5 +1,5 @@
 use Rattle.std.proofs.Common.{◌≡◌, ◌++◌, take}
-use Rattle.plan_picture.specs.Texts.{numbered}
+use Rattle.plan_blames.specs.Texts.{numbered}
 use Rattle.plan_picture.proofs.Parts.{part_with}
 use Rattle.plan_picture.proofs.preds.+pred.Given as goal
 

@@ -1,5 +1,5 @@
 use Rattle.std.proofs.Common.{◌≡◌, ◌++◌, take}
-use Rattle.plan_picture.specs.Texts.{numbered}
+use Rattle.plan_blames.specs.Texts.{numbered}
 use Rattle.std.proofs.Common.{codes, decimal}
 use Rattle.plan_picture.specs.Regions.{within}
 use Rattle.plan_picture.proofs.regions.push_members.Given as goal

@@ -1,8 +1,8 @@
 use Rattle.std.proofs.Common.{ℕ, List, ◌++◌, take, sym, ap, ◌∙◌, append_assoc}
 use Rattle.plan_core.specs.declared.sink.SinkPlan.{SinkPlan}
 use Rattle.plan_picture.specs.Regions.{output_member}
-use Rattle.plan_picture.specs.Texts.{numbered}
-use Rattle.plan_picture.proofs.Numbering.{more}
+use Rattle.plan_blames.specs.Texts.{numbered}
+use Rattle.plan_blames.proofs.Numbering.{more}
 use Rattle.plan_picture.proofs.regions.push_outputs.Goals as goal
 
 pub loop-k-preserved : goal.loop-k-preserved

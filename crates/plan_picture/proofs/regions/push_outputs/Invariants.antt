@@ -1,5 +1,5 @@
 use Rattle.std.proofs.Common.{◌≡◌, ◌++◌, take}
-use Rattle.plan_picture.specs.Texts.{numbered}
+use Rattle.plan_blames.specs.Texts.{numbered}
 use Rattle.plan_picture.specs.Regions.{output_member}
 use Rattle.plan_picture.proofs.regions.push_outputs.Given as goal
 

@@ -16,8 +16,8 @@ loop-round-init g c = record {
   same = g.met.T.Taps.same_refl c.args.taps.now;
   goes = λ setting are.
       let none : 0 ≡ 0 * length c.args.engines.now = omega arith in
-      subst (λ n. AreGoing g.O.Sink.held g.O.Sink.name g.O.Sink.room g.O.Sink.faults g.O.Sink.appends g.T.Taps.stands setting c.args.ticks (made_by 0 0) n c.args.engines.now c.args.engines.now c.args.taps.now c.args.taps.now) none
-      (begin g.O.Sink.held g.O.Sink.name g.O.Sink.room g.O.Sink.faults g.O.Sink.appends g.T.Taps.stands setting c.args.ticks c.args.engines.now c.args.taps.now are);
+      subst (λ n. AreGoing g.O.Sink.told g.T.Taps.stands setting c.args.ticks (made_by 0 0) n c.args.engines.now c.args.engines.now c.args.taps.now c.args.taps.now) none
+      (begin g.O.Sink.told g.T.Taps.stands setting c.args.ticks c.args.engines.now c.args.taps.now are);
 }
 
 pub loop-k-init : goal.loop-k-init
@@ -26,7 +26,7 @@ loop-k-init g c = record {
   same = c.loop-round.invariant.same;
   goes = λ setting are.
       let same : c.loop-round._round * length c.args.engines.now ≡ c.loop-round._round * length c.args.engines.now + 0 = omega arith in
-      subst (λ n. AreGoing g.O.Sink.held g.O.Sink.name g.O.Sink.room g.O.Sink.faults g.O.Sink.appends g.T.Taps.stands setting c.args.ticks (made_by c.loop-round._round 0) n c.args.engines.now c.loop-round.engines c.args.taps.now c.loop-round.taps) same (c.loop-round.invariant.goes setting are);
+      subst (λ n. AreGoing g.O.Sink.told g.T.Taps.stands setting c.args.ticks (made_by c.loop-round._round 0) n c.args.engines.now c.loop-round.engines c.args.taps.now c.loop-round.taps) same (c.loop-round.invariant.goes setting are);
 }
 
 pub tick-requires-clause-runs : goal.tick-requires-clause-runs
@@ -34,14 +34,14 @@ tick-requires-clause-runs g c =
     let within : c.loop-k.k < length c.loop-k.engines = search rules in
     let setting = c.requires.engines.0 in
     let going = c.loop-k.invariant.goes setting c.requires.engines.1 in
-    (turn g.O.Sink.held g.O.Sink.name g.O.Sink.room g.O.Sink.faults g.O.Sink.appends g.T.Taps.stands setting c.args.ticks c.loop-round._round c.loop-k.k _ c.args.engines.now c.loop-k.engines c.index-engines-k.result _ _ within going).stands.runs
+    (turn g.O.Sink.told g.T.Taps.stands setting c.args.ticks c.loop-round._round c.loop-k.k _ c.args.engines.now c.loop-k.engines c.index-engines-k.result _ _ within going).stands.runs
 
 pub tick-requires-clause-few : goal.tick-requires-clause-few
 tick-requires-clause-few g c =
     let within : c.loop-k.k < length c.loop-k.engines = search rules in
     let setting = c.requires.engines.0 in
     let going = c.loop-k.invariant.goes setting c.requires.engines.1 in
-    let made = (turn g.O.Sink.held g.O.Sink.name g.O.Sink.room g.O.Sink.faults g.O.Sink.appends g.T.Taps.stands setting c.args.ticks c.loop-round._round c.loop-k.k _ c.args.engines.now c.loop-k.engines c.index-engines-k.result _ _ within going).stands.made in
+    let made = (turn g.O.Sink.told g.T.Taps.stands setting c.args.ticks c.loop-round._round c.loop-k.k _ c.args.engines.now c.loop-k.engines c.index-engines-k.result _ _ within going).stands.made in
     omega (arith, made, c.loop-round-test.true, c.requires.few)
 
 pub tick-requires-clause-room : goal.tick-requires-clause-room
@@ -49,7 +49,7 @@ tick-requires-clause-room g c =
     let within : c.loop-k.k < length c.loop-k.engines = search rules in
     let setting = c.requires.engines.0 in
     let going = c.loop-k.invariant.goes setting c.requires.engines.1 in
-    tick_room g.O.Sink.held g.O.Sink.name g.O.Sink.room g.O.Sink.faults g.O.Sink.appends g.T.Taps.stands setting c.args.ticks c.loop-round._round c.loop-k.k _ c.args.engines.now c.loop-k.engines
+    tick_room g.O.Sink.told g.T.Taps.stands setting c.args.ticks c.loop-round._round c.loop-k.k _ c.args.engines.now c.loop-k.engines
     (get_or c.loop-k.engines c.loop-k.k c.index-engines-k.result) _ _ going (read c.loop-k.engines c.loop-k.k c.index-engines-k.result within) c.loop-round-test.true
 
 pub tick-requires-clause-buffers : goal.tick-requires-clause-buffers
@@ -57,7 +57,7 @@ tick-requires-clause-buffers g c =
     let within : c.loop-k.k < length c.loop-k.engines = search rules in
     let setting = c.requires.engines.0 in
     let going = c.loop-k.invariant.goes setting c.requires.engines.1 in
-    let run = turn g.O.Sink.held g.O.Sink.name g.O.Sink.room g.O.Sink.faults g.O.Sink.appends g.T.Taps.stands setting c.args.ticks c.loop-round._round c.loop-k.k _ c.args.engines.now c.loop-k.engines c.index-engines-k.result _ _ within going in
+    let run = turn g.O.Sink.told g.T.Taps.stands setting c.args.ticks c.loop-round._round c.loop-k.k _ c.args.engines.now c.loop-k.engines c.index-engines-k.result _ _ within going in
     let size = going.run.size in
     c.loop-k.invariant.buffers
     ∙ c.requires.buffers.each c.loop-k.k (get_or c.args.engines.now c.loop-k.k c.index-engines-k.result) (read c.args.engines.now c.loop-k.k c.index-engines-k.result (omega (arith, within, size)))
@@ -74,17 +74,17 @@ returns-in-Err-clause-stopped g c = λ setting are.
     let turns : c.loop-round._round * length c.args.engines.now + c.loop-k.k < c.args.ticks * length c.args.engines.now = omega (arith, low, next, all) in
     let here = read c.loop-k.engines c.loop-k.k c.index-engines-k.result within in
     let before = read c.args.engines.now c.loop-k.k c.index-engines-k.result low in
-    tick_failed g.O.Sink.held g.O.Sink.name g.O.Sink.room g.O.Sink.faults g.O.Sink.appends g.T.Taps.stands setting c.args.ticks c.loop-round._round c.loop-k.k (c.loop-round._round * length c.args.engines.now + c.loop-k.k) c.args.engines.now c.loop-k.engines
+    tick_failed g.O.Sink.told g.T.Taps.stands setting c.args.ticks c.loop-round._round c.loop-k.k (c.loop-round._round * length c.args.engines.now + c.loop-k.k) c.args.engines.now c.loop-k.engines
     (get_or c.loop-k.engines c.loop-k.k c.index-engines-k.result) _ _ going here
     c.tick.new.self are (get_or c.args.engines.now c.loop-k.k c.index-engines-k.result) before
     c.tick.new.taps c.loop-round-test.true
     (mod-mul-add c.loop-round._round (length c.args.engines.now) c.loop-k.k low) (div-mul-add c.loop-round._round (length c.args.engines.now) c.loop-k.k low) refl
     (c.args.ticks * length c.args.engines.now) turns
-    c.in-Err.ensures.stopped c.in-Err.ensures.once_upto c.tick.ensures.faults c.tick.ensures.outs c.tick.ensures.kept
+    c.in-Err.ensures.stopped c.in-Err.ensures.part c.tick.ensures.outs
     c.tick.ensures.whole.parts c.tick.ensures.setting c.tick.ensures.clock c.end_of.result
     (elim (fault_is c.in-Err.fault) [
       | inr memory ↦ inl (c.end_of.ensures.memory memory)
-      | inl write ↦ inr (write_end g.O.Sink.held g.O.Sink.name g.O.Sink.room g.O.Sink.faults g.O.Sink.appends g.T.Taps.stands setting c.args.ticks c.loop-round._round c.loop-k.k _ c.args.engines.now c.loop-k.engines
+      | inl write ↦ inr (write_end g.O.Sink.told g.T.Taps.stands setting c.args.ticks c.loop-round._round c.loop-k.k _ c.args.engines.now c.loop-k.engines
           (get_or c.loop-k.engines c.loop-k.k c.index-engines-k.result) _ _ going here
           c.tick.new.self are (get_or c.args.engines.now c.loop-k.k c.index-engines-k.result) before c.in-Err.fault c.end_of.result (c.in-Err.ensures.cause write.0 write.1)
           (λ sink e. c.end_of.ensures.write sink e ∙ ap (λ n. Write n sink) c.clock.ensures
@@ -103,8 +103,8 @@ loop-k-preserved g c =
           let going = c.loop-k.invariant.goes setting are in
           let size = going.run.size in
           let low : c.loop-k.k < length c.args.engines.now = omega (arith, within, size) in
-          subst (λ n. AreGoing g.O.Sink.held g.O.Sink.name g.O.Sink.room g.O.Sink.faults g.O.Sink.appends g.T.Taps.stands setting c.args.ticks (made_by c.loop-round._round (c.loop-k.k + 1)) n c.args.engines.now (set c.loop-k.engines c.loop-k.k c.tick.new.self) c.args.taps.now c.tick.new.taps) turns
-          (tick_more g.O.Sink.held g.O.Sink.name g.O.Sink.room g.O.Sink.faults g.O.Sink.appends g.T.Taps.stands setting c.args.ticks c.loop-round._round c.loop-k.k (c.loop-round._round * length c.args.engines.now + c.loop-k.k) c.args.engines.now c.loop-k.engines
+          subst (λ n. AreGoing g.O.Sink.told g.T.Taps.stands setting c.args.ticks (made_by c.loop-round._round (c.loop-k.k + 1)) n c.args.engines.now (set c.loop-k.engines c.loop-k.k c.tick.new.self) c.args.taps.now c.tick.new.taps) turns
+          (tick_more g.O.Sink.told g.T.Taps.stands setting c.args.ticks c.loop-round._round c.loop-k.k (c.loop-round._round * length c.args.engines.now + c.loop-k.k) c.args.engines.now c.loop-k.engines
           (get_or c.loop-k.engines c.loop-k.k c.index-engines-k.result) _ _ going (read c.loop-k.engines c.loop-k.k c.index-engines-k.result within)
           c.tick.new.self are (get_or c.args.engines.now c.loop-k.k c.index-engines-k.result) (read c.args.engines.now c.loop-k.k c.index-engines-k.result low) c.tick.new.taps
           (mod-mul-add c.loop-round._round (length c.args.engines.now) c.loop-k.k low) (div-mul-add c.loop-round._round (length c.args.engines.now) c.loop-k.k low)
@@ -114,10 +114,8 @@ loop-k-preserved g c =
             clock = c.tick.ensures.clock;
             keeping = c.in_default.ensures.keeping;
             ticked = c.in_default.ensures.ticked;
-            none_fell = c.tick.ensures.faults;
             outs = c.tick.ensures.outs;
-            kept = c.tick.ensures.kept;
-            once = c.in_default.ensures.once;
+            took = c.in_default.ensures.took;
             rooms = c.in_default.ensures.room;
           }));
     }
@@ -136,22 +134,22 @@ loop-round-preserved g c =
           let size = going.run.size in
           let count : c.loop-round._round * length c.args.engines.now + c.loop-k.k ≡ (c.loop-round._round + 1) * length c.args.engines.now =
           (let more = ap (λ n. n * length c.args.engines.now) one in omega (arith, all, low, size, next, more)) in
-          subst (λ n. AreGoing g.O.Sink.held g.O.Sink.name g.O.Sink.room g.O.Sink.faults g.O.Sink.appends g.T.Taps.stands setting c.args.ticks (made_by (c.loop-round._round + 1) 0) n c.args.engines.now c.loop-k.engines c.args.taps.now c.loop-k.taps) count
-          (next_round g.O.Sink.held g.O.Sink.name g.O.Sink.room g.O.Sink.faults g.O.Sink.appends g.T.Taps.stands setting c.args.ticks c.loop-round._round c.loop-k.k _ c.args.engines.now c.loop-k.engines _ _ all going);
+          subst (λ n. AreGoing g.O.Sink.told g.T.Taps.stands setting c.args.ticks (made_by (c.loop-round._round + 1) 0) n c.args.engines.now c.loop-k.engines c.args.taps.now c.loop-k.taps) count
+          (next_round g.O.Sink.told g.T.Taps.stands setting c.args.ticks c.loop-round._round c.loop-k.k _ c.args.engines.now c.loop-k.engines _ _ all going);
     }
 
 pub returns-clause-done : goal.returns-clause-done
 returns-clause-done g c = λ setting are.
     let is : c.loop-round._round ≡ c.args.ticks = search rules in
-    subst (λ n. RoundsMade g.O.Sink.held g.O.Sink.name g.O.Sink.faults g.O.Sink.appends g.T.Taps.stands setting c.args.ticks n c.args.engines.now c.loop-round.engines c.args.taps.now c.loop-round.taps) (ap (λ n. n * length c.args.engines.now) is)
-    (all_rounds g.O.Sink.held g.O.Sink.name g.O.Sink.room g.O.Sink.faults g.O.Sink.appends g.T.Taps.stands setting c.args.ticks c.loop-round._round _ c.args.engines.now c.loop-round.engines _ _ is (c.loop-round.invariant.goes setting are))
+    subst (λ n. RoundsMade g.O.Sink.told g.T.Taps.stands setting c.args.ticks n c.args.engines.now c.loop-round.engines c.args.taps.now c.loop-round.taps) (ap (λ n. n * length c.args.engines.now) is)
+    (all_rounds g.O.Sink.told g.T.Taps.stands setting c.args.ticks c.loop-round._round _ c.args.engines.now c.loop-round.engines _ _ is (c.loop-round.invariant.goes setting are))
 
 pub returns-in-Err-clause-memory : goal.returns-in-Err-clause-memory
 returns-in-Err-clause-memory g c = λ none is.
     let within : c.loop-k.k < length c.loop-k.engines = search rules in
     let setting = c.requires.engines.0 in
     let going = c.loop-k.invariant.goes setting c.requires.engines.1 in
-    let run = turn g.O.Sink.held g.O.Sink.name g.O.Sink.room g.O.Sink.faults g.O.Sink.appends g.T.Taps.stands setting c.args.ticks c.loop-round._round c.loop-k.k _ c.args.engines.now c.loop-k.engines c.index-engines-k.result _ _ within going in
+    let run = turn g.O.Sink.told g.T.Taps.stands setting c.args.ticks c.loop-round._round c.loop-k.k _ c.args.engines.now c.loop-k.engines c.index-engines-k.result _ _ within going in
     let size = going.run.size in
     let many = c.requires.buffers.each c.loop-k.k (get_or c.args.engines.now c.loop-k.k c.index-engines-k.result) (read c.args.engines.now c.loop-k.k c.index-engines-k.result (omega (arith, within, size)))
     ∙ ap (λ s. length s.plan.buffers) (sym run.setting) in

@@ -7,14 +7,14 @@ abbrev pub invariant-loop-k : goal.invariant-loop-k
 invariant-loop-k g l = record {
   buffers : g.T.Taps.buffers l.taps ≡ g.T.Taps.buffers l.fn.taps;
   same : g.T.Taps.same l.fn.taps l.taps;
-  goes : (setting : Setting) → AreEngines g.O.Sink.room l.ticks setting l.fn.engines
-      → AreGoing g.O.Sink.held g.O.Sink.name g.O.Sink.room g.O.Sink.faults g.O.Sink.appends g.T.Taps.stands setting l.ticks (made_by l._round l.k) (l._round * length l.fn.engines + l.k) l.fn.engines l.engines l.fn.taps l.taps;
+  goes : (setting : Setting) → AreEngines g.O.Sink.told l.ticks setting l.fn.engines
+      → AreGoing g.O.Sink.told g.T.Taps.stands setting l.ticks (made_by l._round l.k) (l._round * length l.fn.engines + l.k) l.fn.engines l.engines l.fn.taps l.taps;
 }
 
 abbrev pub invariant-loop-round : goal.invariant-loop-round
 invariant-loop-round g l = record {
   buffers : g.T.Taps.buffers l.taps ≡ g.T.Taps.buffers l.fn.taps;
   same : g.T.Taps.same l.fn.taps l.taps;
-  goes : (setting : Setting) → AreEngines g.O.Sink.room l.ticks setting l.fn.engines
-      → AreGoing g.O.Sink.held g.O.Sink.name g.O.Sink.room g.O.Sink.faults g.O.Sink.appends g.T.Taps.stands setting l.ticks (made_by l._round 0) (l._round * length l.fn.engines) l.fn.engines l.engines l.fn.taps l.taps;
+  goes : (setting : Setting) → AreEngines g.O.Sink.told l.ticks setting l.fn.engines
+      → AreGoing g.O.Sink.told g.T.Taps.stands setting l.ticks (made_by l._round 0) (l._round * length l.fn.engines) l.fn.engines l.engines l.fn.taps l.taps;
 }

@@ -3,6 +3,7 @@ use Rattle.std.proofs.lemmas.Int.{to_z-of_z}
 use Rattle.sample_kernels.specs.Samples.{scaled}
 use Rattle.sample_kernels.proofs.Places.{same_map}
 use Rattle.sample_kernels.proofs.Cuts.{cut, scaled_by_cut}
+use Rattle.sample_kernels.proofs.Silences.{scaled_silence}
 use Rattle.sample_kernels.proofs.gain.scale.Goals as goal
 
 pub returns-else-unsigned_abs-le-MOST : goal.returns-else-unsigned_abs-le-MOST
@@ -14,3 +15,8 @@ returns-else-unsigned_abs-le-MOST c =
     c.scale_long.ensures
     ∙ ap (λ m. map (scaled m) c.args.from.now) is
     ∙ same_map (scaled (cut c.args.factor.millionths)) (scaled c.args.factor.millionths) c.args.from.now (scaled_by_cut c.args.factor.millionths)
+
+pub returns-then-are_silent : goal.returns-then-are_silent
+returns-then-are_silent c =
+    scaled_silence c.args.factor.millionths c.args.from.now c.args.into.now c.fill.new.self c.requires.same
+    (c.are_silent.ensures c.if-are_silent.true) (c.fill.ensures.after (λ y e. e))

@@ -6,6 +6,7 @@ use Rattle.std.proofs.lemmas.Simd.{length-put_chunk}
 use Rattle.sample_kernels.specs.Samples.{IsSumOf, mean_of}
 use Rattle.sample_kernels.proofs.Places.{Each2-at, zip2_written}
 use Rattle.sample_kernels.proofs.Lanes.{each_of_all, each-drop, each-take, zip2_more}
+use Rattle.sample_kernels.proofs.Silences.{means_of_zeros}
 use Rattle.sample_kernels.proofs.sums.divide.Goals as goal
 
 pub divide_eight-requires-clause-some : goal.divide_eight-requires-clause-some
@@ -48,3 +49,8 @@ loop-at-preserved c =
           (omega (arith, long, c.requires.same.1)) c.requires.same.0 (long ∙ c.requires.same.1) c.loop-at.invariant.1
           (rw (to_z-of_z w16 c.mean_of.result fits, is, to_z-of_z w32 (get_or c.args.sum.now c.loop-at.at (pos 0)) fits_sum) refl),
     )
+
+pub returns-then-are_zeros : goal.returns-then-are_zeros
+returns-then-are_zeros c =
+    means_of_zeros c.args.sum.now c.args.into.now c.fill.new.self c.args.by.now c.requires.same.0 c.requires.same.1
+    (c.are_zeros.ensures c.if-are_zeros.true) (c.fill.ensures.after (λ y e. e))

@@ -8,12 +8,12 @@ use Rattle.station_check.proofs.check.check_plan.Goals as goal
 pub returns-in_err-files-clause-fault : goal.returns-in_err-files-clause-fault
 returns-in_err-files-clause-fault g c =
     let p = err_from_is_err_and c.from_residual.result c.from_residual.ensures.1 in rw (p.1, p.2)
-    (load_ends _ _ _ _ c.args.ticks _ c.in_err-files.ensures.fault)
+    (load_ends (g.S.Shelf.told c.args.shelf.now) (g.S.Shelf.told c.read_files.new.shelf) _ c.args.ticks _ c.in_err-files.ensures.fault)
 
 pub returns-in_err-clocks-clause-fault : goal.returns-in_err-clocks-clause-fault
 returns-in_err-clocks-clause-fault g c =
     let p = err_from_is_err_and c.from_residual-in_err-clocks.result c.from_residual-in_err-clocks.ensures.1 in rw (p.1, p.2)
-    (rest_ends _ _ _ c.args.plan.now c.args.ticks c.in_ok-files.files _ c.in_ok-files.ensures.loaded.loaded c.in_err-clocks.ensures.fault)
+    (rest_ends (g.S.Shelf.told c.args.shelf.now) (g.S.Shelf.told c.read_files.new.shelf) c.args.plan.now c.args.ticks c.in_ok-files.files _ c.in_ok-files.ensures.loaded.loaded c.in_err-clocks.ensures.fault)
 
 pub returns-clause-found : goal.returns-clause-found
 returns-clause-found g c = λ files told.

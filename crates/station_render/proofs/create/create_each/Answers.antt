@@ -1,17 +1,13 @@
-use Rattle.std.proofs.Common.{arith, List, ◌≡◌, ◌<◌, ◌≤◌, ◌+◌, ◌∙◌, ◌⊎◌, length, take, slice_get, slice_index_or, ap, sym, subst}
+use Rattle.std.proofs.Common.{arith, List, ◌≡◌, ◌<◌, ◌≤◌, ◌+◌, ◌∙◌, length, take, slice_get, slice_index_or, ap, sym, subst}
 use Rattle.std.specs.Prelude.{Some}
 use Rattle.plan_core.specs.declared.sink.SinkPlan.{SinkPlan}
 use Rattle.plan_core.specs.declared.sink.SinkPlan.TheVariants.{Output, Feed}
-use Rattle.station_render.specs.OutputSinks.{owed, spared, told}
 use Rattle.station_render.specs.Sinks.{lists_of}
 use Rattle.station_render.specs.Renders.{order_of, setting_for, written}
 use Rattle.station_render.proofs.Lists.{got}
 use Rattle.station_render.proofs.Fits.{are_main, clock_below, header_fits}
-use Rattle.station_render.proofs.Creating.{added_many, begun_here, broken_off, created_by, next_ready, order_more, take_whole, written_next, written_still}
-use Rattle.station_render.proofs.Naming.{made_next, made_still, made_whole, names_next, names_still}
-use Rattle.stations.specs.Creations.{names_in}
-use Rattle.station_render.specs.Listed.{NoneListed, WasListed}
-use Rattle.station_render.proofs.Listing.{all_created, are_telling, may_have_made, counted_more, counted_of, some_created}
+use Rattle.station_render.proofs.Creating.{added_many, begun_broken, begun_here, created_by, creates_then, next_ready, order_more, take_whole, written_next, written_still}
+use Rattle.station_render.proofs.Naming.{made_next, made_still, made_whole}
 use Rattle.station_render.proofs.create.create_each.Goals as goal
 
 pub loop-sink-preserved-in_default : goal.loop-sink-preserved-in_default
@@ -26,13 +22,8 @@ loop-sink-preserved-in_default g c =
           (c.loop-sink.invariant.created library start);
       order = λ library start. c.loop-sink.invariant.order library start ∙ ap (order_of (setting_for c.args.plan.now library c.args.clocks.now start)) (sym same);
       size = c.loop-sink.invariant.size;
-      files = c.loop-sink.invariant.files;
       made = made_still c.args.plan.now.sinks c.loop-sink.sink-index _ _ c.loop-sink.invariant.made c.in_default.field-0 c.in_default.field-1 at;
-      counted = counted_of (told g.S.Out.Sink.name) (told g.S.Out.Sink.appends) (g.S.Shelf.closed c.args.shelf.now) 1 _ _ _ _ (names_still c.args.plan.now.sinks c.loop-sink.sink-index c.in_default.field-0 c.in_default.field-1 at)
-          c.loop-sink.invariant.counted;
-      closed = c.loop-sink.invariant.closed;
-      reads = c.loop-sink.invariant.reads;
-      writes = c.loop-sink.invariant.writes;
+      shelf = c.loop-sink.invariant.shelf;
     }
 
 pub opening_of-opening-requires-clause-clock : goal.opening_of-opening-requires-clause-clock
@@ -69,10 +60,11 @@ returns-in_err-create_one-clause-begun g c =
     got c.args.plan.now.sinks c.loop-sink.sink-index c.sink-item.result low ∙ ap Some (sym item ∙ c.in-Output.is) in
     let below = clock_below c.args.plan.now c.requires.fit.0 c.args.clocks.now c.args.ticks c.requires.fit.1 c.loop-sink.sink-index c.in-Output.name c.in-Output.node c.in-Output.fallible c.in-Output.wide at
     c.opening_of-opening.result.clock c.opening_of-opening.ensures.clock (length (lists_of c.loop-sink.groups.items)) c.loop-sink.invariant.size in
-    λ library start answers made tried none. broken_off (told g.S.Out.Sink.name) (told g.S.Out.Sink.held) (spared g.S.Out.Sink.room) (owed g.S.Out.Sink.room) (told g.S.Out.Sink.faults) (g.S.Shelf.files c.args.shelf.now) (g.S.Shelf.files c.loop-sink.shelf) c.loop-sink.invariant.files
-    (setting_for c.args.plan.now library c.args.clocks.now start) c.args.ticks c.loop-sink.sink-index c.in-Output.name c.as_str.result.now c.in-Output.node c.in-Output.fallible c.in-Output.wide at c.as_str.ensures.same
-    c.opening_of-opening.result.clock c.opening_of-opening.result.header c.opening_of-opening.result.body c.loop-sink.order.items c.create_one.new.order.items
-    (lists_of c.loop-sink.groups.items) (lists_of c.create_one.new.groups.items) below c.opening_of-opening.ensures.header (c.loop-sink.invariant.created library start) answers made tried none _ _ _ c.loop-sink.invariant.made (may_have_made c.in_err-create_one.ensures.unlisted) c.in_err-create_one.ensures.broken
+    λ library start answers made tried none. begun_broken g.S.Out.Sink.told (g.S.Shelf.told c.args.shelf.now) (setting_for c.args.plan.now library c.args.clocks.now start) c.args.ticks answers made tried none
+    c.loop-sink.sink-index c.in-Output.name c.as_str.result.now c.in-Output.node c.in-Output.fallible c.in-Output.wide
+    c.opening_of-opening.result.clock c.opening_of-opening.result.header c.loop-sink.order.items c.create_one.new.order.items
+    (lists_of c.loop-sink.groups.items) (lists_of c.create_one.new.groups.items) below at c.as_str.ensures.same c.opening_of-opening.ensures.header (c.loop-sink.invariant.created library start)
+    _ c.loop-sink.invariant.shelf _ c.loop-sink.invariant.made c.in_err-create_one.ensures.broken
 
 pub loop-sink-preserved : goal.loop-sink-preserved
 loop-sink-preserved g c =
@@ -83,28 +75,23 @@ loop-sink-preserved g c =
     let below = clock_below c.args.plan.now c.requires.fit.0 c.args.clocks.now c.args.ticks c.requires.fit.1 c.loop-sink.sink-index c.in-Output.name c.in-Output.node c.in-Output.fallible c.in-Output.wide at
     c.opening_of-opening.result.clock c.opening_of-opening.ensures.clock (length (lists_of c.loop-sink.groups.items)) c.loop-sink.invariant.size in
     let made = c.in_ok-create_one.ensures.created in
-    let listed = subst (λ closed. WasListed (told g.S.Out.Sink.name) (told g.S.Out.Sink.appends) closed c.opening_of-opening.result.clock c.as_str.result.now (g.S.Shelf.created c.loop-sink.shelf) (g.S.Shelf.created c.create_one.new.shelf)
-    c.loop-sink.order.items c.create_one.new.order.items (lists_of c.loop-sink.groups.items) (lists_of c.create_one.new.groups.items)) c.loop-sink.invariant.closed c.in_ok-create_one.ensures.listed in
     record {
-      created = λ library start. next_ready (told g.S.Out.Sink.name) (told g.S.Out.Sink.held) (spared g.S.Out.Sink.room) (owed g.S.Out.Sink.room) (told g.S.Out.Sink.faults) (g.S.Shelf.files c.args.shelf.now) (g.S.Shelf.files c.loop-sink.shelf) c.loop-sink.invariant.files
+      created = λ library start. next_ready g.S.Out.Sink.told (g.S.Shelf.told c.args.shelf.now) _ c.loop-sink.invariant.shelf
           (setting_for c.args.plan.now library c.args.clocks.now start) c.args.ticks c.loop-sink.sink-index c.in-Output.name c.as_str.result.now c.in-Output.node c.in-Output.fallible c.in-Output.wide at c.as_str.ensures.same
           c.opening_of-opening.result.clock c.opening_of-opening.result.header c.opening_of-opening.result.body c.loop-sink.order.items c.create_one.new.order.items
-          (lists_of c.loop-sink.groups.items) (lists_of c.create_one.new.groups.items) below c.opening_of-opening.ensures.header (c.loop-sink.invariant.created library start) c.opening_of-opening.ensures.body made;
+          (lists_of c.loop-sink.groups.items) (lists_of c.create_one.new.groups.items) below c.opening_of-opening.ensures.header c.opening_of-opening.ensures.body (c.loop-sink.invariant.created library start) _ _ made;
       order = λ library start.
           order_more (setting_for c.args.plan.now library c.args.clocks.now start) (written (take c.loop-sink.sink-index c.args.plan.now.sinks)) (record { name = c.in-Output.name; node = c.in-Output.node; wide = c.in-Output.wide })
           c.opening_of-opening.result.clock c.loop-sink.order.items c.create_one.new.order.items (c.loop-sink.invariant.order library start) made.order_is c.opening_of-opening.ensures.clock
           ∙ ap (order_of (setting_for c.args.plan.now library c.args.clocks.now start)) (sym (written_next c.args.plan.now.sinks c.loop-sink.sink-index c.in-Output.name c.in-Output.node c.in-Output.fallible c.in-Output.wide at));
       size = added_many c.opening_of-opening.result.clock made.sink (lists_of c.loop-sink.groups.items) (lists_of c.create_one.new.groups.items) made.added ∙ c.loop-sink.invariant.size;
-      files = c.create_one.ensures.shelf.files_kept ∙ c.loop-sink.invariant.files;
       made = made_next c.args.plan.now.sinks c.loop-sink.sink-index _ _ c.loop-sink.invariant.made c.in-Output.name c.as_str.result.now c.in-Output.node c.in-Output.fallible c.in-Output.wide at c.as_str.ensures.same _
-          listed.told;
-      counted = counted_of (told g.S.Out.Sink.name) (told g.S.Out.Sink.appends) (g.S.Shelf.closed c.args.shelf.now) 1 _ _ _ _ (names_next c.args.plan.now.sinks c.loop-sink.sink-index c.in-Output.name c.in-Output.node c.in-Output.fallible c.in-Output.wide at)
-          (counted_more (told g.S.Out.Sink.name) (told g.S.Out.Sink.appends) (g.S.Shelf.closed c.args.shelf.now) (names_in (take c.loop-sink.sink-index c.args.plan.now.sinks)) c.opening_of-opening.result.clock c.in-Output.name c.as_str.result.now
-          _ _ _ _ _ _ below c.as_str.ensures.same c.loop-sink.invariant.counted listed);
-      closed = c.create_one.ensures.shelf.closed_kept ∙ c.loop-sink.invariant.closed;
-      reads = omega (arith, c.create_one.ensures.shelf.reads_grew, c.loop-sink.invariant.reads);
-      writes = omega (arith, c.create_one.ensures.shelf.writes_grew, c.loop-sink.invariant.writes);
+          made.made_is;
+      shelf = creates_then _ _ _ c.loop-sink.invariant.shelf c.create_one.ensures.shelf;
     }
+
+pub returns-in_err-create_one-clause-shelf : goal.returns-in_err-create_one-clause-shelf
+returns-in_err-create_one-clause-shelf g c = creates_then _ _ _ c.loop-sink.invariant.shelf c.create_one.ensures.shelf
 
 pub returns-clause-ready : goal.returns-clause-ready
 returns-clause-ready g c =
@@ -120,36 +107,10 @@ returns-clause-order g c =
 pub returns-clause-begun : goal.returns-clause-begun
 returns-clause-begun g c =
     let all : length c.args.plan.now.sinks ≤ c.loop-sink.sink-index = subst (λ (xs : List SinkPlan). length xs ≤ c.loop-sink.sink-index) c.as_slice-sink-items.ensures c.loop-sink-test.false in
-    λ library start answers made tried none. begun_here (told g.S.Out.Sink.name) (told g.S.Out.Sink.held) (spared g.S.Out.Sink.room) (owed g.S.Out.Sink.room) (told g.S.Out.Sink.faults) (g.S.Shelf.files c.args.shelf.now)
-    (setting_for c.args.plan.now library c.args.clocks.now start) c.args.ticks answers made tried none c.loop-sink.sink-index c.loop-sink.order.items (lists_of c.loop-sink.groups.items) _ _ c.loop-sink.invariant.made (c.loop-sink.invariant.created library start)
-
-pub returns-in_err-create_one-clause-front : goal.returns-in_err-create_one-clause-front
-returns-in_err-create_one-clause-front g c =
-    let low : c.loop-sink.sink-index < length c.args.plan.now.sinks = subst (λ (xs : List SinkPlan). c.loop-sink.sink-index < length xs) c.as_slice-sink-items.ensures c.loop-sink-test.true in
-    let item : c.sink-item.result ≡ slice_index_or c.args.plan.now.sinks c.loop-sink.sink-index c.sink-item.result = c.sink-item.is ∙ ap (λ (xs : List SinkPlan). slice_index_or xs c.loop-sink.sink-index c.sink-item.result) c.as_slice-sink-items.ensures in
-    let at : slice_get c.args.plan.now.sinks c.loop-sink.sink-index ≡ Some (Output c.in-Output.name c.in-Output.node c.in-Output.fallible c.in-Output.wide) =
-    got c.args.plan.now.sinks c.loop-sink.sink-index c.sink-item.result low ∙ ap Some (sym item ∙ c.in-Output.is) in
-    let below = clock_below c.args.plan.now c.requires.fit.0 c.args.clocks.now c.args.ticks c.requires.fit.1 c.loop-sink.sink-index c.in-Output.name c.in-Output.node c.in-Output.fallible c.in-Output.wide at
-    c.opening_of-opening.result.clock c.opening_of-opening.ensures.clock (length (lists_of c.loop-sink.groups.items)) c.loop-sink.invariant.size in
-    some_created (told g.S.Out.Sink.name) (told g.S.Out.Sink.appends) (g.S.Shelf.closed c.args.shelf.now) c.args.plan.now.sinks c.loop-sink.sink-index _ _ _ _ _ _ _ c.opening_of-opening.result.clock c.in-Output.name c.as_str.result.now
-    c.in-Output.node c.in-Output.fallible c.in-Output.wide at c.as_str.ensures.same below c.loop-sink.invariant.made c.loop-sink.invariant.counted
-    (subst (λ closed. NoneListed (g.S.Shelf.created c.loop-sink.shelf) (g.S.Shelf.created c.create_one.new.shelf) c.loop-sink.order.items c.create_one.new.order.items (lists_of c.loop-sink.groups.items) (lists_of c.create_one.new.groups.items)
-    ⊎ WasListed (told g.S.Out.Sink.name) (told g.S.Out.Sink.appends) closed c.opening_of-opening.result.clock c.as_str.result.now (g.S.Shelf.created c.loop-sink.shelf) (g.S.Shelf.created c.create_one.new.shelf)
-    c.loop-sink.order.items c.create_one.new.order.items (lists_of c.loop-sink.groups.items) (lists_of c.create_one.new.groups.items)) c.loop-sink.invariant.closed c.in_err-create_one.ensures.unlisted)
+    λ library start answers made tried none. begun_here g.S.Out.Sink.told (g.S.Shelf.told c.args.shelf.now)
+    (setting_for c.args.plan.now library c.args.clocks.now start) c.args.ticks answers made tried none c.loop-sink.sink-index c.loop-sink.order.items (lists_of c.loop-sink.groups.items) _ c.loop-sink.invariant.made (c.loop-sink.invariant.created library start)
 
 pub returns-clause-made : goal.returns-clause-made
 returns-clause-made g c =
     let all : length c.args.plan.now.sinks ≤ c.loop-sink.sink-index = subst (λ (xs : List SinkPlan). length xs ≤ c.loop-sink.sink-index) c.as_slice-sink-items.ensures c.loop-sink-test.false in
     made_whole c.args.plan.now.sinks c.loop-sink.sink-index _ _ c.loop-sink.invariant.made all
-
-pub returns-clause-counted : goal.returns-clause-counted
-returns-clause-counted g c =
-    let all : length c.args.plan.now.sinks ≤ c.loop-sink.sink-index = subst (λ (xs : List SinkPlan). length xs ≤ c.loop-sink.sink-index) c.as_slice-sink-items.ensures c.loop-sink-test.false in
-    counted_of (told g.S.Out.Sink.name) (told g.S.Out.Sink.appends) (g.S.Shelf.closed c.args.shelf.now) 1 _ _ _ _ (sym (ap names_in (take_whole c.args.plan.now.sinks c.loop-sink.sink-index all))) c.loop-sink.invariant.counted
-
-pub returns-clause-front : goal.returns-clause-front
-returns-clause-front g c =
-    let all : length c.args.plan.now.sinks ≤ c.loop-sink.sink-index = subst (λ (xs : List SinkPlan). length xs ≤ c.loop-sink.sink-index) c.as_slice-sink-items.ensures c.loop-sink-test.false in
-    all_created (told g.S.Out.Sink.name) (told g.S.Out.Sink.appends) (g.S.Shelf.closed c.args.shelf.now) _ _ _ _ _ (made_whole c.args.plan.now.sinks c.loop-sink.sink-index _ _ c.loop-sink.invariant.made all)
-    (are_telling (told g.S.Out.Sink.name) (told g.S.Out.Sink.appends) (g.S.Shelf.closed c.args.shelf.now) 1 _ _ _
-    (counted_of (told g.S.Out.Sink.name) (told g.S.Out.Sink.appends) (g.S.Shelf.closed c.args.shelf.now) 1 _ _ _ _ (sym (ap names_in (take_whole c.args.plan.now.sinks c.loop-sink.sink-index all))) c.loop-sink.invariant.counted))

@@ -1,14 +1,14 @@
 use Rattle.std.proofs.Common.{rules, arith, List, ◌≡◌, ◌<◌, ◌≤◌, ◌+◌, ◌∙◌, length, slice_get, slice_index_or, ap, sym, subst}
-use Rattle.std.specs.Prelude.{Some}
+use Rattle.std.specs.Prelude.{Some, map}
 use Rattle.plan_core.specs.declared.sink.SinkPlan.{SinkPlan}
 use Rattle.plan_core.specs.declared.sink.SinkPlan.TheVariants.{Output, Feed}
-use Rattle.stations.specs.Creations.{HaveClosed, after_making}
+use Rattle.stations.specs.Creations.{HaveClosed, HaveListed, after_making, closing_at_once}
 use Rattle.stations.specs.Cues.{cue_names_in}
 use Rattle.stations.proofs.Making.{all_made}
-use Rattle.station_render.specs.Marks.{cues_of}
+use Rattle.station_render.specs.Marks.{cue_files_with, cues_of}
 use Rattle.station_render.proofs.Lists.{got}
 use Rattle.station_render.proofs.Creating.{take_whole, written_still}
-use Rattle.station_render.proofs.CueFiles.{closed_next, closed_still, cues_front, cues_next, cues_still, files_next, files_part, files_still, files_upto, files_whole, marks_at, named_as, part_named_as}
+use Rattle.station_render.proofs.CueFiles.{closed_next, closed_still, cues_front, cues_next, cues_still, files_next, files_part, files_still, files_upto, files_whole, listed_next, listed_still, marks_at, named_as, part_named_as}
 use Rattle.station_render.proofs.Reporting.{one_place, place_below}
 use Rattle.station_render.proofs.cues.leave_cues.Goals as goal
 
@@ -23,6 +23,7 @@ loop-sink-preserved-in_default g c =
       files = files_still c.args.library.now c.args.plan.now.sinks (cues_of c.args.marks.now) c.loop-sink.sink-index _ _ c.loop-sink.invariant.files c.in_default.field-0 c.in_default.field-1 at;
       made = cues_still c.args.plan.now.sinks c.loop-sink.sink-index _ _ c.loop-sink.invariant.made c.in_default.field-0 c.in_default.field-1 at;
       closed = closed_still c.args.plan.now.sinks c.loop-sink.sink-index _ _ c.loop-sink.invariant.closed c.in_default.field-0 c.in_default.field-1 at;
+      listed = listed_still c.args.library.now c.args.plan.now.sinks (cues_of c.args.marks.now) c.loop-sink.sink-index _ _ c.loop-sink.invariant.listed c.in_default.field-0 c.in_default.field-1 at;
       reads = c.loop-sink.invariant.reads;
       writes = c.loop-sink.invariant.writes;
     }
@@ -68,7 +69,7 @@ returns-in_err-leave_one-clause-some g c =
     record {
       part = files_part c.args.library.now c.args.plan.now.sinks (cues_of c.args.marks.now) c.loop-sink.sink-index _ _ c.loop-sink.invariant.files c.in-Output.name c.in-Output.node c.in-Output.fallible c.in-Output.wide at _ there _
           (part_named_as c.args.library.now c.as_str.result.now c.in-Output.name c.as_str.ensures.same _ _ _ c.leave_one.ensures.some.part);
-      front = cues_front c.args.plan.now.sinks c.loop-sink.sink-index _ _ c.loop-sink.invariant.made c.in-Output.name c.as_str.result.now c.in-Output.node c.in-Output.fallible c.in-Output.wide at c.as_str.ensures.same _ _ _ _
+      front = cues_front c.args.plan.now.sinks c.loop-sink.sink-index _ _ _ c.loop-sink.invariant.made c.in-Output.name c.as_str.result.now c.in-Output.node c.in-Output.fallible c.in-Output.wide at c.as_str.ensures.same
           c.loop-sink.invariant.closed c.leave_one.ensures.some.front;
       reads_grew = omega (arith, c.leave_one.ensures.some.reads_grew, c.loop-sink.invariant.reads);
       writes_grew = omega (arith, c.leave_one.ensures.some.writes_grew, c.loop-sink.invariant.writes);
@@ -89,6 +90,8 @@ loop-sink-preserved g c =
           (named_as c.args.library.now c.as_str.result.now c.in-Output.name c.as_str.ensures.same _ _ _ c.in_ok-leave_one.ensures.all.written);
       made = cues_next c.args.plan.now.sinks c.loop-sink.sink-index _ _ c.loop-sink.invariant.made c.in-Output.name c.as_str.result.now c.in-Output.node c.in-Output.fallible c.in-Output.wide at c.as_str.ensures.same _ c.in_ok-leave_one.ensures.all.made;
       closed = closed_next c.args.plan.now.sinks c.loop-sink.sink-index _ _ c.loop-sink.invariant.closed c.in-Output.name c.as_str.result.now c.in-Output.node c.in-Output.fallible c.in-Output.wide at c.as_str.ensures.same _ c.in_ok-leave_one.ensures.all.closes;
+      listed = listed_next c.args.library.now c.args.plan.now.sinks (cues_of c.args.marks.now) c.loop-sink.sink-index _ _ c.loop-sink.invariant.listed c.in-Output.name c.as_str.result.now c.in-Output.node c.in-Output.fallible c.in-Output.wide at
+          c.as_str.ensures.same _ there _ c.in_ok-leave_one.ensures.all.listed;
       reads = omega (arith, c.leave_one.ensures.some.reads_grew, c.loop-sink.invariant.reads);
       writes = omega (arith, c.leave_one.ensures.some.writes_grew, c.loop-sink.invariant.writes);
     }
@@ -99,8 +102,10 @@ returns-clause-all g c =
     let sinks = take_whole c.args.plan.now.sinks c.loop-sink.sink-index all in
     record {
       written = files_whole c.args.library.now c.args.plan.now.sinks (cues_of c.args.marks.now) c.loop-sink.sink-index _ _ c.loop-sink.invariant.files all;
-      made = c.loop-sink.invariant.made ∙ ap (λ xs. after_making (cue_names_in xs) (g.S.Shelf.created c.args.shelf.now)) sinks;
-      closes = subst (λ xs. HaveClosed (cue_names_in xs) (g.S.Shelf.closed c.args.shelf.now) (g.S.Shelf.closed c.loop-sink.shelf)) sinks c.loop-sink.invariant.closed;
+      made = c.loop-sink.invariant.made ∙ ap (λ xs. after_making (cue_names_in xs) (g.S.Shelf.told c.args.shelf.now).created) sinks;
+      closes = subst (λ xs. HaveClosed (cue_names_in xs) (g.S.Shelf.told c.args.shelf.now).closed (g.S.Shelf.told c.loop-sink.shelf).closed) sinks c.loop-sink.invariant.closed;
+      listed = subst (λ xs. HaveListed (map closing_at_once (cue_files_with c.args.library.now xs (cues_of c.args.marks.now))) (g.S.Shelf.told c.args.shelf.now).closed (g.S.Shelf.told c.loop-sink.shelf).closed) sinks
+          c.loop-sink.invariant.listed;
     }
 
 pub returns-clause-some : goal.returns-clause-some
@@ -109,8 +114,8 @@ returns-clause-some g c =
     let sinks = take_whole c.args.plan.now.sinks c.loop-sink.sink-index all in
     record {
       part = files_upto c.args.library.now c.args.plan.now.sinks (cues_of c.args.marks.now) c.loop-sink.sink-index _ _ c.loop-sink.invariant.files all;
-      front = all_made (cue_names_in c.args.plan.now.sinks) _ _ _ _ (c.loop-sink.invariant.made ∙ ap (λ xs. after_making (cue_names_in xs) (g.S.Shelf.created c.args.shelf.now)) sinks)
-          (subst (λ xs. HaveClosed (cue_names_in xs) (g.S.Shelf.closed c.args.shelf.now) (g.S.Shelf.closed c.loop-sink.shelf)) sinks c.loop-sink.invariant.closed);
+      front = all_made (cue_names_in c.args.plan.now.sinks) _ _ (c.loop-sink.invariant.made ∙ ap (λ xs. after_making (cue_names_in xs) (g.S.Shelf.told c.args.shelf.now).created) sinks)
+          (subst (λ xs. HaveClosed (cue_names_in xs) (g.S.Shelf.told c.args.shelf.now).closed (g.S.Shelf.told c.loop-sink.shelf).closed) sinks c.loop-sink.invariant.closed);
       reads_grew = c.loop-sink.invariant.reads;
       writes_grew = c.loop-sink.invariant.writes;
     }

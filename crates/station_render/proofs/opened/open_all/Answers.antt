@@ -3,24 +3,19 @@ use Rattle.std.proofs.lemmas.Result.{err_from_is_err_and}
 use Rattle.stations.specs.Stations.{answers_with}
 use Rattle.station_render.specs.Sinks.{AreCreated, lists_of}
 use Rattle.station_render.specs.Renders.{IsReady, order_of, setting_for, written}
-use Rattle.station_render.specs.OutputSinks.{owed, spared, told}
-use Rattle.station_render.specs.Runs.{RanPart, station_in}
+use Rattle.station_render.specs.Runs.{RanPart, name_in, station_in}
 use Rattle.station_render.specs.declared.output_sink.OutputSink.{OutputSink}
 use Rattle.station_render.proofs.Fits.{are_main}
 use Rattle.station_render.proofs.Gathering.{not_begun}
 use Rattle.station_render.proofs.Pooling.{outs_many}
 use Rattle.station_render.proofs.Returning.{in_main, starved}
 use Rattle.station_render.proofs.Running.{many_sinks}
-use Rattle.stations.specs.Creations.{names_in}
-use Rattle.station_render.specs.Listed.{AreCounted}
-use Rattle.station_render.proofs.Closing.{on_err_so}
-use Rattle.station_render.proofs.Listing.{all_created, are_telling}
 use Rattle.station_render.proofs.opened.open_all.Goals as goal
 
 pub returns-in_err-create_each-clause-part : goal.returns-in_err-create_each-clause-part
 returns-in_err-create_each-clause-part g c =
     let p = err_from_is_err_and c.from_residual.result c.from_residual.ensures.1 in rw p.1
-    (λ way trace may.
+    (λ way may.
     let none = not_begun (setting_for c.args.job.now.plan.now c.args.job.now.ready.now.library c.args.job.now.ready.now.clocks c.args.job.now.start.second) c.args.job.now.ready.now.clocks.running c.args.job.now.ticks way may in
     record {
       run = none.run;
@@ -32,26 +27,26 @@ pub make_engines-requires-clause-sinks : goal.make_engines-requires-clause-sinks
 make_engines-requires-clause-sinks g c =
     let setting = setting_for c.args.job.now.plan.now c.args.job.now.ready.now.library c.args.job.now.ready.now.clocks c.args.job.now.start.second in
     let main = are_main c.args.job.now.plan.now c.args.job.now.ready.now.library c.args.job.now.ready.now.clocks c.args.job.now.ticks c.requires.fit in
-    let ready : AreCreated (IsReady (told g.S.Out.Sink.name) (told g.S.Out.Sink.held) (spared g.S.Out.Sink.room) (owed g.S.Out.Sink.room) (g.S.Shelf.files c.args.shelf.now) setting c.args.job.now.ticks) (written c.args.job.now.plan.now.sinks) (order_of setting (written c.args.job.now.plan.now.sinks)) (lists_of c.create_each.new.groups.items) =
-    subst (λ o. AreCreated (IsReady (told g.S.Out.Sink.name) (told g.S.Out.Sink.held) (spared g.S.Out.Sink.room) (owed g.S.Out.Sink.room) (g.S.Shelf.files c.args.shelf.now) setting c.args.job.now.ticks) (written c.args.job.now.plan.now.sinks) o (lists_of c.create_each.new.groups.items))
+    let ready : AreCreated (IsReady g.S.Out.Sink.told (g.S.Shelf.told c.args.shelf.now) setting c.args.job.now.ticks) (written c.args.job.now.plan.now.sinks) (order_of setting (written c.args.job.now.plan.now.sinks)) (lists_of c.create_each.new.groups.items) =
+    subst (λ o. AreCreated (IsReady g.S.Out.Sink.told (g.S.Shelf.told c.args.shelf.now) setting c.args.job.now.ticks) (written c.args.job.now.plan.now.sinks) o (lists_of c.create_each.new.groups.items))
     (c.in_ok-create_each.ensures.order c.args.job.now.ready.now.library c.args.job.now.start.second) (c.in_ok-create_each.ensures.ready c.args.job.now.ready.now.library c.args.job.now.start.second) in
     λ clock group at.
     many_sinks setting c.args.job.now.ticks (in_main c.args.job.now.plan.now c.args.job.now.ready.now.library c.args.job.now.ready.now.clocks c.args.job.now.start.second c.args.job.now.ticks main)
-    (IsReady (told g.S.Out.Sink.name) (told g.S.Out.Sink.held) (spared g.S.Out.Sink.room) (owed g.S.Out.Sink.room) (g.S.Shelf.files c.args.shelf.now) setting c.args.job.now.ticks) (lists_of c.create_each.new.groups.items) ready clock group at
+    (IsReady g.S.Out.Sink.told (g.S.Shelf.told c.args.shelf.now) setting c.args.job.now.ticks) (lists_of c.create_each.new.groups.items) ready clock group at
 
 pub returns-in_err-make_engines-clause-part : goal.returns-in_err-make_engines-clause-part
 returns-in_err-make_engines-clause-part g c =
     let p = err_from_is_err_and c.from_residual-in_err-make_engines.result c.from_residual-in_err-make_engines.ensures.1 in
     let setting = setting_for c.args.job.now.plan.now c.args.job.now.ready.now.library c.args.job.now.ready.now.clocks c.args.job.now.start.second in
     let order_is = c.in_ok-create_each.ensures.order c.args.job.now.ready.now.library c.args.job.now.start.second in
-    let ready : AreCreated (IsReady (told g.S.Out.Sink.name) (told g.S.Out.Sink.held) (spared g.S.Out.Sink.room) (owed g.S.Out.Sink.room) (g.S.Shelf.files c.args.shelf.now) setting c.args.job.now.ticks) (written c.args.job.now.plan.now.sinks) (order_of setting (written c.args.job.now.plan.now.sinks)) (lists_of c.create_each.new.groups.items) =
-    subst (λ o. AreCreated (IsReady (told g.S.Out.Sink.name) (told g.S.Out.Sink.held) (spared g.S.Out.Sink.room) (owed g.S.Out.Sink.room) (g.S.Shelf.files c.args.shelf.now) setting c.args.job.now.ticks) (written c.args.job.now.plan.now.sinks) o (lists_of c.create_each.new.groups.items))
+    let ready : AreCreated (IsReady g.S.Out.Sink.told (g.S.Shelf.told c.args.shelf.now) setting c.args.job.now.ticks) (written c.args.job.now.plan.now.sinks) (order_of setting (written c.args.job.now.plan.now.sinks)) (lists_of c.create_each.new.groups.items) =
+    subst (λ o. AreCreated (IsReady g.S.Out.Sink.told (g.S.Shelf.told c.args.shelf.now) setting c.args.job.now.ticks) (written c.args.job.now.plan.now.sinks) o (lists_of c.create_each.new.groups.items))
     order_is (c.in_ok-create_each.ensures.ready c.args.job.now.ready.now.library c.args.job.now.start.second) in
-    rw p.1 (λ way trace may.
-    subst (λ (z : List ℕ × List (List (OutputSink g.row.S-Out.Denot))). RanPart (told g.S.Out.Sink.name) (told g.S.Out.Sink.held) (told g.S.Out.Sink.faults) (g.S.Shelf.files c.args.shelf.now) (station_in c.args.job.now way trace) z.0 z.1 (g.S.Shelf.created c.args.shelf.now) (g.S.Shelf.created c.create_each.new.shelf))
+    rw p.1 (λ way may.
+    subst (λ (z : List ℕ × List (List (OutputSink g.row.S-Out.Denot))). RanPart g.S.Out.Sink.told (g.S.Shelf.told c.args.shelf.now) (station_in c.args.job.now way) z.0 z.1 (g.S.Shelf.told c.create_each.new.shelf).created)
     (λ i. (sym order_is i, sym c.in_err-make_engines.ensures.back i))
-    (starved c.args.job.now.plan.now c.args.job.now.ready.now.library c.args.job.now.ready.now.clocks c.args.job.now.start.second c.args.job.now.ticks (told g.S.Out.Sink.name) (told g.S.Out.Sink.held) (spared g.S.Out.Sink.room) (owed g.S.Out.Sink.room) (told g.S.Out.Sink.faults)
-    (lists_of c.create_each.new.groups.items) (g.S.Shelf.files c.args.shelf.now) way trace c.args.job.now.cues may _ _ c.in_ok-create_each.ensures.made ready))
+    (starved c.args.job.now.plan.now c.args.job.now.ready.now.library c.args.job.now.ready.now.clocks c.args.job.now.start.second c.args.job.now.ticks g.S.Out.Sink.told (g.S.Shelf.told c.args.shelf.now)
+    (lists_of c.create_each.new.groups.items) way (name_in c.args.job.now) c.args.job.now.cues may _ c.in_ok-create_each.ensures.made ready))
 
 pub returns-clause-opened : goal.returns-clause-opened
 returns-clause-opened g c =
@@ -63,22 +58,8 @@ returns-clause-opened g c =
       order_is = order_is;
       all = many ∙ c.create_each.ensures.size;
       at = c.in_ok-make_engines.ensures.made;
-      ready = subst (λ (z : List ℕ × List (List (OutputSink g.row.S-Out.Denot))). AreCreated (IsReady (told g.S.Out.Sink.name) (told g.S.Out.Sink.held) (spared g.S.Out.Sink.room) (owed g.S.Out.Sink.room) (g.S.Shelf.files c.args.shelf.now) setting c.args.job.now.ticks) (written c.args.job.now.plan.now.sinks) z.0 z.1)
+      ready = subst (λ (z : List ℕ × List (List (OutputSink g.row.S-Out.Denot))). AreCreated (IsReady g.S.Out.Sink.told (g.S.Shelf.told c.args.shelf.now) setting c.args.job.now.ticks) (written c.args.job.now.plan.now.sinks) z.0 z.1)
           (λ i. (order_is i, sym c.in_ok-make_engines.ensures.outs i)) (c.in_ok-create_each.ensures.ready c.args.job.now.ready.now.library c.args.job.now.start.second);
       many = c.in_ok-make_engines.ensures.size ∙ sym many;
       taken = c.in_ok-make_engines.ensures.taken;
     }
-
-pub returns-clause-counted : goal.returns-clause-counted
-returns-clause-counted g c =
-    subst (λ gs. AreCounted (told g.S.Out.Sink.name) (told g.S.Out.Sink.appends) (g.S.Shelf.closed c.args.shelf.now) 1 (names_in c.args.job.now.plan.now.sinks) c.create_each.new.order.items gs) (sym c.in_ok-make_engines.ensures.outs) c.in_ok-create_each.ensures.counted
-
-pub returns-in_err-create_each-clause-front : goal.returns-in_err-create_each-clause-front
-returns-in_err-create_each-clause-front g c = on_err_so _ _ c.create_each.ensures.front
-
-pub returns-in_err-make_engines-clause-front : goal.returns-in_err-make_engines-clause-front
-returns-in_err-make_engines-clause-front g c = on_err_so _ _
-    (all_created (told g.S.Out.Sink.name) (told g.S.Out.Sink.appends) (g.S.Shelf.closed c.args.shelf.now) _ _ _ _ _ c.in_ok-create_each.ensures.made
-    (are_telling (told g.S.Out.Sink.name) (told g.S.Out.Sink.appends) (g.S.Shelf.closed c.args.shelf.now) 1 _ _ _
-    (subst (λ gs. AreCounted (told g.S.Out.Sink.name) (told g.S.Out.Sink.appends) (g.S.Shelf.closed c.args.shelf.now) 1 (names_in c.args.job.now.plan.now.sinks) c.create_each.new.order.items gs)
-    (sym c.in_err-make_engines.ensures.back) c.in_ok-create_each.ensures.counted)))

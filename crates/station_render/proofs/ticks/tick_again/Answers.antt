@@ -18,7 +18,7 @@ replay-run-requires-clause-accepted g c =
 pub replay-run-requires-clause-engines : goal.replay-run-requires-clause-engines
 replay-run-requires-clause-engines g c =
     let ready = ready_at c.deref_mut.ensures.value c.requires.ready in
-    subst (λ n. AreEngines g.O.Sink.room n (setting_by c.args.job.now) c.deref_mut.result.now) (sym c.requires.accepted.ticks) ready.over.are
+    subst (λ n. AreEngines g.O.Sink.told n (setting_by c.args.job.now) c.deref_mut.result.now) (sym c.requires.accepted.ticks) ready.over.are
 
 pub replay-run-requires-clause-all : goal.replay-run-requires-clause-all
 replay-run-requires-clause-all g c = (ready_at c.deref_mut.ensures.value c.requires.ready).all

@@ -8,7 +8,7 @@ use Rattle.trace_replay.proofs.engines.replay_clock.Goals as goal
 pub loop-tick-init : goal.loop-tick-init
 loop-tick-init g c = record {
   course = c.requires.goes;
-  goes = λ score may. replay_begins g.O.Sink.held g.O.Sink.name g.O.Sink.room g.O.Sink.faults g.O.Sink.appends score c.args.ticks c.args.engine.now.parts.clock c.args.engine.now c.args.taps.now.buffers.items may;
+  goes = λ score may. replay_begins g.O.Sink.told score c.args.ticks c.args.engine.now.parts.clock c.args.engine.now c.args.taps.now.buffers.items may;
 }
 
 pub tick-requires-clause-runs : goal.tick-requires-clause-runs
@@ -18,7 +18,7 @@ pub tick-requires-clause-few : goal.tick-requires-clause-few
 tick-requires-clause-few g c = let made = (c.loop-tick.invariant.goes c.requires.play.0 c.requires.play.1).engine.made in omega (arith, made, c.loop-tick-test.true, c.requires.few)
 
 pub tick-requires-clause-room : goal.tick-requires-clause-room
-tick-requires-clause-room g c = room_now g.O.Sink.room c.args.ticks c.loop-tick._tick c.loop-tick.engine c.loop-tick-test.true (c.loop-tick.invariant.goes c.requires.play.0 c.requires.play.1).rooms
+tick-requires-clause-room g c = room_now g.O.Sink.told c.args.ticks c.loop-tick._tick c.loop-tick.engine c.loop-tick-test.true (c.loop-tick.invariant.goes c.requires.play.0 c.requires.play.1).rooms
 
 pub tick-requires-clause-buffers : goal.tick-requires-clause-buffers
 tick-requires-clause-buffers g c =
@@ -29,30 +29,30 @@ pub loop-tick-preserved : goal.loop-tick-preserved
 loop-tick-preserved g c =
     let next : suc c.loop-tick._tick ≡ c.loop-tick._tick + 1 = omega arith in
     record {
-      course = still_goes g.O.Sink.held g.O.Sink.name g.O.Sink.room g.O.Sink.faults g.O.Sink.appends c.requires.play.0 c.args.ticks c.args.engine.now.parts.clock c.loop-tick._tick c.loop-tick-test.true c.args.engine.now c.loop-tick.engine c.tick.new.self c.args.taps.now.buffers.items c.requires.play.1
+      course = still_goes g.O.Sink.told c.requires.play.0 c.args.ticks c.args.engine.now.parts.clock c.loop-tick._tick c.loop-tick-test.true c.args.engine.now c.loop-tick.engine c.tick.new.self c.args.taps.now.buffers.items c.requires.play.1
           c.loop-tick.taps c.tick.new.taps (c.loop-tick.invariant.goes c.requires.play.0 c.requires.play.1) c.loop-tick.invariant.course c.tick.ensures.taps c.tick.ensures.setting c.tick.ensures.clock
-          c.in_ok-tick.ensures.ticked c.tick.ensures.whole.parts c.tick.ensures.faults c.tick.ensures.outs c.tick.ensures.kept c.in_ok-tick.ensures.once c.in_ok-tick.ensures.keeping c.in_ok-tick.ensures.room;
+          c.in_ok-tick.ensures.ticked c.tick.ensures.whole.parts c.tick.ensures.outs c.in_ok-tick.ensures.took c.in_ok-tick.ensures.keeping c.in_ok-tick.ensures.room;
       goes = λ score may.
-          subst (λ k. IsReplaying g.O.Sink.held g.O.Sink.name g.O.Sink.room g.O.Sink.faults g.O.Sink.appends score c.args.ticks c.args.engine.now.parts.clock k c.args.engine.now c.tick.new.self c.tick.new.taps.buffers.items) next
-          (replay_goes_on g.O.Sink.held g.O.Sink.name g.O.Sink.room g.O.Sink.faults g.O.Sink.appends score c.args.ticks c.args.engine.now.parts.clock c.loop-tick._tick c.loop-tick-test.true c.args.engine.now c.loop-tick.engine c.tick.new.self c.args.taps.now.buffers.items may
+          subst (λ k. IsReplaying g.O.Sink.told score c.args.ticks c.args.engine.now.parts.clock k c.args.engine.now c.tick.new.self c.tick.new.taps.buffers.items) next
+          (replay_goes_on g.O.Sink.told score c.args.ticks c.args.engine.now.parts.clock c.loop-tick._tick c.loop-tick-test.true c.args.engine.now c.loop-tick.engine c.tick.new.self c.args.taps.now.buffers.items may
           c.loop-tick.taps c.tick.new.taps (c.loop-tick.invariant.goes score may) c.loop-tick.invariant.course c.tick.ensures.taps c.tick.ensures.setting c.tick.ensures.clock
-          c.in_ok-tick.ensures.ticked c.tick.ensures.whole.parts c.tick.ensures.faults c.tick.ensures.outs c.tick.ensures.kept c.in_ok-tick.ensures.once c.in_ok-tick.ensures.keeping c.in_ok-tick.ensures.room);
+          c.in_ok-tick.ensures.ticked c.tick.ensures.whole.parts c.tick.ensures.outs c.in_ok-tick.ensures.took c.in_ok-tick.ensures.keeping c.in_ok-tick.ensures.room);
     }
 
 pub returns-in_err-tick-clause-part : goal.returns-in_err-tick-clause-part
 returns-in_err-tick-clause-part g c = on_err c.from_residual.result (λ score may.
-    replay_breaks g.O.Sink.held g.O.Sink.name g.O.Sink.room g.O.Sink.faults g.O.Sink.appends score c.args.ticks c.args.engine.now.parts.clock c.loop-tick._tick c.loop-tick-test.true c.args.engine.now c.loop-tick.engine c.tick.new.self c.args.taps.now.buffers.items may
+    replay_breaks g.O.Sink.told score c.args.ticks c.args.engine.now.parts.clock c.loop-tick._tick c.loop-tick-test.true c.args.engine.now c.loop-tick.engine c.tick.new.self c.args.taps.now.buffers.items may
     c.loop-tick.taps c.tick.new.taps (c.loop-tick.invariant.goes score may) c.loop-tick.invariant.course c.tick.ensures.taps c.tick.ensures.setting c.tick.ensures.clock
-    c.in_err-tick.ensures.stopped c.in_err-tick.ensures.once_upto c.tick.ensures.faults c.tick.ensures.outs c.tick.ensures.kept)
+    c.in_err-tick.ensures.stopped c.in_err-tick.ensures.part c.tick.ensures.outs)
 
 pub returns-clause-done : goal.returns-clause-done
 returns-clause-done g c = λ score may.
     let full : c.loop-tick._tick ≡ c.args.ticks = omega (arith, c.loop-tick-test.false, c.loop-tick.auto._tick-end) in
-    subst (λ k. IsReplaying g.O.Sink.held g.O.Sink.name g.O.Sink.room g.O.Sink.faults g.O.Sink.appends score c.args.ticks c.args.engine.now.parts.clock k c.args.engine.now c.loop-tick.engine c.loop-tick.taps.buffers.items) full (c.loop-tick.invariant.goes score may)
+    subst (λ k. IsReplaying g.O.Sink.told score c.args.ticks c.args.engine.now.parts.clock k c.args.engine.now c.loop-tick.engine c.loop-tick.taps.buffers.items) full (c.loop-tick.invariant.goes score may)
 
 pub returns-in_err-tick-clause-cause : goal.returns-in_err-tick-clause-cause
 returns-in_err-tick-clause-cause g c =
     let p = err_from_is_err_and c.from_residual.result c.from_residual.ensures.1 in rw (p.1, p.2) (λ sink e.
-    sink_failed g.O.Sink.held g.O.Sink.name g.O.Sink.room g.O.Sink.faults g.O.Sink.appends c.requires.play.0 c.args.ticks c.args.engine.now.parts.clock c.loop-tick._tick c.loop-tick-test.true c.args.engine.now c.loop-tick.engine c.tick.new.self c.args.taps.now.buffers.items c.requires.play.1
+    sink_failed g.O.Sink.told c.requires.play.0 c.args.ticks c.args.engine.now.parts.clock c.loop-tick._tick c.loop-tick-test.true c.args.engine.now c.loop-tick.engine c.tick.new.self c.args.taps.now.buffers.items c.requires.play.1
     c.loop-tick.taps c.tick.new.taps (c.loop-tick.invariant.goes c.requires.play.0 c.requires.play.1) c.loop-tick.invariant.course c.tick.ensures.taps c.tick.ensures.setting c.tick.ensures.clock
     c.in_err-tick.field-0.0 (c.in_err-tick.ensures.cause sink e) sink e)

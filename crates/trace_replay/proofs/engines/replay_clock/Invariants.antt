@@ -7,6 +7,6 @@ use Rattle.trace_replay.proofs.engines.replay_clock.Given as goal
 abbrev pub invariant-loop-tick : goal.invariant-loop-tick
 invariant-loop-tick g l = record {
   course : l.taps.course ≡ Goes;
-  goes : (score : Score) → MayReplay g.O.Sink.room score l.ticks l.fn.engine.parts.clock l.fn.engine l.fn.taps.buffers.items
-      → IsReplaying g.O.Sink.held g.O.Sink.name g.O.Sink.room g.O.Sink.faults g.O.Sink.appends score l.ticks l.fn.engine.parts.clock l._tick l.fn.engine l.engine l.taps.buffers.items;
+  goes : (score : Score) → MayReplay g.O.Sink.told score l.ticks l.fn.engine.parts.clock l.fn.engine l.fn.taps.buffers.items
+      → IsReplaying g.O.Sink.told score l.ticks l.fn.engine.parts.clock l._tick l.fn.engine l.engine l.taps.buffers.items;
 }

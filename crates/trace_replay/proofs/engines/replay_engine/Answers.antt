@@ -12,48 +12,48 @@ pub replay_clock-requires-clause-play : goal.replay_clock-requires-clause-play
 replay_clock-requires-clause-play g c = (
   score_here (base_at c.args.station.now) c.args.station.now.clocks.now c.requires.setting (text_of c.args.trace.now.buffers) c.args.trace.now.window c.args.trace.now.ticks c.args.taps.now.buffers.items c.requires.told c.requires.found
       c.args.engine.now.parts.clock c.requires.runs,
-  subst (λ n. MayReplay g.O.Sink.room (score_here (base_at c.args.station.now) c.args.station.now.clocks.now c.requires.setting (text_of c.args.trace.now.buffers) c.args.trace.now.window c.args.trace.now.ticks c.args.taps.now.buffers.items c.requires.told c.requires.found
+  subst (λ n. MayReplay g.O.Sink.told (score_here (base_at c.args.station.now) c.args.station.now.clocks.now c.requires.setting (text_of c.args.trace.now.buffers) c.args.trace.now.window c.args.trace.now.ticks c.args.taps.now.buffers.items c.requires.told c.requires.found
       c.args.engine.now.parts.clock c.requires.runs) n c.args.engine.now.parts.clock c.args.engine.now c.begin_run.new.buffers.items) (sym c.ticks_of.ensures)
       (may_replay (base_at c.args.station.now) c.args.station.now.clocks.now c.requires.setting (text_of c.args.trace.now.buffers) c.args.trace.now.window c.args.trace.now.ticks c.args.taps.now.buffers.items c.requires.told c.requires.found
-      c.args.engine.now.parts.clock c.requires.runs g.O.Sink.room c.args.engine.now c.args.sides.now.feeders.items c.args.sides.now.readers.items c.deref.result.now c.deref-2.result.now c.clock.result c.begin_run.new.buffers.items refl
+      c.args.engine.now.parts.clock c.requires.runs g.O.Sink.told c.args.engine.now c.args.sides.now.feeders.items c.args.sides.now.readers.items c.deref.result.now c.deref-2.result.now c.clock.result c.begin_run.new.buffers.items refl
       c.requires.over c.requires.engine c.deref.ensures.value c.deref-2.ensures.value c.clock.ensures c.requires.sides c.begin_run.ensures.many c.begin_run.ensures.begun),
 )
 
 pub returns-clause-done : goal.returns-clause-done
 returns-clause-done g c = on_ok_map c.replay_clock.result (λ h run of.
     engine_done (base_at c.args.station.now) c.args.station.now.clocks.now c.requires.setting (text_of c.args.trace.now.buffers) c.args.trace.now.window c.args.trace.now.ticks c.args.taps.now.buffers.items c.requires.told c.requires.found
-    c.args.engine.now.parts.clock c.requires.runs run of.lawful (told_by (base_at c.args.station.now) c.args.station.now.clocks.now.running c.args.trace.now run of) g.O.Sink.held g.O.Sink.name g.O.Sink.room g.O.Sink.faults g.O.Sink.appends c.args.engine.now c.replay_clock.new.engine c.requires.over c.replay_clock.new.taps.buffers.items
+    c.args.engine.now.parts.clock c.requires.runs run of.lawful (told_by (base_at c.args.station.now) c.args.station.now.clocks.now.running c.args.trace.now run of) g.O.Sink.told c.args.engine.now c.replay_clock.new.engine c.requires.over c.replay_clock.new.taps.buffers.items
     (replaying_here (base_at c.args.station.now) c.args.station.now.clocks.now c.requires.setting (text_of c.args.trace.now.buffers) c.args.trace.now.window c.args.trace.now.ticks c.args.taps.now.buffers.items c.requires.told c.requires.found
-    c.args.engine.now.parts.clock c.requires.runs g.O.Sink.held g.O.Sink.name g.O.Sink.room g.O.Sink.faults g.O.Sink.appends c.ticks_of.result c.args.engine.now c.replay_clock.new.engine c.begin_run.new.buffers.items c.replay_clock.new.taps.buffers.items c.ticks_of.ensures refl
+    c.args.engine.now.parts.clock c.requires.runs g.O.Sink.told c.ticks_of.result c.args.engine.now c.replay_clock.new.engine c.begin_run.new.buffers.items c.replay_clock.new.taps.buffers.items c.ticks_of.ensures refl
     (may_replay (base_at c.args.station.now) c.args.station.now.clocks.now c.requires.setting (text_of c.args.trace.now.buffers) c.args.trace.now.window c.args.trace.now.ticks c.args.taps.now.buffers.items c.requires.told c.requires.found
-    c.args.engine.now.parts.clock c.requires.runs g.O.Sink.room c.args.engine.now c.args.sides.now.feeders.items c.args.sides.now.readers.items c.deref.result.now c.deref-2.result.now c.clock.result c.begin_run.new.buffers.items refl
+    c.args.engine.now.parts.clock c.requires.runs g.O.Sink.told c.args.engine.now c.args.sides.now.feeders.items c.args.sides.now.readers.items c.deref.result.now c.deref-2.result.now c.clock.result c.begin_run.new.buffers.items refl
     c.requires.over c.requires.engine c.deref.ensures.value c.deref-2.ensures.value c.clock.ensures c.requires.sides c.begin_run.ensures.many c.begin_run.ensures.begun) h)) c.replay_clock.ensures.done
 
 pub returns-clause-told : goal.returns-clause-told
 returns-clause-told g c = on_ok_map c.replay_clock.result (λ h.
     told_of (base_at c.args.station.now) (text_of c.args.trace.now.buffers) c.args.engine.now.parts.clock (chunks_of c.args.taps.now.buffers.items) c.replay_clock.new.taps.buffers.items
     (replaying_here (base_at c.args.station.now) c.args.station.now.clocks.now c.requires.setting (text_of c.args.trace.now.buffers) c.args.trace.now.window c.args.trace.now.ticks c.args.taps.now.buffers.items c.requires.told c.requires.found
-    c.args.engine.now.parts.clock c.requires.runs g.O.Sink.held g.O.Sink.name g.O.Sink.room g.O.Sink.faults g.O.Sink.appends c.ticks_of.result c.args.engine.now c.replay_clock.new.engine c.begin_run.new.buffers.items c.replay_clock.new.taps.buffers.items c.ticks_of.ensures refl
+    c.args.engine.now.parts.clock c.requires.runs g.O.Sink.told c.ticks_of.result c.args.engine.now c.replay_clock.new.engine c.begin_run.new.buffers.items c.replay_clock.new.taps.buffers.items c.ticks_of.ensures refl
     (may_replay (base_at c.args.station.now) c.args.station.now.clocks.now c.requires.setting (text_of c.args.trace.now.buffers) c.args.trace.now.window c.args.trace.now.ticks c.args.taps.now.buffers.items c.requires.told c.requires.found
-    c.args.engine.now.parts.clock c.requires.runs g.O.Sink.room c.args.engine.now c.args.sides.now.feeders.items c.args.sides.now.readers.items c.deref.result.now c.deref-2.result.now c.clock.result c.begin_run.new.buffers.items refl
+    c.args.engine.now.parts.clock c.requires.runs g.O.Sink.told c.args.engine.now c.args.sides.now.feeders.items c.args.sides.now.readers.items c.deref.result.now c.deref-2.result.now c.clock.result c.begin_run.new.buffers.items refl
     c.requires.over c.requires.engine c.deref.ensures.value c.deref-2.ensures.value c.clock.ensures c.requires.sides c.begin_run.ensures.many c.begin_run.ensures.begun) h).of) c.replay_clock.ensures.done
 
 pub returns-clause-found : goal.returns-clause-found
 returns-clause-found g c = on_ok_map c.replay_clock.result (λ h.
     still_found (base_at c.args.station.now) c.args.station.now.clocks.now c.requires.setting (text_of c.args.trace.now.buffers) c.args.trace.now.window c.args.trace.now.ticks c.args.taps.now.buffers.items c.requires.told c.requires.found
-    c.args.engine.now.parts.clock c.requires.runs g.O.Sink.held g.O.Sink.name g.O.Sink.room g.O.Sink.faults g.O.Sink.appends c.args.engine.now c.replay_clock.new.engine c.replay_clock.new.taps.buffers.items
+    c.args.engine.now.parts.clock c.requires.runs g.O.Sink.told c.args.engine.now c.replay_clock.new.engine c.replay_clock.new.taps.buffers.items
     (replaying_here (base_at c.args.station.now) c.args.station.now.clocks.now c.requires.setting (text_of c.args.trace.now.buffers) c.args.trace.now.window c.args.trace.now.ticks c.args.taps.now.buffers.items c.requires.told c.requires.found
-    c.args.engine.now.parts.clock c.requires.runs g.O.Sink.held g.O.Sink.name g.O.Sink.room g.O.Sink.faults g.O.Sink.appends c.ticks_of.result c.args.engine.now c.replay_clock.new.engine c.begin_run.new.buffers.items c.replay_clock.new.taps.buffers.items c.ticks_of.ensures refl
+    c.args.engine.now.parts.clock c.requires.runs g.O.Sink.told c.ticks_of.result c.args.engine.now c.replay_clock.new.engine c.begin_run.new.buffers.items c.replay_clock.new.taps.buffers.items c.ticks_of.ensures refl
     (may_replay (base_at c.args.station.now) c.args.station.now.clocks.now c.requires.setting (text_of c.args.trace.now.buffers) c.args.trace.now.window c.args.trace.now.ticks c.args.taps.now.buffers.items c.requires.told c.requires.found
-    c.args.engine.now.parts.clock c.requires.runs g.O.Sink.room c.args.engine.now c.args.sides.now.feeders.items c.args.sides.now.readers.items c.deref.result.now c.deref-2.result.now c.clock.result c.begin_run.new.buffers.items refl
+    c.args.engine.now.parts.clock c.requires.runs g.O.Sink.told c.args.engine.now c.args.sides.now.feeders.items c.args.sides.now.readers.items c.deref.result.now c.deref-2.result.now c.clock.result c.begin_run.new.buffers.items refl
     c.requires.over c.requires.engine c.deref.ensures.value c.deref-2.ensures.value c.clock.ensures c.requires.sides c.begin_run.ensures.many c.begin_run.ensures.begun) h)) c.replay_clock.ensures.done
 
 pub returns-clause-part : goal.returns-clause-part
 returns-clause-part g c = on_err_map c.replay_clock.result (λ h run of.
     engine_broke (base_at c.args.station.now) c.args.station.now.clocks.now c.requires.setting (text_of c.args.trace.now.buffers) c.args.trace.now.window c.args.trace.now.ticks c.args.taps.now.buffers.items c.requires.told c.requires.found
-    c.args.engine.now.parts.clock c.requires.runs run of.lawful (told_by (base_at c.args.station.now) c.args.station.now.clocks.now.running c.args.trace.now run of) g.O.Sink.held g.O.Sink.name g.O.Sink.room g.O.Sink.faults g.O.Sink.appends c.args.engine.now c.replay_clock.new.engine c.requires.over
+    c.args.engine.now.parts.clock c.requires.runs run of.lawful (told_by (base_at c.args.station.now) c.args.station.now.clocks.now.running c.args.trace.now run of) g.O.Sink.told c.args.engine.now c.replay_clock.new.engine c.requires.over
     (broken_here (base_at c.args.station.now) c.args.station.now.clocks.now c.requires.setting (text_of c.args.trace.now.buffers) c.args.trace.now.window c.args.trace.now.ticks c.args.taps.now.buffers.items c.requires.told c.requires.found
-    c.args.engine.now.parts.clock c.requires.runs g.O.Sink.held g.O.Sink.name g.O.Sink.room g.O.Sink.faults g.O.Sink.appends c.ticks_of.result c.args.engine.now c.replay_clock.new.engine c.begin_run.new.buffers.items c.ticks_of.ensures refl
+    c.args.engine.now.parts.clock c.requires.runs g.O.Sink.told c.ticks_of.result c.args.engine.now c.replay_clock.new.engine c.begin_run.new.buffers.items c.ticks_of.ensures refl
     (may_replay (base_at c.args.station.now) c.args.station.now.clocks.now c.requires.setting (text_of c.args.trace.now.buffers) c.args.trace.now.window c.args.trace.now.ticks c.args.taps.now.buffers.items c.requires.told c.requires.found
-    c.args.engine.now.parts.clock c.requires.runs g.O.Sink.room c.args.engine.now c.args.sides.now.feeders.items c.args.sides.now.readers.items c.deref.result.now c.deref-2.result.now c.clock.result c.begin_run.new.buffers.items refl
+    c.args.engine.now.parts.clock c.requires.runs g.O.Sink.told c.args.engine.now c.args.sides.now.feeders.items c.args.sides.now.readers.items c.deref.result.now c.deref-2.result.now c.clock.result c.begin_run.new.buffers.items refl
     c.requires.over c.requires.engine c.deref.ensures.value c.deref-2.ensures.value c.clock.ensures c.requires.sides c.begin_run.ensures.many c.begin_run.ensures.begun) h)) c.replay_clock.ensures.part

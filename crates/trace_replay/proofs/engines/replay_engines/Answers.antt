@@ -13,7 +13,7 @@ pub loop-k-init : goal.loop-k-init
 loop-k-init g c = record {
   told = c.requires.told;
   found = c.requires.found;
-  goes = λ run of. begin_engines g.O.Sink.held g.O.Sink.name g.O.Sink.faults g.O.Sink.appends (setting_in (base_at c.args.station.now) run) c.args.trace.now.ticks c.args.engines.now;
+  goes = λ run of. begin_engines g.O.Sink.told (setting_in (base_at c.args.station.now) run) c.args.trace.now.ticks c.args.engines.now;
   same = λ j high. refl;
   size = refl;
 }
@@ -43,7 +43,7 @@ loop-k-preserved g c =
     record {
       told = c.in_default.ensures.told;
       found = c.in_default.ensures.found;
-      goes = λ run of. next_engine g.O.Sink.held g.O.Sink.name g.O.Sink.faults g.O.Sink.appends (setting_in (base_at c.args.station.now) run) c.args.trace.now.ticks c.loop-k.k c.args.engines.now c.loop-k.engines (c.loop-k.invariant.goes run of)
+      goes = λ run of. next_engine g.O.Sink.told (setting_in (base_at c.args.station.now) run) c.args.trace.now.ticks c.loop-k.k c.args.engines.now c.loop-k.engines (c.loop-k.invariant.goes run of)
           (get_or c.loop-k.engines c.loop-k.k c.index-engines-k.result) c.replay_engine.new.engine here (c.in_default.ensures.done run of);
       same = λ j high. slice_get-set_other c.loop-k.engines c.loop-k.k j c.replay_engine.new.engine (λ e. omega (arith, high, e)) ∙ c.loop-k.invariant.same j (omega (arith, high));
       size = length-set c.loop-k.engines c.loop-k.k c.replay_engine.new.engine ∙ c.loop-k.invariant.size;
@@ -57,11 +57,11 @@ returns-in-Err-clause-part g c = λ run of.
     let number = c.requires.engines.in_order c.loop-k.k old (sym (c.loop-k.invariant.same c.loop-k.k (omega arith)) ∙ here) in
     let part = c.in-Err.ensures.part run of in
     let setting = setting_in (base_at c.args.station.now) run in
-    engines_stopped g.O.Sink.held g.O.Sink.name g.O.Sink.faults g.O.Sink.appends setting c.args.trace.now.ticks c.loop-k.k c.args.engines.now c.loop-k.engines (c.loop-k.invariant.goes run of)
+    engines_stopped g.O.Sink.told setting c.args.trace.now.ticks c.loop-k.k c.args.engines.now c.loop-k.engines (c.loop-k.invariant.goes run of)
     old c.replay_engine.new.engine here part c.end_of.result
     (λ failed sink e. elim (fault_is c.in-Err.fault) [
       | inr memory ↦ absurd (let none = c.end_of.ensures.memory memory in cc)
-      | inl write ↦ engine_write g.O.Sink.held g.O.Sink.name g.O.Sink.faults g.O.Sink.appends setting c.args.trace.now.ticks c.loop-k.k c.args.engines.now c.loop-k.engines (c.loop-k.invariant.goes run of)
+      | inl write ↦ engine_write g.O.Sink.told setting c.args.trace.now.ticks c.loop-k.k c.args.engines.now c.loop-k.engines (c.loop-k.invariant.goes run of)
           old c.replay_engine.new.engine here c.clock.result write.0 c.end_of.result number (c.in-Err.ensures.cause write.0 write.1) (c.end_of.ensures.write write.0 write.1)
           (c.clock.ensures ∙ ap (λ x. x.parts.clock) (get_or-set_same c.loop-k.engines c.loop-k.k c.replay_engine.new.engine c.index-engines-k-in-Err.result within) ∙ part.part.clock ∙ number)
     ])
@@ -69,4 +69,4 @@ returns-in-Err-clause-part g c = λ run of.
 pub returns-clause-done : goal.returns-clause-done
 returns-clause-done g c = λ run of.
     let full : length c.loop-k.engines ≤ c.loop-k.k = search rules in
-    all_engines g.O.Sink.held g.O.Sink.name g.O.Sink.faults g.O.Sink.appends (setting_in (base_at c.args.station.now) run) c.args.trace.now.ticks c.loop-k.k c.args.engines.now c.loop-k.engines (c.loop-k.invariant.goes run of) full
+    all_engines g.O.Sink.told (setting_in (base_at c.args.station.now) run) c.args.trace.now.ticks c.loop-k.k c.args.engines.now c.loop-k.engines (c.loop-k.invariant.goes run of) full

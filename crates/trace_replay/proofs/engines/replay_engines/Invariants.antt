@@ -11,7 +11,7 @@ invariant-loop-k g l = record {
   told : AreTold (base_at l.station) (text_of l.trace.buffers) l.taps.buffers.items;
   found : HaveFound (base_at l.station) l.station.clocks.now l.trace.window l.trace.ticks (text_of l.trace.buffers) l.taps.buffers.items;
   goes : (run : Run) → IsRecordOf (base_at l.station) l.station.clocks.now.running l.trace run
-      → AreReplayed g.O.Sink.held g.O.Sink.name g.O.Sink.faults g.O.Sink.appends (setting_in (base_at l.station) run) l.trace.ticks l.k l.fn.engines l.engines;
+      → AreReplayed g.O.Sink.told (setting_in (base_at l.station) run) l.trace.ticks l.k l.fn.engines l.engines;
   same : (j : ℕ) → l.k ≤ j → slice_get l.engines j ≡ slice_get l.fn.engines j;
   size : length l.engines ≡ length l.fn.engines;
 }

@@ -1,5 +1,5 @@
 use Rattle.std.proofs.Common.{◌≡◌, ◌∙◌, ◌+◌, ℕ, suc, false, List, subst, sym, arith, is_err}
-use Rattle.std.specs.Prelude.{None}
+use Rattle.liq_base.specs.Untold.{faults_alone}
 use Rattle.trace_replay.specs.declared.course.Course.TheVariants.{Goes, Waits, Fails}
 use Rattle.trace_replay.specs.Answering.{BufferState, same_buffers_refl, same_buffers_trans}
 use Rattle.trace_replay.specs.Passes.{HasTurned}
@@ -30,7 +30,7 @@ loop-tick-preserved c =
       goes = λ score may.
           subst (λ k. RunsAt score.base score.text c.args.window c.args.ticks c.args.engine.now.parts.clock k score.chunks c.tick.new.self.parts c.tick.new.taps.buffers.items) next
           (goes_on score c.args.window c.args.ticks c.args.engine.now.parts.clock c.args.ends.now c.args.engine.now.parts c.args.taps.now.buffers.items may
-          (λ s. None) c.loop-tick.engine.outs c.tick.new.self.outs c.loop-tick.tick c.loop-tick-test.true c.requires.some c.loop-tick.engine.parts c.tick.new.self.parts c.loop-tick.taps c.tick.new.taps
+          (λ s. faults_alone 0) c.loop-tick.engine.outs c.tick.new.self.outs c.loop-tick.tick c.loop-tick-test.true c.requires.some c.loop-tick.engine.parts c.tick.new.self.parts c.loop-tick.taps c.tick.new.taps
           (c.loop-tick.invariant.goes score may) c.loop-tick.invariant.course c.tick.ensures.setting c.tick.ensures.clock (on_ok c.tick.result ok c.tick.ensures.ticked) c.tick.ensures.taps g.0 g.1);
     }
 
@@ -41,7 +41,7 @@ returns-in-Waits-clause-made c = λ n score e may.
     let here : c.loop-tick.tick ≡ n = cc in
     subst (λ k. HasTurned score.base c.args.window c.args.ticks score.text c.args.engine.now.parts.clock k score.chunks (chunks_of c.tick.new.taps.buffers.items)) here
     (waits score c.args.window c.args.ticks c.args.engine.now.parts.clock c.args.ends.now c.args.engine.now.parts c.args.taps.now.buffers.items may
-    (λ s. None) c.loop-tick.engine.outs c.tick.new.self.outs c.loop-tick.tick c.loop-tick-test.true c.requires.some c.loop-tick.engine.parts c.tick.new.self.parts c.loop-tick.taps c.tick.new.taps
+    (λ s. faults_alone 0) c.loop-tick.engine.outs c.tick.new.self.outs c.loop-tick.tick c.loop-tick-test.true c.requires.some c.loop-tick.engine.parts c.tick.new.self.parts c.loop-tick.taps c.tick.new.taps
     (c.loop-tick.invariant.goes score may) c.loop-tick.invariant.course c.tick.ensures.setting c.tick.ensures.clock (on_ok c.tick.result ok c.tick.ensures.ticked) c.tick.ensures.taps g)
 
 pub returns-in-Fails-clause-refused : goal.returns-in-Fails-clause-refused
@@ -51,7 +51,7 @@ returns-in-Fails-clause-refused c = λ score e may.
     subst (λ (l : List BufferState). GoesOn c.args.window c.args.ticks c.loop-tick.tick c.tick.new.taps.course l c.args.ends.now Fails) c.deref.ensures.value
     (subst (GoesOn c.args.window c.args.ticks c.loop-tick.tick c.tick.new.taps.course c.deref.result.now c.args.ends.now) c.in-Fails.is c.course_of.ensures) in
     fails score c.args.window c.args.ticks c.args.engine.now.parts.clock c.args.ends.now c.args.engine.now.parts c.args.taps.now.buffers.items may
-    (λ s. None) c.loop-tick.engine.outs c.tick.new.self.outs c.loop-tick.tick c.loop-tick-test.true c.requires.some c.loop-tick.engine.parts c.tick.new.self.parts c.loop-tick.taps c.tick.new.taps
+    (λ s. faults_alone 0) c.loop-tick.engine.outs c.tick.new.self.outs c.loop-tick.tick c.loop-tick-test.true c.requires.some c.loop-tick.engine.parts c.tick.new.self.parts c.loop-tick.taps c.tick.new.taps
     (c.loop-tick.invariant.goes score may) c.loop-tick.invariant.course c.tick.ensures.setting c.tick.ensures.clock (on_ok c.tick.result ok c.tick.ensures.ticked) c.tick.ensures.taps g
 
 pub returns-clause-made : goal.returns-clause-made

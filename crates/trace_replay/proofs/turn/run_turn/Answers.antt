@@ -1,4 +1,7 @@
+use Rattle.std.proofs.Common.{◌≡◌, ◌∙◌, [], arith, sym}
+use Rattle.std.proofs.lemmas.Bool.Decides.{nat_tests}
 use Rattle.trace_replay.specs.Turns.{base_of, chunks_of}
+use Rattle.trace_replay.proofs.Unbuffered.{ended, is_none}
 use Rattle.trace_replay.proofs.Readying.{made, may, refused, still_fit}
 use Rattle.trace_replay.proofs.turn.run_turn.Goals as goal
 
@@ -31,3 +34,9 @@ returns-clause-refused c =
     c.args.sides.now.feeders.items c.args.sides.now.readers.items c.deref.result.now c.deref-2.result.now
     c.deref.ensures.value c.deref-2.ensures.value c.requires.sides c.args.ends.now c.args.taps.now.buffers.items c.begin_run.new.buffers.items c.begin_run.ensures.many c.begin_run.ensures.begun c.requires.long
     c.in-Ok.engine.parts c.in-Ok.ensures.clock c.in-Ok.ensures.setting c.in-Ok.ensures.stands c.run_clock-turn.result c.run_clock-turn.new.taps.buffers.items c.run_clock-turn.ensures.refused
+
+pub returns-then-is_empty-clause-made : goal.returns-then-is_empty-clause-made
+returns-then-is_empty-clause-made c =
+    let base = base_of c.args.station.now.plan.now c.args.station.now.library.now c.args.station.now.clocks.now c.args.station.now.start.second in
+    let none : base.plan.buffers ≡ [] = sym c.as_slice.ensures ∙ is_none c.as_slice.result.now (grind (arith, nat_tests, c.is_empty.ensures, c.if-is_empty.true)) in
+    λ n text e fit. ended base c.args.station.now.clocks.now c.requires.setting none text c.args.window c.args.ticks c.args.clock (chunks_of c.args.taps.now.buffers.items) n e

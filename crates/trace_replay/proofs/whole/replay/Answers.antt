@@ -19,14 +19,14 @@ pub returns-in-Ok-clause-part : goal.returns-in-Ok-clause-part
 returns-in-Ok-clause-part g c = record {
   run = c.requires.accepted.ordered.run;
   of = record_of (base_of c.args.plan.now c.args.library.now c.args.clocks.now c.args.start.second) c.args.clocks.now.running c.args.trace.now c.requires.accepted;
-  part = all_to g.O.Sink.held g.O.Sink.name g.O.Sink.faults g.O.Sink.appends (setting_in (base_of c.args.plan.now c.args.library.now c.args.clocks.now c.args.start.second) c.requires.accepted.ordered.run) c.args.trace.now.ticks c.args.engines.now c.replay_engines.new.engines (c.in-Ok.ensures.done c.requires.accepted.ordered.run (record_of (base_of c.args.plan.now c.args.library.now c.args.clocks.now c.args.start.second) c.args.clocks.now.running c.args.trace.now c.requires.accepted)) c.told_or_ended.result.end c.told_or_ended.ensures.ended;
+  part = all_to g.O.Sink.told (setting_in (base_of c.args.plan.now c.args.library.now c.args.clocks.now c.args.start.second) c.requires.accepted.ordered.run) c.args.trace.now.ticks c.args.engines.now c.replay_engines.new.engines (c.in-Ok.ensures.done c.requires.accepted.ordered.run (record_of (base_of c.args.plan.now c.args.library.now c.args.clocks.now c.args.start.second) c.args.clocks.now.running c.args.trace.now c.requires.accepted)) c.told_or_ended.result.end c.told_or_ended.ensures.ended;
 }
 
 pub returns-clause-part : goal.returns-clause-part
 returns-clause-part g c = record {
   run = c.requires.accepted.ordered.run;
   of = record_of (base_of c.args.plan.now c.args.library.now c.args.clocks.now c.args.start.second) c.args.clocks.now.running c.args.trace.now c.requires.accepted;
-  part = ended_so g.O.Sink.held g.O.Sink.name g.O.Sink.faults g.O.Sink.appends (setting_in (base_of c.args.plan.now c.args.library.now c.args.clocks.now c.args.start.second) c.requires.accepted.ordered.run) c.args.trace.now.ticks c.args.engines.now c.replay_engines.new.engines c.in-Err.end c.ended.result.end c.ended.ensures (c.in-Err.ensures.part c.requires.accepted.ordered.run (record_of (base_of c.args.plan.now c.args.library.now c.args.clocks.now c.args.start.second) c.args.clocks.now.running c.args.trace.now c.requires.accepted));
+  part = ended_so g.O.Sink.told (setting_in (base_of c.args.plan.now c.args.library.now c.args.clocks.now c.args.start.second) c.requires.accepted.ordered.run) c.args.trace.now.ticks c.args.engines.now c.replay_engines.new.engines c.in-Err.end c.ended.result.end c.ended.ensures (c.in-Err.ensures.part c.requires.accepted.ordered.run (record_of (base_of c.args.plan.now c.args.library.now c.args.clocks.now c.args.start.second) c.args.clocks.now.running c.args.trace.now c.requires.accepted));
 }
 
 pub returns-clause-done : goal.returns-clause-done

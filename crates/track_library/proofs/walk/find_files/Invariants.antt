@@ -1,6 +1,7 @@
-use Rattle.std.proofs.Common.{◌≡◌, ◌≤◌, ℕ, List, [], drop, length}
+use Rattle.std.proofs.Common.{◌≡◌, ℕ, List, [], drop, length}
 use Rattle.std.specs.Prelude.{Ok}
 use Rattle.std.specs.Option.{ForSome}
+use Rattle.liq_base.specs.Shelves.{OnlyRead}
 use Rattle.track_library.specs.Walk.{nodes_walked, nothing_met}
 use Rattle.track_library.specs.Reads.{LoadReads, NodesRead}
 use Rattle.track_library.specs.States.{heard_of, walked_of}
@@ -11,14 +12,12 @@ use Rattle.track_library.proofs.walk.find_files.Given as goal
 -- the leaves so far and the nodes that are left make the whole
 abbrev pub invariant-loop-node : goal.invariant-loop-node
 invariant-loop-node g l =
-    (g.S.Shelf.files l.shelf ≡ g.S.Shelf.files l.fn.shelf)
-    × (g.S.Shelf.read_count l.fn.shelf ≤ g.S.Shelf.read_count l.shelf) × (g.S.Shelf.write_count l.fn.shelf ≤ g.S.Shelf.write_count l.shelf)
+    OnlyRead (g.S.Shelf.told l.fn.shelf) (g.S.Shelf.told l.shelf)
     × LeavesSoFar (heard_of l.walk.audio) l.leaves
-    × ForSome (g.S.Shelf.files l.fn.shelf) (λ files. nodes_walked l.rules files l.plan.nodes (Ok (nothing_met, []))
+    × ForSome (g.S.Shelf.told l.fn.shelf).files (λ files. nodes_walked l.rules files l.plan.nodes (Ok (nothing_met, []))
     ≡ nodes_walked l.rules files (drop l.node-index l.plan.nodes) (Ok (walked_of l.walk, l.leaves)))
-    × ForSome (g.S.Shelf.files l.fn.shelf) (λ files. (read : List ℕ)
+    × ForSome (g.S.Shelf.told l.fn.shelf).files (λ files. (read : List ℕ)
     → NodesRead l.rules files (drop l.node-index l.plan.nodes) (Ok (walked_of l.walk, l.leaves)) read
     → LoadReads l.rules files l.plan.nodes read)
     × (length l.leaves ≡ l.node-index)
     × SinglesSoFar l.node-index l.plan.nodes l.leaves
-    × (g.S.Shelf.created l.shelf ≡ g.S.Shelf.created l.fn.shelf) × (g.S.Shelf.closed l.shelf ≡ g.S.Shelf.closed l.fn.shelf)

@@ -1,6 +1,7 @@
-use Rattle.std.proofs.Common.{◌≡◌, ◌≤◌, ℕ, List, [], drop}
+use Rattle.std.proofs.Common.{◌≡◌, ℕ, List, [], drop}
 use Rattle.std.specs.Prelude.{Ok}
 use Rattle.std.specs.Option.{ForSome}
+use Rattle.liq_base.specs.Shelves.{OnlyRead}
 use Rattle.track_library.specs.Walk.{entries_played}
 use Rattle.track_library.specs.Reads.{EntriesRead}
 use Rattle.track_library.specs.States.{heard_of}
@@ -10,11 +11,9 @@ use Rattle.track_library.proofs.walk.play_entries.Given as goal
 -- what was played and the entries that are left make the whole
 abbrev pub invariant-loop-name : goal.invariant-loop-name
 invariant-loop-name g l =
-    (g.S.Shelf.files l.shelf ≡ g.S.Shelf.files l.fn.shelf)
-    × (g.S.Shelf.read_count l.fn.shelf ≤ g.S.Shelf.read_count l.shelf) × (g.S.Shelf.write_count l.fn.shelf ≤ g.S.Shelf.write_count l.shelf)
+    OnlyRead (g.S.Shelf.told l.fn.shelf) (g.S.Shelf.told l.shelf)
     × PlaysSoFar (heard_of l.fn.audio) (heard_of l.audio) l.leaf.items
-    × ForSome (g.S.Shelf.files l.fn.shelf) (λ files. entries_played l.rules files l.names (Ok (heard_of l.fn.audio, []))
+    × ForSome (g.S.Shelf.told l.fn.shelf).files (λ files. entries_played l.rules files l.names (Ok (heard_of l.fn.audio, []))
     ≡ entries_played l.rules files (drop l.name-index l.names) (Ok (heard_of l.audio, l.leaf.items)))
-    × ForSome (g.S.Shelf.files l.fn.shelf) (λ files. (read : List ℕ) → EntriesRead l.rules files (drop l.name-index l.names) (Ok (heard_of l.audio, l.leaf.items)) read
+    × ForSome (g.S.Shelf.told l.fn.shelf).files (λ files. (read : List ℕ) → EntriesRead l.rules files (drop l.name-index l.names) (Ok (heard_of l.audio, l.leaf.items)) read
     → EntriesRead l.rules files l.names (Ok (heard_of l.fn.audio, [])) read)
-    × (g.S.Shelf.created l.shelf ≡ g.S.Shelf.created l.fn.shelf) × (g.S.Shelf.closed l.shelf ≡ g.S.Shelf.closed l.fn.shelf)

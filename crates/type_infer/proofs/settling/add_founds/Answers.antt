@@ -1,6 +1,6 @@
 use Rattle.std.proofs.Common.{◌≡◌, ◌∙◌, ◌∷◌, ◌++◌, subst, sym}
 use Rattle.std.specs.Vec.Iter.{into_iter_items}
-use Rattle.name_types.specs.Seen.{founds}
+use Rattle.expression_types.specs.Seen.{founds}
 use Rattle.type_steps.specs.Environment.{AreKindsOver, AreUsesOver}
 use Rattle.type_infer.specs.Settling.{AddsFounds, AreSettledKinds}
 use Rattle.type_infer.proofs.Overs.{use_over_next}

@@ -1,4 +1,4 @@
-use Rattle.name_types.specs.Seen.{founds}
+use Rattle.expression_types.specs.Seen.{founds}
 use Rattle.type_infer.specs.Settling.{AddsFounds}
 use Rattle.type_infer.proofs.settling.add_founds.Given as goal
 

@@ -1,5 +1,5 @@
 use Rattle.std.proofs.Common.{map, subst, sym}
-use Rattle.name_types.specs.Seen.{pending}
+use Rattle.expression_types.specs.Seen.{pending}
 use Rattle.type_infer.specs.Settling.{AreSettledTexts}
 use Rattle.type_infer.proofs.Settled.{uses_all, uses_more}
 use Rattle.type_steps.specs.Environment.{ArePendingOver}

@@ -1,5 +1,5 @@
 use Rattle.std.proofs.Common.{map, take}
-use Rattle.name_types.specs.Seen.{text_use}
+use Rattle.expression_types.specs.Seen.{text_use}
 use Rattle.type_infer.specs.Settling.{AddsTexts}
 use Rattle.type_infer.proofs.settling.add_texts.Given as goal
 

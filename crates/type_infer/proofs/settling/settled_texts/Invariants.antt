@@ -1,5 +1,5 @@
 use Rattle.std.proofs.Common.{map, take}
-use Rattle.name_types.specs.Seen.{pending}
+use Rattle.expression_types.specs.Seen.{pending}
 use Rattle.type_infer.specs.Settling.{AreSettledTexts}
 use Rattle.type_infer.proofs.settling.settled_texts.Given as goal
 

@@ -1,5 +1,5 @@
 use Rattle.std.proofs.Common.{ap, refl}
-use Rattle.name_types.specs.Tables.{targets_of}
+use Rattle.expression_types.specs.Tables.{targets_of}
 use Rattle.type_infer.proofs.After.{env_is, seen_outside, value_more, value_no_more}
 use Rattle.type_infer.proofs.statements.type_bind.Goals as goal
 

@@ -1,6 +1,6 @@
 use Rattle.std.proofs.Common.{ap, refl}
 use Rattle.script_grammar.specs.View.{view_if}
-use Rattle.name_types.specs.Tables.{targets_of}
+use Rattle.expression_types.specs.Tables.{targets_of}
 use Rattle.type_infer.proofs.After.{env_is, if_more, if_no_more, seen_outside}
 use Rattle.type_infer.proofs.statements.type_branch.Goals as goal
 

@@ -1,6 +1,6 @@
 use Rattle.std.proofs.Common.{ap, refl}
 use Rattle.script_grammar.specs.View.{view_def}
-use Rattle.name_types.specs.Tables.{targets_of}
+use Rattle.expression_types.specs.Tables.{targets_of}
 use Rattle.type_infer.proofs.After.{def_more, def_no_more, env_is, held_then, holds_outside, seen_outside}
 use Rattle.type_infer.proofs.statements.type_function.Goals as goal
 

@@ -1,5 +1,5 @@
 use Rattle.script_grammar.specs.View.{view_full}
-use Rattle.name_types.specs.Seen.{env_of}
+use Rattle.expression_types.specs.Seen.{env_of}
 use Rattle.type_infer.proofs.After.{not_typed, typed_with}
 use Rattle.type_infer.proofs.values.value_type.Goals as goal
 

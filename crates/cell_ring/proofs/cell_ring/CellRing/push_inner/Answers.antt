@@ -1,39 +1,60 @@
-use Rattle.std.proofs.Common.{◌≤◌, ◌+◌, ◌-◌, length, take, drop, arith, ap}
-use Rattle.std.proofs.lemmas.List.{length-append, length-drop}
-use Rattle.cell_ring.specs.Rings.{Ring}
-use Rattle.cell_ring.proofs.Runs.{long_part, long_ring, long_run, ring_more}
+use Rattle.std.proofs.Common.{ℤ, false, length, replicate, ap, arith}
+use Rattle.std.proofs.lemmas.List.{length-append, length-replicate}
+use Rattle.circular_buffer.specs.Buffer.{Buffer}
+use Rattle.frame_core.specs.declared.cell.CellMark.{CellMark}
+use Rattle.cell_ring.specs.Rings.{Ring, inner_cells}
+use Rattle.cell_ring.proofs.Lanes.{inner_in}
+use Rattle.cell_ring.proofs.Moves.{held, lane_more, more_cells}
 use Rattle.cell_ring.proofs.cell_ring.CellRing.push_inner.Goals as goal
 
-pub push_cells-requires : goal.push_cells-requires
-push_cells-requires c =
-    let done = c.loop-done.done in
-    let many = c.min.result in
-    let within : done + many ≤ length c.args.left.now = omega (arith, c.min.ensures, c.loop-done.invariant.within) in
-    let is = c.loop-done.invariant.ring in
-    let cells = ap (λ (r : Ring). length r.cells) is in
-    let room = ap (λ (r : Ring). r.room) is in
-    let ring = long_ring c.args.title c.args.self.now.cells c.args.left.now c.args.right.now done c.loop-done.invariant.within c.requires.same in
-    let lefts = long_part c.args.left.now done (done + many - done) (omega (arith, within)) in
-    let rights = long_part c.args.right.now done (done + many - done) (omega (arith, within, c.requires.same)) in
-    let made = ap length c.gather.ensures in
-    let run = long_run c.args.title (take (done + many - done) (drop done c.args.left.now)) (take (done + many - done) (drop done c.args.right.now)) (omega (arith, lefts, rights)) in
-    omega (arith, cells, room, ring, lefts, made, run, within, c.requires.there)
+pub push_marks-requires : goal.push_marks-requires
+push_marks-requires c =
+    let v = c.self.inside in
+    let i = c.self.invariant in
+    omega (arith, c.requires.there, held v.left v.right v.marks c.args.self.now i.0 i.1 c.self.view_is, ap (λ (r : Ring). r.room) c.self.view_is)
 
-pub loop-done-preserved : goal.loop-done-preserved
-loop-done-preserved c =
-    let done = c.loop-done.done in
-    let many = c.min.result in
-    let within : done + many ≤ length c.args.left.now = omega (arith, c.min.ensures, c.loop-done.invariant.within) in
-    let lefts = long_part c.args.left.now done (done + many - done) (omega (arith, within)) in
-    let rights = long_part c.args.right.now done (done + many - done) (omega (arith, within, c.requires.same)) in
-    let made = ap length c.gather.ensures in
-    let run = long_run c.args.title (take (done + many - done) (drop done c.args.left.now)) (take (done + many - done) (drop done c.args.right.now)) (omega (arith, lefts, rights)) in
-    let all = length-append c.gather.new.cells (drop (done + many - done) c.loop-done.block) in
-    let rest = length-drop (done + many - done) c.loop-done.block in
-    record {
-      within = within;
-      block = omega (arith, all, rest, made, run, lefts, c.min.ensures, c.loop-done.invariant.block);
-      ring =
-          ring_more c.args.title c.args.self.now.room c.args.self.now.cells c.gather.new.cells c.args.left.now c.args.right.now done many (done + many - done)
-          c.loop-done.self c.push_cells.new.self c.requires.same (omega arith) c.loop-done.invariant.ring c.gather.ensures c.push_cells.ensures;
-    }
+pub returns : goal.returns
+returns c =
+    let v = c.self.inside in
+    let i = c.self.invariant in
+    let lefts = c.args.left.now in
+    let rights = c.args.right.now in
+    let long = held v.left v.right v.marks c.args.self.now i.0 i.1 c.self.view_is in
+    let room = ap (λ (r : Ring). r.room) c.self.view_is in
+    more_cells v.left v.right c.extend_from_slice.new.self c.extend_from_slice-2.new.self v.marks c.push_marks.new.marks
+    lefts rights (replicate (length lefts) (record { first = false; title = c.args.title })) (inner_cells c.args.title lefts rights)
+    c.args.self.now i.0 i.1 c.self.view_is (inner_in c.args.title lefts rights c.requires.same)
+    (lane_more v.left c.extend_from_slice.new.self lefts (omega (arith, c.requires.there, long, room, i.0, i.2)) c.extend_from_slice.ensures)
+    (lane_more v.right c.extend_from_slice-2.new.self rights (omega (arith, c.requires.there, c.requires.same, long, room, i.1, i.3)) c.extend_from_slice-2.ensures)
+    c.push_marks.ensures
+
+pub invariant_of-self : goal.invariant_of-self
+invariant_of-self c =
+    let v = c.self.inside in
+    let i = c.self.invariant in
+    let lefts = c.args.left.now in
+    let rights = c.args.right.now in
+    let one : CellMark = record { first = false; title = c.args.title } in
+    let marks = replicate (length lefts) one in
+    let long = held v.left v.right v.marks c.args.self.now i.0 i.1 c.self.view_is in
+    let room = ap (λ (r : Ring). r.room) c.self.view_is in
+    let left = lane_more v.left c.extend_from_slice.new.self lefts (omega (arith, c.requires.there, long, room, i.0, i.2)) c.extend_from_slice.ensures in
+    let right = lane_more v.right c.extend_from_slice-2.new.self rights (omega (arith, c.requires.there, c.requires.same, long, room, i.1, i.3)) c.extend_from_slice-2.ensures in
+    let mark = c.push_marks.ensures in
+    let long_left = ap (λ (b : Buffer ℤ). length b.items) left in
+    let long_right = ap (λ (b : Buffer ℤ). length b.items) right in
+    let long_mark = ap (λ (b : Buffer CellMark). length b.items) mark in
+    let more_left = length-append v.left.items lefts in
+    let more_right = length-append v.right.items rights in
+    let more_mark = length-append v.marks.items marks in
+    let many = length-replicate (length lefts) one in
+    let room_left = ap (λ (b : Buffer ℤ). b.capacity) left in
+    let room_right = ap (λ (b : Buffer ℤ). b.capacity) right in
+    let room_mark = ap (λ (b : Buffer CellMark). b.capacity) mark in (
+      omega (arith, long_left, long_mark, more_left, more_mark, many, i.0),
+      omega (arith, long_right, long_mark, more_right, more_mark, many, i.1, c.requires.same),
+      omega (arith, room_left, room_mark, i.2),
+      omega (arith, room_right, room_mark, i.3),
+      omega (arith, long_mark, more_mark, many, room_mark, c.requires.there, long, room),
+      omega (arith, room_mark, i.5),
+    )

@@ -1,28 +1,47 @@
-use Rattle.std.proofs.Common.{◌∙◌, ◌++◌, ℤ, length, take, map, ap}
+use Rattle.std.proofs.Common.{◌≤◌, ◌-◌, ◌∙◌, ℤ, length, take, map, ap, arith}
 use Rattle.frame_core.specs.declared.cell.Cell.{Cell}
-use Rattle.cell_ring.proofs.Parts.{two_parts}
+use Rattle.cell_ring.specs.Rings.{Ring}
+use Rattle.cell_ring.proofs.Lanes.{left_part, right_part}
+use Rattle.cell_ring.proofs.Moves.{front_gone, held, less_cells, read_all, read_rest}
 use Rattle.cell_ring.proofs.cell_ring.CellRing.take_into.Goals as goal
 
 pub returns-clause-left : goal.returns-clause-left
 returns-clause-left c =
+    let v = c.self.inside in
+    let i = c.self.invariant in
     let f : Cell → ℤ = λ cell. cell.left in
-    let front = c.as_slices.result.0.now in
-    let back = c.as_slices.result.1.now in
-    let first = c.min-first.result in
+    let long = held v.left v.right v.marks c.args.self.now i.0 i.1 c.self.view_is in
     let count = length c.args.left.now in
-    ap (λ l. l ++ c.lay-2.new.left) c.lay.ensures.left
-    ∙ ap (λ l. map f (take first front) ++ l) c.lay-2.ensures.left
-    ∙ two_parts f front back c.self.inside.cells.items first count c.as_slices.ensures c.min-first.ensures
-    ∙ ap (λ r. map f (take count r.cells)) c.self.view_is
+    read_all c.read_into.result v.left.items c.args.left.now c.read_into.new.dst c.read_into.ensures.count (omega (arith, c.requires.there, long, i.0)) c.read_into.ensures.read
+    ∙ left_part count v.left.items v.right.items v.marks.items i.0 i.1
+    ∙ ap (λ (r : Ring). map f (take count r.cells)) c.self.view_is
 
 pub returns-clause-right : goal.returns-clause-right
 returns-clause-right c =
+    let v = c.self.inside in
+    let i = c.self.invariant in
     let f : Cell → ℤ = λ cell. cell.right in
-    let front = c.as_slices.result.0.now in
-    let back = c.as_slices.result.1.now in
-    let first = c.min-first.result in
+    let long = held v.left v.right v.marks c.args.self.now i.0 i.1 c.self.view_is in
     let count = length c.args.left.now in
-    ap (λ l. l ++ c.lay-2.new.right) c.lay.ensures.right
-    ∙ ap (λ l. map f (take first front) ++ l) c.lay-2.ensures.right
-    ∙ two_parts f front back c.self.inside.cells.items first count c.as_slices.ensures c.min-first.ensures
-    ∙ ap (λ r. map f (take count r.cells)) c.self.view_is
+    read_all c.read_into-2.result v.right.items c.args.right.now c.read_into-2.new.dst c.read_into-2.ensures.count (omega (arith, c.requires.there, c.requires.same, long, i.1)) c.read_into-2.ensures.read
+    ∙ ap (λ n. take n v.right.items) c.requires.same
+    ∙ right_part count v.left.items v.right.items v.marks.items i.0 i.1
+    ∙ ap (λ (r : Ring). map f (take count r.cells)) c.self.view_is
+
+pub returns-clause-rest : goal.returns-clause-rest
+returns-clause-rest c =
+    let v = c.self.inside in
+    let i = c.self.invariant in
+    let long = held v.left v.right v.marks c.args.self.now i.0 i.1 c.self.view_is in
+    let count = length c.args.left.now in
+    let there : count ≤ length v.marks.items = omega (arith, c.requires.there, long) in
+    less_cells v.left v.right c.read_into.new.self c.read_into-2.new.self v.marks c.truncate_front.new.self count c.args.self.now i.0 i.1 c.self.view_is
+    (read_rest c.read_into.result v.left c.read_into.new.self c.args.left.now count c.read_into.ensures.count (omega arith) (omega (arith, there, i.0)) c.read_into.ensures.items)
+    (read_rest c.read_into-2.result v.right c.read_into-2.new.self c.args.right.now count c.read_into-2.ensures.count c.requires.same (omega (arith, there, i.1)) c.read_into-2.ensures.items)
+    (front_gone v.marks c.truncate_front.new.self (c.len.result - count) count (omega (arith, there, c.len.ensures.len)) c.truncate_front.ensures)
+
+pub overflow_sub-len : goal.overflow_sub-len
+overflow_sub-len c =
+    let v = c.self.inside in
+    let i = c.self.invariant in
+    omega (arith, c.requires.there, held v.left v.right v.marks c.args.self.now i.0 i.1 c.self.view_is, c.len.ensures.len)

@@ -1,15 +1,19 @@
-use Rattle.std.proofs.Common.{◌∙◌, ◌++◌, [], ap, append-nil}
+use Rattle.std.proofs.Common.{◌∙◌, ◌++◌, [], ap, append-nil, arith}
+use Rattle.frame_core.specs.Chunks.{cells_in}
 use Rattle.cell_ring.specs.Rings.{Ring, spare_cells}
+use Rattle.cell_ring.proofs.Queues.{chunk_lanes, held_cells}
 use Rattle.cell_ring.proofs.chunk_queue.ChunkQueue.push.Goals.{in-None-2, in-Some-2}
 use Rattle.cell_ring.proofs.chunk_queue.ChunkQueue.push.Goals as goal
 
 pub returns-then-wanted-from : goal.returns-then-wanted-from
 returns-then-wanted-from c =
+    let cells = cells_in c.left.result.now c.right.result.now c.marks.result.now in
     ap (λ (r : Ring). record { cells = r.cells ++ []; room = r.room }) c.push_cells-then-wanted-from.ensures
-    ∙ ap (λ l. record { cells = l; room = c.push_cells.new.self.room }) (append-nil (c.push_cells.new.self.cells ++ c.cells.result.now))
-    ∙ ap (λ (r : Ring). record { cells = r.cells ++ c.cells.result.now; room = r.room }) c.push_cells.ensures
-    ∙ ap (λ l. record { cells = (c.self.inside.ring.cells ++ l) ++ c.cells.result.now; room = c.self.inside.ring.room }) c.spare_of.ensures.cells
-    ∙ ap (λ l. record { cells = (c.self.inside.ring.cells ++ spare_cells c.self.inside.spare c.self.inside.gone) ++ l; room = c.self.inside.ring.room }) c.cells.ensures
+    ∙ ap (λ l. record { cells = l; room = c.push_cells.new.self.room }) (append-nil (c.push_cells.new.self.cells ++ cells))
+    ∙ ap (λ (r : Ring). record { cells = r.cells ++ cells; room = r.room }) c.push_cells.ensures
+    ∙ ap (λ l. record { cells = (c.self.inside.ring.cells ++ l) ++ cells; room = c.self.inside.ring.room }) c.spare_of.ensures.cells
+    ∙ ap (λ l. record { cells = (c.self.inside.ring.cells ++ spare_cells c.self.inside.spare c.self.inside.gone) ++ l; room = c.self.inside.ring.room })
+    (chunk_lanes c.args.chunk c.left.result.now c.right.result.now c.marks.result.now c.left.ensures c.right.ensures c.marks.ensures)
     ∙ ap (λ (r : Ring). record { cells = r.cells ++ c.args.chunk; room = r.room }) c.self.view_is
 
 pub returns-else-wanted-from : goal.returns-else-wanted-from
@@ -25,3 +29,11 @@ returns-else-wanted-from c = elim c.match-self-2.branch [
       ∙ ap (λ l. record { cells = (c.self.inside.ring.cells ++ l) ++ c.args.chunk; room = c.self.inside.ring.room }) c.spare_of.ensures.cells
       ∙ ap (λ (r : Ring). record { cells = r.cells ++ c.args.chunk; room = r.room }) c.self.view_is
 ]
+
+pub push_cells-requires-clause-there : goal.push_cells-requires-clause-there
+push_cells-requires-clause-there c =
+    let q = c.self.inside in
+    let parts = c.spare_of.ensures in
+    let held = held_cells q.ring.cells (spare_cells q.spare q.gone) c.args.self.now.cells c.spare_of.result.0.now c.spare_of.result.1.now c.spare_of.result.2.now parts.same.0 parts.same.1 parts.cells
+    (ap (λ (r : Ring). r.cells) c.self.view_is) in
+    omega (arith, held, c.requires, ap (λ (r : Ring). r.room) c.self.view_is)

@@ -1,8 +1,10 @@
-use Rattle.std.proofs.Common.{◌≡◌, ◌+◌, ◌-◌, ◌∙◌, ◌++◌, ℤ, length, map, take, drop, arith, ap, refl}
+use Rattle.std.proofs.Common.{◌≡◌, ◌≤◌, ◌+◌, ◌-◌, ◌∙◌, ◌++◌, ℤ, length, map, take, drop, arith, ap, refl}
+use Rattle.std.proofs.lemmas.List.{length-take}
 use Rattle.frame_core.specs.declared.cell.Cell.{Cell}
 use Rattle.cell_ring.specs.Rings.{Ring, spare_cells}
+use Rattle.cell_ring.proofs.Lanes.{left_part, right_part}
 use Rattle.cell_ring.proofs.Parts.{two_parts}
-use Rattle.cell_ring.proofs.Queues.{gone_on}
+use Rattle.cell_ring.proofs.Queues.{gone_on, held_cells}
 use Rattle.cell_ring.proofs.chunk_queue.ChunkQueue.take_into.Goals as goal
 
 pub returns-clause-left : goal.returns-clause-left
@@ -13,8 +15,9 @@ returns-clause-left c =
     let count = length c.args.left.now in
     let first = c.min-first.result in
     let back_long : length c.split_at_mut-left_front.result.1.now ≡ count - first = omega (arith, c.split_at_mut-left_front.ensures.back_len) in
-    ap (λ l. l ++ c.lay.new.left) (c.take_into.ensures.left ∙ ap (λ n. map f (take n front)) c.split_at_mut-left_front.ensures.front_len)
-    ∙ ap (λ l. map f (take first front) ++ l) (c.lay.ensures.left ∙ ap (λ n. map f (take n c.spare_of-spare.result.now)) back_long ∙ ap (λ l. map f (take (count - first) l)) c.spare_of-spare.ensures.cells)
+    ap (λ l. l ++ c.copy_from_slice.new.self) (c.take_into.ensures.left ∙ ap (λ n. map f (take n front)) c.split_at_mut-left_front.ensures.front_len)
+    ∙ ap (λ l. map f (take first front) ++ l) (c.copy_from_slice.ensures.after ∙ left_part (length c.split_at_mut-left_front.result.1.now) c.spare_of.result.0.now c.spare_of.result.1.now c.spare_of.result.2.now c.spare_of.ensures.same.0 c.spare_of.ensures.same.1
+    ∙ ap (λ l. map f (take (length c.split_at_mut-left_front.result.1.now) l)) c.spare_of.ensures.cells ∙ ap (λ n. map f (take n back)) back_long)
     ∙ two_parts f front back (front ++ back) first count refl (omega (arith, c.min-first.ensures, c.len.ensures.len))
     ∙ ap (λ (r : Ring). map f (take count r.cells)) c.self.view_is
 
@@ -26,8 +29,9 @@ returns-clause-right c =
     let count = length c.args.left.now in
     let first = c.min-first.result in
     let back_long : length c.split_at_mut-left_front.result.1.now ≡ count - first = omega (arith, c.split_at_mut-left_front.ensures.back_len) in
-    ap (λ l. l ++ c.lay.new.right) (c.take_into.ensures.right ∙ ap (λ n. map f (take n front)) c.split_at_mut-left_front.ensures.front_len)
-    ∙ ap (λ l. map f (take first front) ++ l) (c.lay.ensures.right ∙ ap (λ n. map f (take n c.spare_of-spare.result.now)) back_long ∙ ap (λ l. map f (take (count - first) l)) c.spare_of-spare.ensures.cells)
+    ap (λ l. l ++ c.copy_from_slice-2.new.self) (c.take_into.ensures.right ∙ ap (λ n. map f (take n front)) c.split_at_mut-left_front.ensures.front_len)
+    ∙ ap (λ l. map f (take first front) ++ l) (c.copy_from_slice-2.ensures.after ∙ right_part (length c.split_at_mut-left_front.result.1.now) c.spare_of.result.0.now c.spare_of.result.1.now c.spare_of.result.2.now c.spare_of.ensures.same.0 c.spare_of.ensures.same.1
+    ∙ ap (λ l. map f (take (length c.split_at_mut-left_front.result.1.now) l)) c.spare_of.ensures.cells ∙ ap (λ n. map f (take n back)) back_long)
     ∙ two_parts f front back (front ++ back) first count refl (omega (arith, c.min-first.ensures, c.len.ensures.len))
     ∙ ap (λ (r : Ring). map f (take count r.cells)) c.self.view_is
 
@@ -43,3 +47,25 @@ returns-clause-rest c =
     ∙ ap (λ l. record { cells = l; room = c.self.inside.ring.room })
     (gone_on c.self.inside.ring.cells spare gone first behind count (omega (arith, parts.front_len, c.min-first.ensures, c.len.ensures.len)) (omega (arith, parts.front_len, parts.back_len)))
     ∙ ap (λ (r : Ring). record { cells = drop count r.cells; room = r.room }) c.self.view_is
+
+pub slice_bounds-copy_from_slice-end : goal.slice_bounds-copy_from_slice-end
+slice_bounds-copy_from_slice-end c =
+    let q = c.self.inside in
+    let parts = c.spare_of.ensures in
+    let held = held_cells q.ring.cells (spare_cells q.spare q.gone) c.args.self.now.cells c.spare_of.result.0.now c.spare_of.result.1.now c.spare_of.result.2.now parts.same.0 parts.same.1 parts.cells
+    (ap (λ (r : Ring). r.cells) c.self.view_is) in
+    let halves = c.split_at_mut-left_front.ensures in
+    let count = length c.split_at_mut-left_front.result.1.now in
+    let there : count ≤ length c.spare_of.result.0.now = omega (arith, held, c.requires.there, parts.same.0, halves.back_len, c.min-first.ensures, c.len.ensures.len) in
+    omega (arith, there, length-take count c.spare_of.result.0.now)
+
+pub copy_from_slice-requires : goal.copy_from_slice-requires
+copy_from_slice-requires c =
+    let q = c.self.inside in
+    let parts = c.spare_of.ensures in
+    let held = held_cells q.ring.cells (spare_cells q.spare q.gone) c.args.self.now.cells c.spare_of.result.0.now c.spare_of.result.1.now c.spare_of.result.2.now parts.same.0 parts.same.1 parts.cells
+    (ap (λ (r : Ring). r.cells) c.self.view_is) in
+    let halves = c.split_at_mut-left_front.ensures in
+    let count = length c.split_at_mut-left_front.result.1.now in
+    let there : count ≤ length c.spare_of.result.0.now = omega (arith, held, c.requires.there, parts.same.0, halves.back_len, c.min-first.ensures, c.len.ensures.len) in
+    omega (arith, there, length-take count c.spare_of.result.0.now)

@@ -9,6 +9,18 @@ use Rattle.clock_instants.proofs.Places.{below_or_same}
 use Rattle.clock_ticks.proofs.Numbered.{port_found, port_node}
 use Rattle.clock_ticks.proofs.engine.ClockEngine.cues.Goals as goal
 
+-- an engine that keeps no marks
+pub returns-then-not-self-clause-made : goal.returns-then-not-self-clause-made
+returns-then-not-self-clause-made g c ticks answers rest node stands keeping output =
+    absurd (true≢false (sym keeping ∙ sym (ap (λ w. w.parts.cues.keeping) c.self.view_is) ∙ c.if-not-self.true))
+
+pub returns-then-not-self-clause-stopped : goal.returns-then-not-self-clause-stopped
+returns-then-not-self-clause-stopped g c ticks answers rest made node stopped keeping output =
+    absurd (true≢false (sym keeping ∙ sym (ap (λ w. w.parts.cues.keeping) c.self.view_is) ∙ c.if-not-self.true))
+
+pub returns-then-index-sink-clause-none : goal.returns-then-index-sink-clause-none
+returns-then-index-sink-clause-none g c none = absurd (true≢false (sym c.if-not-self.false ∙ ap (λ w. w.parts.cues.keeping) c.self.view_is ∙ none))
+
 pub returns-then-index-sink-clause-made : goal.returns-then-index-sink-clause-made
 returns-then-index-sink-clause-made g c ticks answers rest node stands keeping output =
     let within : c.loop-k.k < length c.self.inside.parts.ports.items = omega (arith, c.loop-k-test.true, c.len-k-end.ensures ∙ c.self.inside.parts.ports.ok.0) in

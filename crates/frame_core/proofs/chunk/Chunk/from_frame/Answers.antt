@@ -1,36 +1,35 @@
-use Rattle.std.proofs.Common.{◌≡◌, ◌<◌, length, ap, sym, ◌∙◌, arith, ◌++◌, ◌∷◌, [], Some, None, take, append-nil}
-use Rattle.std.proofs.lemmas.List.{length-append, length-take-le}
+use Rattle.std.proofs.Common.{◌≡◌, ◌<◌, ◌∙◌, length, map, ap, sym, arith}
+use Rattle.std.proofs.lemmas.List.{length-map}
 use Rattle.std.proofs.lemmas.Bool.Decides.{nat_tests}
-use Rattle.frame_core.specs.Frames.{somes}
-use Rattle.frame_core.specs.Slots.{Slot}
-use Rattle.frame_core.proofs.Lanes.{somes-next, length-somes}
+use Rattle.frame_core.specs.Chunks.{cells_in, slot_mark}
+use Rattle.frame_core.specs.Frames.{slots_in, somes}
+use Rattle.frame_core.proofs.Chunks.{length-cells, some_cells, whole_cells}
 use Rattle.frame_core.proofs.chunk.Chunk.from_frame.Goals as goal
-use Rattle.frame_core.proofs.chunk.Chunk.from_frame.Goals.{in-Some, in_default}
-
-pub loop-at-preserved : goal.loop-at-preserved
-loop-at-preserved c =
-    let here : c.loop-at.at < length c.args.frame.now = omega (arith, c.len-at-end.ensures.count, c.loop-at-test.true) in
-    let sofar = c.loop-at.invariant in
-    elim c.match-slot.branch [
-      | in-Some w ↦
-          let more = w.push_reserved.ensures.items in
-          let long = ap length more ∙ length-append c.loop-at.cells.items (w.in-Some.cell ∷ []) in
-          rw w.cells-is record {
-            cells = more ∙ ap (λ l. l ++ w.in-Some.cell ∷ []) sofar.cells
-                ∙ sym (somes-next c.args.frame.now c.loop-at.at (Some w.in-Some.cell) here (sym w.in-Some.is ∙ c.slot.ensures));
-            few = omega (arith, long, sofar.few);
-            room = w.push_reserved.ensures.capacity ∙ sofar.room;
-          }
-      | in_default w ↦
-          rw w.cells-is record {
-            cells = sofar.cells ∙ sym (append-nil (somes (take c.loop-at.at c.args.frame.now)))
-                ∙ sym (somes-next c.args.frame.now c.loop-at.at None here w.in_default.ensures);
-            few = omega (arith, sofar.few);
-            room = sofar.room;
-          }
-    ]
 
 pub invariant_of-result : goal.invariant_of-result
 invariant_of-result c =
-    let end : c.loop-at.at ≡ length c.args.frame.now = omega (arith, c.len-at-end.ensures.count, c.loop-at-test.false, c.loop-at.auto.at-end) in
-    (grind (arith, nat_tests, c.is_empty.ensures, c.if-is_empty.false), omega (arith, c.len-at-end.ensures.most, c.len-at-end.ensures.count, length-somes (take {A = Slot} c.loop-at.at c.args.frame.now), length-take-le {A = Slot} c.loop-at.at c.args.frame.now (omega arith), ap length c.loop-at.invariant.cells))
+    let marks = c.in-Some.marks.items in
+    let whole : c.lanes.result.0.now ≡ map slot_mark marks = rw c.in-Some.is at c.in_ok-marks.ensures.whole in
+    let count : length c.lanes.result.0.now ≡ length marks = ap length whole ∙ length-map marks slot_mark in
+    let lefts : length c.in_ok-left.left.items ≡ length marks = ap length c.in_ok-left.ensures.items ∙ c.lanes.ensures.left ∙ count in
+    let rights : length c.in_ok-right.right.items ≡ length marks = ap length c.in_ok-right.ensures.items ∙ c.lanes.ensures.right ∙ count in
+    let some : 0 < length marks = grind (arith, nat_tests, c.is_empty.ensures, c.if-is_empty.false) in
+    let long = length-cells c.in_ok-left.left.items c.in_ok-right.right.items marks lefts rights in
+    (lefts, rights, some, omega (arith, count, c.lanes.ensures.most), omega (arith, some, long), omega (arith, count, c.lanes.ensures.most, long))
+
+pub returns : goal.returns
+returns c =
+    let marks = c.in-Some.marks.items in
+    let left = c.in_ok-left.left.items in
+    let right = c.in_ok-right.right.items in
+    let whole : c.lanes.result.0.now ≡ map slot_mark marks = rw c.in-Some.is at c.in_ok-marks.ensures.whole in
+    let count : length c.lanes.result.0.now ≡ length marks = ap length whole ∙ length-map marks slot_mark in
+    let lefts : length left ≡ length marks = ap length c.in_ok-left.ensures.items ∙ c.lanes.ensures.left ∙ count in
+    let rights : length right ≡ length marks = ap length c.in_ok-right.ensures.items ∙ c.lanes.ensures.right ∙ count in
+    let some : 0 < length marks = grind (arith, nat_tests, c.is_empty.ensures, c.if-is_empty.false) in
+    record {
+      cells = some_cells (cells_in left right marks) (somes c.args.frame.now) (omega (arith, some, length-cells left right marks lefts rights))
+          (sym (whole_cells left right marks) ∙ ap (λ ms. somes (slots_in ms left right)) (sym whole)
+          ∙ ap (λ xs. somes (slots_in c.lanes.result.0.now xs right)) c.in_ok-left.ensures.items
+          ∙ ap (λ ys. somes (slots_in c.lanes.result.0.now c.lanes.result.1.now ys)) c.in_ok-right.ensures.items ∙ ap somes c.lanes.ensures.slots);
+    }

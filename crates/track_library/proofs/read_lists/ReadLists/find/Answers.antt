@@ -18,9 +18,9 @@ pub returns-in_err-bytes-clause-fault : goal.returns-in_err-bytes-clause-fault
 returns-in_err-bytes-clause-fault g c =
     let none : value_of c.args.name.now (lists_of c.args.self.now) ≡ None =
     absent_list c.args.self.now.lists.entries c.args.name.now (sym c.in_default.ensures.found) in
-    let ends : Ends (g.S.Shelf.files c.args.shelf.now) (g.S.Shelf.read_count c.args.shelf.now) (g.S.Shelf.read_count c.fetch.new.shelf)
+    let ends : Ends (g.S.Shelf.told c.args.shelf.now) (g.S.Shelf.told c.fetch.new.shelf)
     (λ _. FirstRead (lists_of c.args.self.now) c.args.name.now) (λ files. use_list files (lists_of c.args.self.now) c.args.name.now) c.in_err-bytes.field-0.0 =
-    read_ends (g.S.Shelf.files c.args.shelf.now) c.args.name.now (g.S.Shelf.read_count c.args.shelf.now) (g.S.Shelf.read_count c.fetch.new.shelf)
+    read_ends c.args.name.now (g.S.Shelf.told c.args.shelf.now) (g.S.Shelf.told c.fetch.new.shelf)
     (λ _. FirstRead (lists_of c.args.self.now) c.args.name.now) (λ files. use_list files (lists_of c.args.self.now) c.args.name.now) c.in_err-bytes.field-0.0
     (λ files t name same. (same, none)) c.in_err-bytes.ensures.fault in
     search rules
@@ -38,7 +38,7 @@ returns-in_ok-add-in-Ok-clause-used g c = λ files told.
 
 pub returns-in_ok-fault_of-in-Err-clause-fault : goal.returns-in_ok-fault_of-in-Err-clause-fault
 returns-in_ok-fault_of-in-Err-clause-fault g c =
-    told_ends _ _ _ _ (λ files. use_list files (lists_of c.args.self.now) c.args.name.now) c.args.name.now c.in-Err.fault c.in_ok-fault_of-in-Err.field-0
+    told_ends (g.S.Shelf.told c.args.shelf.now) (g.S.Shelf.told c.fetch.new.shelf) _ (λ files. use_list files (lists_of c.args.self.now) c.args.name.now) c.args.name.now c.in-Err.fault c.in_ok-fault_of-in-Err.field-0
     c.in_ok-fault_of-in-Err.ensures
     (λ files told. failed_list files (lists_of c.args.self.now) c.args.name.now c.in-Err.fault
     (absent_list c.args.self.now.lists.entries c.args.name.now (sym c.in_default.ensures.found))

@@ -1,8 +1,0 @@
-use Rattle.std.proofs.Common.{map, take}
-use Rattle.script_grammar.specs.View.{listed, view_inner}
-use Rattle.name_types.specs.Seen.{founds}
-use Rattle.def_types.proofs.Loops.{InnersSo}
-use Rattle.def_types.proofs.parts.type_inners.Given as goal
-
-abbrev pub invariant-loop-inner : goal.invariant-loop-inner
-invariant-loop-inner l = InnersSo l.fn.subst l.subst l.seen (listed (map view_inner (take l.inner-index l.inners))) l.fn.bindings.items l.bindings.items (founds l.fn.uses.items) (founds l.uses.items)

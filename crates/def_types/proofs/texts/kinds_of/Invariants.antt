@@ -1,7 +1,0 @@
-use Rattle.std.proofs.Common.{◌≡◌, map, take}
-use Rattle.name_types.specs.Seen.{pending}
-use Rattle.def_types.specs.TextUses.{pending_of}
-use Rattle.def_types.proofs.texts.kinds_of.Given as goal
-
-abbrev pub invariant-loop-kind : goal.invariant-loop-kind
-invariant-loop-kind l = map pending l.kinds.items ≡ map pending_of (take l.kind-index l.text)

@@ -1,0 +1,95 @@
+-- What the program's values stand for, and what is to hold of them.
+use Rattle.std.specs.Prelude.{◌≡◌, ℕ, List, [], ◌∷◌, ◌++◌, length, map, Option, Some, None, slice_get, ⊤}
+use Rattle.script_grammar.specs.View.{view_def}
+use Rattle.type_terms.specs.Term.{Term, variable, term_of}
+use Rattle.type_terms.specs.Table.{Table}
+use Rattle.type_terms.specs.declared.ty.KindTerm.{KindTerm}
+use Rattle.expression_types.specs.declared.environment.TextKind.{TextKind}
+use Rattle.expression_types.specs.declared.environment.TextKind.TheVariants as text_kind
+use Rattle.general_types.specs.Schemes.{Scheme, IsInstance, IsSchemeOver, builtin_scheme, open_numbers, scheme_of}
+use Rattle.typing_rules.specs.declared.uses.Target.{Target}
+use Rattle.typing_rules.specs.declared.uses.Target.TheVariants as target
+use Rattle.typing_rules.specs.Arguments.{Parameter}
+use Rattle.name_scope.specs.Seen.{seen_parameter}
+use Rattle.type_steps.specs.Environment.{Env, Found, TextUse, Pending, of_term, of_def, Known, value, function, IsEnvOver, AreUsesOver, with_use}
+use Rattle.type_steps.specs.Flow.{IsCallable, IsInstantiated, HasNoCall}
+use Rattle.expression_types.specs.declared.environment.FoundUse.{FoundUse}
+use Rattle.expression_types.specs.declared.environment.TextUse.{TextUse as ATextUse}
+use Rattle.expression_types.specs.declared.environment.TypedName.{TypedName}
+use Rattle.expression_types.specs.declared.environment.KnownDef.{KnownDef}
+use Rattle.expression_types.specs.declared.environment.Known.{Known as AKnown}
+use Rattle.expression_types.specs.declared.environment.Known.TheVariants as known
+use Rattle.expression_types.specs.declared.environment.Names.{Names}
+use Rattle.expression_types.specs.declared.callees.Called.{Called}
+use Rattle.expression_types.specs.declared.callees.Called.TheVariants as called
+use Rattle.expression_types.specs.declared.callees.Callee.{Callee}
+pub use Rattle.expression_types.specs.Tables.{def_seen}
+use Rattle.expression_types.specs.Tables.{targets_of}
+
+abbrev pub found : FoundUse → Found
+found f = record { at = f.at; target = f.target; kinds = f.kinds.items }
+
+abbrev pub founds : List FoundUse → List Found
+founds fs = map found fs
+
+abbrev pub pending : TextKind → Pending
+pending (text_kind.Outer k) = of_term k
+pending (text_kind.Open j) = of_def j
+
+abbrev pub text_use : ATextUse → TextUse
+text_use u = record { at = u.at; target = u.target; kinds = map pending u.kinds.items }
+
+abbrev pub types_seen : List TypedName → List (ℕ × Term)
+types_seen ns = map (λ n. (n.at, variable n.var)) ns
+
+abbrev pub def_known : Option KnownDef → List Known
+def_known None = []
+def_known (Some d) = function (view_def d.def.now) (map text_use d.uses.items) ∷ []
+
+-- what a statement has bound, where the defs are these
+abbrev pub known_seen : List KnownDef → AKnown → List Known
+known_seen ds (known.Value n) = value n.at (variable n.var) ∷ []
+known_seen ds (known.Function i) = def_known (slice_get ds i)
+
+-- the newest first
+abbrev pub newest_first : List KnownDef → List AKnown → List Known
+newest_first ds [] = []
+newest_first ds (k ∷ ks) = newest_first ds ks ++ known_seen ds k
+
+abbrev pub env_of : Names → Env
+env_of n = record { targets = targets_of n.targets.now; before = newest_first n.defs.now n.before.now; inner = types_seen n.inner.now }
+
+-- ---- what is to hold before
+
+-- What a name means may be called with the types of the scheme.
+pub record IsCalled (s : Table) (env : Env) (at : ℕ) (t : Target) (ps : List Parameter) (g : Scheme) : Type 0 where
+  pub over : IsSchemeOver s g
+  pub callable : IsCallable s env at t ps (IsInstance g)
+  pub meant : env.targets at ≡ Some t
+
+-- the calls of a def in scope are the instances of its general type
+abbrev pub DefIs : Table → Env → ℕ → Option KnownDef → Type 0
+DefIs s env t None = (at : ℕ) → HasNoCall s env at (target.Def t)
+DefIs s env t (Some d) = IsSchemeOver s (scheme_of d.general) × ((at : ℕ) → IsCallable s env at (target.Def t) (map seen_parameter d.params.items) (IsInstance (scheme_of d.general)))
+
+pub record IsSeen (s : Table) (names : Names) (uses : List FoundUse) : Type 0 where
+  pub over : IsEnvOver s (env_of names)
+  pub uses_over : AreUsesOver s (founds uses)
+  pub calls : (t : ℕ) → DefIs s (env_of names) t (def_seen t names.defs.now)
+
+-- where a name outside a call has a type, it means a binding, and its use was added
+abbrev pub IsNamed : Env → ℕ → List Found → List Found → Option ℕ → Type 0
+IsNamed env at old new None = ⊤
+IsNamed env at old new (Some n) = (t : ℕ) × (env.targets at ≡ Some (target.Slot t)) × (new ≡ with_use old at (target.Slot t) [])
+
+-- the scheme of what a call calls
+abbrev pub called_scheme : Called → Scheme
+called_scheme (called.Builtin b) = builtin_scheme b
+called_scheme (called.General g) = scheme_of g.now
+
+-- what is called was given new variables, and its use was added with as many kinds as it has open ones
+pub record HasBegun (s s' : Table) (g : Scheme) (at : ℕ) (t : Target) (c : Callee) (old new : List Found) : Type 0 where
+  pub kinds : List KindTerm
+  pub instantiated : IsInstantiated s s' (IsInstance g) (map term_of c.params.items) (variable c.result) kinds
+  pub added : new ≡ with_use old at t kinds
+  pub counted : length kinds ≡ length (open_numbers 0 g.kinds)

@@ -1,0 +1,24 @@
+-- What clauses see of the sink of a file.
+use Rattle.std.specs.Prelude.{ℕ, List, Option}
+use Rattle.std.specs.Io.Buffered.{writer_buffer, writer_contents}
+use Rattle.file_sinks.specs.declared.outputs.FileSink.{FileSink}
+
+-- how often it failed
+abbrev pub faults_of : {W : Type 0} → FileSink W → ℕ
+faults_of sink = sink.to.faults
+
+-- how many bytes it took
+abbrev pub taken_of : {W : Type 0} → FileSink W → ℕ
+taken_of sink = sink.taken
+
+-- how many it is to take
+abbrev pub room_of : {W : Type 0} → FileSink W → ℕ
+room_of sink = sink.room
+
+-- the bytes that it keeps
+abbrev pub kept_of : {W : Type 0} → FileSink W → List ℕ
+kept_of sink = writer_buffer sink.to.to
+
+-- the bytes that its writer got and then those that it keeps, where the first are known
+abbrev pub tells_of : {W : Type 0} → (W → Option (List ℕ)) → FileSink W → Option (List ℕ)
+tells_of contents sink = writer_contents contents sink.to.to

@@ -1,0 +1,52 @@
+// The rest of a reader.
+ghost use Rattle.std.specs.Prelude.{◌≡◌, ◌≢◌, ◌≤◌, ◌+◌, vec_len, Ok};
+ghost use Rattle.file_sinks.specs.Reading.{Extends, ReadsWhole, Reads};
+
+use liq_base::{Fetched, ShelfFault};
+use std::alloc::Global;
+use std::io::{ErrorKind, Read};
+
+/// Bytes that one read asks for.
+const CHUNK: usize = 65_536;
+
+/// Adds the bytes that a reader has left, if they are at most `most`. A read that gives nothing is the end, and one that
+/// was interrupted is made again. Any other failure of the reader is `Failed`; it is never taken for the end.
+pub fn read_rest<R: Read>(
+    file: &mut R,
+    into: &mut Vec<u8>,
+    most: u64,
+) -> Result<Fetched, ShelfFault>
+    ensures extends { Extends into.old.items into.new.items }
+    ensures fits { result ≡ Ok Fetched.Found → vec_len into.new ≤ vec_len into.old + most }
+    ensures whole { result ≡ Ok Fetched.Found → ReadsWhole (R.remaining file.old) into.old.items into.new.items }
+{
+    let mut left = most;
+    let mut chunk = [0_u8; CHUNK];
+    for _ in 0..u64::MAX {
+        let count = match file.read(&mut chunk) {
+            Ok(0) => return Ok(Fetched::Found),
+            Ok(count) => count,
+            Err(error) if error.kind() == ErrorKind::Interrupted => continue,
+            Err(_) => return Err(ShelfFault::Failed),
+        };
+        if count as u64 > left {
+            return Ok(Fetched::TooLarge);
+        }
+        left -= count as u64;
+        if into.extend_from_slice(&chunk[..count]).is_err() {
+            return Err(ShelfFault::Memory);
+        }
+    }
+    Err(ShelfFault::Failed)
+}
+
+/// What a failed opening says of a file: it is missing only where the system did not find it.
+pub fn unopened(kind: ErrorKind) -> Result<Fetched, ShelfFault>
+    ensures missing { result ≡ Ok Fetched.Missing → kind ≡ ErrorKind.NotFound }
+    ensures no_file { result ≢ Ok Fetched.Found }
+{
+    if kind == ErrorKind::NotFound {
+        return Ok(Fetched::Missing);
+    }
+    Err(ShelfFault::Failed)
+}

@@ -1,0 +1,112 @@
+// A writer as a byte sink. It tells no bytes and no room left.
+ghost use Rattle.std.specs.Prelude.{◌≡◌, ◌≤◌, ◌↔◌, ℕ, [], IsTrue, OnOk, OnErr};
+ghost use Rattle.std.specs.Io.Buffered.{writer_buffer, writer_contents};
+ghost use Rattle.std.specs.Io.KnownBytes.{Appends, Keeps};
+ghost use Rattle.liq_base.specs.Counts.{Rose};
+ghost use Rattle.liq_base.specs.Pieces.{Took, TookPart};
+ghost use Rattle.liq_base.specs.Untold.{faults_alone};
+ghost use Rattle.file_sinks.specs.Writing.{AppendsPart};
+
+use liq_base::{Failed, Sink};
+use std::io::{BufWriter, ErrorKind, Write};
+
+/// A writer as a byte sink, which counts its failures. Of a writer whose bytes are known, they grow by each piece.
+#[derive(Drop)]
+pub struct OutSink<W: Write + Drop> {
+    to: W,
+    faults: u64,
+}
+
+impl<W: Write + Drop> OutSink<W> {
+    /// The sink of a writer, without a failure so far.
+    pub fn new(to: W) -> OutSink<W>
+        ensures faults { result.faults ≡ 0 }
+        ensures same { result.to ≡ to }
+    {
+        OutSink { to, faults: 0 }
+    }
+
+    /// How often it failed.
+    pub fn faults(&self) -> u64
+        ensures { result ≡ self.now.faults }
+    {
+        self.faults
+    }
+
+    /// The writer.
+    pub fn writer(&self) -> &W
+        ensures { result.now ≡ self.now.to }
+    {
+        &self.to
+    }
+
+    /// The writer, and no longer a sink.
+    pub fn into_writer(self) -> W
+        ensures { result ≡ self.to }
+    {
+        self.to
+    }
+}
+
+impl<W: Write + Drop> OutSink<BufWriter<W>> {
+    /// Whether the writer keeps nothing that it has not handed on.
+    pub(crate) fn keeps_nothing(&self) -> bool
+        ensures { IsTrue result ↔ writer_buffer self.now.to ≡ [] }
+    {
+        self.to.buffer().is_empty()
+    }
+
+    /// Hands on what the writer keeps. After `Failed` a front of it was handed on.
+    pub(crate) fn hand_on(&mut self) -> Result<(), Failed>
+        ensures bytes { Keeps (writer_contents W.contents self.old.to) (writer_contents W.contents self.new.to) }
+        ensures none_kept { OnOk result (writer_buffer self.new.to ≡ []) }
+        ensures faults { self.old.faults ≤ self.new.faults }
+        ensures cause { OnErr result (Rose self.old.faults self.new.faults) }
+    {
+        if self.to.flush().is_ok() {
+            return Ok(());
+        }
+        self.faults = self.faults.saturating_add(1);
+        Err(Failed)
+    }
+}
+
+impl<W: Write + Drop> Sink for OutSink<W> {
+    ghost use Rattle.liq_base.specs.Untold.{faults_alone};
+
+    ghost told = { λ s. faults_alone s.faults };
+
+    /// Writes the piece. After `Failed` the writer got a prefix of it.
+    fn append(&mut self, piece: &[u8]) -> Result<(), Failed>
+        ensures whole { OnOk result (Appends (W.contents self.old.to) (W.contents self.new.to) piece.now) }
+        ensures front { OnErr result (AppendsPart (W.contents self.old.to) (W.contents self.new.to) piece.now) }
+        ensures took { OnOk result (Took piece.now (faults_alone self.old.faults) (faults_alone self.new.faults)) }
+        ensures part { OnErr result (TookPart piece.now (faults_alone self.old.faults) (faults_alone self.new.faults)) }
+    {
+        if write_whole(&mut self.to, piece) {
+            return Ok(());
+        }
+        self.faults = self.faults.saturating_add(1);
+        Err(Failed)
+    }
+}
+
+// Whether all of the piece was written. A write that takes nothing is a failure, one that was interrupted is made again.
+fn write_whole<W: Write>(to: &mut W, piece: &[u8]) -> bool
+    ensures whole { IsTrue result → Appends (W.contents to.old) (W.contents to.new) piece.now }
+    ensures part { AppendsPart (W.contents to.old) (W.contents to.new) piece.now }
+{
+    let mut rest = piece;
+    for _ in 0..u64::MAX {
+        if rest.is_empty() {
+            return true;
+        }
+        match to.write(rest) {
+            Ok(0) => return false,
+            Ok(count) => rest = &rest[count..],
+            Err(error) if error.kind() == ErrorKind::Interrupted => continue,
+            Err(_) => return false,
+        }
+    }
+    false
+}

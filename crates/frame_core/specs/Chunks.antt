@@ -1,0 +1,24 @@
+-- Cells that are kept as lists side by side.
+use Rattle.std.specs.Prelude.{ℤ, List, [], ◌∷◌, if◌then◌else◌}
+use Rattle.frame_core.specs.declared.cell.Cell.{Cell}
+use Rattle.frame_core.specs.declared.cell.CellMark.{CellMark}
+use Rattle.frame_core.specs.declared.frame.Mark.{Mark}
+use Rattle.frame_core.specs.declared.frame.Mark.TheVariants.{First, Inner}
+
+-- the cell of two samples and a mark, and the mark of a cell
+abbrev pub cell_with : ℤ → ℤ → CellMark → Cell
+cell_with left right mark = record { left = left; right = right; first = mark.first; title = mark.title }
+
+abbrev pub mark_in : Cell → CellMark
+mark_in cell = record { first = cell.first; title = cell.title }
+
+-- the mark of a slot whose cell has this mark
+abbrev pub slot_mark : CellMark → Mark
+slot_mark mark = if mark.first then First mark.title else Inner mark.title
+
+-- the cells that samples and marks stand for, place by place
+abbrev pub cells_in : List ℤ → List ℤ → List CellMark → List Cell
+cells_in (left ∷ lefts) (right ∷ rights) (mark ∷ marks) = cell_with left right mark ∷ cells_in lefts rights marks
+cells_in (left ∷ lefts) (right ∷ rights) [] = []
+cells_in (left ∷ lefts) [] marks = []
+cells_in [] rights marks = []

@@ -1,0 +1,79 @@
+-- What a shelf tells of itself, and what its calls change of it.
+use Rattle.std.specs.Prelude.{◌≡◌, ◌≤◌, ◌<◌, ◌+◌, ℕ, List, [], ◌∷◌, ◌++◌, length, Option, Some, None, IsSome, is_some}
+use Rattle.std.specs.Option.{ForSome}
+use Rattle.liq_base.specs.Counts.{Rose}
+use Rattle.liq_base.specs.Pieces.{SinkTold}
+use Rattle.liq_base.specs.Files.{Files}
+
+-- what is told of a sink that was closed: its name, for how many bytes it was created, how many it held, and how many pieces it had got
+pub record Closing : Type 0 where
+  pub name : List ℕ
+  pub room : ℕ
+  pub bytes : ℕ
+  pub pieces : ℕ
+
+-- that of a sink of this name, which holds these bytes, takes so many more and got so many pieces
+abbrev pub closing_of : (name held : List ℕ) → (left pieces : ℕ) → Closing
+closing_of name held left pieces = record { name = name; room = length held + left; bytes = length held; pieces = pieces }
+
+-- The files, the names of the sinks that were made and what is told of those that were closed, in their order and also where a closing
+-- failed, each where it is told; how often a read failed, and how often a creation or a closing failed or a sink that had failed was closed.
+pub record ShelfTold : Type 0 where
+  pub files : Option Files
+  pub created : Option (List (List ℕ))
+  pub closed : Option (List Closing)
+  pub reads : ℕ
+  pub writes : ℕ
+
+-- what a shelf tells of the names of the sinks that it made, or of those that were closed, after one more
+abbrev pub noted : {A : Type 0} → A → Option (List A) → Option (List A)
+noted item None = None
+noted item (Some items) = Some (items ++ item ∷ [])
+
+-- no sink was made and none closed
+pub record OnlyRead (old new : ShelfTold) : Type 0 where
+  pub files : new.files ≡ old.files
+  pub created : new.created ≡ old.created
+  pub closed : new.closed ≡ old.closed
+  pub reads : old.reads ≤ new.reads
+  pub writes : old.writes ≤ new.writes
+
+-- a sink of this name was made, and none closed
+pub record OnlyMade (name : List ℕ) (old new : ShelfTold) : Type 0 where
+  pub files : new.files ≡ old.files
+  pub created : new.created ≡ noted name old.created
+  pub closed : new.closed ≡ old.closed
+  pub reads : old.reads ≤ new.reads
+  pub writes : old.writes ≤ new.writes
+
+-- a sink tells all that is told of it once it is closed
+pub record TellsAll (out : SinkTold) : Type 0 where
+  pub name : IsSome out.name
+  pub held : IsSome out.held
+  pub room : IsSome out.room
+  pub appends : IsSome out.appends
+
+-- an empty sink of this name, with room for so many bytes, as a shelf that told this makes it: where it tells its files, the sink tells
+-- its name and bytes, and where it tells its closings, all that they tell of it
+pub record IsFresh (name : List ℕ) (room : ℕ) (shelf : ShelfTold) (out : SinkTold) : Type 0 where
+  pub named : ForSome out.name (λ told. told ≡ name)
+  pub empty : ForSome out.held (λ told. told ≡ [])
+  pub roomy : ForSome out.room (λ told. told ≡ room)
+  pub unused : ForSome out.appends (λ told. told ≡ 0)
+  pub sound : out.faults ≡ 0
+  pub tells : IsSome shelf.files → IsSome out.name × IsSome out.held
+  pub tells_all : IsSome shelf.closed → TellsAll out
+
+-- what is told of closings, after that of a sink that told this
+abbrev pub Lists : SinkTold → (before after : Option (List Closing)) → Type 0
+Lists out before after =
+    ForSome out.name (λ name. ForSome out.held (λ held. ForSome out.room (λ left. ForSome out.appends (λ pieces. after ≡ noted (closing_of name held left pieces) before))))
+
+-- a sink that told this was closed, whatever was answered, and none made
+pub record OnlyClosed (out : SinkTold) (old new : ShelfTold) : Type 0 where
+  pub files : is_some new.files ≡ is_some old.files
+  pub created : new.created ≡ old.created
+  pub closed : Lists out old.closed new.closed
+  pub failed : 0 < out.faults → Rose old.writes new.writes
+  pub reads : old.reads ≤ new.reads
+  pub writes : old.writes ≤ new.writes

@@ -1,0 +1,12 @@
+-- What objects tell that tell of their failures alone.
+use Rattle.std.specs.Prelude.{ℕ, None}
+use Rattle.liq_base.specs.Pieces.{SinkTold}
+use Rattle.liq_base.specs.Shelves.{ShelfTold}
+
+-- a sink that failed so often
+abbrev pub faults_alone : ℕ → SinkTold
+faults_alone faults = record { held = None; name = None; room = None; appends = None; faults = faults }
+
+-- a shelf of which so many reads failed, and so many creations and closings
+abbrev pub counts_alone : (reads writes : ℕ) → ShelfTold
+counts_alone reads writes = record { files = None; created = None; closed = None; reads = reads; writes = writes }

@@ -1,6 +1,0 @@
-use Rattle.std.proofs.Common.{◌≡◌, drop}
-use Rattle.name_types.proofs.Lookups.{terms_from}
-use Rattle.name_types.proofs.environment.var_in.Given as goal
-
-abbrev pub invariant-loop-name : goal.invariant-loop-name
-invariant-loop-name l = terms_from l.at (drop l.name-index l.names) ≡ terms_from l.at l.names

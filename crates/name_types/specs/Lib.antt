@@ -1,3 +1,0 @@
-pub mod Literals
-pub mod Seen
-pub mod Tables

@@ -1,0 +1,4 @@
+pub mod Texts
+pub mod Needs
+pub mod Blames
+pub mod Faults

@@ -1,0 +1,61 @@
+-- The sources for which a source may offer nothing, and where a silence is to be mended.
+use Rattle.std.specs.Prelude.{◌≡◌, ◌≢◌, ℕ, Bool, true, false, ◌&&◌, List, Option, Some, None, nat_eq, slice_get}
+use Rattle.std.specs.List.{list_any, zip}
+use Rattle.std.specs.Option.{option_map_or}
+use Rattle.plan_core.specs.declared.node.Node.{Node}
+use Rattle.plan_core.specs.declared.node.Op.{Op}
+use Rattle.plan_core.specs.declared.node.Op.TheVariants.{Switch, Sequence}
+use Rattle.time_pred.specs.Predicates.{Predicate, is_always}
+use Rattle.fallible_infer.specs.Infallible.{last_of}
+
+abbrev pub is_child : (child other : ℕ) → Bool
+is_child child other = nat_eq other child
+
+-- a case whose predicate is always true by its form, with this child
+abbrev pub is_case : (child : ℕ) → Predicate × ℕ → Bool
+is_case child pair = is_always pair.0 && is_child child pair.1
+
+abbrev pub some_child : (children : List ℕ) → (child : ℕ) → Bool
+some_child children child = list_any (is_child child) children
+
+abbrev pub is_last : (children : List ℕ) → (child : ℕ) → Bool
+is_last children child = option_map_or (is_child child) (last_of children) false
+
+abbrev pub some_case : List Predicate → (children : List ℕ) → (child : ℕ) → Bool
+some_case preds children child = list_any (is_case child) (zip preds children)
+
+-- whether a source that may offer nothing needs this child, so that it would always offer something if this child did: a sequence needs
+-- its last one, a switch each whose predicate is always true, and any other each of its children
+abbrev pub needs : Op → (children : List ℕ) → (child : ℕ) → Bool
+needs (Switch sensitive preds) children child = some_case preds children child
+needs Sequence children child = is_last children child
+needs _ children child = some_child children child
+
+-- no number but this one passes
+abbrev pub IsAlone : (ℕ → Bool) → ℕ → Type 0
+IsAlone test one = (other : ℕ) → test other ≡ true → other ≡ one
+
+-- another one than this passes
+abbrev pub HasOther : (ℕ → Bool) → ℕ → Type 0
+HasOther test one = (other : ℕ) × (test other ≡ true) × (other ≢ one)
+
+-- the one number that passes; nothing where none does, or several do
+abbrev pub IsOnly : (ℕ → Bool) → Option ℕ → Type 0
+IsOnly test (Some one) = (test one ≡ true) × IsAlone test one
+IsOnly test None = (one : ℕ) → test one ≡ true → HasOther test one
+
+-- the one source that source n needs, where it may offer nothing
+pub record IsOnlyNeeded (nodes : List Node) (n : ℕ) (needed : Option ℕ) : Type 0 where
+  pub node : Node
+  pub there : slice_get nodes n ≡ Some node
+  pub only : IsOnly (needs node.op node.children) needed
+
+-- from one source down to another, from each to the only one that it needs
+pub data Leads (nodes : List Node) (from : ℕ) : ℕ → Type 0 where
+  here : Leads nodes from from
+  below : (n child : ℕ) → Leads nodes from n → IsOnlyNeeded nodes n (Some child) → Leads nodes from child
+
+-- where a silence is to be mended: as far down from a source as one source alone is needed
+pub record IsCause (nodes : List Node) (from n : ℕ) : Type 0 where
+  pub leads : Leads nodes from n
+  pub ends : IsOnlyNeeded nodes n None

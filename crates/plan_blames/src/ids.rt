@@ -1,0 +1,23 @@
+// The ids of clocks.
+ghost use Rattle.std.specs.Prelude.{◌≡◌, [], IfOk, string_bytes};
+ghost use Rattle.clock_infer.specs.Forcings.{id_or};
+
+use liq_base::{Memory, Text};
+use std::alloc::Global;
+
+/// The id of clock node k, of which the script says this.
+pub fn id_of(alloc: Global, k: u64, written: &Text) -> Result<String, Memory>
+    ensures { IfOk result (λ id. string_bytes id ≡ id_or k written.now) }
+{
+    if written.as_str().is_empty() {
+        return numbered(alloc, k);
+    }
+    Ok(String::from_str(alloc, written.as_str())?)
+}
+
+// The id of a clock node without one.
+fn numbered(alloc: Global, k: u64) -> Result<String, Memory>
+    ensures { IfOk result (λ id. string_bytes id ≡ id_or k []) }
+{
+    Ok(format!(in alloc; "clock.{k}")?)
+}

@@ -1,5 +1,0 @@
-use Rattle.plan_picture.proofs.Chains.{three}
-use Rattle.plan_picture.proofs.faults.push_red_rest.Goals as goal
-
-pub returns : goal.returns
-returns c = three _ _ _ _ _ _ _ c.in_ok-push_plain.ensures c.in_ok-push_red_members.ensures c.in_ok-push_plain-2.ensures

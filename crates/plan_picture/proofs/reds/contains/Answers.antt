@@ -1,6 +1,0 @@
-use Rattle.std.proofs.Common.{nat_eq, arith}
-use Rattle.fallible_infer.proofs.Marking.{any_done}
-use Rattle.plan_picture.proofs.reds.contains.Goals as goal
-
-pub returns : goal.returns
-returns c = any_done (λ other. nat_eq other c.args.child) c.args.children.now c.loop-other.other-index (omega arith) c.loop-other.invariant

@@ -1,0 +1,53 @@
+-- The record of rounds on one thread follows from the setting: each tick in its turn, with what the buffers hold then.
+use Rattle.std.specs.Prelude.{Bool, true, false, Option, Some, None, List, [], ◌∷◌, ◌++◌, ℕ, zero, suc, drop, length, map, nat_lt}
+use Rattle.frame_core.specs.declared.cell.Cell.{Cell}
+use Rattle.frame_core.specs.Calls.{Call, Took, Given, Answer, puts_to, takes_of}
+use Rattle.stream_meaning.specs.Instants.{Setting, answered}
+use Rattle.stream_meaning.specs.Calls.{answers_in, calls_of_tick, takes_of_tick}
+use Rattle.run_records.specs.Records.{Run, Window, capacity_of, on}
+
+-- the chunks that a list holds after these calls on it
+abbrev pub held_after : List (List Cell) → List Call → List (List Cell)
+held_after queue [] = queue
+held_after queue (Took buffer None ∷ calls) = held_after queue calls
+held_after queue (Took buffer (Some chunk) ∷ calls) = held_after (drop 1 queue) calls
+held_after queue (Given buffer chunk true ∷ calls) = held_after (queue ++ chunk ∷ []) calls
+held_after queue (Given buffer chunk false ∷ calls) = held_after queue calls
+
+-- those that a buffer holds after these calls
+abbrev pub held_by : (buffer : ℕ) → List Call → List (List Cell)
+held_by buffer calls = held_after [] (on buffer calls)
+
+-- whether it then has room for one more
+abbrev pub has_place : Setting → List Call → (buffer : ℕ) → Bool
+has_place setting calls buffer = nat_lt (length (held_by buffer calls)) (capacity_of setting buffer)
+
+-- the answers that were got by these calls, and behind them those that the takes of one more tick get: what is held, and then nothing
+abbrev pub answers_after : List Call → (buffer : ℕ) → List Answer
+answers_after calls buffer = answers_in buffer calls ++ map Some (held_by buffer calls)
+
+-- tick t of clock m behind these calls: it takes, and then it gives
+abbrev pub accepted_after : Setting → List Call → (m t buffer : ℕ) → Bool
+accepted_after setting calls m t = has_place setting (calls ++ takes_of_tick (answered setting (answers_after calls)) m t)
+
+abbrev pub tick_after : Setting → List Call → (m t : ℕ) → List Call
+tick_after setting calls m t = calls_of_tick (answered setting (answers_after calls)) (accepted_after setting calls m t) m t
+
+-- these calls, and behind them tick t of the first clocks, in their order
+abbrev pub round_after : Setting → List Call → (t clocks : ℕ) → List Call
+round_after setting calls t zero = calls
+round_after setting calls t (suc m) = round_after setting calls t m ++ tick_after setting (round_after setting calls t m) m t
+
+-- the calls of N rounds
+abbrev pub calls_in_rounds : Setting → (clocks N : ℕ) → List Call
+calls_in_rounds setting clocks zero = []
+calls_in_rounds setting clocks (suc t) = round_after setting (calls_in_rounds setting clocks t) t clocks
+
+-- the calls of so many buffers from this one on, one window each
+abbrev pub windows_from : List Call → (buffer count : ℕ) → List (List Window)
+windows_from calls buffer zero = []
+windows_from calls buffer (suc count) = ((puts_to buffer calls, takes_of buffer calls) ∷ []) ∷ windows_from calls (suc buffer) count
+
+-- the record of N rounds
+abbrev pub rounds_record : Setting → (clocks N : ℕ) → Run
+rounds_record setting clocks N = record { buffers = windows_from (calls_in_rounds setting clocks N) 0 (length setting.plan.buffers) }

@@ -1,0 +1,13 @@
+mod Clashing
+mod Reading
+mod Judging
+mod Untold
+mod Outcomes
+mod Found
+mod Endings
+mod Leavings
+mod AsOne
+mod Workloads
+mod Summing
+mod Counted
+mod Concluding

@@ -1,0 +1,169 @@
+-- What is found of a script before anything is rendered. Only what is private cites this.
+use Rattle.std.specs.Prelude.{◌≡◌, ◌⊎◌, ℕ, Bool, true, false, List, Result, Ok, Err, Option, None, Some, String, IsErrOf, string_bytes}
+use Rattle.std.specs.Option.{ForSome}
+use Rattle.std.specs.declared.alloc.Global.{Global}
+use Rattle.liq_base.specs.Counts.{Rose}
+use Rattle.liq_base.specs.Files.{Files}
+use Rattle.liq_base.specs.Shelves.{OnlyRead, ShelfTold}
+use Rattle.frame_core.specs.Library.{Sounds}
+use Rattle.plan_core.specs.declared.plan.Plan.{Plan}
+use Rattle.clock_infer.specs.declared.clock_map.ClockMap.{ClockMap}
+use Rattle.script_plan.specs.declared.fault.ScriptFault.{ScriptFault}
+use Rattle.script_plan.specs.declared.fault.ScriptFault.TheVariants as script_fault
+use Rattle.stations.specs.Stations.{Station, Way}
+use Rattle.stream_meaning.specs.Instants.{Setting}
+use Rattle.station_check.specs.declared.halt.Halt.{Halt as CheckHalt}
+use Rattle.station_check.specs.declared.halt.Halt.TheVariants.{Refused as check_refused, Read as check_read, Memory as check_memory}
+use Rattle.station_render.specs.declared.fault.RenderFault.{RenderFault}
+use Rattle.station_render.specs.declared.fault.RenderFault.TheVariants.{Write as render_write, Memory as render_memory}
+use Rattle.station_render.specs.Runs.{name_in}
+use Rattle.station_render.specs.declared.job.Job.{Job}
+use Rattle.refusal_lines.specs.declared.fault.Fault.{Fault}
+use Rattle.refusal_lines.specs.declared.fault.Fault.TheVariants.{SameFile, Script, Station as Unfit, Replay as Untold}
+use Rattle.refusal_lines.specs.declared.replay_lines.ReplayFault.{ReplayFault}
+use Rattle.station_jobs.specs.Words.{Asked, cues_of, file_of, start_of, ticks_of, trace_name}
+use Rattle.station_jobs.specs.Verdicts.{Verdict, Refused, Accepted, IsScriptFault, IsVerdictOn, IsPrepared, IsRefusal, IsWay, files_for, verdict_for}
+use Rattle.station_jobs.specs.Replays.{IsReplayFault}
+use Rattle.station_jobs.specs.Jobs.{IsBroken, IsDone, IsStarved}
+use Rattle.station_jobs.specs.declared.halt.Halt.{Halt}
+use Rattle.station_jobs.specs.declared.halt.Halt.TheVariants.{Read, Write, Memory, Refused as refused_for}
+use Rattle.station_jobs.specs.declared.prepare.Work.{Work}
+
+-- a script has a plan with its audio files and clocks, or a fault
+pub data Outcome : Type 0 where
+  Found : Plan → Sounds → ClockMap → Outcome
+  Lost : Fault → Outcome
+
+abbrev pub IsOutcome : Files → (file : List ℕ) (trace : Option (List ℕ)) (cues : Bool) (ticks : ℕ) → Outcome → Type 0
+IsOutcome files file trace cues ticks (Found plan library clocks) = IsPrepared files file trace cues ticks plan library clocks
+IsOutcome files file trace cues ticks (Lost fault) = IsScriptFault files file trace cues ticks fault
+
+-- the station of a plan with its audio files and clocks, which is rendered in this way
+abbrev pub station_for : Asked → Plan → Sounds → ClockMap → Way → Station
+station_for asked plan library clocks way = record {
+  plan = plan;
+  library = library;
+  clocks = clocks;
+  start = start_of asked;
+  ticks = ticks_of asked;
+  way = way;
+  trace = trace_name asked;
+  cues = cues_of asked;
+}
+
+-- what is asked for is granted, with a plan, its audio files and clocks, and the way in which it is rendered; or it is denied for a fault
+pub data Ruling : Type 0 where
+  Granted : Plan → Sounds → ClockMap → Way → Ruling
+  Denied : Fault → Ruling
+
+pub record IsGranted (asked : Asked) (files : Files) (plan : Plan) (library : Sounds) (clocks : ClockMap) (way : Way) : Type 0 where
+  pub prepared : IsPrepared files (file_of asked) (trace_name asked) (cues_of asked) (ticks_of asked) plan library clocks
+  pub is_way : IsWay asked files plan library clocks way
+
+abbrev pub IsRuling : Asked → Files → Ruling → Type 0
+IsRuling asked files (Granted plan library clocks way) = IsGranted asked (files_for asked files) plan library clocks way
+IsRuling asked files (Denied fault) = IsRefusal asked files fault
+
+-- this is the ruling, and there is no other
+pub record IsOneRuling (asked : Asked) (files : Files) (ruling : Ruling) : Type 0 where
+  pub holds : IsRuling asked files ruling
+  pub only : (other : Ruling) → IsRuling asked files other → other ≡ ruling
+
+-- the verdict of a ruling
+abbrev pub verdict_of : Asked → Ruling → Verdict
+verdict_of asked (Denied fault) = Refused fault
+verdict_of asked (Granted plan library clocks way) = verdict_for asked (station_for asked plan library clocks way)
+
+-- this is the outcome, and there is no other
+pub record IsOneOutcome (files : Files) (file : List ℕ) (trace : Option (List ℕ)) (cues : Bool) (ticks : ℕ) (outcome : Outcome) : Type 0 where
+  pub holds : IsOutcome files file trace cues ticks outcome
+  pub only : (other : Outcome) → IsOutcome files file trace cues ticks other → other ≡ outcome
+
+abbrev pub outcome_of : Work → Outcome
+outcome_of work = Found work.plan work.ready.library work.ready.clocks
+
+-- for no tick the outcome is this plan with these clocks and some audio files, and there is no other
+pub record IsChecked (files : Files) (file : List ℕ) (plan : Plan) (clocks : ClockMap) : Type 0 where
+  pub library : Sounds
+  pub one : IsOneOutcome files file None false 0 (Found plan library clocks)
+
+-- why a step that reads ended: a fault only where it is the outcome, and a read fault only where a read failed
+pub record EndsFor {T : Type 0} (file : List ℕ) (trace : Option (List ℕ)) (cues : Bool) (ticks : ℕ) (old new : ShelfTold) (result : Result T Halt) : Type 0 where
+  pub fault : (fault : Fault) → result ≡ Err (refused_for fault) → ForSome old.files (λ files. IsOneOutcome files file trace cues ticks (Lost fault))
+  pub read : IsErrOf result Read → Rose old.reads new.reads
+  pub no_write : IsErrOf result Write → ⊥
+
+-- a fault is one of the trace in the file of this name
+pub record HasFaultOf (files : Files) (name : List ℕ) (base : Setting) (clocks N : ℕ) (fault : Fault) : Type 0 where
+  pub untold : ReplayFault
+  pub fault_is : fault ≡ Untold untold
+  pub is_fault : IsReplayFault files name base clocks N untold
+
+-- why the reading of a trace ended: a fault only where it is the trace's, and a read fault only where a read failed
+pub record TraceEnds {T : Type 0} (name : List ℕ) (base : Setting) (clocks N : ℕ) (old new : ShelfTold) (result : Result T Halt) : Type 0 where
+  pub fault : (fault : Fault) → result ≡ Err (refused_for fault) → ForSome old.files (λ files. HasFaultOf files name base clocks N fault)
+  pub read : IsErrOf result Read → Rose old.reads new.reads
+  pub no_write : IsErrOf result Write → ⊥
+
+-- a replay ended for this fault of its trace, or memory was refused for it
+abbrev pub IsUntold : ReplayFault → Halt → Type 0
+IsUntold fault halt = (halt ≡ refused_for (Untold fault)) ⊎ (halt ≡ Memory)
+
+-- why a test of the names of files ended: this is the name of two
+pub record ClashEnds {T : Type 0} (clash : Option (List ℕ)) (result : Result T Halt) : Type 0 where
+  pub fault : (fault : Fault) → result ≡ Err (refused_for fault) → (name : List ℕ) × (fault ≡ SameFile name) × (clash ≡ Some name)
+  pub no_read : IsErrOf result Read → ⊥
+  pub no_write : IsErrOf result Write → ⊥
+
+-- what is asked for has one verdict and no other, and this holds of it
+pub record ForOne (asked : Asked) (files : Files) (P : Verdict → Type 0) : Type 0 where
+  pub verdict : Verdict
+  pub is_verdict : IsVerdictOn asked files verdict
+  pub only : (other : Verdict) → IsVerdictOn asked files other → other ≡ verdict
+  pub holds : P verdict
+
+-- this holds of each verdict on what is asked for
+abbrev pub ForEach : Asked → Files → (Verdict → Type 0) → Type 0
+ForEach asked files P = (verdict : Verdict) → IsVerdictOn asked files verdict → P verdict
+
+-- where the shelf tells its files, this is said of the one verdict on what is asked for
+abbrev pub ForOneOf : Asked → ShelfTold → (Files → Verdict → Type 0) → Type 0
+ForOneOf asked shelf P = ForSome shelf.files (λ files. ForOne asked files (P files))
+
+-- A job ended so, over what is told of the shelf before and after it: with the report of what was done; for the fault that is the verdict,
+-- or since a read failed, where the shelf was only read; since a write failed; or since memory was refused.
+abbrev pub Ended : (asked : Asked) (old new : ShelfTold) → Result (String Global) Halt → Type 0
+Ended asked old new (Ok report) = ForOneOf asked old (λ files verdict. IsDone verdict files old new (string_bytes report))
+Ended asked old new (Err (refused_for fault)) = ForOneOf asked old (λ files verdict. verdict ≡ Refused fault) × OnlyRead old new
+Ended asked old new (Err Read) = Rose old.reads new.reads × OnlyRead old new
+Ended asked old new (Err Write) = Rose old.writes new.writes × ForOneOf asked old (λ files verdict. IsBroken verdict true files old new)
+Ended asked old new (Err Memory) = ForSome old.files (λ files. ForEach asked files (λ verdict. IsStarved verdict files old new))
+
+-- a job is to be rendered as this is asked for
+pub record IsAskedOf (asked : Asked) (job : Job) : Type 0 where
+  pub is_rendering : (plan : Plan) (library : Sounds) (clocks : ClockMap) (way : Way) → verdict_of asked (Granted plan library clocks way) ≡ Accepted (station_for asked plan library clocks way)
+  pub start_is : start_of asked ≡ job.start.second
+  pub ticks_are : ticks_of asked ≡ job.ticks
+  pub trace_is : trace_name asked ≡ name_in job
+  pub cues_are : cues_of asked ≡ job.cues
+
+-- the plan of a job, with its audio files and clocks, is granted to be rendered in this way
+abbrev pub granted : Job → Way → Ruling
+granted job way = Granted job.plan.now job.ready.now.library job.ready.now.clocks way
+
+-- how the ends of lower steps go on
+abbrev pub halt_of_script : ScriptFault → Halt
+halt_of_script (script_fault.Lex fault) = refused_for (Script (script_fault.Lex fault))
+halt_of_script (script_fault.Parse fault) = refused_for (Script (script_fault.Parse fault))
+halt_of_script (script_fault.Type fault) = refused_for (Script (script_fault.Type fault))
+halt_of_script (script_fault.Eval fault) = refused_for (Script (script_fault.Eval fault))
+halt_of_script script_fault.Memory = Memory
+
+abbrev pub halt_of_check : CheckHalt → Halt
+halt_of_check (check_refused fault) = refused_for (Unfit fault)
+halt_of_check check_read = Read
+halt_of_check check_memory = Memory
+
+abbrev pub halt_of_render : RenderFault → Halt
+halt_of_render render_write = Write
+halt_of_render render_memory = Memory

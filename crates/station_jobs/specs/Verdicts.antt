@@ -1,0 +1,199 @@
+-- The verdict of a call on its words and the files.
+use Rattle.std.specs.Prelude.{◌≡◌, ◌⊎◌, ◌||◌, ◌&&◌, ℕ, ◌-◌, Bool, true, false, List, [], ◌∷◌, Option, None, Some, codes, if◌then◌else◌}
+use Rattle.std.specs.FinMap.{from_entries}
+use Rattle.std.specs.List.{list_any}
+use Rattle.std.specs.Option.{option_or}
+use Rattle.std.specs.Str.{bytes_eq}
+use Rattle.liq_base.specs.Files.{Files, file_at}
+use Rattle.frame_core.specs.Library.{Sounds}
+use Rattle.plan_core.specs.declared.plan.Plan.{Plan}
+use Rattle.plan_core.specs.declared.sink.SinkPlan.{SinkPlan}
+use Rattle.plan_core.specs.declared.sink.SinkPlan.TheVariants.{Output, Feed}
+use Rattle.clock_infer.specs.declared.clock_map.ClockMap.{ClockMap}
+use Rattle.script_plan.specs.declared.fault.ScriptFault.{ScriptFault}
+use Rattle.script_plan.specs.Plans.{IsPlan, IsPlanFault}
+use Rattle.stations.specs.declared.fault.StationFault.{StationFault}
+use Rattle.stations.specs.Cues.{cue_name}
+use Rattle.stations.specs.Stations.{Station, Way, InRounds, InWindows}
+use Rattle.stations.specs.Findings.{IsRenderable, IsStationFault}
+use Rattle.trace_replay.specs.Turns.{base_of}
+use Rattle.refusal_lines.specs.declared.fault.Fault.{Fault}
+use Rattle.refusal_lines.specs.declared.fault.Fault.TheVariants.{NoScript, Script, SameFile, Station as Unfit, Replay as Untold}
+use Rattle.refusal_lines.specs.declared.replay_lines.ReplayFault.{ReplayFault}
+use Rattle.workload_gen.specs.Files.{workload}
+use Rattle.station_jobs.specs.Replays.{IsReplayFault, IsWayOf}
+use Rattle.station_jobs.specs.Words.{Asked, Check, Make, Render, Replay, IsAsked, HasNoForm, cues_of, file_of, start_of, ticks_of, trace_name}
+
+-- the usage line, the first fault of the script, a station that is checked, one that is rendered, or that of a workload, with its files
+pub data Verdict : Type 0 where
+  Usage : Verdict
+  Refused : Fault → Verdict
+  Checked : Station → Verdict
+  Accepted : Station → Verdict
+  Made : Files → Station → Verdict
+
+abbrev pub usage_line : List ℕ
+usage_line = codes "usage: check FILE | render FILE N [--one-thread] [--window=W] [--start=D:HH:MM:SS] [--trace=NAME] [--cues] | make SEED SIZE | replay FILE N TRACE [--start=D:HH:MM:SS]\n"
+
+-- the script is there, and this is its plan
+pub record HasPlan (files : Files) (file : List ℕ) (plan : Plan) : Type 0 where
+  pub script : List ℕ
+  pub there : file_at files file ≡ Some script
+  pub is_plan : IsPlan script plan
+
+-- the script is there, and has this fault, and no plan
+pub record HasPlanFault (files : Files) (file : List ℕ) (fault : ScriptFault) : Type 0 where
+  pub script : List ℕ
+  pub there : file_at files file ≡ Some script
+  pub is_fault : IsPlanFault script fault
+
+-- a sink is the output of this name
+abbrev pub has_name : (name : List ℕ) → SinkPlan → Bool
+has_name name (Output own node fallible wide) = bytes_eq own name
+has_name name (Feed buffer node) = false
+
+-- the name of the cue file of an output, if one of all outputs has it
+abbrev pub cue_clash_at : (all : List SinkPlan) → SinkPlan → Option (List ℕ)
+cue_clash_at all (Output name node fallible wide) = if list_any (has_name (cue_name name)) all then Some (cue_name name) else None
+cue_clash_at all (Feed buffer node) = None
+
+-- the first such name among these outputs
+abbrev pub first_cue_clash : (all : List SinkPlan) → List SinkPlan → Option (List ℕ)
+first_cue_clash all [] = None
+first_cue_clash all (sink ∷ sinks) = option_or (cue_clash_at all sink) (first_cue_clash all sinks)
+
+-- the same, where cue files are wanted
+abbrev pub cue_clash : Plan → (cues : Bool) → Option (List ℕ)
+cue_clash plan false = None
+cue_clash plan true = first_cue_clash plan.sinks plan.sinks
+
+-- a sink is the output of this name, or, where cue files are wanted, one whose cue file has it
+abbrev pub writes_to : (name : List ℕ) (cues : Bool) → SinkPlan → Bool
+writes_to name cues (Output own node fallible wide) = bytes_eq own name || (cues && bytes_eq name (cue_name own))
+writes_to name cues (Feed buffer node) = false
+
+-- the name of the trace, if one is wanted and an output or a cue file has it
+abbrev pub trace_clash : Plan → (trace : Option (List ℕ)) (cues : Bool) → Option (List ℕ)
+trace_clash plan None cues = None
+trace_clash plan (Some name) cues = if list_any (writes_to name cues) plan.sinks then Some name else None
+
+-- the first name that two files of a rendering would have: that of a cue file and an output, in sink order; then that of the trace and an
+-- output or a cue file
+abbrev pub clash_of : Plan → (trace : Option (List ℕ)) (cues : Bool) → Option (List ℕ)
+clash_of plan trace cues = option_or (cue_clash plan cues) (trace_clash plan trace cues)
+
+-- the script has a plan, and this is the first name that two files of its rendering would have
+pub record HasClash (files : Files) (file : List ℕ) (trace : Option (List ℕ)) (cues : Bool) (name : List ℕ) : Type 0 where
+  pub plan : Plan
+  pub has_plan : HasPlan files file plan
+  pub clash : clash_of plan trace cues ≡ Some name
+
+-- the script has a plan, whose rendering writes no name twice, and which for so many ticks has this fault
+pub record HasUnfitPlan (files : Files) (file : List ℕ) (trace : Option (List ℕ)) (cues : Bool) (ticks : ℕ) (fault : StationFault) : Type 0 where
+  pub plan : Plan
+  pub has_plan : HasPlan files file plan
+  pub apart : clash_of plan trace cues ≡ None
+  pub is_fault : IsStationFault files plan ticks fault
+
+-- the first fault of a script, for so many ticks, a trace of this name that is to be written, and cue files where they are wanted
+abbrev pub IsScriptFault : Files → (file : List ℕ) (trace : Option (List ℕ)) (cues : Bool) (ticks : ℕ) → Fault → Type 0
+IsScriptFault files file trace cues ticks NoScript = file_at files file ≡ None
+IsScriptFault files file trace cues ticks (Script fault) = HasPlanFault files file fault
+IsScriptFault files file trace cues ticks (SameFile name) = HasClash files file trace cues name
+IsScriptFault files file trace cues ticks (Unfit fault) = HasUnfitPlan files file trace cues ticks fault
+IsScriptFault files file trace cues ticks (Untold fault) = ⊥
+
+-- the script is accepted, and these are its plan, with its audio files and clocks
+pub record IsPrepared (files : Files) (file : List ℕ) (trace : Option (List ℕ)) (cues : Bool) (ticks : ℕ) (plan : Plan) (library : Sounds) (clocks : ClockMap) : Type 0 where
+  pub has_plan : HasPlan files file plan
+  pub apart : clash_of plan trace cues ≡ None
+  pub renderable : IsRenderable files plan ticks library clocks
+
+-- the script is accepted, and the trace in the file of this name is not rendered again, for this fault
+pub record HasUntold (files : Files) (file : List ℕ) (start ticks : ℕ) (trace : List ℕ) (fault : Fault) : Type 0 where
+  pub plan : Plan
+  pub library : Sounds
+  pub clocks : ClockMap
+  pub prepared : IsPrepared files file None false ticks plan library clocks
+  pub untold : ReplayFault
+  pub fault_is : fault ≡ Untold untold
+  pub is_fault : IsReplayFault files trace (base_of plan library clocks start) clocks.running ticks untold
+
+-- a fault of the trace of a replay
+abbrev pub IsTraceFault : Asked → Files → Fault → Type 0
+IsTraceFault (Check file) files fault = ⊥
+IsTraceFault (Render file start ticks window trace cues) files fault = ⊥
+IsTraceFault (Make seed size) files fault = ⊥
+IsTraceFault (Replay file start ticks trace) files fault = HasUntold files file start ticks trace fault
+
+-- by threads in windows of so many ticks, or, where no window is there, in rounds on one thread
+abbrev pub way_in : (window : Option ℕ) → Way
+way_in None = InRounds
+way_in (Some window) = InWindows window
+
+-- an accepted script is rendered in this way: a check, of no tick, in rounds; a workload by threads in windows of 16 ticks; a replay as
+-- its trace tells
+abbrev pub IsWay : Asked → Files → Plan → Sounds → ClockMap → Way → Type 0
+IsWay (Check file) files plan library clocks way = way ≡ InRounds
+IsWay (Render file start ticks window trace cues) files plan library clocks way = way ≡ way_in window
+IsWay (Make seed size) files plan library clocks way = way ≡ InWindows 16
+IsWay (Replay file start ticks trace) files plan library clocks way = IsWayOf files trace (base_of plan library clocks start) clocks.running ticks way
+
+-- the script is accepted, and this is its station: its plan, with its audio files and clocks, its way, and what else is asked for
+pub record IsStation (asked : Asked) (files : Files) (station : Station) : Type 0 where
+  pub prepared : IsPrepared files (file_of asked) (trace_name asked) (cues_of asked) (ticks_of asked) station.plan station.library station.clocks
+  pub is_way : IsWay asked files station.plan station.library station.clocks station.way
+  pub start_is : station.start ≡ start_of asked
+  pub ticks_are : station.ticks ≡ ticks_of asked
+  pub trace_is : station.trace ≡ trace_name asked
+  pub cues_are : station.cues ≡ cues_of asked
+
+-- the files of a workload
+unfoldable pub files_made : (seed size : ℕ) → Files
+files_made seed size = from_entries (workload seed (size - 1))
+
+-- the files over which what is asked for is judged: a workload brings its own
+abbrev pub files_for : Asked → Files → Files
+files_for (Check file) files = files
+files_for (Render file start ticks window trace cues) files = files
+files_for (Make seed size) files = files_made seed size
+files_for (Replay file start ticks trace) files = files
+
+-- what a station is judged: it is checked, it is rendered, or it is that of a workload, with its files
+abbrev pub verdict_for : Asked → Station → Verdict
+verdict_for (Check file) station = Checked station
+verdict_for (Render file start ticks window trace cues) station = Accepted station
+verdict_for (Make seed size) station = Made (files_made seed size) station
+verdict_for (Replay file start ticks trace) station = Accepted station
+
+-- this is its first fault: of its script, or else, of a replay, of its trace
+abbrev pub IsRefusal : Asked → Files → Fault → Type 0
+IsRefusal asked files fault =
+    IsScriptFault (files_for asked files) (file_of asked) (trace_name asked) (cues_of asked) (ticks_of asked) fault ⊎ IsTraceFault asked files fault
+
+-- this is the verdict on what is asked for: its first fault, or its station
+abbrev pub IsVerdictOn : Asked → Files → Verdict → Type 0
+IsVerdictOn asked files verdict =
+    ((fault : Fault) × (verdict ≡ Refused fault) × IsRefusal asked files fault)
+    ⊎ ((station : Station) × (verdict ≡ verdict_for asked station) × IsStation asked (files_for asked files) station)
+
+-- the words have a form, and this is the verdict on what they ask for
+pub record IsFormed (words : List (List ℕ)) (files : Files) (verdict : Verdict) : Type 0 where
+  pub asked : Asked
+  pub is_asked : IsAsked words asked
+  pub is_verdict : IsVerdictOn asked files verdict
+
+-- this is the verdict on these words over these files: words of no form have the usage line
+abbrev pub IsVerdict : List (List ℕ) → Files → Verdict → Type 0
+IsVerdict words files verdict = ((verdict ≡ Usage) × HasNoForm words) ⊎ IsFormed words files verdict
+
+-- words and files have one verdict and no other, and this holds of it
+pub record ForVerdict (words : List (List ℕ)) (files : Files) (P : Verdict → Type 0) : Type 0 where
+  pub verdict : Verdict
+  pub is_verdict : IsVerdict words files verdict
+  pub only : (other : Verdict) → IsVerdict words files other → other ≡ verdict
+  pub holds : P verdict
+
+-- this holds of each verdict on these words over these files
+abbrev pub ForEachVerdict : List (List ℕ) → Files → (Verdict → Type 0) → Type 0
+ForEachVerdict words files P = (verdict : Verdict) → IsVerdict words files verdict → P verdict

@@ -1,0 +1,233 @@
+-- The forms of the words of a call.
+use Rattle.std.specs.Prelude.{◌≡◌, ◌≢◌, ◌≤◌, ◌<◌, ◌⊎◌, ℕ, ◌^◌, Bool, true, false, Option, Some, None, List, [], ◌∷◌, ◌++◌, map, codes, decimal, string_bytes, unwrap_or, if◌then◌else◌, ⊤, String}
+use Rattle.std.specs.declared.alloc.Global.{Global}
+use Rattle.fixed_text.specs.Texts.{IsStartText}
+
+-- What the words of a form ask for: that the script in a file is checked; that it is rendered, from a second of the week on and for so
+-- many ticks: by threads in windows of so many, or, where no window is there, on one thread; the trace of its buffers goes to the file
+-- of this name, if one is there; and cue files are written, or not; that the workload of a seed and of so many audio files is rendered
+-- and told; or that the script in a file is rendered again, on one thread, from a second of the week on and for so many ticks, as the trace
+-- in the file of this name tells.
+pub data Asked : Type 0 where
+  Check : (file : List ℕ) → Asked
+  Render : (file : List ℕ) (start ticks : ℕ) (window : Option ℕ) (trace : Option (List ℕ)) (cues : Bool) → Asked
+  Make : (seed size : ℕ) → Asked
+  Replay : (file : List ℕ) (start ticks : ℕ) (trace : List ℕ) → Asked
+
+-- the name of a workload's script
+unfoldable pub made_script : List ℕ
+made_script = codes "make.liq"
+
+-- the file of the script
+abbrev pub file_of : Asked → List ℕ
+file_of (Check file) = file
+file_of (Render file start ticks window trace cues) = file
+file_of (Make seed size) = made_script
+file_of (Replay file start ticks trace) = file
+
+-- the first second, the ticks, the name of the trace that is to be written, and whether cue files are wanted: a check renders no tick; a
+-- workload is rendered for 500 ticks; neither of them and no replay writes a trace or cue files
+abbrev pub start_of : Asked → ℕ
+start_of (Check file) = 0
+start_of (Render file start ticks window trace cues) = start
+start_of (Make seed size) = 0
+start_of (Replay file start ticks trace) = start
+
+abbrev pub ticks_of : Asked → ℕ
+ticks_of (Check file) = 0
+ticks_of (Render file start ticks window trace cues) = ticks
+ticks_of (Make seed size) = 500
+ticks_of (Replay file start ticks trace) = ticks
+
+abbrev pub trace_name : Asked → Option (List ℕ)
+trace_name (Check file) = None
+trace_name (Render file start ticks window trace cues) = trace
+trace_name (Make seed size) = None
+trace_name (Replay file start ticks trace) = None
+
+abbrev pub cues_of : Asked → Bool
+cues_of (Check file) = false
+cues_of (Render file start ticks window trace cues) = cues
+cues_of (Make seed size) = false
+cues_of (Replay file start ticks trace) = false
+
+abbrev pub texts : List (String Global) → List (List ℕ)
+texts words = map string_bytes words
+
+-- the options of a rendering: whether it runs on one thread; how many ticks a window has, the second of the week at which it begins, and
+-- the name of its trace, where these are said; and whether cue files are wanted
+pub record Options : Type 0 where
+  pub one_thread : Bool
+  pub window : Option ℕ
+  pub start : Option ℕ
+  pub trace : Option (List ℕ)
+  pub cues : Bool
+
+abbrev pub no_options : Options
+no_options = record { one_thread = false; window = None; start = None; trace = None; cues = false }
+
+-- where it is not said, it begins with the week
+abbrev pub start_in : Options → ℕ
+start_in options = unwrap_or options.start 0
+
+-- where no window is said, it has 16 ticks; on one thread there is none
+abbrev pub window_in : Options → Option ℕ
+window_in options = if options.one_thread then None else Some (unwrap_or options.window 16)
+
+-- a number of ticks from 1 to 1000000
+pub record IsWindowText (text : List ℕ) (window : ℕ) : Type 0 where
+  pub text_is : text ≡ decimal window
+  pub some : 0 < window
+  pub few : window ≤ 10 ^ 6
+
+-- `--window=W`
+pub record IsWindow (word : List ℕ) (window : ℕ) : Type 0 where
+  pub text : List ℕ
+  pub word_is : word ≡ codes "--window=" ++ text
+  pub means : IsWindowText text window
+
+-- `--start=D:HH:MM:SS`
+pub record IsStart (word : List ℕ) (start : ℕ) : Type 0 where
+  pub text : List ℕ
+  pub word_is : word ≡ codes "--start=" ++ text
+  pub means : IsStartText text start
+
+-- `--trace=NAME`, where the name is not empty
+pub record IsTraceName (word name : List ℕ) : Type 0 where
+  pub word_is : word ≡ codes "--trace=" ++ name
+  pub some : name ≢ []
+
+-- a word that is an option which none before it was: `--one-thread`, a window, a start, a trace, or `--cues`
+pub record SaysOneThread (word : List ℕ) (before after : Options) : Type 0 where
+  pub word_is : word ≡ codes "--one-thread"
+  pub once : before.one_thread ≡ false
+  pub after_is : after ≡ record before { one_thread = true }
+
+pub record SaysWindow (word : List ℕ) (before after : Options) : Type 0 where
+  pub window : ℕ
+  pub word_is : IsWindow word window
+  pub once : before.window ≡ None
+  pub after_is : after ≡ record before { window = Some window }
+
+pub record SaysStart (word : List ℕ) (before after : Options) : Type 0 where
+  pub start : ℕ
+  pub word_is : IsStart word start
+  pub once : before.start ≡ None
+  pub after_is : after ≡ record before { start = Some start }
+
+pub record SaysTrace (word : List ℕ) (before after : Options) : Type 0 where
+  pub name : List ℕ
+  pub word_is : IsTraceName word name
+  pub once : before.trace ≡ None
+  pub after_is : after ≡ record before { trace = Some name }
+
+pub record SaysCues (word : List ℕ) (before after : Options) : Type 0 where
+  pub word_is : word ≡ codes "--cues"
+  pub once : before.cues ≡ false
+  pub after_is : after ≡ record before { cues = true }
+
+abbrev pub IsOption : (word : List ℕ) (before after : Options) → Type 0
+IsOption word before after =
+    SaysOneThread word before after ⊎ SaysWindow word before after ⊎ SaysStart word before after ⊎ SaysTrace word before after ⊎ SaysCues word before after
+
+-- with these words, in any order and each option at most once, the options `before` become `all`
+abbrev pub AreOptions : (before : Options) → List (List ℕ) → (all : Options) → Type 0
+AreOptions before [] all = all ≡ before
+AreOptions before (word ∷ words) all = (after : Options) × IsOption word before after × AreOptions after words all
+
+-- neither a window nor a trace stands beside `--one-thread`
+abbrev pub AreApart : Options → Type 0
+AreApart options = options.one_thread ≡ true → (options.window ≡ None) × (options.trace ≡ None)
+
+-- `FILE N` and options
+pub record IsRendering (file number : List ℕ) (words : List (List ℕ)) (asked : Asked) : Type 0 where
+  pub options : Options
+  pub ticks : ℕ
+  pub asked_is : asked ≡ Render file (start_in options) ticks (window_in options) options.trace options.cues
+  pub number_is : number ≡ decimal ticks
+  pub few : ticks ≤ 10 ^ 9
+  pub options_are : AreOptions no_options words options
+  pub apart : AreApart options
+
+-- what may stand behind `render`
+abbrev pub IsRender : List (List ℕ) → Asked → Type 0
+IsRender [] asked = ⊥
+IsRender (file ∷ []) asked = ⊥
+IsRender (file ∷ number ∷ options) asked = IsRendering file number options asked
+
+-- what may stand behind `check`
+abbrev pub IsCheck : List (List ℕ) → Asked → Type 0
+IsCheck [] asked = ⊥
+IsCheck (file ∷ []) asked = asked ≡ Check file
+IsCheck (file ∷ more ∷ words) asked = ⊥
+
+-- `SEED SIZE`: a number of 64 bits, and one from 1 to 100
+pub record IsWorkload (seed_word size_word : List ℕ) (asked : Asked) : Type 0 where
+  pub seed : ℕ
+  pub size : ℕ
+  pub asked_is : asked ≡ Make seed size
+  pub seed_is : seed_word ≡ decimal seed
+  pub fits : seed < 2 ^ 64
+  pub size_is : size_word ≡ decimal size
+  pub some : 1 ≤ size
+  pub few : size ≤ 100
+
+-- what may stand behind `make`
+abbrev pub IsMake : List (List ℕ) → Asked → Type 0
+IsMake [] asked = ⊥
+IsMake (seed ∷ []) asked = ⊥
+IsMake (seed ∷ size ∷ []) asked = IsWorkload seed size asked
+IsMake (seed ∷ size ∷ more ∷ words) asked = ⊥
+
+-- no option, or a start alone
+abbrev pub IsOnlyStart : List (List ℕ) → (start : ℕ) → Type 0
+IsOnlyStart [] start = start ≡ 0
+IsOnlyStart (word ∷ []) start = IsStart word start
+IsOnlyStart (word ∷ more ∷ words) start = ⊥
+
+-- `FILE N TRACE`, and maybe a start
+pub record IsReplaying (file number trace : List ℕ) (words : List (List ℕ)) (asked : Asked) : Type 0 where
+  pub start : ℕ
+  pub ticks : ℕ
+  pub asked_is : asked ≡ Replay file start ticks trace
+  pub number_is : number ≡ decimal ticks
+  pub few : ticks ≤ 10 ^ 9
+  pub start_is : IsOnlyStart words start
+
+-- what may stand behind `replay`
+abbrev pub IsReplayAsked : List (List ℕ) → Asked → Type 0
+IsReplayAsked [] asked = ⊥
+IsReplayAsked (file ∷ []) asked = ⊥
+IsReplayAsked (file ∷ number ∷ []) asked = ⊥
+IsReplayAsked (file ∷ number ∷ trace ∷ words) asked = IsReplaying file number trace words asked
+
+-- the words have a form, and ask for this
+abbrev pub IsAsked : List (List ℕ) → Asked → Type 0
+IsAsked [] asked = ⊥
+IsAsked (verb ∷ words) asked =
+    (verb ≡ codes "check") × IsCheck words asked ⊎ (verb ≡ codes "render") × IsRender words asked ⊎ (verb ≡ codes "make") × IsMake words asked
+    ⊎ (verb ≡ codes "replay") × IsReplayAsked words asked
+
+-- the words have no form
+abbrev pub HasNoForm : List (List ℕ) → Type 0
+HasNoForm words = (asked : Asked) → IsAsked words asked → ⊥
+
+-- this takes threads: a rendering in windows, and a workload; a replay takes none
+abbrev pub TakesThreads : Asked → Type 0
+TakesThreads (Check file) = ⊥
+TakesThreads (Render file start ticks None trace cues) = ⊥
+TakesThreads (Render file start ticks (Some window) trace cues) = ⊤
+TakesThreads (Make seed size) = ⊤
+TakesThreads (Replay file start ticks trace) = ⊥
+
+-- the words ask for what takes threads
+pub record NeedsThreads (words : List (List ℕ)) : Type 0 where
+  pub asked : Asked
+  pub is_asked : IsAsked words asked
+  pub takes : TakesThreads asked
+
+-- the words ask for a workload
+pub record AsksToMake (words : List (List ℕ)) : Type 0 where
+  pub seed : ℕ
+  pub size : ℕ
+  pub is_asked : IsAsked words (Make seed size)

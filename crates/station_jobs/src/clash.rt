@@ -1,0 +1,153 @@
+// Files of a rendering that would have one name.
+ghost use Rattle.std.specs.Prelude.{◌≡◌, IfOk, None, OnOk};
+ghost use Rattle.std.specs.List.{list_any};
+ghost use Rattle.std.specs.Str.{bytes_eq};
+ghost use Rattle.stations.specs.Cues.{cue_name};
+ghost use Rattle.station_jobs.specs.Verdicts.{clash_of, cue_clash, cue_clash_at, has_name, trace_clash, writes_to};
+ghost use Rattle.station_jobs.specs.Prepared.{ClashEnds};
+ghost use Rattle.station_jobs.specs.Read.{named};
+
+use crate::halt::Halt;
+use liq_base::{Memory, Text};
+use plan_core::{Plan, SinkPlan};
+use refusal_lines::Fault;
+use std::alloc::Global;
+
+/// Refuses two files of one name: where cue files are wanted, one that has the name of an output; then a trace that has the name
+/// of an output or of a cue file.
+pub fn keep_apart(alloc: Global, plan: &Plan, trace: Option<&str>, cues: bool) -> Result<(), Halt>
+    ensures apart { OnOk result (clash_of plan.now (named trace.entry) cues ≡ None) }
+    ensures ends { ClashEnds (clash_of plan.now (named trace.entry) cues) result }
+{
+    match find_clash(alloc, plan, trace, cues)? {
+        Some(name) => Err(Halt::Refused(Fault::SameFile(name))),
+        None => Ok(()),
+    }
+}
+
+// The first name that two files would have.
+fn find_clash(
+    alloc: Global,
+    plan: &Plan,
+    trace: Option<&str>,
+    cues: bool,
+) -> Result<Option<Text>, Memory>
+    ensures { IfOk result (λ name. name ≡ clash_of plan.now (named trace.entry) cues) }
+{
+    if let Some(name) = find_cue_clash(alloc, plan, cues)? {
+        return Ok(Some(name));
+    }
+    find_trace_clash(alloc, plan, trace, cues)
+}
+
+// The name of the first cue file that an output has, where cue files are wanted.
+fn find_cue_clash(alloc: Global, plan: &Plan, cues: bool) -> Result<Option<Text>, Memory>
+    ensures { IfOk result (λ name. name ≡ cue_clash plan.now cues) }
+{
+    if !cues {
+        return Ok(None);
+    }
+    for sink in plan.sinks.as_slice() {
+        if let Some(name) = cue_clash_of(alloc, plan, sink)? {
+            return Ok(Some(name));
+        }
+    }
+    Ok(None)
+}
+
+// The name of the cue file of an output, if an output of the plan has it.
+fn cue_clash_of(alloc: Global, plan: &Plan, sink: &SinkPlan) -> Result<Option<Text>, Memory>
+    ensures { IfOk result (λ name. name ≡ cue_clash_at plan.now.sinks sink.now) }
+{
+    let SinkPlan::Output { name, .. } = sink else {
+        return Ok(None);
+    };
+    let file = cue_file_of(alloc, name.as_str())?;
+    if !is_output(plan, file.as_str()) {
+        return Ok(None);
+    }
+    Ok(Some(file))
+}
+
+// The name of the cue file of the output of this name.
+fn cue_file_of(alloc: Global, output: &str) -> Result<Text, Memory>
+    ensures { IfOk result (λ name. name ≡ cue_name output.now) }
+{
+    let mut name = String::from_str(alloc, output)?;
+    name.push_str(".cue")?;
+    Ok(Text::from_string(name))
+}
+
+// The name of a trace, if an output has it, or, where they are wanted, a cue file.
+fn find_trace_clash(
+    alloc: Global,
+    plan: &Plan,
+    trace: Option<&str>,
+    cues: bool,
+) -> Result<Option<Text>, Memory>
+    ensures { IfOk result (λ name. name ≡ trace_clash plan.now (named trace.entry) cues) }
+{
+    let Some(name) = trace else {
+        return Ok(None);
+    };
+    if !is_taken(plan, name, cues) {
+        return Ok(None);
+    }
+    Ok(Some(Text::from_str(alloc, name)?))
+}
+
+// Whether an output has this name, or, where they are wanted, a cue file.
+fn is_taken(plan: &Plan, name: &str, cues: bool) -> bool
+    ensures { result ≡ list_any (writes_to name.now cues) plan.now.sinks }
+{
+    for sink in plan.sinks.as_slice() {
+        if writes_to(name, cues, sink) {
+            return true;
+        }
+    }
+    false
+}
+
+// Whether a sink is the output of this name, or, where cue files are wanted, one whose cue file has it.
+fn writes_to(name: &str, cues: bool, sink: &SinkPlan) -> bool
+    ensures { result ≡ writes_to name.now cues sink.now }
+{
+    match sink {
+        SinkPlan::Output { name: own, .. } => {
+            own.as_str() == name || cues && is_cue_file(name, own.as_str())
+        }
+        SinkPlan::Feed { .. } => false,
+    }
+}
+
+// Whether a name is that of the cue file of an output.
+fn is_cue_file(name: &str, output: &str) -> bool
+    ensures { result ≡ bytes_eq name.now (cue_name output.now) }
+{
+    match name.as_bytes().strip_suffix(b".cue") {
+        Some(front) => front == output.as_bytes(),
+        None => false,
+    }
+}
+
+// Whether an output of a plan has this name.
+fn is_output(plan: &Plan, name: &str) -> bool
+    ensures { result ≡ list_any (has_name name.now) plan.now.sinks }
+{
+    for sink in plan.sinks.as_slice() {
+        if has_name(name, sink) {
+            return true;
+        }
+    }
+    false
+}
+
+// Whether a sink is the output of this name.
+fn has_name(name: &str, sink: &SinkPlan) -> bool
+    ensures { result ≡ has_name name.now sink.now }
+{
+    match sink {
+        SinkPlan::Output { name: own, .. } => own.as_str() == name,
+        SinkPlan::Feed { .. } => false,
+    }
+}

@@ -1,0 +1,95 @@
+// A workload is made, rendered and told.
+ghost use Rattle.std.specs.Prelude.{◌≡◌, [], true, IfOk};
+ghost use Rattle.liq_base.specs.Shelves.{ShelfTold};
+ghost use Rattle.station_jobs.specs.Verdicts.{files_made};
+ghost use Rattle.station_jobs.specs.Prepared.{Ended};
+ghost use Rattle.station_jobs.specs.Words.{Make, made_script};
+
+use crate::halt::Halt;
+use crate::jobs::report_or_halt;
+use crate::laws;
+use crate::prepare::prepare;
+use crate::size::Size;
+use crate::summary::summary;
+use fixed_text::WeekSecond;
+use liq_base::{Gate, Memory, SureShelf};
+use plan_core::Plan;
+use station_render::{Job, render};
+use std::alloc::Global;
+use std::sync::Wait;
+use std::thread::Threads;
+use workload_gen::make;
+
+/// Ticks of a workload.
+const TICKS: u64 = 500;
+
+/// Ticks of its windows.
+const WINDOW: u64 = 16;
+
+/// The summary of the workload of a seed and a size. Its files and its outputs stand in a shelf of its own.
+pub fn make_job<G: Gate + Sync, R: Threads + Wait + Sync>(
+    rt: &R,
+    alloc: Global,
+    seed: u64,
+    size: Size,
+    gate: &G,
+) -> Result<String, Halt>
+    ensures { (told : ShelfTold) → Ended (Make seed size.files) told told result }
+{
+    let mut shelf = workload_shelf(alloc, seed, size)?;
+    sum_workload(rt, alloc, seed, size, &mut shelf, gate)
+}
+
+// The same over the shelf that holds its files.
+fn sum_workload<G: Gate + Sync, R: Threads + Wait + Sync>(
+    rt: &R,
+    alloc: Global,
+    seed: u64,
+    size: Size,
+    shelf: &mut SureShelf,
+    gate: &G,
+) -> Result<String, Halt>
+    requires { shelf.old ≡ files_made seed size.files }
+    ensures { (told : ShelfTold) → Ended (Make seed size.files) told told result }
+{
+    let work = prepare(alloc, script_name(), None, false, TICKS, shelf)?;
+    // The script of a workload has no buffer. Through one its clocks could meet in one way or another, and what is told rests on the
+    // two numbers alone: so were there one, nothing would be told.
+    if !is_unbuffered(&work.plan) {
+        return Err(Halt::Memory);
+    }
+    stations::laws::infallible_outputs_have_no_gaps();
+    laws::sums_are_as_on_one_thread();
+    let job = Job {
+        plan: &work.plan,
+        ready: &work.ready,
+        start: WeekSecond { second: 0 },
+        ticks: TICKS,
+        trace: None,
+        cues: false,
+    };
+    let rendered = render(rt, alloc, &job, WINDOW, shelf, gate)?;
+    report_or_halt(summary(alloc, &work.plan, TICKS, &rendered.gaps, shelf))
+}
+
+// Whether a plan has no buffer.
+fn is_unbuffered(plan: &Plan) -> bool
+    ensures { result ≡ true → plan.now.buffers ≡ [] }
+{
+    plan.buffers.as_slice().is_empty()
+}
+
+// A shelf with the files of a workload.
+fn workload_shelf(alloc: Global, seed: u64, size: Size) -> Result<SureShelf, Memory>
+    ensures { IfOk result (λ shelf. shelf ≡ files_made seed size.files) }
+{
+    let files = make(alloc, seed, size.files)?;
+    Ok(SureShelf::new(alloc, files))
+}
+
+// The name of the script of a workload.
+fn script_name() -> &'static str
+    ensures { result.now ≡ made_script }
+{
+    "make.liq"
+}

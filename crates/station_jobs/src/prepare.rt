@@ -1,0 +1,117 @@
+// What a script asks for: its plan, its audio files and its clocks.
+ghost use Rattle.std.specs.Prelude.{◌≡◌, ◌≤◌, ◌^◌, ℕ, Bool, false, List, Option, IfOk, None, Some};
+ghost use Rattle.std.specs.Option.{ForSome};
+ghost use Rattle.liq_base.specs.Files.{file_at};
+ghost use Rattle.liq_base.specs.Shelves.{OnlyRead};
+ghost use Rattle.plan_core.specs.Plans.{IsWellFormed};
+ghost use Rattle.stations.specs.Findings.{IsFit};
+ghost use Rattle.station_jobs.specs.Verdicts.{HasPlan, clash_of};
+ghost use Rattle.station_jobs.specs.Prepared.{EndsFor, IsChecked, IsOneOutcome, outcome_of};
+ghost use Rattle.station_jobs.specs.Read.{named};
+
+use crate::clash::keep_apart;
+use crate::halt::Halt;
+use clock_infer::ClockMap;
+use liq_base::limits::MAX_SCRIPT_BYTES;
+use liq_base::{Fetched, Shelf, ShelfFault};
+use plan_core::Plan;
+use refusal_lines::Fault;
+use script_lex::LexFault;
+use script_plan::{ScriptFault, plan_of};
+use station_check::{check_clocks, check_plan};
+use stations::Ready;
+use std::alloc::Global;
+
+/// A plan with its audio files and clocks.
+#[derive(Drop)]
+pub struct Work {
+    pub plan: Plan,
+    pub ready: Ready,
+}
+
+/// A plan with its clocks, which are all that a check tells.
+#[derive(Drop)]
+pub struct CheckedPlan {
+    pub plan: Plan,
+    pub clocks: ClockMap,
+}
+
+/// What the script of this name asks for, for so many ticks: the script is read, and then its audio files are. Its outputs, its
+/// cue files where they are wanted, and the trace of this name where one is wanted, all have names of their own.
+pub fn prepare<S: Shelf>(
+    alloc: Global,
+    file: &str,
+    trace: Option<&str>,
+    cues: bool,
+    ticks: u64,
+    shelf: &mut S,
+) -> Result<Work, Halt>
+    requires { ticks ≤ 10 ^ 9 }
+    ensures found { IfOk result (λ work. ForSome (S.told shelf.old).files (λ files. IsOneOutcome files file.now (named trace.entry) cues ticks (outcome_of work))) }
+    ensures fit { IfOk result (λ work. IsFit work.plan work.ready.library work.ready.clocks ticks) }
+    ensures ends { EndsFor file.now (named trace.entry) cues ticks (S.told shelf.old) (S.told shelf.new) result }
+    ensures shelf { OnlyRead (S.told shelf.old) (S.told shelf.new) }
+{
+    let plan = read_plan(alloc, file, trace, cues, shelf)?;
+    script_plan::laws::one_answer();
+    let ready = check_plan(alloc, &plan, ticks, shelf)?;
+    Ok(Work { plan, ready })
+}
+
+/// The plan and the clocks of the script of this name, as `prepare` finds them for no tick. Its audio files are read and given
+/// back, and none is decoded.
+pub fn prepare_check<S: Shelf>(
+    alloc: Global,
+    file: &str,
+    shelf: &mut S,
+) -> Result<CheckedPlan, Halt>
+    ensures found { IfOk result (λ work. ForSome (S.told shelf.old).files (λ files. IsChecked files file.now work.plan work.clocks)) }
+    ensures plan { IfOk result (λ work. IsWellFormed work.plan) }
+    ensures ends { EndsFor file.now None false 0 (S.told shelf.old) (S.told shelf.new) result }
+    ensures shelf { OnlyRead (S.told shelf.old) (S.told shelf.new) }
+{
+    let plan = read_plan(alloc, file, None, false, shelf)?;
+    script_plan::laws::one_answer();
+    let clocks = check_clocks(alloc, &plan, 0, shelf)?;
+    Ok(CheckedPlan { plan, clocks })
+}
+
+// The plan of the script, where its outputs, its cue files and the trace have names of their own.
+fn read_plan<S: Shelf>(
+    alloc: Global,
+    file: &str,
+    trace: Option<&str>,
+    cues: bool,
+    shelf: &mut S,
+) -> Result<Plan, Halt>
+    ensures plan { IfOk result (λ plan. ForSome (S.told shelf.old).files (λ files. HasPlan files file.now plan)) }
+    ensures apart { IfOk result (λ plan. clash_of plan (named trace.entry) cues ≡ None) }
+    ensures formed { IfOk result (λ plan. IsWellFormed plan) }
+    ensures ends { (ticks : ℕ) → EndsFor file.now (named trace.entry) cues ticks (S.told shelf.old) (S.told shelf.new) result }
+    ensures shelf { OnlyRead (S.told shelf.old) (S.told shelf.new) }
+{
+    let script = read_script(alloc, file, shelf)?;
+    script_plan::laws::one_answer();
+    let plan = plan_of(alloc, &script)?;
+    keep_apart(alloc, &plan, trace, cues)?;
+    Ok(plan)
+}
+
+// The bytes of the script.
+fn read_script<S: Shelf>(alloc: Global, file: &str, shelf: &mut S) -> Result<Vec<u8>, Halt>
+    ensures script { IfOk result (λ script. ForSome (S.told shelf.old).files (λ files. file_at files file.now ≡ Some script.items)) }
+    ensures ends { (trace : Option (List ℕ)) (cues : Bool) (ticks : ℕ) → EndsFor file.now trace cues ticks (S.told shelf.old) (S.told shelf.new) result }
+    ensures shelf { OnlyRead (S.told shelf.old) (S.told shelf.new) }
+{
+    let mut script = Vec::new(alloc);
+    script_plan::laws::one_answer();
+    match shelf.read(file, &mut script, MAX_SCRIPT_BYTES) {
+        Ok(Fetched::Found) => Ok(script),
+        Ok(Fetched::Missing) => Err(Halt::Refused(Fault::NoScript)),
+        Ok(Fetched::TooLarge) => Err(Halt::Refused(Fault::Script(ScriptFault::Lex(
+            LexFault::TextTooLong,
+        )))),
+        Err(ShelfFault::Failed) => Err(Halt::Read),
+        Err(ShelfFault::Memory) => Err(Halt::Memory),
+    }
+}

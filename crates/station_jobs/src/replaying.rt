@@ -1,0 +1,42 @@
+// A script is rendered again, as a trace tells.
+ghost use Rattle.station_jobs.specs.Prepared.{Ended};
+ghost use Rattle.station_jobs.specs.Words.{Replay};
+
+use crate::halt::Halt;
+use crate::jobs::conclude;
+use crate::prepare::prepare;
+use crate::ticks::Ticks;
+use crate::traces::find_trace;
+use fixed_text::WeekSecond;
+use liq_base::Shelf;
+use station_render::{Job, render_again};
+use std::alloc::Global;
+
+/// The report of a replay on one thread, whose outputs are written: those of the record that the trace tells. The trace is read behind
+/// the script and its audio files, and before an output is created, so an output may have its name.
+pub fn replay_job<S: Shelf>(
+    alloc: Global,
+    file: &str,
+    start: WeekSecond,
+    ticks: Ticks,
+    trace: &str,
+    shelf: &mut S,
+) -> Result<String, Halt>
+    ensures { Ended (Replay file.now start.second ticks.count trace.now) (S.told shelf.old) (S.told shelf.new) result }
+{
+    let ticks = ticks.count;
+    let work = prepare(alloc, file, None, false, ticks, shelf)?;
+    trace_log::laws::texts_have_one_meaning();
+    let told = find_trace(alloc, &work.plan, &work.ready, start, ticks, trace, shelf)?;
+    let chunks = told.chunks;
+    let job = Job {
+        plan: &work.plan,
+        ready: &work.ready,
+        start,
+        ticks,
+        trace: None,
+        cues: false,
+    };
+    let ended = render_again(alloc, &job, &told.trace, chunks, shelf);
+    conclude(alloc, &job, ended)
+}

@@ -1,0 +1,70 @@
+// What is told of a workload.
+ghost use Rattle.std.specs.Prelude.{◌≡◌, ◌≤◌, ◌++◌, IfOk, OnOk, length, string_bytes};
+ghost use Rattle.run_records.specs.Records.{Run};
+ghost use Rattle.stations.specs.Stations.{Station};
+ghost use Rattle.stations.specs.Streams.{gaps_in_order};
+ghost use Rattle.station_render.specs.Renders.{written};
+ghost use Rattle.station_jobs.specs.Summary.{counted_part, sum_at, sum_part, summed_lines};
+
+use crate::samples::sum_at;
+use liq_base::{Memory, SureShelf};
+use plan_core::{Plan, SinkPlan};
+use std::alloc::{AllocError, Global};
+
+/// The summary of a rendering of so many ticks, at most 1000000000, that wrote its outputs into this shelf: a line for each output,
+/// in sink order, with its gaps and the sum of its samples.
+pub fn summary(
+    alloc: Global,
+    plan: &Plan,
+    ticks: u64,
+    gaps: &[u64],
+    shelf: &SureShelf,
+) -> Result<String, Memory>
+    requires few { ticks ≤ 1000000000 }
+    requires many { length gaps.now ≡ length (written plan.now.sinks) }
+    ensures { IfOk result (λ text. (station : Station) → (run : Run) → station.plan ≡ plan.now → station.ticks ≡ ticks → gaps.now ≡ gaps_in_order station run
+        → string_bytes text ≡ summed_lines station run shelf.now plan.now.sinks) }
+{
+    let samples = ticks * u64::from(plan.frame);
+    let mut text = String::new(alloc);
+    let mut place = 0;
+    for sink in plan.sinks.as_slice() {
+        let SinkPlan::Output { name, .. } = sink else {
+            continue;
+        };
+        let name = name.as_str();
+        push_counts(alloc, &mut text, name, samples, gaps[place])?;
+        push_sum(alloc, &mut text, shelf, name)?;
+        place += 1;
+    }
+    Ok(text)
+}
+
+// The line of an output, but for its end.
+fn push_counts(
+    alloc: Global,
+    text: &mut String,
+    name: &str,
+    samples: u64,
+    gaps: u64,
+) -> Result<(), AllocError>
+    ensures { OnOk result (string_bytes text.new ≡ string_bytes text.old ++ counted_part name.now samples gaps) }
+{
+    text.push_str("output ")?;
+    text.push_str(name)?;
+    text.push_str(" samples ")?;
+    text.push_str(&samples.to_string(alloc)?)?;
+    text.push_str(" gaps ")?;
+    text.push_str(&gaps.to_string(alloc)?)
+}
+
+// Its end: the sum of the samples in the file of this name.
+fn push_sum(alloc: Global, text: &mut String, shelf: &SureShelf, name: &str) -> Result<(), Memory>
+    ensures { OnOk result (string_bytes text.new ≡ string_bytes text.old ++ sum_part (sum_at shelf.now name.now)) }
+{
+    let sum = sum_at(alloc, shelf, name)?;
+    text.push_str(" sum ")?;
+    text.push_str(&sum.to_string(alloc)?)?;
+    text.push_str("\n")?;
+    Ok(())
+}

@@ -1,0 +1,123 @@
+// The trace by which a script is rendered again.
+ghost use Rattle.std.specs.Prelude.{ℕ, IfOk};
+ghost use Rattle.std.specs.Option.{ForSome};
+ghost use Rattle.liq_base.specs.Shelves.{OnlyRead};
+ghost use Rattle.trace_log.specs.Texts.{IsTrace};
+ghost use Rattle.trace_replay.specs.Chunks.{AreAllChunks};
+ghost use Rattle.trace_replay.specs.Traces.{IsAccepted};
+ghost use Rattle.trace_replay.specs.Turns.{base_of};
+ghost use Rattle.stream_meaning.specs.Instants.{Setting};
+ghost use Rattle.stations.specs.Findings.{IsFit};
+ghost use Rattle.station_jobs.specs.Prepared.{IsUntold, TraceEnds};
+ghost use Rattle.station_jobs.specs.Replays.{HasText, HasTrace};
+ghost use Rattle.refusal_lines.specs.declared.replay_lines.ReplayFault.TheVariants.{NoTrace, TraceTooLarge};
+
+use crate::halt::Halt;
+use fixed_text::WeekSecond;
+use liq_base::{Fetched, Shelf, ShelfFault, Text};
+use plan_core::Plan;
+use refusal_lines::{Fault, ReplayFault};
+use stations::Ready;
+use std::alloc::Global;
+use trace_log::{Trace, TraceFault, read};
+use trace_replay::{RecordChunks, find_record};
+
+/// Bytes of a trace, at most.
+const MAX_TRACE_BYTES: u64 = 268_435_456;
+
+/// A trace by which a script is rendered again, and all the chunks of its record.
+#[derive(Drop)]
+pub struct FoundTrace {
+    pub trace: Trace,
+    pub chunks: RecordChunks,
+}
+
+/// The trace in the file of this name, with all the chunks of its record, where it is that of a lawful record of so many ticks of the plan
+/// from this second of the week on, whose ticks can be ordered. `docs/faults.md` has the faults, which are looked for in this order: no
+/// file, too many bytes, another form, no such record.
+pub fn find_trace<S: Shelf>(
+    alloc: Global,
+    plan: &Plan,
+    ready: &Ready,
+    start: WeekSecond,
+    ticks: u64,
+    name: &str,
+    shelf: &mut S,
+) -> Result<FoundTrace, Halt>
+    requires { IsFit plan.now ready.now.library ready.now.clocks ticks }
+    ensures form { IfOk result (λ found. IsTrace found.trace) }
+    ensures found { IfOk result (λ found. ForSome (S.told shelf.old).files (λ files. HasTrace files name.now found.trace)) }
+    ensures fits { IfOk result (λ found. IsAccepted (base_of plan.now ready.now.library ready.now.clocks start.second) ready.now.clocks.running ticks found.trace) }
+    ensures chunks { IfOk result (λ found. AreAllChunks (base_of plan.now ready.now.library ready.now.clocks start.second) ready.now.clocks found.trace found.chunks) }
+    ensures ends { TraceEnds name.now (base_of plan.now ready.now.library ready.now.clocks start.second) ready.now.clocks.running ticks
+        (S.told shelf.old) (S.told shelf.new) result }
+    ensures shelf { OnlyRead (S.told shelf.old) (S.told shelf.new) }
+{
+    let trace = read_trace(alloc, name, shelf)?;
+    let found = find_record(
+        alloc,
+        plan,
+        &ready.clocks,
+        &ready.library,
+        start,
+        ticks,
+        &trace,
+    )?;
+    let Some(chunks) = found else {
+        return Err(Halt::Refused(Fault::Replay(ReplayFault::DoesNotFit)));
+    };
+    Ok(FoundTrace { trace, chunks })
+}
+
+// The trace in the file of this name.
+fn read_trace<S: Shelf>(alloc: Global, name: &str, shelf: &mut S) -> Result<Trace, Halt>
+    ensures form { IfOk result (λ trace. IsTrace trace) }
+    ensures found { IfOk result (λ trace. ForSome (S.told shelf.old).files (λ files. HasTrace files name.now trace)) }
+    ensures ends { (base : Setting) (clocks ticks : ℕ) → TraceEnds name.now base clocks ticks (S.told shelf.old) (S.told shelf.new) result }
+    ensures shelf { OnlyRead (S.told shelf.old) (S.told shelf.new) }
+{
+    let text = read_text(alloc, name, shelf)?;
+    match read(alloc, &text) {
+        Ok(trace) => Ok(trace),
+        Err(TraceFault::NotTrace(line)) => Err(Halt::Refused(Fault::Replay(ReplayFault::NotATrace(
+            line,
+        )))),
+        Err(TraceFault::Memory) => Err(Halt::Memory),
+    }
+}
+
+// The bytes of the file of this name.
+fn read_text<S: Shelf>(alloc: Global, name: &str, shelf: &mut S) -> Result<Vec<u8>, Halt>
+    ensures found { IfOk result (λ text. ForSome (S.told shelf.old).files (λ files. HasText files name.now text.items)) }
+    ensures ends { (base : Setting) (clocks ticks : ℕ) → TraceEnds name.now base clocks ticks (S.told shelf.old) (S.told shelf.new) result }
+    ensures shelf { OnlyRead (S.told shelf.old) (S.told shelf.new) }
+{
+    let mut text = Vec::new(alloc);
+    match shelf.read(name, &mut text, MAX_TRACE_BYTES) {
+        Ok(Fetched::Found) => Ok(text),
+        Ok(Fetched::Missing) => Err(no_trace(alloc, name)),
+        Ok(Fetched::TooLarge) => Err(too_large(alloc, name)),
+        Err(ShelfFault::Failed) => Err(Halt::Read),
+        Err(ShelfFault::Memory) => Err(Halt::Memory),
+    }
+}
+
+// The end of a replay whose trace is not there; want of memory may come in its place.
+fn no_trace(alloc: Global, name: &str) -> Halt
+    ensures { IsUntold (NoTrace name.now) result }
+{
+    match Text::from_str(alloc, name) {
+        Ok(name) => Halt::Refused(Fault::Replay(ReplayFault::NoTrace(name))),
+        Err(_) => Halt::Memory,
+    }
+}
+
+// The same, of a trace that is too large.
+fn too_large(alloc: Global, name: &str) -> Halt
+    ensures { IsUntold (TraceTooLarge name.now) result }
+{
+    match Text::from_str(alloc, name) {
+        Ok(name) => Halt::Refused(Fault::Replay(ReplayFault::TraceTooLarge(name))),
+        Err(_) => Halt::Memory,
+    }
+}

@@ -1,0 +1,140 @@
+// The words of a call.
+ghost use Rattle.std.specs.Prelude.{◌≡◌, ℕ, Some, option_map, IfSome, IsSome, IsSomeAnd, OnSome};
+ghost use Rattle.station_jobs.specs.Read.{asked_by_threads, asked_of, options_of};
+ghost use Rattle.station_jobs.specs.Words.{Asked, AreApart, IsAsked, IsCheck, IsMake, IsOnlyStart, IsRender, IsReplayAsked, NeedsThreads, Render as AsksToRender, start_in, texts, window_in};
+
+use crate::form::{Form, Rendering, Threaded};
+use crate::options::{Options, read_options, read_start_option, start_of, window_of};
+use crate::size::read_size;
+use crate::ticks::{Ticks, read_ticks};
+use fixed_text::{WeekSecond, read_u64};
+
+/// The form of the words, or nothing where they have none.
+pub fn read_words(words: &[String]) -> Option<Form<'_>>
+    ensures found { IfSome result (λ form. IsAsked (texts words.now) (asked_of form)) }
+    ensures only { (asked : Asked) → IsAsked (texts words.now) asked → option_map asked_of result ≡ Some asked }
+{
+    let [verb, rest @ ..] = words else {
+        return None;
+    };
+    match verb.as_str() {
+        "check" => read_check(rest),
+        "render" => read_render(rest),
+        "make" => read_make(rest),
+        "replay" => read_replay(rest),
+        _ => None,
+    }
+}
+
+/// What words ask for that takes threads.
+pub fn read_threaded(words: &[String]) -> Threaded<'_>
+    requires { NeedsThreads (texts words.now) }
+    ensures found { IsAsked (texts words.now) (asked_by_threads result) }
+    ensures only { (asked : Asked) → IsAsked (texts words.now) asked → asked ≡ asked_by_threads result }
+{
+    let Some(form) = read_words(words) else {
+        unreachable!();
+    };
+    let Form::Threaded(threaded) = form else {
+        unreachable!();
+    };
+    threaded
+}
+
+// `FILE`
+fn read_check(words: &[String]) -> Option<Form<'_>>
+    ensures found { IfSome result (λ form. IsCheck (texts words.now) (asked_of form)) }
+    ensures only { (asked : Asked) → IsCheck (texts words.now) asked → option_map asked_of result ≡ Some asked }
+{
+    match words {
+        [file] => Some(Form::Check {
+            file: file.as_str(),
+        }),
+        _ => None,
+    }
+}
+
+// `FILE N` and options
+fn read_render(words: &[String]) -> Option<Form<'_>>
+    ensures found { IfSome result (λ form. IsRender (texts words.now) (asked_of form)) }
+    ensures only { (asked : Asked) → IsRender (texts words.now) asked → option_map asked_of result ≡ Some asked }
+{
+    let [file, number, options @ ..] = words else {
+        return None;
+    };
+    let ticks = read_ticks(number.as_bytes())?;
+    let options = read_options(options)?;
+    form_of(file.as_str(), ticks, options)
+}
+
+// `SEED SIZE`
+fn read_make(words: &[String]) -> Option<Form<'_>>
+    ensures found { IfSome result (λ form. IsMake (texts words.now) (asked_of form)) }
+    ensures only { (asked : Asked) → IsMake (texts words.now) asked → option_map asked_of result ≡ Some asked }
+{
+    let [seed, size] = words else {
+        return None;
+    };
+    let seed = read_u64(seed.as_bytes())?;
+    let size = read_size(size.as_bytes())?;
+    Some(Form::Threaded(Threaded::Make { seed, size }))
+}
+
+// `FILE N TRACE`, and maybe a start
+fn read_replay(words: &[String]) -> Option<Form<'_>>
+    ensures found { IfSome result (λ form. IsReplayAsked (texts words.now) (asked_of form)) }
+    ensures only { (asked : Asked) → IsReplayAsked (texts words.now) asked → option_map asked_of result ≡ Some asked }
+{
+    let [file, number, trace, options @ ..] = words else {
+        return None;
+    };
+    let ticks = read_ticks(number.as_bytes())?;
+    let start = read_only_start(options)?;
+    Some(Form::Replay {
+        file: file.as_str(),
+        start,
+        ticks,
+        trace: trace.as_str(),
+    })
+}
+
+// The start that options give which have nothing else.
+fn read_only_start(options: &[String]) -> Option<WeekSecond>
+    ensures found { IfSome result (λ start. IsOnlyStart (texts options.now) start.second) }
+    ensures only { (start : ℕ) → IsOnlyStart (texts options.now) start → IsSomeAnd result (λ found. found.second ≡ start) }
+{
+    match options {
+        [] => Some(WeekSecond { second: 0 }),
+        [word] => read_start_option(word.as_str()),
+        _ => None,
+    }
+}
+
+// The rendering of so many ticks that options ask for; nothing where a window or a trace stands beside `--one-thread`.
+fn form_of<'a>(file: &'a str, ticks: Ticks, options: Options<'a>) -> Option<Form<'a>>
+    ensures found { IfSome result (λ form. asked_of form
+        ≡ AsksToRender file.now (start_in (options_of options.entry)) ticks.count (window_in (options_of options.entry)) (options_of options.entry).trace (options_of options.entry).cues) }
+    ensures apart { OnSome result (AreApart (options_of options.entry)) }
+    ensures only { AreApart (options_of options.entry) → IsSome result }
+{
+    let start = start_of(options);
+    if !options.one_thread {
+        return Some(Form::Threaded(Threaded::Render(Rendering {
+            file,
+            start,
+            ticks,
+            window: window_of(options),
+            trace: options.trace,
+            cues: options.cues,
+        })));
+    }
+    if options.window.is_some() || options.trace.is_some() {
+        return None;
+    }
+    Some(Form::Alone {
+        file,
+        start,
+        ticks,
+        cues: options.cues,
+    })
+}

@@ -1,0 +1,139 @@
+-- What a sink tells, after it took a piece.
+use Rattle.std.proofs.Common.{◌≡◌, ◌<◌, ◌≤◌, ◌+◌, ◌-◌, ◌^◌, ◌∙◌, ◌++◌, ℕ, zero, suc, Bool, true, false, List, [], ◌∷◌, length, length-append, append-nil, arith, refl, ap, sym, subst, inl, inr}
+use Rattle.std.specs.Prelude.{Option, Some, None, IsSome, is_some, min}
+use Rattle.std.specs.Fn.{iterate}
+use Rattle.std.specs.Option.{ForSome}
+use Rattle.liq_base.specs.Counts.{counted}
+use Rattle.liq_base.specs.Created.{is_told}
+use Rattle.liq_base.specs.Pieces.{HasRoom, SinkTold, Took, grown, narrowed}
+use Rattle.liq_base.specs.Shelves.{IsFresh, ShelfTold}
+use Rattle.station_render.specs.Listed.{AreTold, IsMeasured, TellsSinks}
+use Rattle.station_render.specs.OutputSinks.{MayHaveTaken, owed_by, output_told, size_by, size_of, told_name, told_number}
+use Rattle.station_render.specs.declared.output_sink.OutputSink.{OutputSink}
+
+-- the size stays
+size_kept : (taken : List ℕ) (held : Option (List ℕ)) (left : Option ℕ) → HasRoom left (length taken) → size_by (grown taken held) (narrowed (length taken) left) ≡ size_by held left
+size_kept taken None left fits = refl
+size_kept taken (Some held) None fits = refl
+size_kept taken (Some held) (Some left) fits =
+    let long = length-append held taken in
+    let low : length taken ≤ left = fits left refl in
+    let same : length (held ++ taken) + (left - length taken) ≡ length held + left = omega (arith, long, low) in
+    ap Some same
+
+pub took_size : (taken : List ℕ) (old new : SinkTold) → HasRoom old.room (length taken) → Took taken old new → size_of new ≡ size_of old
+took_size taken old new fits took = (λ i. size_by (took.held_grew i) (took.room_fell i)) ∙ size_kept taken old.held old.room fits
+
+-- one piece more, or none, is told where the number was
+pub counted_any : (appends : Option ℕ) → is_some (counted appends) ≡ is_some appends
+counted_any None = refl
+counted_any (Some n) = refl
+
+size_any : (taken : List ℕ) (held : Option (List ℕ)) (left : Option ℕ) → is_some (size_by (grown taken held) (narrowed (length taken) left)) ≡ is_some (size_by held left)
+size_any taken None left = refl
+size_any taken (Some held) None = refl
+size_any taken (Some held) (Some left) = refl
+
+pub took_told : (taken : List ℕ) (old new : SinkTold) → Took taken old new → AreTold old → AreTold new
+took_told taken old new took tells = record {
+  size_told = (λ i. is_some (size_by (took.held_grew i) (took.room_fell i))) ∙ size_any taken old.held old.room ∙ tells.size_told;
+  pieces_told = ap is_some took.once ∙ counted_any old.appends ∙ tells.pieces_told;
+}
+
+pub moved_told : (old new : SinkTold) → MayHaveTaken old new → AreTold old → AreTold new
+moved_told old new (inl same) tells = subst AreTold (sym same) tells
+moved_told old new (inr took) tells = took_told took.0 old new took.1 tells
+
+pub moved_named : (old new : SinkTold) → MayHaveTaken old new → new.name ≡ old.name
+moved_named old new (inl same) = ap (λ (s : SinkTold). s.name) same
+moved_named old new (inr took) = took.1.name_kept
+
+pub moved_faults : (old new : SinkTold) → MayHaveTaken old new → old.faults ≤ new.faults
+moved_faults old new (inl same) = let e = ap (λ (s : SinkTold). s.faults) same in omega (arith, e)
+moved_faults old new (inr took) = took.1.faults_grew
+
+-- the first number of a name, and what stands behind it
+abbrev first_of : Option (List ℕ) → ℕ
+first_of None = 0
+first_of (Some []) = 0
+first_of (Some (n ∷ ns)) = n
+
+abbrev rest_of : Option (List ℕ) → List ℕ
+rest_of None = []
+rest_of (Some []) = []
+rest_of (Some (n ∷ ns)) = ns
+
+abbrev head_of : List ℕ → ℕ
+head_of [] = 0
+head_of (n ∷ ns) = n
+
+abbrev tail_of : List ℕ → List ℕ
+tail_of [] = []
+tail_of (n ∷ ns) = ns
+
+abbrev name_of : List ℕ → Option (List ℕ)
+name_of [] = None
+name_of (n ∷ ns) = Some ns
+
+abbrev number_of : ℕ → Option ℕ
+number_of zero = None
+number_of (suc n) = Some n
+
+name_again : (name : Option (List ℕ)) → name_of (told_name name) ≡ name
+name_again None = refl
+name_again (Some name) = refl
+
+number_again : (number : Option ℕ) → number_of (told_number number) ≡ number
+number_again None = refl
+number_again (Some number) = refl
+
+-- sinks that are known by one name have one title, owe as much, and were created for as many bytes
+pub record AreAlike (odd_one odd_other : Bool) (one other : SinkTold) : Type 0 where
+  pub named : one.name ≡ other.name
+  pub owes : owed_by odd_one one.room ≡ owed_by odd_other other.room
+  pub sized : size_of one ≡ size_of other
+
+pub known_alike : {O : Type 0} (told : O → SinkTold) (one other : OutputSink O) → (output_told told one).name ≡ (output_told told other).name → AreAlike one.odd other.odd (told one.sink) (told other.sink)
+known_alike told one other e =
+    let names = ap rest_of e in
+    record {
+      named = sym (name_again (told one.sink).name) ∙ ap (λ ns. name_of (tail_of ns)) names ∙ name_again (told other.sink).name;
+      owes = ap first_of e;
+      sized = sym (number_again (size_of (told one.sink))) ∙ ap (λ ns. number_of (head_of ns)) names ∙ number_again (size_of (told other.sink));
+    }
+
+-- so many pieces more, as far as a count goes
+pub count_many : (n p : ℕ) → p + n < 2 ^ 64 → iterate counted n (Some p) ≡ Some (p + n)
+count_many zero p low = let same : p ≡ p + 0 = omega arith in ap Some same
+count_many (suc n) p low =
+    let next : min (p + 1) (2 ^ 64 - 1) ≡ suc p = omega (arith, low) in
+    let same : suc p + n ≡ p + suc n = omega arith in
+    ap (λ q. iterate counted n (Some q)) next ∙ count_many n (suc p) (omega (arith, low)) ∙ ap Some same
+
+-- pieces change nothing in whether their number is told
+pub any_still : (pieces : ℕ) (told : Option ℕ) → is_some (iterate counted pieces told) ≡ is_some told
+any_still zero told = refl
+any_still (suc pieces) told = any_still pieces (counted told) ∙ counted_any told
+
+-- a fresh sink tells its name and bytes, where its shelf tells its files or its closings
+module _ (name : List ℕ) (room : ℕ) (shelf : ShelfTold) (first : SinkTold) (fresh : IsFresh name room shelf first) where
+  both_told : TellsSinks shelf → IsSome first.name × IsSome first.held
+  both_told (inl files) = fresh.tells files
+  both_told (inr closed) = let all = fresh.tells_all closed in (all.name, all.held)
+
+  pub fresh_named : TellsSinks shelf → first.name ≡ Some name
+  fresh_named tells = is_told first.name name (both_told tells).0 fresh.named
+
+  pub fresh_empty : TellsSinks shelf → first.held ≡ Some []
+  fresh_empty tells = is_told first.held [] (both_told tells).1 fresh.empty
+
+  pub fresh_measured : ForSome shelf.closed (λ before. IsMeasured room 0 first)
+  fresh_measured before at =
+      let all = fresh.tells_all (ap is_some at) in
+      record {
+        size_is = (λ i. size_by (is_told first.held [] all.held fresh.empty i) (is_told first.room room all.room fresh.roomy i)) ∙ (let same : 0 + room ≡ room = omega arith in ap Some same);
+        pieces_are = is_told first.appends 0 all.appends fresh.unused;
+      }
+
+  pub fresh_told : ForSome shelf.closed (λ before. AreTold first)
+  fresh_told before at = let is = fresh_measured before at in record { size_told = ap is_some is.size_is; pieces_told = ap is_some is.pieces_are }

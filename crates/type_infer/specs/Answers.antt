@@ -1,0 +1,49 @@
+-- What is answered of a def.
+use Rattle.std.specs.Prelude.{◌≡◌, ℕ, List, ◌∷◌, map, length, Option, Some, None}
+use Rattle.script_grammar.specs.View.{view_def}
+use Rattle.script_grammar.specs.declared.tree.Def.{Def}
+use Rattle.type_terms.specs.Agrees.{Follows}
+use Rattle.type_terms.specs.Ground.{Assignment}
+use Rattle.type_terms.specs.Table.{Solves, Table}
+use Rattle.typing_rules.specs.Scripts.{Targets, def_token, params_of}
+use Rattle.general_types.specs.Holding.{HeldVariables}
+use Rattle.general_types.specs.Schemes.{scheme_of}
+use Rattle.name_scope.specs.Seen.{seen_parameter}
+use Rattle.type_steps.specs.Environment.{Known, TextUse, function}
+use Rattle.expression_types.specs.Seen.{text_use}
+use Rattle.expression_types.specs.declared.environment.KnownDef.{KnownDef}
+use Rattle.expression_types.specs.declared.environment.Names.{Names}
+use Rattle.expression_types.specs.Order.{Said, said_at}
+use Rattle.type_steps.specs.Counts.{scheme_count, text_count}
+use Rattle.type_steps.specs.Defs.{HasNoTyping, HoldsBefore, IsTypingOf, KeepsTypings}
+
+-- the uses in the text of a def
+abbrev pub text_of : KnownDef → List TextUse
+text_of d = map text_use d.uses.items
+
+-- the token of a use, what it means, and how many kinds it has
+abbrev pub said_in : TextUse → Said
+said_in u = (u.at, Some u.target, Some (length u.kinds))
+
+-- the uses are those of the names at these tokens, in order
+abbrev pub AreSaidAs : Names → List ℕ → List TextUse → Type 0
+AreSaidAs ns ts us = map said_in us ≡ map (said_at ns) ts
+
+-- From s to s' a def was typed: its general type and the uses in its text give its typings, and no typing of what stands before it is lost but where the def has none. The types of the values hold the variables h now.
+pub record IsTypedDef (s s' : Table) (targets : Targets) (before : List Known) (d : Def) (h : HeldVariables) (t : KnownDef) : Type 0 where
+  pub def : t.def.now ≡ d
+  pub at : t.at ≡ def_token (view_def d)
+  pub params : map seen_parameter t.params.items ≡ params_of (view_def d)
+  pub follows : Follows s s'
+  pub complete : KeepsTypings s s' targets before (view_def d)
+  pub typing : IsTypingOf s' targets before (view_def d) (scheme_of t.general) (text_of t)
+  pub held : HoldsBefore s' (function (view_def d) (text_of t) ∷ before) h
+
+-- There is a solution, and the open kinds of the text have the numbers from 0 in the order of first mention and are as many as the general type has.
+pub record IsNumberedDef (s : Table) (d : KnownDef) : Type 0 where
+  pub some : (a : Assignment) × Solves a s
+  pub numbered : text_count (text_of d) ≡ Some (scheme_count (scheme_of d.general))
+
+abbrev pub IsDefTyped : Table → Table → Targets → List Known → Def → HeldVariables → Option KnownDef → Type 0
+IsDefTyped s s' targets before d h None = HasNoTyping s targets before (view_def d)
+IsDefTyped s s' targets before d h (Some t) = IsTypedDef s s' targets before d h t

@@ -1,0 +1,100 @@
+// The uses in the text of a def, from the kinds that its general type tells one after another.
+ghost use Rattle.std.specs.Prelude.{◌≡◌, ◌++◌, map, IfOk, OnOk};
+ghost use Rattle.type_terms.specs.Term.{term_of, variable};
+ghost use Rattle.expression_types.specs.Seen.{found, founds, pending, text_use};
+ghost use Rattle.type_infer.specs.TextUses.{kinds_in, pending_of, text_uses, use_of};
+
+use expression_types::{FoundUse, TextKind, TextUse};
+use general_types::TextKind as KindInText;
+use liq_base::Memory;
+use std::alloc::Global;
+use std::cmp::min;
+use type_terms::{KindTerm, Ty};
+
+/// Variables as types.
+pub fn variables(alloc: Global, numbers: &[u64]) -> Result<Vec<Ty>, Memory>
+    ensures { IfOk result (λ ts. map term_of ts.items ≡ map variable numbers.now) }
+{
+    let mut types = Vec::new(alloc);
+    for number in numbers {
+        types.push(variable_type(*number))?;
+    }
+    Ok(types)
+}
+
+/// The kinds of uses, one after another.
+pub fn all_kinds(alloc: Global, uses: &[FoundUse]) -> Result<Vec<KindTerm>, Memory>
+    ensures { IfOk result (λ ks. ks.items ≡ kinds_in (founds uses.now)) }
+{
+    let mut kinds = Vec::new(alloc);
+    for found in uses {
+        push_kinds(&mut kinds, found)?;
+    }
+    Ok(kinds)
+}
+
+/// The uses of the text: each takes as many of these kinds as it has.
+pub fn text_of_uses(
+    alloc: Global,
+    uses: &[FoundUse],
+    text: &[KindInText],
+) -> Result<Vec<TextUse>, Memory>
+    ensures { IfOk result (λ us. map text_use us.items ≡ text_uses (founds uses.now) text.now) }
+{
+    let mut done = Vec::new(alloc);
+    let mut left = text;
+    for found in uses {
+        let (own, rest) = left.split_at(min(found.kinds.len(), left.len()));
+        done.push(use_with(alloc, found, own)?)?;
+        left = rest;
+    }
+    Ok(done)
+}
+
+/// A variable as a type.
+fn variable_type(number: u64) -> Ty
+    ensures { term_of result ≡ variable number }
+{
+    Ty::Var(number)
+}
+
+/// Adds the kinds of a use.
+fn push_kinds(kinds: &mut Vec<KindTerm>, found: &FoundUse) -> Result<(), Memory>
+    ensures { OnOk result (kinds.new.items ≡ kinds.old.items ++ found.now.kinds.items) }
+{
+    kinds.extend_from_slice(&found.kinds)?;
+    Ok(())
+}
+
+/// A kind of the text as the uses have it.
+fn kind_of(kind: KindInText) -> TextKind
+    ensures { pending result ≡ pending_of kind }
+{
+    match kind {
+        KindInText::Outer(term) => TextKind::Outer(term),
+        KindInText::Open(place) => TextKind::Open(place),
+    }
+}
+
+/// Kinds of the text as a use has them.
+fn kinds_of(alloc: Global, text: &[KindInText]) -> Result<Vec<TextKind>, Memory>
+    ensures { IfOk result (λ ks. map pending ks.items ≡ map pending_of text.now) }
+{
+    let mut kinds = Vec::new(alloc);
+    for kind in text {
+        kinds.push(kind_of(*kind))?;
+    }
+    Ok(kinds)
+}
+
+/// A use in the text, with these kinds.
+fn use_with(alloc: Global, one: &FoundUse, text: &[KindInText]) -> Result<TextUse, Memory>
+    ensures { IfOk result (λ u. text_use u ≡ use_of (found one.now) text.now) }
+{
+    let kinds = kinds_of(alloc, text)?;
+    Ok(TextUse {
+        at: one.at,
+        target: one.target,
+        kinds,
+    })
+}

@@ -1,0 +1,6 @@
+mod Walks
+mod Steady
+mod Choices
+mod One
+mod Daily
+mod Chains

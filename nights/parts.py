@@ -1,0 +1,90 @@
+"""WAV files of a night's parts, and their cue files: how long they may be, where one is cut, how they are joined."""
+import os
+import struct
+
+MOST = 4294967295      # what the header of a WAV file may say
+PIECE = 1 << 22        # bytes that are copied at a time
+
+
+class Wave:
+    """The form of a WAV file that liq wrote: 44 bytes, and then the samples."""
+
+    def __init__(self, path):
+        with open(path, "rb") as file:
+            head = file.read(44)
+        if len(head) < 44 or head[:4] != b"RIFF" or head[36:40] != b"data":
+            raise OSError(0, "is no WAV file that liq wrote", path)
+        self.path, self.head, self.rate, self.block = path, head, *struct.unpack_from("<I4xH", head, 24)
+        self.frames = struct.unpack_from("<I", head, 40)[0] // self.block
+
+    @property
+    def size(self):
+        """The bytes of the samples."""
+        return self.frames * self.block
+
+
+def head_of(head, size):
+    """A header for so many bytes of samples."""
+    return head[:4] + struct.pack("<I", 36 + size + size % 2) + head[8:40] + struct.pack("<I", size)
+
+
+def cut(path, frames):
+    """Leaves so many instants of a file, and the cues before its end."""
+    wave = Wave(path)
+    size = frames * wave.block
+    with open(path, "r+b") as file:
+        file.truncate(44 + size)
+        file.write(head_of(wave.head, size))
+        file.seek(0, os.SEEK_END)
+        file.write(b"\0" * (size % 2))
+    write_cues(path + ".cue", [line for line in cues(path + ".cue") if line[0] < frames])
+
+
+def fits(sizes):
+    """Whether one WAV file holds so many bytes of samples."""
+    return sum(sizes) + 37 <= MOST
+
+
+def join(paths):
+    """Makes one WAV file of several, and one cue file: the first ones grow, and the others are removed."""
+    waves, lines, first = list(map(Wave, paths)), [], 0
+    for wave in waves:
+        lines += [(at + first, rest) for at, rest in cues(wave.path + ".cue")]
+        first += wave.frames
+    size = sum(wave.size for wave in waves)
+    with open(paths[0], "r+b") as file:
+        file.truncate(44 + waves[0].size)
+        file.seek(0, os.SEEK_END)
+        for wave in waves[1:]:
+            append(file, wave)
+            os.remove(wave.path)
+        file.write(b"\0" * (size % 2))
+        file.seek(0)
+        file.write(head_of(waves[0].head, size))
+    write_cues(paths[0] + ".cue", lines)
+    return paths[0]
+
+
+def append(file, wave):
+    """Writes the samples of a WAV file behind those that are there."""
+    with open(wave.path, "rb") as part:
+        part.seek(44)
+        left = wave.size
+        while left:
+            piece = part.read(min(PIECE, left))
+            if not piece:
+                raise OSError(0, "is shorter than its header says", wave.path)
+            file.write(piece)
+            left -= len(piece)
+
+
+def cues(path):
+    """The lines of a cue file as pairs of an instant and the rest."""
+    with open(path, "rb") as file:
+        lines = [line.partition(b" ") for line in file.read().split(b"\n")[:-1]]
+    return [(int(digits), blank + name) for digits, blank, name in lines]
+
+
+def write_cues(path, lines):
+    with open(path, "wb") as file:
+        file.write(b"".join(b"%d%b\n" % line for line in lines))

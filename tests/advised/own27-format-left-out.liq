@@ -1,0 +1,5 @@
+# help: `format` is missing (a format): the call is `output.file(format, name, s)`
+music = playlist("music.m3u")
+jingle = single("jingle.wav")
+radio = fallback([music, jingle])
+output.file("o.wav", radio)

@@ -1,0 +1,3 @@
+# help: times stand in braces: `{6h-..}`
+radio = switch([(6h-22h, single("a.wav")), ({true}, single("b.wav"))])
+output.file(%wav, "o.wav", radio)

@@ -1,0 +1,3 @@
+# help: a name has no `-`: write `my_radio`
+my-radio = single("a.wav")
+output.file(%wav, "o.wav", my-radio)

@@ -1,0 +1,3 @@
+# help: do you mean `single`?
+radio = Single("a.wav")
+output.file(%wav, "o.wav", radio)

@@ -1,0 +1,3 @@
+# help: do you mean `sequence`?
+radio = seqence([single("a.wav"), blank()])
+output.file(%wav, "o.wav", radio)

@@ -1,0 +1,3 @@
+# help: commas stand between items: write `,`
+radio = fallback([single("a.wav"); single("b.wav")])
+output.file(%wav, "o.wav", radio)

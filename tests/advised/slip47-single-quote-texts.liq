@@ -1,0 +1,3 @@
+# accepted
+radio = single('a.wav')
+output.file(%wav, "o.wav", radio)

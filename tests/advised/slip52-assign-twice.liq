@@ -1,0 +1,3 @@
+# help: a name is bound with `=`
+radio == single("a.wav")
+output.file(%wav, "o.wav", radio)

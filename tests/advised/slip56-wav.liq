@@ -1,0 +1,3 @@
+# help: write `%wav`, in small letters
+radio = single("a.wav")
+output.file(%WAV, "o.wav", radio)

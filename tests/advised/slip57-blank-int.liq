@@ -1,0 +1,3 @@
+# help: `duration` is a decimal: write `5.`
+radio = blank(duration=5)
+output.file(%wav, "o.wav", radio)

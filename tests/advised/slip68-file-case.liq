@@ -1,0 +1,3 @@
+# help: do you mean `a.wav`?
+radio = single("A.wav")
+output.file(%wav, "o.wav", radio)

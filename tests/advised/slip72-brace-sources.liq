@@ -1,0 +1,3 @@
+# help: a list stands in `[` and `]`
+radio = fallback({single("a.wav"), single("b.wav")})
+output.file(%wav, "o.wav", radio)

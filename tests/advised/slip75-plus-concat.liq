@@ -1,0 +1,3 @@
+# help: texts are not joined: write the whole text
+radio = single("a" + ".wav")
+output.file(%wav, "o.wav", radio)

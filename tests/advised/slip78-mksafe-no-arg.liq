@@ -1,0 +1,3 @@
+# help: `s` is missing (source): the call is `mksafe(s)`
+radio = mksafe()
+output.file(%wav, "o.wav", radio)

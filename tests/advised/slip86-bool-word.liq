@@ -1,0 +1,3 @@
+# help: write `false`, in small letters
+radio = fallback(track_sensitive=False, [single("a.wav")])
+output.file(%wav, "o.wav", radio)

@@ -1,0 +1,3 @@
+# help: do you mean `radio`?
+radio = single("a.wav")
+output.file(%wav, "o.wav", raadio)

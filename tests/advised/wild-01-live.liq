@@ -1,0 +1,7 @@
+# help: `output.icecast` and `%mp3` are no words of this language; in their place: `output.file(%wav, "NAME.wav", s)`, into a file, or into a named pipe from which another program sends it (examples, "Recipes")
+# 1: live show over a playlist (Liquidsoap 1.4)
+set("log.file.path","/var/log/radio.log")
+live = input.harbor("live", port=8005, password="hackme")
+music = playlist(mode="randomize", "/srv/music")
+radio = fallback(track_sensitive=false, [live, music, single("emergency.mp3")])
+output.icecast(%mp3(bitrate=128), host="localhost", port=8000, password="hackme", mount="radio", radio)

@@ -1,0 +1,70 @@
+"""A run of the program that is watched."""
+import selectors
+import signal
+import subprocess
+import sys
+
+from watching.progress import Writing
+
+PAUSE = 0.2            # seconds between two looks
+ENDING = (signal.SIGINT, signal.SIGTERM, signal.SIGHUP)
+
+
+class Run:
+    """A run: what it prints and says, and how it ended. Signals that end this process end the program, and are noted; one
+    that this process was told to ignore, as by nohup, stays ignored in both."""
+
+    def __init__(self, words, takes_output, seen=lambda writing: None, clear=lambda: None, **more):
+        self.said, self.printed, self.stopped, self.child = b"", b"", None, None
+        heard = [number for number in ENDING if signal.getsignal(number) != signal.SIG_IGN]
+        old = {number: signal.signal(number, self.stop) for number in heard}
+        try:
+            self.child = subprocess.Popen(words, stdin=None, stdout=subprocess.PIPE if takes_output else None, stderr=subprocess.PIPE,
+                                          restore_signals=False, preexec_fn=lambda: signal.signal(signal.SIGPIPE, signal.SIG_DFL), **more)
+            if self.stopped:       # it came before there was a program to send it to
+                self.child.send_signal(self.stopped)
+            self.writing = Writing(self.child.pid)
+            self.watch(takes_output, seen)
+            self.status = self.child.wait()
+            clear()
+            if self.status < 0:
+                self.writing.clear()
+        finally:
+            for number, handler in old.items():
+                signal.signal(number, handler)
+
+    def stop(self, number, _):
+        """Passes a signal on."""
+        self.stopped = number
+        if self.child:
+            self.child.send_signal(number)
+
+    def watch(self, takes_output, seen):
+        """Reads what the program says until it ends, and looks at its files meanwhile."""
+        with selectors.DefaultSelector() as streams:
+            streams.register(self.child.stderr, selectors.EVENT_READ, "said")
+            if takes_output:
+                streams.register(self.child.stdout, selectors.EVENT_READ, "printed")
+            while streams.get_map():
+                for key, _ in streams.select(PAUSE):
+                    data = key.fileobj.read1(1 << 16)
+                    if data:
+                        setattr(self, key.data, getattr(self, key.data) + data)
+                    else:
+                        streams.unregister(key.fileobj)
+                seen(self.writing.look())
+
+
+def signal_of(status):
+    """The status with which a shell ends for a status of a process."""
+    return status if status >= 0 else 128 - status
+
+
+def write_out(data):
+    """Writes bytes on standard output; whether that was possible."""
+    try:
+        sys.stdout.buffer.write(data)
+        sys.stdout.buffer.flush()
+        return True
+    except OSError:
+        return False
