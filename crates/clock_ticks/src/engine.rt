@@ -22,7 +22,7 @@ use crate::TickFault;
 use crate::clock_state::ClockState;
 use crate::cues::{CueMark, Cues, cues_of, whole_marks};
 use crate::outputs::{feeds_of, ports_of};
-use crate::parts::{most_children, own_roots, states_of, times_of};
+use crate::parts::{is_main, most_children, own_roots, states_of, times_of};
 use crate::run::run_tick;
 use clock_infer::{ClockMap, NodeClock};
 use clock_instants::{ClockNodes, Latest, Shape, StretchRoom};
@@ -31,7 +31,7 @@ use fixed_text::WeekSecond;
 use frame_core::{Library, Taps};
 use liq_base::{Memory, Sink};
 use nested_instants::ClockStates;
-use node_states::{Desk, WeekTime};
+use node_states::{Desk, NodeState, WeekTime};
 use plan_core::Plan;
 use std::alloc::Global;
 use std::marker::Model;
@@ -101,6 +101,7 @@ fn make_parts<'a>(
     ensures setting { IfOk result (λ parts. setting_of parts ≡ record { plan = shape.entry.plan.now; library = shape.entry.library.now; clocks = shape.entry.clocks.now; start = start.second; answers = λ buffer. [] }) }
     ensures clock { IfOk result (λ parts. parts.clock ≡ clock) }
     ensures stands { IfOk result (λ parts. EngineStands parts 0 (λ buffer. [])) }
+    ensures keeps { IfOk result (λ parts. parts.cues.keeping ≡ false) }
 {
     let states = states_of(alloc, &shape, clock)?;
     let silent = Part {
@@ -245,7 +246,7 @@ fn whole_gaps(port: &Port, stopped: Option<TickFault>) -> u64
 
 impl<'a, O: Sink> ClockEngine<'a, O> {
     /// An engine of a running main clock that made no tick: over a plan, its clocks, its
-    /// files, and one sink for each output of the clock, in sink order. Where memory is refused the sinks come back.
+    /// files, and one sink for each output of the clock, in sink order. It keeps no marks. Where memory is refused the sinks come back.
     pub fn new(
         alloc: Global,
         plan: &'a Plan,
@@ -264,6 +265,7 @@ impl<'a, O: Sink> ClockEngine<'a, O> {
         ensures clock { IfOk result (λ engine. engine.parts.clock ≡ clock) }
         ensures stands { IfOk result (λ engine. EngineStands engine.parts 0 (λ buffer. [])) }
         ensures outs { IfOk result (λ engine. engine.outs ≡ outs.items) }
+        ensures keeps { IfOk result (λ engine. engine.parts.cues.keeping ≡ false) }
         ensures back { IfErr result (λ refused. refused.0.items ≡ outs.items) }
     {
         let shape = Shape {
@@ -397,6 +399,19 @@ impl<'a, O> ClockEngine<'a, O> {
         ensures { result ≡ self.now.parts.ticks }
     {
         self.parts.ticks
+    }
+
+    /// How many cells the reader that is this node wants more at the next tick, where it is one of the main clock; nothing of
+    /// another node. Who asks may go by it, and is told by the answers of the takes whether it was so: no clause says it.
+    pub fn missing(&self, node: u32) -> Option<u64> {
+        let of = *self.parts.shape.clocks.get(node as usize)?;
+        if !is_main(of, self.parts.clock) {
+            return None;
+        }
+        match self.parts.state.clocks.states.get(node as usize)? {
+            NodeState::Read(state) => Some(state.missing()),
+            _ => None,
+        }
     }
 
     /// How many segments were made: an instant of the clock each, and behind it a stretch of instants that were made at once, as they

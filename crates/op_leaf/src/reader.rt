@@ -66,6 +66,18 @@ impl ReaderState {
         self.queue.len() < u64::from(wanted)
     }
 
+    /// How many cells more it wants.
+    pub fn missing(&self) -> u64
+        ensures { result ≡ missing self.now }
+    {
+        let wanted = if self.playing {
+            self.frame
+        } else {
+            self.prefill
+        };
+        u64::from(wanted).saturating_sub(self.queue.len())
+    }
+
     /// Holds the cells of a chunk too. It takes no memory: a chunk that is longer than a tick may be kept as it came.
     pub fn accept(&mut self, chunk: Chunk)
         requires { wants self.old ≡ true }
