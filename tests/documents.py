@@ -215,7 +215,7 @@ def rooms_of_architecture():
     """The rooms of the table of crates, each with its crates."""
     found = []
     for cells in map(cells_of, section(text_of("docs/architecture.md"), "Crates")):
-        names = re.findall(r"`(\w+)`", cells[1]) if len(cells) == 5 else []
+        names = re.findall(r"`(\w+)`", cells[1]) if len(cells) == 4 else []
         if names and cells[0]:
             found.append((cells[0], []))
         if names:

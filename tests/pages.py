@@ -148,8 +148,8 @@ def wrong_words(crates, cell):
 
 def crates_that_differ(_program):
     """In the table of crates each clause to read first stands at the function before it."""
-    rows = [cells for cells in map(cells_of, section(text_of("docs/architecture.md"), "Crates")) if len(cells) == 5]
-    named = [(re.findall(r"`(\w+)`", cells[1]), cells[4]) for cells in rows]
+    rows = [cells for cells in map(cells_of, section(text_of("docs/architecture.md"), "Crates")) if len(cells) == 4]
+    named = [(re.findall(r"`(\w+)`", cells[1]), cells[3]) for cells in rows]
     return [f"docs/architecture.md names {word} beside {crates[0]}"
             for crates, cell in named if crates for word in wrong_words(crates, cell)]
 
