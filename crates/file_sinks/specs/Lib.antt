@@ -1,3 +1,4 @@
 pub mod Reading
 pub mod Sinks
+pub mod Syncs
 pub mod Writing

@@ -1,17 +1,19 @@
-// The sink of a file, and what makes its bytes certain.
-ghost use Rattle.std.specs.Prelude.{◌≡◌, ◌≤◌, ◌+◌, ◌-◌, ◌^◌, ◌↔◌, ◌⊎◌, min, length, [], IsTrue, OnOk, OnErr, IfOk};
-ghost use Rattle.std.specs.Io.Buffered.{writer_buffer, writer_contents};
+// The sink of a file.
+ghost use Rattle.std.specs.Prelude.{◌≡◌, ◌≤◌, ◌+◌, ◌-◌, ◌^◌, ◌↔◌, min, length, [], IsOk, IsTrue, OnOk, OnErr, IfOk, IfErr};
+ghost use Rattle.std.specs.Option.{ForSome};
 ghost use Rattle.std.specs.Io.KnownBytes.{Appends, Keeps};
+ghost use Rattle.std.specs.IoError.{error_kind};
 ghost use Rattle.liq_base.specs.Counts.{Rose};
 ghost use Rattle.liq_base.specs.Pieces.{Took, TookPart};
 ghost use Rattle.liq_base.specs.Untold.{faults_alone};
-ghost use Rattle.file_sinks.specs.Sinks.{faults_of, kept_of, room_of, taken_of, tells_of};
+ghost use Rattle.file_sinks.specs.Sinks.{capacity_of, faults_of, kept_of, place_of, room_of, taken_of, tells_of, writer_of};
+ghost use Rattle.file_sinks.specs.Syncs.{MakesCertain};
 ghost use Rattle.file_sinks.specs.Writing.{AppendsPart};
 
+use crate::certain::Lasting;
 use crate::streams::OutSink;
 use liq_base::{Failed, Sink};
 use std::alloc::Global;
-use std::fs::OpenFile;
 use std::io;
 use std::io::{BufWriter, ErrorKind, Write};
 
@@ -40,13 +42,6 @@ pub enum Place {
     Beside(usize),
 }
 
-/// The sink of a file that got exactly its bytes, all of which the system has made certain. A file takes its place by
-/// such a value alone, and `FileSink::finish` alone makes one.
-#[derive(Drop)]
-pub struct Certain<W: Write + Drop> {
-    sink: FileSink<W>,
-}
-
 impl<W: Write + Drop> FileSink<W> {
     /// A sink that is to get `room` bytes, and keeps at most `kept` of them. An error is want of memory.
     pub fn new(
@@ -56,10 +51,15 @@ impl<W: Write + Drop> FileSink<W> {
         room: u64,
         kept: usize,
     ) -> io::Result<FileSink<W>>
+        ensures writer { IfOk result (λ sink. writer_of sink ≡ to) }
+        ensures place { IfOk result (λ sink. place_of sink ≡ place) }
+        ensures room { IfOk result (λ sink. room_of sink ≡ room) }
+        ensures capacity { IfOk result (λ sink. capacity_of sink ≡ kept) }
         ensures faults { IfOk result (λ sink. faults_of sink ≡ 0) }
         ensures empty { IfOk result (λ sink. taken_of sink ≡ 0) }
         ensures none_kept { IfOk result (λ sink. kept_of sink ≡ []) }
-        ensures room { IfOk result (λ sink. room_of sink ≡ room) }
+        ensures cause { IfErr result (λ error. error_kind error ≡ ErrorKind.OutOfMemory) }
+        ensures succeeds { kept ≡ 0 → IsOk result }
     {
         Ok(FileSink {
             to: OutSink::new(BufWriter::with_capacity(alloc, kept, to)?),
@@ -77,12 +77,14 @@ impl<W: Write + Drop> FileSink<W> {
     }
 
     /// Where its bytes stand.
-    pub fn place(&self) -> Place {
+    pub fn place(&self) -> Place
+        ensures { result ≡ place_of self.now }
+    {
         self.place
     }
 
     // Whether no piece failed, it got exactly the bytes that it is to get, and all of them were handed on.
-    fn is_whole(&self) -> bool
+    pub(crate) fn is_whole(&self) -> bool
         ensures { IsTrue result ↔ (faults_of self.now ≡ 0) × (taken_of self.now ≡ room_of self.now) × (kept_of self.now ≡ []) }
     {
         self.to.faults() == 0 && self.taken == self.room && self.to.keeps_nothing()
@@ -92,6 +94,7 @@ impl<W: Write + Drop> FileSink<W> {
     pub fn hand_on(&mut self) -> Result<(), Failed>
         ensures bytes { Keeps (tells_of W.contents self.old) (tells_of W.contents self.new) }
         ensures none_kept { OnOk result (kept_of self.new ≡ []) }
+        ensures place { place_of self.new ≡ place_of self.old }
         ensures counted { taken_of self.new ≡ taken_of self.old }
         ensures length { room_of self.new ≡ room_of self.old }
         ensures faults { faults_of self.old ≤ faults_of self.new }
@@ -99,47 +102,33 @@ impl<W: Write + Drop> FileSink<W> {
     {
         self.to.hand_on()
     }
-}
 
-impl<W: Write + OpenFile + Drop> FileSink<W> {
-    /// Ends the writing: hands on what is kept, and has the system make certain what the file got. A sink that is not
-    /// whole, or of which the system tells a fault, is given back as it is.
-    pub fn finish(self) -> Result<Certain<W>, FileSink<W>>
-        ensures faults { OnOk result (faults_of self ≡ 0) }
-        ensures length { OnOk result (taken_of self ≡ room_of self) }
+    // The writer, and where its bytes stand; what is kept is let go.
+    pub(crate) fn into_writer(self) -> (W, Place)
+        ensures writer { result.0 ≡ writer_of self }
+        ensures place { result.1 ≡ place_of self }
     {
-        let mut sink = self;
-        let is_handed = sink.hand_on().is_ok();
-        if is_handed && sink.is_whole() && is_certain(sink.to.writer().get_ref()) {
-            Ok(Certain { sink })
-        } else {
-            Err(sink)
-        }
+        let FileSink {
+            to,
+            room: _,
+            taken: _,
+            place,
+        } = self;
+        (to.into_writer().into_parts().0, place)
     }
 }
 
-impl<W: Write + Drop> Certain<W> {
-    /// Where its bytes stand.
-    pub fn place(&self) -> Place {
-        self.sink.place
+impl<W: Lasting + Drop> FileSink<W> {
+    // Has the system make certain what the writer got; what is kept is not among it.
+    pub(crate) fn make_certain(&mut self) -> bool
+        ensures bytes { Keeps (tells_of W.contents self.old) (tells_of W.contents self.new) }
+        ensures place { place_of self.new ≡ place_of self.old }
+        ensures faults { faults_of self.new ≡ faults_of self.old }
+        ensures kept { kept_of self.new ≡ kept_of self.old }
+        ensures synced { ForSome (W.answered (writer_of self.new)) (λ answer. IsTrue result ↔ MakesCertain answer) }
+    {
+        self.to.make_certain()
     }
-}
-
-/// Has the system make certain what was written to a file, or the names of a folder. Faults that came later than the
-/// writes are told here, as of a disk on the net whose share is used up. What knows no such call, as a pipe or a device,
-/// has told its faults by its writes.
-pub fn is_certain<F: OpenFile>(file: &F) -> bool {
-    match file.sync_all() {
-        Ok(()) => true,
-        Err(error) => is_syncless(error.kind()),
-    }
-}
-
-// Whether a refusal says that there is no such call for what is open.
-fn is_syncless(kind: ErrorKind) -> bool
-    ensures { IsTrue result ↔ (kind ≡ ErrorKind.InvalidInput) ⊎ (kind ≡ ErrorKind.Unsupported) }
-{
-    matches!(kind, ErrorKind::InvalidInput | ErrorKind::Unsupported)
 }
 
 impl<W: Write + Drop> Sink for FileSink<W> {

@@ -1,5 +1,6 @@
 // The rest of a reader.
-ghost use Rattle.std.specs.Prelude.{◌≡◌, ◌≢◌, ◌≤◌, ◌+◌, vec_len, Ok};
+ghost use Rattle.std.specs.Prelude.{◌≡◌, ◌≢◌, ◌<◌, ◌≤◌, ◌+◌, ◌↔◌, ◌⊎◌, length, vec_len, Ok, Err};
+ghost use Rattle.std.specs.Option.{ForSome};
 ghost use Rattle.file_sinks.specs.Reading.{Extends, ReadsWhole, Reads};
 
 use liq_base::{Fetched, ShelfFault};
@@ -19,6 +20,8 @@ pub fn read_rest<R: Read>(
     ensures extends { Extends into.old.items into.new.items }
     ensures fits { result ≡ Ok Fetched.Found → vec_len into.new ≤ vec_len into.old + most }
     ensures whole { result ≡ Ok Fetched.Found → ReadsWhole (R.remaining file.old) into.old.items into.new.items }
+    ensures too_large { result ≡ Ok Fetched.TooLarge → ForSome (R.remaining file.old) (λ bytes. most < length bytes) }
+    ensures there { result ≢ Ok Fetched.Missing }
 {
     let mut left = most;
     let mut chunk = [0_u8; CHUNK];
@@ -42,8 +45,8 @@ pub fn read_rest<R: Read>(
 
 /// What a failed opening says of a file: it is missing only where the system did not find it.
 pub fn unopened(kind: ErrorKind) -> Result<Fetched, ShelfFault>
-    ensures missing { result ≡ Ok Fetched.Missing → kind ≡ ErrorKind.NotFound }
-    ensures no_file { result ≢ Ok Fetched.Found }
+    ensures missing { result ≡ Ok Fetched.Missing ↔ kind ≡ ErrorKind.NotFound }
+    ensures failed { (result ≡ Ok Fetched.Missing) ⊎ (result ≡ Err ShelfFault.Failed) }
 {
     if kind == ErrorKind::NotFound {
         return Ok(Fetched::Missing);

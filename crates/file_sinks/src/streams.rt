@@ -1,12 +1,15 @@
 // A writer as a byte sink. It tells no bytes and no room left.
 ghost use Rattle.std.specs.Prelude.{◌≡◌, ◌≤◌, ◌↔◌, ℕ, [], IsTrue, OnOk, OnErr};
-ghost use Rattle.std.specs.Io.Buffered.{writer_buffer, writer_contents};
+ghost use Rattle.std.specs.Option.{ForSome};
+ghost use Rattle.std.specs.Io.Buffered.{writer_buffer, writer_contents, writer_inner};
 ghost use Rattle.std.specs.Io.KnownBytes.{Appends, Keeps};
 ghost use Rattle.liq_base.specs.Counts.{Rose};
 ghost use Rattle.liq_base.specs.Pieces.{Took, TookPart};
 ghost use Rattle.liq_base.specs.Untold.{faults_alone};
+ghost use Rattle.file_sinks.specs.Syncs.{MakesCertain};
 ghost use Rattle.file_sinks.specs.Writing.{AppendsPart};
 
+use crate::certain::{Lasting, make_certain};
 use liq_base::{Failed, Sink};
 use std::io::{BufWriter, ErrorKind, Write};
 
@@ -68,6 +71,18 @@ impl<W: Write + Drop> OutSink<BufWriter<W>> {
         }
         self.faults = self.faults.saturating_add(1);
         Err(Failed)
+    }
+}
+
+impl<W: Lasting + Drop> OutSink<BufWriter<W>> {
+    // Has the system make certain what the writer got; what is kept is not among it.
+    pub(crate) fn make_certain(&mut self) -> bool
+        ensures bytes { Keeps (writer_contents W.contents self.old.to) (writer_contents W.contents self.new.to) }
+        ensures kept { writer_buffer self.new.to ≡ writer_buffer self.old.to }
+        ensures faults { self.new.faults ≡ self.old.faults }
+        ensures synced { ForSome (W.answered (writer_inner self.new.to)) (λ answer. IsTrue result ↔ MakesCertain answer) }
+    {
+        make_certain(self.to.get_mut())
     }
 }
 

@@ -1,6 +1,7 @@
 // Where the outputs of a run are written, and how they get to their places.
-ghost use Rattle.std.specs.Prelude.{◌≡◌, OnOk, IfOk};
-ghost use Rattle.file_sinks.specs.Sinks.{faults_of, room_of, taken_of};
+ghost use Rattle.std.specs.Prelude.{◌≡◌, ◌+◌, length, OnOk, IfOk};
+ghost use Rattle.std.specs.Fs.{IsFile, file_type};
+ghost use Rattle.file_sinks.specs.Sinks.{capacity_of, faults_of, place_of, room_of, taken_of};
 
 use crate::names::{split_path, temporary_path};
 use crate::system::{
@@ -354,6 +355,9 @@ impl Places {
         ensures faults { IfOk result (λ out. faults_of out ≡ 0) }
         ensures empty { IfOk result (λ out. taken_of out ≡ 0) }
         ensures room { IfOk result (λ out. room_of out ≡ room) }
+        ensures place { IfOk result (λ out. place_of out ≡ Place.Beside (length self.old.beside.items)) }
+        ensures one_more { OnOk result (length self.new.beside.items ≡ length self.old.beside.items + 1) }
+        ensures keeps { IfOk result (λ out. capacity_of out ≡ 65536) }
     {
         let at = self.beside.len();
         let Made { temporary, file } = made;
@@ -391,6 +395,9 @@ impl Places {
         ensures faults { IfOk result (λ out. faults_of out ≡ 0) }
         ensures empty { IfOk result (λ out. taken_of out ≡ 0) }
         ensures room { IfOk result (λ out. room_of out ≡ room) }
+        ensures place { IfOk result (λ out. place_of out ≡ Place.Own) }
+        ensures keeps { IfOk result (λ out. IsFile (file_type found.now) → capacity_of out ≡ 65536) }
+        ensures keeps_nothing { IfOk result (λ out. (IsFile (file_type found.now) → ⊥) → capacity_of out ≡ 0) }
     {
         let file = FileId::of(found);
         if self.in_place.contains(&file) {

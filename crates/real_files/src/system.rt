@@ -3,7 +3,7 @@ ghost use Rattle.std.specs.Prelude.{◌≡◌, ◌/◌, ◌%◌};
 ghost use Rattle.std.specs.Int.Bits.{bit_and};
 ghost use Rattle.real_files.specs.Modes.{group_access, others_access};
 
-use file_sinks::is_certain;
+use file_sinks::make_certain;
 use liq_base::{Failed, ShelfFault};
 use std::fs::{File, Metadata, OpenOptions, Permissions};
 use std::io::ErrorKind;
@@ -148,10 +148,14 @@ impl Folder {
     }
 
     /// Has the system make its names certain.
-    pub fn sync(&self) -> Result<(), Failed> {
-        match &self.opened {
-            Some(opened) if !is_certain(opened) => Err(Failed),
-            _ => Ok(()),
+    pub fn sync(self) -> Result<(), Failed> {
+        let Some(mut opened) = self.opened else {
+            return Ok(());
+        };
+        if make_certain(&mut opened) {
+            Ok(())
+        } else {
+            Err(Failed)
         }
     }
 }

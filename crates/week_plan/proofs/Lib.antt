@@ -4,3 +4,5 @@ mod Choices
 mod One
 mod Daily
 mod Chains
+mod Steps
+mod Rounds

@@ -1,3 +1,4 @@
 pub mod Spans
 pub mod Cases
 pub mod Texts
+pub mod Listing

@@ -3,7 +3,7 @@ ghost use Rattle.std.specs.Prelude.{◌≡◌, ◌<◌, ◌≤◌, ◌&&◌, IfS
 ghost use Rattle.time_pred.specs.Predicates.{holds};
 ghost use Rattle.time_pred.specs.View.{view_pred};
 ghost use Rattle.week_plan.specs.Cases.{is_taken, may_choose};
-ghost use Rattle.week_plan.specs.Spans.{IsFor};
+ghost use Rattle.week_plan.specs.Spans.{AreStepsTo, IsFor};
 
 use crate::stretch::{WEEK, end_of};
 use fixed_text::WeekSecond;
@@ -35,6 +35,8 @@ pub fn first_chosen(preds: &[Pred], sure: &[bool], case: usize) -> Option<u32>
 pub fn steps_to_choice(preds: &[Pred], sure: &[bool], case: usize, most: u32) -> u32
     requires case { case < length preds.now }
     requires size { length sure.now ≡ length preds.now }
+    ensures most { result ≤ most }
+    ensures steps { AreStepsTo (may_choose (map view_pred preds.now) sure.now case) result most }
 {
     let mut at = 0;
     for step in 0..most {

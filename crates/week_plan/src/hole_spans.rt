@@ -1,9 +1,9 @@
 // When no case of a switch holds.
-ghost use Rattle.std.specs.Prelude.{◌≡◌, [], IfOk, OnOk, map, not};
+ghost use Rattle.std.specs.Prelude.{◌≡◌, ◌≤◌, [], IfOk, OnOk, map, not};
 ghost use Rattle.std.specs.List.{list_any};
 ghost use Rattle.time_pred.specs.Predicates.{holds};
 ghost use Rattle.time_pred.specs.View.{view_pred};
-ghost use Rattle.week_plan.specs.Spans.{AreHoles, AreSpansOf, with_span};
+ghost use Rattle.week_plan.specs.Spans.{AreHoles, AreSpansOf, AreSteps, some_case_holds, with_span};
 
 use crate::Span;
 use crate::stretch::{WEEK, stretch_from};
@@ -22,7 +22,10 @@ pub fn holes(alloc: Global, preds: &[Pred]) -> Result<Vec<Span>, Memory>
 
 /// In how many steps `holes` comes to its answer, at most `most`: one for each stretch of the week in which no
 /// predicate changes.
-pub fn steps_to_holes(preds: &[Pred], most: u32) -> u32 {
+pub fn steps_to_holes(preds: &[Pred], most: u32) -> u32
+    ensures most { result ≤ most }
+    ensures steps { AreSteps (some_case_holds (map view_pred preds.now)) result most }
+{
     let mut at = 0;
     for step in 0..most {
         if at >= WEEK {

@@ -16,3 +16,4 @@ pub use days::is_daily;
 pub use hole_spans::{holes, steps_to_holes};
 pub use listing::push_when;
 pub use span::Span;
+pub use words::push_plain;

@@ -1,4 +1,7 @@
 // The holes of a switch as one text.
+ghost use Rattle.std.specs.Prelude.{◌≡◌, ◌<◌, ◌≤◌, ◌++◌, OnOk, IfOk, length};
+ghost use Rattle.week_plan.specs.Listing.{comma, end_of_round, every_text, goes_round, is_whole, joined, more_text, round_before, round_text, rounds_before, rounds_text, when_text};
+
 use crate::Span;
 use crate::stretch::WEEK;
 use crate::words::{push_plain, push_span_text};
@@ -25,12 +28,37 @@ pub fn push_when(
     into: &mut Vec<u8>,
     spans: &[Span],
     daily: bool,
-) -> Result<(), Memory> {
+) -> Result<(), Memory>
+    ensures { OnOk result (into.new.items ≡ into.old.items ++ when_text daily spans.now) }
+{
     if is_whole(spans) {
         return push_plain(into, b"at any time");
     }
-    let rounds = rounds(alloc, spans, if daily { DAY } else { WEEK })?;
+    let rounds = rounds(alloc, spans, end_of_round(daily))?;
     push_rounds(into, &rounds, daily)?;
+    push_every(into, daily)?;
+    Ok(())
+}
+
+fn is_whole(spans: &[Span]) -> bool
+    ensures { result ≡ is_whole spans.now }
+{
+    match spans.first() {
+        Some(span) => span.from == 0 && span.to >= WEEK,
+        None => false,
+    }
+}
+
+fn end_of_round(daily: bool) -> u32
+    ensures is { result ≡ end_of_round daily }
+    ensures some { 0 < result }
+{
+    if daily { DAY } else { WEEK }
+}
+
+fn push_every(into: &mut Vec<u8>, daily: bool) -> Result<(), Memory>
+    ensures { OnOk result (into.new.items ≡ into.old.items ++ every_text daily) }
+{
     if daily {
         push_plain(into, b", every day")
     } else {
@@ -38,69 +66,101 @@ pub fn push_when(
     }
 }
 
-fn is_whole(spans: &[Span]) -> bool {
-    match spans.first() {
-        Some(span) => span.from == 0 && span.to >= WEEK,
-        None => false,
-    }
-}
-
 // The spans before an end, a day's or the week's, where the last one goes on as the first one.
-fn rounds(alloc: Global, spans: &[Span], end: u32) -> Result<Vec<Round>, Memory> {
+fn rounds(alloc: Global, spans: &[Span], end: u32) -> Result<Vec<Round>, Memory>
+    requires { 0 < end }
+    ensures { IfOk result (λ rounds. rounds.items ≡ joined end (rounds_before end spans.now)) }
+{
     let mut rounds = Vec::new(alloc);
     push_before(&mut rounds, spans, end)?;
     join(&mut rounds, end);
     Ok(rounds)
 }
 
-fn push_before(rounds: &mut Vec<Round>, spans: &[Span], end: u32) -> Result<(), Memory> {
+fn push_before(rounds: &mut Vec<Round>, spans: &[Span], end: u32) -> Result<(), Memory>
+    ensures { OnOk result (rounds.new.items ≡ rounds.old.items ++ rounds_before end spans.now) }
+{
     for span in spans {
-        if span.from < end {
-            rounds.push(Round {
-                from: span.from,
-                last: span.to.min(end).saturating_sub(1),
-            })?;
-        }
+        push_round_before(rounds, span, end)?;
     }
     Ok(())
 }
 
-fn join(rounds: &mut Vec<Round>, end: u32) {
-    let count = rounds.len();
-    if count < 2 {
+fn push_round_before(rounds: &mut Vec<Round>, span: &Span, end: u32) -> Result<(), Memory>
+    ensures { OnOk result (rounds.new.items ≡ rounds.old.items ++ round_before end span.now) }
+{
+    if span.from < end {
+        rounds.push(Round {
+            from: span.from,
+            last: span.to.min(end).saturating_sub(1),
+        })?;
+    }
+    Ok(())
+}
+
+fn join(rounds: &mut Vec<Round>, end: u32)
+    requires { 0 < end }
+    ensures { rounds.new.items ≡ joined end rounds.old.items }
+{
+    if !goes_round(rounds, end) {
         return;
     }
-    let first = rounds[0];
-    let last = rounds[count - 1];
-    if first.from == 0 && last.last.saturating_add(1) == end {
-        rounds[count - 1] = Round {
-            from: last.from,
-            last: first.last,
-        };
-        let _joined = rounds.remove(0);
-    }
+    let at = rounds.len() - 1;
+    rounds[at] = Round {
+        from: rounds[at].from,
+        last: rounds[0].last,
+    };
+    let _joined = rounds.remove(0);
 }
 
-fn push_rounds(into: &mut Vec<u8>, rounds: &[Round], daily: bool) -> Result<(), Memory> {
+fn goes_round(rounds: &[Round], end: u32) -> bool
+    requires { 0 < end }
+    ensures is { result ≡ goes_round end rounds.now }
+{
+    let count = rounds.len();
+    count >= 2 && rounds[0].from == 0 && rounds[count - 1].last == end - 1
+}
+
+fn push_rounds(into: &mut Vec<u8>, rounds: &[Round], daily: bool) -> Result<(), Memory>
+    ensures { OnOk result (into.new.items ≡ into.old.items ++ rounds_text daily 0 rounds.now) }
+{
     for (k, round) in rounds.iter().enumerate() {
         if k == MOST {
-            return push_more(into, rounds.len() - k);
+            push_more(into, rounds.len() - k)?;
+            return Ok(());
         }
-        if k > 0 {
-            push_plain(into, b", ")?;
-        }
-        push_span_text(
-            into,
-            daily,
-            round.from.min(WEEK - 1),
-            round.last.min(WEEK - 1),
-        )?;
+        push_round(into, k, daily, round)?;
     }
     Ok(())
 }
 
-fn push_more(into: &mut Vec<u8>, count: usize) -> Result<(), Memory> {
+fn push_round(into: &mut Vec<u8>, k: usize, daily: bool, round: &Round) -> Result<(), Memory>
+    ensures { OnOk result (into.new.items ≡ into.old.items ++ (comma k ++ round_text daily round.now)) }
+{
+    push_comma(into, k)?;
+    push_span_text(
+        into,
+        daily,
+        round.from.min(WEEK - 1),
+        round.last.min(WEEK - 1),
+    )?;
+    Ok(())
+}
+
+fn push_comma(into: &mut Vec<u8>, k: usize) -> Result<(), Memory>
+    ensures { OnOk result (into.new.items ≡ into.old.items ++ comma k) }
+{
+    if k > 0 {
+        push_plain(into, b", ")?;
+    }
+    Ok(())
+}
+
+fn push_more(into: &mut Vec<u8>, count: usize) -> Result<(), Memory>
+    ensures { OnOk result (into.new.items ≡ into.old.items ++ more_text count) }
+{
     push_plain(into, b" and ")?;
     write_u64(into, count as u64)?;
-    push_plain(into, b" more")
+    push_plain(into, b" more")?;
+    Ok(())
 }

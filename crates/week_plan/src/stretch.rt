@@ -1,5 +1,5 @@
 // For how long some predicate of a list holds, or none.
-ghost use Rattle.std.specs.Prelude.{◌≡◌, ◌<◌, ◌≤◌, ◌+◌};
+ghost use Rattle.std.specs.Prelude.{◌≡◌, ◌<◌, ◌≤◌, ◌+◌, min};
 ghost use Rattle.std.specs.List.{list_any};
 ghost use Rattle.time_pred.specs.Predicates.{holds};
 ghost use Rattle.time_pred.specs.View.{view_pred};
@@ -47,6 +47,7 @@ pub fn stretch_from(preds: &[Pred], at: u32) -> Stretch
 pub fn end_of(at: u32, stays: u32) -> u32
     requires at { at < 604800 }
     requires some { 0 < stays }
+    ensures is { result ≡ min (at + stays) 604800 }
     ensures later { at < result }
     ensures within { result ≤ 604800 }
     ensures stays { result ≤ at + stays }
