@@ -137,13 +137,13 @@ module _ (asked : Asked) (first old new : ShelfTold) (plan : Plan) (library : So
   station = station_for asked plan library clocks way
 
   -- what is left is told from before
-  some_from : (device : Bool) (files : Files) (parts : List OutputPart) (now : Files) → HoldsSome device old.writes files parts now new.writes old.created new.created
-      → HoldsSome device first.writes files parts now new.writes first.created new.created
+  some_from : (device : Bool) (files : Files) (parts : List OutputPart) (now : Files) → HoldsSome device files parts now old new → HoldsSome device files parts now first new
   some_from device files parts now some = record {
     created = some.created;
     others = some.others;
     outputs_are = some.outputs_are;
     told = some.told ∙ ap (after_making (map (λ output. output.name) some.created)) read.created;
+    begun = subst (λ (closed : Option (List Closing)). HaveClosed 1 (map (λ output. output.name) some.created) closed new.closed) read.closed some.begun;
     first = some.first;
     grew = (let low = read.writes in let high = some.grew in omega (arith, low, high));
     risen = λ failed. rose_from first.writes old.writes some.first read.writes (some.risen failed);
@@ -163,7 +163,7 @@ module _ (asked : Asked) (first old new : ShelfTold) (plan : Plan) (library : So
     others = front.others;
     names_are = front.names_are;
     told = front.told ∙ ap (after_making front.made) read.created;
-    closed = subst (λ (closed : Option (List Closing)). HaveClosed front.made closed new.closed) read.closed front.closed;
+    closed = subst (λ (closed : Option (List Closing)). HaveClosed 0 front.made closed new.closed) read.closed front.closed;
   }
 
   broke : (device : Bool) (files : Files) → first.files ≡ Some files → WrotePart station device files old new → CreatedFront (names_of station) old new → BrokeOff station device files first new
@@ -172,8 +172,8 @@ module _ (asked : Asked) (first old new : ShelfTold) (plan : Plan) (library : So
       record {
         run = stopped.run;
         begun = stopped.begun;
-        parts = λ rest. some_and new.files (λ now. HoldsSome device old.writes files (parts_with station stopped.run stopped.begun rest) now new.writes old.created new.created)
-            (λ now. HoldsSome device first.writes files (parts_with station stopped.run stopped.begun rest) now new.writes first.created new.created)
+        parts = λ rest. some_and new.files (λ now. HoldsSome device files (parts_with station stopped.run stopped.begun rest) now old new)
+            (λ now. HoldsSome device files (parts_with station stopped.run stopped.begun rest) now first new)
             (some_from device files (parts_with station stopped.run stopped.begun rest)) (stopped.parts rest);
       },
       laws.begins (files_for asked files) station stopped.run fit.plan_is (one files t).holds.prepared.renderable early stopped.begun,

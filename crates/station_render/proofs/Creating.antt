@@ -182,7 +182,7 @@ module _ {O : Type 0} (told : O → SinkTold) where
       holds = part.took.held_grew ∙ ap (grown part.taken) (fresh_empty name room shelf first fresh tells);
       front = part.is_front;
     };
-    measured = λ before at. took_told part.taken first (told sink.sink) part.took (fresh_told name room shelf first fresh before at);
+    measured = λ before at. took_told part.taken first (told sink.sink) part.took 0 (fresh_told name room shelf first fresh before at);
     failed = (let rose = part.rose in omega (arith, rose));
   }
 
@@ -211,7 +211,7 @@ module _ {O : Type 0} (told : O → SinkTold) where
             most = record { rest = ticks_bytes world output.wide output.node (tried m); whole_is = refl };
             least = inl (record { rest = []; whole_is = sym (append-nil (header ++ ticks_bytes world output.wide output.node (made m)) ∙ ap (λ n. header ++ ticks_bytes world output.wide output.node n) (none m) ∙ append-nil header) });
           };
-          measured = λ before at. let is = ready.measured before at in record { size_told = ap is_some is.size_is; pieces_told = ap is_some is.pieces_are };
+          measured = λ before at. let is = ready.measured before at in record { size_told = ap is_some is.size_is; pieces = 1; pieces_are = is.pieces_are; enough = omega arith };
         }
 
     -- an output that was opened by the shelf as it is now

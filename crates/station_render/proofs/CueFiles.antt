@@ -129,15 +129,15 @@ module _ (sinks : List SinkPlan) (k : ℕ) (before between : Option (List (List 
         then_made (cue_names_in (take k sinks)) (cue_name said ∷ []) before between after so_far one ∙ ap (λ names. after_making names before) (sym cue_next)
 
 -- and for the closings
-module _ (sinks : List SinkPlan) (k : ℕ) (before between : Option (List Closing)) (so_far : HaveClosed (cue_names_in (take k sinks)) before between) where
-  pub closed_still : (buffer node : ℕ) → slice_get sinks k ≡ Some (Feed buffer node) → HaveClosed (cue_names_in (take (k + 1) sinks)) before between
+module _ (sinks : List SinkPlan) (k : ℕ) (before between : Option (List Closing)) (so_far : HaveClosed 0 (cue_names_in (take k sinks)) before between) where
+  pub closed_still : (buffer node : ℕ) → slice_get sinks k ≡ Some (Feed buffer node) → HaveClosed 0 (cue_names_in (take (k + 1) sinks)) before between
   closed_still buffer node at =
-      subst (λ names. HaveClosed names before between) (cue_names_are (take k sinks) ∙ ap (map cue_name) (sym (names_still sinks k buffer node at)) ∙ sym (cue_names_are (take (k + 1) sinks))) so_far
+      subst (λ names. HaveClosed 0 names before between) (cue_names_are (take k sinks) ∙ ap (map cue_name) (sym (names_still sinks k buffer node at)) ∙ sym (cue_names_are (take (k + 1) sinks))) so_far
 
   pub closed_next : (name said : List ℕ) (node : ℕ) (fallible wide : Bool) → slice_get sinks k ≡ Some (Output name node fallible wide) → said ≡ name → (after : Option (List Closing))
-      → HaveClosed (cue_name said ∷ []) between after → HaveClosed (cue_names_in (take (k + 1) sinks)) before after
+      → HaveClosed 0 (cue_name said ∷ []) between after → HaveClosed 0 (cue_names_in (take (k + 1) sinks)) before after
   closed_next name said node fallible wide at said_is after one =
-      subst (λ names. HaveClosed names before after)
+      subst (λ names. HaveClosed 0 names before after)
       (ap (λ n. cue_names_in (take k sinks) ++ cue_name n ∷ []) said_is ∙ ap (λ names. names ++ cue_name name ∷ []) (cue_names_are (take k sinks))
       ∙ sym (map-append cue_name (names_in (take k sinks)) (name ∷ [])) ∙ ap (map cue_name) (sym (names_next sinks k name node fallible wide at)) ∙ sym (cue_names_are (take (k + 1) sinks)))
       (then_closed (cue_names_in (take k sinks)) (cue_name said ∷ []) before between after so_far one)
@@ -145,7 +145,7 @@ module _ (sinks : List SinkPlan) (k : ℕ) (before between : Option (List Closin
 -- a front of them, by what a shelf tells
 pub cues_front : (sinks : List SinkPlan) (k : ℕ) (first between last : ShelfTold) → between.created ≡ after_making (cue_names_in (take k sinks)) first.created
     → (name said : List ℕ) (node : ℕ) (fallible wide : Bool) → slice_get sinks k ≡ Some (Output name node fallible wide) → said ≡ name
-    → HaveClosed (cue_names_in (take k sinks)) first.closed between.closed → CreatedFront (cue_name said ∷ []) between last → CreatedFront (cue_names_in sinks) first last
+    → HaveClosed 0 (cue_names_in (take k sinks)) first.closed between.closed → CreatedFront (cue_name said ∷ []) between last → CreatedFront (cue_names_in sinks) first last
 cues_front sinks k first between last so_far name said node fallible wide at said_is closed front =
     let next = cue_next sinks k first.created between.created so_far name said node fallible wide at said_is last.created in
     let whole : cue_names_in sinks ≡ (cue_names_in (take k sinks) ++ cue_name said ∷ []) ++ cue_names_in (drop (k + 1) sinks) =

@@ -15,12 +15,12 @@ use Rattle.plan_core.specs.declared.sink.SinkPlan.TheVariants.{Output, Feed}
 use Rattle.frame_core.specs.Calls.{Answer}
 use Rattle.stream_meaning.specs.Instants.{Setting, answered}
 use Rattle.stations.specs.Creations.{HaveListed, after_making, closings_in, names_in}
-use Rattle.stations.specs.Outputs.{HoldsEnds, HoldsParts, HoldsSome, OutputPart, whole_of, with_outputs}
+use Rattle.stations.specs.Outputs.{HaveClosed, HoldsEnds, HoldsParts, HoldsSome, OutputPart, whole_of, with_outputs}
 use Rattle.stations.proofs.Parts.{ends_within}
 use Rattle.stations.specs.Renderings.{StoppedBehindTicks, StoppedInTicks}
 use Rattle.stations.specs.Stations.{Station, setting_of_run, setting_with}
 use Rattle.stations.specs.Streams.{body_size, ends_in, ends_of, file_bytes, output_bytes, outputs_in, parts_with, zeros_after}
-use Rattle.station_render.specs.Listed.{TellsSinks, WillList}
+use Rattle.station_render.specs.Listed.{TellsSinks, WillClose, WillList}
 use Rattle.station_render.specs.OutputSinks.{HaveRooms, HoldsBody, HoldsSoMuch, last_byte, owed_by}
 use Rattle.station_render.specs.Shelves.{OnlyCreates}
 use Rattle.station_render.specs.Sinks.{AreCreated, of_clock}
@@ -32,7 +32,7 @@ use Rattle.station_render.proofs.Creating.{created_as, created_mapped, ends_are,
 use Rattle.station_render.proofs.Lists.{within}
 use Rattle.station_render.proofs.Dealing.{zip_at, zip_size}
 use Rattle.station_render.proofs.Closing.{in_list}
-use Rattle.station_render.proofs.Listing.{will_list}
+use Rattle.station_render.proofs.Listing.{created_closed, will_list}
 
 -- what an output's sink owes is the last byte of its file
 owed_byte : (r : ℕ) (odd : Bool) (room : Option ℕ) → owed_by odd room ≡ 2 * r → r < 2 → replicate r 0 ≡ last_byte odd
@@ -137,9 +137,10 @@ module _ {O : Type 0} (told : O → SinkTold) (station : Station) (first old new
 
   -- some were created, and all of them closed
   pub some_written : (device : Bool) (ran : RanPart told first station order groups old.created) → (device ≡ true → (ran.parts.others ≡ []) ⊎ Rose first.writes old.writes ⊎ Rose old.writes new.writes) → new.created ≡ old.created
+      → ((ns : List (List ℕ)) → AreCreated (WillClose told old.closed) ns order groups → HaveClosed 1 ns old.closed new.closed)
       → ForSome old.files (λ files. (outputs : List OutputPart) → AreCreated (HoldsSoMuch told) outputs order groups → IsSomeAnd new.files (λ now. HoldsParts old.writes files outputs now new.writes))
       → ForSome first.files (λ files. StoppedInTicks station device files first new)
-  some_written device ran risen kept closed files at = record {
+  some_written device ran risen kept closes closed files at = record {
     run = ran.run;
     begun = ran.begun;
     parts = λ rest.
@@ -152,11 +153,12 @@ module _ {O : Type 0} (told : O → SinkTold) (station : Station) (first old new
         (λ output sink is. is.holds (inl (ap is_some at))) created order groups (ran.parts.parts rest) in
         let parts = closed files (same.files_kept ∙ at) (map (front_file world station.ticks made tried) created) (created_mapped (front_file world station.ticks made tried) (HoldsSoMuch told) created order groups are) in
         some_and new.files (λ now. HoldsParts old.writes files (map (front_file world station.ticks made tried) created) now new.writes)
-        (λ now. HoldsSome device first.writes files (parts_with station ran.run ran.begun rest) now new.writes first.created new.created)
+        (λ now. HoldsSome device files (parts_with station ran.run ran.begun rest) now first new)
         (λ now found. record {
           created = map (front_file world station.ticks made tried) created;
           others = map (front_file world station.ticks made tried) ran.parts.others;
           told = kept ∙ ran.parts.made_are ∙ ap (λ ns. after_making ns first.created) (fronts_named world station.ticks made tried created);
+          begun = subst (λ ns. HaveClosed 1 ns first.closed new.closed) (fronts_named world station.ticks made tried created) (created_closed told first old new order refl same.closed_kept ran.parts closes);
           outputs_are = fronts_are world station.ticks made tried station.plan.sinks ∙ ap (map (front_file world station.ticks made tried)) ran.parts.all ∙ map-append (front_file world station.ticks made tried) created ran.parts.others;
           first = old.writes;
           grew = same.writes_grew;

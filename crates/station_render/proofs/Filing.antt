@@ -12,7 +12,7 @@ use Rattle.station_render.specs.Listed.{AreTold}
 use Rattle.station_render.specs.Shelves.{TookAtOnce, WroteFiles, WroteUpto, one_file}
 use Rattle.station_render.proofs.Leaving.{one_part, part_none}
 use Rattle.station_render.proofs.Listing.{closed_as, listed_at_once}
-use Rattle.station_render.proofs.Measures.{fresh_empty, fresh_named, fresh_told, took_told}
+use Rattle.station_render.proofs.Measures.{fresh_empty, fresh_named, fresh_told, told_any, took_told}
 
 -- no file was wanted
 pub none_wanted : (shelf : ShelfTold) → WroteFiles shelf shelf [] []
@@ -58,7 +58,7 @@ record IsMoved (bytes : List ℕ) (first last : SinkTold) : Type 0 where
   held : List ℕ
   holds : first.held ≡ Some [] → last.held ≡ Some held
   front : IsPrefix held bytes
-  tells : AreTold first → AreTold last
+  tells : AreTold 0 first → AreTold 0 last
 
 part_moved : (bytes : List ℕ) (first last : SinkTold) → TookPart bytes first last → IsMoved bytes first last
 part_moved bytes first last part = record {
@@ -66,7 +66,7 @@ part_moved bytes first last part = record {
   held = part.taken;
   holds = λ empty. part.took.held_grew ∙ ap (grown part.taken) empty;
   front = part.is_front;
-  tells = took_told part.taken first last part.took;
+  tells = λ told. told_any 1 last (took_told part.taken first last part.took 0 told);
 }
 
 -- or all of them
@@ -76,14 +76,14 @@ whole_moved [] first last same = record {
   held = [];
   holds = λ empty. ap (λ (s : SinkTold). s.held) same ∙ empty;
   front = record { rest = []; whole_is = refl };
-  tells = λ told. subst AreTold (sym same) told;
+  tells = λ told. subst (AreTold 0) (sym same) told;
 }
 whole_moved (byte ∷ bytes) first last took = record {
   named = took.name_kept;
   held = byte ∷ bytes;
   holds = λ empty. took.held_grew ∙ ap (grown (byte ∷ bytes)) empty;
   front = record { rest = []; whole_is = sym (append-nil (byte ∷ bytes)) };
-  tells = took_told (byte ∷ bytes) first last took;
+  tells = λ told. told_any 1 last (took_told (byte ∷ bytes) first last took 0 told);
 }
 
 at_once_held : (bytes : List ℕ) (first last : SinkTold) → TookAtOnce bytes first last → first.held ≡ Some [] → last.held ≡ Some bytes
@@ -95,10 +95,10 @@ module _ (name bytes : List ℕ) (old made new : ShelfTold) (first last : SinkTo
   made_one : OnlyClosed last made new → new.created ≡ after_making (name ∷ []) old.created
   made_one closing = closing.created ∙ only.created ∙ one_more name old.created
 
-  closed_one : IsMoved bytes first last → OnlyClosed last made new → HaveClosed (name ∷ []) old.closed new.closed
+  closed_one : IsMoved bytes first last → OnlyClosed last made new → HaveClosed 0 (name ∷ []) old.closed new.closed
   closed_one moved closing =
-      subst (λ told. HaveClosed (name ∷ []) told new.closed) only.closed
-      (closed_as name last made.closed new.closed
+      subst (λ told. HaveClosed 0 (name ∷ []) told new.closed) only.closed
+      (closed_as 0 name last made.closed new.closed
       (λ told at. let there = sym only.closed ∙ at in
       (moved.named ∙ fresh_named name (length bytes) old first fresh (inr (ap is_some there)), moved.tells (fresh_told name (length bytes) old first fresh told there)))
       closing.closed)

@@ -16,7 +16,7 @@ use Rattle.stations.specs.Creations.{CreatedFront, HaveClosed, HaveListed, after
 use Rattle.stations.specs.Outputs.{OutputFile}
 use Rattle.stations.specs.Streams.{body_size, file_bytes, output_bytes, zeros_after}
 use Rattle.stations.proofs.Lengths.{file_long}
-use Rattle.stations.proofs.Making.{none_closed, none_listed, one_closed, one_listed, then_closed, then_listed}
+use Rattle.stations.proofs.Making.{closed_any, none_closed, none_listed, one_closed, one_listed, then_closed, then_listed}
 use Rattle.station_render.specs.Listed.{AreTold, EndsAs, IsMeasured, TellsSinks, WillClose, WillList}
 use Rattle.station_render.specs.OutputSinks.{HasEnded, MayHaveTaken, has_one, last_byte, owed_by, size_by, size_of}
 use Rattle.station_render.specs.Renders.{AreBegun, IsPart, IsWhole, Written, body_of, closing_of, debt_of, whole_size, written}
@@ -59,19 +59,19 @@ listed_as closing last before after ends lists =
     lists closing.name ends.named sized.bytes sized.holds sized.room sized.leaves closing.pieces ends.pieces_are ∙ ap (λ c. noted c before) whole
 
 -- that of a sink that tells all lists its name
-pub closed_as : (name : List ℕ) (last : SinkTold) (before after : Option (List Closing)) → ForSome before (λ told. (last.name ≡ Some name) × AreTold last) → Lists last before after → HaveClosed (name ∷ []) before after
-closed_as name last before after tells lists told at =
+pub closed_as : (least : ℕ) (name : List ℕ) (last : SinkTold) (before after : Option (List Closing)) → ForSome before (λ told. (last.name ≡ Some name) × AreTold least last) → Lists last before after
+    → HaveClosed least (name ∷ []) before after
+closed_as least name last before after tells lists told at =
     let is = tells told at in
     let size = there_is (size_of last) is.1.size_told in
     let sized = sized_by last.held last.room size.0 size.1 in
-    let pieces = there_is last.appends is.1.pieces_told in
-    one_closed (closing_told name sized.bytes sized.room pieces.0) before after (lists name is.0 sized.bytes sized.holds sized.room sized.leaves pieces.0 pieces.1) told at
+    one_closed (closing_told name sized.bytes sized.room is.1.pieces) before after is.1.enough (lists name is.0 sized.bytes sized.holds sized.room sized.leaves is.1.pieces is.1.pieces_are) told at
 
 -- the first sink was closed, and then the others
 pub closed_then : {O : Type 0} (told : O → SinkTold) (order rest : List ℕ) (clock : ℕ) (split : order ≡ clock ∷ rest) (old new : List (List (OutputSink O))) (sink : OutputSink O) (taken : WasTaken clock old sink new)
     (last : SinkTold) → MayHaveTaken (told sink.sink) last → (before between after : Option (List Closing)) → Lists last before between
-    → ((ns : List (List ℕ)) → AreCreated (WillClose told between) ns rest new → HaveClosed ns between after)
-    → (ns : List (List ℕ)) → AreCreated (WillClose told before) ns order old → HaveClosed ns before after
+    → ((ns : List (List ℕ)) → AreCreated (WillClose told between) ns rest new → HaveClosed 1 ns between after)
+    → (ns : List (List ℕ)) → AreCreated (WillClose told before) ns order old → HaveClosed 1 ns before after
 closed_then told order rest clock split old new sink taken last moved before between after lists others [] are said at = (let size = are.size in let long = ap length split in absurd (omega (arith, size, long)))
 closed_then told order rest clock split old new sink taken last moved before between after lists others (n ∷ ns) are said at =
     let So = WillClose told before in
@@ -80,7 +80,7 @@ closed_then told order rest clock split old new sink taken last moved before bet
     let left : AreCreated (WillClose told between) ns rest new =
     created_as So (WillClose told between) (λ y x is more there. is said at) ns rest new (others_so So clock rest old new sink taken n ns these) in
     then_closed (n ∷ []) ns before between after
-    (closed_as n last before between (λ more there. let was = first more there in (moved_named (told sink.sink) last moved ∙ was.0, moved_told (told sink.sink) last moved was.1)) lists)
+    (closed_as 1 n last before between (λ more there. let was = first more there in (moved_named (told sink.sink) last moved ∙ was.0, moved_told (told sink.sink) last moved was.1)) lists)
     (others ns left) said at
 
 -- no sink was there
@@ -89,8 +89,8 @@ closed_none So order groups none [] are = refl
 closed_none So order groups none (y ∷ ys) are = (let size = are.size in absurd (omega (arith, size, none)))
 
 pub names_none : {O : Type 0} (told : O → SinkTold) (order : List ℕ) (groups : List (List (OutputSink O))) → length order ≡ 0 → (before : Option (List Closing)) (ns : List (List ℕ))
-    → AreCreated (WillClose told before) ns order groups → HaveClosed ns before before
-names_none told order groups none before ns are = subst (λ xs. HaveClosed xs before before) (sym (closed_none (WillClose told before) order groups none ns are)) (none_closed before before refl)
+    → AreCreated (WillClose told before) ns order groups → HaveClosed 1 ns before before
+names_none told order groups none before ns are = subst (λ xs. HaveClosed 1 xs before before) (sym (closed_none (WillClose told before) order groups none ns are)) (none_closed before before refl)
 
 pub closings_none : {O : Type 0} (told : O → SinkTold) (order : List ℕ) (groups : List (List (OutputSink O))) → length order ≡ 0 → (before : Option (List Closing)) (closings : List Closing)
     → AreCreated (WillList told before) closings order groups → HaveListed closings before before
@@ -110,24 +110,29 @@ listed_then told order rest clock split old new sink taken last ended before bet
     created_as So (WillList told between) (λ y x is more there. is said at) closings rest new (others_so So clock rest old new sink taken closing closings these) in
     then_listed (closing ∷ []) closings before between after (one_listed closing before between (listed_as closing last before between first lists)) (others closings left) said at
 
--- the sinks that were made were closed
+-- the sinks that were made were closed, and had got a piece
+pub created_closed : {O : Type 0} {setting : Setting} {answers : (ℕ → List Answer) → ℕ → List Answer} {ticks : ℕ} {made tried : ℕ → ℕ} {order : List ℕ} {groups : List (List (OutputSink O))} {created_now : Option (List (List ℕ))}
+    (told : O → SinkTold) (first now last : ShelfTold) (order_now : List ℕ) → order_now ≡ order → now.closed ≡ first.closed → (begun : AreBegun told first setting answers ticks made tried order groups created_now)
+    → ((ns : List (List ℕ)) → AreCreated (WillClose told now.closed) ns order_now groups → HaveClosed 1 ns now.closed last.closed) → HaveClosed 1 (map (λ (output : Written). output.name) begun.created) first.closed last.closed
+created_closed {setting = setting} {answers = answers} {ticks = ticks} {made = made} {tried = tried} {order = order} {groups = groups} told first now last order_now order_is same begun closes =
+    let names : List (List ℕ) = map (λ (output : Written). output.name) begun.created in
+    subst (λ (z : Option (List Closing) × List ℕ). AreCreated (WillClose told z.0) names z.1 groups → HaveClosed 1 names z.0 last.closed) (λ i. (same i, order_is i)) (closes names)
+    (created_mapped (λ (output : Written). output.name) (WillClose told first.closed) begun.created order groups
+    (created_as (IsPart told first (answered setting (answers (λ buffer. []))) ticks made tried) (λ output sink. WillClose told first.closed output.name sink)
+    (λ output sink is before at. ((is.holds (inr (ap is_some at))).named, is.measured before at)) begun.created order groups (begun.parts (λ buffer. []))))
+
+-- they are the first ones
 pub front_closed : {O : Type 0} (told : O → SinkTold) (first now last : ShelfTold) (setting : Setting) (answers : (ℕ → List Answer) → ℕ → List Answer) (ticks : ℕ) (made tried : ℕ → ℕ) (order order_now : List ℕ) (groups : List (List (OutputSink O)))
     → order_now ≡ order → now.closed ≡ first.closed → last.created ≡ now.created → AreBegun told first setting answers ticks made tried order groups now.created
-    → ((ns : List (List ℕ)) → AreCreated (WillClose told now.closed) ns order_now groups → HaveClosed ns now.closed last.closed) → CreatedFront (names_in setting.plan.sinks) first last
+    → ((ns : List (List ℕ)) → AreCreated (WillClose told now.closed) ns order_now groups → HaveClosed 1 ns now.closed last.closed) → CreatedFront (names_in setting.plan.sinks) first last
 front_closed told first now last setting answers ticks made tried order order_now groups order_is same kept begun closes =
     let names : List (List ℕ) = map (λ (output : Written). output.name) begun.created in
-    let are : AreCreated (WillClose told first.closed) names order groups =
-    created_mapped (λ (output : Written). output.name) (WillClose told first.closed) begun.created order groups
-    (created_as (IsPart told first (answered setting (answers (λ buffer. []))) ticks made tried) (λ output sink. WillClose told first.closed output.name sink)
-    (λ output sink is before at. ((is.holds (inr (ap is_some at))).named, is.measured before at)) begun.created order groups (begun.parts (λ buffer. []))) in
-    let closed : HaveClosed names first.closed last.closed =
-    subst (λ (z : Option (List Closing) × List ℕ). AreCreated (WillClose told z.0) names z.1 groups → HaveClosed names z.0 last.closed) (λ i. (same i, order_is i)) (closes names) are in
     record {
       made = names;
       others = map (λ (output : Written). output.name) begun.others;
       names_are = names_written setting.plan.sinks ∙ ap (map (λ (output : Written). output.name)) begun.all ∙ map_both begun.created begun.others;
       told = kept ∙ begun.made_are;
-      closed = closed;
+      closed = closed_any 1 names first.closed last.closed (created_closed told first now last order_now order_is same begun closes);
     }
   where
     map_both : (xs ys : List Written) → map (λ (output : Written). output.name) (xs ++ ys) ≡ map (λ (output : Written). output.name) xs ++ map (λ (output : Written). output.name) ys

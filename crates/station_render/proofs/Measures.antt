@@ -24,25 +24,27 @@ size_kept taken (Some held) (Some left) fits =
 pub took_size : (taken : List ℕ) (old new : SinkTold) → HasRoom old.room (length taken) → Took taken old new → size_of new ≡ size_of old
 took_size taken old new fits took = (λ i. size_by (took.held_grew i) (took.room_fell i)) ∙ size_kept taken old.held old.room fits
 
--- one piece more, or none, is told where the number was
-pub counted_any : (appends : Option ℕ) → is_some (counted appends) ≡ is_some appends
-counted_any None = refl
-counted_any (Some n) = refl
-
+-- the size is told where it was
 size_any : (taken : List ℕ) (held : Option (List ℕ)) (left : Option ℕ) → is_some (size_by (grown taken held) (narrowed (length taken) left)) ≡ is_some (size_by held left)
 size_any taken None left = refl
 size_any taken (Some held) None = refl
 size_any taken (Some held) (Some left) = refl
 
-pub took_told : (taken : List ℕ) (old new : SinkTold) → Took taken old new → AreTold old → AreTold new
-took_told taken old new took tells = record {
+pub took_told : (taken : List ℕ) (old new : SinkTold) → Took taken old new → (least : ℕ) → AreTold least old → AreTold 1 new
+took_told taken old new took least tells = record {
   size_told = (λ i. is_some (size_by (took.held_grew i) (took.room_fell i))) ∙ size_any taken old.held old.room ∙ tells.size_told;
-  pieces_told = ap is_some took.once ∙ counted_any old.appends ∙ tells.pieces_told;
+  pieces = min (tells.pieces + 1) (2 ^ 64 - 1);
+  pieces_are = took.once ∙ ap counted tells.pieces_are;
+  enough = omega arith;
 }
 
-pub moved_told : (old new : SinkTold) → MayHaveTaken old new → AreTold old → AreTold new
-moved_told old new (inl same) tells = subst AreTold (sym same) tells
-moved_told old new (inr took) tells = took_told took.0 old new took.1 tells
+pub moved_told : (old new : SinkTold) → MayHaveTaken old new → AreTold 1 old → AreTold 1 new
+moved_told old new (inl same) tells = subst (AreTold 1) (sym same) tells
+moved_told old new (inr took) tells = took_told took.0 old new took.1 1 tells
+
+-- whatever the pieces are
+pub told_any : (least : ℕ) (sink : SinkTold) → AreTold least sink → AreTold 0 sink
+told_any least sink tells = record { size_told = tells.size_told; pieces = tells.pieces; pieces_are = tells.pieces_are; enough = omega arith }
 
 pub moved_named : (old new : SinkTold) → MayHaveTaken old new → new.name ≡ old.name
 moved_named old new (inl same) = ap (λ (s : SinkTold). s.name) same
@@ -110,10 +112,10 @@ count_many (suc n) p low =
     let same : suc p + n ≡ p + suc n = omega arith in
     ap (λ q. iterate counted n (Some q)) next ∙ count_many n (suc p) (omega (arith, low)) ∙ ap Some same
 
--- pieces change nothing in whether their number is told
-pub any_still : (pieces : ℕ) (told : Option ℕ) → is_some (iterate counted pieces told) ≡ is_some told
-any_still zero told = refl
-any_still (suc pieces) told = any_still pieces (counted told) ∙ counted_any told
+-- more pieces are some still
+pub some_still : (more pieces : ℕ) → 1 ≤ pieces → (now : ℕ) × (iterate counted more (Some pieces) ≡ Some now) × (1 ≤ now)
+some_still zero pieces some = (pieces, refl, some)
+some_still (suc more) pieces some = some_still more (min (pieces + 1) (2 ^ 64 - 1)) (omega (arith, some))
 
 -- a fresh sink tells its name and bytes, where its shelf tells its files or its closings
 module _ (name : List ℕ) (room : ℕ) (shelf : ShelfTold) (first : SinkTold) (fresh : IsFresh name room shelf first) where
@@ -135,5 +137,5 @@ module _ (name : List ℕ) (room : ℕ) (shelf : ShelfTold) (first : SinkTold) (
         pieces_are = is_told first.appends 0 all.appends fresh.unused;
       }
 
-  pub fresh_told : ForSome shelf.closed (λ before. AreTold first)
-  fresh_told before at = let is = fresh_measured before at in record { size_told = ap is_some is.size_is; pieces_told = ap is_some is.pieces_are }
+  pub fresh_told : ForSome shelf.closed (λ before. AreTold 0 first)
+  fresh_told before at = let is = fresh_measured before at in record { size_told = ap is_some is.size_is; pieces = 0; pieces_are = is.pieces_are; enough = omega arith }

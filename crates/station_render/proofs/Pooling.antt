@@ -1,5 +1,5 @@
 -- Engines that take sinks and give them back.
-use Rattle.std.proofs.Common.{◌≡◌, ◌<◌, ◌≤◌, ◌+◌, ◌∙◌, ◌++◌, ℕ, zero, suc, Bool, true, Some, List, [], ◌∷◌, length, get_or, set, slice_get, arith, ap, sym, subst, vec_len, add-one}
+use Rattle.std.proofs.Common.{◌≡◌, ◌<◌, ◌≤◌, ◌+◌, ◌∙◌, ◌++◌, ℕ, zero, suc, Bool, Some, List, [], ◌∷◌, length, get_or, set, slice_get, arith, ap, sym, subst, vec_len, add-one}
 use Rattle.std.specs.Prelude.{Vec}
 use Rattle.std.specs.declared.alloc.Global.{Global}
 use Rattle.std.proofs.lemmas.List.{map-append, length-append}
@@ -99,9 +99,9 @@ module _ {S : Type 0} where
     taking_at setting at here =
         subst (λ es. AreAt setting es) (sym is) (at_more setting engines engine at (subst (λ n. IsAt setting n engine) (sym count) here))
 
--- one more engine keeps its marks
+-- one more engine keeps its marks, or does not
 pub taking_keeping : {S : Type 0} (wanted : Bool) (engines more : List (ClockEngine S)) (engine : ClockEngine S) → more ≡ engines ++ engine ∷ [] → AreKeeping wanted engines
-    → (wanted ≡ true → engine.parts.cues.keeping ≡ true) → AreKeeping wanted more
-taking_keeping {S = S} wanted engines more engine items keep one is m other at =
-    each_more (λ (n : ℕ) (e : ClockEngine S). e.parts.cues.keeping ≡ true) engines engine (λ k e found. keep is k e found) (one is) m other
+    → engine.parts.cues.keeping ≡ wanted → AreKeeping wanted more
+taking_keeping {S = S} wanted engines more engine items keep one m other at =
+    each_more (λ (n : ℕ) (e : ClockEngine S). e.parts.cues.keeping ≡ wanted) engines engine keep one m other
     (ap (λ es. slice_get es m) (sym items) ∙ at)

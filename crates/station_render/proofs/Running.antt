@@ -1,5 +1,5 @@
 -- What a run leaves in the sinks of a clock, place by place.
-use Rattle.std.proofs.Common.{◌≡◌, ◌<◌, ◌+◌, ◌*◌, ◌^◌, ◌∙◌, ◌++◌, ℕ, zero, suc, Bool, true, false, List, [], ◌∷◌, length, map, slice_get, get_or, nat_eq, arith, refl, ap, sym, subst, append_assoc, inl, if◌then◌else◌}
+use Rattle.std.proofs.Common.{◌≡◌, ◌≤◌, ◌<◌, ◌+◌, ◌*◌, ◌^◌, ◌∙◌, ◌++◌, ℕ, zero, suc, Bool, true, false, List, [], ◌∷◌, length, map, slice_get, get_or, nat_eq, arith, refl, ap, sym, subst, append_assoc, inl, if◌then◌else◌}
 use Rattle.std.specs.Prelude.{Some, is_some}
 use Rattle.std.specs.Fn.{iterate}
 use Rattle.liq_base.specs.Counts.{counted}
@@ -34,7 +34,7 @@ use Rattle.station_render.specs.Renders.{IsPart, IsReady, IsWhole, Written, main
 use Rattle.station_render.proofs.Lists.{got_is, mapped, many_mapped, unmapped, within}
 use Rattle.station_render.proofs.Dealing.{zip_at, zip_from, zip_size}
 use Rattle.station_render.proofs.Closing.{in_list}
-use Rattle.station_render.proofs.Measures.{any_still, count_many, known_alike}
+use Rattle.station_render.proofs.Measures.{count_many, known_alike, some_still}
 use Rattle.station_render.specs.OutputSinks.{output_told}
 use Rattle.station_render.specs.declared.output_sink.OutputSink.{OutputSink}
 
@@ -188,14 +188,14 @@ module _ {S : Type 0} (told : S → SinkTold) (ticks : ℕ) (old new : ClockEngi
   -- after a part of them
   pub part_at : (worlds : (ℕ → List Answer) → Setting) (least most : ℕ) → HasRunPart told worlds least most old new → (rest : ℕ → List Answer) (j : ℕ) (output : Written) (before after : S)
       → slice_get mine j ≡ Some output → slice_get old.outs j ≡ Some before → slice_get new.outs j ≡ Some after
-      → ((told after).name ≡ (told before).name) × (is_some (told after).appends ≡ is_some (told before).appends)
+      → ((told after).name ≡ (told before).name) × ((pieces : ℕ) → (told before).appends ≡ Some pieces → 1 ≤ pieces → (now : ℕ) × ((told after).appends ≡ Some now) × (1 ≤ now))
       × ((bytes : List ℕ) × IsPrefix (ticks_bytes (worlds rest) output.wide output.node least) bytes × IsPrefix bytes (ticks_bytes (worlds rest) output.wide output.node most) × ((told after).held ≡ grown bytes (told before).held))
   part_at worlds least most run rest j output before after at was is =
       let both = held_both run.setting run.clock j output before after at was is in
       let part = run.part rest both.0 output.node both.1 in
       let got = run.pieces.each j before after was is in (
         got.3.name_kept,
-        ap is_some got.3.appends_are ∙ any_still got.0 (told before).appends,
+        (λ pieces are some. let now = some_still got.0 pieces some in (now.0, got.3.appends_are ∙ ap (iterate counted got.0) are ∙ now.1, now.2)),
         (
           part.0,
           subst (λ w. IsPrefix (ticks_bytes (worlds rest) w output.node least) part.0) both.2 part.1,
@@ -355,18 +355,19 @@ module _ {O : Type 0} (told : O → SinkTold) (shelf : ShelfTold) (setting : Set
           };
           measured = λ closings here.
               let measured = was.measured closings here in
-              record { size_told = ap is_some same.sized ∙ ap is_some measured.size_is; pieces_told = did.1 ∙ ap is_some measured.pieces_are };
+              let now = did.1 1 measured.pieces_are (omega arith) in
+              record { size_told = ap is_some same.sized ∙ ap is_some measured.size_is; pieces = now.0; pieces_are = now.1; enough = now.2 };
         }));
   }
 
--- and keep their marks, if they did
+-- and keep their marks as they did
 pub keep_after : {S : Type 0} (told : S → SinkTold) (world : Setting) (ticks : ℕ) (wanted : Bool) (old new : List (ClockEngine S)) → AreKeeping wanted old
     → HaveRunTicks told world ticks old new → AreKeeping wanted new
-keep_after told world ticks wanted old new keep run is m after there =
+keep_after told world ticks wanted old new keep run m after there =
     let low = within new m after there in
     let size = run.size in
     let before = in_list old m (omega (arith, low, size)) in
-    (run.each m before.0 after before.1 there).keeping ∙ keep is m before.0 before.1
+    (run.each m before.0 after before.1 there).keeping ∙ keep m before.0 before.1
 
 -- after a run the engines stand for its ticks
 pub stand_after : {S : Type 0} (told : S → SinkTold) (setting world : Setting) (ticks : ℕ) (old new : List (ClockEngine S)) → AreAt setting old

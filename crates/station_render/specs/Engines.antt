@@ -1,5 +1,5 @@
 -- The engines of all clocks, which hold the sinks of the outputs.
-use Rattle.std.specs.Prelude.{◌≡◌, ◌<◌, ℕ, Bool, true, List, [], ◌∷◌, Some, map, slice_get}
+use Rattle.std.specs.Prelude.{◌≡◌, ◌<◌, ℕ, Bool, List, [], ◌∷◌, Some, map, slice_get}
 use Rattle.stream_meaning.specs.Instants.{Setting, with_rest}
 use Rattle.clock_ticks.specs.declared.engine.ClockEngine.{ClockEngine}
 use Rattle.clock_ticks.specs.Engines.{EngineStands, setting_of}
@@ -43,6 +43,6 @@ pub record IsPast {S : Type 0} (setting world : Setting) (ticks m : ℕ) (engine
 pub record ArePast {S : Type 0} (setting world : Setting) (ticks : ℕ) (engines : List (ClockEngine S)) : Type 0 where
   pub each : (m : ℕ) (engine : ClockEngine S) → slice_get engines m ≡ Some engine → IsPast setting world ticks m engine
 
--- the engines keep their marks, where these are wanted
+-- the engines keep their marks exactly where these are wanted
 abbrev pub AreKeeping : {S : Type 0} → (wanted : Bool) → List (ClockEngine S) → Type 0
-AreKeeping wanted engines = wanted ≡ true → (m : ℕ) (engine : ClockEngine _) → slice_get engines m ≡ Some engine → engine.parts.cues.keeping ≡ true
+AreKeeping wanted engines = (m : ℕ) (engine : ClockEngine _) → slice_get engines m ≡ Some engine → engine.parts.cues.keeping ≡ wanted

@@ -1,5 +1,5 @@
 -- What a shelf lists of the sinks that it made and closed, and the sinks that stand for it.
-use Rattle.std.specs.Prelude.{◌≡◌, ◌⊎◌, ℕ, suc, ◌+◌, ◌%◌, List, Option, Some, IsSome, length}
+use Rattle.std.specs.Prelude.{◌≡◌, ◌⊎◌, ◌≤◌, ℕ, suc, ◌+◌, ◌%◌, List, Option, Some, IsSome, length}
 use Rattle.std.specs.Option.{ForSome}
 use Rattle.liq_base.specs.Pieces.{SinkTold}
 use Rattle.liq_base.specs.Shelves.{Closing, ShelfTold}
@@ -17,14 +17,16 @@ pub record IsMeasured (size pieces : ℕ) (sink : SinkTold) : Type 0 where
   pub size_is : size_of sink ≡ Some size
   pub pieces_are : sink.appends ≡ Some pieces
 
--- whatever they are
-pub record AreTold (sink : SinkTold) : Type 0 where
+-- whatever the size is, and so many pieces at least
+pub record AreTold (least : ℕ) (sink : SinkTold) : Type 0 where
   pub size_told : IsSome (size_of sink)
-  pub pieces_told : IsSome sink.appends
+  pub pieces : ℕ
+  pub pieces_are : sink.appends ≡ Some pieces
+  pub enough : least ≤ pieces
 
--- where a shelf tells of its closings, a sink tells what that of its own will list, and that is of this name
+-- where a shelf tells of its closings, a sink tells what that of its own will list, and that is of this name and of a piece at least
 abbrev pub WillClose : {O : Type 0} → (told : O → SinkTold) → (closed : Option (List Closing)) → List ℕ → OutputSink O → Type 0
-WillClose told closed name output = ForSome closed (λ before. ((told output.sink).name ≡ Some name) × AreTold (told output.sink))
+WillClose told closed name output = ForSome closed (λ before. ((told output.sink).name ≡ Some name) × AreTold 1 (told output.sink))
 
 -- once a sink got the byte that it owes, its closing lists this
 pub record EndsAs (closing : Closing) (last : SinkTold) : Type 0 where

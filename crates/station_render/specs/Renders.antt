@@ -102,7 +102,7 @@ pub record IsWhole {O : Type 0} (told : O → SinkTold) (shelf : ShelfTold) (set
 -- or those of the ticks that its clock made, and a front of those of the ones that it tried
 pub record IsPart {O : Type 0} (told : O → SinkTold) (shelf : ShelfTold) (setting : Setting) (ticks : ℕ) (made tried : ℕ → ℕ) (output : Written) (sink : OutputSink O) : Type 0 where
   pub holds : TellsSinks shelf → HoldsFront (front_file setting ticks made tried output) (told sink.sink)
-  pub measured : ForSome shelf.closed (λ before. AreTold (told sink.sink))
+  pub measured : ForSome shelf.closed (λ before. AreTold 1 (told sink.sink))
 
 -- the first outputs of a plan were created, and each sink holds its bytes of the ticks that its clock made in a run, and a front of those of
 -- the ones that it tried, whatever answers follow: `answers` are then all those of the run; or it failed. The shelf tells of these sinks
@@ -125,7 +125,7 @@ pub record IsOpened {O : Type 0} (told : O → SinkTold) (shelf : ShelfTold) (na
 -- or a first part of these bytes alone, and it failed
 pub record IsCutShort {O : Type 0} (told : O → SinkTold) (shelf : ShelfTold) (name bytes : List ℕ) (sink : OutputSink O) : Type 0 where
   pub holds : TellsSinks shelf → HoldsPart (record { name = name; bytes = bytes }) (told sink.sink)
-  pub measured : ForSome shelf.closed (λ before. AreTold (told sink.sink))
+  pub measured : ForSome shelf.closed (λ before. AreTold 1 (told sink.sink))
   pub failed : 0 < (told sink.sink).faults
 
 -- such a sink of this clock and name was created

@@ -19,7 +19,7 @@ one_file name bytes = record { name = name; bytes = bytes } ∷ []
 pub record WroteFiles (old new : ShelfTold) (names : List (List ℕ)) (outputs : List OutputFile) : Type 0 where
   pub written : ForSome old.files (λ all. new.files ≡ Some (with_outputs all outputs))
   pub made : new.created ≡ after_making names old.created
-  pub closes : HaveClosed names old.closed new.closed
+  pub closes : HaveClosed 0 names old.closed new.closed
   pub listed : HaveListed (map closing_at_once outputs) old.closed new.closed
 
 -- whatever was answered, the first of them were, and of the next one a part; no count of faults fell

@@ -27,7 +27,7 @@ pub record HaveTicked {S : Type 0} (told : S → SinkTold) (job : Job) (way : Wa
   pub some : RanSome told (setting_by job) job.ready.now.clocks.running job.ticks way old new run.end
 
 -- The outputs of a job were opened by a shelf that told this: the engines hold the sinks, each of which got its header as its one piece, and
--- may begin; they keep their marks, where these are wanted.
+-- may begin; they keep their marks exactly where these are wanted.
 pub record HaveOpened {O : Type 0} (told : O → SinkTold) (shelf : ShelfTold) (job : Job)
     (order : List ℕ) (groups : List (List (OutputSink O))) (engines : List (ClockEngine (OutputSink O))) : Type 0 where
   pub opened : AreOpened told shelf (setting_by job) job.ready.now.clocks job.ticks order engines groups

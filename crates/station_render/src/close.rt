@@ -37,7 +37,7 @@ pub(crate) fn close_all<S: Shelf>(
     ensures failed { HasFailed (inner S.Out.told) (lists_of groups.items) → Rose (S.told shelf.old).writes (S.told shelf.new).writes }
     ensures well { OnOk result (is_ok wrote ≡ true) }
     ensures closed { (names : List (List ℕ)) → AreCreated (WillClose S.Out.told (S.told shelf.old).closed) names order.now (lists_of groups.items)
-        → HaveClosed names (S.told shelf.old).closed (S.told shelf.new).closed }
+        → HaveClosed 1 names (S.told shelf.old).closed (S.told shelf.new).closed }
     ensures shelf { OnlyCloses (S.told shelf.old) (S.told shelf.new) }
 {
     let closed = close_each(shelf, order, groups, wrote.is_ok());
@@ -61,7 +61,7 @@ pub(crate) fn close_broken<S: Shelf>(
         → ForSome first.files (λ files. WrotePart station (is_device fault) files first (S.told shelf.new)) }
     ensures failed { HasFailed (inner S.Out.told) (lists_of groups.items) → Rose (S.told shelf.old).writes (S.told shelf.new).writes }
     ensures closed { (names : List (List ℕ)) → AreCreated (WillClose S.Out.told (S.told shelf.old).closed) names order.now (lists_of groups.items)
-        → HaveClosed names (S.told shelf.old).closed (S.told shelf.new).closed }
+        → HaveClosed 1 names (S.told shelf.old).closed (S.told shelf.new).closed }
     ensures shelf { OnlyCloses (S.told shelf.old) (S.told shelf.new) }
 {
     let _closed = close_each(shelf, order, groups, false);
@@ -89,7 +89,7 @@ fn close_each<S: Shelf>(
     ensures cause { OnErr result (Rose (S.told shelf.old).writes (S.told shelf.new).writes) }
     ensures failed { HasFailed (inner S.Out.told) (lists_of groups.items) → Rose (S.told shelf.old).writes (S.told shelf.new).writes }
     ensures closed { (names : List (List ℕ)) → AreCreated (WillClose S.Out.told (S.told shelf.old).closed) names order.now (lists_of groups.items)
-        → HaveClosed names (S.told shelf.old).closed (S.told shelf.new).closed }
+        → HaveClosed 1 names (S.told shelf.old).closed (S.told shelf.new).closed }
     ensures listed { OnOk result (well ≡ true → (closings : List Closing) → AreCreated (WillList S.Out.told (S.told shelf.old).closed) closings order.now (lists_of groups.items)
         → HaveListed closings (S.told shelf.old).closed (S.told shelf.new).closed) }
     ensures shelf { OnlyCloses (S.told shelf.old) (S.told shelf.new) }

@@ -1,5 +1,5 @@
 // The engines of all clocks.
-ghost use Rattle.std.specs.Prelude.{◌≡◌, ◌<◌, ◌≤◌, ◌^◌, [], ◌∷◌, ℕ, List, length, map, slice_get, Some, true, false, IfOk, OnOk, OnErr, IsErrOf};
+ghost use Rattle.std.specs.Prelude.{◌≡◌, ◌<◌, ◌≤◌, ◌^◌, ◌||◌, [], ◌∷◌, ℕ, List, length, map, slice_get, Some, true, false, IfOk, OnOk, OnErr, IsErrOf};
 ghost use Rattle.std.specs.List.{slice_set};
 ghost use Rattle.buffer_ends.specs.declared.run_end.End.TheVariants.{Done, Write as WriteEnd};
 ghost use Rattle.clock_ticks.specs.Engines.{EngineStands, outputs_of, setting_of};
@@ -41,14 +41,14 @@ fn take_out<O>(alloc: Global, groups: &mut Vec<Vec<O>>, clock: usize) -> Vec<O>
     mem::replace(&mut groups[clock], Vec::new(alloc))
 }
 
-// The engine, which keeps its marks if they are wanted, and else is as it was made.
+// The engine, which keeps its marks if they are wanted, and else is as it was: a new one keeps none.
 fn keep_if<'a, O: Sink>(wanted: bool, engine: ClockEngine<'a, O>) -> ClockEngine<'a, O>
     requires { EngineStands engine.parts 0 nothing }
     ensures setting { setting_of result.parts ≡ setting_of engine.entry.parts }
     ensures clock { result.parts.clock ≡ engine.entry.parts.clock }
     ensures stands { EngineStands result.parts 0 nothing }
     ensures outs { result.outs ≡ engine.entry.outs }
-    ensures keeping { wanted ≡ true → result.parts.cues.keeping ≡ true }
+    ensures keeping { result.parts.cues.keeping ≡ (wanted || engine.entry.parts.cues.keeping) }
     ensures unwanted { wanted ≡ false → result ≡ engine.entry }
 {
     let mut engine = engine;
@@ -71,7 +71,7 @@ fn make_engine<'a, O: Sink>(
     requires sinks { (group : List O) → slice_get (lists_of groups.old.items) clock ≡ Some group
         → length group ≡ length (outputs_of (setting_by job.now) clock) }
     ensures made { IfOk result (IsAt (setting_by job.now) clock) }
-    ensures keeping { IfOk result (λ engine. job.now.cues ≡ true → engine.parts.cues.keeping ≡ true) }
+    ensures keeping { IfOk result (λ engine. engine.parts.cues.keeping ≡ job.now.cues) }
     ensures outs { IfOk result (λ engine. slice_get (lists_of groups.old.items) clock ≡ Some engine.outs) }
     ensures taken { OnOk result (lists_of groups.new.items ≡ slice_set (lists_of groups.old.items) clock []) }
     ensures back { OnErr result (lists_of groups.new.items ≡ lists_of groups.old.items) }

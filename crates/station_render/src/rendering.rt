@@ -138,7 +138,7 @@ fn close_outputs<S: Shelf>(
     ensures cause { IsErrOf result RenderFault.Write → Rose (S.told shelf.old).writes (S.told shelf.new).writes }
     ensures closed { (way : Way) (first : ShelfTold) → OnlyOpened job.now first (S.told shelf.old)
         → MayClose S.Out.told first job.now way places.order.items (lists_of places.groups.items) engines.entry.items run
-        → HaveClosed (names_in job.now.plan.now.sinks) first.closed (S.told shelf.new).closed }
+        → HaveClosed 0 (names_in job.now.plan.now.sinks) first.closed (S.told shelf.new).closed }
     ensures shelf { OnlyCloses (S.told shelf.old) (S.told shelf.new) }
 {
     let Places { order, mut groups } = places;

@@ -1,7 +1,8 @@
 -- What a shelf tells of the sinks that it made, sink after sink.
-use Rattle.std.proofs.Common.{◌≡◌, ◌∙◌, ◌++◌, ℕ, List, [], ◌∷◌, map, refl, ap, sym, append_assoc, Bool, true, false}
+use Rattle.std.proofs.Common.{◌≡◌, ◌≤◌, ◌∙◌, ◌++◌, ℕ, List, [], ◌∷◌, map, refl, ap, sym, append_assoc, arith, Bool, true, false}
 use Rattle.std.specs.Prelude.{Option, Some, None}
 use Rattle.std.proofs.lemmas.List.{append-nil, map-append}
+use Rattle.std.proofs.lemmas.List.Elements.{All-append, All-cons, All-nil}
 use Rattle.std.specs.Option.{ForSome}
 use Rattle.liq_base.specs.Shelves.{Closing, ShelfTold, noted}
 use Rattle.plan_core.specs.declared.sink.SinkPlan.{SinkPlan}
@@ -35,23 +36,40 @@ pub then_made : {A : Type 0} (xs ys : List A) (before between after : Option (Li
 then_made xs ys before between after first then_others = then_others ∙ ap (after_making ys) first ∙ both_made xs ys before
 
 -- nothing more was closed
-pub none_closed : (before after : Option (List Closing)) → after ≡ before → HaveClosed [] before after
-none_closed before after same told at = record { closings = []; names_are = refl; told = same ∙ at ∙ ap Some (sym (append-nil told)) }
+pub none_closed : {least : ℕ} (before after : Option (List Closing)) → after ≡ before → HaveClosed least [] before after
+none_closed {least} before after same told at = record {
+  closings = [];
+  names_are = refl;
+  pieces_are = All-nil (λ (closing : Closing). least ≤ closing.pieces);
+  told = same ∙ at ∙ ap Some (sym (append-nil told));
+}
 
 -- one more was
-pub one_closed : (closing : Closing) (before after : Option (List Closing)) → after ≡ noted closing before → HaveClosed (closing.name ∷ []) before after
-one_closed closing before after is told at = record { closings = closing ∷ []; names_are = refl; told = is ∙ ap (noted closing) at }
+pub one_closed : {least : ℕ} (closing : Closing) (before after : Option (List Closing)) → least ≤ closing.pieces → after ≡ noted closing before → HaveClosed least (closing.name ∷ []) before after
+one_closed {least} closing before after enough is told at = record {
+  closings = closing ∷ [];
+  names_are = refl;
+  pieces_are = All-cons (λ (c : Closing). least ≤ c.pieces) closing [] enough (All-nil (λ (c : Closing). least ≤ c.pieces));
+  told = is ∙ ap (noted closing) at;
+}
 
 -- these were, and then those
-pub then_closed : (xs ys : List (List ℕ)) (before between after : Option (List Closing)) → HaveClosed xs before between → HaveClosed ys between after → HaveClosed (xs ++ ys) before after
-then_closed xs ys before between after first others told at =
+pub then_closed : {least : ℕ} (xs ys : List (List ℕ)) (before between after : Option (List Closing)) → HaveClosed least xs before between → HaveClosed least ys between after → HaveClosed least (xs ++ ys) before after
+then_closed {least} xs ys before between after first others told at =
     let one = first told at in
     let more = others (told ++ one.closings) one.told in
     record {
       closings = one.closings ++ more.closings;
       names_are = map-append (λ (closing : Closing). closing.name) one.closings more.closings ∙ (λ i. one.names_are i ++ more.names_are i);
+      pieces_are = All-append (λ (closing : Closing). least ≤ closing.pieces) one.closings more.closings one.pieces_are more.pieces_are;
       told = more.told ∙ ap Some (append_assoc told one.closings more.closings);
     }
+
+-- whatever pieces they got
+pub closed_any : (least : ℕ) (names : List (List ℕ)) (before after : Option (List Closing)) → HaveClosed least names before after → HaveClosed 0 names before after
+closed_any least names before after closed told at =
+    let is = closed told at in
+    record { closings = is.closings; names_are = is.names_are; pieces_are = λ k d low. omega arith; told = is.told }
 
 -- these closings were listed, and then those
 pub none_listed : (before after : Option (List Closing)) → after ≡ before → HaveListed [] before after
@@ -64,11 +82,11 @@ pub then_listed : (xs ys : List Closing) (before between after : Option (List Cl
 then_listed xs ys before between after first others told at = others (told ++ xs) (first told at) ∙ ap Some (append_assoc told xs ys)
 
 -- what was listed was closed, by the names of it
-pub closed_listed : (closings : List Closing) (before after : Option (List Closing)) → HaveListed closings before after → HaveClosed (map (λ closing. closing.name) closings) before after
-closed_listed closings before after listed told at = record { closings = closings; names_are = refl; told = listed told at }
+pub closed_listed : (closings : List Closing) (before after : Option (List Closing)) → HaveListed closings before after → HaveClosed 0 (map (λ closing. closing.name) closings) before after
+closed_listed closings before after listed told at = record { closings = closings; names_are = refl; pieces_are = λ k d low. omega arith; told = listed told at }
 
 -- all of them are a front of them, and so are none
-pub all_made : (names : List (List ℕ)) (old new : ShelfTold) → new.created ≡ after_making names old.created → HaveClosed names old.closed new.closed → CreatedFront names old new
+pub all_made : (names : List (List ℕ)) (old new : ShelfTold) → new.created ≡ after_making names old.created → HaveClosed 0 names old.closed new.closed → CreatedFront names old new
 all_made names old new is closed = record { made = names; others = []; names_are = sym (append-nil names); told = is; closed = closed }
 
 pub none_made : (names : List (List ℕ)) (old new : ShelfTold) → new.created ≡ old.created → new.closed ≡ old.closed → CreatedFront names old new
@@ -91,7 +109,7 @@ front_made names more old new front = record {
 }
 
 -- all of some names, and then a front of others
-pub then_front : (names more : List (List ℕ)) (old between new : ShelfTold) → between.created ≡ after_making names old.created → HaveClosed names old.closed between.closed → CreatedFront more between new
+pub then_front : (names more : List (List ℕ)) (old between new : ShelfTold) → between.created ≡ after_making names old.created → HaveClosed 0 names old.closed between.closed → CreatedFront more between new
     → CreatedFront (names ++ more) old new
 then_front names more old between new first closed front = record {
   made = names ++ front.made;

@@ -9,7 +9,7 @@ use Rattle.stations.specs.Outputs.{HoldsBetween, HoldsEnds, HoldsNext, HoldsPart
 use Rattle.stations.specs.Renderings.{StoppedInTicks}
 use Rattle.stations.specs.Stations.{IsBegun, Station}
 use Rattle.stations.specs.Streams.{parts_with}
-use Rattle.stations.proofs.Making.{none_more}
+use Rattle.stations.proofs.Making.{none_closed, none_more}
 use Rattle.run_records.specs.Records.{Run}
 
 between_from : (low count next : ℕ) → low ≤ count → (files : Files) (output : OutputPart) (after : Files) → HoldsBetween (Rose count next) files output after → HoldsBetween (Rose low next) files output after
@@ -78,17 +78,18 @@ pub upto_all : (files : Files) (outputs : List OutputFile) → HoldsUpto files o
 upto_all files outputs = record { whole = outputs; others = []; outputs_are = sym (append-nil outputs); part = refl }
 
 -- nothing was created, for want of memory
-pub none_written : (station : Station) (run : Run) → IsBegun station run → (old new : ShelfTold) → old.writes ≤ new.writes → new.files ≡ old.files → new.created ≡ old.created
+pub none_written : (station : Station) (run : Run) → IsBegun station run → (old new : ShelfTold) → old.writes ≤ new.writes → new.files ≡ old.files → new.created ≡ old.created → new.closed ≡ old.closed
     → ForSome old.files (λ files. StoppedInTicks station false files old new)
-none_written station run begun old new low same kept files told = record {
+none_written station run begun old new low same kept unclosed files told = record {
   run = run;
   begun = begun;
-  parts = λ rest. subst (λ a. IsSomeAnd a (λ now. HoldsSome false old.writes files (parts_with station run begun rest) now new.writes old.created new.created)) (sym (same ∙ told))
+  parts = λ rest. subst (λ a. IsSomeAnd a (λ now. HoldsSome false files (parts_with station run begun rest) now old new)) (sym (same ∙ told))
       (record {
         created = [];
         others = parts_with station run begun rest;
         outputs_are = refl;
         told = kept ∙ none_more old.created;
+        begun = none_closed old.closed new.closed unclosed;
         first = old.writes;
         grew = omega arith;
         risen = λ did. absurd (cc);

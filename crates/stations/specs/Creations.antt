@@ -5,7 +5,7 @@ use Rattle.liq_base.specs.Shelves.{Closing, ShelfTold}
 use Rattle.plan_core.specs.declared.sink.SinkPlan.{SinkPlan}
 use Rattle.plan_core.specs.declared.sink.SinkPlan.TheVariants.{Output, Feed}
 use Rattle.run_records.specs.Records.{Run}
-pub use Rattle.stations.specs.Outputs.{after_making}
+pub use Rattle.stations.specs.Outputs.{HaveClosed, after_making}
 use Rattle.stream_meaning.specs.Instants.{Setting}
 use Rattle.stations.specs.Outputs.{OutputFile}
 use Rattle.stations.specs.Stations.{Station, Way, InRounds, InWindows, Again, setting_of_run}
@@ -38,16 +38,6 @@ names_of station = names_in station.plan.sinks ++ (cue_names_if station.cues sta
 abbrev pub AreNamesOfFiles : Station → Run → Type 0
 AreNamesOfFiles station run = map (λ file. file.name) (files_of station run) ≡ names_of station
 
--- sinks of these names were closed, one after another, and no other; `before` and `after` is what the shelf tells of its closings
-pub record AreClosed (names : List (List ℕ)) (before : List Closing) (after : Option (List Closing)) : Type 0 where
-  pub closings : List Closing
-  pub names_are : map (λ closing. closing.name) closings ≡ names
-  pub told : after ≡ Some (before ++ closings)
-
--- the same, where the shelf tells of its closings
-abbrev pub HaveClosed : List (List ℕ) → (before after : Option (List Closing)) → Type 0
-HaveClosed names before after = ForSome before (λ closings. AreClosed names closings after)
-
 -- The first of these names were made, one after another, and no other, and each of them was closed, in the same order, and no other: maybe
 -- none, and maybe all.
 pub record CreatedFront (names : List (List ℕ)) (old new : ShelfTold) : Type 0 where
@@ -55,7 +45,7 @@ pub record CreatedFront (names : List (List ℕ)) (old new : ShelfTold) : Type 0
   pub others : List (List ℕ)
   pub names_are : names ≡ made ++ others
   pub told : new.created ≡ after_making made old.created
-  pub closed : HaveClosed made old.closed new.closed
+  pub closed : HaveClosed 0 made old.closed new.closed
 
 -- what a shelf lists of the outputs among these sinks, of which all ticks were made, once they are closed: the name of each; that it was
 -- created for just the bytes of its file, and holds as many; and its pieces, which are its header, one for each tick, and its last zero

@@ -1,8 +1,10 @@
 -- What a rendering writes, and what a shelf holds after it.
-use Rattle.std.specs.Prelude.{◌≡◌, ◌⊎◌, ◌≤◌, Bool, true, ℕ, List, [], ◌∷◌, ◌++◌, Option, Some, None, map}
+use Rattle.std.specs.Prelude.{◌≡◌, ◌⊎◌, ◌≤◌, All, Bool, true, ℕ, List, [], ◌∷◌, ◌++◌, Option, Some, None, map}
+use Rattle.std.specs.Option.{ForSome}
 use Rattle.liq_base.specs.Counts.{Rose}
 use Rattle.liq_base.specs.Files.{Files, HoldsPart, with_file}
 use Rattle.liq_base.specs.Pieces.{IsPrefix}
+use Rattle.liq_base.specs.Shelves.{Closing, ShelfTold}
 
 -- a file to be written: its name, and all its bytes
 pub record OutputFile : Type 0 where
@@ -36,19 +38,32 @@ abbrev pub after_making : {A : Type 0} → List A → Option (List A) → Option
 after_making more None = None
 after_making more (Some before) = Some (before ++ more)
 
+-- Sinks of these names were closed, one after another, and no other, each of which had got so many pieces at least. `before` and `after` is
+-- what the shelf tells of its closings.
+pub record AreClosed (least : ℕ) (names : List (List ℕ)) (before : List Closing) (after : Option (List Closing)) : Type 0 where
+  pub closings : List Closing
+  pub names_are : map (λ closing. closing.name) closings ≡ names
+  pub pieces_are : All (λ closing. least ≤ closing.pieces) closings
+  pub told : after ≡ Some (before ++ closings)
+
+-- the same, where the shelf tells of its closings
+abbrev pub HaveClosed : (least : ℕ) → List (List ℕ) → (before after : Option (List Closing)) → Type 0
+HaveClosed least names before after = ForSome before (λ closings. AreClosed least names closings after)
+
 -- So it is for the first of the outputs, which were created, as the shelf tells of the sinks that it made; the others were not. Files do
--- not tell which were created. `first` is where the count stood when their closings began. Where a device failed and not all were created,
--- the count rose before that, as a creation failed, which then excuses no file; or it rose at a closing, as a header broke off.
-pub record HoldsSome (device : Bool) (count : ℕ) (files : Files) (outputs : List OutputPart) (after : Files) (last : ℕ)
-    (made_before made_after : Option (List (List ℕ))) : Type 0 where
+-- not tell which were created. Each of them had got a piece when it was closed, its header or a front of it, also where the creation of the
+-- next one failed. `first` is where the count stood when their closings began. Where a device failed and not all were created, the count
+-- rose before that, as a creation failed, which then excuses no file; or it rose at a closing, as a header broke off.
+pub record HoldsSome (device : Bool) (files : Files) (outputs : List OutputPart) (after : Files) (old new : ShelfTold) : Type 0 where
   pub created : List OutputPart
   pub others : List OutputPart
   pub outputs_are : outputs ≡ created ++ others
-  pub told : made_after ≡ after_making (map (λ output. output.name) created) made_before
+  pub told : new.created ≡ after_making (map (λ output. output.name) created) old.created
+  pub begun : HaveClosed 1 (map (λ output. output.name) created) old.closed new.closed
   pub first : ℕ
-  pub grew : count ≤ first
-  pub risen : device ≡ true → (others ≡ []) ⊎ Rose count first ⊎ Rose first last
-  pub parts : HoldsParts first files created after last
+  pub grew : old.writes ≤ first
+  pub risen : device ≡ true → (others ≡ []) ⊎ Rose old.writes first ⊎ Rose first new.writes
+  pub parts : HoldsParts first files created after new.writes
 
 -- all bytes of an output that has its last ones, and what it holds without them
 abbrev pub whole_of : OutputPart → OutputFile

@@ -20,8 +20,7 @@ use Rattle.stations.specs.Traces.{later_files}
 pub record StoppedInTicks (station : Station) (device : Bool) (files : Files) (old new : ShelfTold) : Type 0 where
   pub run : Run
   pub begun : IsBegun station run
-  pub parts : (rest : ℕ → List Answer) → IsSomeAnd new.files (λ now.
-      HoldsSome device old.writes files (parts_with station run begun rest) now new.writes old.created new.created)
+  pub parts : (rest : ℕ → List Answer) → IsSomeAnd new.files (λ now. HoldsSome device files (parts_with station run begun rest) now old new)
 
 -- A run made all its ticks, and what came behind them broke off: a last zero byte or a closing of the outputs; or, once all outputs were
 -- written, a file among the cue files and the trace.

@@ -16,7 +16,7 @@ pub returns-in_err-rendered-clause-part : goal.returns-in_err-rendered-clause-pa
 returns-in_err-rendered-clause-part g c =
     let p = err_from_is_err_and c.from_residual.result c.from_residual.ensures.1 in rw p.1
     (λ station first same ran none whole files at.
-    inl (some_written g.S.Out.Sink.told station first _ _ same c.args.order.now (lists_of c.args.groups.items) _ ran (λ device. inl none) c.close_each-closed.ensures.shelf.created_kept
+    inl (some_written g.S.Out.Sink.told station first _ _ same c.args.order.now (lists_of c.args.groups.items) _ ran (λ device. inl none) c.close_each-closed.ensures.shelf.created_kept c.close_each-closed.ensures.closed
     (c.close_each-closed.ensures.part (c.is_ok.ensures.value ∙ ap is_ok c.in_err-rendered.was)) files at))
 
 pub returns-in_err-closed-clause-part : goal.returns-in_err-closed-clause-part

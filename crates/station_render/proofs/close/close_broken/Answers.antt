@@ -10,7 +10,7 @@ pub returns-clause-part : goal.returns-clause-part
 returns-clause-part g c = λ station first same ran risen files at.
     inl (some_written g.S.Out.Sink.told station first _ _ same c.args.order.now (lists_of c.args.groups.items) _ ran
     (λ device. with_failed (risen device) c.close_each-closed.ensures.failed)
-    c.close_each-closed.ensures.shelf.created_kept (c.close_each-closed.ensures.part refl) files at)
+    c.close_each-closed.ensures.shelf.created_kept c.close_each-closed.ensures.closed (c.close_each-closed.ensures.part refl) files at)
 
 pub returns-clause-closed : goal.returns-clause-closed
 returns-clause-closed g c = c.close_each-closed.ensures.closed

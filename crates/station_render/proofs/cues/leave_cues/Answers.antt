@@ -103,7 +103,7 @@ returns-clause-all g c =
     record {
       written = files_whole c.args.library.now c.args.plan.now.sinks (cues_of c.args.marks.now) c.loop-sink.sink-index _ _ c.loop-sink.invariant.files all;
       made = c.loop-sink.invariant.made ∙ ap (λ xs. after_making (cue_names_in xs) (g.S.Shelf.told c.args.shelf.now).created) sinks;
-      closes = subst (λ xs. HaveClosed (cue_names_in xs) (g.S.Shelf.told c.args.shelf.now).closed (g.S.Shelf.told c.loop-sink.shelf).closed) sinks c.loop-sink.invariant.closed;
+      closes = subst (λ xs. HaveClosed 0 (cue_names_in xs) (g.S.Shelf.told c.args.shelf.now).closed (g.S.Shelf.told c.loop-sink.shelf).closed) sinks c.loop-sink.invariant.closed;
       listed = subst (λ xs. HaveListed (map closing_at_once (cue_files_with c.args.library.now xs (cues_of c.args.marks.now))) (g.S.Shelf.told c.args.shelf.now).closed (g.S.Shelf.told c.loop-sink.shelf).closed) sinks
           c.loop-sink.invariant.listed;
     }
@@ -115,7 +115,7 @@ returns-clause-some g c =
     record {
       part = files_upto c.args.library.now c.args.plan.now.sinks (cues_of c.args.marks.now) c.loop-sink.sink-index _ _ c.loop-sink.invariant.files all;
       front = all_made (cue_names_in c.args.plan.now.sinks) _ _ (c.loop-sink.invariant.made ∙ ap (λ xs. after_making (cue_names_in xs) (g.S.Shelf.told c.args.shelf.now).created) sinks)
-          (subst (λ xs. HaveClosed (cue_names_in xs) (g.S.Shelf.told c.args.shelf.now).closed (g.S.Shelf.told c.loop-sink.shelf).closed) sinks c.loop-sink.invariant.closed);
+          (subst (λ xs. HaveClosed 0 (cue_names_in xs) (g.S.Shelf.told c.args.shelf.now).closed (g.S.Shelf.told c.loop-sink.shelf).closed) sinks c.loop-sink.invariant.closed);
       reads_grew = c.loop-sink.invariant.reads;
       writes_grew = c.loop-sink.invariant.writes;
     }

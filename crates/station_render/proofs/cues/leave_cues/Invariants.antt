@@ -13,7 +13,7 @@ invariant-loop-sink g l = record {
   place : l.place ≡ length (written (take l.sink-index l.plan.sinks));
   files : ForSome (g.S.Shelf.told l.fn.shelf).files (λ files. (g.S.Shelf.told l.shelf).files ≡ Some (with_outputs files (cue_files_with l.library (take l.sink-index l.plan.sinks) (cues_of l.marks))));
   made : (g.S.Shelf.told l.shelf).created ≡ after_making (cue_names_in (take l.sink-index l.plan.sinks)) (g.S.Shelf.told l.fn.shelf).created;
-  closed : HaveClosed (cue_names_in (take l.sink-index l.plan.sinks)) (g.S.Shelf.told l.fn.shelf).closed (g.S.Shelf.told l.shelf).closed;
+  closed : HaveClosed 0 (cue_names_in (take l.sink-index l.plan.sinks)) (g.S.Shelf.told l.fn.shelf).closed (g.S.Shelf.told l.shelf).closed;
   listed : HaveListed (map closing_at_once (cue_files_with l.library (take l.sink-index l.plan.sinks) (cues_of l.marks))) (g.S.Shelf.told l.fn.shelf).closed (g.S.Shelf.told l.shelf).closed;
   reads : (g.S.Shelf.told l.fn.shelf).reads ≤ (g.S.Shelf.told l.shelf).reads;
   writes : (g.S.Shelf.told l.fn.shelf).writes ≤ (g.S.Shelf.told l.shelf).writes;

@@ -1,4 +1,4 @@
-use Rattle.std.proofs.Common.{rules, arith, refl, List, ◌≡◌, ◌<◌, ◌∙◌, ◌++◌, ◌∷◌, [], length, slice_get, slice_index_or, ap, sym}
+use Rattle.std.proofs.Common.{rules, arith, List, ◌≡◌, ◌<◌, ◌∙◌, ◌++◌, ◌∷◌, [], length, slice_get, slice_index_or, ap, sym}
 use Rattle.std.specs.Prelude.{Some}
 use Rattle.plan_core.specs.declared.sink.SinkPlan.{SinkPlan}
 use Rattle.plan_core.specs.declared.sink.SinkPlan.TheVariants.{Output, Feed}
@@ -57,4 +57,4 @@ loop-k-preserved g c =
     marks_more c.loop-k.all.items c.push.new.self.items _ items world ticks c.args.plan.now.sinks c.loop-k.k (c.loop-k.invariant setting world ticks plan_is clocks_is engines) c.in-Output.name c.in-Output.node c.in-Output.fallible c.in-Output.wide at
     c.cues.result.now c.in_ok-copied.ensures
     (marks_here c.args.plan.now c.args.clocks.now setting world ticks plan_is clocks_is c.loop-k.k c.in-Output.name c.in-Output.node c.in-Output.fallible c.in-Output.wide at c.clock_of-clock.result c.clock_of-clock.ensures
-    c.index-engines-clock.result (engines.each c.clock_of-clock.result c.index-engines-clock.result there) c.cues.result.now c.cues.ensures.made (c.requires.keeping refl c.clock_of-clock.result c.index-engines-clock.result there))
+    c.index-engines-clock.result (engines.each c.clock_of-clock.result c.index-engines-clock.result there) c.cues.result.now c.cues.ensures.made (c.requires.keeping c.clock_of-clock.result c.index-engines-clock.result there))

@@ -24,7 +24,7 @@ returns-in_err-groups-clause-part g c =
     let p = err_from_is_err_and c.from_residual.result c.from_residual.ensures.1 in rw (p.1, p.2)
     (λ way may.
     let none = not_begun (setting_by c.args.job.now) c.args.job.now.ready.now.clocks.running c.args.job.now.ticks way may in
-    λ files at. inl (none_written (station_in c.args.job.now way) none.run none.begun _ _ (omega arith) refl refl files at))
+    λ files at. inl (none_written (station_in c.args.job.now way) none.run none.begun _ _ (omega arith) refl refl refl files at))
 
 pub returns-in_err-groups-clause-front : goal.returns-in_err-groups-clause-front
 returns-in_err-groups-clause-front g c = on_err_so _ _ (none_made _ _ _ refl refl)

@@ -2,6 +2,7 @@ use Rattle.std.proofs.Common.{◌≡◌, ◌∙◌, [], arith, inr, refl, subst,
 use Rattle.std.proofs.lemmas.Result.{IfErr-weaker}
 use Rattle.std.specs.Prelude.{IfOk, IsErrOf}
 use Rattle.stations.specs.Creations.{HaveClosed, names_in}
+use Rattle.stations.proofs.Making.{closed_any}
 use Rattle.station_render.specs.Listed.{WillClose}
 use Rattle.station_render.specs.OutputSinks.{inner}
 use Rattle.station_render.specs.Runs.{RanPart, RanWhole, station_in}
@@ -73,8 +74,9 @@ returns-clause-cause g c = λ e.
 pub returns-clause-closed : goal.returns-clause-closed
 returns-clause-closed g c = λ way first opened may.
     let sinks = names_in c.args.job.now.plan.now.sinks in
-    subst (λ told. HaveClosed sinks told (g.S.Shelf.told c.close_all.new.shelf).closed) opened.closed_kept
+    closed_any 1 sinks first.closed (g.S.Shelf.told c.close_all.new.shelf).closed
+    (subst (λ told. HaveClosed 1 sinks told (g.S.Shelf.told c.close_all.new.shelf).closed) opened.closed_kept
     (c.close_all.ensures.closed sinks
     (subst (λ told. AreCreated (WillClose g.S.Out.Sink.told told) sinks c.deref.result.now (lists_of c.take_back-told.new.groups.items)) (sym opened.closed_kept)
     (subst (λ o. AreCreated (WillClose g.S.Out.Sink.told first.closed) sinks o (lists_of c.take_back-told.new.groups.items)) (sym c.deref.ensures.value)
-    (closes_after c.requires.fit may c.take_back-told.ensures.back))))
+    (closes_after c.requires.fit may c.take_back-told.ensures.back)))))
