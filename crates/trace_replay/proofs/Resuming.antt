@@ -1,7 +1,6 @@
 -- Buffers where a clock's run goes on.
-use Rattle.std.proofs.Common.{◌≡◌, ◌≢◌, ◌<◌, ◌≤◌, ◌∙◌, ◌++◌, ◌&&◌, ℕ, suc, Bool, true, false, nat_eq, List, [], ◌∷◌, length, drop, take, slice_index_or, inl, inr, refl, ap, sym, subst, arith, true≢false, append-nil}
+use Rattle.std.proofs.Common.{◌≡◌, ◌≢◌, ◌<◌, ◌≤◌, ◌∙◌, ◌++◌, ◌&&◌, ℕ, Bool, true, false, nat_eq, List, [], ◌∷◌, length, drop, take, slice_index_or, inl, inr, refl, ap, sym, subst, arith, true≢false, append-nil}
 use Rattle.std.proofs.lemmas.Bool.{cases_eq, cases_lt}
-use Rattle.std.proofs.lemmas.Bool.Decides.{nat_tests}
 use Rattle.std.proofs.lemmas.List.{get_or_default, get_or_past, take-append-le}
 use Rattle.std.proofs.Math.Seq.{drop-length}
 use Rattle.clock_infer.specs.declared.clock_map.ClockMap.{ClockMap}

@@ -1,6 +1,5 @@
 -- Clocks whose engines go on from turn to turn.
-use Rattle.std.specs.Prelude.{◌≡◌, ◌<◌, ◌≤◌, ℕ, Bool, true, Some, List, [], length, nat_eq, slice_get, slice_index_or}
-use Rattle.clock_infer.specs.declared.clock_map.ClockMap.{ClockMap}
+use Rattle.std.specs.Prelude.{◌≡◌, ◌<◌, ◌≤◌, ℕ, Bool, Some, List, [], length, nat_eq, slice_get, slice_index_or}
 use Rattle.frame_core.specs.Calls.{Call}
 use Rattle.stream_meaning.specs.Instants.{Setting}
 use Rattle.stream_meaning.specs.Calls.{answers_in}

@@ -18,11 +18,7 @@ pub struct LiveClock<'a> {
 }
 
 // A clock before its first tick.
-fn new_clock<'a>(
-    alloc: Global,
-    station: &Station<'a>,
-    clock: u32,
-) -> Result<LiveClock<'a>, Memory>
+fn new_clock<'a>(alloc: Global, station: &Station<'a>, clock: u32) -> Result<LiveClock<'a>, Memory>
     requires setting { IsSetting (base_at station.now) station.now.clocks.now }
     ensures new { IfOk result (λ live. IsNewClock (base_at station.now) clock live) }
 {

@@ -1,4 +1,4 @@
-use Rattle.std.proofs.Common.{◌≡◌, ◌∙◌, arith, sym, true≢false}
+use Rattle.std.proofs.Common.{◌∙◌, sym}
 use Rattle.trace_replay.specs.Finds.{base_at}
 use Rattle.trace_replay.proofs.Readying.{ok_map}
 use Rattle.trace_replay.proofs.Resuming.{empty_again, fit_again}

@@ -1,4 +1,4 @@
-use Rattle.std.proofs.Common.{◌≡◌, ◌∙◌, ◌+◌, ℕ, suc, false, List, subst, sym, arith, is_err}
+use Rattle.std.proofs.Common.{◌≡◌, ◌∙◌, ◌+◌, suc, false, List, subst, sym, arith, is_err}
 use Rattle.liq_base.specs.Untold.{faults_alone}
 use Rattle.trace_replay.specs.declared.course.Course.TheVariants.{Goes}
 use Rattle.trace_replay.specs.Answering.{BufferState, same_buffers_refl, same_buffers_trans}

@@ -1,4 +1,4 @@
-use Rattle.std.proofs.Common.{◌≡◌, List, subst, sym}
+use Rattle.std.proofs.Common.{List, subst, sym}
 use Rattle.trace_replay.specs.declared.told.Mark.{Mark}
 use Rattle.trace_replay.specs.Answering.{BufferState}
 use Rattle.trace_replay.specs.Marks.{AreWithin, HaveMarked}
@@ -15,10 +15,10 @@ resume_run-requires-clause-within c =
 pub go_on-requires-clause-turn : goal.go_on-requires-clause-turn
 go_on-requires-clause-turn c = (let t = c.requires.turn in (
   score_of c.args.window c.args.ticks c.args.live.now.engine.parts.clock c.clock.result c.clock.ensures c.args.sides.now.feeders.items c.args.sides.now.readers.items c.deref.result.now c.deref-2.result.now c.deref.ensures.value c.deref-2.ensures.value
-    c.args.live.now.marks.items c.deref-3.result.now c.deref-3.ensures.value c.args.ends.now c.args.taps.now.buffers.items c.resume_run.new.buffers.items c.resume_run.ensures.many c.resume_run.ensures.resumed c.requires.long
+      c.args.live.now.marks.items c.deref-3.result.now c.deref-3.ensures.value c.args.ends.now c.args.taps.now.buffers.items c.resume_run.new.buffers.items c.resume_run.ensures.many c.resume_run.ensures.resumed c.requires.long
       t.0 t.1 t.3 t.2 t.4 t.5,
   may_go c.args.window c.args.ticks c.args.live.now.engine.parts.clock c.clock.result c.clock.ensures c.args.sides.now.feeders.items c.args.sides.now.readers.items c.deref.result.now c.deref-2.result.now c.deref.ensures.value c.deref-2.ensures.value
-    c.args.live.now.marks.items c.deref-3.result.now c.deref-3.ensures.value c.args.ends.now c.args.taps.now.buffers.items c.resume_run.new.buffers.items c.resume_run.ensures.many c.resume_run.ensures.resumed c.requires.long
+      c.args.live.now.marks.items c.deref-3.result.now c.deref-3.ensures.value c.args.ends.now c.args.taps.now.buffers.items c.resume_run.new.buffers.items c.resume_run.ensures.many c.resume_run.ensures.resumed c.requires.long
       t.0 t.1 t.3 t.2 t.4 t.5 c.args.from c.args.live.now.engine.parts t.6,
 ))
 
