@@ -14,6 +14,20 @@ use Rattle.trace_replay.specs.Answering.{AllStand, BufferState, SameBuffers, Sta
 use Rattle.trace_replay.specs.Turns.{AreOf, AreSides, AreTold, HaveBegun, chunks_of, is_output_in, no_state, outputs_in}
 use Rattle.trace_replay.proofs.Fronts.{no_items}
 
+-- whether a clock has an end of a buffer
+module _ (base : Setting) (m : ℕ) (feeders readers : List ℕ) (sides : AreSides base feeders readers) where
+  pub fed_test : (b : ℕ) → b < length base.plan.buffers → feeder base b ≡ m → nat_eq (slice_index_or feeders b 0) m ≡ true
+  fed_test b known e = (let same = sides.fed b known ∙ e in grind (arith, nat_tests, same))
+
+  pub not_fed_test : (b : ℕ) → b < length base.plan.buffers → (feeder base b ≡ m → ⊥) → nat_eq (slice_index_or feeders b 0) m ≡ false
+  not_fed_test b known other = ap (λ n. nat_eq n m) (sides.fed b known) ∙ (let off : nat_eq (feeder base b) m ≡ false = grind (arith, nat_tests, other) in off)
+
+  pub read_test : (b : ℕ) → b < length base.plan.buffers → reader base b ≡ m → nat_eq (slice_index_or readers b 0) m ≡ true
+  read_test b known e = (let same = sides.read b known ∙ e in grind (arith, nat_tests, same))
+
+  pub not_read_test : (b : ℕ) → b < length base.plan.buffers → (reader base b ≡ m → ⊥) → nat_eq (slice_index_or readers b 0) m ≡ false
+  not_read_test b known other = ap (λ n. nat_eq n m) (sides.read b known) ∙ (let off : nat_eq (reader base b) m ≡ false = grind (arith, nat_tests, other) in off)
+
 module _ (base : Setting) (text : ℕ → Log) (m : ℕ) (feeders readers : List ℕ) (old new : List BufferState) (told : AreTold base text old) (sides : AreSides base feeders readers)
     (many : length new ≡ length old) (are : HaveBegun feeders readers m old new) where
   abbrev B : ℕ
@@ -21,18 +35,6 @@ module _ (base : Setting) (text : ℕ → Log) (m : ℕ) (feeders readers : List
 
   at : (b : ℕ) (d : BufferState) → b < B → slice_index_or new b d ≡ begun (slice_index_or old b d) (nat_eq (slice_index_or feeders b 0) m) (nat_eq (slice_index_or readers b 0) m)
   at b d known = are b d (let size = told.many in omega (arith, known, size))
-
-  fed_test : (b : ℕ) → b < B → feeder base b ≡ m → nat_eq (slice_index_or feeders b 0) m ≡ true
-  fed_test b known e = (let same = sides.fed b known ∙ e in grind (arith, nat_tests, same))
-
-  not_fed_test : (b : ℕ) → b < B → (feeder base b ≡ m → ⊥) → nat_eq (slice_index_or feeders b 0) m ≡ false
-  not_fed_test b known other = ap (λ n. nat_eq n m) (sides.fed b known) ∙ (let off : nat_eq (feeder base b) m ≡ false = grind (arith, nat_tests, other) in off)
-
-  read_test : (b : ℕ) → b < B → reader base b ≡ m → nat_eq (slice_index_or readers b 0) m ≡ true
-  read_test b known e = (let same = sides.read b known ∙ e in grind (arith, nat_tests, same))
-
-  not_read_test : (b : ℕ) → b < B → (reader base b ≡ m → ⊥) → nat_eq (slice_index_or readers b 0) m ≡ false
-  not_read_test b known other = ap (λ n. nat_eq n m) (sides.read b known) ∙ (let off : nat_eq (reader base b) m ≡ false = grind (arith, nat_tests, other) in off)
 
   same_item : (b : ℕ) (d : BufferState) → b < B → slice_index_or old b d ≡ slice_index_or old b no_state
   same_item b d known = get_or_default old b d no_state (let size = told.many in omega (arith, known, size))
@@ -43,16 +45,16 @@ module _ (base : Setting) (text : ℕ → Log) (m : ℕ) (feeders readers : List
     puts = λ b d known. ap (λ (s : BufferState). s.puts) (at b d known) ∙ told.puts b d known;
     takes = λ b d known. ap (λ (s : BufferState). s.takes) (at b d known) ∙ told.takes b d known;
     capacity = λ b d known. ap (λ (s : BufferState). s.capacity) (at b d known) ∙ told.capacity b d known;
-    fed = λ b d known e. ap (λ (s : BufferState). s.fed) (at b d known) ∙ fed_test b known e;
-    not_fed = λ b d known e. ap (λ (s : BufferState). s.fed) (at b d known) ∙ not_fed_test b known e;
-    read = λ b d known e. ap (λ (s : BufferState). s.read) (at b d known) ∙ read_test b known e;
-    not_read = λ b d known e. ap (λ (s : BufferState). s.read) (at b d known) ∙ not_read_test b known e;
-    anew = λ b d known e. ap (λ (s : BufferState). s.opened) (at b d known) ∙ ap (λ (t : Bool). length (chunks_at t (slice_index_or old b d).chunks)) (fed_test b known e);
-    there = λ b d known e. ap (λ (s : BufferState). s.opened) (at b d known) ∙ ap (λ (t : Bool). length (chunks_at t (slice_index_or old b d).chunks)) (not_fed_test b known e)
+    fed = λ b d known e. ap (λ (s : BufferState). s.fed) (at b d known) ∙ fed_test base m feeders readers sides b known e;
+    not_fed = λ b d known e. ap (λ (s : BufferState). s.fed) (at b d known) ∙ not_fed_test base m feeders readers sides b known e;
+    read = λ b d known e. ap (λ (s : BufferState). s.read) (at b d known) ∙ read_test base m feeders readers sides b known e;
+    not_read = λ b d known e. ap (λ (s : BufferState). s.read) (at b d known) ∙ not_read_test base m feeders readers sides b known e;
+    anew = λ b d known e. ap (λ (s : BufferState). s.opened) (at b d known) ∙ ap (λ (t : Bool). length (chunks_at t (slice_index_or old b d).chunks)) (fed_test base m feeders readers sides b known e);
+    there = λ b d known e. ap (λ (s : BufferState). s.opened) (at b d known) ∙ ap (λ (t : Bool). length (chunks_at t (slice_index_or old b d).chunks)) (not_fed_test base m feeders readers sides b known e)
         ∙ ap (λ (s : BufferState). length s.chunks) (same_item b d known);
     front = λ b d known e. (
       [],
-      ap (λ (s : BufferState). s.chunks) (at b d known) ∙ ap (λ (t : Bool). chunks_at t (slice_index_or old b d).chunks) (not_fed_test b known e)
+      ap (λ (s : BufferState). s.chunks) (at b d known) ∙ ap (λ (t : Bool). chunks_at t (slice_index_or old b d).chunks) (not_fed_test base m feeders readers sides b known e)
           ∙ ap (λ (s : BufferState). s.chunks) (same_item b d known) ∙ sym (append-nil (chunks_of old b)),
     );
   }

@@ -10,7 +10,7 @@ use Rattle.stream_meaning.specs.Instants.{Setting}
 use Rattle.stream_meaning.specs.Settings.{IsSetting}
 use Rattle.trace_replay.specs.declared.ends.Ends.{Ends}
 use Rattle.trace_replay.specs.Clocks.{Log}
-use Rattle.trace_replay.specs.Passes.{AreAt, HasTurned, IsHalted, IsOrderedText, IsRefused}
+use Rattle.trace_replay.specs.Passes.{AreAt, HasCome, HasTurned, IsHalted, IsOrderedText, IsRefused}
 use Rattle.trace_replay.specs.Answering.{BufferState}
 use Rattle.trace_replay.specs.Turns.{AreFit, chunks_of}
 use Rattle.trace_replay.specs.Finds.{ArePassing, AreStuck, made_of, total}
@@ -58,15 +58,9 @@ module _ (base : Setting) (clocks : ClockMap) (is : IsSetting base clocks) (W N 
   within_all : (made : List ℕ) (left : ℕ) (states : List BufferState) → Passing made left states → (text : ℕ → Log) → AreFit base W N text first ends → (k : ℕ) → k < length made → made_of made k ≤ N
   within_all made left states passing text fit k low = (let size = passing.size in ((passing.at text fit).clock k (omega (arith, low, size))).within)
 
-  -- a turn of clock m
+  -- a clock comes to n ticks, as far as before or farther
   module _ (made : List ℕ) (left : ℕ) (states : List BufferState) (passing : Passing made left states) (m : ℕ) (low : m < clocks.running) (n : ℕ) (others : List BufferState)
-      (turns : (text : ℕ → Log) → AreFit base W N text states ends → HasTurned base W N text m n (chunks_of states) (chunks_of others)) (text : ℕ → Log) (fit : AreFit base W N text first ends) where
-    turn_here : HasTurned base W N text m n (chunks_of states) (chunks_of others)
-    turn_here = turns text (passing.fit text fit)
-
-    pub came_on : made_of made m ≤ n
-    came_on = ahead base clocks is W N text (made_of made) (chunks_of states) (passing.at text fit) m low n (chunks_of others) turn_here
-
+      (comes : (text : ℕ → Log) → AreFit base W N text first ends → HasCome base W N text m n (chunks_of states) (chunks_of others)) (far : made_of made m ≤ n) (text : ℕ → Log) (fit : AreFit base W N text first ends) where
     there : m < length made
     there = (let size = passing.size in omega (arith, low, size))
 
@@ -81,11 +75,11 @@ module _ (base : Setting) (clocks : ClockMap) (is : IsSetting base clocks) (W N 
 
     at_now : AreAt base clocks.running W N text (made_of (slice_set made m n)) (chunks_of others)
     at_now = subst (λ (f : ℕ → ℕ). AreAt base clocks.running W N text f (chunks_of others)) (fun_ext made_now)
-        (turned base clocks is W N text (made_of made) (chunks_of states) (passing.at text fit) m low n (chunks_of others) turn_here)
+        (turned base clocks is W N text (made_of made) (chunks_of states) (passing.at text fit) m low n far (chunks_of others) (comes text fit))
 
     -- so many ticks fewer are left
-    pub fewer : n - made_of made m ≤ left
-    fewer =
+    pub fewer_left : n - made_of made m ≤ left
+    fewer_left =
         let sum = total_set made m n there in
         let size = length-set made m n in
         let now = at_now in
@@ -94,23 +88,39 @@ module _ (base : Setting) (clocks : ClockMap) (is : IsSetting base clocks) (W N 
         let counts = passing.counts in
         omega (arith, sum, most, same, counts)
 
-  pub passes_on : (made : List ℕ) (left : ℕ) (states : List BufferState) → Passing made left states → (m : ℕ) → m < clocks.running → (n : ℕ) (others : List BufferState)
-      → ((text : ℕ → Log) → AreFit base W N text states ends → HasTurned base W N text m n (chunks_of states) (chunks_of others))
+  pub moves_on : (made : List ℕ) (left : ℕ) (states : List BufferState) → Passing made left states → (m : ℕ) → m < clocks.running → (n : ℕ) (others : List BufferState)
+      → ((text : ℕ → Log) → AreFit base W N text first ends → HasCome base W N text m n (chunks_of states) (chunks_of others)) → made_of made m ≤ n
       → ((text : ℕ → Log) → AreFit base W N text states ends → AreFit base W N text others ends) → length others ≡ length states → (some : (text : ℕ → Log) × AreFit base W N text first ends)
       → Passing (slice_set made m n) (left - (n - made_of made m)) others
-  passes_on made left states passing m low n others turns fits long some =
-      let on = came_on made left states passing m low n others turns some.0 some.1 in
-      let few = fewer made left states passing m low n others turns some.0 some.1 in
+  moves_on made left states passing m low n others comes far fits long some =
+      let few = fewer_left made left states passing m low n others comes far some.0 some.1 in
       let size = passing.size in
       let sum = total_set made m n (omega (arith, low, size)) in
       let counts = passing.counts in
       record {
         size = length-set made m n ∙ passing.size;
-        counts = omega (arith, on, few, sum, counts);
+        counts = omega (arith, far, few, sum, counts);
         many = long ∙ passing.many;
         fit = λ text fit. fits text (passing.fit text fit);
-        at = λ text fit. at_now made left states passing m low n others turns text fit;
+        at = λ text fit. at_now made left states passing m low n others comes far text fit;
       }
+
+  -- a turn of clock m
+  module _ (made : List ℕ) (left : ℕ) (states : List BufferState) (passing : Passing made left states) (m : ℕ) (low : m < clocks.running) (n : ℕ) (others : List BufferState)
+      (turns : (text : ℕ → Log) → AreFit base W N text states ends → HasTurned base W N text m n (chunks_of states) (chunks_of others)) (text : ℕ → Log) (fit : AreFit base W N text first ends) where
+    pub came_on : made_of made m ≤ n
+    came_on = ahead base clocks is W N text (made_of made) (chunks_of states) (passing.at text fit) m low n (chunks_of others) (turns text (passing.fit text fit))
+
+    -- so many ticks fewer are left
+    pub fewer : n - made_of made m ≤ left
+    fewer = fewer_left made left states passing m low n others (λ t f. (turns t (passing.fit t f)).come) came_on text fit
+
+  pub passes_on : (made : List ℕ) (left : ℕ) (states : List BufferState) → Passing made left states → (m : ℕ) → m < clocks.running → (n : ℕ) (others : List BufferState)
+      → ((text : ℕ → Log) → AreFit base W N text states ends → HasTurned base W N text m n (chunks_of states) (chunks_of others))
+      → ((text : ℕ → Log) → AreFit base W N text states ends → AreFit base W N text others ends) → length others ≡ length states → (some : (text : ℕ → Log) × AreFit base W N text first ends)
+      → Passing (slice_set made m n) (left - (n - made_of made m)) others
+  passes_on made left states passing m low n others turns fits long some =
+      moves_on made left states passing m low n others (λ t f. (turns t (passing.fit t f)).come) (came_on made left states passing m low n others turns some.0 some.1) fits long some
 
   -- the clocks that wait wait on where the turn brought nothing
   pub still_stuck : (made : List ℕ) (before left : ℕ) (states : List BufferState) → Passing made left states → (m : ℕ) → m < clocks.running → left ≤ before → AreStuck base W N ends first made states before left m → (n : ℕ) (others : List BufferState)
@@ -126,7 +136,7 @@ module _ (base : Setting) (clocks : ClockMap) (is : IsSetting base clocks) (W N 
         | inl e ↦ ap (made_of (slice_set made m n)) e ∙ get_or-set_same made m n 0 (let size = passing.size in omega (arith, low, size)) ∙ all ∙ ap (made_of made) (sym e)
         | inr other ↦ get_or-set_other made m j n 0 other
       ] in
-      let stays = none_comes base clocks is W N text (made_of made) (chunks_of states) (passing.at text fit) m low n (chunks_of others) turn all in
+      let stays = none_comes base clocks is W N text (made_of made) (chunks_of states) (passing.at text fit) m low n on (chunks_of others) turn.come all in
       let here : made_of made k < N = (let e = now k in omega (arith, e, more)) in
       let halt : IsHalted base text (chunks_of states) k (made_of made k) = elim (cases_eq k m) [
         | inl e ↦ subst (λ j. IsHalted base text (chunks_of states) j (made_of made j)) (sym e) (subst (IsHalted base text (chunks_of states) m) all (turn.halted (let h = ap (made_of made) e in omega (arith, h, all, here))))

@@ -17,7 +17,9 @@ pub mod Playing
 pub mod Beginning
 pub mod Readying
 pub mod Unbuffered
+pub mod Resuming
 pub mod Finding
+pub mod Living
 pub mod Joining
 pub mod Accepting
 pub mod Leading

@@ -19,8 +19,9 @@ use Rattle.trace_replay.specs.declared.course.Course.{Course}
 use Rattle.trace_replay.specs.declared.course.Course.TheVariants.{Goes, Waits, Fails}
 use Rattle.trace_replay.specs.declared.ends.Ends.{Ends}
 use Rattle.trace_replay.specs.declared.taps.ToldTaps.{ToldTaps}
-use Rattle.trace_replay.specs.Clocks.{Log, puts_in, takes_in}
-use Rattle.trace_replay.specs.Passes.{HasTurned, IsFormed, IsRefused, got_then, nothing}
+use Rattle.trace_replay.specs.Clocks.{AreWhole, Log, puts_in, takes_in}
+use Rattle.trace_replay.specs.Live.{MayMove}
+use Rattle.trace_replay.specs.Passes.{HasTurned, IsFormed, IsRefused, got_then, nothing, ticks_in}
 use Rattle.trace_replay.specs.Answering.{AllStand, BufferState, SameBuffers, TapsStand}
 use Rattle.trace_replay.specs.Turns.{AreAtEnd, EndsWith, IsAtEnd, IsOffEnd, MayTurn, RunsAt, Score, chunks_of, no_state}
 use Rattle.trace_replay.proofs.Completing.{start_some}
@@ -40,14 +41,17 @@ none_before : (W N : ℕ) (text : ℕ → Log) (B : ℕ) → IsFormed B W N text
 none_before W N text B formed zero b ends high known = refl
 none_before W N text B formed (suc j) b ends high known = absurd (let many = formed.many b known in start_some W N j formed.count (omega (arith, high, many)) formed.whole (formed.tight j (omega (arith, high, many))) ends)
 
+-- before the first tick no window has ended
+pub whole_none : (base : Setting) (text : ℕ → Log) (W N m : ℕ) → IsFormed (length base.plan.buffers) W N text → AreWhole base text W N m 0 (λ t. ticks_in base (λ t b. true) [] m t)
+whole_none base text W N m formed = record {
+  puts = λ j b low high known fed. (let e : start W N j ≡ 0 = omega (arith, low) in
+      ap (λ t. length (puts_to b (first_calls (answered base (got_then [] nothing)) (λ t b. true) m t))) e ∙ ap (λ (l : Log). length (puts_in l)) (sym (none_before W N text (length base.plan.buffers) formed j b low high known)));
+  takes = λ j b low high known read. (let e : start W N j ≡ 0 = omega (arith, low) in
+      ap (λ t. length (takes_of b (first_calls (answered base (got_then [] nothing)) (λ t b. true) m t))) e ∙ ap (λ (l : Log). length (takes_in l)) (sym (none_before W N text (length base.plan.buffers) formed j b low high known)));
+}
+
 module _ (score : Score) (W N m : ℕ) (ends : List Ends) (first : EngineParts) (opening : List BufferState) (may : MayTurn score W N m first opening ends) where
-  abbrev base : Setting
-  base = score.base
-
-  abbrev Runs : ℕ → EngineParts → List BufferState → Type 0
-  Runs n parts states = RunsAt base score.text W N m n score.chunks parts states
-
-  pub begins : Runs 0 first opening
+  pub begins : RunsAt score.base score.text W N m 0 score.chunks first opening
   begins = record {
     calls = [];
     accepted = λ t b. true;
@@ -57,13 +61,25 @@ module _ (score : Score) (W N m : ℕ) (ends : List Ends) (first : EngineParts) 
     engine = may.fresh;
     stand = may.stand;
     of = may.of;
-    whole = record {
-      puts = λ j b low high known fed. (let e : start W N j ≡ 0 = omega (arith, low) in
-          ap (λ t. length (puts_to b (first_calls (answered base (got_then [] nothing)) (λ t b. true) m t))) e ∙ ap (λ (l : Log). length (puts_in l)) (sym (none_before W N score.text (length base.plan.buffers) may.formed j b low high known)));
-      takes = λ j b low high known read. (let e : start W N j ≡ 0 = omega (arith, low) in
-          ap (λ t. length (takes_of b (first_calls (answered base (got_then [] nothing)) (λ t b. true) m t))) e ∙ ap (λ (l : Log). length (takes_in l)) (sym (none_before W N score.text (length base.plan.buffers) may.formed j b low high known)));
-    };
+    whole = whole_none score.base score.text W N m may.formed;
   }
+
+  -- its run moves over the buffers
+  pub moves : MayMove score W N opening ends
+  moves = record {
+    is = may.is;
+    formed = may.formed;
+    many = may.of.many;
+    long = may.long;
+    ends_are = may.ends_are;
+  }
+
+module _ (score : Score) (W N m : ℕ) (ends : List Ends) (opening : List BufferState) (may : MayMove score W N opening ends) where
+  abbrev base : Setting
+  base = score.base
+
+  abbrev Runs : ℕ → EngineParts → List BufferState → Type 0
+  Runs n parts states = RunsAt base score.text W N m n score.chunks parts states
 
   -- a tick that was made
   module _ {S : Type 0} (told : S → SinkTold) (outs_old outs_new : List S) (n : ℕ) (less : n < N) (some : 1 ≤ W) (parts parts_new : EngineParts) (taps taps_new : ToldTaps) (run : Runs n parts taps.buffers.items)
@@ -86,7 +102,7 @@ module _ (score : Score) (W N m : ℕ) (ends : List Ends) (first : EngineParts) 
     stand_then = made.taps run.calls (subst (λ (c : Course). TapsStand c taps.buffers.items run.calls) (sym goes) run.stand)
 
     pick : (b : ℕ) → b < length base.plan.buffers → Ends
-    pick b known = item ends b (let long = may.long in let many = may.of.many in omega (arith, known, long, many))
+    pick b known = item ends b (let long = may.long in let many = may.many in omega (arith, known, long, many))
 
     -- what a window's end asks
     ends_there : (i : ℕ) → i < may.formed.count → start W N (suc i) ≡ suc n → (n / W ≡ i) × EndsWith W N n

@@ -24,7 +24,7 @@ use Rattle.run_records.proofs.Flattening.{puts-append, takes-append}
 use Rattle.run_records.proofs.Owning.{own_tick}
 use Rattle.stream_meaning.proofs.Answering.{answers_in-append, joined_same}
 use Rattle.trace_replay.specs.Clocks.{AreAnswered, AreInOrder, AreWhole, CanCome, HasReplayed, IsFront, Log, Suits, Waits, buffer_of, got_in, puts_in, takes_in}
-use Rattle.trace_replay.specs.Passes.{HasTurned, IsFormed, IsHalted, IsMadeBy, IsRefused, got_then, nothing, ticks_in}
+use Rattle.trace_replay.specs.Passes.{HasCome, HasTurned, IsFormed, IsHalted, IsMadeBy, IsRefused, got_then, nothing, ticks_in}
 use Rattle.trace_replay.specs.Answering.{AllStand, BufferState, CanComeBy, HasFailed, HasWaited, SameBuffer, SameBuffers, StandsFor, is_list}
 use Rattle.trace_replay.specs.declared.ends.Ends.{Ends}
 use Rattle.trace_replay.specs.Turns.{AreEnds, AreOf, IsAtEnd, chunks_of, no_state}
@@ -415,31 +415,33 @@ module _ (base : Setting) (map_of : ClockMap) (is : IsSetting base map_of) (text
 
     pub turned_wait : AreWhole base text W N m n (λ t. ticks_in base accepted calls m t) → n ≤ N → HasTurned base W N text m n chunks (chunks_of others)
     turned_wait whole low = record {
-      calls = calls;
-      accepted = accepted;
-      within = low;
-      are = are;
-      replayed = record {
-        answered_so = subst (AreAnswered base text chunks) (are nothing) (answered_by base text m chunks states of calls stand own_before d);
-        in_order = subst (AreInOrder base) (are nothing) (order_by base text m chunks states of calls stand own_before d);
-        whole = whole;
+      come = record {
+        calls = calls;
+        accepted = accepted;
+        within = low;
+        are = are;
+        replayed = record {
+          answered_so = subst (AreAnswered base text chunks) (are nothing) (answered_by base text m chunks states of calls stand own_before d);
+          in_order = subst (AreInOrder base) (are nothing) (order_by base text m chunks states of calls stand own_before d);
+          whole = whole;
+        };
+        fed = λ b known fed. chunks_fed base text m chunks others of_then w.front w.stand own_w d b known fed
+            ∙ ap somes (ap (puts_to b) parted.1 ∙ puts-append b calls parted.0 ∙ ap (λ (l : List Answer). puts_to b calls ++ l) (no_put_left b) ∙ append-nil (puts_to b calls));
+        kept = λ b known other. chunks_kept base text m chunks others of_then w.front w.stand own_w d b known other;
       };
-      fed = λ b known fed. chunks_fed base text m chunks others of_then w.front w.stand own_w d b known fed
-          ∙ ap somes (ap (puts_to b) parted.1 ∙ puts-append b calls parted.0 ∙ ap (λ (l : List Answer). puts_to b calls ++ l) (no_put_left b) ∙ append-nil (puts_to b calls));
-      kept = λ b known other. chunks_kept base text m chunks others of_then w.front w.stand own_w d b known other;
       halted = λ less. waited_then;
     }
 
--- where all ticks were made
-pub turned_all : (base : Setting) (map_of : ClockMap) → IsSetting base map_of → (text : ℕ → Log) (W N m : ℕ) (chunks : ℕ → List (List Cell)) (states : List BufferState) → AreOf base text m chunks states
-    → (calls : List Call) (accepted : ℕ → ℕ → Bool) → IsMadeBy base m N accepted calls → AllStand states calls → AreWhole base text W N m N (λ t. ticks_in base accepted calls m t)
-    → HasTurned base W N text m N chunks (chunks_of states)
-turned_all base map_of is text W N m chunks states of calls accepted are stand whole =
-    let own = own_made base map_of is m N accepted calls are in
+-- where so many ticks were made, and none was begun behind them
+pub come_to : (base : Setting) (map_of : ClockMap) → IsSetting base map_of → (text : ℕ → Log) (W N m n : ℕ) → n ≤ N → (chunks : ℕ → List (List Cell)) (states : List BufferState) → AreOf base text m chunks states
+    → (calls : List Call) (accepted : ℕ → ℕ → Bool) → IsMadeBy base m n accepted calls → AllStand states calls → AreWhole base text W N m n (λ t. ticks_in base accepted calls m t)
+    → HasCome base W N text m n chunks (chunks_of states)
+come_to base map_of is text W N m n low chunks states of calls accepted are stand whole =
+    let own = own_made base map_of is m n accepted calls are in
     record {
       calls = calls;
       accepted = accepted;
-      within = omega arith;
+      within = low;
       are = are;
       replayed = record {
         answered_so = subst (AreAnswered base text chunks) (are nothing) (answered_by base text m chunks states of calls stand own no_state);
@@ -448,8 +450,16 @@ turned_all base map_of is text W N m chunks states of calls accepted are stand w
       };
       fed = λ b known fed. chunks_fed base text m chunks states of calls stand own no_state b known fed;
       kept = λ b known other. chunks_kept base text m chunks states of calls stand own no_state b known other;
-      halted = λ less. absurd (omega (arith, less));
     }
+
+-- where all ticks were made
+pub turned_all : (base : Setting) (map_of : ClockMap) → IsSetting base map_of → (text : ℕ → Log) (W N m : ℕ) (chunks : ℕ → List (List Cell)) (states : List BufferState) → AreOf base text m chunks states
+    → (calls : List Call) (accepted : ℕ → ℕ → Bool) → IsMadeBy base m N accepted calls → AllStand states calls → AreWhole base text W N m N (λ t. ticks_in base accepted calls m t)
+    → HasTurned base W N text m N chunks (chunks_of states)
+turned_all base map_of is text W N m chunks states of calls accepted are stand whole = record {
+  come = come_to base map_of is text W N m N (omega arith) chunks states of calls accepted are stand whole;
+  halted = λ less. absurd (omega (arith, less));
+}
 
 -- Where a clock makes all its ticks with these chunks, each call of a run over them is answered.
 module _ (base : Setting) (map_of : ClockMap) (is : IsSetting base map_of) (text : ℕ → Log) (W N m n : ℕ) (chunks : ℕ → List (List Cell)) (states others : List BufferState)

@@ -17,7 +17,7 @@ use Rattle.run_records.specs.Ordered.{made as counted}
 use Rattle.run_records.specs.Records.{answers_of}
 use Rattle.run_records.proofs.Alone.{feeder_runs}
 use Rattle.trace_replay.specs.Clocks.{AreInOrder, HasReplayed, IsFront, Joins, Log, got_in, put_by}
-use Rattle.trace_replay.specs.Passes.{AreAt, AreOrdered, ClockIsAt, HasTurned, IsHalted, got_then, nothing, ticks_in}
+use Rattle.trace_replay.specs.Passes.{AreAt, AreOrdered, ClockIsAt, HasCome, HasTurned, IsHalted, got_then, nothing, ticks_in}
 use Rattle.trace_replay.proofs.Fronts.{Meets, agree_all, answered_more, front_long, got_more, meets, put_more}
 use Rattle.trace_replay.proofs.Fronts.Meets.{before, same, behind}
 use Rattle.trace_replay.proofs.Alike.{order_upto, same_ticks, waits}
@@ -135,7 +135,25 @@ got_longer b calls t n low =
     front_long (somes (takes_of b (joined_upto calls t))) (somes (takes_of b (joined_upto calls n))) (record { rest = somes (takes_of b more.0); are = all })
 
 module _ (base : Setting) (map_of : ClockMap) (is : IsSetting base map_of) (W N : ℕ) (text : ℕ → Log) (made : ℕ → ℕ) (chunks : ℕ → List (List Cell)) (at : AreAt base map_of.running W N text made chunks)
-    (m : ℕ) (low : m < map_of.running) (n : ℕ) (others : ℕ → List (List Cell)) (turn : HasTurned base W N text m n chunks others) where
+    (m : ℕ) (low : m < map_of.running) (n : ℕ) (others : ℕ → List (List Cell)) where
+  -- a run that goes on until a tick waits has come at least as far
+  pub ahead : HasTurned base W N text m n chunks others → made m ≤ n
+  ahead turn = elim (cases_lt n (made m)) [
+    | inr high ↦ high
+    | inl less ↦ absurd (
+        let old = at.clock m low in
+        let here = old.within in
+        let h = turn.halted (omega (arith, less, here)) in
+        let w = waits base map_of is text m chunks chunks (λ b known joins. agree_all (chunks b)) h.given (got_then (at.calls m) nothing) h.accepted (at.accepted m) n (made m) less
+        h.front h.behind h.call h.at h.answered_front h.order_front old.replayed.answered_so old.replayed.in_order h.waits in
+        let b = h.waits.buffer in
+        let few = front_long (somes (takes_of b (ticks_in base (at.accepted m) (at.calls m) m (made m)))) (chunks b) (old.replayed.answered_so.got b h.waits.known h.waits.joins) in
+        let more = got_longer b (λ j. calls_of_tick (answered base (got_then (at.calls m) nothing)) (at.accepted m j) m j) (suc n) (made m) less in
+        omega (arith, w, few, more))
+  ]
+
+module _ (base : Setting) (map_of : ClockMap) (is : IsSetting base map_of) (W N : ℕ) (text : ℕ → Log) (made : ℕ → ℕ) (chunks : ℕ → List (List Cell)) (at : AreAt base map_of.running W N text made chunks)
+    (m : ℕ) (low : m < map_of.running) (n : ℕ) (far : made m ≤ n) (others : ℕ → List (List Cell)) (turn : HasCome base W N text m n chunks others) where
   abbrev B : ℕ
   B = length base.plan.buffers
 
@@ -155,30 +173,14 @@ module _ (base : Setting) (map_of : ClockMap) (is : IsSetting base map_of) (W N 
   tick_of : (calls : List Call) (accepted : ℕ → ℕ → Bool) (k t : ℕ) → List Call
   tick_of calls accepted k t = calls_of_tick (answered base (got_then calls nothing)) (accepted t) k t
 
-  -- it has come at least as far
-  pub ahead : made m ≤ n
-  ahead = elim (cases_lt n (made m)) [
-    | inr high ↦ high
-    | inl less ↦ absurd (
-        let here = old.within in
-        let h = turn.halted (omega (arith, less, here)) in
-        let w = waits base map_of is text m chunks chunks (λ b known joins. agree_all (chunks b)) h.given (got_then (at.calls m) nothing) h.accepted (at.accepted m) n (made m) less
-        h.front h.behind h.call h.at h.answered_front h.order_front old.replayed.answered_so old.replayed.in_order h.waits in
-        let b = h.waits.buffer in
-        let few = front_long (somes (takes_of b (old_ticks m (made m)))) (chunks b) (old.replayed.answered_so.got b h.waits.known h.waits.joins) in
-        let more = got_longer b (λ j. calls_of_tick (answered base (got_then (at.calls m) nothing)) (at.accepted m j) m j) (suc n) (made m) less in
-        omega (arith, w, few, more))
-  ]
-
   pub same_first : (t : ℕ) → t ≤ made m → new_ticks t ≡ old_ticks m t
   same_first t within =
-      let far = ahead in
       same_ticks base map_of is text m chunks chunks (λ b known joins. agree_all (chunks b)) (got_then turn.calls nothing) (got_then (at.calls m) nothing) turn.accepted (at.accepted m)
       n (made m) t (omega (arith, within, far)) within turn.replayed.answered_so old.replayed.answered_so turn.replayed.in_order old.replayed.in_order
 
   calls_more : (rest : List Call) × (turn.calls ≡ at.calls m ++ rest)
   calls_more =
-      let more = joined_first (λ j. calls_of_tick (answered base (got_then turn.calls nothing)) (turn.accepted j) m j) (made m) n ahead in (
+      let more = joined_first (λ j. calls_of_tick (answered base (got_then turn.calls nothing)) (turn.accepted j) m j) (made m) n far in (
         more.0,
         turn.are nothing ∙ more.1 ∙ ap (λ (l : List Call). l ++ more.0) (same_first (made m) (omega arith) ∙ sym (old.are nothing)),
       )
@@ -341,7 +343,6 @@ module _ (base : Setting) (map_of : ClockMap) (is : IsSetting base map_of) (W N 
 
   pub turned : AreAt base C W N text (put_at m n made) others
   turned =
-      let far = ahead in
       let all : made m + (n - made m) ≡ n = omega (arith, far) in
       let found : OrderAt n = subst OrderAt all (upto (n - made m) (omega (arith, all))) in
       record {

@@ -29,24 +29,26 @@ module _ (base : Setting) (clocks : ClockMap) (is : IsSetting base clocks) (none
 
   pub at_end : HasTurned base W N text m N chunks chunks
   at_end = record {
-    calls = [];
-    accepted = λ t b. true;
-    within = omega arith;
-    are = λ rest. sym (calls_are (λ b. rest b) (λ t b. true) N);
-    replayed = record {
-      answered_so = record {
-        puts = λ b low. absurd (omega (arith, low, ap length none));
-        takes = λ b low. absurd (omega (arith, low, ap length none));
-        got = λ b low joins. absurd (omega (arith, low, ap length none));
+    come = record {
+      calls = [];
+      accepted = λ t b. true;
+      within = omega arith;
+      are = λ rest. sym (calls_are (λ b. rest b) (λ t b. true) N);
+      replayed = record {
+        answered_so = record {
+          puts = λ b low. absurd (omega (arith, low, ap length none));
+          takes = λ b low. absurd (omega (arith, low, ap length none));
+          got = λ b low joins. absurd (omega (arith, low, ap length none));
+        };
+        in_order = record { each = λ front behind call e low same. absurd (omega (arith, low, ap length none)) };
+        whole = record {
+          puts = λ j b came within low fed. absurd (omega (arith, low, ap length none));
+          takes = λ j b came within low read. absurd (omega (arith, low, ap length none));
+        };
       };
-      in_order = record { each = λ front behind call e low same. absurd (omega (arith, low, ap length none)) };
-      whole = record {
-        puts = λ j b came within low fed. absurd (omega (arith, low, ap length none));
-        takes = λ j b came within low read. absurd (omega (arith, low, ap length none));
-      };
+      fed = λ b low fed. absurd (omega (arith, low, ap length none));
+      kept = λ b low other. refl;
     };
-    fed = λ b low fed. absurd (omega (arith, low, ap length none));
-    kept = λ b low other. refl;
     halted = λ less. absurd (omega (arith, less));
   }
 

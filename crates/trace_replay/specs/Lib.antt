@@ -2,8 +2,10 @@ pub mod Told
 pub mod Clocks
 pub mod Passes
 pub mod Answering
+pub mod Marks
 pub mod Turns
 pub mod Finds
+pub mod Live
 pub mod Traces
 pub mod Chunks
 pub mod Listings

@@ -75,9 +75,8 @@ pub record IsHalted (base : Setting) (text : ℕ → Log) (chunks : ℕ → List
   pub order_front : AreInOrder base front
   pub waits : Waits base text chunks front call
 
--- Clock m was run from its first tick on, with the chunks that were there, and made n ticks: all, or up to one that waits. The chunks
--- that it put are those of its buffers now.
-pub record HasTurned (base : Setting) (W N : ℕ) (text : ℕ → Log) (m n : ℕ) (chunks others : ℕ → List (List Cell)) : Type 0 where
+-- Clock m has come to its first n ticks, with the chunks that were there. The chunks that it put are those of its buffers now.
+pub record HasCome (base : Setting) (W N : ℕ) (text : ℕ → Log) (m n : ℕ) (chunks others : ℕ → List (List Cell)) : Type 0 where
   pub calls : List Call
   pub accepted : ℕ → ℕ → Bool
   pub within : n ≤ N
@@ -85,6 +84,10 @@ pub record HasTurned (base : Setting) (W N : ℕ) (text : ℕ → Log) (m n : �
   pub replayed : HasReplayed base text W N m n chunks (got_then calls nothing) accepted
   pub fed : (b : ℕ) → b < length base.plan.buffers → feeder base b ≡ m → others b ≡ somes (puts_to b calls)
   pub kept : (b : ℕ) → b < length base.plan.buffers → (feeder base b ≡ m → ⊥) → others b ≡ chunks b
+
+-- Clock m was run from its first tick on, with the chunks that were there, and made n ticks: all, or up to one that waits.
+pub record HasTurned (base : Setting) (W N : ℕ) (text : ℕ → Log) (m n : ℕ) (chunks others : ℕ → List (List Cell)) : Type 0 where
+  pub come : HasCome base W N text m n chunks others
   pub halted : n < N → IsHalted base text chunks m n
 
 -- no clock makes tick n of clock m so that the text tells it, where the chunks got are these or begin with these

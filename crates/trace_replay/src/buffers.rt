@@ -99,7 +99,11 @@ pub fn sides_of(alloc: Global, plan: &Plan, clocks: &ClockMap) -> Result<Sides, 
     let read = readers(alloc, plan)?;
     let feeders = mains_of(alloc, plan, clocks, &fed)?;
     let readers = mains_of(alloc, plan, clocks, &read)?;
-    Ok(Sides { feeders, readers })
+    Ok(Sides {
+        feeders,
+        readers,
+        nodes: read,
+    })
 }
 
 /// Whether the windows of each buffer are legal, by their answers alone.

@@ -22,11 +22,12 @@ pub struct Station<'a> {
     pub start: WeekSecond,
 }
 
-/// By a buffer's number, the main clocks of its feed and of its reader.
+/// By a buffer's number, the main clocks of its feed and of its reader, and the reader's node.
 #[derive(Drop)]
 pub struct Sides {
     pub feeders: Vec<u32>,
     pub readers: Vec<u32>,
+    pub nodes: Vec<u32>,
 }
 
 // The clock of a node.

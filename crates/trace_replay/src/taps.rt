@@ -5,9 +5,10 @@ ghost use Rattle.frame_core.specs.Calls.Call.{Took};
 ghost use Rattle.trace_replay.specs.declared.course.Course.TheVariants.{Goes as IsGoing};
 ghost use Rattle.trace_replay.specs.Turns.{HaveBegun};
 ghost use Rattle.trace_replay.specs.Answering.{BufferState, PutsOn, SameBuffers, TakesOn, TapsStand};
+ghost use Rattle.trace_replay.specs.Marks.{AreWithin, HaveMarked, HaveResumed, IsForgotten};
 
 use crate::course::Course;
-use crate::told::{Put, Taken, ToldBuffer};
+use crate::told::{Mark, Put, Taken, ToldBuffer};
 use frame_core::{Chunk, Gave, Taps};
 use liq_base::Memory;
 use std::alloc::Global;
@@ -54,6 +55,47 @@ pub fn begin_run(buffers: &mut Vec<ToldBuffer>, feeders: &[u32], readers: &[u32]
 {
     for b in 0..buffers.len() {
         buffers[b].begin(feeders[b] == clock, readers[b] == clock);
+    }
+}
+
+/// Goes on with the run of a clock, whose calls came so far on each buffer.
+pub fn resume_run(
+    buffers: &mut Vec<ToldBuffer>,
+    feeders: &[u32],
+    readers: &[u32],
+    clock: u32,
+    marks: &[Mark],
+)
+    requires feeders { length feeders.now ≡ length buffers.old.items }
+    requires readers { length readers.now ≡ length buffers.old.items }
+    requires marks { length marks.now ≡ length buffers.old.items }
+    requires within { AreWithin buffers.old.items marks.now }
+    ensures many { length buffers.new.items ≡ length buffers.old.items }
+    ensures resumed { HaveResumed feeders.now readers.now clock marks.now buffers.old.items buffers.new.items }
+{
+    for b in 0..buffers.len() {
+        buffers[b].resume(feeders[b] == clock, readers[b] == clock, marks[b]);
+    }
+}
+
+/// Marks how far the calls of a run came on each buffer.
+pub fn mark_run(buffers: &[ToldBuffer], marks: &mut Vec<Mark>)
+    requires { length marks.old.items ≡ length buffers.now }
+    ensures many { length marks.new.items ≡ length marks.old.items }
+    ensures marked { HaveMarked buffers.now marks.new.items }
+{
+    for b in 0..buffers.len() {
+        marks[b] = buffers[b].mark();
+    }
+}
+
+/// Drops the chunks of all buffers.
+pub fn forget_run(buffers: &mut Vec<ToldBuffer>)
+    ensures many { length buffers.new.items ≡ length buffers.old.items }
+    ensures forgotten { IsForgotten buffers.old.items buffers.new.items }
+{
+    for b in 0..buffers.len() {
+        buffers[b].begin(true, true);
     }
 }
 

@@ -1,6 +1,7 @@
 // A buffer that answers as a trace tells.
 ghost use Rattle.std.specs.Prelude.{◌≡◌, ◌<◌, ◌≤◌, ◌+◌, ◌&&◌, Some, slice_get, true, IfOk, IfErr, OnErr, length};
 ghost use Rattle.trace_replay.specs.Answering.{BufferState, PutsOn, TakesOn, SameBuffer, begun, is_list};
+ghost use Rattle.trace_replay.specs.Marks.{IsWithin, mark_of, resumed};
 
 use frame_core::Chunk;
 use liq_base::Memory;
@@ -27,6 +28,21 @@ pub enum Put {
     /// No answer can be right.
     Never,
 }
+
+/// How far the calls of a clock came on a buffer: how many puts and takes, and how many of these got a chunk.
+#[derive(Clone, Copy, Debug, PartialEq, Eq)]
+pub struct Mark {
+    pub put_at: usize,
+    pub take_at: usize,
+    pub got: usize,
+}
+
+/// Before the first call.
+pub const NO_MARK: Mark = Mark {
+    put_at: 0,
+    take_at: 0,
+    got: 0,
+};
 
 /// A buffer in the run of one clock, which answers as a trace tells. The chunks that were put to it stay.
 #[derive(Drop)]
@@ -90,6 +106,51 @@ impl ToldBuffer {
             return;
         }
         self.opened = self.chunks.len();
+    }
+
+    /// Goes on with the run of a clock, which feeds it or not, and reads it or not, and whose calls came so far.
+    pub fn resume(&mut self, fed: bool, read: bool, mark: Mark)
+        requires { IsWithin self.old mark }
+        ensures { self.new ≡ resumed self.old fed read mark }
+    {
+        self.fed = fed;
+        self.read = read;
+        self.put_at = mark.put_at;
+        self.take_at = mark.take_at;
+        self.got = mark.got;
+        self.opened = 0;
+        if !fed {
+            self.opened = self.chunks.len();
+        }
+    }
+
+    /// How far the calls of the run came.
+    pub fn mark(&self) -> Mark
+        ensures { result ≡ mark_of self.now }
+    {
+        Mark {
+            put_at: self.put_at,
+            take_at: self.take_at,
+            got: self.got,
+        }
+    }
+
+    /// Whether the chunks that are there suffice for its next takes, up to one that is told to be empty or until so many cells were
+    /// got.
+    pub fn serves(&self, cells: u64) -> bool {
+        let mut left = cells;
+        let mut next = self.got;
+        for gets in &self.takes[self.take_at..] {
+            if left == 0 || !*gets {
+                return true;
+            }
+            if next >= self.chunks.len() {
+                return false;
+            }
+            left = left.saturating_sub(u64::from(self.chunks[next].len()));
+            next += 1;
+        }
+        true
     }
 
     // Both its ends are the clock's.

@@ -4,7 +4,7 @@ use Rattle.trace_replay.specs.declared.course.Course.TheVariants.{Goes, Waits, F
 use Rattle.trace_replay.specs.Answering.{BufferState, same_buffers_refl, same_buffers_trans}
 use Rattle.trace_replay.specs.Passes.{HasTurned}
 use Rattle.trace_replay.specs.Turns.{GoesOn, RunsAt, chunks_of}
-use Rattle.trace_replay.proofs.Playing.{all_made, begins, fails, goes_on, on_ok, waits}
+use Rattle.trace_replay.proofs.Playing.{all_made, begins, fails, goes_on, moves, on_ok, waits}
 use Rattle.trace_replay.proofs.turn.run_clock.Goals as goal
 
 same_number : (m n : ℕ) (f : ℕ → Type 0) → m ≡ n → f m → f n
@@ -29,7 +29,7 @@ loop-tick-preserved c =
       changed = same_buffers_trans c.args.taps.now.buffers.items c.loop-tick.taps.buffers.items c.tick.new.taps.buffers.items c.loop-tick.invariant.changed c.tick.ensures.taps;
       goes = λ score may.
           subst (λ k. RunsAt score.base score.text c.args.window c.args.ticks c.args.engine.now.parts.clock k score.chunks c.tick.new.self.parts c.tick.new.taps.buffers.items) next
-          (goes_on score c.args.window c.args.ticks c.args.engine.now.parts.clock c.args.ends.now c.args.engine.now.parts c.args.taps.now.buffers.items may
+          (goes_on score c.args.window c.args.ticks c.args.engine.now.parts.clock c.args.ends.now c.args.taps.now.buffers.items (moves score c.args.window c.args.ticks c.args.engine.now.parts.clock c.args.ends.now c.args.engine.now.parts c.args.taps.now.buffers.items may)
           (λ s. faults_alone 0) c.loop-tick.engine.outs c.tick.new.self.outs c.loop-tick.tick c.loop-tick-test.true c.requires.some c.loop-tick.engine.parts c.tick.new.self.parts c.loop-tick.taps c.tick.new.taps
           (c.loop-tick.invariant.goes score may) c.loop-tick.invariant.course c.tick.ensures.setting c.tick.ensures.clock (on_ok c.tick.result ok c.tick.ensures.ticked) c.tick.ensures.taps g.0 g.1);
     }
@@ -40,7 +40,7 @@ returns-in-Waits-clause-made c = λ n score e may.
     let g : c.tick.new.taps.course ≡ Waits = subst (GoesOn c.args.window c.args.ticks c.loop-tick.tick c.tick.new.taps.course c.deref.result.now c.args.ends.now) c.in-Waits.is c.course_of.ensures in
     let here : c.loop-tick.tick ≡ n = cc in
     subst (λ k. HasTurned score.base c.args.window c.args.ticks score.text c.args.engine.now.parts.clock k score.chunks (chunks_of c.tick.new.taps.buffers.items)) here
-    (waits score c.args.window c.args.ticks c.args.engine.now.parts.clock c.args.ends.now c.args.engine.now.parts c.args.taps.now.buffers.items may
+    (waits score c.args.window c.args.ticks c.args.engine.now.parts.clock c.args.ends.now c.args.taps.now.buffers.items (moves score c.args.window c.args.ticks c.args.engine.now.parts.clock c.args.ends.now c.args.engine.now.parts c.args.taps.now.buffers.items may)
     (λ s. faults_alone 0) c.loop-tick.engine.outs c.tick.new.self.outs c.loop-tick.tick c.loop-tick-test.true c.requires.some c.loop-tick.engine.parts c.tick.new.self.parts c.loop-tick.taps c.tick.new.taps
     (c.loop-tick.invariant.goes score may) c.loop-tick.invariant.course c.tick.ensures.setting c.tick.ensures.clock (on_ok c.tick.result ok c.tick.ensures.ticked) c.tick.ensures.taps g)
 
@@ -50,7 +50,7 @@ returns-in-Fails-clause-refused c = λ score e may.
     let g : GoesOn c.args.window c.args.ticks c.loop-tick.tick c.tick.new.taps.course c.tick.new.taps.buffers.items c.args.ends.now Fails =
     subst (λ (l : List BufferState). GoesOn c.args.window c.args.ticks c.loop-tick.tick c.tick.new.taps.course l c.args.ends.now Fails) c.deref.ensures.value
     (subst (GoesOn c.args.window c.args.ticks c.loop-tick.tick c.tick.new.taps.course c.deref.result.now c.args.ends.now) c.in-Fails.is c.course_of.ensures) in
-    fails score c.args.window c.args.ticks c.args.engine.now.parts.clock c.args.ends.now c.args.engine.now.parts c.args.taps.now.buffers.items may
+    fails score c.args.window c.args.ticks c.args.engine.now.parts.clock c.args.ends.now c.args.taps.now.buffers.items (moves score c.args.window c.args.ticks c.args.engine.now.parts.clock c.args.ends.now c.args.engine.now.parts c.args.taps.now.buffers.items may)
     (λ s. faults_alone 0) c.loop-tick.engine.outs c.tick.new.self.outs c.loop-tick.tick c.loop-tick-test.true c.requires.some c.loop-tick.engine.parts c.tick.new.self.parts c.loop-tick.taps c.tick.new.taps
     (c.loop-tick.invariant.goes score may) c.loop-tick.invariant.course c.tick.ensures.setting c.tick.ensures.clock (on_ok c.tick.result ok c.tick.ensures.ticked) c.tick.ensures.taps g
 
@@ -59,7 +59,7 @@ returns-clause-made c = λ n score e may.
     let here : c.args.ticks ≡ n = cc in
     let full : c.loop-tick.tick ≡ c.args.ticks = omega (arith, c.loop-tick-test.false, c.loop-tick.auto.tick-end) in
     subst (λ k. HasTurned score.base c.args.window c.args.ticks score.text c.args.engine.now.parts.clock k score.chunks (chunks_of c.loop-tick.taps.buffers.items)) here
-    (all_made score c.args.window c.args.ticks c.args.engine.now.parts.clock c.args.ends.now c.args.engine.now.parts c.args.taps.now.buffers.items may c.loop-tick.tick c.loop-tick.engine.parts c.loop-tick.taps.buffers.items full
+    (all_made score c.args.window c.args.ticks c.args.engine.now.parts.clock c.args.ends.now c.args.taps.now.buffers.items (moves score c.args.window c.args.ticks c.args.engine.now.parts.clock c.args.ends.now c.args.engine.now.parts c.args.taps.now.buffers.items may) c.loop-tick.tick c.loop-tick.engine.parts c.loop-tick.taps.buffers.items full
     (c.loop-tick.invariant.goes score may))
 
 pub returns-in-Waits-clause-same : goal.returns-in-Waits-clause-same

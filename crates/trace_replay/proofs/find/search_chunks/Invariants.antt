@@ -1,6 +1,6 @@
 use Rattle.std.proofs.Common.{◌≤◌}
 use Rattle.trace_replay.specs.Finds.{ArePassing, AreStuck, base_at}
-use Rattle.trace_replay.proofs.find.find_chunks.Given as goal
+use Rattle.trace_replay.proofs.find.search_chunks.Given as goal
 
 abbrev pub invariant-loop-left : goal.invariant-loop-left
 invariant-loop-left l = record {
