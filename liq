@@ -1,6 +1,6 @@
 #!/bin/sh
 # Runs the proved program with these words in the caller's folder, and ends with its status. In a checkout it is built first
-# if need be, and the filter `where` with it; where that fails it ends with 126, or 127 where the kit is missing. As ./install
+# if need be, and the filter `where` with it; where that fails it ends with 126, or 127 where the kit is missing. As tools/install
 # puts it in place, it finds its programs beside it. A file that reaches its limit of size is a failed write, and no signal.
 # Where standard error is a terminal, and standard output is open, `terminal` runs the program: it shows how far a rendering is, the
 # places of the script that a refusal names, what to do, and what the doctor finds behind the statuses 3 and 4. Everywhere else, and

@@ -1,1 +1,0 @@
-"""A night that is rendered in parts: what ./night does, one module a noun."""

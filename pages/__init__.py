@@ -1,1 +1,0 @@
-"""The page of a rendering: what ./page makes, one module a noun."""

@@ -1,1 +1,0 @@
-"""A library of sounds as WAV files: what ./prepare makes, one module a noun."""

@@ -1,0 +1,1 @@
+"""A night that is rendered in parts: what liq-night does, one module a noun."""

@@ -1,0 +1,1 @@
+"""The page of a rendering: what liq-page makes, one module a noun."""

@@ -1,0 +1,165 @@
+"""What the pages say of crates and of their statements, and the commands that they have. tests/run calls `checks`."""
+import glob
+import os
+import re
+import subprocess
+
+from lib import contracts
+from lib.common import TOP
+from lib.documents import cells_of, crates_and_their_uses, documents, section, text_of
+
+# The most words that the page of a crate has.
+MOST_WORDS = 300
+
+# Operators of a plan, of several kinds: where all of them stand, operators are gone through one by one.
+OPERATORS = ("Mean", "Rotate", "Crossfade", "Blank")
+
+# The first words of a command that are files of the repository.
+OWN = re.compile(r"(?:\.\./|\./)?(?:tools|tests|bench)/[\w/.-]+|\.\.?/[a-z]+(?=$|\s)")
+
+# A call of a tool on a page, behind `tools/`.
+CALLS = re.compile(r"tools/(theorem(?: [\w:]+| --[a-z]+(?:=\d+)?)+|lists(?: \w+)+)")
+
+
+def told_by(*words):
+    """What a tool prints, or nothing where it fails."""
+    call = [os.path.join(TOP, "tools", words[0]), *words[1:]]
+    done = subprocess.run(call, capture_output=True, check=False, timeout=900)
+    return done.stdout.decode() if done.returncode == 0 else ""
+
+
+def page_of(crate):
+    return text_of(f"crates/{crate}/README.md")
+
+
+def lengths_that_pass(_program):
+    """The page of a crate has at most so many words; what has no letter and no digit is none."""
+    counts = {crate: sum(1 for word in page_of(crate).split() if re.search(r"\w", word))
+              for crate in crates_and_their_uses()}
+    return [f"crates/{crate}/README.md has {count} words" for crate, count in counts.items() if count > MOST_WORDS]
+
+
+def edits_of(crate):
+    """The edits of a crate that must fail."""
+    paths = glob.glob(os.path.join(TOP, "crates", crate, "must-fail", "*.edit"))
+    return {os.path.basename(path).removesuffix(".edit") for path in paths}
+
+
+def wrong_refusal(crate, clause, call):
+    """What is wrong with an edit that is refused by a clause of a call, or by a call whose clauses have no names."""
+    there = contracts.functions(crate, call)
+    if not there:
+        return [f"{crate} has no function {call}"]
+    known = set().union(*map(contracts.named_by, there))
+    return [f"{call} has no clause {clause}"] if clause and clause not in known else []
+
+
+def wrong_edits(crate):
+    """What is wrong with the paragraph of the edits that must fail on the page of a crate."""
+    told = page_of(crate).partition("Must-fail edit")[2].split("\n\n", 1)[0]
+    edits = edits_of(crate)
+    found = [f"the edit {name} is not told" for name in sorted(edits) if f"`{name}`" not in told]
+    found += ["edits are told, and there are none"] if told and not edits else []
+    for clause, call in re.findall(r"refused by `(\w+)` of `([\w:]+)`", told):
+        found += wrong_refusal(crate, clause, call)
+    for call in re.findall(r"refused by `([\w:]+)`(?! of)", told):
+        found += wrong_refusal(crate, "", call)
+    return found
+
+
+def refusals_that_differ(_program):
+    """The page of a crate names each edit that must fail, and what refuses it: `clause` of `call`, or `call`."""
+    return [f"crates/{crate}/README.md: {fault}" for crate in crates_and_their_uses() for fault in wrong_edits(crate)]
+
+
+def statements_that_differ(_program):
+    """The count of the theorem on the page of promises is that of the tool."""
+    count = told_by("theorem", "--count").strip()
+    told = count and count in text_of("docs/promises.md")
+    return [] if told else [f"docs/promises.md does not tell the count: {count}"]
+
+
+def tools_that_fail(_program):
+    """Each call of tools/facts on a page names a crate, and each of tools/theorem and tools/lists prints something."""
+    found, calls = [], {}
+    for page in documents():
+        text = text_of(page)
+        crates = re.findall(r"tools/facts (?:--whole )?([a-z]\w*)", text)
+        found += [f"{page} asks for facts of {name}" for name in crates if name not in crates_and_their_uses()]
+        calls.update({words: page for words in CALLS.findall(text) if not re.search(r"\b[A-Z]{2,}\b", words)})
+    empty = [words for words in calls if not told_by(*words.split()).strip("0 files, crates\n")]
+    return found + [f"{calls[words]} asks for tools/{words}, which prints nothing" for words in empty]
+
+
+def commands_of(text):
+    """The lines of a page that are commands: those of a block for a shell, and those that stand indented."""
+    for block in re.findall(r"```sh\n(.*?)```", text, flags=re.S):
+        yield from block.split("\n")
+    for line in re.findall(r"^    .*$", text, flags=re.M):
+        yield line.strip().removeprefix("$ ")
+
+
+def commands_that_are_missing(_program):
+    """Each command of a page that is a file of the repository is there, from the top or from the folder of a page."""
+    found = []
+    for page in documents():
+        places = [os.path.join(TOP, place) for place in ("", os.path.dirname(page), "examples", "dist")]
+        words = [word for line in commands_of(text_of(page))
+                 for word in re.findall(r"(?:^|[|&;] *)(%s)" % OWN.pattern, line)]
+        found += [f"{page} has the command {word}" for word in words
+                  if not any(os.path.exists(os.path.join(place, word)) for place in places)]
+    return found
+
+
+def lists_that_are_not_told(_program):
+    """Each file that goes through operators one by one stands on the page on extending, in a line with its crate."""
+    lines, found = text_of("docs/extending.md").split("\n"), []
+    for path in re.findall(r"^crates/(\S+) \d+$", told_by("lists", *OPERATORS), flags=re.M):
+        crate, _, rest = path.partition("/")
+        if not any(f"{crate}/" in line and f"{rest}`" in line for line in lines):
+            found.append(f"docs/extending.md does not name {rest} of {crate}")
+    return found
+
+
+def is_defined(crate, word):
+    """Whether a crate has a file of this path, or a definition or a type of this name."""
+    if "/" in word:
+        return os.path.exists(os.path.join(TOP, "crates", crate, word))
+    head = r"^(?:abbrev |unfoldable )?pub (?:record |data |struct |enum |trait )?%s\b" % re.escape(word)
+    paths = [path for end in ("specs/*.antt", "src/**/*.rt")
+             for path in glob.glob(f"{TOP}/crates/{crate}/{end}", recursive=True)]
+    return any(re.search(head, contracts.text_of(path), re.M) for path in paths)
+
+
+def wrong_words(crates, cell):
+    """The words of a cell of the table of crates that are no function of these crates, no clause of a function before
+    them, no crate, no file and no definition."""
+    found, uses = [], crates_and_their_uses()
+    around = [name for crate in crates for name in [crate, *uses[crate]]]
+    for part in cell.split(";"):
+        known = set()
+        for word in re.findall(r"`([^`]+)`", part):
+            there = [one for crate in crates for one in contracts.functions(crate, word)]
+            known |= {name for one in there for name in contracts.named_by(one)}
+            if not there and word not in known and word not in uses:
+                found += [] if any(is_defined(crate, word) for crate in around) else [word]
+    return found
+
+
+def crates_that_differ(_program):
+    """In the table of crates each clause to read first stands at the function before it."""
+    rows = [cells for cells in map(cells_of, section(text_of("docs/architecture.md"), "Crates")) if len(cells) == 4]
+    named = [(re.findall(r"`(\w+)`", cells[1]), cells[3]) for cells in rows]
+    return [f"docs/architecture.md names {word} beside {crates[0]}"
+            for crates, cell in named if crates for word in wrong_words(crates, cell)]
+
+
+checks = {
+    "pages/crates": crates_that_differ,
+    "pages/lengths": lengths_that_pass,
+    "pages/edits": refusals_that_differ,
+    "pages/theorem": statements_that_differ,
+    "pages/tools": tools_that_fail,
+    "pages/commands": commands_that_are_missing,
+    "pages/lists": lists_that_are_not_told,
+}

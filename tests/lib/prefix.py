@@ -1,0 +1,21 @@
+"""What tools/install puts in place, below a folder of a test, with a program that is built already."""
+import os
+import shutil
+
+from lib.common import TOP
+
+
+def installed_below(prefix, program):
+    """Puts the files and links of tools/installed below a folder, and for each program this one."""
+    with open(os.path.join(TOP, "tools", "installed"), encoding="utf-8") as file:
+        lines = [line.split() for line in file if not line.startswith("#")]
+    for how, source, place in lines:
+        target = os.path.join(prefix, place)
+        os.makedirs(os.path.dirname(target), exist_ok=True)
+        if how == "program" and source == "liq_program":
+            shutil.copy(program, target)
+        elif how == "file":
+            shutil.copy(os.path.join(TOP, source), target)
+        elif how == "link":
+            os.symlink(source, target)
+    return os.path.join(prefix, "bin")
