@@ -6,12 +6,12 @@ import statistics
 import subprocess
 import time
 
-HERE = os.path.dirname(os.path.abspath(__file__))
+BENCH = os.path.dirname(os.path.dirname(os.path.abspath(__file__)))
 
 
 def compile_c(place, name, source, *words):
-    """Builds a C program of this folder."""
-    call = [os.environ.get("CC", "cc"), *words, "-o", os.path.join(place, name), os.path.join(HERE, source)]
+    """Builds a C program of bench/."""
+    call = [os.environ.get("CC", "cc"), *words, "-o", os.path.join(place, name), os.path.join(BENCH, source)]
     subprocess.run(call, check=True)
 
 

@@ -30,7 +30,7 @@ def names():
 def commands():
     """The files and folders of the top that the commands need."""
     sources = {source.split("/")[0] for how, source, _ in installed() if how in ("file", "files")}
-    return sorted(sources | {"where", "picture", "install", "package", "tools"})
+    return sorted(sources | {"tools"})
 
 
 class Checkout:

@@ -13,7 +13,10 @@ from lib.common import TESTS, TOP, left_samples, sound
 SECONDS = 60
 
 # Tops of paths: a text in backticks that begins with one of them and `/` is a path of the repository.
-TOPS = ("crates", "docs", "tests", "tools", "bench", "examples")
+TOPS = ("crates", "docs", "tests", "tools", "bench", "examples", "bin", "share")
+
+# Where the pages of the manual lie.
+MANUAL = "share/man/man1"
 
 
 def text_of(path):
@@ -21,10 +24,15 @@ def text_of(path):
         return file.read()
 
 
+def manuals():
+    """The pages of the manual, by their paths from the top."""
+    return sorted(os.path.join(MANUAL, name) for name in os.listdir(os.path.join(TOP, MANUAL)))
+
+
 def documents():
     """The pages of the repository, by their paths from its top."""
-    found = ["README.md", "CHANGELOG.md"] + [name for name in os.listdir(TOP) if name.endswith(".1")]
-    for folder in ("docs", "examples", "bench", "tests", "crates"):
+    found = ["README.md", "CHANGELOG.md", "CONTRIBUTING.md", *manuals()]
+    for folder in ("docs", "examples", "bench", "tests", "tools", "crates"):
         for base, folders, names in os.walk(os.path.join(TOP, folder)):
             folders[:] = [name for name in folders if name != "out"]
             found += [os.path.relpath(os.path.join(base, name), TOP) for name in names if name.endswith(".md")]
@@ -388,7 +396,7 @@ def known_forms(program):
 
 def forms_of_the_man_page():
     """The forms of its SYNOPSIS."""
-    text = text_of("share/man/man1/liq.1").split(".SH SYNOPSIS\n", 1)[1].split(".SH ", 1)[0]
+    text = text_of(f"{MANUAL}/liq.1").split(".SH SYNOPSIS\n", 1)[1].split(".SH ", 1)[0]
     forms = [part.split(".YS")[0] for part in text.split(".SY liq\n")[1:]]
     plain = [re.sub(r"\\f.", "", re.sub(r"^\.(?:B|I|RB) ", "", form, flags=re.M)).replace("\\-", "-").replace(" ]", "]").replace("[ ", "[") for form in forms]
     return dict(parts_of(" | ".join(" ".join(form.split()) for form in plain)))
@@ -430,7 +438,7 @@ def forms_that_differ(program):
     """The man page, the README and the completion have the forms that the program takes, and the page has no warning."""
     known = known_forms(program)
     found = [f"{name} has {forms}, the program {known}"
-             for name, forms in (("share/man/man1/liq.1", forms_of_the_man_page()), ("README.md", forms_of_the_readme())) if forms != known]
+             for name, forms in ((f"{MANUAL}/liq.1", forms_of_the_man_page()), ("README.md", forms_of_the_readme())) if forms != known]
     if shutil.which("bash"):
         found += completions_that_differ()
         if completed(["liq", ""]) != [form.split()[0] for form in known]:
@@ -438,9 +446,7 @@ def forms_that_differ(program):
         for form, options in known.items():
             offered, wanted = completed(["liq"] + spoken(form) + [""]), [re.sub("=.*", "=", option) for option in options]
             found += [f"bash offers {offered} behind {form}"] if offered != wanted else []
-    pages = ("share/man/man1/liq.1", "share/man/man1/liq-where.1", "share/man/man1/liq-advice.1", "share/man/man1/liq-doctor.1", "share/man/man1/liq-page.1", "share/man/man1/liq-picture.1", "share/man/man1/liq-prepare.1",
-             "share/man/man1/liq-night.1", "share/man/man1/liq-week.1")
-    for page in pages if shutil.which("man") else ():
+    for page in manuals() if shutil.which("man") else ():
         done = subprocess.run(["man", "--warnings", "-l", page], cwd=TOP, capture_output=True, check=False, timeout=SECONDS)
         found += [f"{page}: {done.stderr.decode()}"] if done.stderr or done.returncode else []
     return found
@@ -480,8 +486,7 @@ def recipes_that_fail(program):
 def versions_that_differ(_program):
     """The README, the list of changes and the pages of the manual have the version of the file VERSION."""
     version = text_of("VERSION").strip()
-    pages = [name for name in os.listdir(TOP) if name.endswith(".1")]
-    wanted = {"README.md": f"This is version {version} ", **{page: f'"Dizhuppan {version}"' for page in pages}}
+    wanted = {"README.md": f"This is version {version} ", **{page: f'"Dizhuppan {version}"' for page in manuals()}}
     found = [f"{page} has not the version {version}" for page, text in wanted.items() if text not in text_of(page)]
     first = re.search(r"^## (\S+)$", text_of("CHANGELOG.md"), flags=re.M)[1]
     return found + ([f"the list of changes begins with {first}"] if first != version else [])

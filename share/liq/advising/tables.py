@@ -12,8 +12,8 @@ DOING = ("leave it out", "put ", "write ")
 
 
 def page(name):
-    """The lines of a page, as it lies in a checkout, or beside the installed modules."""
-    for folder in (os.path.join(HERE, "..", "docs"), os.path.join(HERE, "docs")):
+    """The lines of a page, as it lies beside the installed modules, or in a checkout."""
+    for folder in (os.path.join(HERE, "docs"), os.path.join(HERE, "..", "..", "..", "docs")):
         try:
             with open(os.path.join(folder, name), encoding="utf-8") as file:
                 return file.read().split("\n")

@@ -1,12 +1,12 @@
-"""The built programs beside a command."""
+"""The built programs that a command calls."""
 import os
 import subprocess
 
 
 def built(top, names):
-    """The paths of built programs: those that tools/install put beside the command, or those of the checkout, which
-    are proved and built first if need be; where that fails its status."""
-    installed = [os.path.join(top, name) for name in names]
+    """The paths of built programs: those that are installed below the folder `top`, or those of a checkout there,
+    which are proved and built first if need be; where that fails its status."""
+    installed = [os.path.join(top, "lib", "liq", name) for name in names]
     if all(os.access(path, os.X_OK) for path in installed):
         return installed
     try:
