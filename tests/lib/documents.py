@@ -8,12 +8,20 @@ import sys
 import tempfile
 
 from lib import contracts
+from lib.checkout import installed
 from lib.common import TESTS, TOP, left_samples, sound
 
 SECONDS = 60
 
-# Tops of paths: a text in backticks that begins with one of them and `/` is a path of the repository.
+# Tops of paths: a text in backticks that begins with one of them and `/` is a path of the repository, perhaps with words behind it.
 TOPS = ("crates", "docs", "tests", "tools", "bench", "examples", "bin", "share")
+NAMED = re.compile(r"`((?:%s)/[^`\s]*)(?: [^`\n]*)?`" % "|".join(TOPS))
+
+# A command beside the folder in which it is called, in backticks.
+CALLED = re.compile(r"`(\.\.?/[a-z][\w/-]*)(?: [^`\n]*)?`")
+
+# A link of a page: its text and its path.
+LINK = re.compile(r"\[([^\]\n]*)\]\(([^)\s#]+)(?:#[^)\s]*)?\)")
 
 # Where the pages of the manual lie.
 MANUAL = "share/man/man1"
@@ -40,10 +48,13 @@ def documents():
 
 
 def is_there(path, places):
-    """Whether a path exists, counted from one of these folders; words in capitals and a star stand for any name."""
+    """Whether a path exists, counted from one of these folders, or is a place of what is installed; words in capitals and a star
+    stand for any name."""
     if re.search(r"[A-Z]{4,}|NAME|[*{<]", re.sub(r"README\.md|DECISIONS\.md", "", path)):
         return True
-    return any(os.path.exists(os.path.join(TOP, place, path)) for place in places)
+    if any(os.path.exists(os.path.join(TOP, place, path)) for place in places):
+        return True
+    return any(f"{place}/".startswith(path.rstrip("/") + "/") for _, _, place in installed())
 
 
 def sources():
@@ -61,8 +72,9 @@ def paths_that_are_missing(_program):
     found = []
     for page in documents():
         text, place = text_of(page), os.path.dirname(page)
-        named = re.findall(r"`((?:%s)/[^`\s]*)`" % "|".join(TOPS), text)
+        named = NAMED.findall(text)
         places = ["", place]
+        found += [f"{page} has the command {path}" for path in CALLED.findall(text) if not is_there(path, [*places, "examples"])]
         if page.startswith(("crates/", "docs/")):
             named += re.findall(r"`((?:specs|proofs|src|must-fail)/[\w/.-]+)`", text)
             places += [f"crates/{name}" for name in re.findall(r"`(?:crates/)?([a-z_]+)[`/]", text)]
@@ -70,8 +82,31 @@ def paths_that_are_missing(_program):
         found += [f"{page} names {path}" for path in named if not is_there(path, places)]
         found += [f"{page} links to {link}" for link in linked if not os.path.exists(os.path.join(TOP, place, link.split("#")[0]))]
     for page in sources():
-        named = re.findall(r"`((?:%s)/[^`\s]*)`" % "|".join(TOPS), text_of(page))
-        found += [f"{page} names {path}" for path in named if not is_there(path, [""])]
+        found += [f"{page} names {path}" for path in NAMED.findall(text_of(page)) if not is_there(path, [""])]
+    return found
+
+
+def placed():
+    """The files of the checkout that are installed, each with its place."""
+    for how, source, place in installed():
+        if how == "file":
+            yield source, place
+        elif how == "files":
+            for name in os.listdir(os.path.join(TOP, source)):
+                if name.endswith((".liq", ".py", ".md", ".js", ".css", ".png")):
+                    yield f"{source}/{name}", f"{place}/{name}"
+
+
+def links_that_leave_the_package(_program):
+    """Each relative link of an installed page leads to an installed file or folder, or its text ends with the words that it leads
+    into the repository, and then to none."""
+    pages, found = dict(placed()), []
+    there = {"/".join(place.split("/")[:length]) for place in pages.values() for length in range(1, 9)}
+    for page, place in sorted(pages.items()):
+        for text, link in LINK.findall(text_of(page)) if page.endswith(".md") else []:
+            is_placed = os.path.normpath(os.path.join(os.path.dirname(place), link)) in there
+            if not re.match("https?:", link) and is_placed == text.endswith("in the repository"):
+                found.append(f"{page}, as it is installed, links to {link} by [{text}]")
     return found
 
 
@@ -124,9 +159,10 @@ def tables_of(text):
 
 
 def clauses_that_are_missing(_program):
-    """Each name in a column of clauses stands in the code or in the definitions."""
+    """Each name in a column of clauses, or behind the word, stands in the code or in the definitions."""
     there = {word for path in sources() for word in re.findall(r"\w+", text_of(path))}
     cells = [(page, cell) for page in documents() for row in rows_of_tables(text_of(page)) for head, cell in row if "clause" in head]
+    cells += [(page, cell) for page in documents() for cell in re.findall(r"\bclauses? ((?:`[\w.]+`(?:, | and )?)+)", text_of(page))]
     return [f"{page} names the clause {word}" for page, cell in cells for name in re.findall(r"`([^`]+)`", cell)
             for word in re.findall(r"[A-Za-z_]\w*", name) if word not in there]
 
@@ -507,6 +543,7 @@ checks = {
     "documents/sources": cases_without_a_source,
     "documents/versions": versions_that_differ,
     "documents/paths": paths_that_are_missing,
+    "documents/package": links_that_leave_the_package,
     "documents/sections": sections_that_are_missing,
     "documents/clauses": clauses_that_are_missing,
     "documents/contracts": contracts_that_differ,

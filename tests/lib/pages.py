@@ -5,8 +5,9 @@ import re
 import subprocess
 
 from lib import contracts
+from lib.checkout import installed
 from lib.common import TOP
-from lib.documents import cells_of, crates_and_their_uses, documents, section, text_of
+from lib.documents import cells_of, crates_and_their_uses, documents, is_there, rows_of_tables, section, text_of
 
 # The most words that the page of a crate has.
 MOST_WORDS = 300
@@ -15,7 +16,7 @@ MOST_WORDS = 300
 OPERATORS = ("Mean", "Rotate", "Crossfade", "Blank")
 
 # The first words of a command that are files of the repository.
-OWN = re.compile(r"(?:\.\./|\./)?(?:tools|tests|bench)/[\w/.-]+|\.\.?/[a-z]+(?=$|\s)")
+OWN = re.compile(r"(?:\.\./|\./)?(?:bin|tools|tests|bench)/[\w/.-]+|\.\.?/[a-z]+(?=$|\s)")
 
 # A call of a tool on a page, behind `tools/`.
 CALLS = re.compile(r"tools/(theorem(?: [\w:]+| --[a-z]+(?:=\d+)?)+|lists(?: \w+)+)")
@@ -100,15 +101,33 @@ def commands_of(text):
 
 
 def commands_that_are_missing(_program):
-    """Each command of a page that is a file of the repository is there, from the top or from the folder of a page."""
-    found = []
+    """Each command of a page that is a file of the repository is there, from the top or from the folder of a page; and each that is
+    called by the name of an installed one, as `liq-page`, is installed."""
+    found, names = [], {os.path.basename(place) for _, _, place in installed() if place.startswith("bin/")}
     for page in documents():
-        places = [os.path.join(TOP, place) for place in ("", os.path.dirname(page), "examples", "dist")]
+        called = re.findall(r"(?<![\w\\-])liq\\?-[a-z]+\b", text_of(page))
+        found += [f"{page} has the command {name}" for name in called if name.replace("\\", "") not in names]
         words = [word for line in commands_of(text_of(page))
                  for word in re.findall(r"(?:^|[|&;] *)(%s)" % OWN.pattern, line)]
-        found += [f"{page} has the command {word}" for word in words
-                  if not any(os.path.exists(os.path.join(place, word)) for place in places)]
+        places = ["", os.path.dirname(page), "examples", "dist"]
+        found += [f"{page} has the command {word}" for word in words if not is_there(word, places)]
     return found
+
+
+def crates_that_are_missing(_program):
+    """Each crate that a page names behind that word, or first in a column of crates, is in crates.txt or of the kit; so is each that
+    a measurement of bench/texts uses."""
+    uses, told = crates_and_their_uses(), []
+    there = {name for names in uses.values() for name in names}.union(uses)
+    for page in documents():
+        text = text_of(page)
+        cells = re.findall(r"\bcrates? ((?:`\w+`(?:, | and )?)+)", text)
+        first = [re.findall(r"^`(\w+)`", cell) for row in rows_of_tables(text) for head, cell in row if head == "crate"]
+        told += [(page, name) for cell in cells for name in re.findall(r"\w+(?=`)", cell)] + [(page, name) for names in first for name in names]
+    for path in sorted(glob.glob(os.path.join(glob.escape(TOP), "bench", "texts", "*", "main.rattle"))):
+        page = os.path.relpath(path, TOP)
+        told += [(page, name) for name in text_of(page).split("\n", 1)[0].partition("uses:")[2].split()]
+    return [f"{page} names the crate {name}" for page, name in told if name not in there]
 
 
 def lists_that_are_not_told(_program):
@@ -156,6 +175,7 @@ def crates_that_differ(_program):
 
 checks = {
     "pages/crates": crates_that_differ,
+    "pages/names": crates_that_are_missing,
     "pages/lengths": lengths_that_pass,
     "pages/edits": refusals_that_differ,
     "pages/theorem": statements_that_differ,
