@@ -15,7 +15,7 @@ ghost use Rattle.where_program.specs.Sources.{IsInStatement, IsShown, IsSourceAt
 ghost use Rattle.where_program.specs.Wanted.{Tells};
 
 use crate::calls::caller;
-use crate::fronts::{before, beginning, tokens_of};
+use crate::fronts::{before, beginning, calling, tokens_of};
 use crate::reading::{no_script, no_tokens};
 use crate::wanted::Wanted;
 use liq_base::Memory;
@@ -143,7 +143,7 @@ fn shown_in(
     ensures { IfOk result (IsShown (Tells wanted) text.now tokens.now (view_script script.now) statement) }
 {
     let done = before(text, tokens, script, statement);
-    let own = tokens_of(tokens, script, statement);
+    let own = calling(tokens_of(tokens, script, statement));
     match caller(alloc, text, done, own, wanted)? {
         Some(at) => Ok(at),
         None => Ok(beginning(text, tokens, script, statement)),
