@@ -1,7 +1,11 @@
 -- The statement that makes a source, and the call in it.
-use Rattle.std.specs.Prelude.{◌≡◌, ◌≢◌, ◌⊎◌, ℕ, ◌+◌, Bool, List, length, take, drop, Option, Some, None, is_some}
+use Rattle.std.specs.Prelude.{◌≡◌, ◌≢◌, ◌⊎◌, ℕ, ◌+◌, Bool, true, false, List, [], ◌∷◌, length, take, drop, Option, Some, None, is_some, if◌then◌else◌}
 use Rattle.script_lex.specs.Tokens.{AreTokens}
+use Rattle.script_lex.specs.declared.token.Keyword.{Keyword}
+use Rattle.script_lex.specs.declared.token.Keyword.TheVariants.{Def}
 use Rattle.script_lex.specs.declared.token.Token.{Token}
+use Rattle.script_lex.specs.declared.token.TokenKind.{TokenKind}
+use Rattle.script_lex.specs.declared.token.TokenKind.TheVariants as kind
 use Rattle.script_grammar.specs.Tree.{Script}
 use Rattle.script_grammar.specs.Spelling.{spelling}
 use Rattle.script_grammar.specs.Placed.{IsPlaced}
@@ -35,9 +39,26 @@ first_of tokens script number = or_all tokens (first_token script number)
 abbrev pub tokens_of : List Token → Script → ℕ → List Token
 tokens_of tokens script number = drop (first_of tokens script number) (take (first_of tokens script (number + 1)) tokens)
 
+-- the word of a def
+abbrev pub is_def_word : Keyword → Bool
+is_def_word Def = true
+is_def_word word = false
+
+abbrev pub is_def : TokenKind → Bool
+is_def (kind.Keyword word) = is_def_word word
+is_def k = false
+
+abbrev pub begins_def : List Token → Bool
+begins_def [] = false
+begins_def (token ∷ tokens) = is_def token.kind
+
+-- what of a statement's tokens may hold calls: of a def, what stands behind its name, which opens no call
+abbrev pub calling : List Token → List Token
+calling tokens = if begins_def tokens then drop 2 tokens else tokens
+
 -- a byte of a statement: where it begins, or where a call of it begins that tells what is wanted behind the statements before
 abbrev pub IsShown : (Tells : List ℕ → Bool → Type 0) → List ℕ → List Token → Script → ℕ → ℕ → Type 0
-IsShown Tells text tokens script number at = (at ≡ beginning text tokens script number) ⊎ IsCaller Tells text (before text tokens script number) (tokens_of tokens script number) at
+IsShown Tells text tokens script number at = (at ≡ beginning text tokens script number) ⊎ IsCaller Tells text (before text tokens script number) (calling (tokens_of tokens script number)) at
 
 -- a statement of the script that the text's tokens spell, and a byte of it
 pub record IsInStatement (Tells : List ℕ → Bool → Type 0) (text : List ℕ) (number at : ℕ) : Type 0 where

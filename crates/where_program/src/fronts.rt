@@ -3,11 +3,11 @@ ghost use Rattle.std.specs.Prelude.{◌≡◌, ◌<◌, ◌++◌, IfOk, take, dr
 ghost use Rattle.script_grammar.specs.Placed.{IsPlaced};
 ghost use Rattle.script_grammar.specs.View.{view_script};
 ghost use Rattle.where_program.specs.Calls.{part};
-ghost use Rattle.where_program.specs.Sources.{before, begins_at, beginning, first_of, or_all, tokens_of};
+ghost use Rattle.where_program.specs.Sources.{before, begins_at, beginning, begins_def, calling, first_of, is_def, is_def_word, or_all, tokens_of};
 
 use liq_base::Memory;
 use script_grammar::tree::Script;
-use script_lex::Token;
+use script_lex::{Keyword, Token, TokenKind};
 use script_places::{first_token, start};
 use std::alloc::Global;
 
@@ -80,6 +80,45 @@ pub fn tokens_of<'a>(tokens: &'a [Token], script: &Script, statement: u64) -> &'
     let first = first_of(tokens, script, statement);
     let (_, own) = upto.split_at(first.min(upto.len()));
     own
+}
+
+/// What of the tokens of a statement may hold calls: of a def, what stands behind its name, which opens no call.
+pub fn calling(tokens: &[Token]) -> &[Token]
+    ensures { result.now ≡ calling tokens.now }
+{
+    if begins_def(tokens) {
+        let (_, behind) = tokens.split_at(tokens.len().min(2));
+        behind
+    } else {
+        tokens
+    }
+}
+
+fn begins_def(tokens: &[Token]) -> bool
+    ensures { result ≡ begins_def tokens.now }
+{
+    match tokens.first() {
+        Some(first) => is_def(&first.kind),
+        None => false,
+    }
+}
+
+fn is_def(kind: &TokenKind) -> bool
+    ensures { result ≡ is_def kind.now }
+{
+    match kind {
+        TokenKind::Keyword(word) => is_def_word(*word),
+        _ => false,
+    }
+}
+
+fn is_def_word(word: Keyword) -> bool
+    ensures { result ≡ is_def_word word }
+{
+    match word {
+        Keyword::Def => true,
+        _ => false,
+    }
 }
 
 // The number of the first token of a statement; behind the last one, that of all tokens.

@@ -1,5 +1,5 @@
 // The statement that makes a source or whose types clash, and the call in it.
-ghost use Rattle.std.specs.Prelude.{◌≡◌, ◌≢◌, ◌<◌, ◌≤◌, None, IfOk, IfSome, length};
+ghost use Rattle.std.specs.Prelude.{◌≡◌, ◌≢◌, ◌≤◌, None, IfOk, IfSome, length};
 ghost use Rattle.plan_core.specs.declared.plan.Plan.{Plan};
 ghost use Rattle.parse_base.specs.Gives.{kinds};
 ghost use Rattle.script_grammar.specs.Placed.{IsPlaced};
@@ -15,7 +15,7 @@ ghost use Rattle.where_program.specs.Sources.{IsInStatement, IsShown, IsSourceAt
 ghost use Rattle.where_program.specs.Wanted.{Tells};
 
 use crate::calls::caller;
-use crate::fronts::{before, beginning, tokens_of};
+use crate::fronts::{before, beginning, calling, tokens_of};
 use crate::reading::{no_script, no_tokens};
 use crate::wanted::Wanted;
 use liq_base::Memory;
@@ -121,10 +121,6 @@ fn place_within(
     if first_token(script, statement).is_none() {
         return Ok(None);
     }
-    if statement == u64::MAX {
-        // no script has so many statements
-        return Err(Memory);
-    }
     let at = shown_in(alloc, text, tokens, script, statement, wanted)?;
     Ok(Some(at))
 }
@@ -138,12 +134,15 @@ fn shown_in(
     statement: u64,
     wanted: Wanted,
 ) -> Result<usize, Memory>
-    requires placed { IsPlaced 0 (view_script script.now) }
-    requires next { statement < u64.MAX }
+    requires { IsPlaced 0 (view_script script.now) }
     ensures { IfOk result (IsShown (Tells wanted) text.now tokens.now (view_script script.now) statement) }
 {
+    if statement == u64::MAX {
+        // no script has so many statements
+        return Ok(beginning(text, tokens, script, statement));
+    }
     let done = before(text, tokens, script, statement);
-    let own = tokens_of(tokens, script, statement);
+    let own = calling(tokens_of(tokens, script, statement));
     match caller(alloc, text, done, own, wanted)? {
         Some(at) => Ok(at),
         None => Ok(beginning(text, tokens, script, statement)),
