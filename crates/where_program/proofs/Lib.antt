@@ -2,3 +2,4 @@ pub mod Walks
 pub mod Faults
 pub mod Beginnings
 pub mod Causing
+pub mod Making

@@ -34,13 +34,8 @@ pub fn source_place(alloc: Global, text: &[u8], source: u64) -> Result<Option<us
 {
     laws::one_answer();
     match maker_of(alloc, text, source) {
-        Ok(Some(number)) => {
-            // the statement is there, so nothing is want of memory
-            match place_in(alloc, text, u64::from(number), Wanted::Source(source))? {
-                Some(at) => Ok(Some(at)),
-                None => Err(Memory),
-            }
-        }
+        // the statement is there
+        Ok(Some(number)) => place_in(alloc, text, u64::from(number), Wanted::Source(source)),
         Ok(None) => Ok(None),
         Err(fault) => nowhere(&fault),
     }
