@@ -42,8 +42,8 @@ later script uses k (more (Stmt part semicolon) rest) n number slots m found =
     elim (this_or_later (nat_lt k (length x.1.plan.nodes)) (n + 1) number (maker_among script uses k rest (n + 1) x.0 x.1) told) [
       | inl this ↦ record { index = 0; counts = omega (arith, this); there = λ is. absurd cc }
       | inr found' ↦
-        let l = later script uses k rest (n + 1) number x.0 x.1 found' in
-        record { index = suc l.index; counts = omega (arith, l.counts); there = λ is. l.there (none_before (more (Stmt part semicolon)) (before rest l.index) is) }
+          let l = later script uses k rest (n + 1) number x.0 x.1 found' in
+          record { index = suc l.index; counts = omega (arith, l.counts); there = λ is. l.there (none_before (more (Stmt part semicolon)) (before rest l.index) is) }
     ]
 
 there : (text : List ℕ) (k number : ℕ) → IsMaker text k (Some number) → HasNoStatement text number → ⊥
