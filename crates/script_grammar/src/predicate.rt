@@ -1,35 +1,68 @@
-// The tree of what stands in curly brackets: a predicate of the time.
+// The tree of what stands in curly brackets: a predicate of the time. Each `drop` is written out, as in `tree.rt`.
 use fixed_text::TimeMark;
 
 /// Parts joined by `or`, at least one.
 #[cycle(predicate)]
-#[derive(Drop)]
 pub struct POr {
     pub parts: Vec<PAnd>,
 }
 
+impl Drop for POr {
+    #[cycle(drop_predicate)]
+    fn drop(self) {
+        let Self { parts: _ } = self;
+    }
+}
+
 /// Parts joined by `and`, at least one.
 #[cycle(predicate)]
-#[derive(Drop)]
 pub struct PAnd {
     pub parts: Vec<PNot>,
 }
 
+impl Drop for PAnd {
+    #[cycle(drop_predicate)]
+    fn drop(self) {
+        let Self { parts: _ } = self;
+    }
+}
+
 /// An atom, perhaps behind `not`.
 #[cycle(predicate)]
-#[derive(Drop)]
 pub struct PNot {
     pub negated: bool,
     pub atom: PAtom,
 }
 
+impl Drop for PNot {
+    #[cycle(drop_predicate)]
+    fn drop(self) {
+        let Self {
+            negated: _,
+            atom: _,
+        } = self;
+    }
+}
+
 /// A truth value, a time mark, two of them with a `-` between, or a predicate in parentheses.
 #[cycle(predicate)]
-#[derive(Drop)]
 pub enum PAtom {
     True,
     False,
     At(TimeMark),
     Between(TimeMark, TimeMark),
     Paren(Box<POr>),
+}
+
+impl Drop for PAtom {
+    #[cycle(drop_predicate)]
+    fn drop(self) {
+        match self {
+            PAtom::True => {}
+            PAtom::False => {}
+            PAtom::At(_) => {}
+            PAtom::Between(_, _) => {}
+            PAtom::Paren(_) => {}
+        }
+    }
 }

@@ -1,24 +1,39 @@
 // The tree of a script. Each field `at` is the index of a token: of a node's first one, of the name that a
 // binding, a def and a parameter bind, and of an operator itself. The grammar stands in `docs/grammar.md`.
+//
+// Each type's `drop` is written out. A derived one would be proved anew in each crate that lets a tree go; this one is
+// proved here alone.
 use crate::predicate::POr;
 use fixed_text::Decimal;
 use liq_base::Text;
 
 /// A script: its statements, in order.
-#[derive(Drop)]
 pub struct Script {
     pub statements: Vec<Stmt>,
 }
 
+impl Drop for Script {
+    fn drop(self) {
+        let Self { statements: _ } = self;
+    }
+}
+
 /// A statement, and whether a `;` ends it.
-#[derive(Drop)]
 pub struct Stmt {
     pub part: StmtPart,
     pub semicolon: bool,
 }
 
+impl Drop for Stmt {
+    fn drop(self) {
+        let Self {
+            part: _,
+            semicolon: _,
+        } = self;
+    }
+}
+
 /// What a statement is.
-#[derive(Drop)]
 pub enum StmtPart {
     Bind(Bind),
     Def(Def),
@@ -26,23 +41,50 @@ pub enum StmtPart {
     If(If),
 }
 
+impl Drop for StmtPart {
+    fn drop(self) {
+        match self {
+            StmtPart::Bind(_) => {}
+            StmtPart::Def(_) => {}
+            StmtPart::Call(_) => {}
+            StmtPart::If(_) => {}
+        }
+    }
+}
+
 /// `name = value`.
-#[derive(Drop)]
 pub struct Bind {
     pub at: u32,
     pub name: Text,
     pub value: Full,
 }
 
+impl Drop for Bind {
+    fn drop(self) {
+        let Self {
+            at: _,
+            name: _,
+            value: _,
+        } = self;
+    }
+}
+
 /// A binding in the body of a def, and whether a `;` ends it.
-#[derive(Drop)]
 pub struct Inner {
     pub bind: Bind,
     pub semicolon: bool,
 }
 
+impl Drop for Inner {
+    fn drop(self) {
+        let Self {
+            bind: _,
+            semicolon: _,
+        } = self;
+    }
+}
+
 /// `def name(params) = inner result end`; the `=` may be missing.
-#[derive(Drop)]
 pub struct Def {
     pub at: u32,
     pub name: Text,
@@ -52,29 +94,69 @@ pub struct Def {
     pub result: Expr,
 }
 
+impl Drop for Def {
+    fn drop(self) {
+        let Self {
+            at: _,
+            name: _,
+            params: _,
+            equals: _,
+            inner: _,
+            result: _,
+        } = self;
+    }
+}
+
 /// A parameter of a def.
-#[derive(Drop)]
 pub struct Param {
     pub at: u32,
     pub name: Text,
     pub form: ParamForm,
 }
 
+impl Drop for Param {
+    fn drop(self) {
+        let Self {
+            at: _,
+            name: _,
+            form: _,
+        } = self;
+    }
+}
+
 /// How a parameter is given: in its place, by its label, or by its label if at all.
-#[derive(Drop)]
 pub enum ParamForm {
     Plain,
     Labelled,
     Optional(Full),
 }
 
+impl Drop for ParamForm {
+    fn drop(self) {
+        match self {
+            ParamForm::Plain => {}
+            ParamForm::Labelled => {}
+            ParamForm::Optional(_) => {}
+        }
+    }
+}
+
 /// A value in full: a negative number, or an expression.
 #[cycle(tree)]
-#[derive(Drop)]
 pub enum Full {
     /// `- number`. Elsewhere a negative number stands in parentheses.
     Minus { at: u32, number: Literal },
     Plain(Expr),
+}
+
+impl Drop for Full {
+    #[cycle(drop_tree)]
+    fn drop(self) {
+        match self {
+            Full::Minus { at: _, number: _ } => {}
+            Full::Plain(_) => {}
+        }
+    }
 }
 
 /// A number as its token holds it.
@@ -86,43 +168,80 @@ pub enum Literal {
 
 /// Parts joined by `or`.
 #[cycle(tree)]
-#[derive(Drop)]
 pub struct Expr {
     pub first: And,
     pub rest: Vec<And>,
 }
 
+impl Drop for Expr {
+    #[cycle(drop_tree)]
+    fn drop(self) {
+        let Self { first: _, rest: _ } = self;
+    }
+}
+
 /// Parts joined by `and`.
 #[cycle(tree)]
-#[derive(Drop)]
 pub struct And {
     pub first: Not,
     pub rest: Vec<Not>,
 }
 
+impl Drop for And {
+    #[cycle(drop_tree)]
+    fn drop(self) {
+        let Self { first: _, rest: _ } = self;
+    }
+}
+
 /// A comparison, perhaps behind `not`.
 #[cycle(tree)]
-#[derive(Drop)]
 pub struct Not {
     pub negated: bool,
     pub inner: Compare,
 }
 
+impl Drop for Not {
+    #[cycle(drop_tree)]
+    fn drop(self) {
+        let Self {
+            negated: _,
+            inner: _,
+        } = self;
+    }
+}
+
 /// A sum, perhaps compared with another.
 #[cycle(tree)]
-#[derive(Drop)]
 pub struct Compare {
     pub left: Sum,
     pub right: Option<Compared>,
 }
 
+impl Drop for Compare {
+    #[cycle(drop_tree)]
+    fn drop(self) {
+        let Self { left: _, right: _ } = self;
+    }
+}
+
 /// A comparing operator and the sum to its right.
 #[cycle(tree)]
-#[derive(Drop)]
 pub struct Compared {
     pub at: u32,
     pub op: CompareOp,
     pub sum: Sum,
+}
+
+impl Drop for Compared {
+    #[cycle(drop_tree)]
+    fn drop(self) {
+        let Self {
+            at: _,
+            op: _,
+            sum: _,
+        } = self;
+    }
 }
 
 /// `==`, `!=`, `<`, `<=`, `>` and `>=`.
@@ -138,41 +257,72 @@ pub enum CompareOp {
 
 /// Products joined by `+` and `-`.
 #[cycle(tree)]
-#[derive(Drop)]
 pub struct Sum {
     pub first: Product,
     pub rest: Vec<Added>,
 }
 
+impl Drop for Sum {
+    #[cycle(drop_tree)]
+    fn drop(self) {
+        let Self { first: _, rest: _ } = self;
+    }
+}
+
 /// `+` or `-`, and the product to its right.
 #[cycle(tree)]
-#[derive(Drop)]
 pub struct Added {
     pub at: u32,
     pub minus: bool,
     pub product: Product,
 }
 
+impl Drop for Added {
+    #[cycle(drop_tree)]
+    fn drop(self) {
+        let Self {
+            at: _,
+            minus: _,
+            product: _,
+        } = self;
+    }
+}
+
 /// Operands joined by `*` and `/`.
 #[cycle(tree)]
-#[derive(Drop)]
 pub struct Product {
     pub first: Operand,
     pub rest: Vec<Multiplied>,
 }
 
+impl Drop for Product {
+    #[cycle(drop_tree)]
+    fn drop(self) {
+        let Self { first: _, rest: _ } = self;
+    }
+}
+
 /// `*` or `/`, and the operand to its right.
 #[cycle(tree)]
-#[derive(Drop)]
 pub struct Multiplied {
     pub at: u32,
     pub divide: bool,
     pub operand: Operand,
 }
 
+impl Drop for Multiplied {
+    #[cycle(drop_tree)]
+    fn drop(self) {
+        let Self {
+            at: _,
+            divide: _,
+            operand: _,
+        } = self;
+    }
+}
+
 /// An operand.
 #[cycle(tree)]
-#[derive(Drop)]
 pub enum Operand {
     Literal { at: u32, value: Literal },
     Str { at: u32, text: Text },
@@ -194,30 +344,81 @@ pub enum Operand {
     Wav { at: u32, size: Option<i64> },
 }
 
+impl Drop for Operand {
+    #[cycle(drop_tree)]
+    fn drop(self) {
+        match self {
+            Operand::Literal { at: _, value: _ } => {}
+            Operand::Str { at: _, text: _ } => {}
+            Operand::Bool { at: _, value: _ } => {}
+            Operand::Name { at: _, name: _ } => {}
+            Operand::Call(_) => {}
+            Operand::If(_) => {}
+            Operand::Unit { at: _ } => {}
+            Operand::Paren(_) => {}
+            Operand::Tuple { at: _, parts: _ } => {}
+            Operand::List { at: _, parts: _ } => {}
+            Operand::Braces { at: _, pred: _ } => {}
+            Operand::Wav { at: _, size: _ } => {}
+        }
+    }
+}
+
 /// `name(args)`.
 #[cycle(tree)]
-#[derive(Drop)]
 pub struct Call {
     pub at: u32,
     pub name: Text,
     pub args: Vec<Arg>,
 }
 
+impl Drop for Call {
+    #[cycle(drop_tree)]
+    fn drop(self) {
+        let Self {
+            at: _,
+            name: _,
+            args: _,
+        } = self;
+    }
+}
+
 /// An argument of a call, perhaps behind `label =`.
 #[cycle(tree)]
-#[derive(Drop)]
 pub struct Arg {
     pub at: u32,
     pub label: Option<Text>,
     pub value: Full,
 }
 
+impl Drop for Arg {
+    #[cycle(drop_tree)]
+    fn drop(self) {
+        let Self {
+            at: _,
+            label: _,
+            value: _,
+        } = self;
+    }
+}
+
 /// `if condition then then_part else else_part end`.
 #[cycle(tree)]
-#[derive(Drop)]
 pub struct If {
     pub at: u32,
     pub condition: Box<Full>,
     pub then_part: Box<Full>,
     pub else_part: Box<Full>,
+}
+
+impl Drop for If {
+    #[cycle(drop_tree)]
+    fn drop(self) {
+        let Self {
+            at: _,
+            condition: _,
+            then_part: _,
+            else_part: _,
+        } = self;
+    }
 }
