@@ -32,7 +32,7 @@ use Rattle.clock_ticks.specs.declared.cues.Cues.{Cues}
 use Rattle.clock_ticks.specs.Cues.{HasGrown, HasKept, HasMarked, marks_if}
 use Rattle.clock_ticks.proofs.Cueing.{marked_more, marked_some, marks_more, marks_none}
 use Rattle.clock_ticks.proofs.Numbered.{got_mapped}
-use Rattle.clock_ticks.specs.Hearings.{HasMadeInstants, Heard, HeardSome, IsMeant, Scene, SegmentBroken, SegmentMade, calls_from, feed_key, segment_of, slot_in, with_slots}
+use Rattle.clock_ticks.specs.Hearings.{HasMadeInstants, Heard, HeardSome, IsMeant, Scene, SegmentBroken, SegmentMade, calls_from, feed_key, segment_of, slot_in, tapped, with_slots}
 
 pub after_slots-append : (port : Port) (slots more : List Slot) → after_slots port (slots ++ more) ≡ after_slots (after_slots port slots) more
 after_slots-append port [] more = refl
@@ -229,7 +229,7 @@ module _ {T : Type 0} (stands : T → List Call → Type 0) (plan : Plan) (libra
   }
 
   -- a segment more
-  module _ (count many upto : ℕ) (before mid after : Scene T) (sum : upto ≡ count + suc many) (one : SegmentMade stands plan library clocks clock own many mid.state after.state mid.taps after.taps)
+  module _ (count many upto : ℕ) (before mid after : Scene T) (sum : upto ≡ count + suc many) (one : SegmentMade stands plan library clocks clock own many (tapped mid.state mid.taps) (tapped after.state after.taps))
       (is : after.ports ≡ map (λ port. after_slots port (segment_of after.state.clocks many port.node)) mid.ports)
       (heard : Heard stands plan library clocks clock own count before mid) where
     ports_now : after.ports ≡ map (λ port. after_slots (emptied port) (more_slots heard.slots after.state.clocks many port.node)) before.ports

@@ -24,7 +24,7 @@ use Rattle.nested_instants.specs.Clocks.{InstantMade, IsWorld}
 use Rattle.nested_instants.specs.Stretches.{StretchMade}
 use Rattle.nested_instants.specs.declared.clock_states.ClockStates.{ClockStates}
 use Rattle.clock_ticks.specs.declared.clock_state.ClockState.{ClockState}
-use Rattle.clock_ticks.specs.Hearings.{SegmentMade, segment_of, slot_in}
+use Rattle.clock_ticks.specs.Hearings.{SegmentMade, segment_of, slot_in, tapped}
 
 slots_long : (slot : Slot) (many : ℕ) (lefts rights : List ℤ) → (is_some slot ≡ true → (length lefts ≡ many) × (length rights ≡ many)) → length (segment_slots slot many lefts rights) ≡ suc many
 slots_long None many lefts rights long = ap suc (length-replicate many None)
@@ -78,7 +78,7 @@ module _ {T : Type 0} (stands : T → List Call → Type 0) (plan : Plan) (libra
   pub segment_made : (old new : ClockState) (mid : ClockStates) (a b : T) (many : ℕ) → InstantMade stands plan library clocks own clock old.time old.clocks mid a b
       → StretchMade plan library clocks clock old.time many mid new.clocks → new.clocks.latest ≡ mid.latest
       → ((start n : ℕ) → TimeStands start n old.time → TimeStands start (n + suc many) new.time)
-      → SegmentMade stands plan library clocks clock own many old new a b
+      → SegmentMade stands plan library clocks clock own many (tapped old a) (tapped new b)
   segment_made old new mid a b many one rest kept later = record {
     more = one.more;
     taps = one.taps;

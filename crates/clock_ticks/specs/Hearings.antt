@@ -122,18 +122,27 @@ abbrev pub segment_of : ClockStates → (many i : ℕ) → List Slot
 segment_of all many i =
     segment_slots (part_at all.latest.parts.items i).slot many (samples_of all.room.left.items i many) (samples_of all.room.right.items i many)
 
+-- the states of a clock, and its taps
+pub record Tapped (T : Type 0) : Type 0 where
+  pub state : ClockState
+  pub taps : T
+
+-- such states, and such taps
+abbrev pub tapped : {T : Type 0} → ClockState → T → Tapped T
+tapped state taps = record { state = state; taps = taps }
+
 -- a segment was made: an instant, and so many that go on as it did
 pub record SegmentMade {T : Type 0} (stands : T → List Call → Type 0) (plan : Plan) (library : Sounds) (clocks : List NodeClock) (clock : NodeClock) (own : List Bool)
-    (many : ℕ) (old new : ClockState) (taps_old taps_new : T) : Type 0 where
+    (many : ℕ) (before after : Tapped T) : Type 0 where
   pub more : List Call
-  pub taps : Adds stands taps_old taps_new more
+  pub taps : Adds stands before.taps after.taps more
   pub run : (other : Setting) (sub : ℕ → ℕ → List Slot) (n : ℕ) (front : ℕ → List Answer) → IsMeant (over plan library clocks other) sub own
-      → HasAnswers (over plan library clocks other) (after_calls front more) → ClockStateStands (over plan library clocks other) sub clock n front old
-      → HasMadeInstants (over plan library clocks other) sub own clock n (suc many) (segment_of new.clocks many) front more new
+      → HasAnswers (over plan library clocks other) (after_calls front more) → ClockStateStands (over plan library clocks other) sub clock n front before.state
+      → HasMadeInstants (over plan library clocks other) sub own clock n (suc many) (segment_of after.state.clocks many) front more after.state
 
 -- the same over a shape
 abbrev pub SegmentRunOver : {T : Type 0} → (T → List Call → Type 0) → Shape → NodeClock → List Bool → (many : ℕ) → (old new : ClockState) → (taps_old taps_new : T) → Type 0
-SegmentRunOver stands shape clock own many old new taps_old taps_new = SegmentMade stands shape.plan.now shape.library.now shape.clocks.now clock own many old new taps_old taps_new
+SegmentRunOver stands shape clock own many old new taps_old taps_new = SegmentMade stands shape.plan.now shape.library.now shape.clocks.now clock own many (tapped old taps_old) (tapped new taps_new)
 
 -- memory was refused in its first instant
 pub record SegmentBroken {T : Type 0} (stands : T → List Call → Type 0) (plan : Plan) (library : Sounds) (clocks : List NodeClock) (clock : NodeClock) (own : List Bool)

@@ -22,20 +22,18 @@ use crate::TickFault;
 use crate::clock_state::ClockState;
 use crate::cues::{CueMark, Cues, cues_of, whole_marks};
 use crate::outputs::{feeds_of, ports_of};
-use crate::parts::{is_main, most_children, own_roots, states_of, times_of};
+use crate::parts::{clocks_of, is_main, own_roots};
 use crate::run::run_tick;
 use clock_infer::{ClockMap, NodeClock};
-use clock_instants::{ClockNodes, Latest, Shape, StretchRoom};
+use clock_instants::Shape;
 use clock_outputs::{FeedPort, Port, append_all, give_all};
 use fixed_text::WeekSecond;
 use frame_core::{Library, Taps};
 use liq_base::{Memory, Sink};
-use nested_instants::ClockStates;
-use node_states::{Desk, NodeState, WeekTime};
+use node_states::{NodeState, WeekTime};
 use plan_core::Plan;
 use std::alloc::Global;
 use std::marker::Model;
-use stream_meaning::Part;
 
 /// What an engine runs over and what changes from tick to tick, but for its sinks.
 #[derive(Drop)]
@@ -103,18 +101,8 @@ fn make_parts<'a>(
     ensures stands { IfOk result (λ parts. EngineStands parts 0 (λ buffer. [])) }
     ensures keeps { IfOk result (λ parts. parts.cues.keeping ≡ false) }
 {
-    let states = states_of(alloc, &shape, clock)?;
-    let silent = Part {
-        slot: None,
-        pick: None,
-    };
     let time = WeekTime::new(start, shape.plan.rate, shape.plan.frame);
-    let times = times_of(alloc, time, states.len())?;
-    let silence = vec![in alloc; silent; states.len()]?;
-    let demanded = vec![in alloc; false; states.len()]?;
-    let nodes = ClockNodes::new(alloc, shape.clocks)?;
-    let desk = Desk::new(alloc, most_children(shape.plan))?;
-    let room = StretchRoom::new(alloc, &states)?;
+    let clocks = clocks_of(alloc, &shape, clock, time)?;
     let own = own_roots(alloc, &shape)?;
     let ports = ports_of(alloc, &shape, clock)?;
     let feeds = feeds_of(alloc, &shape, clock)?;
@@ -125,18 +113,7 @@ fn make_parts<'a>(
         start,
         own,
         state: ClockState {
-            clocks: ClockStates {
-                states,
-                times,
-                latest: Latest {
-                    clock: NodeClock::Main(clock),
-                    parts: silence,
-                    demanded,
-                },
-                nodes,
-                desk,
-                room,
-            },
+            clocks,
             time,
             segments: 0,
         },

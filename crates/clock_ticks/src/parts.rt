@@ -2,26 +2,84 @@
 ghost use Rattle.std.specs.Prelude.{◌≡◌, ◌<◌, ◌≤◌, ◌||◌, ℕ, Some, All, false, nat_eq, length, slice_get, slice_index_or, IfOk};
 ghost use Rattle.std.specs.List.{list_any};
 ghost use Rattle.liq_base.specs.declared.limits.TheConstants.{MAX_CHILDREN, MAX_NODES};
-ghost use Rattle.plan_core.specs.Plans.{AreNodes, IsInRange, sink_node};
+ghost use Rattle.plan_core.specs.Plans.{AreNodes, IsInRange, IsWellFormed, sink_node};
 ghost use Rattle.clock_infer.specs.declared.clock_map.NodeClock.TheVariants.{Main as InMain};
+ghost use Rattle.frame_core.specs.Library.{IsLibrary};
 ghost use Rattle.stream_meaning.specs.Instants.{Setting, is_root, same_clock};
+ghost use Rattle.node_states.specs.declared.state.NodeState.{NodeState as State};
+ghost use Rattle.node_states.specs.declared.state.NodeState.TheVariants.{Idle};
 ghost use Rattle.node_states.specs.declared.time.WeekTime.{WeekTime as Time};
+ghost use Rattle.clock_instants.specs.Nodes.{IsLatest};
 ghost use Rattle.clock_instants.specs.States.{HasRoomFor};
 ghost use Rattle.clock_instants.specs.Takes.{IsUnder};
-ghost use Rattle.nested_instants.specs.Clocks.{AreOwnRoots};
+ghost use Rattle.nested_instants.specs.Clocks.{AreClockStatesOver, AreOwnRoots, laned_at, rest_at};
 ghost use Rattle.clock_ticks.specs.Beginnings.{AreNewStates, IsNewState};
 ghost use Rattle.clock_instants.specs.Shapes.{setting_over};
 
 use clock_infer::NodeClock;
-use clock_instants::Shape;
+use clock_instants::{ClockNodes, Latest, Shape, StretchRoom};
 use liq_base::Memory;
-use nested_instants::child_of;
-use node_states::{NodeState, WeekTime};
+use nested_instants::{ClockStates, child_of};
+use node_states::{Desk, NodeState, WeekTime};
 use plan_core::{Node, Plan, SinkPlan};
 use std::alloc::Global;
+use stream_meaning::Part;
 
-/// The states of the nodes before the first instant, where those that the main clock of this number does not drive are idle.
-pub fn states_of(alloc: Global, shape: &Shape<'_>, clock: u32) -> Result<Vec<NodeState>, Memory>
+/// The states of all clocks before the first instant, where this is the time of the first one, and those of nodes that the main clock of this
+/// number does not drive are idle.
+pub fn clocks_of(
+    alloc: Global,
+    shape: &Shape<'_>,
+    clock: u32,
+    time: WeekTime,
+) -> Result<ClockStates, Memory>
+    requires plan { IsWellFormed shape.now.plan.now }
+    requires in_clocks { length shape.now.clocks.now ≡ length shape.now.plan.now.nodes }
+    requires library { IsLibrary shape.now.library.now }
+    requires leaves { length shape.now.library.now.leaves ≡ length shape.now.plan.now.nodes }
+    requires rate { time.rate ≡ shape.now.plan.now.rate }
+    requires frame { time.frame ≡ shape.now.plan.now.frame }
+    ensures clocks { IfOk result (AreClockStatesOver shape.now) }
+    ensures states { IfOk result (λ all. AreNewStates shape.now.plan.now shape.now.clocks.now clock (length shape.now.plan.now.nodes) all.states.items) }
+    ensures times { IfOk result (λ all. (k : ℕ) (one : Time) → slice_get all.times.items k ≡ Some one → one ≡ time) }
+    ensures none { IfOk result (λ all. (k : ℕ) → rest_at all k ≡ 0) }
+    ensures laned { IfOk result (λ all. (i : ℕ) (state : State) → slice_get all.states.items i ≡ Some state → (state ≡ Idle → ⊥) → laned_at all i) }
+{
+    let states = states_of(alloc, shape, clock)?;
+    let times = times_of(alloc, time, states.len())?;
+    let latest = latest_of(alloc, shape, clock)?;
+    let nodes = ClockNodes::new(alloc, shape.clocks)?;
+    let desk = Desk::new(alloc, most_children(shape.plan))?;
+    let room = StretchRoom::new(alloc, &states)?;
+    Ok(ClockStates {
+        states,
+        times,
+        latest,
+        nodes,
+        desk,
+        room,
+    })
+}
+
+// What is kept of the latest instant, before the first one: no node offers anything, and none is demanded.
+fn latest_of(alloc: Global, shape: &Shape<'_>, clock: u32) -> Result<Latest, Memory>
+    ensures { IfOk result (IsLatest shape.now.clocks.now) }
+{
+    let silent = Part {
+        slot: None,
+        pick: None,
+    };
+    let parts = vec![in alloc; silent; shape.clocks.len()]?;
+    let demanded = vec![in alloc; false; shape.clocks.len()]?;
+    Ok(Latest {
+        clock: NodeClock::Main(clock),
+        parts,
+        demanded,
+    })
+}
+
+// The states of the nodes before the first instant, where those that the main clock of this number does not drive are idle.
+fn states_of(alloc: Global, shape: &Shape<'_>, clock: u32) -> Result<Vec<NodeState>, Memory>
     requires rate { 0 < shape.now.plan.now.rate }
     requires nodes { AreNodes shape.now.plan.now.nodes }
     requires few { length shape.now.plan.now.nodes ≤ MAX_NODES }
@@ -57,8 +115,8 @@ pub fn own_roots(alloc: Global, shape: &Shape<'_>) -> Result<Vec<bool>, Memory>
     Ok(own)
 }
 
-/// The times of so many sub-clocks before their first instant.
-pub fn times_of(alloc: Global, first: WeekTime, count: usize) -> Result<Vec<WeekTime>, Memory>
+// The times of so many sub-clocks before their first instant.
+fn times_of(alloc: Global, first: WeekTime, count: usize) -> Result<Vec<WeekTime>, Memory>
     ensures size { IfOk result (λ times. length times.items ≡ count) }
     ensures each { IfOk result (λ times. (k : ℕ) (time : Time) → slice_get times.items k ≡ Some time → time ≡ first) }
 {
@@ -66,8 +124,8 @@ pub fn times_of(alloc: Global, first: WeekTime, count: usize) -> Result<Vec<Week
     Ok(times)
 }
 
-/// Room for the children of each node.
-pub fn most_children(plan: &Plan) -> usize
+// Room for the children of each node.
+fn most_children(plan: &Plan) -> usize
     ensures { HasRoomFor plan.now result }
 {
     let mut most = 0;

@@ -1,5 +1,6 @@
 -- What the loading of a plan's audio files finds.
-use Rattle.std.specs.Prelude.{◌≡◌, ℕ, List, length, Option, Ok}
+use Rattle.std.specs.Prelude.{◌≡◌, ◌<◌, ◌^◌, ℕ, [], List, length, Option, Ok}
+use Rattle.std.specs.List.{All}
 use Rattle.std.specs.Option.{ForSome}
 use Rattle.liq_base.specs.Files.{Files}
 use Rattle.liq_base.specs.Shelves.{ShelfTold}
@@ -8,10 +9,12 @@ use Rattle.plan_core.specs.declared.plan.Plan.{Plan}
 use Rattle.frame_core.specs.Library.{IsLibrary, Sounds}
 use Rattle.track_library.specs.Reads.{LoadReads}
 use Rattle.track_library.specs.Singles.{HaveSingles}
-use Rattle.track_library.specs.Walk.{Ends, load_of}
+use Rattle.track_library.specs.States.{IsHeard, heard_of, walked_of}
+use Rattle.track_library.specs.Walk.{Ends, load_of, nodes_walked, nothing_met}
 use Rattle.track_library.specs.declared.fault.LoadFault.{LoadFault}
 use Rattle.track_library.specs.declared.rules.Rules.{Rules}
 use Rattle.track_library.specs.declared.rules.Sizes.{Sizes}
+use Rattle.track_library.specs.declared.walk.Walk.{Walk}
 
 -- what the walk over a plan goes by, where so many bytes may be loaded
 abbrev pub rules_for : Plan → Sizes → Rules
@@ -28,3 +31,13 @@ pub record AreLoaded (told : Option Files) (rules : Rules) (nodes : List Node) (
 -- why the audio files of the nodes are not loaded
 abbrev pub LoadEnds : (old new : ShelfTold) → Rules → List Node → LoadFault → Type 0
 LoadEnds old new rules nodes = Ends old new (λ files. LoadReads rules files nodes) (λ files. load_of rules files nodes)
+
+-- the nodes were walked from nothing read on. Where the shelf tells its files, this was read and these are the leaves, by the definition; and
+-- whatever it tells, each node has a leaf of files that are used, and that of a `single` has one file
+pub record HaveWalked (told : Option Files) (rules : Rules) (nodes : List Node) (walk : Walk) (leaves : List (List ℕ)) : Type 0 where
+  pub walked : ForSome told (λ files. nodes_walked rules files nodes (Ok (nothing_met, [])) ≡ Ok (walked_of walk, leaves))
+  pub heard : IsHeard (heard_of walk.audio)
+  pub below : All (All (λ number. number < length walk.audio.files.items)) leaves
+  pub few : All (λ leaf. length leaf < 2 ^ 32) leaves
+  pub many : length leaves ≡ length nodes
+  pub singles : HaveSingles nodes leaves

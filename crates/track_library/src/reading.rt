@@ -1,6 +1,7 @@
 // Audio files that are read from a shelf.
 ghost use Rattle.std.specs.Prelude.{◌≡◌, ◌≤◌, ◌+◌, ◌*◌, length, Ok, Err, IfOk, IfErr, MatchResult};
 ghost use Rattle.std.specs.Option.{ForSome};
+ghost use Rattle.liq_base.specs.Counts.{Rose};
 ghost use Rattle.liq_base.specs.Files.{file_at};
 ghost use Rattle.frame_core.specs.Sounds.{IsSound};
 ghost use Rattle.wav_io.specs.Reading.{AreBlocks, read_of};
@@ -8,7 +9,7 @@ ghost use Rattle.resample.specs.Resampled.{AreRates, blocks_of, resampled};
 ghost use Rattle.track_library.specs.Walk.{audio_at, audio_in, bytes_in, items_of, samples_at, IsReading};
 ghost use Rattle.track_library.specs.Files.{IsReadable, sound_in};
 ghost use Rattle.track_library.specs.States.{AreRules};
-ghost use Rattle.liq_base.specs.Shelves.{OnlyRead};
+ghost use Rattle.liq_base.specs.Shelves.{OnlyRead, ShelfTold};
 
 use crate::fault::{LoadFault, Unusable};
 use crate::rules::Rules;
@@ -37,8 +38,18 @@ pub fn fetch<S: Shelf>(
         Ok(Fetched::Found) => Ok(Ok(bytes)),
         Ok(Fetched::Missing) => Ok(Err(Unusable::NotThere)),
         Ok(Fetched::TooLarge) => Ok(Err(Unusable::TooLong)),
-        Err(ShelfFault::Failed) => Err(LoadFault::ReadFault(Text::from_str(alloc, name)?)),
+        Err(ShelfFault::Failed) => Err(read_fault(alloc, name)),
         Err(ShelfFault::Memory) => Err(LoadFault::Memory),
+    }
+}
+
+/// Why a read of the file of this name that failed ends a load; want of memory may come in its place.
+fn read_fault(alloc: Global, name: &str) -> LoadFault
+    ensures { (old new : ShelfTold) → Rose old.reads new.reads → IsReading name.now old new result }
+{
+    match Text::from_str(alloc, name) {
+        Ok(name) => LoadFault::ReadFault(name),
+        Err(_) => LoadFault::Memory,
     }
 }
 

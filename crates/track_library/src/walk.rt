@@ -4,7 +4,7 @@ ghost use Rattle.std.specs.List.{All};
 ghost use Rattle.std.specs.Option.{ForSome};
 ghost use Rattle.frame_core.specs.Library.{IsLibrary};
 ghost use Rattle.track_library.specs.Walk.{Ends, entries_played, leaf_of, nothing_met, single_leaf, use_audio};
-ghost use Rattle.track_library.specs.Loads.{AreLoaded, LoadEnds, rules_for};
+ghost use Rattle.track_library.specs.Loads.{AreLoaded, HaveWalked, LoadEnds, rules_for};
 ghost use Rattle.track_library.specs.Reads.{EntriesRead, FirstRead, LeafReads};
 ghost use Rattle.track_library.specs.Singles.{HasOne};
 ghost use Rattle.track_library.specs.States.{heard_of, AreRules, IsHeard, Plays, walked_of, with_found};
@@ -128,11 +128,31 @@ pub fn find_files<S: Shelf>(
     };
     let mut walk = Walk::new(alloc);
     let mut leaves = LeafLists::new(alloc);
+    walk_nodes(alloc, plan, shelf, rules, &mut walk, &mut leaves)?;
+    Ok(walk.into_files(leaves))
+}
+
+/// Walks over the nodes of a plan, and adds what is read and the list of each node.
+fn walk_nodes<S: Shelf>(
+    alloc: Global,
+    plan: &Plan,
+    shelf: &mut S,
+    rules: Rules,
+    walk: &mut Walk,
+    leaves: &mut LeafLists,
+) -> Result<(), LoadFault>
+    requires rules { AreRules rules }
+    requires unread { walked_of walk.old ≡ nothing_met }
+    requires empty { leaves.old ≡ [] }
+    ensures walked { OnOk result (HaveWalked (S.told shelf.old).files rules plan.now.nodes walk.new leaves.new) }
+    ensures fault { IfErr result (LoadEnds (S.told shelf.old) (S.told shelf.new) rules plan.now.nodes) }
+    ensures shelf { OnlyRead (S.told shelf.old) (S.told shelf.new) }
+{
     for node in plan.nodes.as_slice() {
         let leaf = walk.find_leaf(alloc, shelf, &node.op, rules)?;
         leaves.push(alloc, &node.op, leaf)?;
     }
-    Ok(walk.into_files(leaves))
+    Ok(())
 }
 
 /// The files that a `single` plays.

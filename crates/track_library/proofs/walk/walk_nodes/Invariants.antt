@@ -7,7 +7,7 @@ use Rattle.track_library.specs.Reads.{LoadReads, NodesRead}
 use Rattle.track_library.specs.States.{heard_of, walked_of}
 use Rattle.track_library.proofs.Leaves.{LeavesSoFar}
 use Rattle.track_library.proofs.OneFile.{SinglesSoFar}
-use Rattle.track_library.proofs.walk.find_files.Given as goal
+use Rattle.track_library.proofs.walk.walk_nodes.Given as goal
 
 -- the leaves so far and the nodes that are left make the whole
 abbrev pub invariant-loop-node : goal.invariant-loop-node
