@@ -66,9 +66,27 @@ fn fit_many(
     ensures { IfOk result (λ yes. IsMade yes subst.old subst.new (λ a. Matched (map seen_parameter params.now) (given_under a (map seen_argument given.now)) (map (meaning a) (map term_of types.now)))) }
 {
     let mut labels = Labels::new(alloc, labels_of(alloc, given)?)?;
+    fit_labelled(alloc, subst, params, types, given, &mut labels)
+}
+
+/// The same with the table of their labels.
+fn fit_labelled(
+    alloc: Global,
+    subst: &mut Subst,
+    params: &[Parameter<'_>],
+    types: &[Ty],
+    given: &[Argument<'_>],
+    labels: &mut Labels<'_>,
+) -> Result<bool, Memory>
+    requires over { AreTermsOver subst.old (map term_of types.now) }
+    requires inside { AreInside subst.old (map seen_argument given.now) }
+    requires same_many { length params.now ≡ length types.now }
+    requires all { left_given given.now labels.old ≡ map seen_argument given.now }
+    ensures { IfOk result (λ yes. IsMade yes subst.old subst.new (λ a. Matched (map seen_parameter params.now) (given_under a (map seen_argument given.now)) (map (meaning a) (map term_of types.now)))) }
+{
     for i in 0..params.len() {
         let param = param_at(params, i);
-        let taken = take_labelled(&mut labels, given, label_of(param))?;
+        let taken = take_labelled(labels, given, label_of(param))?;
         let fits = fit_one(alloc, subst, param, &types[i], taken)?;
         if !fits {
             return Ok(false);
