@@ -1,3 +1,4 @@
 mod Counts
+mod Naming
 mod Placed
 mod Shows

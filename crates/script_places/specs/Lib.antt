@@ -3,3 +3,4 @@ pub mod Showing
 pub mod Pointing
 pub mod Starts
 pub mod Standing
+pub mod Naming

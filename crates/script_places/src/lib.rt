@@ -2,7 +2,9 @@
 #![tactic(auto)]
 
 mod counting;
+mod forms;
 mod named;
+mod numbers;
 mod place;
 mod pointing;
 mod showing;

@@ -1,8 +1,11 @@
 // What a line of a fault names.
-use fixed_text::read_u64;
+ghost use Rattle.std.specs.Prelude.{◌≡◌, IfSome, Some};
+ghost use Rattle.script_places.specs.Naming.{IsNamed, IsNamedBy};
+ghost use Rattle.script_places.specs.declared.named.Named.{Named};
 
-// A colon, a blank and a digit at the end of a line: what is wrong with an audio file.
-const KIND_BYTES: usize = 3;
+use crate::forms::{Form, form_of};
+use crate::numbers::{number_at_end, number_in_front};
+use crate::place::behind;
 
 /// A place that a line names.
 #[derive(Clone, Copy, Debug, PartialEq, Eq)]
@@ -33,54 +36,35 @@ pub enum Named {
 /// statement, E12 what fits no types in one, E18, E20, E21, E23 and E29 a text, E25 what may be silent in an output, E26 and
 /// E27 a source; so does a line of `week_program`. `docs/faults.md` and `docs/formats.md` have the forms. Nothing where the line is none
 /// of them.
-pub fn named_in(line: &str) -> Option<Named> {
-    let (number, rest) = line.split_once(' ')?;
-    match number {
-        "E02" | "E03" | "E04" => Some(Named::Byte(behind(rest, " at ")?)),
-        "E06" | "E07" | "E08" | "E09" | "E10" | "E11" | "E14" => {
-            Some(Named::Token(behind(rest, " at token ")?))
-        }
-        "E12" => Some(Named::Clash(between(rest, "statement ", ':')?)),
-        "E13" | "E15" => Some(Named::Statement(between(rest, "statement ", ':')?)),
-        "E18" => text(line, rest, "two outputs ", 0),
-        "E20" => text(line, rest, "missing file ", 0),
-        "E21" => text(line, rest, "bad audio ", KIND_BYTES),
-        "E23" => text(line, rest, "file too large ", 0),
-        "E25" => fallible(line, rest),
-        "E29" => text(line, rest, "output too long ", 0),
-        "E26" => Some(Named::Source(between(rest, "source ", ' ')?)),
-        "E27" => Some(Named::Source(between(rest, "crossfade ", ' ')?)),
-        "switch" => Some(Named::Source(between(rest, "", ':')?)),
-        _ => None,
+pub fn named_in(line: &str) -> Option<Named>
+    ensures found { IfSome result (IsNamed line.now) }
+    ensures only { (named : Named) → IsNamed line.now named → result ≡ Some named }
+{
+    let line = line.as_bytes();
+    named_by(form_of(line), line)
+}
+
+// The place that a line of a form names.
+fn named_by(form: Form, line: &[u8]) -> Option<Named>
+    ensures found { IfSome result (IsNamedBy form line.now) }
+    ensures only { (named : Named) → IsNamedBy form line.now named → result ≡ Some named }
+{
+    match form {
+        Form::Byte => Some(Named::Byte(number_at_end(line, b" at ")?)),
+        Form::Token => Some(Named::Token(number_at_end(line, b" at token ")?)),
+        Form::Clash => Some(Named::Clash(number_in_front(behind(line, 14), b':')?)),
+        Form::Statement => Some(Named::Statement(number_in_front(behind(line, 14), b':')?)),
+        Form::Source => Some(Named::Source(number_in_front(behind(line, 11), b' ')?)),
+        Form::Crossfade => Some(Named::Source(number_in_front(behind(line, 14), b' ')?)),
+        Form::Switch => Some(Named::Source(number_in_front(behind(line, 7), b':')?)),
+        Form::Text { start, after } => Some(Named::Text {
+            start,
+            end: line.len().saturating_sub(after),
+        }),
+        Form::Fallible => Some(Named::Fallible {
+            start: 20,
+            end: line.len(),
+        }),
+        Form::Nothing => None,
     }
-}
-
-// The text behind these words, without so many bytes at the end of a line.
-fn text(line: &str, rest: &str, words: &str, after: usize) -> Option<Named> {
-    let name = rest.strip_prefix(words)?;
-    Some(Named::Text {
-        start: line.len().saturating_sub(name.len()),
-        end: line.len().saturating_sub(after),
-    })
-}
-
-// The output whose source may have nothing to play.
-fn fallible(line: &str, rest: &str) -> Option<Named> {
-    let name = rest.strip_prefix("fallible output ")?;
-    Some(Named::Fallible {
-        start: line.len().saturating_sub(name.len()),
-        end: line.len(),
-    })
-}
-
-// The number behind these words, at the end of a line.
-fn behind(line: &str, words: &str) -> Option<u64> {
-    let (_, number) = line.split_once(words)?;
-    read_u64(number.as_bytes())
-}
-
-// The number between these words at the front of a line, and the first of this character behind them.
-fn between(line: &str, words: &str, end: char) -> Option<u64> {
-    let (number, _) = line.strip_prefix(words)?.split_once(end)?;
-    read_u64(number.as_bytes())
 }

@@ -1,2 +1,3 @@
 mod Drawing
 mod Listing
+mod Returned

@@ -1,5 +1,6 @@
 -- The files of a workload: audio files, a list of them, and a script that plays them.
-use Rattle.std.specs.Prelude.{ℕ, zero, suc, ℤ, pos, ◌+◌, ◌%◌, ◌-ℤ◌, List, [], ◌∷◌, ◌++◌, codes, decimal, string_bytes, String, Vec}
+use Rattle.std.specs.Prelude.{ℕ, zero, suc, ℤ, pos, ◌+◌, ◌%◌, ◌-ℤ◌, List, [], ◌∷◌, ◌++◌, codes, decimal, map, string_bytes, String, Vec}
+use Rattle.std.specs.List.{range_with_len}
 use Rattle.std.specs.declared.alloc.Global.{Global}
 use Rattle.liq_base.specs.declared.memory.Kind.TheVariants.{Mono}
 use Rattle.frame_core.specs.Bytes.{sample_bytes}
@@ -30,6 +31,14 @@ begin_of seed (suc i) = begin_of seed i + 1 + length_at seed (begin_of seed i)
 abbrev pub drawn : (seed from count : ℕ) → List ℕ
 drawn seed from zero = []
 drawn seed from (suc count) = drawn seed from count ++ sample_bytes (sample_of (word seed (from + count)))
+
+-- sample k of audio file i: each takes a word, behind the one for the length
+abbrev pub sample_at : (seed i k : ℕ) → ℤ
+sample_at seed i k = sample_of (word seed (begin_of seed i + 1 + k))
+
+-- the samples of audio file i
+abbrev pub samples_of : (seed i : ℕ) → List ℤ
+samples_of seed i = map (sample_at seed i) (range_with_len 0 (length_at seed (begin_of seed i)))
 
 abbrev pub track_name : (i : ℕ) → List ℕ
 track_name i = codes "t" ++ decimal i ++ codes ".wav"

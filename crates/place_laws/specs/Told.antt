@@ -1,0 +1,104 @@
+-- The place that a fault tells, and what that says of its line.
+use Rattle.std.specs.Prelude.{◌≡◌, ◌<◌, ℕ, ◌+◌, ◌^◌, List, ◌++◌, length, codes, Option, Some, None, ⊤}
+use Rattle.script_lex.specs.declared.token.LexFault.{LexFault}
+use Rattle.script_lex.specs.declared.token.LexFault.TheVariants.{BadByte, UnclosedString, NumberTooLarge}
+use Rattle.script_parse.specs.declared.fault.ParseFault.{ParseFault}
+use Rattle.script_parse.specs.declared.fault.ParseFault.TheVariants.{Syntax, TooDeep}
+use Rattle.typing_rules.specs.declared.fault.TypeFault.{TypeFault}
+use Rattle.typing_rules.specs.declared.fault.TypeFault.TheVariants.{UnknownName, MissingArgument, ExtraArgument, RepeatedName, TypeClash}
+use Rattle.script_values.specs.declared.fault.EvalFault.{EvalFault}
+use Rattle.script_values.specs.declared.fault.EvalFault.TheVariants.{BadSetting, BadValue, TooMuchWork, SameOutput}
+use Rattle.track_library.specs.declared.fault.LoadFault.{LoadFault}
+use Rattle.track_library.specs.declared.fault.LoadFault.TheVariants.{Missing, BadAudio, FileTooLarge}
+use Rattle.clock_infer.specs.declared.clock_map.ClockFault.{ClockFault}
+use Rattle.clock_infer.specs.declared.clock_map.ClockFault.TheVariants.{TwoClocks, Nested}
+use Rattle.script_plan.specs.declared.fault.ScriptFault.{ScriptFault}
+use Rattle.script_plan.specs.declared.fault.ScriptFault.TheVariants.{Lex, Parse, «Type» as Typing, Eval}
+use Rattle.stations.specs.declared.fault.StationFault.{StationFault}
+use Rattle.stations.specs.declared.fault.StationFault.TheVariants.{Files, FallibleOutput, Clocks, OutputTooLong}
+use Rattle.refusal_lines.specs.declared.fault.Fault.{Fault}
+use Rattle.refusal_lines.specs.declared.fault.Fault.TheVariants.{Script, SameFile, Station}
+use Rattle.refusal_lines.specs.Lines.{line_of}
+use Rattle.script_places.specs.Naming.{IsNamed}
+use Rattle.script_places.specs.declared.named.Named.{Named}
+use Rattle.script_places.specs.declared.named.Named.TheVariants.{Byte, Token, Statement, Source, Clash, Text, Fallible}
+
+-- a text that stands behind these words
+abbrev pub behind : List ℕ → List ℕ → Option Named
+behind words name = Some (Text (length words) (length words + length name))
+
+abbrev pub lex_place : LexFault → Option Named
+lex_place (BadByte at) = Some (Byte at)
+lex_place (UnclosedString at) = Some (Byte at)
+lex_place (NumberTooLarge at) = Some (Byte at)
+lex_place fault = None
+
+abbrev pub parse_place : ParseFault → Option Named
+parse_place (Syntax at) = Some (Token at)
+parse_place (TooDeep at) = Some (Token at)
+parse_place fault = None
+
+abbrev pub type_place : TypeFault → Option Named
+type_place (UnknownName stmt at) = Some (Token at)
+type_place (MissingArgument stmt at label) = Some (Token at)
+type_place (ExtraArgument stmt at) = Some (Token at)
+type_place (RepeatedName stmt at) = Some (Token at)
+type_place (TypeClash stmt) = Some (Clash stmt)
+type_place fault = None
+
+abbrev pub eval_place : EvalFault → Option Named
+eval_place (BadSetting stmt) = Some (Statement stmt)
+eval_place (BadValue stmt at) = Some (Token at)
+eval_place (TooMuchWork stmt) = Some (Statement stmt)
+eval_place (SameOutput name) = behind (codes "E18 two outputs ") name
+eval_place fault = None
+
+abbrev pub script_place : ScriptFault → Option Named
+script_place (Lex fault) = lex_place fault
+script_place (Parse fault) = parse_place fault
+script_place (Typing fault) = type_place fault
+script_place (Eval fault) = eval_place fault
+script_place fault = None
+
+abbrev pub file_place : LoadFault → Option Named
+file_place (Missing name) = behind (codes "E20 missing file ") name
+file_place (BadAudio name fault) = behind (codes "E21 bad audio ") name
+file_place (FileTooLarge name) = behind (codes "E23 file too large ") name
+file_place fault = None
+
+abbrev pub clock_place : ClockFault → Option Named
+clock_place (TwoClocks node first second) = Some (Source node)
+clock_place (Nested node) = Some (Source node)
+clock_place fault = None
+
+abbrev pub station_place : StationFault → Option Named
+station_place (Files fault) = file_place fault
+station_place (FallibleOutput name) = Some (Fallible 20 (20 + length name))
+station_place (Clocks fault) = clock_place fault
+station_place (OutputTooLong name) = behind (codes "E29 output too long ") name
+
+-- of a fault; the others tell none
+abbrev pub place_of : Fault → Option Named
+place_of (Script fault) = script_place fault
+place_of (SameFile name) = behind (codes "E18 two outputs ") name
+place_of (Station fault) = station_place fault
+place_of fault = None
+
+-- a number of the program, if it has one
+abbrev pub IsSmall : Named → Type 0
+IsSmall (Byte n) = n < 2 ^ 64
+IsSmall (Token n) = n < 2 ^ 64
+IsSmall (Statement n) = n < 2 ^ 64
+IsSmall (Source n) = n < 2 ^ 64
+IsSmall (Clash n) = n < 2 ^ 64
+IsSmall (Text from to) = ⊤
+IsSmall (Fallible from to) = ⊤
+
+-- a line names this place, or none
+abbrev pub NamesIt : Option Named → List ℕ → Type 0
+NamesIt None line = (named : Named) → IsNamed line named → ⊥
+NamesIt (Some named) line = IsSmall named → IsNamed line named
+
+-- what the line of a fault names, without its line end, is what the fault tells
+abbrev pub NamesItsPlace : Fault → Type 0
+NamesItsPlace fault = (line : List ℕ) → line_of fault ≡ line ++ codes "\n" → NamesIt (place_of fault) line

@@ -1,0 +1,83 @@
+-- What the line of a fault names.
+use Rattle.std.specs.Prelude.{◌≡◌, ◌<◌, ℕ, ◌-◌, ◌^◌, Bool, not, ◌||◌, ◌==◌, List, ◌∷◌, ◌++◌, length, take, drop, codes, decimal, if◌then◌else◌}
+use Rattle.std.specs.Str.{bytes_eq}
+use Rattle.script_places.specs.declared.forms.Form.{Form}
+use Rattle.script_places.specs.declared.forms.Form.TheVariants as form
+use Rattle.script_places.specs.declared.named.Named.{Named}
+use Rattle.script_places.specs.declared.named.Named.TheVariants.{Byte, Token, Statement, Source, Clash, Text, Fallible}
+
+abbrev pub begins : (line words : List ℕ) → Bool
+begins line words = bytes_eq words (take (length words) line)
+
+abbrev pub begins_byte : List ℕ → Bool
+begins_byte line = begins line (codes "E02 ") || begins line (codes "E03 ") || begins line (codes "E04 ")
+
+abbrev pub begins_token : List ℕ → Bool
+begins_token line =
+    begins line (codes "E06 ") || begins line (codes "E07 ") || begins line (codes "E08 ") || begins line (codes "E09 ")
+    || begins line (codes "E10 ") || begins line (codes "E11 ") || begins line (codes "E14 ")
+
+abbrev pub begins_statement : List ℕ → Bool
+begins_statement line = begins line (codes "E13 statement ") || begins line (codes "E15 statement ")
+
+-- how a line names a place, by the words that it begins with: of a number the words before it, of a text also what stands behind it
+abbrev pub text_form : List ℕ → Form
+text_form line =
+    if begins line (codes "E18 two outputs ") then form.Text 16 0
+    else if begins line (codes "E20 missing file ") then form.Text 17 0
+    else if begins line (codes "E21 bad audio ") then form.Text 14 3
+    else if begins line (codes "E23 file too large ") then form.Text 19 0
+    else if begins line (codes "E25 fallible output ") then form.Fallible
+    else if begins line (codes "E29 output too long ") then form.Text 20 0
+    else form.Nothing
+
+abbrev pub source_form : List ℕ → Form
+source_form line =
+    if begins line (codes "E26 source ") then form.Source
+    else if begins line (codes "E27 crossfade ") then form.Crossfade
+    else if begins line (codes "switch ") then form.Switch
+    else text_form line
+
+abbrev pub form_of : List ℕ → Form
+form_of line =
+    if begins_byte line then form.Byte
+    else if begins_token line then form.Token
+    else if begins line (codes "E12 statement ") then form.Clash
+    else if begins_statement line then form.Statement
+    else source_form line
+
+abbrev pub is_no_blank : ℕ → Bool
+is_no_blank b = not (b == 32)
+
+-- the line ends in these words and a number
+pub record EndsIn (words line : List ℕ) (n : ℕ) : Type 0 where
+  pub front : List ℕ
+  pub spelled : line ≡ front ++ (words ++ decimal n)
+
+-- a text begins with a number and this byte
+pub record Leads (byte : ℕ) (text : List ℕ) (n : ℕ) : Type 0 where
+  pub rest : List ℕ
+  pub spelled : text ≡ decimal n ++ byte ∷ rest
+
+-- the place of a number for which this holds
+pub record IsNumbered (place : ℕ → Named) (Holds : ℕ → Type 0) (named : Named) : Type 0 where
+  pub number : ℕ
+  pub small : number < 2 ^ 64
+  pub holds : Holds number
+  pub is : named ≡ place number
+
+-- a line of a form names this place
+abbrev pub IsNamedBy : Form → List ℕ → Named → Type 0
+IsNamedBy form.Byte line named = IsNumbered Byte (EndsIn (codes " at ") line) named
+IsNamedBy form.Token line named = IsNumbered Token (EndsIn (codes " at token ") line) named
+IsNamedBy form.Clash line named = IsNumbered Clash (Leads 58 (drop 14 line)) named
+IsNamedBy form.Statement line named = IsNumbered Statement (Leads 58 (drop 14 line)) named
+IsNamedBy form.Source line named = IsNumbered Source (Leads 32 (drop 11 line)) named
+IsNamedBy form.Crossfade line named = IsNumbered Source (Leads 32 (drop 14 line)) named
+IsNamedBy form.Switch line named = IsNumbered Source (Leads 58 (drop 7 line)) named
+IsNamedBy (form.Text start after) line named = named ≡ Text start (length line - after)
+IsNamedBy form.Fallible line named = named ≡ Fallible 20 (length line)
+IsNamedBy form.Nothing line named = ⊥
+
+abbrev pub IsNamed : List ℕ → Named → Type 0
+IsNamed line named = IsNamedBy (form_of line) line named
