@@ -17,13 +17,15 @@ const FILE: [u8; 50] =
 const SLOW: [u8; 48] =
     *b"RIFF\x28\x00\x00\x00WAVEfmt \x10\x00\x00\x00\x01\x00\x01\x00\xa0\x0f\x00\x00\x40\x1f\x00\x00\x02\x00\x10\x00data\x04\x00\x00\x00\x00\x00\x64\x00";
 
-/// The stereo file of 0 100 on the left side and -3 0 on the right one, at 4000 Hz.
-const SIDES: [u8; 52] =
-    *b"RIFF\x2c\x00\x00\x00WAVEfmt \x10\x00\x00\x00\x01\x00\x02\x00\xa0\x0f\x00\x00\x80\x3e\x00\x00\x04\x00\x10\x00data\x08\x00\x00\x00\x00\x00\xfd\xff\x64\x00\x00\x00";
-
-/// The mono file of the samples 1 1 1 of 24 bits at 8000 Hz, of 54 bytes.
-const WIDE: [u8; 54] =
-    *b"RIFF\x2e\x00\x00\x00WAVEfmt \x10\x00\x00\x00\x01\x00\x01\x00\x40\x1f\x00\x00\xc0\x5d\x00\x00\x03\x00\x18\x00data\x09\x00\x00\x00\x00\x01\x00\x00\x01\x00\x00\x01\x00\x00";
+/// The audio files, a file of text, and two lists: one of B, the text and a file that is not there, and one of files at
+/// two rates.
+const FILES: &[(&str, &[u8])] = &[
+    ("B", &FILE),
+    ("slow", &SLOW),
+    ("list", b"none\nB\ntext\nB\n"),
+    ("rates", b"slow\nB\n"),
+    ("text", b"no audio file"),
+];
 
 /// A file of this name and these bytes.
 fn file_of(alloc: Global, name: &str, bytes: &[u8]) -> Result<(String, Vec<u8>), AllocError> {
@@ -32,23 +34,22 @@ fn file_of(alloc: Global, name: &str, bytes: &[u8]) -> Result<(String, Vec<u8>),
     Ok((name, bytes))
 }
 
-/// Adds the audio files, a file of text, and two lists: one of B, the text and a file that is not there, and one of
-/// files at two rates.
-fn add_files(alloc: Global, files: &mut Vec<(String, Vec<u8>)>) -> Result<(), AllocError> {
-    files.push(file_of(alloc, "B", &FILE)?)?;
-    files.push(file_of(alloc, "slow", &SLOW)?)?;
-    files.push(file_of(alloc, "sides", &SIDES)?)?;
-    files.push(file_of(alloc, "wide", &WIDE)?)?;
-    files.push(file_of(alloc, "list", b"none\nB\ntext\nB\n")?)?;
-    files.push(file_of(alloc, "rates", b"slow\nB\n")?)?;
-    files.push(file_of(alloc, "text", b"no audio file")?)?;
+/// Adds these files.
+fn add_files(
+    alloc: Global,
+    files: &mut Vec<(String, Vec<u8>)>,
+    rows: &[(&str, &[u8])],
+) -> Result<(), AllocError> {
+    for row in rows {
+        files.push(file_of(alloc, row.0, row.1)?)?;
+    }
     Ok(())
 }
 
-/// A shelf with these files.
+/// A shelf with the files.
 fn shelf(alloc: Global) -> Result<SureShelf, AllocError> {
     let mut files = Vec::new(alloc);
-    add_files(alloc, &mut files)?;
+    add_files(alloc, &mut files, FILES)?;
     Ok(SureShelf::new(alloc, files))
 }
 
@@ -124,110 +125,61 @@ fn fault_name(fault: &LoadFault) -> &'static str {
     }
 }
 
-/// Each row: a file or a list, the most bytes for one file and for all, and how many files are played at this rate or
-/// what is wrong.
-fn check(
-    rt: &impl Abort,
-    alloc: Global,
-    rate: u32,
-    is_list: bool,
-    rows: &[(&str, u16, u16, Result<u32, &str>)],
-)
-    requires least { 8000 ≤ rate }
-    requires most { rate ≤ 192000 }
+/// The rate of a plan.
+fn rate_of(slow: bool) -> u32
+    ensures least { 8000 ≤ result }
+    ensures most { result ≤ 192000 }
 {
-    for (name, file, all, want) in rows {
-        match count_tracks(alloc, rate, is_list, name, *file, *all) {
-            Ok(count) => assert_eq!(rt; Ok(count), *want),
-            Err(fault) => assert_eq!(rt; Err(fault_name(&fault)), *want),
+    if slow { 8000 } else { 44_100 }
+}
+
+/// Whether the rate is 8000 and not 44100, whether it is a list, its name, the most bytes for one file and for all, and
+/// how many files are played or what is wrong.
+type Row = (
+    bool,
+    bool,
+    &'static str,
+    u16,
+    u16,
+    Result<u32, &'static str>,
+);
+
+/// At 8000 Hz the two samples at 4000 Hz are four, and the three of B are one: a file counts for what it becomes if that
+/// is more.
+const ROWS: &[Row] = &[
+    (false, false, "B", 1000, 100, Ok(1)),
+    (false, false, "B", 50, 50, Ok(1)),
+    (false, false, "B", 1000, 49, Err("all too large")),
+    (false, false, "B", 49, 1000, Err("file too large")),
+    (false, false, "none", 1000, 100, Err("missing")),
+    (false, false, "text", 1000, 100, Err("no audio file")),
+    (false, false, "text", 12, 100, Err("file too large")),
+    (false, true, "list", 49, 50, Ok(0)),
+    (false, true, "list", 1000, 50, Ok(2)),
+    (false, true, "none", 1000, 100, Err("missing")),
+    (true, false, "slow", 52, 52, Ok(1)),
+    (true, false, "slow", 50, 1000, Err("file too large")),
+    (true, false, "slow", 51, 1000, Err("file too large")),
+    (true, false, "slow", 1000, 51, Err("all too large")),
+    (true, false, "B", 50, 50, Ok(1)),
+    (true, false, "B", 49, 1000, Err("file too large")),
+    (true, true, "rates", 51, 50, Ok(1)),
+    (true, true, "rates", 52, 102, Ok(2)),
+    (true, true, "rates", 52, 101, Err("all too large")),
+];
+
+/// Each row has its answer.
+fn check(rt: &impl Abort, alloc: Global, rows: &[Row]) {
+    for row in rows {
+        let (slow, is_list, name, file, all, want) = *row;
+        match count_tracks(alloc, rate_of(slow), is_list, name, file, all) {
+            Ok(count) => assert!(rt; Ok(count) == want),
+            Err(fault) => assert!(rt; Err(fault_name(&fault)) == want),
         }
     }
 }
 
 #[test]
-fn a_single_is_an_audio_file_of_bounded_size(rt: HostRuntime) {
-    let rows = [
-        ("B", 1000, 100, Ok(1)),
-        ("B", 50, 50, Ok(1)),
-        ("B", 1000, 49, Err("all too large")),
-        ("B", 49, 1000, Err("file too large")),
-        ("none", 1000, 100, Err("missing")),
-        ("text", 1000, 100, Err("no audio file")),
-        ("text", 12, 100, Err("file too large")),
-    ];
-    check(&rt, rt.alloc(), 44_100, false, &rows);
-}
-
-#[test]
-fn a_playlist_skips_what_is_no_audio_file(rt: HostRuntime) {
-    let rows = [
-        ("list", 49, 50, Ok(0)),
-        ("list", 1000, 50, Ok(2)),
-        ("none", 1000, 100, Err("missing")),
-    ];
-    check(&rt, rt.alloc(), 44_100, true, &rows);
-}
-
-#[test]
-fn a_file_counts_for_what_it_becomes_if_that_is_more(rt: HostRuntime) {
-    // At 8000 Hz the two samples at 4000 Hz are four, and the three of B are one.
-    let files = [
-        ("slow", 52, 52, Ok(1)),
-        ("slow", 50, 1000, Err("file too large")),
-        ("slow", 51, 1000, Err("file too large")),
-        ("slow", 1000, 51, Err("all too large")),
-        ("B", 50, 50, Ok(1)),
-        ("B", 49, 1000, Err("file too large")),
-    ];
-    check(&rt, rt.alloc(), 8000, false, &files);
-    let lists = [
-        ("rates", 51, 50, Ok(1)),
-        ("rates", 52, 102, Ok(2)),
-        ("rates", 52, 101, Err("all too large")),
-    ];
-    check(&rt, rt.alloc(), 8000, true, &lists);
-}
-
-/// The samples of the one file of a leaf in a stereo source, left before right.
-fn samples_of(alloc: Global, library: &Library) -> Result<Vec<i16>, AllocError>
-    requires { length library.now.leaves ≡ 1 }
-{
-    let mut samples = Vec::new(alloc);
-    if library.tracks(0) == 0 {
-        return Ok(samples);
-    }
-    for at in 0..library.samples(0, 0) {
-        let cell = library.cell(0, 0, at, Kind::Stereo);
-        samples.push(cell.left)?;
-        samples.push(cell.right)?;
-    }
-    Ok(samples)
-}
-
-/// The samples of a file in a stereo source at 8000 Hz, left before right.
-fn played(alloc: Global, name: &str) -> Result<Vec<i16>, LoadFault> {
-    let leaf = leaf_of(alloc, false, name)?;
-    let library = library_of(alloc, leaf, 8000, 1000, 1000)?;
-    Ok(samples_of(alloc, &library)?)
-}
-
-/// Whether these are the samples of a file.
-fn is_played(alloc: Global, name: &str, want: &[i16]) -> bool {
-    match played(alloc, name) {
-        Ok(samples) => samples.as_slice() == want,
-        Err(_) => false,
-    }
-}
-
-#[test]
-fn a_file_of_another_rate_is_changed(rt: HostRuntime) {
-    let alloc = rt.alloc();
-    assert!(rt; is_played(alloc, "slow", &[0, 0, 50, 50, 100, 100, 100, 100]));
-    assert!(rt; is_played(alloc, "sides", &[0, -3, 50, -1, 100, 0, 100, 0]));
-    assert!(rt; is_played(alloc, "B", &[1, 1]));
-}
-
-#[test]
-fn a_file_of_24_bits_is_played(rt: HostRuntime) {
-    assert!(rt; is_played(rt.alloc(), "wide", &[1, 1, 1, 1, 1, 1]));
+fn audio_files_are_of_bounded_size_and_lists_skip_what_is_none(rt: HostRuntime) {
+    check(&rt, rt.alloc(), ROWS);
 }
