@@ -1,7 +1,8 @@
 //! Worked rows of the sample kernels, from `docs/streams.md`.
 use fixed_text::Decimal;
 use liq_base::Kind;
-use sample_kernels::{decode_wide, encode, encode_wide, scale};
+use sample_bytes::{decode_wide, encode, encode_wide};
+use sample_kernels::scale;
 
 #[test]
 fn a_great_gain_is_cut(rt: HostRuntime) {
