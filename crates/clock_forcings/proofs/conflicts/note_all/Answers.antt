@@ -4,14 +4,14 @@ use Rattle.std.proofs.lemmas.List.{append-nil, take_more}
 use Rattle.std.specs.Prelude.{slice_index}
 use Rattle.std.specs.List.{fold}
 use Rattle.plan_core.specs.declared.node.Node.{Node}
-use Rattle.clock_infer.specs.declared.conflicts.Found.{Found}
-use Rattle.clock_infer.specs.declared.forcings.Forced.{Forced}
-use Rattle.clock_infer.specs.declared.forcings.Forced.TheVariants.{Id}
-use Rattle.clock_infer.specs.declared.forcings.Forcing.{Forcing}
-use Rattle.clock_infer.specs.Forcings.{forced_on}
-use Rattle.clock_infer.specs.Found.{AreFound, found_on, noted, nothing}
-use Rattle.clock_infer.proofs.Noting.{forced_append}
-use Rattle.clock_infer.proofs.conflicts.note_all.Goals as goal
+use Rattle.clock_forcings.specs.declared.conflicts.Found.{Found}
+use Rattle.clock_forcings.specs.declared.forcings.Forced.{Forced}
+use Rattle.clock_forcings.specs.declared.forcings.Forced.TheVariants.{Id}
+use Rattle.clock_forcings.specs.declared.forcings.Forcing.{Forcing}
+use Rattle.clock_forcings.specs.Forcings.{forced_on}
+use Rattle.clock_forcings.specs.Found.{AreFound, found_on, noted, nothing}
+use Rattle.clock_forcings.proofs.Noting.{forced_append}
+use Rattle.clock_forcings.proofs.conflicts.note_all.Goals as goal
 
 same_at : (xs : List Found) (k : ℕ) (v : Found) → k < length xs → get_or (set xs k v) k nothing ≡ v
 same_at [] k v h = absurd (omega arith)

@@ -1,11 +1,11 @@
 use Rattle.std.proofs.Common.{List, ◌++◌, ◌∷◌, [], ℕ, take, sym, ap, ◌∙◌, append_assoc}
 use Rattle.plan_core.specs.declared.sink.SinkPlan.{SinkPlan}
 use Rattle.plan_core.specs.Plans.{sink_node}
-use Rattle.clock_infer.specs.declared.forcings.Forced.TheVariants.{AnyMain}
-use Rattle.clock_infer.specs.declared.forcings.Forcing.{Forcing}
-use Rattle.clock_infer.specs.Forcings.{sink_forcings}
-use Rattle.clock_infer.proofs.Pushing.{one_mapped}
-use Rattle.clock_infer.proofs.forcings.push_sinks.Goals as goal
+use Rattle.clock_forcings.specs.declared.forcings.Forced.TheVariants.{AnyMain}
+use Rattle.clock_forcings.specs.declared.forcings.Forcing.{Forcing}
+use Rattle.clock_forcings.specs.Forcings.{sink_forcings}
+use Rattle.clock_forcings.proofs.Pushing.{one_mapped}
+use Rattle.clock_forcings.proofs.forcings.push_sinks.Goals as goal
 
 -- what a sink of this node forces
 abbrev forced_main : ℕ → Forcing

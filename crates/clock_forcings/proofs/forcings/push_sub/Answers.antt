@@ -1,8 +1,8 @@
 use Rattle.std.proofs.Common.{List, ◌++◌, ◌∷◌, [], ℕ, map, take, get_or, sym, ap, ◌∙◌, append_assoc}
 use Rattle.std.proofs.lemmas.List.{map-append, take_more}
-use Rattle.clock_infer.specs.declared.forcings.Forced.TheVariants.{Sub}
-use Rattle.clock_infer.specs.declared.forcings.Forcing.{Forcing}
-use Rattle.clock_infer.proofs.forcings.push_sub.Goals as goal
+use Rattle.clock_forcings.specs.declared.forcings.Forced.TheVariants.{Sub}
+use Rattle.clock_forcings.specs.declared.forcings.Forcing.{Forcing}
+use Rattle.clock_forcings.proofs.forcings.push_sub.Goals as goal
 
 -- what a crossfade forces of a child
 abbrev forced_sub : ℕ → ℕ → Forcing
