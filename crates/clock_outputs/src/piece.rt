@@ -5,7 +5,7 @@ ghost use Rattle.stream_meaning.specs.Sinks.{block_length, slot_block};
 ghost use Rattle.clock_outputs.specs.Blocks.{sample_blocks};
 
 use liq_base::{Kind, Memory};
-use sample_kernels::{encode, encode_wide};
+use sample_bytes::{encode, encode_wide};
 use std::alloc::Global;
 use std::marker::Model;
 

@@ -15,7 +15,7 @@ use Rattle.clock_infer.specs.declared.clock_map.ClockName.{ClockName}
 use Rattle.clock_infer.specs.declared.clock_map.ClockName.TheVariants.{Named, Sub as SubClock, AnyMain}
 use Rattle.clock_infer.specs.declared.clock_map.ClockFault.{ClockFault}
 use Rattle.clock_infer.specs.declared.clock_map.ClockFault.TheVariants.{TwoClocks, Nested, TooManyClocks, Memory}
-use Rattle.clock_infer.specs.Forcings.{id_or}
+use Rattle.clock_forcings.specs.Forcings.{id_or}
 use Rattle.plan_blames.specs.Needs.{needs}
 use Rattle.plan_blames.specs.Texts.{escaped}
 

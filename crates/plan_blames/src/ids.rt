@@ -1,6 +1,6 @@
 // The ids of clocks.
 ghost use Rattle.std.specs.Prelude.{◌≡◌, [], IfOk, string_bytes};
-ghost use Rattle.clock_infer.specs.Forcings.{id_or};
+ghost use Rattle.clock_forcings.specs.Forcings.{id_or};
 
 use liq_base::{Memory, Text};
 use std::alloc::Global;

@@ -5,7 +5,7 @@ use Rattle.plan_core.specs.declared.node.Op.{Op}
 use Rattle.plan_core.specs.declared.node.Op.TheVariants.{Single, Playlist, Blank, Square, Fail, Fallback, Switch, Sequence, Rotate, Random, Add, Amplify, Mean, Stereo, Crossfade, Buffer, Clock}
 use Rattle.plan_core.specs.declared.plan.Plan.{Plan}
 use Rattle.plan_core.specs.declared.sink.BufferPlan.{BufferPlan}
-use Rattle.clock_infer.specs.Forcings.{id_or}
+use Rattle.clock_forcings.specs.Forcings.{id_or}
 use Rattle.plan_blames.specs.Texts.{escaped}
 use Rattle.plan_picture.specs.Numbers.{seconds, signed}
 

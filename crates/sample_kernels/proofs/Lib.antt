@@ -1,17 +1,13 @@
-pub mod Woven
 pub mod Lanes
 pub mod Bounds
 pub mod Mixes
 pub mod Places
-pub mod Blocks
 pub mod Cuts
 pub mod Means
 pub mod Silences
 pub mod Floors
 pub mod Products
 pub mod Inverses
-pub mod Threes
-pub mod Shuffles
 pub mod Quotients
 pub mod MixedSums
 pub mod LongMixes

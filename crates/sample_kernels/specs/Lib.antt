@@ -1,5 +1,3 @@
 pub mod Samples
 pub mod Mixing
-pub mod Encoded
 pub mod Reciprocals
-pub mod Wide

@@ -1,17 +1,14 @@
 //! Arithmetic on samples, eight at a time by lanes and the rest one by one. `docs/streams.md` has the rules.
 #![tactic(auto)]
 
-mod bytes;
 mod gain;
 mod loading;
 mod mixing;
 mod signs;
 mod silence;
 mod sums;
-mod wide;
 
-pub use bytes::{decode, encode};
 pub use gain::{halves, scale};
+pub use loading::load_samples;
 pub use mixing::{mix, mixed_sample};
 pub use sums::{add_into, clamp_all, divide};
-pub use wide::{decode_wide, encode_wide};

@@ -9,8 +9,8 @@ use Rattle.plan_core.specs.declared.sink.SinkPlan.{SinkPlan}
 use Rattle.plan_core.specs.declared.sink.SinkPlan.TheVariants.{Output, Feed}
 use Rattle.frame_core.specs.declared.cell.Cell.{Cell}
 use Rattle.frame_core.specs.Slots.{Slot}
-use Rattle.sample_kernels.specs.Encoded.{block_of}
-use Rattle.sample_kernels.specs.Wide.{wide_block_of}
+use Rattle.sample_bytes.specs.Encoded.{block_of}
+use Rattle.sample_bytes.specs.Wide.{wide_block_of}
 use Rattle.stream_meaning.specs.Arithmetic.{cells_of}
 use Rattle.stream_meaning.specs.Instants.{Setting, stream_of, clock_of}
 use Rattle.clock_infer.specs.declared.clock_map.NodeClock.TheVariants.{Main}

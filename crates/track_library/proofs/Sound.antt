@@ -4,7 +4,7 @@ use Rattle.liq_base.specs.declared.memory.Kind.{Kind}
 use Rattle.liq_base.specs.declared.memory.Kind.TheVariants.{Mono, Stereo}
 use Rattle.frame_core.specs.Bytes.{sample_in, samples_in}
 use Rattle.frame_core.specs.Sounds.{IsSound}
-use Rattle.sample_kernels.specs.Wide.{wide_samples_in}
+use Rattle.sample_bytes.specs.Wide.{wide_samples_in}
 use Rattle.wav_io.specs.Reading.{AreBlocks}
 use Rattle.track_library.specs.Walk.{samples_at}
 

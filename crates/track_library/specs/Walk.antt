@@ -12,7 +12,7 @@ use Rattle.plan_core.specs.declared.node.Op.TheVariants.{Single, Playlist, Blank
 use Rattle.wav_io.specs.Reading.{Wav, read_of}
 use Rattle.resample.specs.Resampled.{resampled}
 use Rattle.frame_core.specs.Bytes.{samples_in}
-use Rattle.sample_kernels.specs.Wide.{wide_samples_in}
+use Rattle.sample_bytes.specs.Wide.{wide_samples_in}
 use Rattle.frame_core.specs.Library.{Sounds}
 use Rattle.frame_core.specs.Sounds.{Sound}
 use Rattle.wav_io.specs.declared.fault.WavFault.{WavFault}

@@ -1,11 +1,11 @@
 // The samples of an audio file.
 ghost use Rattle.frame_core.specs.Bytes.{samples_in};
-ghost use Rattle.sample_kernels.specs.Wide.{wide_samples_in};
+ghost use Rattle.sample_bytes.specs.Wide.{wide_samples_in};
 ghost use Rattle.std.specs.Prelude.{◌≡◌, IfOk};
 ghost use Rattle.track_library.specs.Walk.{samples_at};
 
 use liq_base::Memory;
-use sample_kernels::{decode, decode_wide};
+use sample_bytes::{decode, decode_wide};
 use std::alloc::Global;
 
 /// The samples of so many whole blocks, in the order in which they stand: signed, of 16 bits, the lower byte first. Of

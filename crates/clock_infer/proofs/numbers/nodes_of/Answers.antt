@@ -1,7 +1,7 @@
 use Rattle.std.proofs.Common.{List, ◌++◌, ◌∷◌, [], ℕ, map, take, sym, ap, ◌∙◌}
 use Rattle.plan_core.specs.declared.sink.SinkPlan.{SinkPlan}
 use Rattle.plan_core.specs.Plans.{sink_node}
-use Rattle.clock_infer.proofs.Pushing.{one_mapped}
+use Rattle.clock_forcings.proofs.Pushing.{one_mapped}
 use Rattle.clock_infer.proofs.numbers.nodes_of.Goals as goal
 
 pub loop-sink-preserved : goal.loop-sink-preserved

@@ -1,6 +1,6 @@
 use Rattle.std.proofs.Common.{◌≡◌, ◌∙◌, ◌++◌, length, take, drop, arith, ap, sym}
 use Rattle.std.proofs.Math.Seq.{take-append_seam}
-use Rattle.sample_kernels.specs.Wide.{wide_samples_in}
+use Rattle.sample_bytes.specs.Wide.{wide_samples_in}
 use Rattle.track_library.proofs.Sound.{wide_front}
 use Rattle.track_library.proofs.samples.read_wide.Goals as goal
 

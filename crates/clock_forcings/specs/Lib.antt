@@ -1,0 +1,2 @@
+pub mod Forcings
+pub mod Found

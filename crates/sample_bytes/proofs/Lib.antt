@@ -1,0 +1,4 @@
+pub mod Blocks
+pub mod Threes
+pub mod Woven
+pub mod Shuffles
