@@ -14,11 +14,13 @@ use Rattle.run_records.specs.Records.{capacity_of, start}
 use Rattle.buffer_ends.specs.Local.{Answers}
 use Rattle.trace_log.specs.Texts.{IsTrace, windows_of}
 use Rattle.trace_log.specs.Values.{TraceValue}
+use Rattle.frame_core.specs.declared.cell.Cell.{Cell}
 use Rattle.trace_replay.specs.declared.ends.Ends.{Ends}
 use Rattle.trace_replay.specs.Told.{are_legal}
 use Rattle.trace_replay.specs.Clocks.{Log}
 use Rattle.trace_replay.specs.Passes.{IsFormed, IsLegalText, IsOrderedText}
 use Rattle.trace_replay.specs.Answering.{BufferState}
+use Rattle.trace_replay.specs.Thin.{AreKept}
 use Rattle.trace_replay.specs.Turns.{AreFit, AreTold, chunks_of, no_state}
 use Rattle.trace_replay.specs.Finds.{HaveFound}
 use Rattle.trace_replay.specs.Traces.{AreNew, new_state, pair_of, text_of}
@@ -94,6 +96,9 @@ module _ (base : Setting) (clocks : ClockMap) (is : IsSetting base clocks) (trac
     | inr high ↦ ap (λ (s : BufferState). s.chunks) (past_end states b no_state (omega (arith, high, size)))
   ]
 
+  pub kept : AreKept states
+  kept b d low = ap (λ (s : BufferState). s.gone) (state_is b d (omega (arith, low, size)))
+
   -- where the text is legal by itself
   module _ (readers : List ℕ) (sides : (b : ℕ) → b < B → slice_index_or readers b 0 ≡ reader base b) where
     pub legal : ((b : ℕ) (plan : BufferPlan) → slice_get base.plan.buffers b ≡ Some plan → are_legal plan.capacity 0 (text b) ≡ true)
@@ -105,8 +110,8 @@ module _ (base : Setting) (clocks : ClockMap) (is : IsSetting base clocks) (trac
       unread = λ b known high. ap (λ (s : BufferState). s.takes) (sym (state_is b no_state known)) ∙ unread b no_state (omega (arith, known, size)) (let same = sides b known in omega (arith, high, same));
     }
 
-    pub done : (after : List BufferState) → HaveFound base clocks trace.window trace.ticks text after → IsLegalText base clocks.running text → IsOrderedText base clocks.running trace.window trace.ticks text
-    done after found legal_now = completed base clocks is trace.window trace.ticks text found.made (chunks_of after) found.at found.all formed legal_now
+    pub done : (last : ℕ → List (List Cell)) → HaveFound base clocks trace.window trace.ticks text last → IsLegalText base clocks.running text → IsOrderedText base clocks.running trace.window trace.ticks text
+    done last found legal_now = completed base clocks is trace.window trace.ticks text found.made last found.at found.all formed legal_now
 
     pub not_legal : (b : ℕ) (plan : BufferPlan) → slice_get base.plan.buffers b ≡ Some plan → are_legal plan.capacity 0 (text b) ≡ false → IsOrderedText base clocks.running trace.window trace.ticks text → ⊥
     not_legal b plan found wrong ordered =

@@ -6,6 +6,7 @@ use Rattle.std.proofs.lemmas.Bool.{cases_lt, cases_eq}
 use Rattle.std.proofs.lemmas.List.{get_or_default}
 use Rattle.std.proofs.lemmas.Bool.Decides.{nat_tests}
 use Rattle.clock_infer.specs.declared.clock_map.ClockMap.{ClockMap}
+use Rattle.frame_core.specs.declared.cell.Cell.{Cell}
 use Rattle.stream_meaning.specs.Instants.{Setting}
 use Rattle.stream_meaning.specs.Settings.{IsSetting}
 use Rattle.trace_replay.specs.declared.ends.Ends.{Ends}
@@ -39,6 +40,47 @@ total_full (x ∷ ns) N each full zero low = (both_full x (total ns) (length ns)
 total_full (x ∷ ns) N each full (suc k) low = total_full ns N (λ k low. each (suc k) (omega (arith, low)))
     (both_full x (total ns) (length ns) N (each 0 (omega arith)) (total_most ns N (λ k low. each (suc k) (omega (arith, low)))) full).1 k (omega (arith, low))
 
+-- a clock came to n ticks
+pub made_now : (made : List ℕ) (m n : ℕ) → m < length made → (k : ℕ) → put_at m n (made_of made) k ≡ made_of (slice_set made m n) k
+made_now made m n there k = by (cases_eq k m)
+  where
+    by : (k ≡ m) ⊎ (k ≢ m) → put_at m n (made_of made) k ≡ made_of (slice_set made m n) k
+    by (inl e) = (let on : nat_eq k m ≡ true = grind (arith, nat_tests, e) in
+        ap (λ (s : Bool). cond s n (made_of made k)) on ∙ sym (ap (λ j. made_of (slice_set made m n) j) e ∙ get_or-set_same made m n 0 there))
+    by (inr other) = (let off : nat_eq k m ≡ false = grind (arith, nat_tests, other) in
+        ap (λ (s : Bool). cond s n (made_of made k)) off ∙ sym (get_or-set_other made m k n 0 other))
+
+-- clocks that have made some ticks as a text tells
+module _ (base : Setting) (clocks : ClockMap) (is : IsSetting base clocks) (W N : ℕ) (text : ℕ → Log) (made : List ℕ) (left : ℕ) (chunks : ℕ → List (List Cell)) (size : length made ≡ clocks.running)
+    (counts : left + total made ≡ clocks.running * N) (at : AreAt base clocks.running W N text (made_of made) chunks) where
+  pub within_here : (k : ℕ) → k < length made → made_of made k ≤ N
+  within_here k low = ((at.clock k (omega (arith, low, size))).within)
+
+  -- one of them comes to n ticks, as far as before or farther
+  module _ (m : ℕ) (low : m < clocks.running) (n : ℕ) (next : ℕ → List (List Cell)) (come : HasCome base W N text m n chunks next) (far : made_of made m ≤ n) where
+    there : m < length made
+    there = omega (arith, low, size)
+
+    pub at_next : AreAt base clocks.running W N text (made_of (slice_set made m n)) next
+    at_next = subst (λ (f : ℕ → ℕ). AreAt base clocks.running W N text f next) (fun_ext (made_now made m n there)) (turned base clocks is W N text (made_of made) chunks at m low n far next come)
+
+    -- so many ticks fewer are left
+    pub few_left : n - made_of made m ≤ left
+    few_left =
+        let sum = total_set made m n there in
+        let long = length-set made m n in
+        let now = at_next in
+        let most = total_most (slice_set made m n) N (λ k less. (now.clock k (omega (arith, less, long, size))).within) in
+        let same : length (slice_set made m n) * N ≡ clocks.running * N = ap (λ j. j * N) (long ∙ size) in
+        omega (arith, sum, most, same, counts)
+
+    pub counts_next : (left - (n - made_of made m)) + total (slice_set made m n) ≡ clocks.running * N
+    counts_next = (let few = few_left in let sum = total_set made m n there in omega (arith, far, few, sum, counts))
+
+  -- all ticks were made
+  pub done_here : left ≡ 0 → (k : ℕ) → k < clocks.running → made_of made k ≡ N
+  done_here none k low = (let e = ap (λ j. j * N) size in total_full made N within_here (omega (arith, counts, none, e)) k (omega (arith, low, size)))
+
 module _ (base : Setting) (clocks : ClockMap) (is : IsSetting base clocks) (W N : ℕ) (ends : List Ends) (first : List BufferState) where
   abbrev Passing : List ℕ → ℕ → List BufferState → Type 0
   Passing made left states = ArePassing base clocks W N ends first made left states
@@ -56,54 +98,7 @@ module _ (base : Setting) (clocks : ClockMap) (is : IsSetting base clocks) (W N 
 
   -- no clock made more ticks than there are
   within_all : (made : List ℕ) (left : ℕ) (states : List BufferState) → Passing made left states → (text : ℕ → Log) → AreFit base W N text first ends → (k : ℕ) → k < length made → made_of made k ≤ N
-  within_all made left states passing text fit k low = (let size = passing.size in ((passing.at text fit).clock k (omega (arith, low, size))).within)
-
-  -- a clock comes to n ticks, as far as before or farther
-  module _ (made : List ℕ) (left : ℕ) (states : List BufferState) (passing : Passing made left states) (m : ℕ) (low : m < clocks.running) (n : ℕ) (others : List BufferState)
-      (comes : (text : ℕ → Log) → AreFit base W N text first ends → HasCome base W N text m n (chunks_of states) (chunks_of others)) (far : made_of made m ≤ n) (text : ℕ → Log) (fit : AreFit base W N text first ends) where
-    there : m < length made
-    there = (let size = passing.size in omega (arith, low, size))
-
-    made_now : (k : ℕ) → put_at m n (made_of made) k ≡ made_of (slice_set made m n) k
-    made_now k = by (cases_eq k m)
-      where
-        by : (k ≡ m) ⊎ (k ≢ m) → put_at m n (made_of made) k ≡ made_of (slice_set made m n) k
-        by (inl e) = (let on : nat_eq k m ≡ true = grind (arith, nat_tests, e) in
-            ap (λ (s : Bool). cond s n (made_of made k)) on ∙ sym (ap (λ j. made_of (slice_set made m n) j) e ∙ get_or-set_same made m n 0 there))
-        by (inr other) = (let off : nat_eq k m ≡ false = grind (arith, nat_tests, other) in
-            ap (λ (s : Bool). cond s n (made_of made k)) off ∙ sym (get_or-set_other made m k n 0 other))
-
-    at_now : AreAt base clocks.running W N text (made_of (slice_set made m n)) (chunks_of others)
-    at_now = subst (λ (f : ℕ → ℕ). AreAt base clocks.running W N text f (chunks_of others)) (fun_ext made_now)
-        (turned base clocks is W N text (made_of made) (chunks_of states) (passing.at text fit) m low n far (chunks_of others) (comes text fit))
-
-    -- so many ticks fewer are left
-    pub fewer_left : n - made_of made m ≤ left
-    fewer_left =
-        let sum = total_set made m n there in
-        let size = length-set made m n in
-        let now = at_now in
-        let most = total_most (slice_set made m n) N (λ k less. (now.clock k (let s = passing.size in omega (arith, less, size, s))).within) in
-        let same : length (slice_set made m n) * N ≡ clocks.running * N = (let s = passing.size in ap (λ j. j * N) (size ∙ s)) in
-        let counts = passing.counts in
-        omega (arith, sum, most, same, counts)
-
-  pub moves_on : (made : List ℕ) (left : ℕ) (states : List BufferState) → Passing made left states → (m : ℕ) → m < clocks.running → (n : ℕ) (others : List BufferState)
-      → ((text : ℕ → Log) → AreFit base W N text first ends → HasCome base W N text m n (chunks_of states) (chunks_of others)) → made_of made m ≤ n
-      → ((text : ℕ → Log) → AreFit base W N text states ends → AreFit base W N text others ends) → length others ≡ length states → (some : (text : ℕ → Log) × AreFit base W N text first ends)
-      → Passing (slice_set made m n) (left - (n - made_of made m)) others
-  moves_on made left states passing m low n others comes far fits long some =
-      let few = fewer_left made left states passing m low n others comes far some.0 some.1 in
-      let size = passing.size in
-      let sum = total_set made m n (omega (arith, low, size)) in
-      let counts = passing.counts in
-      record {
-        size = length-set made m n ∙ passing.size;
-        counts = omega (arith, far, few, sum, counts);
-        many = long ∙ passing.many;
-        fit = λ text fit. fits text (passing.fit text fit);
-        at = λ text fit. at_now made left states passing m low n others comes far text fit;
-      }
+  within_all made left states passing text fit = within_here base clocks is W N text made left (chunks_of states) passing.size passing.counts (passing.at text fit)
 
   -- a turn of clock m
   module _ (made : List ℕ) (left : ℕ) (states : List BufferState) (passing : Passing made left states) (m : ℕ) (low : m < clocks.running) (n : ℕ) (others : List BufferState)
@@ -113,14 +108,21 @@ module _ (base : Setting) (clocks : ClockMap) (is : IsSetting base clocks) (W N 
 
     -- so many ticks fewer are left
     pub fewer : n - made_of made m ≤ left
-    fewer = fewer_left made left states passing m low n others (λ t f. (turns t (passing.fit t f)).come) came_on text fit
+    fewer = few_left base clocks is W N text made left (chunks_of states) passing.size passing.counts (passing.at text fit) m low n (chunks_of others) (turns text (passing.fit text fit)).come came_on
 
   pub passes_on : (made : List ℕ) (left : ℕ) (states : List BufferState) → Passing made left states → (m : ℕ) → m < clocks.running → (n : ℕ) (others : List BufferState)
       → ((text : ℕ → Log) → AreFit base W N text states ends → HasTurned base W N text m n (chunks_of states) (chunks_of others))
       → ((text : ℕ → Log) → AreFit base W N text states ends → AreFit base W N text others ends) → length others ≡ length states → (some : (text : ℕ → Log) × AreFit base W N text first ends)
       → Passing (slice_set made m n) (left - (n - made_of made m)) others
-  passes_on made left states passing m low n others turns fits long some =
-      moves_on made left states passing m low n others (λ t f. (turns t (passing.fit t f)).come) (came_on made left states passing m low n others turns some.0 some.1) fits long some
+  passes_on made left states passing m low n others turns fits long some = record {
+    size = length-set made m n ∙ passing.size;
+    counts = counts_next base clocks is W N some.0 made left (chunks_of states) passing.size passing.counts (passing.at some.0 some.1) m low n (chunks_of others) (turns some.0 (passing.fit some.0 some.1)).come
+        (came_on made left states passing m low n others turns some.0 some.1);
+    many = long ∙ passing.many;
+    fit = λ text fit. fits text (passing.fit text fit);
+    at = λ text fit. at_next base clocks is W N text made left (chunks_of states) passing.size passing.counts (passing.at text fit) m low n (chunks_of others) (turns text (passing.fit text fit)).come
+        (came_on made left states passing m low n others turns text fit);
+  }
 
   -- the clocks that wait wait on where the turn brought nothing
   pub still_stuck : (made : List ℕ) (before left : ℕ) (states : List BufferState) → Passing made left states → (m : ℕ) → m < clocks.running → left ≤ before → AreStuck base W N ends first made states before left m → (n : ℕ) (others : List BufferState)
@@ -175,10 +177,7 @@ module _ (base : Setting) (clocks : ClockMap) (is : IsSetting base clocks) (W N 
 
   -- all ticks were made
   pub passes_done : (made : List ℕ) (left : ℕ) (states : List BufferState) → Passing made left states → left ≡ 0 → (text : ℕ → Log) → AreFit base W N text first ends → (k : ℕ) → k < clocks.running → made_of made k ≡ N
-  passes_done made left states passing none text fit k low =
-      let size = passing.size in let counts = passing.counts in
-      let e = ap (λ j. j * N) size in
-      total_full made N (within_all made left states passing text fit) (omega (arith, counts, none, e)) k (omega (arith, low, size))
+  passes_done made left states passing none text fit = done_here base clocks is W N text made left (chunks_of states) passing.size passing.counts (passing.at text fit) none
 
 pub read_made : (xs : List ℕ) (k x : ℕ) → x ≡ slice_index_or xs k x → k < length xs → made_of xs k ≡ x
 read_made xs k x e low = get_or_default xs k 0 x low ∙ sym e

@@ -1,46 +1,51 @@
--- The engines of a replay, one after another.
-use Rattle.std.proofs.Common.{◌≡◌, ◌<◌, ◌≤◌, ◌+◌, ◌∙◌, ℕ, suc, Bool, true, false, cond, nat_eq, nat_lt, Some, Option, List, [], length, set, slice_get, inl, inr, refl, ap, sym, subst, arith}
-use Rattle.std.proofs.lemmas.Bool.{cases_lt, le-ltb, lt-ltb}
+-- Engines of which each has made some of its ticks, and one that a fault stopped.
+use Rattle.std.proofs.Common.{◌≡◌, ◌<◌, ◌≤◌, ◌∙◌, ℕ, suc, Bool, true, false, cond, nat_eq, Some, List, [], length, set, slice_get, inl, inr, refl, ap, sym, subst, arith}
 use Rattle.std.proofs.lemmas.Bool.Decides.{nat_tests}
-use Rattle.std.proofs.lemmas.Option.{slice_get_within}
-use Rattle.std.proofs.Math.ListN.{length-set}
 use Rattle.liq_base.specs.Pieces.{SinkTold}
+use Rattle.clock_infer.proofs.Exact.{some_inj}
 use Rattle.clock_outputs.proofs.Places.{same_or_other, slice_get-set_other, slice_get-set_same}
+use Rattle.std.proofs.Math.ListN.{length-set}
 use Rattle.stream_meaning.specs.Instants.{Setting}
 use Rattle.stream_meaning.specs.Sinks.{ticks_bytes}
 use Rattle.buffer_ends.specs.declared.run_end.End.{End}
 use Rattle.buffer_ends.specs.declared.run_end.End.TheVariants.{Done, Write, Memory as NoMemory}
 use Rattle.clock_ticks.specs.declared.engine.ClockEngine.{ClockEngine}
+use Rattle.clock_ticks.specs.declared.fault.TickFault.{TickFault}
+use Rattle.clock_ticks.specs.declared.fault.TickFault.TheVariants.{Memory as OutOfMemory, Write as TickWrite}
 use Rattle.clock_ticks.specs.Engines.{held_of, outputs_of, setting_of}
 use Rattle.clock_ticks.proofs.Pieces.{got_between, got_none}
 use Rattle.rounds_run.specs.Rounds.{HasRunPart, IsWriteEnd}
 use Rattle.rounds_run.specs.Runs.{HasRunTicks, HaveRunTicks}
 use Rattle.rounds_run.proofs.Fronts.{grown_nothing, itself}
-use Rattle.trace_replay.specs.Replaying.{HasSinkFailed}
+use Rattle.rounds_run.proofs.Going.{fault_is}
 use Rattle.run_records.specs.Records.{IsWithin}
-use Rattle.trace_replay.specs.Replays.{AreReplayed, HasReplayedPart, HasReplayedTo}
+use Rattle.trace_replay.specs.Replaying.{HasSinkFailed}
+use Rattle.trace_replay.specs.Replays.{HasReplayedTo}
+use Rattle.trace_replay.proofs.Passing.{put_at}
 
--- how many ticks clock m has made, where those below this clock have made all N, it has made n, and those above it have made none
-abbrev ticks_to : (N clock n m : ℕ) → ℕ
-ticks_to N clock n m = cond (nat_lt m clock) N (cond (nat_eq m clock) n 0)
+-- one item of a list changed
+pub record IsChanged {A : Type 0} (k : ℕ) (new : A) (old now : List A) : Type 0 where
+  pub size : length now ≡ length old
+  pub here : slice_get now k ≡ Some new
+  pub other : (j : ℕ) → (k ≡ j → ⊥) → slice_get now j ≡ slice_get old j
 
--- one clock after another
-within_to : (below here : Bool) (N n : ℕ) → n < N → IsWithin 0 N (cond below N (cond here n 0)) (cond below N (cond here (suc n) 0))
-within_to true here N n low = record { least = omega arith; most = omega arith; no_fewer = omega arith; one_more = omega arith }
-within_to false true N n low = record { least = omega arith; most = omega (arith, low); no_fewer = omega arith; one_more = omega arith }
-within_to false false N n low = record { least = omega arith; most = omega arith; no_fewer = omega arith; one_more = omega arith }
+pub changed_set : {A : Type 0} (k : ℕ) (new : A) (xs : List A) → k < length xs → IsChanged k new xs (set xs k new)
+changed_set k new xs low = record {
+  size = length-set xs k new;
+  here = slice_get-set_same xs k new low;
+  other = λ j other. slice_get-set_other xs k j new other;
+}
 
--- of the clocks below one, of this one, and of those above it
-to_below : (N clock n m : ℕ) → m < clock → ticks_to N clock n m ≡ N
-to_below N clock n m low = ap (λ (b : Bool). cond b N (cond (nat_eq m clock) n 0)) (lt-ltb m clock low)
+pub put_here : {A : Type 0} (k : ℕ) (x : A) (f : ℕ → A) (j : ℕ) → k ≡ j → put_at k x f j ≡ x
+put_here k x f j e = (let on : nat_eq j k ≡ true = grind (arith, nat_tests, e) in ap (λ (s : Bool). cond s x (f j)) on)
 
-to_here : (N clock n m : ℕ) → m ≡ clock → ticks_to N clock n m ≡ n
-to_here N clock n m e = (let none : nat_lt m clock ≡ false = le-ltb m clock (omega (arith, e)) in let on : nat_eq m clock ≡ true = grind (arith, nat_tests, e) in
-    ap (λ (b : Bool). cond b N (cond (nat_eq m clock) n 0)) none ∙ ap (λ (b : Bool). cond b n 0) on)
+pub put_other : {A : Type 0} (k : ℕ) (x : A) (f : ℕ → A) (j : ℕ) → (k ≡ j → ⊥) → put_at k x f j ≡ f j
+put_other k x f j other = (let off : nat_eq j k ≡ false = grind (arith, nat_tests, other) in ap (λ (s : Bool). cond s x (f j)) off)
 
-to_above : (N clock n m : ℕ) → clock < m → ticks_to N clock n m ≡ 0
-to_above N clock n m high = (let none : nat_lt m clock ≡ false = le-ltb m clock (omega (arith, high)) in let off : nat_eq m clock ≡ false = grind (arith, nat_tests, high) in
-    ap (λ (b : Bool). cond b N (cond (nat_eq m clock) n 0)) none ∙ ap (λ (b : Bool). cond b n 0) off)
+-- the ticks that were made and tried
+within_by : (here : Bool) (N n a : ℕ) → n < N → a ≤ N → IsWithin 0 N (cond here n a) (cond here (suc n) a)
+within_by true N n a low few = record { least = omega arith; most = omega (arith, low); no_fewer = omega arith; one_more = omega arith }
+within_by false N n a low few = record { least = omega arith; most = omega (arith, few); no_fewer = omega arith; one_more = omega arith }
 
 module _ {S : Type 0} (told : S → SinkTold) (setting : Setting) (N : ℕ) where
   abbrev Part : (least most : ℕ) → ClockEngine S → ClockEngine S → Type 0
@@ -71,96 +76,6 @@ module _ {S : Type 0} (told : S → SinkTold) (setting : Setting) (N : ℕ) wher
     outs = run.outs;
   }
 
-  pub begin_engines : (first : List (ClockEngine S)) → AreReplayed told setting N 0 first first
-  begin_engines first = record { size = refl; done = λ j before after low. absurd (omega (arith, low)); same = λ j high. refl }
-
-  module _ (k : ℕ) (first now : List (ClockEngine S)) (going : AreReplayed told setting N k first now) (old new : ClockEngine S) (was : slice_get now k ≡ Some old) where
-    was_first : slice_get first k ≡ Some old
-    was_first = sym (going.same k (omega arith)) ∙ was
-
-    abbrev after : List (ClockEngine S)
-    after = set now k new
-
-    size_after : length after ≡ length first
-    size_after = length-set now k new ∙ going.size
-
-    this_at : (j : ℕ) (engine : ClockEngine S) → k ≡ j → slice_get after j ≡ Some engine → new ≡ engine
-    this_at j engine e is =
-        let both : Some new ≡ Some engine = sym (slice_get-set_same now k new (slice_get_within now k old was)) ∙ ap (slice_get after) e ∙ is in
-        cc
-
-    first_at : (j : ℕ) (engine : ClockEngine S) → k ≡ j → slice_get first j ≡ Some engine → old ≡ engine
-    first_at j engine e is =
-        let both : Some old ≡ Some engine = sym was_first ∙ ap (slice_get first) e ∙ is in
-        cc
-
-    other_at : (j : ℕ) → (k ≡ j → ⊥) → slice_get after j ≡ slice_get now j
-    other_at j other = slice_get-set_other now k j new other
-
-    -- one engine more
-    pub next_engine : HasRunTicks told setting N old new → AreReplayed told setting N (k + 1) first after
-    next_engine run = record {
-      size = size_after;
-      done = λ j before engine low at is. elim (same_or_other k j) [
-        | inl e ↦ subst (λ x. HasRunTicks told setting N x engine) (first_at j before e at) (subst (λ x. HasRunTicks told setting N old x) (this_at j engine e is) run)
-        | inr other ↦ going.done j before engine (omega (arith, low, other)) at (sym (other_at j other) ∙ is)
-      ];
-      same = λ j high. other_at j (λ e. omega (arith, high, e)) ∙ going.same j (omega (arith, high));
-    }
-
-    -- the fault is that of an output of the clock
-    pub engine_write : (clock sink : ℕ) (end : End) → old.parts.clock ≡ k → HasSinkFailed told sink old new → end ≡ Write clock sink → clock ≡ k → IsWriteEnd told k first after end
-    engine_write clock sink end number failed e clock_is = record {
-      before = old;
-      after = new;
-      was = was_first;
-      is = slice_get-set_same now k new (slice_get_within now k old was);
-      place = failed.place;
-      sink = sink;
-      node = failed.node;
-      there = subst (λ (m : ℕ). slice_get (outputs_of (setting_of old.parts) m) failed.place ≡ Some (sink, failed.node)) number failed.there;
-      end_is = e ∙ ap (λ (m : ℕ). Write m sink) clock_is;
-      rose = failed.rose;
-    }
-
-    -- up to a fault
-    pub engines_stopped : HasReplayedPart told setting N old new → (end : End) → ((failed sink : ℕ) → end ≡ Write failed sink → IsWriteEnd told k first after end)
-        → HasReplayedTo told setting N first after end
-    engines_stopped part end write = record {
-      made = ticks_to N k part.n;
-      tried = ticks_to N k (suc part.n);
-      within = λ m. within_to (nat_lt m k) (nat_eq m k) N part.n part.low;
-      part = record {
-        size = size_after;
-        each = λ j before engine at is. elim (same_or_other k j) [
-          | inl e ↦ subst (λ n. Part n (ticks_to N k (suc part.n) j) before engine) (sym (to_here N k part.n j (sym e)))
-              (subst (λ n. Part part.n n before engine) (sym (to_here N k (suc part.n) j (sym e)))
-              (subst (λ x. Part part.n (suc part.n) x engine) (first_at j before e at) (subst (λ x. Part part.n (suc part.n) old x) (this_at j engine e is) part.part)))
-          | inr other ↦ elim (cases_lt j k) [
-            | inl low ↦ subst (λ n. Part n (ticks_to N k (suc part.n) j) before engine) (sym (to_below N k part.n j low))
-                (subst (λ n. Part N n before engine) (sym (to_below N k (suc part.n) j low)) (part_all before engine (going.done j before engine low at (sym (other_at j other) ∙ is))))
-            | inr high ↦ (let above : k < j = omega (arith, high, other) in
-                let both : Some before ≡ Some engine = sym at ∙ sym (going.same j high) ∙ sym (other_at j other) ∙ is in
-                let same : before ≡ engine = cc in
-                subst (λ n. Part n (ticks_to N k (suc part.n) j) before engine) (sym (to_above N k part.n j above))
-                (subst (λ n. Part 0 n before engine) (sym (to_above N k (suc part.n) j above)) (subst (λ x. Part 0 0 before x) same (part_none before))))
-          ]
-        ];
-      };
-      write = λ failed sink e.
-          let is = write failed sink e in
-          let ends : Write k is.sink ≡ Write failed sink = sym is.end_is ∙ e in
-          let clock_is : k ≡ failed = cc in
-          subst (λ clock. IsWriteEnd told clock first after end) clock_is is;
-    }
-
-  -- all engines
-  pub all_engines : (k : ℕ) (first now : List (ClockEngine S)) → AreReplayed told setting N k first now → length now ≤ k → HaveRunTicks told setting N first now
-  all_engines k first now going full = record {
-    size = going.size;
-    each = λ j before after was is. going.done j before after (let low = slice_get_within now j after is in omega (arith, low, full)) was is;
-  }
-
   no_write_here : (end : End) → ((end ≡ Done → ⊥) → end ≡ NoMemory) → (failed sink : ℕ) → end ≡ Write failed sink → ⊥
   no_write_here Done is failed sink e = cc
   no_write_here NoMemory is failed sink e = cc
@@ -178,3 +93,64 @@ module _ {S : Type 0} (told : S → SinkTold) (setting : Setting) (N : ℕ) wher
   -- the same end, told again
   pub ended_so : (first now : List (ClockEngine S)) (end said : End) → said ≡ end → HasReplayedTo told setting N first now end → HasReplayedTo told setting N first now said
   ended_so first now end said is to = subst (HasReplayedTo told setting N first now) (sym is) to
+
+  -- before the first tick memory is wanted
+  pub none_made : (first : List (ClockEngine S)) (end : End) → end ≡ NoMemory → HasReplayedTo told setting N first first end
+  none_made first end is = record {
+    made = λ m. 0;
+    tried = λ m. 0;
+    within = λ m. record { least = omega arith; most = omega arith; no_fewer = omega arith; one_more = omega arith };
+    part = record { size = refl; each = λ j before after was at. subst (Part 0 0 before) (some_inj (sym was ∙ at)) (part_none before) };
+    write = λ failed sink e. absurd (no_write_here end (λ done. is) failed sink e);
+  }
+
+  module _ (first now : List (ClockEngine S)) (size : length now ≡ length first) (made : ℕ → ℕ) (few : (k : ℕ) → made k ≤ N)
+      (each : (k : ℕ) (before after : ClockEngine S) → slice_get first k ≡ Some before → slice_get now k ≡ Some after → Part (made k) (made k) before after) where
+    -- a fault of one engine, which had made so many ticks
+    module _ (k : ℕ) (new : ClockEngine S) (after : List (ClockEngine S)) (changed : IsChanged k new now after) where
+      pub one_broke : (n : ℕ) → n < N → ((before : ClockEngine S) → slice_get first k ≡ Some before → Part n (suc n) before new)
+          → (end : End) → ((failed sink : ℕ) → end ≡ Write failed sink → IsWriteEnd told failed first after end) → HasReplayedTo told setting N first after end
+      one_broke n less part end write = record {
+        made = put_at k n made;
+        tried = put_at k (suc n) made;
+        within = λ m. within_by (nat_eq m k) N n (made m) less (few m);
+        part = record {
+          size = changed.size ∙ size;
+          each = λ j before engine was is. elim (same_or_other k j) [
+            | inl e ↦ (let same : Some new ≡ Some engine = sym changed.here ∙ ap (slice_get after) e ∙ is in
+                let one : new ≡ engine = cc in
+                subst (λ (a : ℕ). Part a (put_at k (suc n) made j) before engine) (sym (put_here k n made j e))
+                (subst (λ (a : ℕ). Part n a before engine) (sym (put_here k (suc n) made j e))
+                (subst (λ (x : ClockEngine S). Part n (suc n) before x) one (part before (ap (slice_get first) e ∙ was)))))
+            | inr other ↦ subst (λ (a : ℕ). Part a (put_at k (suc n) made j) before engine) (sym (put_other k n made j other))
+                (subst (λ (a : ℕ). Part (made j) a before engine) (sym (put_other k (suc n) made j other)) (each j before engine was (sym (changed.other j other) ∙ is)))
+          ];
+        };
+        write = write;
+      }
+
+      -- where it is that of an output of the clock
+      write_here : (failed sink : ℕ) (before : ClockEngine S) → slice_get first k ≡ Some before → before.parts.clock ≡ k → (out : ℕ) → HasSinkFailed told out before new → Write k out ≡ Write failed sink
+          → IsWriteEnd told failed first after (Write k out)
+      write_here failed sink before was number out fault e =
+          let clock_is : k ≡ failed = cc in
+          subst (λ (j : ℕ). IsWriteEnd told j first after (Write k out)) clock_is (record {
+            before = before;
+            after = new;
+            was = was;
+            is = changed.here;
+            place = fault.place;
+            sink = out;
+            node = fault.node;
+            there = subst (λ (m : ℕ). slice_get (outputs_of (setting_of before.parts) m) fault.place ≡ Some (out, fault.node)) number fault.there;
+            end_is = refl;
+            rose = fault.rose;
+          })
+
+      pub write_end : (before : ClockEngine S) → slice_get first k ≡ Some before → before.parts.clock ≡ k → (fault : TickFault) (end : End) → ((sink : ℕ) → fault ≡ TickWrite sink → end ≡ Write k sink) → (fault ≡ OutOfMemory → end ≡ NoMemory)
+          → ((sink : ℕ) → fault ≡ TickWrite sink → HasSinkFailed told sink before new) → (failed sink : ℕ) → end ≡ Write failed sink → IsWriteEnd told failed first after end
+      write_end before was number fault end writes memory rose failed sink e = elim (fault_is fault) [
+        | inr none ↦ absurd (let is = memory none in cc)
+        | inl write ↦ (let is = writes write.0 write.1 in
+            subst (IsWriteEnd told failed first after) (sym is) (write_here failed sink before was number write.0 (rose write.0 write.1) (sym is ∙ e)))
+      ]

@@ -1,7 +1,8 @@
 -- The run of an engine over buffers that answer as a text tells.
-use Rattle.std.proofs.Common.{◌≡◌, ◌<◌, ◌≤◌, ◌-◌, ◌*◌, ◌/◌, ◌%◌, ◌∙◌, ◌++◌, ◌⊎◌, ℕ, zero, suc, true, false, Option, List, [], ◌∷◌, length, take, slice_index_or, Result, Ok, Err, OnOk, is_err, inl, inr, refl, ap, sym, subst, arith, suc-mul, true≢false, ⊎_elim}
+use Rattle.std.proofs.Common.{◌≡◌, ◌<◌, ◌≤◌, ◌-◌, ◌*◌, ◌/◌, ◌%◌, ◌∙◌, ◌++◌, ◌⊎◌, ℕ, zero, suc, true, false, Some, List, [], ◌∷◌, length, take, slice_index_or, Result, Ok, Err, OnOk, is_err, inl, inr, refl, ap, sym, subst, arith, suc-mul, true≢false, ⊎_elim}
 use mathlib.Core.Path.{fun_ext}
 use native.Mathlib.Nat.{mul_comm}
+use Rattle.std.specs.Prelude.{All}
 use Rattle.std.proofs.lemmas.Bool.{cases_lt}
 use Rattle.std.proofs.Math.Nat.{div-add-mod, min-eq_left, min-eq_right, mod-lt, mul-le-mul_right}
 use Rattle.liq_base.specs.Pieces.{SinkTold}
@@ -10,6 +11,7 @@ use Rattle.stream_meaning.specs.Instants.{Setting, answered}
 use Rattle.stream_meaning.specs.Calls.{answers_in, calls_of_tick}
 use Rattle.stream_meaning.proofs.Answering.{answers_in-append}
 use Rattle.run_records.specs.Outputs.{first_calls}
+use Rattle.run_records.specs.Owning.{IsOwn}
 use Rattle.run_records.specs.Records.{start}
 use Rattle.node_states.specs.Ticks.{HasTicked}
 use Rattle.clock_ticks.specs.declared.engine.EngineParts.{EngineParts}
@@ -20,12 +22,14 @@ use Rattle.trace_replay.specs.declared.course.Course.TheVariants.{Goes, Waits, F
 use Rattle.trace_replay.specs.declared.ends.Ends.{Ends}
 use Rattle.trace_replay.specs.declared.taps.ToldTaps.{ToldTaps}
 use Rattle.trace_replay.specs.Clocks.{AreWhole, Log, puts_in, takes_in}
-use Rattle.trace_replay.specs.Live.{MayMove}
+use Rattle.trace_replay.specs.Live.{HasFlown, MayMove}
 use Rattle.trace_replay.specs.Passes.{HasTurned, IsFormed, IsRefused, got_then, nothing, ticks_in}
 use Rattle.trace_replay.specs.Answering.{AllStand, BufferState, SameBuffers, TapsStand}
 use Rattle.trace_replay.specs.Turns.{AreAtEnd, EndsWith, IsAtEnd, IsOffEnd, MayTurn, RunsAt, Score, chunks_of, no_state}
+use Rattle.trace_replay.specs.Thin.{AreKept, TapsFollow}
 use Rattle.trace_replay.proofs.Completing.{start_some}
-use Rattle.trace_replay.proofs.Turned.{accepted_then, border, failed_then, made_more, not_whole, of_same, turned_all, turned_wait, whole_then, window_is}
+use Rattle.trace_replay.proofs.Thinning.{Following, follow_kept, follows, kept_same, stand_kept, unlost_then}
+use Rattle.trace_replay.proofs.Turned.{accepted_then, border, failed_then, made_more, not_whole, of_same, own_made, turned_all, turned_wait, whole_then, window_is}
 
 pub on_ok : {T E : Type 0} {P : Type 0} (r : Result T E) → is_err r ≡ false → OnOk r P → P
 on_ok (Ok x) e p = p
@@ -82,14 +86,12 @@ module _ (score : Score) (W N m : ℕ) (ends : List Ends) (opening : List Buffer
   Runs n parts states = RunsAt base score.text W N m n score.chunks parts states
 
   -- a tick that was made
-  module _ {S : Type 0} (told : S → SinkTold) (outs_old outs_new : List S) (n : ℕ) (less : n < N) (some : 1 ≤ W) (parts parts_new : EngineParts) (taps taps_new : ToldTaps) (run : Runs n parts taps.buffers.items)
-      (goes : taps.course ≡ Goes) (over_new : setting_of parts_new ≡ setting_of parts) (clock_new : parts_new.clock ≡ parts.clock)
-      (made : HasMade told (λ (t : ToldTaps) calls. TapsStand t.course t.buffers.items calls) parts parts_new outs_old outs_new taps taps_new) (changed : SameBuffers taps.buffers.items taps_new.buffers.items) where
-    abbrev more : List Call
-    more = made.more
-
+  module _ {S : Type 0} (told : S → SinkTold) (outs_old outs_new : List S) (n : ℕ) (less : n < N) (some : 1 ≤ W) (parts parts_new : EngineParts) (states : List BufferState) (run : Runs n parts states)
+      (over_new : setting_of parts_new ≡ setting_of parts) (clock_new : parts_new.clock ≡ parts.clock) (more : List Call)
+      (made : (t : ℕ) (answers : ℕ → List Answer) → EngineStands parts t answers
+      → HasTicked (EngineStands parts_new) (setting_of parts) parts.clock t answers more (held_in told (outputs_of (setting_of parts) parts.clock) outs_old) (held_in told (outputs_of (setting_of parts_new) parts_new.clock) outs_new)) where
     ticked : HasTicked (EngineStands parts_new) (setting_of parts) parts.clock n (λ b. answers_in b run.calls) more (held_in told (outputs_of (setting_of parts) parts.clock) outs_old) (held_in told (outputs_of (setting_of parts_new) parts_new.clock) outs_new)
-    ticked = made.engine n (λ b. answers_in b run.calls) run.engine
+    ticked = made n (λ b. answers_in b run.calls) run.engine
 
     tick : (rest : ℕ → List Answer) → more ≡ calls_of_tick (answered base (λ b. (answers_in b run.calls ++ answers_in b more) ++ rest b)) ticked.accepted m n
     tick rest = subst (λ (k : ℕ). more ≡ calls_of_tick (answered base (λ b. (answers_in b run.calls ++ answers_in b more) ++ rest b)) ticked.accepted k n) run.clock
@@ -98,8 +100,9 @@ module _ (score : Score) (W N m : ℕ) (ends : List Ends) (opening : List Buffer
     engine_then : EngineStands parts_new (suc n) (λ b. answers_in b (run.calls ++ more))
     engine_then = subst (EngineStands parts_new (suc n)) (fun_ext (λ b. sym (answers_in-append b run.calls more))) ticked.stand
 
-    stand_then : TapsStand taps_new.course taps_new.buffers.items (run.calls ++ more)
-    stand_then = made.taps run.calls (subst (λ (c : Course). TapsStand c taps.buffers.items run.calls) (sym goes) run.stand)
+    -- the clock calls its own buffers
+    pub own_more : All (IsOwn base m) (run.calls ++ more)
+    own_more = own_made base score.clocks may.is m (suc n) (accepted_then base m n run.accepted run.calls run.are more ticked.accepted tick) (run.calls ++ more) (made_more base m n run.accepted run.calls run.are more ticked.accepted tick)
 
     pick : (b : ℕ) → b < length base.plan.buffers → Ends
     pick b known = item ends b (let long = may.long in let many = may.many in omega (arith, known, long, many))
@@ -132,39 +135,94 @@ module _ (score : Score) (W N m : ℕ) (ends : List Ends) (opening : List Buffer
               let e = min-eq_right {n = count * W} {m = N} (omega (arith, most, low, less)) in omega (arith, e, whole, most, low, less))) (cases_lt j count),
         )
 
+    -- over these buffers then
+    module _ (others : List BufferState) (changed : SameBuffers states others) (course : Course) (stand_then : TapsStand course others (run.calls ++ more)) where
+      pub goes_there : course ≡ Goes → (EndsWith W N n → AreAtEnd others ends (n / W)) → Runs (suc n) parts_new others
+      goes_there going at_ends =
+          let stand : AllStand others (run.calls ++ more) = subst (λ (c : Course). TapsStand c others (run.calls ++ more)) going stand_then in
+          record {
+            calls = run.calls ++ more;
+            accepted = accepted_then base m n run.accepted run.calls run.are more ticked.accepted tick;
+            over = over_new ∙ run.over;
+            clock = clock_new ∙ run.clock;
+            are = made_more base m n run.accepted run.calls run.are more ticked.accepted tick;
+            engine = engine_then;
+            stand = stand;
+            of = of_same base score.text m score.chunks states run.of others changed;
+            whole = whole_then base score.clocks may.is score.text W N m n score.chunks states others run.of changed run.calls run.accepted run.are run.stand more ticked.accepted tick stand may.formed ends may.ends_are run.whole
+                (λ i low e b s x known. let there = ends_there i low e in let many = run.of.many in let size = changed.many in
+                subst (λ (k : ℕ). IsAtEnd (slice_index_or others b s) (slice_index_or ends b x) k) there.0 (at_ends there.1 b s x (omega (arith, known, many, size)))) pick;
+          }
+
+      pub waits_there : course ≡ Waits → HasTurned base W N score.text m n score.chunks (chunks_of others)
+      waits_there waiting = turned_wait base score.clocks may.is score.text W N m n score.chunks states others run.of changed run.calls run.accepted run.are run.stand more ticked.accepted tick
+          (subst (λ (c : Course). TapsStand c others (run.calls ++ more)) waiting stand_then) run.whole (omega (arith, less))
+
+      pub fails_there : (course ≡ Fails) ⊎ ((course ≡ Goes) × EndsWith W N n × IsOffEnd others ends (n / W)) → IsRefused base W N score.text score.chunks m
+      fails_there (inl failing) = failed_then base score.clocks may.is score.text W N m n score.chunks states others run.of changed run.calls run.accepted run.are run.stand more ticked.accepted tick
+          (subst (λ (c : Course). TapsStand c others (run.calls ++ more)) failing stand_then) less
+      fails_there (inr off) =
+          let o = off.2 in
+          let size = changed.many in let many = run.of.many in
+          let known : o.buffer < length base.plan.buffers = (let low = o.known in omega (arith, low, size, many)) in
+          let here = border_here off.1 in
+          let long = may.formed.many o.buffer known in
+          not_whole base score.clocks may.is score.text W N m n score.chunks states others run.of changed run.calls run.accepted run.are run.stand more ticked.accepted tick
+          (subst (λ (c : Course). TapsStand c others (run.calls ++ more)) off.0 stand_then) (n / W) o.buffer (slice_index_or ends o.buffer (pick o.buffer known)) less here.0
+          (let within = here.1 in omega (arith, within, long)) known (may.ends_are o.buffer (pick o.buffer known) known) (o.off no_state (pick o.buffer known))
+
+  -- the same of taps whose buffers let nothing go
+  module _ {S : Type 0} (told : S → SinkTold) (outs_old outs_new : List S) (n : ℕ) (less : n < N) (some : 1 ≤ W) (parts parts_new : EngineParts) (taps taps_new : ToldTaps) (kept : AreKept taps.buffers.items) (run : Runs n parts taps.buffers.items)
+      (goes : taps.course ≡ Goes) (over_new : setting_of parts_new ≡ setting_of parts) (clock_new : parts_new.clock ≡ parts.clock)
+      (made : HasMade told (λ (t : ToldTaps) calls. TapsFollow t.course t.buffers.items calls) parts parts_new outs_old outs_new taps taps_new) (changed : SameBuffers taps.buffers.items taps_new.buffers.items) where
+    stand_more : TapsStand taps_new.course taps_new.buffers.items (run.calls ++ made.more)
+    stand_more = stand_kept taps_new.course taps_new.buffers.items (run.calls ++ made.more) (kept_same taps.buffers.items taps_new.buffers.items changed kept)
+        (made.taps run.calls (follow_kept taps.course taps.buffers.items run.calls kept (subst (λ (c : Course). TapsStand c taps.buffers.items run.calls) (sym goes) run.stand)))
+
     pub goes_on : taps_new.course ≡ Goes → (EndsWith W N n → AreAtEnd taps_new.buffers.items ends (n / W)) → Runs (suc n) parts_new taps_new.buffers.items
-    goes_on going at_ends =
-        let stand : AllStand taps_new.buffers.items (run.calls ++ more) = subst (λ (c : Course). TapsStand c taps_new.buffers.items (run.calls ++ more)) going stand_then in
-        record {
-          calls = run.calls ++ more;
-          accepted = accepted_then base m n run.accepted run.calls run.are more ticked.accepted tick;
-          over = over_new ∙ run.over;
-          clock = clock_new ∙ run.clock;
-          are = made_more base m n run.accepted run.calls run.are more ticked.accepted tick;
-          engine = engine_then;
-          stand = stand;
-          of = of_same base score.text m score.chunks taps.buffers.items run.of taps_new.buffers.items changed;
-          whole = whole_then base score.clocks may.is score.text W N m n score.chunks taps.buffers.items taps_new.buffers.items run.of changed run.calls run.accepted run.are run.stand more ticked.accepted tick stand may.formed ends may.ends_are run.whole
-              (λ i low e b s x known. let there = ends_there i low e in let many = run.of.many in let size = changed.many in
-              subst (λ (k : ℕ). IsAtEnd (slice_index_or taps_new.buffers.items b s) (slice_index_or ends b x) k) there.0 (at_ends there.1 b s x (omega (arith, known, many, size)))) pick;
-        }
+    goes_on = goes_there told outs_old outs_new n less some parts parts_new taps.buffers.items run over_new clock_new made.more made.engine taps_new.buffers.items changed taps_new.course stand_more
 
     pub waits : taps_new.course ≡ Waits → HasTurned base W N score.text m n score.chunks (chunks_of taps_new.buffers.items)
-    waits waiting = turned_wait base score.clocks may.is score.text W N m n score.chunks taps.buffers.items taps_new.buffers.items run.of changed run.calls run.accepted run.are run.stand more ticked.accepted tick
-        (subst (λ (c : Course). TapsStand c taps_new.buffers.items (run.calls ++ more)) waiting stand_then) run.whole (omega (arith, less))
+    waits = waits_there told outs_old outs_new n less some parts parts_new taps.buffers.items run over_new clock_new made.more made.engine taps_new.buffers.items changed taps_new.course stand_more
 
     pub fails : (taps_new.course ≡ Fails) ⊎ ((taps_new.course ≡ Goes) × EndsWith W N n × IsOffEnd taps_new.buffers.items ends (n / W)) → IsRefused base W N score.text score.chunks m
-    fails (inl failing) = failed_then base score.clocks may.is score.text W N m n score.chunks taps.buffers.items taps_new.buffers.items run.of changed run.calls run.accepted run.are run.stand more ticked.accepted tick
-        (subst (λ (c : Course). TapsStand c taps_new.buffers.items (run.calls ++ more)) failing stand_then) less
-    fails (inr off) =
-        let o = off.2 in
-        let size = changed.many in let many = run.of.many in
-        let known : o.buffer < length base.plan.buffers = (let low = o.known in omega (arith, low, size, many)) in
-        let here = border_here off.1 in
-        let long = may.formed.many o.buffer known in
-        not_whole base score.clocks may.is score.text W N m n score.chunks taps.buffers.items taps_new.buffers.items run.of changed run.calls run.accepted run.are run.stand more ticked.accepted tick
-        (subst (λ (c : Course). TapsStand c taps_new.buffers.items (run.calls ++ more)) off.0 stand_then) (n / W) o.buffer (slice_index_or ends o.buffer (pick o.buffer known)) less here.0
-        (let within = here.1 in omega (arith, within, long)) known (may.ends_are o.buffer (pick o.buffer known) known) (o.off no_state (pick o.buffer known))
+    fails = fails_there told outs_old outs_new n less some parts parts_new taps.buffers.items run over_new clock_new made.more made.engine taps_new.buffers.items changed taps_new.course stand_more
+
+  -- and of taps whose buffers let chunks go
+  module _ {S : Type 0} (told : S → SinkTold) (outs_old outs_new : List S) (n : ℕ) (less : n < N) (some : 1 ≤ W) (parts parts_new : EngineParts) (taps taps_new : ToldTaps)
+      (flown : HasFlown base score.text W N m n score.chunks parts taps.buffers.items)
+      (goes : taps.course ≡ Goes) (over_new : setting_of parts_new ≡ setting_of parts) (clock_new : parts_new.clock ≡ parts.clock)
+      (made : HasMade told (λ (t : ToldTaps) calls. TapsFollow t.course t.buffers.items calls) parts parts_new outs_old outs_new taps taps_new) (changed : SameBuffers taps.buffers.items taps_new.buffers.items) where
+    abbrev run_now : Runs n parts flown.full
+    run_now = flown.run
+
+    own_now : All (IsOwn base m) (run_now.calls ++ made.more)
+    own_now = own_more told outs_old outs_new n less some parts parts_new flown.full run_now over_new clock_new made.more made.engine
+
+    follow_more : TapsFollow taps_new.course taps_new.buffers.items (run_now.calls ++ made.more)
+    follow_more = made.taps run_now.calls (subst (λ (c : Course). TapsFollow c taps.buffers.items run_now.calls) (sym goes) (flown.full, flown.fills, run_now.stand))
+
+    now : Following base score.text m score.chunks taps.buffers.items taps_new.buffers.items flown.full flown.fills changed run_now.of run_now.calls made.more own_now run_now.stand flown.unlost taps_new.course
+    now = follows base score.text m score.chunks taps.buffers.items taps_new.buffers.items flown.full flown.fills changed run_now.of run_now.calls made.more own_now run_now.stand flown.unlost taps_new.course follow_more
+
+    ends_full : AreAtEnd taps_new.buffers.items ends (n / W) → AreAtEnd now.full_now ends (n / W)
+    ends_full at_ends b s e within =
+        let low : b < length taps_new.buffers.items = (let many = now.fills_now.many in omega (arith, within, many)) in
+        let fill = now.fills_now.each b s low in
+        let end = at_ends b s e low in
+        record {
+          puts = λ fed. end.puts (sym (ap (λ (x : BufferState). x.fed) fill.same) ∙ fed) ∙ ap (λ (x : BufferState). Some x.put_at) (sym fill.same);
+          takes = λ read. end.takes (sym (ap (λ (x : BufferState). x.read) fill.same) ∙ read) ∙ ap (λ (x : BufferState). Some x.take_at) (sym fill.same);
+        }
+
+    pub flows_on : taps_new.course ≡ Goes → (EndsWith W N n → AreAtEnd taps_new.buffers.items ends (n / W)) → HasFlown base score.text W N m (suc n) score.chunks parts_new taps_new.buffers.items
+    flows_on going at_ends = record {
+      full = now.full_now;
+      fills = now.fills_now;
+      unlost = unlost_then base score.text m score.chunks taps.buffers.items taps_new.buffers.items flown.full flown.fills changed run_now.of run_now.calls made.more own_now run_now.stand flown.unlost;
+      run = goes_there told outs_old outs_new n less some parts parts_new flown.full run_now over_new clock_new made.more made.engine now.full_now now.same_now taps_new.course now.stand_now going
+          (λ ends_now. ends_full (at_ends ends_now));
+    }
 
   pub all_made : (n : ℕ) (parts : EngineParts) (states : List BufferState) → n ≡ N → Runs n parts states → HasTurned base W N score.text m N score.chunks (chunks_of states)
   all_made n parts states e run =

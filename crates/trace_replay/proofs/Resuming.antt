@@ -15,8 +15,8 @@ use Rattle.trace_replay.specs.declared.ends.Ends.{Ends}
 use Rattle.trace_replay.specs.declared.live.LiveClock.{LiveClock}
 use Rattle.trace_replay.specs.declared.told.Mark.{Mark}
 use Rattle.trace_replay.specs.Clocks.{IsFront, Log, Suits, got_in}
-use Rattle.trace_replay.specs.Passes.{HasCome, IsFormed}
-use Rattle.trace_replay.specs.Answering.{BufferState, SameBuffers, StandsFor, begun}
+use Rattle.trace_replay.specs.Passes.{HasCome, IsFormed, IsMadeBy}
+use Rattle.trace_replay.specs.Answering.{AllStand, BufferState, SameBuffers, StandsFor, begun}
 use Rattle.trace_replay.specs.Live.{HasGone, IsNewClock, IsPaused, MayGoOn}
 use Rattle.trace_replay.specs.Marks.{AreWithin, IsForgotten, HaveMarked, HaveResumed, mark_of, no_mark, others_in, resumed}
 use Rattle.trace_replay.specs.Turns.{AreFit, AreOf, AreSides, AreTold, RunsAt, Score, chunks_of, no_state}
@@ -75,7 +75,7 @@ stands_later s t fed read mark b calls puts_are takes_are capacity_is kept front
     by false kept e = drop-length t.chunks ∙ sym (drop-length s.chunks) ∙ e
 
 -- a buffer before the first call
-stands_empty : (s : BufferState) (fed read : Bool) (b : ℕ) → s.chunks ≡ [] → StandsFor (resumed s fed read no_mark) b []
+pub stands_empty : (s : BufferState) (fed read : Bool) (b : ℕ) → s.chunks ≡ [] → StandsFor (resumed s fed read no_mark) b []
 stands_empty s fed read b empty = record {
   puts = refl;
   put_low = omega arith;
@@ -119,7 +119,7 @@ module _ (base : Setting) (text : ℕ → Log) (feeders readers : List ℕ) (sid
     same_item : (b : ℕ) (d : BufferState) → b < length base.plan.buffers → slice_index_or old b d ≡ slice_index_or old b no_state
     same_item b d known = get_or_default old b d no_state (let size = told.many in omega (arith, known, size))
 
-    of_resumed : AreOf base text m (chunks_of old) new
+    pub of_resumed : AreOf base text m (chunks_of old) new
     of_resumed = record {
       many = many ∙ told.many;
       puts = λ b d known. ap (λ (s : BufferState). s.puts) (at b d known) ∙ told.puts b d known;
@@ -152,7 +152,37 @@ module _ (base : Setting) (text : ℕ → Log) (feeders readers : List ℕ) (sid
   pub marks_within : (W N m n : ℕ) (parts : EngineParts) (marks : List Mark) (states : List BufferState) → IsPaused base text W N feeders readers m n parts marks states → AreWithin states marks
   marks_within W N m n parts marks states is b d e low = (let s = is.stand b d e low in record { puts = s.put_low; takes = s.take_low; got = s.got_low })
 
-  -- the run stops, and the marks tell where
+  -- the run stops: at the marks the buffers will stand for its calls
+  module _ (clocks : ClockMap) (is : IsSetting base clocks) (m n : ℕ) (chunks : ℕ → List (List Cell)) (calls : List Call) (accepted : ℕ → ℕ → Bool) (are : IsMadeBy base m n accepted calls)
+      (marks : List Mark) (states : List BufferState) (of : AreOf base text m chunks states) (stand : AllStand states calls) (marked : HaveMarked states marks) where
+    pub stands_paused : (b : ℕ) (d : BufferState) (e : Mark) → b < length states
+        → StandsFor (resumed (slice_index_or states b d) (nat_eq (slice_index_or feeders b 0) m) (nat_eq (slice_index_or readers b 0) m) (slice_index_or marks b e)) b calls
+    stands_paused b d e low =
+        let known : b < length base.plan.buffers = (let many = of.many in omega (arith, low, many)) in
+        stands_marked (slice_index_or states b d) (nat_eq (slice_index_or feeders b 0) m) (nat_eq (slice_index_or readers b 0) m) (slice_index_or marks b e) b calls
+        (fed_is b d known) (read_is b d known) (marked b d e low)
+        (λ t. of.anew b d known (feeds b known t))
+        (λ t. no_puts base b m (λ h. true≢false (sym (fed_test base m feeders readers sides b known h) ∙ t)) calls (own_made base clocks is m n accepted calls are))
+        (stand b d low)
+      where
+        fed_is : (b : ℕ) (d : BufferState) → b < length base.plan.buffers → (slice_index_or states b d).fed ≡ nat_eq (slice_index_or feeders b 0) m
+        fed_is b d known = elim (cases_eq (feeder base b) m) [
+          | inl e ↦ of.fed b d known e ∙ sym (fed_test base m feeders readers sides b known e)
+          | inr other ↦ of.not_fed b d known other ∙ sym (not_fed_test base m feeders readers sides b known other)
+        ]
+
+        read_is : (b : ℕ) (d : BufferState) → b < length base.plan.buffers → (slice_index_or states b d).read ≡ nat_eq (slice_index_or readers b 0) m
+        read_is b d known = elim (cases_eq (reader base b) m) [
+          | inl e ↦ of.read b d known e ∙ sym (read_test base m feeders readers sides b known e)
+          | inr other ↦ of.not_read b d known other ∙ sym (not_read_test base m feeders readers sides b known other)
+        ]
+
+        feeds : (b : ℕ) → b < length base.plan.buffers → nat_eq (slice_index_or feeders b 0) m ≡ true → feeder base b ≡ m
+        feeds b known t = elim (cases_eq (feeder base b) m) [
+          | inl e ↦ e
+          | inr other ↦ absurd (true≢false (sym t ∙ not_fed_test base m feeders readers sides b known other))
+        ]
+
   pub pauses : (clocks : ClockMap) → IsSetting base clocks → (W N m n : ℕ) (chunks : ℕ → List (List Cell)) (parts : EngineParts) (marks : List Mark) (states : List BufferState) → RunsAt base text W N m n chunks parts states → HaveMarked states marks
       → IsPaused base text W N feeders readers m n parts marks states
   pauses clocks is W N m n chunks parts marks states run marked = record {
@@ -163,33 +193,33 @@ module _ (base : Setting) (text : ℕ → Log) (feeders readers : List ℕ) (sid
     are = run.are;
     engine = run.engine;
     whole = run.whole;
-    stand = λ b d e low. (let known : b < length base.plan.buffers = (let many = run.of.many in omega (arith, low, many)) in
-        stands_marked (slice_index_or states b d) (nat_eq (slice_index_or feeders b 0) m) (nat_eq (slice_index_or readers b 0) m) (slice_index_or marks b e) b run.calls
-        (fed_is b d known) (read_is b d known) (marked b d e low)
-        (λ t. run.of.anew b d known (feeds b known t))
-        (λ t. no_puts base b m (λ h. true≢false (sym (fed_test base m feeders readers sides b known h) ∙ t)) run.calls (own_made base clocks is m n run.accepted run.calls run.are))
-        (run.stand b d low));
+    stand = stands_paused clocks is m n chunks run.calls run.accepted run.are marks states run.of run.stand marked;
   }
-    where
-      fed_is : (b : ℕ) (d : BufferState) → b < length base.plan.buffers → (slice_index_or states b d).fed ≡ nat_eq (slice_index_or feeders b 0) m
-      fed_is b d known = elim (cases_eq (feeder base b) m) [
-        | inl e ↦ run.of.fed b d known e ∙ sym (fed_test base m feeders readers sides b known e)
-        | inr other ↦ run.of.not_fed b d known other ∙ sym (not_fed_test base m feeders readers sides b known other)
-      ]
-
-      read_is : (b : ℕ) (d : BufferState) → b < length base.plan.buffers → (slice_index_or states b d).read ≡ nat_eq (slice_index_or readers b 0) m
-      read_is b d known = elim (cases_eq (reader base b) m) [
-        | inl e ↦ run.of.read b d known e ∙ sym (read_test base m feeders readers sides b known e)
-        | inr other ↦ run.of.not_read b d known other ∙ sym (not_read_test base m feeders readers sides b known other)
-      ]
-
-      feeds : (b : ℕ) → b < length base.plan.buffers → nat_eq (slice_index_or feeders b 0) m ≡ true → feeder base b ≡ m
-      feeds b known t = elim (cases_eq (feeder base b) m) [
-        | inl e ↦ e
-        | inr other ↦ absurd (true≢false (sym t ∙ not_fed_test base m feeders readers sides b known other))
-      ]
 
   -- a clock waits on while another one has its turn
+  module _ (W N m k c : ℕ) (calls : List Call) (marks : List Mark) (old new : List BufferState) (told : AreTold base text old) (told_new : AreTold base text new) (come : HasCome base W N text m c (chunks_of old) (chunks_of new))
+      (fronts : (b : ℕ) → b < length base.plan.buffers → IsFront (chunks_of old b) (chunks_of new b)) (other : k ≢ m)
+      (stand : (b : ℕ) (d : BufferState) (e : Mark) → b < length old
+      → StandsFor (resumed (slice_index_or old b d) (nat_eq (slice_index_or feeders b 0) k) (nat_eq (slice_index_or readers b 0) k) (slice_index_or marks b e)) b calls) where
+    pub stands_on : (b : ℕ) (d : BufferState) (e : Mark) → b < length new
+        → StandsFor (resumed (slice_index_or new b d) (nat_eq (slice_index_or feeders b 0) k) (nat_eq (slice_index_or readers b 0) k) (slice_index_or marks b e)) b calls
+    stands_on b d e low =
+        let known : b < length base.plan.buffers = (let many = told_new.many in omega (arith, low, many)) in
+        stands_later (slice_index_or old b d) (slice_index_or new b d) (nat_eq (slice_index_or feeders b 0) k) (nat_eq (slice_index_or readers b 0) k) (slice_index_or marks b e) b calls
+        (told_new.puts b d known ∙ sym (told.puts b d known)) (told_new.takes b d known ∙ sym (told.takes b d known)) (told_new.capacity b d known ∙ sym (told.capacity b d known))
+        (λ t. chunks_new b d known ∙ come.kept b known (not_of b known t) ∙ sym (chunks_old b d known))
+        (record { rest = (fronts b known).rest; are = chunks_new b d known ∙ (fronts b known).are ∙ ap (λ (l : List (List Cell)). l ++ (fronts b known).rest) (sym (chunks_old b d known)) })
+        (stand b d e (let many = told.many in omega (arith, known, many)))
+      where
+        chunks_old : (b : ℕ) (d : BufferState) → b < length base.plan.buffers → (slice_index_or old b d).chunks ≡ chunks_of old b
+        chunks_old b d known = ap (λ (s : BufferState). s.chunks) (get_or_default old b d no_state (let size = told.many in omega (arith, known, size)))
+
+        chunks_new : (b : ℕ) (d : BufferState) → b < length base.plan.buffers → (slice_index_or new b d).chunks ≡ chunks_of new b
+        chunks_new b d known = ap (λ (s : BufferState). s.chunks) (get_or_default new b d no_state (let size = told_new.many in omega (arith, known, size)))
+
+        not_of : (b : ℕ) → b < length base.plan.buffers → nat_eq (slice_index_or feeders b 0) k ≡ true → feeder base b ≡ m → ⊥
+        not_of b known t fed = true≢false (sym t ∙ not_fed_test base k feeders readers sides b known (λ own. other (sym own ∙ fed)))
+
   pub waits_on : (W N m k n c : ℕ) (parts : EngineParts) (marks : List Mark) (old new : List BufferState) → AreTold base text old → AreTold base text new → HasCome base W N text m c (chunks_of old) (chunks_of new)
       → ((b : ℕ) → b < length base.plan.buffers → IsFront (chunks_of old b) (chunks_of new b)) → k ≢ m → IsPaused base text W N feeders readers k n parts marks old → IsPaused base text W N feeders readers k n parts marks new
   waits_on W N m k n c parts marks old new told told_new come fronts other is = record {
@@ -200,22 +230,8 @@ module _ (base : Setting) (text : ℕ → Log) (feeders readers : List ℕ) (sid
     are = is.are;
     engine = is.engine;
     whole = is.whole;
-    stand = λ b d e low. (let known : b < length base.plan.buffers = (let many = told_new.many in omega (arith, low, many)) in
-        stands_later (slice_index_or old b d) (slice_index_or new b d) (nat_eq (slice_index_or feeders b 0) k) (nat_eq (slice_index_or readers b 0) k) (slice_index_or marks b e) b is.calls
-        (told_new.puts b d known ∙ sym (told.puts b d known)) (told_new.takes b d known ∙ sym (told.takes b d known)) (told_new.capacity b d known ∙ sym (told.capacity b d known))
-        (λ t. chunks_new b d known ∙ come.kept b known (not_of b known t) ∙ sym (chunks_old b d known))
-        (record { rest = (fronts b known).rest; are = chunks_new b d known ∙ (fronts b known).are ∙ ap (λ (l : List (List Cell)). l ++ (fronts b known).rest) (sym (chunks_old b d known)) })
-        (is.stand b d e (let many = told.many in omega (arith, known, many))));
+    stand = stands_on W N m k c is.calls marks old new told told_new come fronts other is.stand;
   }
-    where
-      chunks_old : (b : ℕ) (d : BufferState) → b < length base.plan.buffers → (slice_index_or old b d).chunks ≡ chunks_of old b
-      chunks_old b d known = ap (λ (s : BufferState). s.chunks) (get_or_default old b d no_state (let size = told.many in omega (arith, known, size)))
-
-      chunks_new : (b : ℕ) (d : BufferState) → b < length base.plan.buffers → (slice_index_or new b d).chunks ≡ chunks_of new b
-      chunks_new b d known = ap (λ (s : BufferState). s.chunks) (get_or_default new b d no_state (let size = told_new.many in omega (arith, known, size)))
-
-      not_of : (b : ℕ) → b < length base.plan.buffers → nat_eq (slice_index_or feeders b 0) k ≡ true → feeder base b ≡ m → ⊥
-      not_of b known t fed = true≢false (sym t ∙ not_fed_test base k feeders readers sides b known (λ own. other (sym own ∙ fed)))
 
   -- before the first tick
   pub new_paused : (W N m : ℕ) (live : LiveClock) (states : List BufferState) → IsFormed (length base.plan.buffers) W N text → AreTold base text states → ((b : ℕ) → chunks_of states b ≡ []) → IsNewClock base m live

@@ -224,7 +224,7 @@ module _ (states : List BufferState) (calls : List Call) (all : AllStand states 
     old = slice_index_or states k d
 
     pub takes_chunk : (chunk : List Cell) → TakesOn old (GotChunk chunk) s → AllStand (slice_set states k s) (calls ++ Took k (Some chunk) ∷ [])
-    takes_chunk chunk on = all_step (Took k (Some chunk)) s refl (subst (λ (x : BufferState). StandsFor x k (calls ++ Took k (Some chunk) ∷ [])) (sym on.2) (stands_got old k calls (all k d low) chunk on.0 on.1))
+    takes_chunk chunk on = all_step (Took k (Some chunk)) s refl (subst (λ (x : BufferState). StandsFor x k (calls ++ Took k (Some chunk) ∷ [])) (sym on.3) (stands_got old k calls (all k d low) chunk on.0 on.1))
 
     pub takes_none : TakesOn old IsEmpty s → AllStand (slice_set states k s) (calls ++ Took k None ∷ [])
     takes_none on = all_step (Took k None) s refl (subst (λ (x : BufferState). StandsFor x k (calls ++ Took k None ∷ [])) (sym on.2) (stands_empty old k calls (all k d low) on.0 on.1))

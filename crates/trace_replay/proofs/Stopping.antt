@@ -1,4 +1,4 @@
--- A tick that a fault broke off, of a clock that is run over all the chunks of a record.
+-- A tick that a fault broke off, of a clock that is run over the chunks of more ticks.
 use Rattle.std.proofs.Common.{◌≡◌, ◌<◌, ◌∙◌, ◌++◌, ℕ, suc, Bool, true, false, cond, nat_eq, None, List, [], ◌∷◌, length, inl, inr, ap, sym, subst, arith, append_assoc, length-append}
 use Rattle.std.specs.Prelude.{All}
 use mathlib.Core.Path.{fun_ext}
@@ -56,7 +56,7 @@ module _ (base : Setting) (m n : ℕ) (accepted : ℕ → ℕ → Bool) (calls :
       (λ i. sym (first ∙ same) i ++ last i) ∙ sym (append_assoc calls made behind_made)
 
 -- over buffers that hold the chunks, each of these calls has its answer
-module _ (base : Setting) (map_of : ClockMap) (is : IsSetting base map_of) (text : ℕ → Log) (N m n : ℕ) (less : n < N) (chunks : ℕ → List (List Cell)) (states : List BufferState) (of : AreOf base text m chunks states)
+module _ (base : Setting) (map_of : ClockMap) (is : IsSetting base map_of) (text : ℕ → Log) (to m n : ℕ) (less : n < to) (chunks : ℕ → List (List Cell)) (states : List BufferState) (of : AreOf base text m chunks states)
     (accepted : ℕ → ℕ → Bool) (calls : List Call) (are : IsMadeBy base m n accepted calls) (made : List Call) (kept : ℕ → Bool)
     (begun : (rest : ℕ → List Answer) → IsBegin made (calls_of_tick (answered base (λ b. (answers_in b calls ++ answers_in b made) ++ rest b)) kept m n)) where
   abbrev g : ℕ → List Answer
@@ -71,21 +71,21 @@ module _ (base : Setting) (map_of : ClockMap) (is : IsSetting base map_of) (text
   whole_tick : first_calls (answered base g) keeps m (suc n) ≡ (calls ++ made) ++ behind_it
   whole_tick = made_with base m n accepted calls are made kept begun
 
-  own_then : All (IsOwn base m) (calls ++ made)
+  pub own_then : All (IsOwn base m) (calls ++ made)
   own_then = own_front base m (calls ++ made) behind_it (subst (All (IsOwn base m)) whole_tick
       (own_joined base m (λ t. calls_of_tick (answered base g) (keeps t) m t) (λ t. own_tick base map_of is g (keeps t) m t) (suc n)))
 
-  module _ (W : ℕ) (given : ℕ → List Answer) (taken : ℕ → ℕ → Bool) (whole : HasReplayed base text W N m N chunks given taken) where
+  module _ (W N : ℕ) (given : ℕ → List Answer) (taken : ℕ → ℕ → Bool) (whole : HasReplayed base text W N m to chunks given taken) where
     pub stopped_waits : HasWaited states (calls ++ made) → ⊥
     stopped_waits w =
         let own_w : All (IsOwn base m) w.front = own_front base m w.front (Took w.buffer None ∷ w.behind) (subst (All (IsOwn base m)) w.are own_then) in
         let at : first_calls (answered base g) keeps m (suc n) ≡ w.front ++ Took w.buffer None ∷ (w.behind ++ behind_it) =
         whole_tick ∙ ap (λ (l : List Call). l ++ behind_it) w.are ∙ append_assoc w.front (Took w.buffer None ∷ w.behind) behind_it in
         let here = waits_by base text m chunks states of w.front w.stand own_w no_state w.buffer w.known (own_at base m w.front w.behind (Took w.buffer None) (subst (All (IsOwn base m)) w.are own_then)) w.gets w.missing w.joins in
-        let low = waits base map_of is text m chunks chunks (λ b known joins. agree_all (chunks b)) g given keeps taken n N less w.front (w.behind ++ behind_it) (Took w.buffer None) at
+        let low = waits base map_of is text m chunks chunks (λ b known joins. agree_all (chunks b)) g given keeps taken n to less w.front (w.behind ++ behind_it) (Took w.buffer None) at
         (answered_by base text m chunks states of w.front w.stand own_w no_state) (order_by base text m chunks states of w.front w.stand own_w no_state) whole.answered_so whole.in_order here in
         let b = here.buffer in
-        let early = answered_upto base map_of is text m chunks given taken (suc n) N less whole.answered_so in
+        let early = answered_upto base map_of is text m chunks given taken (suc n) to less whole.answered_so in
         let most = front_long _ (chunks b) (early.got b here.known here.joins) in
         omega (arith, low, most)
 
@@ -94,7 +94,7 @@ module _ (base : Setting) (map_of : ClockMap) (is : IsSetting base map_of) (text
         let own_f : All (IsOwn base m) f.front = own_front base m f.front (f.call ∷ f.behind) (subst (All (IsOwn base m)) f.are own_then) in
         let at : first_calls (answered base g) keeps m (suc n) ≡ f.front ++ f.call ∷ (f.behind ++ behind_it) =
         whole_tick ∙ ap (λ (l : List Call). l ++ behind_it) f.are ∙ append_assoc f.front (f.call ∷ f.behind) behind_it in
-        never base map_of is text m chunks chunks (λ b known joins. agree_all (chunks b)) g given keeps taken n N less f.front (f.behind ++ behind_it) f.call at
+        never base map_of is text m chunks chunks (λ b known joins. agree_all (chunks b)) g given keeps taken n to less f.front (f.behind ++ behind_it) f.call at
         (answered_by base text m chunks states of f.front f.stand own_f no_state) (order_by base text m chunks states of f.front f.stand own_f no_state) whole.answered_so whole.in_order
         (λ other alike can. f.none other alike (can_by base text m chunks states of f.front f.stand own_f no_state other can))
 
@@ -116,8 +116,8 @@ module _ (base : Setting) (map_of : ClockMap) (is : IsSetting base map_of) (text
       apart part [] e f low = (let size = ap (λ (l : List Call). length l) e in let sum = length-append part.front [] in omega (arith, size, sum, low))
       apart part (x ∷ left) e f low =
           let here : x ≡ part.one = head_same x part.one (left ++ behind_it) part.behind f in
-          never_part base text chunks chunks (λ b known joins. agree_all (chunks b)) F ys answered_F (answered_upto base map_of is text m chunks given taken (suc n) N less whole.answered_so)
-          order_F (order_upto base map_of is text m given taken (suc n) N less whole.in_order) (record {
+          never_part base text chunks chunks (λ b known joins. agree_all (chunks b)) F ys answered_F (answered_upto base map_of is text m chunks given taken (suc n) to less whole.answered_so)
+          order_F (order_upto base map_of is text m given taken (suc n) to less whole.in_order) (record {
             front = part.front;
             one = part.one;
             other = part.other;
@@ -139,7 +139,7 @@ module _ (base : Setting) (map_of : ClockMap) (is : IsSetting base map_of) (text
             })
       ]
 
-      pub stopped_front : IsFront F (first_calls (answered base given) taken m N)
+      pub stopped_front : IsFront F (first_calls (answered base given) taken m to)
       stopped_front =
-          let more = joined_first (λ t. calls_of_tick (answered base given) (taken t) m t) (suc n) N less in
-          front_front F ys (first_calls (answered base given) taken m N) (begins (ticks_go base map_of is g given keeps taken m (suc n))) (record { rest = more.0; are = more.1 })
+          let more = joined_first (λ t. calls_of_tick (answered base given) (taken t) m t) (suc n) to less in
+          front_front F ys (first_calls (answered base given) taken m to) (begins (ticks_go base map_of is g given keeps taken m (suc n))) (record { rest = more.0; are = more.1 })

@@ -461,20 +461,27 @@ turned_all base map_of is text W N m chunks states of calls accepted are stand w
   halted = λ less. absurd (omega (arith, less));
 }
 
--- Where a clock makes all its ticks with these chunks, each call of a run over them is answered.
+-- Where a clock makes more ticks with these chunks, each call of a run over them is answered.
 module _ (base : Setting) (map_of : ClockMap) (is : IsSetting base map_of) (text : ℕ → Log) (W N m n : ℕ) (chunks : ℕ → List (List Cell)) (states others : List BufferState)
     (of : AreOf base text m chunks states) (changed : SameBuffers states others) (calls : List Call) (accepted : ℕ → ℕ → Bool) (are : IsMadeBy base m n accepted calls) (stand : AllStand states calls)
-    (more : List Call) (kept : ℕ → Bool) (tick : (rest : ℕ → List Answer) → more ≡ calls_of_tick (answered base (λ b. (answers_in b calls ++ answers_in b more) ++ rest b)) kept m n) (less : n < N)
-    (given : ℕ → List Answer) (taken : ℕ → ℕ → Bool) (whole : HasReplayed base text W N m N chunks given taken) where
+    (more : List Call) (kept : ℕ → Bool) (tick : (rest : ℕ → List Answer) → more ≡ calls_of_tick (answered base (λ b. (answers_in b calls ++ answers_in b more) ++ rest b)) kept m n) (to : ℕ) (less : n < to)
+    (given : ℕ → List Answer) (taken : ℕ → ℕ → Bool) (whole : HasReplayed base text W N m to chunks given taken) where
   pub never_waits : HasWaited others (calls ++ more) → ⊥
   never_waits w =
       let h = waited_then base map_of is text W N m n chunks states others of changed calls accepted are stand more kept tick w in
-      let low = waits base map_of is text m chunks chunks (λ b known joins. agree_all (chunks b)) h.given given h.accepted taken n N less h.front h.behind h.call h.at h.answered_front h.order_front
+      let low = waits base map_of is text m chunks chunks (λ b known joins. agree_all (chunks b)) h.given given h.accepted taken n to less h.front h.behind h.call h.at h.answered_front h.order_front
       whole.answered_so whole.in_order h.waits in
       let b = h.waits.buffer in
-      let early = answered_upto base map_of is text m chunks given taken (suc n) N less whole.answered_so in
+      let early = answered_upto base map_of is text m chunks given taken (suc n) to less whole.answered_so in
       let most = front_long _ (chunks b) (early.got b h.waits.known h.waits.joins) in
       omega (arith, low, most)
 
   pub never_fails : HasFailed others (calls ++ more) → ⊥
-  never_fails f = (failed_then base map_of is text W N m n chunks states others of changed calls accepted are stand more kept tick f less).none chunks given taken (λ b known. ([], sym (append-nil (chunks b)))) whole
+  never_fails f =
+      let made_then = made_more base m n accepted calls are more kept tick in
+      let of_then = of_same base text m chunks states of others changed in
+      let own_f : All (IsOwn base m) f.front = own_front base m f.front (f.call ∷ f.behind)
+      (subst (All (IsOwn base m)) f.are (own_made base map_of is m (suc n) (accepted_then base m n accepted calls are more kept tick) (calls ++ more) made_then)) in
+      never base map_of is text m chunks chunks (λ b known joins. agree_all (chunks b)) (got_then (calls ++ more) nothing) given (accepted_then base m n accepted calls are more kept tick) taken
+      n to less f.front f.behind f.call (sym (made_then nothing) ∙ f.are) (answered_by base text m chunks others of_then f.front f.stand own_f no_state) (order_by base text m chunks others of_then f.front f.stand own_f no_state)
+      whole.answered_so whole.in_order (λ other alike can. f.none other alike (can_by base text m chunks others of_then f.front f.stand own_f no_state other can))

@@ -1,5 +1,5 @@
 -- Buffers that answer as a text tells, and what they stand for.
-use Rattle.std.specs.Prelude.{◌≡◌, ◌<◌, ◌≤◌, ◌+◌, ◌&&◌, ℕ, suc, Bool, true, false, Some, None, List, [], ◌∷◌, ◌++◌, length, drop, map, take, is_some, slice_get, slice_index_or, refl}
+use Rattle.std.specs.Prelude.{◌≡◌, ◌<◌, ◌≤◌, ◌+◌, ◌&&◌, ℕ, zero, suc, Bool, true, false, Some, None, List, [], ◌∷◌, ◌++◌, length, drop, map, take, is_some, slice_get, slice_index_or, refl}
 use Rattle.std.specs.Coded.{Coded, code_by, coded×, coded_ℕ, coded_bool, coded_list}
 use Rattle.frame_core.specs.Coded.{cell_coded}
 use Rattle.frame_core.specs.declared.cell.Cell.{Cell}
@@ -8,15 +8,21 @@ use Rattle.frame_core.specs.Calls.{Call, Took, takes_of, puts_to}
 use Rattle.run_records.specs.Parting.{IsSameCall}
 use Rattle.std.proofs.Common.{◌∙◌, ap, sym, append_assoc, append-nil, arith}
 use Rattle.trace_replay.specs.declared.told.Taken.{Taken}
-use Rattle.trace_replay.specs.declared.told.Taken.TheVariants.{Chunk as GotChunk, Empty as IsEmpty, Waits as MustWait, Never as NoTake}
+use Rattle.trace_replay.specs.declared.told.Taken.TheVariants.{Chunk as GotChunk, Empty as IsEmpty, Waits as MustWait, Lost as IsLost, Never as NoTake}
 use Rattle.trace_replay.specs.declared.told.Put.{Put}
 use Rattle.trace_replay.specs.declared.told.Put.TheVariants.{Accepted as IsAccepted, Full as IsFull, Never as NoPut}
 use Rattle.trace_replay.specs.declared.course.Course.{Course}
 use Rattle.trace_replay.specs.declared.course.Course.TheVariants.{Goes, Waits, Fails}
 use Rattle.trace_replay.specs.Clocks.{IsFront, Suits, buffer_of, got_in}
 
+-- lists without a cell
+abbrev pub blanks : ℕ → List (List Cell)
+blanks zero = []
+blanks (suc n) = [] ∷ blanks n
+
 -- A buffer in the run of one clock: what is told of it, how many of the answers came in this run, how many chunks were got of it, the
--- chunks that were put so far, and how many of them were there when the run began.
+-- chunks that were put so far, and how many of them were there when the run began. So many of the first chunks were let go, and lists
+-- without a cell stand in their places.
 pub record BufferState : Type 0 where
   pub capacity : ℕ
   pub puts : List Bool
@@ -28,11 +34,12 @@ pub record BufferState : Type 0 where
   pub got : ℕ
   pub opened : ℕ
   pub chunks : List (List Cell)
+  pub gone : ℕ
 
 abbrev pub state_coded : Coded BufferState
-state_coded = code_by (ℕ × (List Bool × (List Bool × (Bool × (Bool × (ℕ × (ℕ × (ℕ × (ℕ × List (List Cell))))))))))
-    (coded× coded_ℕ (coded× (coded_list coded_bool) (coded× (coded_list coded_bool) (coded× coded_bool (coded× coded_bool (coded× coded_ℕ (coded× coded_ℕ (coded× coded_ℕ (coded× coded_ℕ (coded_list (coded_list cell_coded)))))))))))
-    (λ s. (s.capacity, (s.puts, (s.takes, (s.fed, (s.read, (s.put_at, (s.take_at, (s.got, (s.opened, s.chunks))))))))))
+state_coded = code_by (ℕ × (List Bool × (List Bool × (Bool × (Bool × (ℕ × (ℕ × (ℕ × (ℕ × (List (List Cell) × ℕ))))))))))
+    (coded× coded_ℕ (coded× (coded_list coded_bool) (coded× (coded_list coded_bool) (coded× coded_bool (coded× coded_bool (coded× coded_ℕ (coded× coded_ℕ (coded× coded_ℕ (coded× coded_ℕ (coded× (coded_list (coded_list cell_coded)) coded_ℕ))))))))))
+    (λ s. (s.capacity, (s.puts, (s.takes, (s.fed, (s.read, (s.put_at, (s.take_at, (s.got, (s.opened, (s.chunks, s.gone)))))))))))
     (λ p. record {
       capacity = p.0;
       puts = p.1.0;
@@ -43,7 +50,8 @@ state_coded = code_by (ℕ × (List Bool × (List Bool × (Bool × (Bool × (ℕ
       take_at = p.1.1.1.1.1.1.0;
       got = p.1.1.1.1.1.1.1.0;
       opened = p.1.1.1.1.1.1.1.1.0;
-      chunks = p.1.1.1.1.1.1.1.1.1;
+      chunks = p.1.1.1.1.1.1.1.1.1.0;
+      gone = p.1.1.1.1.1.1.1.1.1.1;
     }) (λ _. refl)
 
 -- both its ends are the clock's
@@ -62,13 +70,14 @@ IsRightPut s false = length s.chunks ≡ s.capacity + s.got
 -- the state after a take, by what it met
 abbrev pub TakesOn : BufferState → Taken → BufferState → Type 0
 TakesOn before (GotChunk chunk) after =
-    (slice_get before.takes before.take_at ≡ Some true) × (slice_get before.chunks before.got ≡ Some chunk)
+    (slice_get before.takes before.take_at ≡ Some true) × (slice_get before.chunks before.got ≡ Some chunk) × (before.gone ≤ before.got)
     × (after ≡ record before { take_at = suc before.take_at; got = suc before.got })
 TakesOn before IsEmpty after =
     (slice_get before.takes before.take_at ≡ Some false) × (is_list before ≡ true → IsRightTake before false)
     × (after ≡ record before { take_at = suc before.take_at })
 TakesOn before MustWait after =
     (slice_get before.takes before.take_at ≡ Some true) × (length before.chunks ≤ before.got) × (is_list before ≡ false) × (after ≡ before)
+TakesOn before IsLost after = (before.got < before.gone) × (after ≡ before)
 TakesOn before NoTake after =
     ((gets : Bool) → slice_get before.takes before.take_at ≡ Some gets → (is_list before ≡ true → IsRightTake before gets) → ⊥) × (after ≡ before)
 
@@ -142,8 +151,10 @@ pub record SameBuffer (before after : BufferState) : Type 0 where
   pub fed : after.fed ≡ before.fed
   pub read : after.read ≡ before.read
   pub opened : after.opened ≡ before.opened
+  pub gone : after.gone ≡ before.gone
   pub put_on : before.put_at ≤ after.put_at
   pub take_on : before.take_at ≤ after.take_at
+  pub got_on : before.got ≤ after.got
   pub there : (rest : List (List Cell)) × (after.chunks ≡ before.chunks ++ rest)
 
 pub record SameBuffers (before after : List BufferState) : Type 0 where
@@ -153,7 +164,7 @@ pub record SameBuffers (before after : List BufferState) : Type 0 where
 pub same_buffers_refl : (bs : List BufferState) → SameBuffers bs bs
 same_buffers_refl bs = record {
   many = refl;
-  each = λ k d h. record { capacity = refl; puts = refl; takes = refl; fed = refl; read = refl; opened = refl; put_on = omega arith; take_on = omega arith; there = ([], sym (append-nil (slice_index_or bs k d).chunks)) };
+  each = λ k d h. record { capacity = refl; puts = refl; takes = refl; fed = refl; read = refl; opened = refl; gone = refl; put_on = omega arith; take_on = omega arith; got_on = omega arith; there = ([], sym (append-nil (slice_index_or bs k d).chunks)) };
 }
 
 pub same_buffers_trans : (bs cs ds : List BufferState) → SameBuffers bs cs → SameBuffers cs ds → SameBuffers bs ds
@@ -167,8 +178,10 @@ same_buffers_trans bs cs ds a b = record {
         fed = y.fed ∙ x.fed;
         read = y.read ∙ x.read;
         opened = y.opened ∙ x.opened;
+        gone = y.gone ∙ x.gone;
         put_on = (let one = x.put_on in let two = y.put_on in omega (arith, one, two));
         take_on = (let one = x.take_on in let two = y.take_on in omega (arith, one, two));
+        got_on = (let one = x.got_on in let two = y.got_on in omega (arith, one, two));
         there = (x.there.0 ++ y.there.0, y.there.1 ∙ ap (λ (l : List (List Cell)). l ++ y.there.0) x.there.1 ∙ append_assoc (slice_index_or bs k d).chunks x.there.0 y.there.0);
       };
 }
@@ -177,6 +190,11 @@ same_buffers_trans bs cs ds a b = record {
 abbrev pub chunks_at : Bool → List (List Cell) → List (List Cell)
 chunks_at true chunks = []
 chunks_at false chunks = chunks
+
+-- so none of these were let go
+abbrev pub gone_at : Bool → ℕ → ℕ
+gone_at true gone = 0
+gone_at false gone = gone
 
 -- a buffer at the begin of a run
 abbrev pub begun : BufferState → (fed read : Bool) → BufferState
@@ -191,4 +209,5 @@ begun s fed read = record {
   got = 0;
   opened = length (chunks_at fed s.chunks);
   chunks = chunks_at fed s.chunks;
+  gone = gone_at fed s.gone;
 }

@@ -1,5 +1,6 @@
 -- The passes over the clocks, between two turns.
 use Rattle.std.specs.Prelude.{◌≡◌, ◌<◌, ◌+◌, ◌*◌, ℕ, List, [], ◌∷◌, length, slice_index_or}
+use Rattle.frame_core.specs.declared.cell.Cell.{Cell}
 use Rattle.clock_infer.specs.declared.clock_map.ClockMap.{ClockMap}
 use Rattle.stream_meaning.specs.Instants.{Setting}
 use Rattle.trace_replay.specs.declared.ends.Ends.{Ends}
@@ -36,7 +37,7 @@ abbrev pub base_at : Station → Setting
 base_at station = base_of station.plan.now station.library.now station.clocks.now station.start.second
 
 -- all clocks made all their ticks, and these are the chunks that they put
-pub record HaveFound (base : Setting) (clocks : ClockMap) (W N : ℕ) (text : ℕ → Log) (states : List BufferState) : Type 0 where
+pub record HaveFound (base : Setting) (clocks : ClockMap) (W N : ℕ) (text : ℕ → Log) (chunks : ℕ → List (List Cell)) : Type 0 where
   pub made : ℕ → ℕ
   pub all : (k : ℕ) → k < clocks.running → made k ≡ N
-  pub at : AreAt base clocks.running W N text made (chunks_of states)
+  pub at : AreAt base clocks.running W N text made chunks

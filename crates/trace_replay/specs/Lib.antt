@@ -3,8 +3,10 @@ pub mod Clocks
 pub mod Passes
 pub mod Answering
 pub mod Marks
+pub mod Thin
 pub mod Turns
 pub mod Finds
+pub mod Orders
 pub mod Live
 pub mod Traces
 pub mod Chunks

@@ -1,5 +1,5 @@
 -- How far the calls of a clock came on each buffer, and buffers where its run goes on.
-use Rattle.std.specs.Prelude.{◌≡◌, ◌<◌, ◌≤◌, ℕ, Bool, true, false, List, length, nat_eq, slice_index_or}
+use Rattle.std.specs.Prelude.{◌≡◌, ◌<◌, ◌≤◌, ℕ, Bool, true, false, List, drop, length, nat_eq, slice_index_or}
 use Rattle.frame_core.specs.declared.cell.Cell.{Cell}
 use Rattle.trace_replay.specs.declared.told.Mark.{Mark}
 use Rattle.trace_replay.specs.Answering.{BufferState, begun}
@@ -39,6 +39,7 @@ resumed s fed read mark = record {
   got = mark.got;
   opened = others_in fed s.chunks;
   chunks = s.chunks;
+  gone = s.gone;
 }
 
 -- each buffer goes on with the run of clock m
@@ -49,6 +50,19 @@ HaveResumed feeders readers m marks old new = (b : ℕ) (d : BufferState) (e : M
 -- these are the marks of the buffers
 abbrev pub HaveMarked : List BufferState → List Mark → Type 0
 HaveMarked states marks = (b : ℕ) (d : BufferState) (e : Mark) → b < length states → slice_index_or marks b e ≡ mark_of (slice_index_or states b d)
+
+-- Of a buffer that the clock reads the chunks that were got are let go: from so many on it holds the same.
+pub record HasLetGo (before after : BufferState) : Type 0 where
+  pub same : after ≡ record before { chunks = after.chunks; gone = after.gone }
+  pub many : length after.chunks ≡ length before.chunks
+  pub rest : drop after.gone after.chunks ≡ drop after.gone before.chunks
+  pub on : before.gone ≤ after.gone
+  pub unread : before.read ≡ false → after.gone ≡ before.gone
+  pub low : before.gone ≤ before.got → after.gone ≤ before.got
+  pub most : after.gone ≤ length after.chunks
+
+abbrev pub HaveLetGo : List BufferState → List BufferState → Type 0
+HaveLetGo old new = (b : ℕ) (d : BufferState) → b < length old → HasLetGo (slice_index_or old b d) (slice_index_or new b d)
 
 -- each buffer is as before any run
 abbrev pub IsForgotten : List BufferState → List BufferState → Type 0

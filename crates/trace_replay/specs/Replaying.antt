@@ -1,37 +1,33 @@
--- The run of an engine over all the chunks of a record.
-use Rattle.std.specs.Prelude.{◌≡◌, ◌<◌, ◌+◌, ◌++◌, ℕ, suc, Bool, Option, Some, List, [], slice_get}
+-- The run of an engine, turn after turn.
+use Rattle.std.specs.Prelude.{◌≡◌, ◌<◌, ◌≤◌, ◌+◌, ◌++◌, ℕ, suc, Bool, Some, List, length, slice_get, slice_index_or}
+use Rattle.frame_core.specs.declared.cell.Cell.{Cell}
 use Rattle.liq_base.specs.Pieces.{SinkTold}
 use Rattle.frame_core.specs.Calls.{Call, Answer}
-use Rattle.stream_meaning.specs.Instants.{answered}
+use Rattle.clock_infer.specs.declared.clock_map.ClockMap.{ClockMap}
+use Rattle.stream_meaning.specs.Instants.{Setting, answered}
 use Rattle.stream_meaning.specs.Calls.{answers_in}
 use Rattle.stream_meaning.specs.Settings.{IsSetting}
 use Rattle.run_records.specs.Outputs.{first_calls}
+use Rattle.run_records.specs.Records.{AreWindows, Run, answers_of}
 use Rattle.clock_ticks.specs.Pieces.{RoseAt}
 use Rattle.clock_ticks.specs.declared.engine.ClockEngine.{ClockEngine}
 use Rattle.clock_ticks.specs.Engines.{EngineStands, outputs_of, setting_of}
 use Rattle.clock_ticks.specs.Ticks.{HaveTicksRoom}
 use Rattle.rounds_run.specs.Rounds.{HasRunPart, HasRunTurns, world}
-use Rattle.trace_replay.specs.Clocks.{HasReplayed, IsFront}
-use Rattle.trace_replay.specs.Passes.{IsMadeBy}
+use Rattle.trace_replay.specs.declared.course.TurnMade.{TurnMade}
+use Rattle.trace_replay.specs.declared.engines.Rest.{Rest}
+use Rattle.trace_replay.specs.declared.told.Mark.{Mark}
+use Rattle.trace_replay.specs.Clocks.{HasReplayed, IsFront, Log}
+use Rattle.trace_replay.specs.Passes.{AreAt, HasCome, IsMadeBy, IsTold}
 use Rattle.trace_replay.specs.Answering.{AllStand, BufferState}
-use Rattle.trace_replay.specs.Turns.{AreOf, Score}
+use Rattle.trace_replay.specs.Live.{IsPaused}
+use Rattle.trace_replay.specs.Marks.{no_mark}
+use Rattle.trace_replay.specs.Orders.{AreTurns}
+use Rattle.trace_replay.specs.Thin.{AreFull, AreUnlost, NoneLost}
+use Rattle.trace_replay.specs.Turns.{AreOf, AreSides, AreTold, Score, chunks_of}
 
--- An engine of clock m may replay N ticks over these buffers: the clock makes so many as the text tells, with the chunks that are
--- there.
-pub record MayReplay {S : Type 0} (told : S → SinkTold) (score : Score) (N m : ℕ) (engine : ClockEngine S) (states : List BufferState) : Type 0 where
-  pub is : IsSetting score.base score.clocks
-  pub over : setting_of engine.parts ≡ score.base
-  pub clock : engine.parts.clock ≡ m
-  pub fresh : EngineStands engine.parts 0 (λ b. [])
-  pub rooms : HaveTicksRoom told engine.parts engine.outs N
-  pub of : AreOf score.base score.text m score.chunks states
-  pub stand : AllStand states []
-  pub window : ℕ
-  pub given : ℕ → List Answer
-  pub taken : ℕ → ℕ → Bool
-  pub whole : HasReplayed score.base score.text window N m N score.chunks given taken
-
--- between two ticks
+-- Between two ticks: clock m has made its first n ticks, by which its engine has gone from `first` to `now`, and the buffers, with all
+-- their chunks in `full`, stand for its calls.
 pub record IsReplaying {S : Type 0} (told : S → SinkTold) (score : Score) (N m n : ℕ) (first now : ClockEngine S) (states : List BufferState) : Type 0 where
   pub calls : List Call
   pub accepted : ℕ → ℕ → Bool
@@ -39,21 +35,36 @@ pub record IsReplaying {S : Type 0} (told : S → SinkTold) (score : Score) (N m
   pub clock : now.parts.clock ≡ m
   pub are : IsMadeBy score.base m n accepted calls
   pub engine : EngineStands now.parts n (λ b. answers_in b calls)
-  pub stand : AllStand states calls
-  pub of : AreOf score.base score.text m score.chunks states
+  pub full : List BufferState
+  pub fills : AreFull states full
+  pub unlost : NoneLost states
+  pub stand : AllStand full calls
+  pub of : AreOf score.base score.text m score.chunks full
   pub run : HasRunTurns told calls n first now
   pub rooms : (left : ℕ) → n + left ≡ N → HaveTicksRoom told now.parts now.outs left
 
--- A fault ended it in tick n, after these calls of the ticks before and these ones of its own; they are the first ones of all the calls
--- by which the clock makes its ticks as the text tells.
-pub record IsBrokenOff {S : Type 0} (told : S → SinkTold) (score : Score) (N m : ℕ) (first now : ClockEngine S) : Type 0 where
-  pub n : ℕ
-  pub low : n < N
+-- An engine of clock m, which has made some of its N ticks, may go on up to n: the clock makes so many as the text tells, with the chunks
+-- that are there.
+pub record MayReplay {S : Type 0} (told : S → SinkTold) (score : Score) (N m made n : ℕ) (first now : ClockEngine S) (states : List BufferState) : Type 0 where
+  pub is : IsSetting score.base score.clocks
+  pub before : IsReplaying told score N m made first now states
+  pub on : made ≤ n
+  pub within : n ≤ N
+  pub window : ℕ
+  pub given : ℕ → List Answer
+  pub taken : ℕ → ℕ → Bool
+  pub whole : HasReplayed score.base score.text window N m n score.chunks given taken
+
+-- A fault ended it in a tick below n, after these calls of the ticks before and these ones of its own; they are the first ones of all the
+-- calls by which the clock makes its first n ticks as the text tells.
+pub record IsBrokenOff {S : Type 0} (told : S → SinkTold) (score : Score) (N m n : ℕ) (first now : ClockEngine S) : Type 0 where
+  pub tick : ℕ
+  pub low : tick < n
   pub calls : List Call
   pub made : List Call
-  pub front : (W : ℕ) (given : ℕ → List Answer) (taken : ℕ → ℕ → Bool) → HasReplayed score.base score.text W N m N score.chunks given taken
-      → IsFront (calls ++ made) (first_calls (answered score.base given) taken m N)
-  pub part : HasRunPart told (world (setting_of first.parts) (calls ++ made)) n (suc n) first now
+  pub front : (W : ℕ) (given : ℕ → List Answer) (taken : ℕ → ℕ → Bool) → HasReplayed score.base score.text W N m n score.chunks given taken
+      → IsFront (calls ++ made) (first_calls (answered score.base given) taken m n)
+  pub part : HasRunPart told (world (setting_of first.parts) (calls ++ made)) tick (suc tick) first now
 
 -- the count of faults rose of this output of an engine's clock
 pub record HasSinkFailed {S : Type 0} (told : S → SinkTold) (sink : ℕ) (first now : ClockEngine S) : Type 0 where
@@ -61,3 +72,69 @@ pub record HasSinkFailed {S : Type 0} (told : S → SinkTold) (sink : ℕ) (firs
   pub node : ℕ
   pub there : slice_get (outputs_of (setting_of first.parts) first.parts.clock) place ≡ Some (sink, node)
   pub rose : RoseAt told place first.outs now.outs
+
+-- a plan with its clocks and files, a text, and the chunks that are there
+abbrev pub score_over : Setting → ClockMap → (text : ℕ → Log) → (full : List BufferState) → Score
+score_over base clocks text full = record { base = base; clocks = clocks; text = text; chunks = chunks_of full }
+
+-- Between two turns: the engine of clock m has gone from `first` to `now` by its first n ticks, and waits at these marks of the buffers,
+-- which with all their chunks are `full`. In each lawful record with this text it makes these calls.
+pub record IsResting {S : Type 0} (told : S → SinkTold) (base : Setting) (clocks : ℕ) (text : ℕ → Log) (W N : ℕ) (feeders readers : List ℕ) (m n : ℕ) (first now : ClockEngine S) (marks : List Mark) (full states : List BufferState) : Type 0 where
+  pub paused : IsPaused base text W N feeders readers m n now.parts marks full
+  pub forced : (run : Run) (lawful : AreWindows base clocks W N run) → IsTold base text run → paused.calls ≡ first_calls (answered base (answers_of run)) (lawful.accepted m) m n
+  pub run : HasRunTurns told paused.calls n first now
+  pub rooms : (left : ℕ) → n + left ≡ N → HaveTicksRoom told now.parts now.outs left
+  pub unlost : AreUnlost readers m marks states
+  pub many : length marks ≡ length states
+
+-- An engine of clock m, which rests after some of its ticks, may come to n in a turn, by which these chunks are there; the ticks of all
+-- clocks and the chunks so far are those of the text.
+pub record MayPlay {S : Type 0} (told : S → SinkTold) (base : Setting) (clocks : ClockMap) (text : ℕ → Log) (W N : ℕ) (feeders readers : List ℕ) (m made n : ℕ) (first now : ClockEngine S) (marks : List Mark) (states : List BufferState) : Type 0 where
+  pub is : IsSetting base clocks
+  pub sides : AreSides base feeders readers
+  pub runs : m < clocks.running
+  pub full : List BufferState
+  pub fills : AreFull states full
+  pub tell : AreTold base text full
+  pub ticks : ℕ → ℕ
+  pub at : AreAt base clocks.running W N text ticks (chunks_of full)
+  pub rests : IsResting told base clocks.running text W N feeders readers m made first now marks full states
+  pub on : made ≤ n
+  pub next : ℕ → List (List Cell)
+  pub come : HasCome base W N text m n (chunks_of full) next
+
+-- In its turn it came to n ticks: from buffers that with all their chunks are `opening` to those that are `full`, with no chunk let go that
+-- another clock is to get.
+pub record HasPlayed {S : Type 0} (told : S → SinkTold) (base : Setting) (clocks : ℕ) (text : ℕ → Log) (W N : ℕ) (feeders readers : List ℕ) (m n : ℕ) (first now : ClockEngine S) (marks : List Mark) (opening before states : List BufferState) (next : ℕ → List (List Cell)) : Type 0 where
+  pub full : List BufferState
+  pub fills : AreFull states full
+  pub tell : AreTold base text full
+  pub come : HasCome base W N text m n (chunks_of opening) (chunks_of full)
+  pub same : (b : ℕ) → b < length base.plan.buffers → chunks_of full b ≡ next b
+  pub rests : IsResting told base clocks text W N feeders readers m n first now marks full states
+  pub unlost : (k : ℕ) (other : List Mark) → (k ≡ m → ⊥) → AreUnlost readers k other before → AreUnlost readers k other states
+
+-- Between two turns of all clocks: each engine has made its ticks so far and rests, and these turns are left.
+pub record ArePlaying {S : Type 0} (told : S → SinkTold) (base : Setting) (clocks : ClockMap) (text : ℕ → Log) (W N : ℕ) (feeders readers : List ℕ) (turns : List TurnMade) (first now : List (ClockEngine S)) (rests : List Rest) (states : List BufferState) : Type 0 where
+  pub full : List BufferState
+  pub fills : AreFull states full
+  pub tell : AreTold base text full
+  pub made : ℕ → ℕ
+  pub few : (k : ℕ) → made k ≤ N
+  pub at : AreAt base clocks.running W N text made (chunks_of full)
+  pub left : AreTurns base clocks.running W N text turns made (chunks_of full)
+  pub size : length now ≡ length first
+  pub long : length rests ≡ length first
+  pub counts : (k : ℕ) (rest : Rest) → slice_get rests k ≡ Some rest → rest.made ≡ made k
+  pub each : (k : ℕ) (before after : ClockEngine S) (rest : Rest) → slice_get first k ≡ Some before → slice_get now k ≡ Some after → slice_get rests k ≡ Some rest
+      → IsResting told base clocks.running text W N feeders readers k (made k) before after rest.marks.items full states
+
+-- where an engine rests before its first tick, over so many buffers
+pub record IsNewRest (buffers : ℕ) (rest : Rest) : Type 0 where
+  pub made : rest.made ≡ 0
+  pub many : length rest.marks.items ≡ buffers
+  pub none : (b : ℕ) (e : Mark) → b < buffers → slice_index_or rest.marks.items b e ≡ no_mark
+
+pub record AreNewRests (count buffers : ℕ) (rests : List Rest) : Type 0 where
+  pub size : length rests ≡ count
+  pub each : (k : ℕ) (rest : Rest) → slice_get rests k ≡ Some rest → IsNewRest buffers rest

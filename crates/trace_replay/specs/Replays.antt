@@ -1,5 +1,5 @@
 -- What a replay leaves.
-use Rattle.std.specs.Prelude.{◌≡◌, ◌<◌, ◌≤◌, ℕ, suc, Some, List, length, slice_get}
+use Rattle.std.specs.Prelude.{◌≡◌, ℕ, List}
 use Rattle.liq_base.specs.Pieces.{SinkTold}
 use Rattle.stream_meaning.specs.Instants.{Setting}
 use Rattle.run_records.specs.Ordered.{IsOrdered}
@@ -9,8 +9,8 @@ use Rattle.buffer_ends.specs.declared.counts.Counts.{Counts}
 use Rattle.buffer_ends.specs.declared.run_end.End.{End}
 use Rattle.buffer_ends.specs.declared.run_end.End.TheVariants.{Write}
 use Rattle.clock_ticks.specs.declared.engine.ClockEngine.{ClockEngine}
-use Rattle.rounds_run.specs.Rounds.{HasRunPart, HaveRunPart, IsWriteEnd}
-use Rattle.rounds_run.specs.Runs.{HasRunTicks, HaveRunTicks, counts_of_run, logs_of_run}
+use Rattle.rounds_run.specs.Rounds.{HaveRunPart, IsWriteEnd}
+use Rattle.rounds_run.specs.Runs.{HaveRunTicks, counts_of_run, logs_of_run}
 use Rattle.trace_log.specs.Values.{TraceValue}
 use Rattle.trace_replay.specs.Traces.{trace_of}
 
@@ -46,15 +46,3 @@ pub record HasReplayedSome {S : Type 0} (told : S → SinkTold) (base : Setting)
   pub run : Run
   pub of : IsRecordOf base clocks trace run
   pub part : HasReplayedTo told (setting_in base run) trace.ticks first now end
-
--- a fault ended the replay of one engine in this setting, in tick n
-pub record HasReplayedPart {S : Type 0} (told : S → SinkTold) (setting : Setting) (N : ℕ) (first now : ClockEngine S) : Type 0 where
-  pub n : ℕ
-  pub low : n < N
-  pub part : HasRunPart told (λ rest. setting) n (suc n) first now
-
--- the engines of the first k clocks have run N ticks in this setting, and the others none
-pub record AreReplayed {S : Type 0} (told : S → SinkTold) (setting : Setting) (N k : ℕ) (first now : List (ClockEngine S)) : Type 0 where
-  pub size : length now ≡ length first
-  pub done : (j : ℕ) (before after : ClockEngine S) → j < k → slice_get first j ≡ Some before → slice_get now j ≡ Some after → HasRunTicks told setting N before after
-  pub same : (j : ℕ) → k ≤ j → slice_get now j ≡ slice_get first j

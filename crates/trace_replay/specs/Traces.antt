@@ -58,6 +58,7 @@ new_state capacity log = record {
   got = 0;
   opened = 0;
   chunks = [];
+  gone = 0;
 }
 
 -- the buffers of a plan, of which these logs tell

@@ -25,7 +25,7 @@ use Rattle.trace_replay.specs.Answering.{AllStand, BufferState, SameBuffers, beg
 
 -- no buffer
 abbrev pub no_state : BufferState
-no_state = record { capacity = 0; puts = []; takes = []; fed = false; read = false; put_at = 0; take_at = 0; got = 0; opened = 0; chunks = [] }
+no_state = record { capacity = 0; puts = []; takes = []; fed = false; read = false; put_at = 0; take_at = 0; got = 0; opened = 0; chunks = []; gone = 0 }
 
 -- the chunks that were put to each buffer
 abbrev pub chunks_of : List BufferState → ℕ → List (List Cell)

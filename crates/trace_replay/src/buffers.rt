@@ -20,6 +20,7 @@ use clock_infer::ClockMap;
 use liq_base::Memory;
 use plan_core::{BufferPlan, Plan};
 use std::alloc::Global;
+use std::collections::VecDeque;
 
 // A buffer of which a log tells, before any run, and where its windows end.
 fn told_buffer(alloc: Global, capacity: u32, log: &BufferLog) -> Result<(ToldBuffer, Ends), Memory>
@@ -38,8 +39,10 @@ fn told_buffer(alloc: Global, capacity: u32, log: &BufferLog) -> Result<(ToldBuf
         take_at: 0,
         got: 0,
         opened: 0,
-        chunks: Vec::new(alloc),
-        spare: Vec::new(alloc),
+        put: 0,
+        gone: 0,
+        held: VecDeque::new(alloc),
+        spare: VecDeque::new(alloc),
     };
     Ok((
         buffer,

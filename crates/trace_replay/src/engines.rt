@@ -1,49 +1,125 @@
-// The engines of a replay, one after another.
-ghost use Rattle.std.specs.Prelude.{◌≡◌, ◌≤◌, ◌<◌, ℕ, OnOk, OnErr, IfErr, length};
+// The engines of a replay, turn after turn.
+ghost use Rattle.std.specs.Prelude.{◌≡◌, ◌<◌, ◌≤◌, ℕ, [], IfErr, IfOk, OnErr, OnOk, get_or, length};
 ghost use Rattle.buffer_ends.specs.declared.run_end.End.TheVariants.{Done, Memory as NoMemory, Write as WriteEnd};
+ghost use Rattle.clock_infer.specs.declared.clock_map.ClockMap.{ClockMap as Map};
+ghost use Rattle.clock_ticks.specs.declared.engine.ClockEngine.{ClockEngine as Engine};
 ghost use Rattle.clock_ticks.specs.declared.fault.TickFault.TheVariants.{Memory as OutOfMemory, Write as TickWrite};
-ghost use Rattle.clock_ticks.specs.Engines.{setting_of};
+ghost use Rattle.stream_meaning.specs.Instants.{Setting};
 ghost use Rattle.stream_meaning.specs.Settings.{IsSetting};
 ghost use Rattle.run_records.specs.Records.{Run, setting_in};
-ghost use Rattle.rounds_run.specs.Rounds.{AreEngines, MayRun};
-ghost use Rattle.rounds_run.specs.Runs.{HasRunTicks, HaveRunTicks};
+ghost use Rattle.rounds_run.specs.Rounds.{AreEngines};
+ghost use Rattle.rounds_run.specs.Runs.{HaveRunTicks};
 ghost use Rattle.trace_replay.specs.declared.course.Course.TheVariants.{Goes as IsGoing};
-ghost use Rattle.trace_replay.specs.Finds.{HaveFound, base_at};
-ghost use Rattle.trace_replay.specs.Replaying.{HasSinkFailed, IsBrokenOff, IsReplaying, MayReplay};
-ghost use Rattle.trace_replay.specs.Replays.{HasReplayedPart, HasReplayedTo, IsRecordOf};
+ghost use Rattle.trace_replay.specs.Answering.{SameBuffers};
+ghost use Rattle.trace_replay.specs.Clocks.{Log};
+ghost use Rattle.trace_replay.specs.Finds.{base_at};
+ghost use Rattle.trace_replay.specs.Orders.{AreTurns, no_chunks, no_ticks};
+ghost use Rattle.trace_replay.specs.Passes.{IsFormed};
+ghost use Rattle.trace_replay.specs.Replaying.{AreNewRests, ArePlaying, HasPlayed, HasSinkFailed, IsBrokenOff, IsNewRest, IsReplaying, MayPlay, MayReplay, score_over};
+ghost use Rattle.trace_replay.specs.Replays.{HasReplayedTo, IsRecordOf};
+ghost use Rattle.trace_replay.specs.Thin.{AreKept};
 ghost use Rattle.trace_replay.specs.Traces.{text_of};
-ghost use Rattle.trace_replay.specs.Turns.{AreSides, AreTold, Score};
+ghost use Rattle.trace_replay.specs.Turns.{AreSides, AreTold, Score, chunks_of};
 
-use crate::course::Course;
-use crate::parts::ticks_of;
+use crate::course::{Course, TurnMade};
 use crate::station::{Sides, Station};
-use crate::taps::{ToldTaps, begin_run};
+use crate::taps::{ToldTaps, let_go_run, mark_run, resume_run};
+use crate::told::{Mark, NO_MARK};
 use buffer_ends::End;
 use clock_ticks::{ClockEngine, TickFault};
-use liq_base::Sink;
+use liq_base::{Memory, Sink};
 use std::alloc::Global;
 use trace_log::Trace;
 
-/// Makes all ticks of a clock, over buffers that hold all the chunks that it gets.
+/// Where an engine rests between two turns of its clock: how many ticks it has made, and how far its calls came on each buffer.
+#[derive(Drop)]
+pub struct Rest {
+    pub made: u64,
+    pub marks: Vec<Mark>,
+}
+
+/// Makes further ticks of a clock that has made some, over buffers that hold the chunks that it gets.
 pub fn replay_clock<O: Sink>(
     alloc: Global,
     engine: &mut ClockEngine<'_, O>,
     taps: &mut ToldTaps,
+    made: u64,
     ticks: u64,
 ) -> Result<(), TickFault>
     requires few { ticks ≤ 1000000000 }
     requires goes { taps.old.course ≡ IsGoing }
-    requires play { (score : Score) × MayReplay O.told score ticks engine.old.parts.clock engine.old taps.old.buffers.items }
-    ensures done { OnOk result ((score : Score) → MayReplay O.told score ticks engine.old.parts.clock engine.old taps.old.buffers.items
-        → IsReplaying O.told score ticks engine.old.parts.clock ticks engine.old engine.new taps.new.buffers.items) }
-    ensures part { OnErr result ((score : Score) → MayReplay O.told score ticks engine.old.parts.clock engine.old taps.old.buffers.items
-        → IsBrokenOff O.told score ticks engine.old.parts.clock engine.old engine.new) }
-    ensures cause { IfErr result (λ fault. (sink : ℕ) → fault ≡ TickWrite sink → HasSinkFailed O.told sink engine.old engine.new) }
+    requires play { (score : Score) × (total : ℕ) × (first : Engine O) × MayReplay O.told score total engine.old.parts.clock made ticks first engine.old taps.old.buffers.items }
+    ensures done { OnOk result ((score : Score) (total : ℕ) (first : Engine O) → MayReplay O.told score total engine.old.parts.clock made ticks first engine.old taps.old.buffers.items
+        → IsReplaying O.told score total engine.old.parts.clock ticks first engine.new taps.new.buffers.items) }
+    ensures same { OnOk result (SameBuffers taps.old.buffers.items taps.new.buffers.items) }
+    ensures part { OnErr result ((score : Score) (total : ℕ) (first : Engine O) → MayReplay O.told score total engine.old.parts.clock made ticks first engine.old taps.old.buffers.items
+        → IsBrokenOff O.told score total engine.old.parts.clock ticks first engine.new) }
+    ensures cause { IfErr result (λ fault. (score : Score) (total : ℕ) (first : Engine O) (sink : ℕ) → MayReplay O.told score total engine.old.parts.clock made ticks first engine.old taps.old.buffers.items
+        → fault ≡ TickWrite sink → HasSinkFailed O.told sink first engine.new) }
 {
-    for _tick in 0..ticks {
+    for _tick in made..ticks {
         engine.tick(alloc, taps)?;
     }
     Ok(())
+}
+
+// A turn of a clock: its engine goes on where it rests, up to so many ticks.
+fn replay_turn<O: Sink>(
+    alloc: Global,
+    engine: &mut ClockEngine<'_, O>,
+    rest: &mut Rest,
+    taps: &mut ToldTaps,
+    sides: &Sides,
+    ticks: u64,
+) -> Result<(), TickFault>
+    requires few { ticks ≤ 1000000000 }
+    requires play { (base : Setting) × (clocks : Map) × (text : ℕ → Log) × (window : ℕ) × (total : ℕ) × (first : Engine O)
+        × MayPlay O.told base clocks text window total sides.now.feeders.items sides.now.readers.items engine.old.parts.clock rest.old.made ticks first engine.old rest.old.marks.items taps.old.buffers.items }
+    ensures done { OnOk result ((base : Setting) (clocks : Map) (text : ℕ → Log) (window total : ℕ) (first : Engine O)
+        (may : MayPlay O.told base clocks text window total sides.now.feeders.items sides.now.readers.items engine.old.parts.clock rest.old.made ticks first engine.old rest.old.marks.items taps.old.buffers.items)
+        → HasPlayed O.told base clocks.running text window total sides.now.feeders.items sides.now.readers.items engine.old.parts.clock ticks first engine.new rest.new.marks.items may.full taps.old.buffers.items taps.new.buffers.items may.next) }
+    ensures made { OnOk result (rest.new.made ≡ ticks) }
+    ensures part { OnErr result ((base : Setting) (clocks : Map) (text : ℕ → Log) (window total : ℕ) (first : Engine O)
+        (may : MayPlay O.told base clocks text window total sides.now.feeders.items sides.now.readers.items engine.old.parts.clock rest.old.made ticks first engine.old rest.old.marks.items taps.old.buffers.items)
+        → IsBrokenOff O.told (score_over base clocks text may.full) total engine.old.parts.clock ticks first engine.new) }
+    ensures cause { IfErr result (λ fault. (base : Setting) (clocks : Map) (text : ℕ → Log) (window total : ℕ) (first : Engine O) (sink : ℕ)
+        → MayPlay O.told base clocks text window total sides.now.feeders.items sides.now.readers.items engine.old.parts.clock rest.old.made ticks first engine.old rest.old.marks.items taps.old.buffers.items
+        → fault ≡ TickWrite sink → HasSinkFailed O.told sink first engine.new) }
+{
+    resume_run(
+        &mut taps.buffers,
+        &sides.feeders,
+        &sides.readers,
+        engine.clock(),
+        &rest.marks,
+    );
+    taps.course = Course::Goes;
+    replay_clock(alloc, engine, taps, rest.made, ticks)?;
+    rest.made = ticks;
+    mark_run(&taps.buffers, &mut rest.marks);
+    let_go_run(&mut taps.buffers);
+    Ok(())
+}
+
+// Where an engine rests before its first tick, over so many buffers.
+fn new_rest(alloc: Global, buffers: usize) -> Result<Rest, Memory>
+    ensures { IfOk result (λ rest. IsNewRest buffers rest) }
+{
+    let marks = vec![in alloc; NO_MARK; buffers]?;
+    Ok(Rest { made: 0, marks })
+}
+
+// The same of so many engines.
+fn new_rests(alloc: Global, count: usize, buffers: usize) -> Result<Vec<Rest>, Memory>
+    ensures { IfOk result (λ rests. AreNewRests count buffers rests.items) }
+{
+    let mut rests = Vec::new(alloc);
+    for _engine in 0..count {
+        rests.reserve(1)?;
+        let rest = new_rest(alloc, buffers)?;
+        rests.push_reserved(rest);
+    }
+    Ok(rests)
 }
 
 // How a run ends at a fault of the engine of this clock.
@@ -58,48 +134,23 @@ fn end_of(clock: u32, fault: TickFault) -> End
     }
 }
 
-// Makes all ticks of one engine, over buffers that hold all the chunks of the record that a trace tells.
-fn replay_engine<O: Sink>(
-    alloc: Global,
-    station: &Station<'_>,
-    engine: &mut ClockEngine<'_, O>,
-    taps: &mut ToldTaps,
-    sides: &Sides,
-    trace: &Trace,
-) -> Result<(), TickFault>
-    requires few { trace.now.ticks ≤ 1000000000 }
-    requires setting { IsSetting (base_at station.now) station.now.clocks.now }
-    requires sides { AreSides (base_at station.now) sides.now.feeders.items sides.now.readers.items }
-    requires engine { MayRun O.told trace.now.ticks engine.old }
-    requires over { setting_of engine.old.parts ≡ base_at station.now }
-    requires runs { engine.old.parts.clock < station.now.clocks.now.running }
-    requires told { AreTold (base_at station.now) (text_of trace.now.buffers) taps.old.buffers.items }
-    requires found { HaveFound (base_at station.now) station.now.clocks.now trace.now.window trace.now.ticks (text_of trace.now.buffers) taps.old.buffers.items }
-    ensures done { OnOk result ((run : Run) → IsRecordOf (base_at station.now) station.now.clocks.now.running trace.now run
-        → HasRunTicks O.told (setting_in (base_at station.now) run) trace.now.ticks engine.old engine.new) }
-    ensures told { OnOk result (AreTold (base_at station.now) (text_of trace.now.buffers) taps.new.buffers.items) }
-    ensures found { OnOk result (HaveFound (base_at station.now) station.now.clocks.now trace.now.window trace.now.ticks (text_of trace.now.buffers) taps.new.buffers.items) }
-    ensures part { OnErr result ((run : Run) → IsRecordOf (base_at station.now) station.now.clocks.now.running trace.now run
-        → HasReplayedPart O.told (setting_in (base_at station.now) run) trace.now.ticks engine.old engine.new) }
-    ensures cause { IfErr result (λ fault. (sink : ℕ) → fault ≡ TickWrite sink → HasSinkFailed O.told sink engine.old engine.new) }
+// A turn of a list.
+fn turn_at(turns: &[TurnMade], i: usize) -> TurnMade
+    requires { i < length turns.now }
+    ensures { result ≡ get_or turns.now i result }
 {
-    begin_run(
-        &mut taps.buffers,
-        &sides.feeders,
-        &sides.readers,
-        engine.clock(),
-    );
-    taps.course = Course::Goes;
-    replay_clock(alloc, engine, taps, ticks_of(trace))
+    turns[i]
 }
 
-/// Makes all ticks of each engine, one engine after another. The first fault ends it.
-pub fn replay_engines<O: Sink>(
+// Makes all ticks of engines that rest, in these turns. The first fault ends it.
+fn replay_turns<O: Sink>(
     alloc: Global,
     station: &Station<'_>,
     engines: &mut [ClockEngine<'_, O>],
+    rests: &mut [Rest],
     taps: &mut ToldTaps,
     sides: &Sides,
+    turns: &[TurnMade],
     trace: &Trace,
 ) -> Result<(), End>
     requires few { trace.now.ticks ≤ 1000000000 }
@@ -107,18 +158,60 @@ pub fn replay_engines<O: Sink>(
     requires sides { AreSides (base_at station.now) sides.now.feeders.items sides.now.readers.items }
     requires engines { AreEngines O.told trace.now.ticks (base_at station.now) engines.old }
     requires all { length engines.old ≡ station.now.clocks.now.running }
-    requires told { AreTold (base_at station.now) (text_of trace.now.buffers) taps.old.buffers.items }
-    requires found { HaveFound (base_at station.now) station.now.clocks.now trace.now.window trace.now.ticks (text_of trace.now.buffers) taps.old.buffers.items }
+    requires playing { ArePlaying O.told (base_at station.now) station.now.clocks.now (text_of trace.now.buffers) trace.now.window trace.now.ticks sides.now.feeders.items sides.now.readers.items turns.now engines.old engines.old rests.old taps.old.buffers.items }
     ensures done { OnOk result ((run : Run) → IsRecordOf (base_at station.now) station.now.clocks.now.running trace.now run
         → HaveRunTicks O.told (setting_in (base_at station.now) run) trace.now.ticks engines.old engines.new) }
     ensures part { IfErr result (λ end. (run : Run) → IsRecordOf (base_at station.now) station.now.clocks.now.running trace.now run
         → HasReplayedTo O.told (setting_in (base_at station.now) run) trace.now.ticks engines.old engines.new end) }
     ensures stopped { IfErr result (λ end. end ≡ Done → ⊥) }
 {
-    for k in 0..engines.len() {
-        if let Err(fault) = replay_engine(alloc, station, &mut engines[k], taps, sides, trace) {
-            return Err(end_of(engines[k].clock(), fault));
+    for i in 0..turns.len() {
+        let turn = turn_at(turns, i);
+        let k = turn.clock as usize;
+        if let Err(fault) = replay_turn(
+            alloc,
+            &mut engines[k],
+            &mut rests[k],
+            taps,
+            sides,
+            turn.ticks,
+        ) {
+            return Err(end_of(turn.clock, fault));
         }
     }
     Ok(())
+}
+
+/// Makes all ticks of each engine, in the turns in which the clocks find their chunks. The first fault ends it.
+pub fn replay_engines<O: Sink>(
+    alloc: Global,
+    station: &Station<'_>,
+    engines: &mut [ClockEngine<'_, O>],
+    taps: &mut ToldTaps,
+    sides: &Sides,
+    turns: &[TurnMade],
+    trace: &Trace,
+) -> Result<(), End>
+    requires few { trace.now.ticks ≤ 1000000000 }
+    requires setting { IsSetting (base_at station.now) station.now.clocks.now }
+    requires sides { AreSides (base_at station.now) sides.now.feeders.items sides.now.readers.items }
+    requires engines { AreEngines O.told trace.now.ticks (base_at station.now) engines.old }
+    requires all { length engines.old ≡ station.now.clocks.now.running }
+    requires formed { IsFormed (length (base_at station.now).plan.buffers) trace.now.window trace.now.ticks (text_of trace.now.buffers) }
+    requires told { AreTold (base_at station.now) (text_of trace.now.buffers) taps.old.buffers.items }
+    requires empty { (b : ℕ) → chunks_of taps.old.buffers.items b ≡ [] }
+    requires kept { AreKept taps.old.buffers.items }
+    requires turns { AreTurns (base_at station.now) station.now.clocks.now.running trace.now.window trace.now.ticks (text_of trace.now.buffers) turns.now no_ticks no_chunks }
+    ensures done { OnOk result ((run : Run) → IsRecordOf (base_at station.now) station.now.clocks.now.running trace.now run
+        → HaveRunTicks O.told (setting_in (base_at station.now) run) trace.now.ticks engines.old engines.new) }
+    ensures part { IfErr result (λ end. (run : Run) → IsRecordOf (base_at station.now) station.now.clocks.now.running trace.now run
+        → HasReplayedTo O.told (setting_in (base_at station.now) run) trace.now.ticks engines.old engines.new end) }
+    ensures stopped { IfErr result (λ end. end ≡ Done → ⊥) }
+{
+    let Ok(mut rests) = new_rests(alloc, engines.len(), taps.buffers.len()) else {
+        return Err(End::Memory);
+    };
+    replay_turns(
+        alloc, station, engines, &mut rests, taps, sides, turns, trace,
+    )
 }

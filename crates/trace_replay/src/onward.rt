@@ -1,19 +1,21 @@
 // A turn of a clock whose engine goes on where it stopped.
-ghost use Rattle.std.specs.Prelude.{◌≡◌, ◌≤◌, ℕ, length, IfOk, Some};
+ghost use Rattle.std.specs.Prelude.{◌≡◌, ◌≤◌, ℕ, List, length, IfOk, Some};
 ghost use Rattle.trace_replay.specs.declared.course.Course.TheVariants.{Goes as IsGoing};
 ghost use Rattle.stream_meaning.specs.Instants.{Setting};
 ghost use Rattle.stream_meaning.specs.Settings.{IsSetting};
 ghost use Rattle.clock_infer.specs.declared.clock_map.ClockMap.{ClockMap as Map};
-ghost use Rattle.trace_replay.specs.Answering.{SameBuffers};
+ghost use Rattle.trace_replay.specs.Answering.{BufferState, SameBuffers};
 ghost use Rattle.trace_replay.specs.Clocks.{Log};
-ghost use Rattle.trace_replay.specs.Live.{HasGone, IsPaused, MayGoOn};
-ghost use Rattle.trace_replay.specs.Turns.{AreFit, AreSides, RunsAt, Score};
+ghost use Rattle.trace_replay.specs.Live.{HasFlown, HasFlownOn, IsPaused, MayFlow};
+ghost use Rattle.trace_replay.specs.declared.told.Mark.{Mark as TheMark};
+ghost use Rattle.trace_replay.specs.Thin.{AreFull, AreUnlost};
+ghost use Rattle.trace_replay.specs.Turns.{AreFit, AreSides, Score};
 
 use crate::course::Course;
 use crate::ends::{Ends, course_of};
 use crate::live::LiveClock;
 use crate::station::Sides;
-use crate::taps::{ToldTaps, mark_run, resume_run};
+use crate::taps::{ToldTaps, let_go_run, mark_run, resume_run};
 use crate::told::ToldBuffer;
 use crate::turn::NoSink;
 use clock_ticks::ClockEngine;
@@ -44,7 +46,23 @@ fn can_go(engine: &ClockEngine<'_, NoSink>, buffers: &[ToldBuffer], nodes: &[u32
     true
 }
 
-/// Makes further ticks of a clock that has made so many, each where its takes can be answered, and answers how many it has made
+// The most ticks of a turn, so that no clock comes far ahead of the others.
+const TURN_TICKS: u64 = 16;
+
+// Where a turn ends at the latest.
+fn last_of(from: u64, ticks: u64) -> u64
+    requires few { ticks ≤ 1000000000 }
+    requires within { from ≤ ticks }
+    ensures on { from ≤ result }
+    ensures within { result ≤ ticks }
+{
+    if ticks - from <= TURN_TICKS {
+        return ticks;
+    }
+    from + TURN_TICKS
+}
+
+/// Makes a few further ticks of a clock that has made so many, each where its takes can be answered, and answers how many it has made
 /// then; nothing where a call was not answered as was foreseen.
 pub fn go_on(
     alloc: Global,
@@ -60,15 +78,16 @@ pub fn go_on(
     requires few { ticks ≤ 1000000000 }
     requires within { from ≤ ticks }
     requires goes { taps.old.course ≡ IsGoing }
-    requires turn { (score : Score) × MayGoOn score window ticks engine.old.parts.clock from engine.old.parts taps.old.buffers.items ends.now }
+    requires turn { (score : Score) × MayFlow score window ticks engine.old.parts.clock from engine.old.parts taps.old.buffers.items ends.now }
     ensures on { IfOk result (λ reached. (n : ℕ) → reached ≡ Some n → from ≤ n) }
     ensures within { IfOk result (λ reached. (n : ℕ) → reached ≡ Some n → n ≤ ticks) }
     ensures made { IfOk result (λ reached. (n : ℕ) (score : Score) → reached ≡ Some n
-        → MayGoOn score window ticks engine.old.parts.clock from engine.old.parts taps.old.buffers.items ends.now
-        → RunsAt score.base score.text window ticks engine.old.parts.clock n score.chunks engine.new.parts taps.new.buffers.items) }
+        → MayFlow score window ticks engine.old.parts.clock from engine.old.parts taps.old.buffers.items ends.now
+        → HasFlown score.base score.text window ticks engine.old.parts.clock n score.chunks engine.new.parts taps.new.buffers.items) }
     ensures same { IfOk result (λ reached. SameBuffers taps.old.buffers.items taps.new.buffers.items) }
 {
-    for tick in from..ticks {
+    let until = last_of(from, ticks);
+    for tick in from..until {
         if !can_go(engine, &taps.buffers, nodes) {
             return Ok(Some(tick));
         }
@@ -81,11 +100,11 @@ pub fn go_on(
             Course::Fails => return Ok(None),
         }
     }
-    Ok(Some(ticks))
+    Ok(Some(until))
 }
 
 /// A turn of a clock that has made so many ticks, with the chunks that are there. Answers how many it has made then; nothing where a
-/// call was not answered as was foreseen.
+/// call was not answered as was foreseen. The chunks that it got are let go.
 pub fn live_turn(
     alloc: Global,
     live: &mut LiveClock<'_>,
@@ -101,15 +120,18 @@ pub fn live_turn(
     requires within { from ≤ ticks }
     requires long { length ends.now ≡ length taps.old.buffers.items }
     requires marks { length live.old.marks.items ≡ length taps.old.buffers.items }
-    requires turn { (base : Setting) × (clocks : Map) × (text : ℕ → Log) × IsSetting base clocks × AreSides base sides.now.feeders.items sides.now.readers.items
-        × AreFit base window ticks text taps.old.buffers.items ends.now
-        × IsPaused base text window ticks sides.now.feeders.items sides.now.readers.items live.old.engine.parts.clock from live.old.engine.parts live.old.marks.items taps.old.buffers.items }
+    requires turn { (base : Setting) × (clocks : Map) × (text : ℕ → Log) × (full : List BufferState) × IsSetting base clocks × AreSides base sides.now.feeders.items sides.now.readers.items
+        × AreFit base window ticks text taps.old.buffers.items ends.now × AreFull taps.old.buffers.items full × AreUnlost sides.now.readers.items live.old.engine.parts.clock live.old.marks.items taps.old.buffers.items
+        × IsPaused base text window ticks sides.now.feeders.items sides.now.readers.items live.old.engine.parts.clock from live.old.engine.parts live.old.marks.items full }
     ensures on { IfOk result (λ reached. (n : ℕ) → reached ≡ Some n → from ≤ n) }
     ensures within { IfOk result (λ reached. (n : ℕ) → reached ≡ Some n → n ≤ ticks) }
-    ensures gone { IfOk result (λ reached. (n : ℕ) (base : Setting) (clocks : Map) (text : ℕ → Log) → reached ≡ Some n → IsSetting base clocks → AreSides base sides.now.feeders.items sides.now.readers.items
-        → AreFit base window ticks text taps.old.buffers.items ends.now
-        → IsPaused base text window ticks sides.now.feeders.items sides.now.readers.items live.old.engine.parts.clock from live.old.engine.parts live.old.marks.items taps.old.buffers.items
-        → HasGone base text window ticks sides.now.feeders.items sides.now.readers.items live.old.engine.parts.clock n live.new.engine.parts live.new.marks.items taps.old.buffers.items taps.new.buffers.items) }
+    ensures gone { IfOk result (λ reached. (n : ℕ) (base : Setting) (clocks : Map) (text : ℕ → Log) (full : List BufferState) → reached ≡ Some n → IsSetting base clocks
+        → AreSides base sides.now.feeders.items sides.now.readers.items → AreFit base window ticks text taps.old.buffers.items ends.now → AreFull taps.old.buffers.items full
+        → AreUnlost sides.now.readers.items live.old.engine.parts.clock live.old.marks.items taps.old.buffers.items
+        → IsPaused base text window ticks sides.now.feeders.items sides.now.readers.items live.old.engine.parts.clock from live.old.engine.parts live.old.marks.items full
+        → HasFlownOn base text window ticks sides.now.feeders.items sides.now.readers.items live.old.engine.parts.clock n live.new.engine.parts live.new.marks.items full taps.new.buffers.items) }
+    ensures stays { IfOk result (λ reached. (k : ℕ) (marks : List TheMark) → (k ≡ live.old.engine.parts.clock → ⊥) → AreUnlost sides.now.readers.items k marks taps.old.buffers.items
+        → AreUnlost sides.now.readers.items k marks taps.new.buffers.items) }
     ensures fit { IfOk result (λ reached. (base : Setting) (text : ℕ → Log) → AreFit base window ticks text taps.old.buffers.items ends.now
         → AreFit base window ticks text taps.new.buffers.items ends.now) }
     ensures many { IfOk result (λ reached. length taps.new.buffers.items ≡ length taps.old.buffers.items) }
@@ -134,5 +156,6 @@ pub fn live_turn(
         from,
     )?;
     mark_run(&taps.buffers, &mut live.marks);
+    let_go_run(&mut taps.buffers);
     Ok(reached)
 }

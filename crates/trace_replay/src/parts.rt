@@ -4,13 +4,6 @@ ghost use Rattle.std.specs.Prelude.{◌≡◌};
 use buffer_ends::BufferLog;
 use trace_log::Trace;
 
-/// The ticks of a trace's run.
-pub fn ticks_of(trace: &Trace) -> u64
-    ensures { result ≡ trace.now.ticks }
-{
-    trace.ticks
-}
-
 /// The answers of each buffer.
 pub fn logs_of(trace: &Trace) -> &[BufferLog]
     ensures { result.now ≡ trace.now.buffers }

@@ -4,8 +4,9 @@ ghost use Rattle.frame_core.specs.Calls.{Adds, Call, IsGive};
 ghost use Rattle.frame_core.specs.Calls.Call.{Took};
 ghost use Rattle.trace_replay.specs.declared.course.Course.TheVariants.{Goes as IsGoing};
 ghost use Rattle.trace_replay.specs.Turns.{HaveBegun};
-ghost use Rattle.trace_replay.specs.Answering.{BufferState, PutsOn, SameBuffers, TakesOn, TapsStand};
-ghost use Rattle.trace_replay.specs.Marks.{AreWithin, HaveMarked, HaveResumed, IsForgotten};
+ghost use Rattle.trace_replay.specs.Answering.{BufferState, PutsOn, SameBuffers, TakesOn};
+ghost use Rattle.trace_replay.specs.Marks.{AreWithin, HaveLetGo, HaveMarked, HaveResumed, IsForgotten};
+ghost use Rattle.trace_replay.specs.Thin.{TapsFollow};
 
 use crate::course::Course;
 use crate::told::{Mark, Put, Taken, ToldBuffer};
@@ -89,13 +90,23 @@ pub fn mark_run(buffers: &[ToldBuffer], marks: &mut Vec<Mark>)
     }
 }
 
+/// Lets go of the chunks that were got of each buffer which the clock reads.
+pub fn let_go_run(buffers: &mut Vec<ToldBuffer>)
+    ensures many { length buffers.new.items ≡ length buffers.old.items }
+    ensures gone { HaveLetGo buffers.old.items buffers.new.items }
+{
+    for b in 0..buffers.len() {
+        buffers[b].let_go();
+    }
+}
+
 /// Drops the chunks of all buffers.
 pub fn forget_run(buffers: &mut Vec<ToldBuffer>)
     ensures many { length buffers.new.items ≡ length buffers.old.items }
     ensures forgotten { IsForgotten buffers.old.items buffers.new.items }
 {
     for b in 0..buffers.len() {
-        buffers[b].begin(true, true);
+        buffers[b].forget();
     }
 }
 
@@ -104,7 +115,7 @@ impl ToldTaps {
     fn take_told(&mut self, buffer: u32) -> Result<Option<Chunk>, Memory>
         requires known { buffer < length self.old.buffers.items }
         requires goes { self.old.course ≡ IsGoing }
-        ensures call { IfOk result (λ answer. Adds (λ t calls. TapsStand t.course t.buffers.items calls) self.old self.new (Took buffer answer ∷ [])) }
+        ensures call { IfOk result (λ answer. Adds (λ t calls. TapsFollow t.course t.buffers.items calls) self.old self.new (Took buffer answer ∷ [])) }
         ensures memory { OnErr result ((self.new.course ≡ self.old.course) × (self.new.buffers.items ≡ self.old.buffers.items)) }
         ensures same { SameBuffers self.old.buffers.items self.new.buffers.items }
     {
@@ -112,6 +123,10 @@ impl ToldTaps {
             Taken::Chunk(chunk) => Ok(Some(chunk)),
             Taken::Empty => Ok(None),
             Taken::Waits => {
+                self.course = Course::Waits;
+                Ok(None)
+            }
+            Taken::Lost => {
                 self.course = Course::Waits;
                 Ok(None)
             }
@@ -126,7 +141,7 @@ impl ToldTaps {
     fn give_told(&mut self, buffer: u32, chunk: Chunk) -> Result<Gave, (Chunk, Memory)>
         requires known { buffer < length self.old.buffers.items }
         requires goes { self.old.course ≡ IsGoing }
-        ensures call { IfOk result (λ gave. (call : Call) × IsGive buffer chunk gave call × Adds (λ t calls. TapsStand t.course t.buffers.items calls) self.old self.new (call ∷ [])) }
+        ensures call { IfOk result (λ gave. (call : Call) × IsGive buffer chunk gave call × Adds (λ t calls. TapsFollow t.course t.buffers.items calls) self.old self.new (call ∷ [])) }
         ensures memory { IfErr result (λ e. (e.0 ≡ chunk) × (self.new.course ≡ self.old.course) × (self.new.buffers.items ≡ self.old.buffers.items)) }
         ensures same { SameBuffers self.old.buffers.items self.new.buffers.items }
     {
@@ -143,9 +158,10 @@ impl ToldTaps {
 
 impl Taps for ToldTaps {
     ghost use Rattle.std.specs.Prelude.{length};
-    ghost use Rattle.trace_replay.specs.Answering.{SameBuffers, TapsStand, same_buffers_refl, same_buffers_trans};
+    ghost use Rattle.trace_replay.specs.Answering.{SameBuffers, same_buffers_refl, same_buffers_trans};
+    ghost use Rattle.trace_replay.specs.Thin.{TapsFollow};
 
-    ghost stands = { λ s calls. TapsStand s.course s.buffers.items calls };
+    ghost stands = { λ s calls. TapsFollow s.course s.buffers.items calls };
 
     ghost buffers = { λ s. length s.buffers.items };
 

@@ -1,11 +1,12 @@
 // A buffer that answers as a trace tells.
 ghost use Rattle.std.specs.Prelude.{◌≡◌, ◌<◌, ◌≤◌, ◌+◌, ◌&&◌, Some, slice_get, true, IfOk, IfErr, OnErr, length};
 ghost use Rattle.trace_replay.specs.Answering.{BufferState, PutsOn, TakesOn, SameBuffer, begun, is_list};
-ghost use Rattle.trace_replay.specs.Marks.{IsWithin, mark_of, resumed};
+ghost use Rattle.trace_replay.specs.Marks.{HasLetGo, IsWithin, mark_of, resumed};
 
 use frame_core::Chunk;
 use liq_base::Memory;
 use std::alloc::Global;
+use std::collections::VecDeque;
 use std::marker::Model;
 use std::mem;
 
@@ -16,6 +17,8 @@ pub enum Taken {
     Empty,
     /// It is to get a chunk that is not there yet.
     Waits,
+    /// It is to get a chunk that was let go.
+    Lost,
     /// No answer can be right.
     Never,
 }
@@ -44,7 +47,7 @@ pub const NO_MARK: Mark = Mark {
     got: 0,
 };
 
-/// A buffer in the run of one clock, which answers as a trace tells. The chunks that were put to it stay.
+/// A buffer in the run of one clock, which answers as a trace tells. The chunks that were put to it stay until they are let go.
 #[derive(Drop)]
 pub struct ToldBuffer {
     pub capacity: u32,
@@ -60,14 +63,17 @@ pub struct ToldBuffer {
     pub got: usize,
     /// How many chunks were there when the run began.
     pub opened: usize,
-    pub chunks: Vec<Chunk>,
+    /// How many chunks were put, how many of the first ones were let go, and the others.
+    pub put: usize,
+    pub gone: usize,
+    pub held: VecDeque<Chunk>,
     // What was put in the run before, of which each put frees one: so the memory of the one run serves the next.
-    pub spare: Vec<Chunk>,
+    pub spare: VecDeque<Chunk>,
 }
 
 impl Model for ToldBuffer {
-    ghost use Rattle.std.specs.Prelude.{◌≡◌, ◌≤◌, length};
-    ghost use Rattle.trace_replay.specs.Answering.{BufferState, state_coded};
+    ghost use Rattle.std.specs.Prelude.{◌≡◌, ◌≤◌, ◌+◌, ◌++◌, length};
+    ghost use Rattle.trace_replay.specs.Answering.{BufferState, blanks, state_coded};
 
     ghost Value = { BufferState };
 
@@ -83,10 +89,12 @@ impl Model for ToldBuffer {
       take_at = b.take_at;
       got = b.got;
       opened = b.opened;
-      chunks = b.chunks.items;
+      chunks = blanks b.gone ++ b.held.items;
+      gone = b.gone;
     } };
 
-    ghost invariant = { λ b. (b.put_at ≤ length b.puts.items) × (b.take_at ≤ length b.takes.items) × (b.got ≤ length b.chunks.items) × (b.opened ≤ length b.chunks.items) };
+    ghost invariant = { λ b. (b.put_at ≤ length b.puts.items) × (b.take_at ≤ length b.takes.items) × (b.got ≤ b.put) × (b.opened ≤ b.put)
+        × (b.put ≡ b.gone + length b.held.items) × (b.put ≡ length (blanks b.gone ++ b.held.items)) };
 }
 
 impl ToldBuffer {
@@ -101,11 +109,21 @@ impl ToldBuffer {
         self.got = 0;
         self.opened = 0;
         if fed {
-            mem::swap(&mut self.chunks, &mut self.spare);
-            self.chunks.clear();
+            mem::swap(&mut self.held, &mut self.spare);
+            self.held.clear();
+            self.put = 0;
+            self.gone = 0;
             return;
         }
-        self.opened = self.chunks.len();
+        self.opened = self.put;
+    }
+
+    /// Drops all chunks.
+    pub fn forget(&mut self)
+        ensures { self.new ≡ begun self.old true true }
+    {
+        self.begin(true, true);
+        self.spare.clear();
     }
 
     /// Goes on with the run of a clock, which feeds it or not, and reads it or not, and whose calls came so far.
@@ -120,7 +138,7 @@ impl ToldBuffer {
         self.got = mark.got;
         self.opened = 0;
         if !fed {
-            self.opened = self.chunks.len();
+            self.opened = self.put;
         }
     }
 
@@ -135,19 +153,35 @@ impl ToldBuffer {
         }
     }
 
+    /// Lets go of the chunks that were got, where the clock reads it.
+    pub fn let_go(&mut self)
+        ensures { HasLetGo self.old self.new }
+    {
+        if !self.read {
+            return;
+        }
+        while self.gone < self.got {
+            drop(self.held.pop_front());
+            self.gone += 1;
+        }
+    }
+
     /// Whether the chunks that are there suffice for its next takes, up to one that is told to be empty or until so many cells were
     /// got.
     pub fn serves(&self, cells: u64) -> bool {
+        if self.got < self.gone {
+            return false;
+        }
         let mut left = cells;
-        let mut next = self.got;
+        let mut next = self.got - self.gone;
         for gets in &self.takes[self.take_at..] {
             if left == 0 || !*gets {
                 return true;
             }
-            if next >= self.chunks.len() {
+            if next >= self.held.len() {
                 return false;
             }
-            left = left.saturating_sub(u64::from(self.chunks[next].len()));
+            left = left.saturating_sub(u64::from(self.held[next].len()));
             next += 1;
         }
         true
@@ -161,10 +195,10 @@ impl ToldBuffer {
     }
 
     // How many chunks were put and not got.
-    fn held(&self) -> usize
+    fn left(&self) -> usize
         ensures { result + self.now.got ≡ length self.now.chunks }
     {
-        self.chunks.len() - self.got
+        self.put - self.got
     }
 
     /// Takes as the trace tells.
@@ -179,7 +213,7 @@ impl ToldBuffer {
         if self.takes[self.take_at] {
             return self.take_chunk(alloc);
         }
-        if self.is_list() && self.held() != 0 {
+        if self.is_list() && self.left() != 0 {
             return Ok(Taken::Never);
         }
         self.take_at += 1;
@@ -193,13 +227,16 @@ impl ToldBuffer {
         ensures same { SameBuffer self.old self.new }
         ensures memory { OnErr result (self.new ≡ self.old) }
     {
-        if self.held() == 0 {
+        if self.left() == 0 {
             if self.is_list() {
                 return Ok(Taken::Never);
             }
             return Ok(Taken::Waits);
         }
-        let chunk = self.chunks[self.got].copy(alloc)?;
+        if self.got < self.gone {
+            return Ok(Taken::Lost);
+        }
+        let chunk = self.held[self.got - self.gone].copy(alloc)?;
         self.take_at += 1;
         self.got += 1;
         Ok(Taken::Chunk(chunk))
@@ -217,7 +254,7 @@ impl ToldBuffer {
         if self.puts[self.put_at] {
             return self.accept(chunk);
         }
-        if self.is_list() && self.held() != self.capacity as usize {
+        if self.is_list() && self.left() != self.capacity as usize {
             return Ok(Put::Never);
         }
         self.put_at += 1;
@@ -231,12 +268,16 @@ impl ToldBuffer {
         ensures same { SameBuffer self.old self.new }
         ensures memory { IfErr result (λ e. (e.0 ≡ chunk) × (self.new ≡ self.old)) }
     {
-        if self.is_list() && self.held() >= self.capacity as usize {
+        if self.is_list() && self.left() >= self.capacity as usize {
             return Ok(Put::Never);
         }
-        drop(self.spare.pop());
-        match self.chunks.push(chunk) {
+        let Some(put) = self.put.checked_add(1) else {
+            return Err((chunk, Memory));
+        };
+        drop(self.spare.pop_front());
+        match self.held.push_back(chunk) {
             Ok(()) => {
+                self.put = put;
                 self.put_at += 1;
                 Ok(Put::Accepted)
             }

@@ -6,6 +6,7 @@ ghost use Rattle.trace_replay.specs.Answering.{SameBuffers};
 ghost use Rattle.trace_replay.specs.Passes.{HasTurned, IsRefused};
 ghost use Rattle.stream_meaning.specs.Settings.{IsSetting};
 ghost use Rattle.trace_replay.specs.Clocks.{Log};
+ghost use Rattle.trace_replay.specs.Thin.{AreKept};
 ghost use Rattle.trace_replay.specs.Turns.{AreFit, AreSides, MayTurn, Score, base_of, chunks_of};
 
 use crate::course::Course;
@@ -53,6 +54,7 @@ pub fn run_clock(
     requires some { 1 ≤ window }
     requires few { ticks ≤ 1000000000 }
     requires goes { taps.old.course ≡ IsGoing }
+    requires kept { AreKept taps.old.buffers.items }
     requires turn { (score : Score) × MayTurn score window ticks engine.old.parts.clock engine.old.parts taps.old.buffers.items ends.now }
     ensures made { IfOk result (λ turn. (n : ℕ) (score : Score) → turn ≡ HasMadeTicks n → MayTurn score window ticks engine.old.parts.clock engine.old.parts taps.old.buffers.items ends.now
         → HasTurned score.base window ticks score.text engine.old.parts.clock n score.chunks (chunks_of taps.new.buffers.items)) }
@@ -89,11 +91,13 @@ pub fn run_turn(
     requires setting { IsSetting (base_of station.now.plan.now station.now.library.now station.now.clocks.now station.now.start.second) station.now.clocks.now }
     requires sides { AreSides (base_of station.now.plan.now station.now.library.now station.now.clocks.now station.now.start.second) sides.now.feeders.items sides.now.readers.items }
     requires long { length ends.now ≡ length taps.old.buffers.items }
+    requires kept { AreKept taps.old.buffers.items }
     requires text { (text : ℕ → Log) × AreFit (base_of station.now.plan.now station.now.library.now station.now.clocks.now station.now.start.second) window ticks text taps.old.buffers.items ends.now }
     ensures made { IfOk result (λ turn. (n : ℕ) (text : ℕ → Log) → turn ≡ HasMadeTicks n → AreFit (base_of station.now.plan.now station.now.library.now station.now.clocks.now station.now.start.second) window ticks text taps.old.buffers.items ends.now
         → HasTurned (base_of station.now.plan.now station.now.library.now station.now.clocks.now station.now.start.second) window ticks text clock n (chunks_of taps.old.buffers.items) (chunks_of taps.new.buffers.items)) }
     ensures fit { IfOk result (λ turn. (text : ℕ → Log) → AreFit (base_of station.now.plan.now station.now.library.now station.now.clocks.now station.now.start.second) window ticks text taps.old.buffers.items ends.now
         → AreFit (base_of station.now.plan.now station.now.library.now station.now.clocks.now station.now.start.second) window ticks text taps.new.buffers.items ends.now) }
+    ensures kept { IfOk result (λ turn. AreKept taps.new.buffers.items) }
     ensures many { IfOk result (λ turn. length taps.new.buffers.items ≡ length taps.old.buffers.items) }
     ensures refused { IfOk result (λ turn. (text : ℕ → Log) → turn ≡ IsRefusedTurn → AreFit (base_of station.now.plan.now station.now.library.now station.now.clocks.now station.now.start.second) window ticks text taps.old.buffers.items ends.now
         → IsRefused (base_of station.now.plan.now station.now.library.now station.now.clocks.now station.now.start.second) window ticks text (chunks_of taps.old.buffers.items) clock) }

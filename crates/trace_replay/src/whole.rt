@@ -12,7 +12,7 @@ ghost use Rattle.trace_replay.specs.Turns.{base_of};
 
 use crate::accept::judge;
 use crate::buffers::{sides_of, told_buffers};
-use crate::course::Course;
+use crate::course::{Course, TurnMade};
 use crate::engines::replay_engines;
 use crate::logs::told_run;
 use crate::parts::logs_of;
@@ -29,12 +29,13 @@ use std::alloc::Global;
 use std::marker::Model;
 use trace_log::Trace;
 
-/// All the chunks of the record that an accepted trace tells: what the feeds of its buffers put, buffer by buffer. `docs/buffers.md`, "A
-/// record from its text", says what they take of memory.
+/// The way to all the chunks of the record that an accepted trace tells: the turns of its clocks, in each of which a clock makes some ticks
+/// with the chunks that the turns before it put. `docs/buffers.md`, "A record from its text", says what they take of memory.
 #[derive(Drop)]
 pub struct RecordChunks {
     taps: ToldTaps,
     sides: Sides,
+    turns: Vec<TurnMade>,
 }
 
 impl Model for RecordChunks {
@@ -44,10 +45,10 @@ impl Model for RecordChunks {
 
     ghost coded = { held_coded };
 
-    ghost view = { λ chunks. record { buffers = chunks.taps.buffers.items; feeders = chunks.sides.feeders.items; readers = chunks.sides.readers.items } };
+    ghost view = { λ chunks. record { buffers = chunks.taps.buffers.items; feeders = chunks.sides.feeders.items; readers = chunks.sides.readers.items; turns = chunks.turns.items } };
 }
 
-/// All the chunks of the record that a trace tells, where the trace, which was read, is that of a lawful record of so many ticks of a
+/// The way to all the chunks of the record that a trace tells, where the trace, which was read, is that of a lawful record of so many ticks of a
 /// plan, with its clocks, its files and its start second, whose ticks can be ordered; and nothing where it is not. Only want of memory
 /// comes in place of an answer.
 pub fn find_record(
@@ -81,10 +82,12 @@ pub fn find_record(
         course: Course::Goes,
         alloc,
     };
+    let mut turns = Vec::new(alloc);
     let fits = judge(
         alloc,
         &station,
         &mut taps,
+        &mut turns,
         &sides,
         &ends,
         trace.window,
@@ -94,7 +97,7 @@ pub fn find_record(
     if !fits {
         return Ok(None);
     }
-    Ok(Some(RecordChunks { taps, sides }))
+    Ok(Some(RecordChunks { taps, sides, turns }))
 }
 
 // The answers of a whole run, or want of memory.
@@ -122,8 +125,8 @@ fn ended(alloc: Global, end: End) -> RunEnd
 
 /// Renders the ticks of an accepted trace again, on one thread: each output gets the bytes of the record that the trace
 /// tells. The engines stand in clock order, one for each clock that runs, made no tick, and are over this plan, with these
-/// clocks, files and start second; the chunks are those of this trace. Done answers the trace's logs and their numbers. The first fault ends the run: the engines
-/// before the one that it stopped have made all their ticks, and those behind it none.
+/// clocks, files and start second; the chunks are those of this trace. Done answers the trace's logs and their numbers. The first fault ends the run: each
+/// engine has made some of its ticks then.
 pub fn replay<O: Sink>(
     alloc: Global,
     plan: &Plan,
@@ -151,8 +154,12 @@ pub fn replay<O: Sink>(
         start,
     };
     let logs = logs_of(trace);
-    let RecordChunks { mut taps, sides } = chunks;
-    match replay_engines(alloc, &station, engines, &mut taps, &sides, trace) {
+    let RecordChunks {
+        mut taps,
+        sides,
+        turns,
+    } = chunks;
+    match replay_engines(alloc, &station, engines, &mut taps, &sides, &turns, trace) {
         Ok(()) => told_or_ended(alloc, logs),
         Err(end) => ended(alloc, end),
     }

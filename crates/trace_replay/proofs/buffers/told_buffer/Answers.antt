@@ -12,7 +12,7 @@ returns-clause-buffer c =
     let puts : c.in_ok-puts.puts.items ≡ puts_in (map pair_of c.args.log.now) = c.in_ok-puts.ensures.flat ∙ flat_puts c.deref.result.now ∙ ap (λ (l : List Answers). puts_in (map pair_of l)) w in
     let takes : c.in_ok-takes.takes.items ≡ takes_in (map pair_of c.args.log.now) = c.in_ok-takes.ensures.flat ∙ flat_takes c.deref-2.result.now ∙ ap (λ (l : List Answers). takes_in (map pair_of l)) v in
     let chunks = c.new.ensures.items in
-    λ i. record { capacity = c.args.capacity; puts = puts i; takes = takes i; fed = false; read = false; put_at = 0; take_at = 0; got = 0; opened = 0; chunks = chunks i }
+    λ i. record { capacity = c.args.capacity; puts = puts i; takes = takes i; fed = false; read = false; put_at = 0; take_at = 0; got = 0; opened = 0; chunks = chunks i; gone = 0 }
 
 pub returns-clause-ends : goal.returns-clause-ends
 returns-clause-ends c =

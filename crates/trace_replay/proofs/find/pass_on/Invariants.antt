@@ -1,13 +1,11 @@
-use Rattle.std.proofs.Common.{◌≡◌, ◌≤◌, length}
-use Rattle.trace_replay.specs.Finds.{ArePassing, base_at}
+use Rattle.std.proofs.Common.{◌≤◌}
+use Rattle.trace_replay.specs.Finds.{base_at}
 use Rattle.trace_replay.specs.Live.{AreLive}
 use Rattle.trace_replay.proofs.find.pass_on.Given as goal
 
 abbrev pub invariant-loop-left : goal.invariant-loop-left
 invariant-loop-left l = record {
-  passing : ArePassing (base_at l.station) l.station.clocks.now l.window l.ticks l.ends l.fn.taps.buffers.items l.made.items l.left l.taps.buffers.items;
-  live : AreLive (base_at l.station) l.window l.ticks l.sides.feeders.items l.sides.readers.items l.ends l.fn.taps.buffers.items l.lives.items l.made.items l.taps.buffers.items;
-  size : length l.lives.items ≡ l.station.clocks.now.running;
+  live : AreLive (base_at l.station) l.station.clocks.now l.window l.ticks l.sides.feeders.items l.sides.readers.items l.ends l.fn.taps.buffers.items l.lives.items l.made.items l.left l.turns.items l.taps.buffers.items;
 }
 
 abbrev pub decreases-loop-left : goal.decreases-loop-left
@@ -15,8 +13,6 @@ decreases-loop-left l = l.left
 
 abbrev pub invariant-loop-clock : goal.invariant-loop-clock
 invariant-loop-clock l = record {
-  passing : ArePassing (base_at l.station) l.station.clocks.now l.window l.ticks l.ends l.fn.taps.buffers.items l.made.items l.left l.taps.buffers.items;
-  live : AreLive (base_at l.station) l.window l.ticks l.sides.feeders.items l.sides.readers.items l.ends l.fn.taps.buffers.items l.lives.items l.made.items l.taps.buffers.items;
-  size : length l.lives.items ≡ l.station.clocks.now.running;
+  live : AreLive (base_at l.station) l.station.clocks.now l.window l.ticks l.sides.feeders.items l.sides.readers.items l.ends l.fn.taps.buffers.items l.lives.items l.made.items l.left l.turns.items l.taps.buffers.items;
   within : l.left ≤ l.before;
 }

@@ -1,8 +1,8 @@
 use Rattle.std.proofs.Common.{◌≡◌, ◌≤◌}
 use Rattle.trace_replay.specs.Answering.{SameBuffers}
 use Rattle.trace_replay.specs.declared.course.Course.TheVariants.{Goes}
-use Rattle.trace_replay.specs.Live.{MayGoOn}
-use Rattle.trace_replay.specs.Turns.{RunsAt, Score}
+use Rattle.trace_replay.specs.Live.{HasFlown, MayFlow}
+use Rattle.trace_replay.specs.Turns.{Score}
 use Rattle.trace_replay.proofs.onward.go_on.Given as goal
 
 abbrev pub invariant-loop-tick : goal.invariant-loop-tick
@@ -10,6 +10,6 @@ invariant-loop-tick l = record {
   behind : l.from ≤ l.tick;
   course : l.taps.course ≡ Goes;
   changed : SameBuffers l.fn.taps.buffers.items l.taps.buffers.items;
-  goes : (score : Score) → MayGoOn score l.window l.ticks l.fn.engine.parts.clock l.from l.fn.engine.parts l.fn.taps.buffers.items l.ends
-      → RunsAt score.base score.text l.window l.ticks l.fn.engine.parts.clock l.tick score.chunks l.engine.parts l.taps.buffers.items;
+  goes : (score : Score) → MayFlow score l.window l.ticks l.fn.engine.parts.clock l.from l.fn.engine.parts l.fn.taps.buffers.items l.ends
+      → HasFlown score.base score.text l.window l.ticks l.fn.engine.parts.clock l.tick score.chunks l.engine.parts l.taps.buffers.items;
 }

@@ -2,7 +2,8 @@ use Rattle.std.proofs.Common.{◌≡◌, ◌∙◌, [], arith, sym}
 use Rattle.std.proofs.lemmas.Bool.Decides.{nat_tests}
 use Rattle.trace_replay.specs.Turns.{base_of, chunks_of}
 use Rattle.trace_replay.proofs.Unbuffered.{ended, is_none}
-use Rattle.trace_replay.proofs.Readying.{made, may, refused, still_fit}
+use Rattle.trace_replay.proofs.Readying.{made, may, ok_map, refused, still_fit}
+use Rattle.trace_replay.proofs.Thinning.{kept_begun, kept_same}
 use Rattle.trace_replay.proofs.turn.run_turn.Goals as goal
 
 pub run_clock-turn-requires-clause-turn : goal.run_clock-turn-requires-clause-turn
@@ -40,3 +41,11 @@ returns-then-is_empty-clause-made c =
     let base = base_of c.args.station.now.plan.now c.args.station.now.library.now c.args.station.now.clocks.now c.args.station.now.start.second in
     let none : base.plan.buffers ≡ [] = sym c.as_slice.ensures ∙ is_none c.as_slice.result.now (grind (arith, nat_tests, c.is_empty.ensures, c.if-is_empty.true)) in
     λ n text e fit. ended base c.args.station.now.clocks.now c.requires.setting none text c.args.window c.args.ticks c.args.clock (chunks_of c.args.taps.now.buffers.items) n e
+
+pub run_clock-turn-requires-clause-kept : goal.run_clock-turn-requires-clause-kept
+run_clock-turn-requires-clause-kept c =
+    kept_begun c.deref.result.now c.deref-2.result.now c.args.clock c.args.taps.now.buffers.items c.begin_run.new.buffers.items c.begin_run.ensures.many c.begin_run.ensures.begun c.requires.kept
+
+pub returns-clause-kept : goal.returns-clause-kept
+returns-clause-kept c = ok_map c.run_clock-turn.result (λ turn same. kept_same c.begin_run.new.buffers.items c.run_clock-turn.new.taps.buffers.items same
+    (kept_begun c.deref.result.now c.deref-2.result.now c.args.clock c.args.taps.now.buffers.items c.begin_run.new.buffers.items c.begin_run.ensures.many c.begin_run.ensures.begun c.requires.kept)) c.run_clock-turn.ensures.same

@@ -1,12 +1,13 @@
-use Rattle.std.proofs.Common.{◌∙◌, List, length, refl, rules, sym, subst}
+use Rattle.std.proofs.Common.{◌≡◌, ◌∙◌, ℕ, List, [], length, refl, rules, sym, subst}
 use Rattle.plan_core.specs.declared.sink.BufferPlan.{BufferPlan}
 use Rattle.buffer_ends.specs.Local.{Answers}
 use Rattle.trace_replay.specs.declared.ends.Ends.{Ends}
 use Rattle.clock_infer.proofs.Exact.{some_inj}
 use Rattle.trace_replay.specs.Chunks.{AreAllChunks}
-use Rattle.trace_replay.specs.Finds.{HaveFound}
+use Rattle.trace_replay.specs.Orders.{AreTurns, no_chunks, no_ticks}
+use Rattle.trace_replay.specs.Thin.{AreKept}
 use Rattle.trace_replay.specs.Traces.{AreNew, text_of}
-use Rattle.trace_replay.specs.Turns.{AreSides, AreTold, base_of}
+use Rattle.trace_replay.specs.Turns.{AreSides, AreTold, base_of, chunks_of}
 use Rattle.trace_replay.proofs.whole.find_record.Goals as goal
 
 pub judge-requires-clause-new : goal.judge-requires-clause-new
@@ -20,6 +21,8 @@ returns-clause-chunks c = λ held e.
     let base = base_of c.args.plan.now c.args.library.now c.args.clocks.now c.args.start.second in
     let trace = c.args.trace.now in
     let told : AreTold base (text_of trace.buffers) c.judge.new.taps.buffers.items = search rules in
-    let found : HaveFound base c.args.clocks.now trace.window trace.ticks (text_of trace.buffers) c.judge.new.taps.buffers.items = search rules in
+    let turns : AreTurns base c.args.clocks.now.running trace.window trace.ticks (text_of trace.buffers) c.judge.new.turns.items no_ticks no_chunks = search rules in
+    let empty : (b : ℕ) → chunks_of c.judge.new.taps.buffers.items b ≡ [] = search rules in
+    let kept : AreKept c.judge.new.taps.buffers.items = search rules in
     let sides : AreSides base c.in_ok-sides.sides.feeders.items c.in_ok-sides.sides.readers.items = c.in_ok-sides.ensures base refl refl in
-    subst (AreAllChunks base c.args.clocks.now trace) (some_inj e) (record { told = told; found = found; sides = sides })
+    subst (AreAllChunks base c.args.clocks.now trace) (some_inj e) (record { told = told; sides = sides; empty = empty; kept = kept; turns = turns })

@@ -1,10 +1,16 @@
 use Rattle.std.proofs.Common.{◌∙◌, map, ap, sym}
 use Rattle.run_records.specs.Records.{setting_in}
-use Rattle.trace_replay.specs.Traces.{counts_in}
+use Rattle.trace_replay.specs.Traces.{counts_in, text_of}
 use Rattle.trace_replay.specs.Turns.{base_of}
 use Rattle.trace_replay.proofs.Lasting.{all_to, ended_so}
 use Rattle.trace_replay.proofs.Retelling.{counts_told, logs_told, record_of}
+use Rattle.trace_replay.proofs.Completing.{record_formed}
 use Rattle.trace_replay.proofs.whole.replay.Goals as goal
+
+pub replay_engines-requires-clause-formed : goal.replay_engines-requires-clause-formed
+replay_engines-requires-clause-formed g c =
+    record_formed (base_of c.args.plan.now c.args.library.now c.args.clocks.now c.args.start.second) c.args.clocks.now c.requires.setting c.args.trace.now.window c.args.trace.now.ticks (text_of c.args.trace.now.buffers)
+    c.requires.accepted.ordered.run c.requires.accepted.ordered.lawful c.requires.accepted.ordered.told
 
 pub returns-in-Ok-clause-done : goal.returns-in-Ok-clause-done
 returns-in-Ok-clause-done g c = λ is. record {
