@@ -1,12 +1,10 @@
-//! Tests of the public calls from text to tree: each once with ample memory against its answer, worked rows, printed texts.
+//! Tests of the public calls of texts and tokens: each once with ample memory against its answer, worked rows, printed texts.
 #![tactic(auto)]
 
 #[cfg(test)]
 mod fixed_text_tests;
 #[cfg(test)]
 mod liq_base_tests;
-#[cfg(test)]
-mod predicate_parse_tests;
 #[cfg(test)]
 mod script_lex_tests;
 #[cfg(test)]
@@ -15,5 +13,3 @@ mod script_parse_tests;
 mod text_key_tests;
 #[cfg(test)]
 mod texts;
-#[cfg(test)]
-mod value_parse_tests;

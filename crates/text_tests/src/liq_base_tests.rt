@@ -1,18 +1,9 @@
-// Each call that takes memory, once with ample memory, against its answer; and the printed texts.
+// The shelf and the sink in memory that fail where they are told to, each call once with ample memory; and the printed texts.
 use crate::texts::check_same;
-use liq_base::{
-    Failed, Fetched, MemShelf, MemSink, Memory, Shelf, ShelfFault, Sink, SureShelf, Text,
-};
+use liq_base::{Failed, Fetched, MemShelf, MemSink, Memory, Shelf, ShelfFault, Sink};
 use std::alloc::{AllocError, Global};
 use std::process::Abort;
 use std::test::Fail;
-
-#[test]
-fn a_text_keeps_its_bytes(rt: HostRuntime) -> Result<(), Fail> {
-    let text = Text::from_str(rt.alloc(), "Grüße")?;
-    assert_eq!(rt; text.as_str(), "Grüße");
-    Ok(())
-}
 
 // Each row: a piece, the answer, and what the sink holds then. A piece past the room takes nothing; a listed stop past
 // the piece takes all of it.
@@ -101,24 +92,6 @@ fn shelf(alloc: Global) -> Result<MemShelf, Memory> {
 fn a_shelf_reads_what_it_has(rt: HostRuntime) -> Result<(), Fail> {
     let mut shelf = shelf(rt.alloc())?;
     check_reads(&rt, &mut shelf, &mut Vec::new(rt.alloc()), READS);
-    Ok(())
-}
-
-#[test]
-fn a_sure_shelf_never_fails(rt: HostRuntime) -> Result<(), Fail> {
-    let mut shelf = SureShelf::new(rt.alloc(), shelf_files(rt.alloc())?);
-    let mut into = Vec::new(rt.alloc());
-    assert_eq!(rt; shelf.read("b", &mut into, 3), Ok(Fetched::Found));
-    replace(&rt, &mut shelf)?;
-    assert_eq!(rt; shelf.get("b"), Some(&b"xyz"[..]));
-    Ok(())
-}
-
-// Writes the file anew.
-fn replace(rt: &impl Abort, shelf: &mut SureShelf) -> Result<(), Fail> {
-    let mut sink = shelf.create("b", 4)?;
-    assert!(rt; sink.append(b"xyz") == Ok(()));
-    assert!(rt; shelf.close(sink) == Ok(()));
     Ok(())
 }
 
