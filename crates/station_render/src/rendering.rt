@@ -72,8 +72,8 @@ pub fn render_alone<S: Shelf>(
     finish(alloc, job, None, shelf, places, engines, run)
 }
 
-/// The same again, as an accepted trace of this job tells, on one thread: between the creations and the closings one clock after another
-/// makes all its ticks, and its buffers answer as they did in the run that left the trace. The chunks are all those of the trace's record.
+/// The same again, as an accepted trace of this job tells, on one thread: between the creations and the closings the clocks make all their
+/// ticks, in turns, and their buffers answer as they did in the run that left the trace. The chunks are all those of the trace's record.
 /// It leaves no trace. The rules stand in `docs/buffers.md`.
 pub fn render_again<S: Shelf>(
     alloc: Global,

@@ -60,7 +60,7 @@ pub(crate) fn tick_in_rounds<'a, O: Sink>(
     (engines, run)
 }
 
-/// One clock after another makes its ticks on one thread, as a trace tells, of whose record the chunks are.
+/// The clocks make their ticks in turns on one thread, as a trace tells, of whose record the chunks are.
 pub(crate) fn tick_again<'a, O: Sink>(
     alloc: Global,
     job: &Job<'a>,

@@ -3,29 +3,28 @@ use Rattle.std.proofs.Common.{◌≡◌, ◌<◌, ◌≤◌, ◌∙◌, ℕ, Boo
 use Rattle.std.specs.Prelude.{All}
 use Rattle.std.proofs.lemmas.Bool.{cases_eq}
 use Rattle.liq_base.specs.Pieces.{SinkTold}
-use Rattle.clock_infer.specs.declared.clock_map.ClockMap.{ClockMap}
 use Rattle.frame_core.specs.Frames.{somes}
 use Rattle.frame_core.specs.Calls.{Call, puts_to}
-use Rattle.stream_meaning.specs.Instants.{Setting}
 use Rattle.run_records.specs.Buffers.{feeder, reader}
 use Rattle.run_records.specs.Owning.{IsOwn}
 use Rattle.clock_ticks.specs.declared.engine.ClockEngine.{ClockEngine}
+use Rattle.trace_replay.specs.declared.station.Sides.{Sides}
 use Rattle.trace_replay.specs.declared.told.Mark.{Mark}
 use Rattle.trace_replay.specs.Answering.{BufferState, SameBuffers, StandsFor}
-use Rattle.trace_replay.specs.Clocks.{AreAnswered, AreInOrder, AreWhole, Log}
+use Rattle.trace_replay.specs.Clocks.{AreAnswered, AreInOrder, AreWhole}
 use Rattle.trace_replay.specs.Marks.{AreWithin, HaveLetGo, HaveMarked, HaveResumed, mark_of, no_mark}
 use Rattle.trace_replay.specs.Passes.{HasCome, got_then, nothing, ticks_in}
-use Rattle.trace_replay.specs.Replaying.{HasPlayed, IsReplaying, MayPlay, MayReplay, score_over}
+use Rattle.trace_replay.specs.Replaying.{HasPlayed, IsReplaying, MayPlay, MayReplay, Tale, score_over}
 use Rattle.trace_replay.specs.Turns.{chunks_of, no_state}
 use Rattle.trace_replay.proofs.Resuming.{marks_within, of_resumed, stands_paused}
 use Rattle.trace_replay.proofs.Sequence.{calls_forced, same_come, whole_come}
 use Rattle.trace_replay.proofs.Thinning.{fills_resumed, full_let_go, full_resumed, have_resumed, long_resumed, unlost_resumed}
 use Rattle.trace_replay.proofs.Turned.{answered_by, come_to, order_by, own_made}
 
-module _ {S : Type 0} {told : S → SinkTold} {base : Setting} {clocks : ClockMap} {text : ℕ → Log} {W N : ℕ} {feeders readers : List ℕ} {m made n : ℕ} {first old : ClockEngine S} {marks : List Mark} {states : List BufferState}
-    (may : MayPlay told base clocks text W N feeders readers m made n first old marks states) where
+module _ {S : Type 0} {told : S → SinkTold} {tale : Tale} {sides : Sides} {m made n : ℕ} {first old : ClockEngine S} {marks : List Mark} {states : List BufferState}
+    (may : MayPlay told tale sides m made n first old marks states) where
   abbrev B : ℕ
-  B = length base.plan.buffers
+  B = length tale.base.plan.buffers
 
   long : length states ≡ B
   long = sym may.fills.many ∙ may.tell.many
@@ -35,16 +34,16 @@ module _ {S : Type 0} {told : S → SinkTold} {base : Setting} {clocks : ClockMa
   marks_fit opens after many same = may.rests.many ∙ sym many ∙ sym same.many
 
   -- what the resuming of the buffers asks
-  pub feeders_long : length feeders ≡ length states
-  feeders_long = may.sides.feeders_many ∙ sym long
+  pub feeders_long : length sides.feeders.items ≡ length states
+  feeders_long = may.ends.feeders_many ∙ sym long
 
-  pub readers_long : length readers ≡ length states
-  readers_long = may.sides.readers_many ∙ sym long
+  pub readers_long : length sides.readers.items ≡ length states
+  readers_long = may.ends.readers_many ∙ sym long
 
   pub marks_low : AreWithin states marks
   marks_low b d e low =
       let fill = may.fills.each b d low in
-      let all = marks_within base text feeders readers may.sides W N m made old.parts marks may.full may.rests.paused b d e (let many = may.fills.many in omega (arith, low, many)) in
+      let all = marks_within tale.base tale.text sides.feeders.items sides.readers.items may.ends tale.window tale.ticks m made old.parts marks may.full may.rests.paused b d e (let many = may.fills.many in omega (arith, low, many)) in
       let size = fill.many in
       let got = all.got in
       record {
@@ -53,22 +52,22 @@ module _ {S : Type 0} {told : S → SinkTold} {base : Setting} {clocks : ClockMa
         got = omega (arith, got, size);
       }
 
-  module _ {c : ℕ} (clock_is : c ≡ m) {f r : List ℕ} (feeders_are : f ≡ feeders) (readers_are : r ≡ readers) {k : List Mark} (marks_are : k ≡ marks) (opens : List BufferState) (many : length opens ≡ length states) (are : HaveResumed f r c k states opens) where
-    resumed_is : HaveResumed feeders readers m marks states opens
-    resumed_is = subst (λ (l : List Mark). HaveResumed feeders readers m l states opens) marks_are (subst (λ (l : List ℕ). HaveResumed feeders l m k states opens) readers_are
+  module _ {c : ℕ} (clock_is : c ≡ m) {f r : List ℕ} (feeders_are : f ≡ sides.feeders.items) (readers_are : r ≡ sides.readers.items) {k : List Mark} (marks_are : k ≡ marks) (opens : List BufferState) (many : length opens ≡ length states) (are : HaveResumed f r c k states opens) where
+    resumed_is : HaveResumed sides.feeders.items sides.readers.items m marks states opens
+    resumed_is = subst (λ (l : List Mark). HaveResumed sides.feeders.items sides.readers.items m l states opens) marks_are (subst (λ (l : List ℕ). HaveResumed sides.feeders.items l m k states opens) readers_are
         (subst (λ (l : List ℕ). HaveResumed l r m k states opens) feeders_are (subst (λ (j : ℕ). HaveResumed f r j k states opens) clock_is are)))
 
     abbrev full_open : List BufferState
-    full_open = full_resumed feeders readers m marks states opens may.full many resumed_is may.fills
+    full_open = full_resumed sides.feeders.items sides.readers.items m marks states opens may.full many resumed_is may.fills
 
-    full_are : HaveResumed feeders readers m marks may.full full_open
-    full_are = have_resumed feeders readers m marks states opens may.full many resumed_is may.fills
+    full_are : HaveResumed sides.feeders.items sides.readers.items m marks may.full full_open
+    full_are = have_resumed sides.feeders.items sides.readers.items m marks states opens may.full many resumed_is may.fills
 
     full_long : length full_open ≡ length may.full
-    full_long = long_resumed feeders readers m marks states opens may.full many resumed_is may.fills
+    full_long = long_resumed sides.feeders.items sides.readers.items m marks states opens may.full many resumed_is may.fills
 
     -- the run goes on
-    pub goes_on : IsReplaying told (score_over base clocks text may.full) N m made first old opens
+    pub goes_on : IsReplaying told (score_over tale may.full) tale.ticks m made first old opens
     goes_on = record {
       calls = may.rests.paused.calls;
       accepted = may.rests.paused.accepted;
@@ -77,56 +76,56 @@ module _ {S : Type 0} {told : S → SinkTold} {base : Setting} {clocks : ClockMa
       are = may.rests.paused.are;
       engine = may.rests.paused.engine;
       full = full_open;
-      fills = fills_resumed feeders readers m marks states opens may.full many resumed_is may.fills;
-      unlost = unlost_resumed feeders readers m marks states opens may.full many resumed_is may.fills may.rests.unlost;
+      fills = fills_resumed sides.feeders.items sides.readers.items m marks states opens may.full many resumed_is may.fills;
+      unlost = unlost_resumed sides.feeders.items sides.readers.items m marks states opens may.full many resumed_is may.fills may.rests.unlost;
       stand = λ b d low. (let within : b < length may.full = (let size = full_long in omega (arith, low, size)) in
           subst (λ (s : BufferState). StandsFor s b may.rests.paused.calls) (sym (full_are b d no_mark within)) (may.rests.paused.stand b d no_mark within));
-      of = of_resumed base text feeders readers may.sides m marks may.full full_open may.tell full_long full_are;
+      of = of_resumed tale.base tale.text sides.feeders.items sides.readers.items may.ends m marks may.full full_open may.tell full_long full_are;
       run = may.rests.run;
       rooms = may.rests.rooms;
     }
 
-    pub may_replay : MayReplay told (score_over base clocks text may.full) N m made n first old opens
+    pub may_replay : MayReplay told (score_over tale may.full) tale.ticks m made n first old opens
     may_replay = record {
       is = may.is;
       before = goes_on;
       on = may.on;
       within = may.come.within;
-      window = W;
+      window = tale.window;
       given = got_then may.come.calls nothing;
       taken = may.come.accepted;
       whole = may.come.replayed;
     }
 
     -- all ticks of the turn were made, and the engine rests again
-    module _ {new : ClockEngine S} {after : List BufferState} (same : SameBuffers opens after) (run : IsReplaying told (score_over base clocks text may.full) N m n first new after)
+    module _ {new : ClockEngine S} {after : List BufferState} (same : SameBuffers opens after) (run : IsReplaying told (score_over tale may.full) tale.ticks m n first new after)
         (marks_new : List Mark) (marks_many : length marks_new ≡ length marks) (marked : HaveMarked after marks_new) (left : List BufferState) (left_many : length left ≡ length after) (go : HaveLetGo after left) where
-      own : All (IsOwn base m) run.calls
-      own = own_made base clocks may.is m n run.accepted run.calls run.are
+      own : All (IsOwn tale.base m) run.calls
+      own = own_made tale.base tale.clocks may.is m n run.accepted run.calls run.are
 
-      answered_now : AreAnswered base text (chunks_of may.full) run.calls
-      answered_now = answered_by base text m (chunks_of may.full) run.full run.of run.calls run.stand own no_state
+      answered_now : AreAnswered tale.base tale.text (chunks_of may.full) run.calls
+      answered_now = answered_by tale.base tale.text m (chunks_of may.full) run.full run.of run.calls run.stand own no_state
 
-      order_now : AreInOrder base run.calls
-      order_now = order_by base text m (chunks_of may.full) run.full run.of run.calls run.stand own no_state
+      order_now : AreInOrder tale.base run.calls
+      order_now = order_by tale.base tale.text m (chunks_of may.full) run.full run.of run.calls run.stand own no_state
 
-      whole_now : AreWhole base text W N m n (λ t. ticks_in base run.accepted run.calls m t)
-      whole_now = whole_come base clocks may.is W N text m n (chunks_of may.full) may.next may.come run.calls run.accepted run.are answered_now order_now
+      whole_now : AreWhole tale.base tale.text tale.window tale.ticks m n (λ t. ticks_in tale.base run.accepted run.calls m t)
+      whole_now = whole_come tale.base tale.clocks may.is tale.window tale.ticks tale.text m n (chunks_of may.full) may.next may.come run.calls run.accepted run.are answered_now order_now
 
-      come_now : HasCome base W N text m n (chunks_of may.full) (chunks_of run.full)
-      come_now = come_to base clocks may.is text W N m n may.come.within (chunks_of may.full) run.full run.of run.calls run.accepted run.are run.stand whole_now
+      come_now : HasCome tale.base tale.window tale.ticks tale.text m n (chunks_of may.full) (chunks_of run.full)
+      come_now = come_to tale.base tale.clocks may.is tale.text tale.window tale.ticks m n may.come.within (chunks_of may.full) run.full run.of run.calls run.accepted run.are run.stand whole_now
 
       calls_same : run.calls ≡ may.come.calls
-      calls_same = same_come base clocks may.is W N text m n (chunks_of may.full) may.next may.come run.calls run.accepted run.are answered_now order_now
+      calls_same = same_come tale.base tale.clocks may.is tale.window tale.ticks tale.text m n (chunks_of may.full) may.next may.come run.calls run.accepted run.are answered_now order_now
 
       chunks_same : (b : ℕ) → b < B → chunks_of run.full b ≡ may.next b
-      chunks_same b known = elim (cases_eq (feeder base b) m) [
+      chunks_same b known = elim (cases_eq (feeder tale.base b) m) [
         | inl fed ↦ come_now.fed b known fed ∙ ap (λ (l : List Call). somes (puts_to b l)) (come_calls ∙ calls_same) ∙ sym (may.come.fed b known fed)
         | inr other ↦ come_now.kept b known other ∙ sym (may.come.kept b known other)
       ]
         where
           come_calls : come_now.calls ≡ run.calls
-          come_calls = sym (same_come base clocks may.is W N text m n (chunks_of may.full) (chunks_of run.full) come_now run.calls run.accepted run.are answered_now order_now)
+          come_calls = sym (same_come tale.base tale.clocks may.is tale.window tale.ticks tale.text m n (chunks_of may.full) (chunks_of run.full) come_now run.calls run.accepted run.are answered_now order_now)
 
       full_marked : HaveMarked run.full marks_new
       full_marked b d e low =
@@ -139,10 +138,10 @@ module _ {S : Type 0} {told : S → SinkTold} {base : Setting} {clocks : ClockMa
       known_of : (b : ℕ) → b < length left → b < B
       known_of b low = (let one = left_many in let two = after_long in let three = long in omega (arith, low, one, two, three))
 
-      reader_is : (b j : ℕ) → b < B → slice_index_or readers b 0 ≡ j → reader base b ≡ j
-      reader_is b j known e = sym (may.sides.read b known) ∙ e
+      reader_is : (b j : ℕ) → b < B → slice_index_or sides.readers.items b 0 ≡ j → reader tale.base b ≡ j
+      reader_is b j known e = sym (may.ends.read b known) ∙ e
 
-      pub has_played : HasPlayed told base clocks.running text W N feeders readers m n first new marks_new may.full states left may.next
+      pub has_played : HasPlayed told tale sides m n first new marks_new may.full states left may.next
       has_played = record {
         full = run.full;
         fills = full_let_go after left run.full left_many go run.fills;
@@ -158,9 +157,9 @@ module _ {S : Type 0} {told : S → SinkTold} {base : Setting} {clocks : ClockMa
             are = run.are;
             engine = run.engine;
             whole = whole_now;
-            stand = stands_paused base text feeders readers may.sides clocks may.is m n (chunks_of may.full) run.calls run.accepted run.are marks_new run.full run.of run.stand full_marked;
+            stand = stands_paused tale.base tale.text sides.feeders.items sides.readers.items may.ends tale.clocks may.is m n (chunks_of may.full) run.calls run.accepted run.are marks_new run.full run.of run.stand full_marked;
           };
-          forced = λ record_run lawful is_told. calls_forced base clocks may.is W N text may.ticks (chunks_of may.full) may.at m n may.runs may.come.within run.calls run.accepted run.are answered_now order_now record_run lawful is_told;
+          forced = λ record_run lawful is_told. calls_forced tale.base tale.clocks may.is tale.window tale.ticks tale.text may.ticks (chunks_of may.full) may.at m n may.runs may.come.within run.calls run.accepted run.are answered_now order_now record_run lawful is_told;
           run = run.run;
           rooms = run.rooms;
           unlost = λ b d e low read.

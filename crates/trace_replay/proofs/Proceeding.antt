@@ -4,12 +4,10 @@ use mathlib.Core.Path.{fun_ext}
 use Rattle.std.proofs.lemmas.List.{get_or_default}
 use Rattle.std.proofs.lemmas.Option.{slice_get_within, slice_get-get_or as read}
 use Rattle.liq_base.specs.Pieces.{SinkTold}
-use Rattle.clock_infer.specs.declared.clock_map.ClockMap.{ClockMap}
 use Rattle.clock_infer.proofs.Exact.{some_inj}
 use Rattle.clock_outputs.proofs.Places.{same_or_other}
 use Rattle.frame_core.specs.declared.cell.Cell.{Cell}
 use Rattle.frame_core.specs.Calls.{Call}
-use Rattle.stream_meaning.specs.Instants.{Setting}
 use Rattle.stream_meaning.specs.Settings.{IsSetting}
 use Rattle.run_records.specs.Records.{AreWindows, Run, setting_in}
 use Rattle.clock_ticks.specs.declared.engine.ClockEngine.{ClockEngine}
@@ -20,13 +18,14 @@ use Rattle.rounds_run.specs.Runs.{HasRunTicks, HaveRunTicks}
 use Rattle.rounds_run.proofs.Going.{run_none}
 use Rattle.trace_replay.specs.declared.course.TurnMade.{TurnMade}
 use Rattle.trace_replay.specs.declared.engines.Rest.{Rest}
+use Rattle.trace_replay.specs.declared.station.Sides.{Sides}
 use Rattle.trace_replay.specs.declared.told.Mark.{Mark}
 use Rattle.trace_replay.specs.Answering.{BufferState, StandsFor}
-use Rattle.trace_replay.specs.Clocks.{AreAnswered, AreInOrder, IsFront, Log}
+use Rattle.trace_replay.specs.Clocks.{AreAnswered, AreInOrder, IsFront}
 use Rattle.trace_replay.specs.Marks.{resumed}
 use Rattle.trace_replay.specs.Orders.{AreTurns, IsTurn, made_then, no_chunks, no_ticks}
 use Rattle.trace_replay.specs.Passes.{AreAt, HasCome, IsFormed, IsTold, got_then, nothing}
-use Rattle.trace_replay.specs.Replaying.{AreNewRests, ArePlaying, HasPlayed, IsBrokenOff, IsNewRest, IsResting, MayPlay, score_over}
+use Rattle.trace_replay.specs.Replaying.{AreNewRests, ArePlaying, HasPlayed, IsBrokenOff, IsNewRest, IsResting, MayPlay, Tale, score_over}
 use Rattle.trace_replay.specs.Thin.{AreKept}
 use Rattle.trace_replay.specs.Turns.{AreSides, AreTold, chunks_of, no_state}
 use Rattle.trace_replay.proofs.Completing.{begun}
@@ -50,9 +49,9 @@ drop_here (y ∷ xs) zero x e = (let same : y ≡ x = some_inj e in ap (λ z. z 
 drop_here (y ∷ xs) (suc i) x e = drop_here xs i x e
 
 -- before the first turn
-module _ {S : Type 0} (told : S → SinkTold) (base : Setting) (clocks : ClockMap) (is : IsSetting base clocks) (text : ℕ → Log) (W N : ℕ) (feeders readers : List ℕ) where
-  module _ (formed : IsFormed (length base.plan.buffers) W N text) (states : List BufferState) (tell : AreTold base text states) (empty : (b : ℕ) → chunks_of states b ≡ []) (kept : AreKept states) where
-    rests_first : (k : ℕ) (engine : ClockEngine S) (rest : Rest) → MayRun told N engine → setting_of engine.parts ≡ base → engine.parts.clock ≡ k → IsNewRest (length states) rest → IsResting told base clocks.running text W N feeders readers k 0 engine engine rest.marks.items states states
+module _ {S : Type 0} (told : S → SinkTold) (tale : Tale) (is : IsSetting tale.base tale.clocks) (sides : Sides) where
+  module _ (formed : IsFormed (length tale.base.plan.buffers) tale.window tale.ticks tale.text) (states : List BufferState) (tell : AreTold tale.base tale.text states) (empty : (b : ℕ) → chunks_of states b ≡ []) (kept : AreKept states) where
+    rests_first : (k : ℕ) (engine : ClockEngine S) (rest : Rest) → MayRun told tale.ticks engine → setting_of engine.parts ≡ tale.base → engine.parts.clock ≡ k → IsNewRest (length states) rest → IsResting told tale sides k 0 engine engine rest.marks.items states states
     rests_first k engine rest may over number new = record {
       paused = record {
         calls = [];
@@ -61,83 +60,83 @@ module _ {S : Type 0} (told : S → SinkTold) (base : Setting) (clocks : ClockMa
         clock = number;
         are = λ rest. refl;
         engine = may.fresh;
-        whole = whole_none base text W N k formed;
-        stand = λ b d e low. subst (λ (mark : Mark). StandsFor (resumed (slice_index_or states b d) (nat_eq (slice_index_or feeders b 0) k) (nat_eq (slice_index_or readers b 0) k) mark) b []) (sym (new.none b e low))
-            (stands_empty (slice_index_or states b d) (nat_eq (slice_index_or feeders b 0) k) (nat_eq (slice_index_or readers b 0) k) b (ap (λ (s : BufferState). s.chunks) (get_or_default states b d no_state low) ∙ empty b));
+        whole = whole_none tale.base tale.text tale.window tale.ticks k formed;
+        stand = λ b d e low. subst (λ (mark : Mark). StandsFor (resumed (slice_index_or states b d) (nat_eq (slice_index_or sides.feeders.items b 0) k) (nat_eq (slice_index_or sides.readers.items b 0) k) mark) b []) (sym (new.none b e low))
+            (stands_empty (slice_index_or states b d) (nat_eq (slice_index_or sides.feeders.items b 0) k) (nat_eq (slice_index_or sides.readers.items b 0) k) b (ap (λ (s : BufferState). s.chunks) (get_or_default states b d no_state low) ∙ empty b));
       };
       forced = λ run lawful is_told. refl;
-      run = run_none told N engine may;
+      run = run_none told tale.ticks engine may;
       rooms = λ left e. subst (HaveTicksRoom told engine.parts engine.outs) (sym e ∙ (let z : 0 + left ≡ left = omega arith in z)) may.rooms;
       unlost = λ b d e low read. (let none = kept b d low in omega (arith, none));
       many = new.many;
     }
 
-    pub begin_playing : (engines : List (ClockEngine S)) (rests : List Rest) (turns : List TurnMade) → AreEngines told N base engines → AreNewRests (length engines) (length states) rests
-        → AreTurns base clocks.running W N text turns no_ticks no_chunks → ArePlaying told base clocks text W N feeders readers turns engines engines rests states
+    pub begin_playing : (engines : List (ClockEngine S)) (rests : List Rest) (turns : List TurnMade) → AreEngines told tale.ticks tale.base engines → AreNewRests (length engines) (length states) rests
+        → AreTurns tale.base tale.clocks.running tale.window tale.ticks tale.text turns no_ticks no_chunks → ArePlaying told tale sides turns engines engines rests states
     begin_playing engines rests turns are new left = record {
       full = states;
       fills = full_kept states kept;
       tell = tell;
       made = no_ticks;
       few = λ k. omega arith;
-      at = subst (AreAt base clocks.running W N text no_ticks) (fun_ext (λ b. sym (empty b))) (begun base clocks is W N text formed);
-      left = turns_fit base clocks.running W N text turns no_ticks no_chunks (chunks_of states) (λ b known. empty b) left;
+      at = subst (AreAt tale.base tale.clocks.running tale.window tale.ticks tale.text no_ticks) (fun_ext (λ b. sym (empty b))) (begun tale.base tale.clocks is tale.window tale.ticks tale.text formed);
+      left = turns_fit tale.base tale.clocks.running tale.window tale.ticks tale.text turns no_ticks no_chunks (chunks_of states) (λ b known. empty b) left;
       size = refl;
       long = new.size;
       counts = λ k rest at. (new.each k rest at).made;
-      each = λ k before after rest was is_now at. subst (λ (x : ClockEngine S). IsResting told base clocks.running text W N feeders readers k 0 before x rest.marks.items states states) (some_inj (sym was ∙ is_now))
+      each = λ k before after rest was is_now at. subst (λ (x : ClockEngine S). IsResting told tale sides k 0 before x rest.marks.items states states) (some_inj (sym was ∙ is_now))
           (rests_first k before rest (are.each k before was) (are.over k before was) (are.in_order k before was) (new.each k rest at));
     }
 
 -- the next turn of a list
-pub at_hand : {S : Type 0} {told : S → SinkTold} {base : Setting} {clocks : ClockMap} {text : ℕ → Log} {W N : ℕ} {feeders readers : List ℕ} (all : List TurnMade) {first now : List (ClockEngine S)} {rests : List Rest} {states : List BufferState} (i : ℕ) {turn : TurnMade} → i < length all → turn ≡ get_or all i turn
-    → ArePlaying told base clocks text W N feeders readers (drop i all) first now rests states → ArePlaying told base clocks text W N feeders readers (turn ∷ drop (suc i) all) first now rests states
-at_hand {S} {told} {base} {clocks} {text} {W} {N} {feeders} {readers} all {first} {now} {rests} {states} i {turn} low here playing =
-    subst (λ (l : List TurnMade). ArePlaying told base clocks text W N feeders readers l first now rests states) (drop_here all i turn (read all i turn low ∙ ap (λ (t : TurnMade). Some t) (sym here))) playing
+pub at_hand : {S : Type 0} {told : S → SinkTold} {tale : Tale} {sides : Sides} (all : List TurnMade) {first now : List (ClockEngine S)} {rests : List Rest} {states : List BufferState} (i : ℕ) {turn : TurnMade} → i < length all → turn ≡ get_or all i turn
+    → ArePlaying told tale sides (drop i all) first now rests states → ArePlaying told tale sides (turn ∷ drop (suc i) all) first now rests states
+at_hand {S} {told} {tale} {sides} all {first} {now} {rests} {states} i {turn} low here playing =
+    subst (λ (l : List TurnMade). ArePlaying told tale sides l first now rests states) (drop_here all i turn (read all i turn low ∙ ap (λ (t : TurnMade). Some t) (sym here))) playing
 
 -- the engines beside the record that is told
-module _ {S : Type 0} {told : S → SinkTold} {base : Setting} {clocks : ClockMap} {text : ℕ → Log} {W N : ℕ} {feeders readers : List ℕ} {turns : List TurnMade} {first now : List (ClockEngine S)} {rests : List Rest} {states : List BufferState}
-    (playing : ArePlaying told base clocks text W N feeders readers turns first now rests states) (is : IsSetting base clocks) (are : AreEngines told N base first) (all : length first ≡ clocks.running) where
-  module _ (run : Run) (lawful : AreWindows base clocks.running W N run) (told_is : IsTold base text run) where
+module _ {S : Type 0} {told : S → SinkTold} {tale : Tale} {sides : Sides} {turns : List TurnMade} {first now : List (ClockEngine S)} {rests : List Rest} {states : List BufferState}
+    (playing : ArePlaying told tale sides turns first now rests states) (is : IsSetting tale.base tale.clocks) (are : AreEngines told tale.ticks tale.base first) (all : length first ≡ tale.clocks.running) where
+  module _ (run : Run) (lawful : AreWindows tale.base tale.clocks.running tale.window tale.ticks run) (told_is : IsTold tale.base tale.text run) where
     module _ (k : ℕ) {before after : ClockEngine S} (was : slice_get first k ≡ Some before) (is_now : slice_get now k ≡ Some after) where
-      low : k < clocks.running
+      low : k < tale.clocks.running
       low = let within = slice_get_within first k before was in omega (arith, within, all)
 
       rest_at : (rest : Rest) × (slice_get rests k ≡ Some rest)
       rest_at = let within = slice_get_within first k before was in let long = playing.long in there rests k (omega (arith, within, long))
 
-      resting : IsResting told base clocks.running text W N feeders readers k (playing.made k) before after rest_at.0.marks.items playing.full states
+      resting : IsResting told tale sides k (playing.made k) before after rest_at.0.marks.items playing.full states
       resting = playing.each k before after rest_at.0 was is_now rest_at.1
 
-      front : IsFront resting.paused.calls (record_calls base clocks is text W N run lawful told_is k low N)
-      front = subst (λ (l : List Call). IsFront l (record_calls base clocks is text W N run lawful told_is k low N)) (sym (resting.forced run lawful told_is))
-          (record_front base clocks is text W N run lawful told_is k low (playing.made k) (playing.few k))
+      front : IsFront resting.paused.calls (record_calls tale.base tale.clocks is tale.text tale.window tale.ticks run lawful told_is k low tale.ticks)
+      front = subst (λ (l : List Call). IsFront l (record_calls tale.base tale.clocks is tale.text tale.window tale.ticks run lawful told_is k low tale.ticks)) (sym (resting.forced run lawful told_is))
+          (record_front tale.base tale.clocks is tale.text tale.window tale.ticks run lawful told_is k low (playing.made k) (playing.few k))
 
-      pub part_now : HasRunPart told (λ rest. setting_in base run) (playing.made k) (playing.made k) before after
-      part_now = ticks_part base clocks is text W N run lawful told_is k low resting.paused.calls front told before after (are.over k before was) (playing.made k) resting.run
+      pub part_now : HasRunPart told (λ rest. setting_in tale.base run) (playing.made k) (playing.made k) before after
+      part_now = ticks_part tale.base tale.clocks is tale.text tale.window tale.ticks run lawful told_is k low resting.paused.calls front told before after (are.over k before was) (playing.made k) resting.run
 
-      ticks_now : playing.made k ≡ N → HasRunTicks told (setting_in base run) N before after
-      ticks_now e = subst (λ (n : ℕ). HasRunTicks told (setting_in base run) n before after) e
-          (ticks_match base clocks is text W N run lawful told_is k low resting.paused.calls front told before after (are.over k before was) (playing.made k) resting.run)
+      ticks_now : playing.made k ≡ tale.ticks → HasRunTicks told (setting_in tale.base run) tale.ticks before after
+      ticks_now e = subst (λ (n : ℕ). HasRunTicks told (setting_in tale.base run) n before after) e
+          (ticks_match tale.base tale.clocks is tale.text tale.window tale.ticks run lawful told_is k low resting.paused.calls front told before after (are.over k before was) (playing.made k) resting.run)
 
     -- where no turn is left
-    pub all_played : ((k : ℕ) → k < clocks.running → playing.made k ≡ N) → HaveRunTicks told (setting_in base run) N first now
+    pub all_played : ((k : ℕ) → k < tale.clocks.running → playing.made k ≡ tale.ticks) → HaveRunTicks told (setting_in tale.base run) tale.ticks first now
     all_played full = record {
       size = playing.size;
       each = λ k before after was is_now. ticks_now k was is_now (full k (low k was is_now));
     }
 
 -- a turn
-module _ {S : Type 0} {told : S → SinkTold} {base : Setting} {clocks : ClockMap} {text : ℕ → Log} {W N : ℕ} {feeders readers : List ℕ} {turn : TurnMade} {turns : List TurnMade} {first now : List (ClockEngine S)} {rests : List Rest} {states : List BufferState}
-    (playing : ArePlaying told base clocks text W N feeders readers (turn ∷ turns) first now rests states) (is : IsSetting base clocks) (sides : AreSides base feeders readers)
+module _ {S : Type 0} {told : S → SinkTold} {tale : Tale} {sides : Sides} {turn : TurnMade} {turns : List TurnMade} {first now : List (ClockEngine S)} {rests : List Rest} {states : List BufferState}
+    (playing : ArePlaying told tale sides (turn ∷ turns) first now rests states) (is : IsSetting tale.base tale.clocks) (lie : AreSides tale.base sides.feeders.items sides.readers.items)
     {before old : ClockEngine S} {rest : Rest} (was : slice_get first turn.clock ≡ Some before) (here : slice_get now turn.clock ≡ Some old) (at_rest : slice_get rests turn.clock ≡ Some rest) where
   abbrev pub next : ℕ → List (List Cell)
   next = playing.left.0
 
-  abbrev pub it : IsTurn base clocks.running W N text turn playing.made (chunks_of playing.full) next
+  abbrev pub it : IsTurn tale.base tale.clocks.running tale.window tale.ticks tale.text turn playing.made (chunks_of playing.full) next
   it = playing.left.1
 
-  pub here_rests : IsResting told base clocks.running text W N feeders readers turn.clock (playing.made turn.clock) before old rest.marks.items playing.full states
+  pub here_rests : IsResting told tale sides turn.clock (playing.made turn.clock) before old rest.marks.items playing.full states
   here_rests = playing.each turn.clock before old rest was here at_rest
 
   pub number : old.parts.clock ≡ turn.clock
@@ -146,29 +145,29 @@ module _ {S : Type 0} {told : S → SinkTold} {base : Setting} {clocks : ClockMa
   pub count : rest.made ≡ playing.made turn.clock
   count = playing.counts turn.clock rest at_rest
 
-  abbrev pub may_play : MayPlay told base clocks text W N feeders readers old.parts.clock rest.made turn.ticks before old rest.marks.items states
+  abbrev pub may_play : MayPlay told tale sides old.parts.clock rest.made turn.ticks before old rest.marks.items states
   may_play = record {
     is = is;
-    sides = sides;
-    runs = subst (λ (k : ℕ). k < clocks.running) (sym number) it.runs;
+    ends = lie;
+    runs = subst (λ (k : ℕ). k < tale.clocks.running) (sym number) it.runs;
     full = playing.full;
     fills = playing.fills;
     tell = playing.tell;
     ticks = playing.made;
     at = playing.at;
-    rests = subst (λ (k : ℕ). IsResting told base clocks.running text W N feeders readers k rest.made before old rest.marks.items playing.full states) (sym number)
-        (subst (λ (n : ℕ). IsResting told base clocks.running text W N feeders readers turn.clock n before old rest.marks.items playing.full states) (sym count) here_rests);
+    rests = subst (λ (k : ℕ). IsResting told tale sides k rest.made before old rest.marks.items playing.full states) (sym number)
+        (subst (λ (n : ℕ). IsResting told tale sides turn.clock n before old rest.marks.items playing.full states) (sym count) here_rests);
     on = subst (λ (n : ℕ). n ≤ turn.ticks) (sym count) it.on;
     next = next;
-    come = subst (λ (k : ℕ). HasCome base W N text k turn.ticks (chunks_of playing.full) next) (sym number) it.come;
+    come = subst (λ (k : ℕ). HasCome tale.base tale.window tale.ticks tale.text k turn.ticks (chunks_of playing.full) next) (sym number) it.come;
   }
 
   -- it was made
   module _ {new : ClockEngine S} {rest_new : Rest} (made_is : rest_new.made ≡ turn.ticks) {others : List BufferState}
-      (has_played : HasPlayed told base clocks.running text W N feeders readers old.parts.clock turn.ticks before new rest_new.marks.items playing.full states others next)
+      (has_played : HasPlayed told tale sides old.parts.clock turn.ticks before new rest_new.marks.items playing.full states others next)
       {after : List (ClockEngine S)} (changed : IsChanged turn.clock new now after) {rests_after : List Rest} (rests_changed : IsChanged turn.clock rest_new rests rests_after) where
-    played : HasPlayed told base clocks.running text W N feeders readers turn.clock turn.ticks before new rest_new.marks.items playing.full states others next
-    played = subst (λ (k : ℕ). HasPlayed told base clocks.running text W N feeders readers k turn.ticks before new rest_new.marks.items playing.full states others next) number has_played
+    played : HasPlayed told tale sides turn.clock turn.ticks before new rest_new.marks.items playing.full states others next
+    played = subst (λ (k : ℕ). HasPlayed told tale sides k turn.ticks before new rest_new.marks.items playing.full states others next) number has_played
 
     abbrev made_now : ℕ → ℕ
     made_now = made_then turn playing.made
@@ -183,7 +182,7 @@ module _ {S : Type 0} {told : S → SinkTold} {base : Setting} {clocks : ClockMa
     states_long = sym played.fills.many ∙ played.tell.many ∙ sym playing.tell.many ∙ playing.fills.many
 
     -- the other engines rest on
-    rests_on : (k : ℕ) (one two : ClockEngine S) (marks : List Mark) → (turn.clock ≡ k → ⊥) → IsResting told base clocks.running text W N feeders readers k (playing.made k) one two marks playing.full states → IsResting told base clocks.running text W N feeders readers k (playing.made k) one two marks played.full others
+    rests_on : (k : ℕ) (one two : ClockEngine S) (marks : List Mark) → (turn.clock ≡ k → ⊥) → IsResting told tale sides k (playing.made k) one two marks playing.full states → IsResting told tale sides k (playing.made k) one two marks played.full others
     rests_on k one two marks other r = record {
       paused = record {
         calls = r.paused.calls;
@@ -193,8 +192,8 @@ module _ {S : Type 0} {told : S → SinkTold} {base : Setting} {clocks : ClockMa
         are = r.paused.are;
         engine = r.paused.engine;
         whole = r.paused.whole;
-        stand = stands_on base text feeders readers sides W N turn.clock k turn.ticks r.paused.calls marks playing.full played.full playing.tell played.tell played.come
-            (λ b known. chunks_stay base clocks is W N text playing.made (chunks_of playing.full) playing.at turn.clock it.runs turn.ticks it.on (chunks_of played.full) played.come b known) (λ e. other (sym e)) r.paused.stand;
+        stand = stands_on tale.base tale.text sides.feeders.items sides.readers.items lie tale.window tale.ticks turn.clock k turn.ticks r.paused.calls marks playing.full played.full playing.tell played.tell played.come
+            (λ b known. chunks_stay tale.base tale.clocks is tale.window tale.ticks tale.text playing.made (chunks_of playing.full) playing.at turn.clock it.runs turn.ticks it.on (chunks_of played.full) played.come b known) (λ e. other (sym e)) r.paused.stand;
       };
       forced = r.forced;
       run = r.run;
@@ -203,7 +202,7 @@ module _ {S : Type 0} {told : S → SinkTold} {base : Setting} {clocks : ClockMa
       many = r.many ∙ sym states_long;
     }
 
-    pub plays_on : ArePlaying told base clocks text W N feeders readers turns first after rests_after others
+    pub plays_on : ArePlaying told tale sides turns first after rests_after others
     plays_on = record {
       full = played.full;
       fills = played.fills;
@@ -213,8 +212,8 @@ module _ {S : Type 0} {told : S → SinkTold} {base : Setting} {clocks : ClockMa
         | inl e ↦ (let now_is = made_here k e in let most = it.come.within in omega (arith, now_is, most))
         | inr other ↦ (let now_is = made_other k other in let most = playing.few k in omega (arith, now_is, most))
       ];
-      at = turned base clocks is W N text playing.made (chunks_of playing.full) playing.at turn.clock it.runs turn.ticks it.on (chunks_of played.full) played.come;
-      left = turns_fit base clocks.running W N text turns made_now next (chunks_of played.full) played.same playing.left.2;
+      at = turned tale.base tale.clocks is tale.window tale.ticks tale.text playing.made (chunks_of playing.full) playing.at turn.clock it.runs turn.ticks it.on (chunks_of played.full) played.come;
+      left = turns_fit tale.base tale.clocks.running tale.window tale.ticks tale.text turns made_now next (chunks_of played.full) played.same playing.left.2;
       size = changed.size ∙ playing.size;
       long = rests_changed.size ∙ playing.long;
       counts = λ k rest at. elim (same_or_other turn.clock k) [
@@ -225,36 +224,36 @@ module _ {S : Type 0} {told : S → SinkTold} {base : Setting} {clocks : ClockMa
         | inl e ↦ (let engine_is : new ≡ two = some_inj (sym changed.here ∙ ap (slice_get after) e ∙ is_at) in
             let first_is : before ≡ one = some_inj (sym was ∙ ap (slice_get first) e ∙ was_at) in
             let rest_is : rest_new ≡ rest = some_inj (sym rests_changed.here ∙ ap (slice_get rests_after) e ∙ at) in
-            subst (λ (n : ℕ). IsResting told base clocks.running text W N feeders readers k n one two rest.marks.items played.full others) (sym (made_here k e))
-            (subst (λ (j : ℕ). IsResting told base clocks.running text W N feeders readers j turn.ticks one two rest.marks.items played.full others) e
-            (subst (λ (x : ClockEngine S). IsResting told base clocks.running text W N feeders readers turn.clock turn.ticks x two rest.marks.items played.full others) first_is
-            (subst (λ (x : ClockEngine S). IsResting told base clocks.running text W N feeders readers turn.clock turn.ticks before x rest.marks.items played.full others) engine_is
-            (subst (λ (r : Rest). IsResting told base clocks.running text W N feeders readers turn.clock turn.ticks before new r.marks.items played.full others) rest_is played.rests)))))
-        | inr other ↦ subst (λ (n : ℕ). IsResting told base clocks.running text W N feeders readers k n one two rest.marks.items played.full others) (sym (made_other k other))
+            subst (λ (n : ℕ). IsResting told tale sides k n one two rest.marks.items played.full others) (sym (made_here k e))
+            (subst (λ (j : ℕ). IsResting told tale sides j turn.ticks one two rest.marks.items played.full others) e
+            (subst (λ (x : ClockEngine S). IsResting told tale sides turn.clock turn.ticks x two rest.marks.items played.full others) first_is
+            (subst (λ (x : ClockEngine S). IsResting told tale sides turn.clock turn.ticks before x rest.marks.items played.full others) engine_is
+            (subst (λ (r : Rest). IsResting told tale sides turn.clock turn.ticks before new r.marks.items played.full others) rest_is played.rests)))))
+        | inr other ↦ subst (λ (n : ℕ). IsResting told tale sides k n one two rest.marks.items played.full others) (sym (made_other k other))
             (rests_on k one two rest.marks.items other (playing.each k one two rest was_at (sym (changed.other k other) ∙ is_at) (sym (rests_changed.other k other) ∙ at)))
       ];
     }
 
   -- a fault ended it
-  module _ {new : ClockEngine S} (has_broken : IsBrokenOff told (score_over base clocks text playing.full) N old.parts.clock turn.ticks before new) (over : setting_of before.parts ≡ base) where
-    abbrev pub broken : IsBrokenOff told (score_over base clocks text playing.full) N turn.clock turn.ticks before new
-    broken = subst (λ (k : ℕ). IsBrokenOff told (score_over base clocks text playing.full) N k turn.ticks before new) number has_broken
+  module _ {new : ClockEngine S} (has_broken : IsBrokenOff told (score_over tale playing.full) tale.ticks old.parts.clock turn.ticks before new) (over : setting_of before.parts ≡ tale.base) where
+    abbrev pub broken : IsBrokenOff told (score_over tale playing.full) tale.ticks turn.clock turn.ticks before new
+    broken = subst (λ (k : ℕ). IsBrokenOff told (score_over tale playing.full) tale.ticks k turn.ticks before new) number has_broken
 
     abbrev pub broken_tick : ℕ
     broken_tick = broken.tick
 
-    pub broken_low : broken_tick < N
+    pub broken_low : broken_tick < tale.ticks
     broken_low = let low = broken.low in let most = it.come.within in omega (arith, low, most)
 
-    module _ (run : Run) (lawful : AreWindows base clocks.running W N run) (told_is : IsTold base text run) where
-      come_forced : it.come.calls ≡ record_calls base clocks is text W N run lawful told_is turn.clock it.runs turn.ticks
-      come_forced = calls_forced base clocks is W N text playing.made (chunks_of playing.full) playing.at turn.clock turn.ticks it.runs it.come.within it.come.calls it.come.accepted it.come.are
-          (subst (AreAnswered base text (chunks_of playing.full)) (sym (it.come.are nothing)) it.come.replayed.answered_so) (subst (AreInOrder base) (sym (it.come.are nothing)) it.come.replayed.in_order) run lawful told_is
+    module _ (run : Run) (lawful : AreWindows tale.base tale.clocks.running tale.window tale.ticks run) (told_is : IsTold tale.base tale.text run) where
+      come_forced : it.come.calls ≡ record_calls tale.base tale.clocks is tale.text tale.window tale.ticks run lawful told_is turn.clock it.runs turn.ticks
+      come_forced = calls_forced tale.base tale.clocks is tale.window tale.ticks tale.text playing.made (chunks_of playing.full) playing.at turn.clock turn.ticks it.runs it.come.within it.come.calls it.come.accepted it.come.are
+          (subst (AreAnswered tale.base tale.text (chunks_of playing.full)) (sym (it.come.are nothing)) it.come.replayed.answered_so) (subst (AreInOrder tale.base) (sym (it.come.are nothing)) it.come.replayed.in_order) run lawful told_is
 
-      front_broken : IsFront (broken.calls ++ broken.made) (record_calls base clocks is text W N run lawful told_is turn.clock it.runs N)
-      front_broken = front_front (broken.calls ++ broken.made) (record_calls base clocks is text W N run lawful told_is turn.clock it.runs turn.ticks) (record_calls base clocks is text W N run lawful told_is turn.clock it.runs N)
-          (subst (IsFront (broken.calls ++ broken.made)) (sym (it.come.are nothing) ∙ come_forced) (broken.front W (got_then it.come.calls nothing) it.come.accepted it.come.replayed))
-          (record_front base clocks is text W N run lawful told_is turn.clock it.runs turn.ticks it.come.within)
+      front_broken : IsFront (broken.calls ++ broken.made) (record_calls tale.base tale.clocks is tale.text tale.window tale.ticks run lawful told_is turn.clock it.runs tale.ticks)
+      front_broken = front_front (broken.calls ++ broken.made) (record_calls tale.base tale.clocks is tale.text tale.window tale.ticks run lawful told_is turn.clock it.runs turn.ticks) (record_calls tale.base tale.clocks is tale.text tale.window tale.ticks run lawful told_is turn.clock it.runs tale.ticks)
+          (subst (IsFront (broken.calls ++ broken.made)) (sym (it.come.are nothing) ∙ come_forced) (broken.front tale.window (got_then it.come.calls nothing) it.come.accepted it.come.replayed))
+          (record_front tale.base tale.clocks is tale.text tale.window tale.ticks run lawful told_is turn.clock it.runs turn.ticks it.come.within)
 
-      pub part_broken : HasRunPart told (λ rest. setting_in base run) broken_tick (suc broken_tick) before new
-      part_broken = part_matches base clocks is text W N run lawful told_is turn.clock it.runs (broken.calls ++ broken.made) front_broken told before new over broken.tick (suc broken.tick) broken.part
+      pub part_broken : HasRunPart told (λ rest. setting_in tale.base run) broken_tick (suc broken_tick) before new
+      part_broken = part_matches tale.base tale.clocks is tale.text tale.window tale.ticks run lawful told_is turn.clock it.runs (broken.calls ++ broken.made) front_broken told before new over broken.tick (suc broken.tick) broken.part

@@ -7,6 +7,7 @@ use Rattle.clock_infer.specs.declared.clock_map.ClockMap.{ClockMap}
 use Rattle.stream_meaning.specs.Instants.{Setting, answered}
 use Rattle.stream_meaning.specs.Calls.{answers_in}
 use Rattle.stream_meaning.specs.Settings.{IsSetting}
+use Rattle.trace_log.specs.Values.{TraceValue}
 use Rattle.run_records.specs.Outputs.{first_calls}
 use Rattle.run_records.specs.Records.{AreWindows, Run, answers_of}
 use Rattle.clock_ticks.specs.Pieces.{RoseAt}
@@ -16,14 +17,18 @@ use Rattle.clock_ticks.specs.Ticks.{HaveTicksRoom}
 use Rattle.rounds_run.specs.Rounds.{HasRunPart, HasRunTurns, world}
 use Rattle.trace_replay.specs.declared.course.TurnMade.{TurnMade}
 use Rattle.trace_replay.specs.declared.engines.Rest.{Rest}
+use Rattle.trace_replay.specs.declared.station.Sides.{Sides}
+use Rattle.trace_replay.specs.declared.station.Station.{Station}
 use Rattle.trace_replay.specs.declared.told.Mark.{Mark}
 use Rattle.trace_replay.specs.Clocks.{HasReplayed, IsFront, Log}
 use Rattle.trace_replay.specs.Passes.{AreAt, HasCome, IsMadeBy, IsTold}
 use Rattle.trace_replay.specs.Answering.{AllStand, BufferState}
+use Rattle.trace_replay.specs.Finds.{base_at}
 use Rattle.trace_replay.specs.Live.{IsPaused}
 use Rattle.trace_replay.specs.Marks.{no_mark}
 use Rattle.trace_replay.specs.Orders.{AreTurns}
 use Rattle.trace_replay.specs.Thin.{AreFull, AreUnlost, NoneLost}
+use Rattle.trace_replay.specs.Traces.{text_of}
 use Rattle.trace_replay.specs.Turns.{AreOf, AreSides, AreTold, Score, chunks_of}
 
 -- Between two ticks: clock m has made its first n ticks, by which its engine has gone from `first` to `now`, and the buffers, with all
@@ -73,61 +78,75 @@ pub record HasSinkFailed {S : Type 0} (told : S → SinkTold) (sink : ℕ) (firs
   pub there : slice_get (outputs_of (setting_of first.parts) first.parts.clock) place ≡ Some (sink, node)
   pub rose : RoseAt told place first.outs now.outs
 
--- a plan with its clocks and files, a text, and the chunks that are there
-abbrev pub score_over : Setting → ClockMap → (text : ℕ → Log) → (full : List BufferState) → Score
-score_over base clocks text full = record { base = base; clocks = clocks; text = text; chunks = chunks_of full }
+-- What a replay is of: a plan with its clocks and files, what a trace tells of its buffers, and how long its windows and how many its ticks
+-- are.
+pub record Tale : Type 0 where
+  pub base : Setting
+  pub clocks : ClockMap
+  pub text : ℕ → Log
+  pub window : ℕ
+  pub ticks : ℕ
+
+-- the tale of a trace, of the plan of a station
+abbrev pub tale_at : Station → TraceValue → Tale
+tale_at station trace = record { base = base_at station; clocks = station.clocks.now; text = text_of trace.buffers; window = trace.window; ticks = trace.ticks }
+
+-- with the chunks that these buffers hold
+abbrev pub score_over : Tale → (full : List BufferState) → Score
+score_over tale full = record { base = tale.base; clocks = tale.clocks; text = tale.text; chunks = chunks_of full }
 
 -- Between two turns: the engine of clock m has gone from `first` to `now` by its first n ticks, and waits at these marks of the buffers,
 -- which with all their chunks are `full`. In each lawful record with this text it makes these calls.
-pub record IsResting {S : Type 0} (told : S → SinkTold) (base : Setting) (clocks : ℕ) (text : ℕ → Log) (W N : ℕ) (feeders readers : List ℕ) (m n : ℕ) (first now : ClockEngine S) (marks : List Mark) (full states : List BufferState) : Type 0 where
-  pub paused : IsPaused base text W N feeders readers m n now.parts marks full
-  pub forced : (run : Run) (lawful : AreWindows base clocks W N run) → IsTold base text run → paused.calls ≡ first_calls (answered base (answers_of run)) (lawful.accepted m) m n
+pub record IsResting {S : Type 0} (told : S → SinkTold) (tale : Tale) (sides : Sides) (m n : ℕ) (first now : ClockEngine S) (marks : List Mark) (full states : List BufferState) : Type 0 where
+  pub paused : IsPaused tale.base tale.text tale.window tale.ticks sides.feeders.items sides.readers.items m n now.parts marks full
+  pub forced : (run : Run) (lawful : AreWindows tale.base tale.clocks.running tale.window tale.ticks run) → IsTold tale.base tale.text run
+      → paused.calls ≡ first_calls (answered tale.base (answers_of run)) (lawful.accepted m) m n
   pub run : HasRunTurns told paused.calls n first now
-  pub rooms : (left : ℕ) → n + left ≡ N → HaveTicksRoom told now.parts now.outs left
-  pub unlost : AreUnlost readers m marks states
+  pub rooms : (left : ℕ) → n + left ≡ tale.ticks → HaveTicksRoom told now.parts now.outs left
+  pub unlost : AreUnlost sides.readers.items m marks states
   pub many : length marks ≡ length states
 
 -- An engine of clock m, which rests after some of its ticks, may come to n in a turn, by which these chunks are there; the ticks of all
--- clocks and the chunks so far are those of the text.
-pub record MayPlay {S : Type 0} (told : S → SinkTold) (base : Setting) (clocks : ClockMap) (text : ℕ → Log) (W N : ℕ) (feeders readers : List ℕ) (m made n : ℕ) (first now : ClockEngine S) (marks : List Mark) (states : List BufferState) : Type 0 where
-  pub is : IsSetting base clocks
-  pub sides : AreSides base feeders readers
-  pub runs : m < clocks.running
+-- clocks and the chunks so far are those of the tale.
+pub record MayPlay {S : Type 0} (told : S → SinkTold) (tale : Tale) (sides : Sides) (m made n : ℕ) (first now : ClockEngine S) (marks : List Mark) (states : List BufferState) : Type 0 where
+  pub is : IsSetting tale.base tale.clocks
+  pub ends : AreSides tale.base sides.feeders.items sides.readers.items
+  pub runs : m < tale.clocks.running
   pub full : List BufferState
   pub fills : AreFull states full
-  pub tell : AreTold base text full
+  pub tell : AreTold tale.base tale.text full
   pub ticks : ℕ → ℕ
-  pub at : AreAt base clocks.running W N text ticks (chunks_of full)
-  pub rests : IsResting told base clocks.running text W N feeders readers m made first now marks full states
+  pub at : AreAt tale.base tale.clocks.running tale.window tale.ticks tale.text ticks (chunks_of full)
+  pub rests : IsResting told tale sides m made first now marks full states
   pub on : made ≤ n
   pub next : ℕ → List (List Cell)
-  pub come : HasCome base W N text m n (chunks_of full) next
+  pub come : HasCome tale.base tale.window tale.ticks tale.text m n (chunks_of full) next
 
--- In its turn it came to n ticks: from buffers that with all their chunks are `opening` to those that are `full`, with no chunk let go that
--- another clock is to get.
-pub record HasPlayed {S : Type 0} (told : S → SinkTold) (base : Setting) (clocks : ℕ) (text : ℕ → Log) (W N : ℕ) (feeders readers : List ℕ) (m n : ℕ) (first now : ClockEngine S) (marks : List Mark) (opening before states : List BufferState) (next : ℕ → List (List Cell)) : Type 0 where
+-- In its turn it came to n ticks, by which these chunks are there: from buffers that with all their chunks are `opening` to those that are
+-- `full`. No chunk was let go that another clock is to get.
+pub record HasPlayed {S : Type 0} (told : S → SinkTold) (tale : Tale) (sides : Sides) (m n : ℕ) (first now : ClockEngine S) (marks : List Mark) (opening before states : List BufferState) (next : ℕ → List (List Cell)) : Type 0 where
   pub full : List BufferState
   pub fills : AreFull states full
-  pub tell : AreTold base text full
-  pub come : HasCome base W N text m n (chunks_of opening) (chunks_of full)
-  pub same : (b : ℕ) → b < length base.plan.buffers → chunks_of full b ≡ next b
-  pub rests : IsResting told base clocks text W N feeders readers m n first now marks full states
-  pub unlost : (k : ℕ) (other : List Mark) → (k ≡ m → ⊥) → AreUnlost readers k other before → AreUnlost readers k other states
+  pub tell : AreTold tale.base tale.text full
+  pub come : HasCome tale.base tale.window tale.ticks tale.text m n (chunks_of opening) (chunks_of full)
+  pub same : (b : ℕ) → b < length tale.base.plan.buffers → chunks_of full b ≡ next b
+  pub rests : IsResting told tale sides m n first now marks full states
+  pub unlost : (k : ℕ) (other : List Mark) → (k ≡ m → ⊥) → AreUnlost sides.readers.items k other before → AreUnlost sides.readers.items k other states
 
 -- Between two turns of all clocks: each engine has made its ticks so far and rests, and these turns are left.
-pub record ArePlaying {S : Type 0} (told : S → SinkTold) (base : Setting) (clocks : ClockMap) (text : ℕ → Log) (W N : ℕ) (feeders readers : List ℕ) (turns : List TurnMade) (first now : List (ClockEngine S)) (rests : List Rest) (states : List BufferState) : Type 0 where
+pub record ArePlaying {S : Type 0} (told : S → SinkTold) (tale : Tale) (sides : Sides) (turns : List TurnMade) (first now : List (ClockEngine S)) (rests : List Rest) (states : List BufferState) : Type 0 where
   pub full : List BufferState
   pub fills : AreFull states full
-  pub tell : AreTold base text full
+  pub tell : AreTold tale.base tale.text full
   pub made : ℕ → ℕ
-  pub few : (k : ℕ) → made k ≤ N
-  pub at : AreAt base clocks.running W N text made (chunks_of full)
-  pub left : AreTurns base clocks.running W N text turns made (chunks_of full)
+  pub few : (k : ℕ) → made k ≤ tale.ticks
+  pub at : AreAt tale.base tale.clocks.running tale.window tale.ticks tale.text made (chunks_of full)
+  pub left : AreTurns tale.base tale.clocks.running tale.window tale.ticks tale.text turns made (chunks_of full)
   pub size : length now ≡ length first
   pub long : length rests ≡ length first
   pub counts : (k : ℕ) (rest : Rest) → slice_get rests k ≡ Some rest → rest.made ≡ made k
   pub each : (k : ℕ) (before after : ClockEngine S) (rest : Rest) → slice_get first k ≡ Some before → slice_get now k ≡ Some after → slice_get rests k ≡ Some rest
-      → IsResting told base clocks.running text W N feeders readers k (made k) before after rest.marks.items full states
+      → IsResting told tale sides k (made k) before after rest.marks.items full states
 
 -- where an engine rests before its first tick, over so many buffers
 pub record IsNewRest (buffers : ℕ) (rest : Rest) : Type 0 where

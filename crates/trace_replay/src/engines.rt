@@ -1,21 +1,18 @@
 // The engines of a replay, turn after turn.
 ghost use Rattle.std.specs.Prelude.{◌≡◌, ◌<◌, ◌≤◌, ℕ, [], IfErr, IfOk, OnErr, OnOk, get_or, length};
 ghost use Rattle.buffer_ends.specs.declared.run_end.End.TheVariants.{Done, Memory as NoMemory, Write as WriteEnd};
-ghost use Rattle.clock_infer.specs.declared.clock_map.ClockMap.{ClockMap as Map};
 ghost use Rattle.clock_ticks.specs.declared.engine.ClockEngine.{ClockEngine as Engine};
 ghost use Rattle.clock_ticks.specs.declared.fault.TickFault.TheVariants.{Memory as OutOfMemory, Write as TickWrite};
-ghost use Rattle.stream_meaning.specs.Instants.{Setting};
 ghost use Rattle.stream_meaning.specs.Settings.{IsSetting};
 ghost use Rattle.run_records.specs.Records.{Run, setting_in};
 ghost use Rattle.rounds_run.specs.Rounds.{AreEngines};
 ghost use Rattle.rounds_run.specs.Runs.{HaveRunTicks};
 ghost use Rattle.trace_replay.specs.declared.course.Course.TheVariants.{Goes as IsGoing};
 ghost use Rattle.trace_replay.specs.Answering.{SameBuffers};
-ghost use Rattle.trace_replay.specs.Clocks.{Log};
 ghost use Rattle.trace_replay.specs.Finds.{base_at};
 ghost use Rattle.trace_replay.specs.Orders.{AreTurns, no_chunks, no_ticks};
 ghost use Rattle.trace_replay.specs.Passes.{IsFormed};
-ghost use Rattle.trace_replay.specs.Replaying.{AreNewRests, ArePlaying, HasPlayed, HasSinkFailed, IsBrokenOff, IsNewRest, IsReplaying, MayPlay, MayReplay, score_over};
+ghost use Rattle.trace_replay.specs.Replaying.{AreNewRests, ArePlaying, HasPlayed, HasSinkFailed, IsBrokenOff, IsNewRest, IsReplaying, MayPlay, MayReplay, Tale, score_over, tale_at};
 ghost use Rattle.trace_replay.specs.Replays.{HasReplayedTo, IsRecordOf};
 ghost use Rattle.trace_replay.specs.Thin.{AreKept};
 ghost use Rattle.trace_replay.specs.Traces.{text_of};
@@ -73,17 +70,16 @@ fn replay_turn<O: Sink>(
     ticks: u64,
 ) -> Result<(), TickFault>
     requires few { ticks ≤ 1000000000 }
-    requires play { (base : Setting) × (clocks : Map) × (text : ℕ → Log) × (window : ℕ) × (total : ℕ) × (first : Engine O)
-        × MayPlay O.told base clocks text window total sides.now.feeders.items sides.now.readers.items engine.old.parts.clock rest.old.made ticks first engine.old rest.old.marks.items taps.old.buffers.items }
-    ensures done { OnOk result ((base : Setting) (clocks : Map) (text : ℕ → Log) (window total : ℕ) (first : Engine O)
-        (may : MayPlay O.told base clocks text window total sides.now.feeders.items sides.now.readers.items engine.old.parts.clock rest.old.made ticks first engine.old rest.old.marks.items taps.old.buffers.items)
-        → HasPlayed O.told base clocks.running text window total sides.now.feeders.items sides.now.readers.items engine.old.parts.clock ticks first engine.new rest.new.marks.items may.full taps.old.buffers.items taps.new.buffers.items may.next) }
+    requires play { (tale : Tale) × (first : Engine O) × MayPlay O.told tale sides.now engine.old.parts.clock rest.old.made ticks first engine.old rest.old.marks.items taps.old.buffers.items }
+    ensures done { OnOk result ((tale : Tale) (first : Engine O)
+        (may : MayPlay O.told tale sides.now engine.old.parts.clock rest.old.made ticks first engine.old rest.old.marks.items taps.old.buffers.items)
+        → HasPlayed O.told tale sides.now engine.old.parts.clock ticks first engine.new rest.new.marks.items may.full taps.old.buffers.items taps.new.buffers.items may.next) }
     ensures made { OnOk result (rest.new.made ≡ ticks) }
-    ensures part { OnErr result ((base : Setting) (clocks : Map) (text : ℕ → Log) (window total : ℕ) (first : Engine O)
-        (may : MayPlay O.told base clocks text window total sides.now.feeders.items sides.now.readers.items engine.old.parts.clock rest.old.made ticks first engine.old rest.old.marks.items taps.old.buffers.items)
-        → IsBrokenOff O.told (score_over base clocks text may.full) total engine.old.parts.clock ticks first engine.new) }
-    ensures cause { IfErr result (λ fault. (base : Setting) (clocks : Map) (text : ℕ → Log) (window total : ℕ) (first : Engine O) (sink : ℕ)
-        → MayPlay O.told base clocks text window total sides.now.feeders.items sides.now.readers.items engine.old.parts.clock rest.old.made ticks first engine.old rest.old.marks.items taps.old.buffers.items
+    ensures part { OnErr result ((tale : Tale) (first : Engine O)
+        (may : MayPlay O.told tale sides.now engine.old.parts.clock rest.old.made ticks first engine.old rest.old.marks.items taps.old.buffers.items)
+        → IsBrokenOff O.told (score_over tale may.full) tale.ticks engine.old.parts.clock ticks first engine.new) }
+    ensures cause { IfErr result (λ fault. (tale : Tale) (first : Engine O) (sink : ℕ)
+        → MayPlay O.told tale sides.now engine.old.parts.clock rest.old.made ticks first engine.old rest.old.marks.items taps.old.buffers.items
         → fault ≡ TickWrite sink → HasSinkFailed O.told sink first engine.new) }
 {
     resume_run(
@@ -158,7 +154,7 @@ fn replay_turns<O: Sink>(
     requires sides { AreSides (base_at station.now) sides.now.feeders.items sides.now.readers.items }
     requires engines { AreEngines O.told trace.now.ticks (base_at station.now) engines.old }
     requires all { length engines.old ≡ station.now.clocks.now.running }
-    requires playing { ArePlaying O.told (base_at station.now) station.now.clocks.now (text_of trace.now.buffers) trace.now.window trace.now.ticks sides.now.feeders.items sides.now.readers.items turns.now engines.old engines.old rests.old taps.old.buffers.items }
+    requires playing { ArePlaying O.told (tale_at station.now trace.now) sides.now turns.now engines.old engines.old rests.old taps.old.buffers.items }
     ensures done { OnOk result ((run : Run) → IsRecordOf (base_at station.now) station.now.clocks.now.running trace.now run
         → HaveRunTicks O.told (setting_in (base_at station.now) run) trace.now.ticks engines.old engines.new) }
     ensures part { IfErr result (λ end. (run : Run) → IsRecordOf (base_at station.now) station.now.clocks.now.running trace.now run

@@ -7,7 +7,7 @@ use Rattle.trace_replay.specs.declared.course.TurnMade.{TurnMade}
 use Rattle.rounds_run.specs.Rounds.{HasRunPart}
 use Rattle.trace_replay.specs.Finds.{base_at}
 use Rattle.trace_replay.specs.Orders.{AreTurns}
-use Rattle.trace_replay.specs.Replaying.{ArePlaying}
+use Rattle.trace_replay.specs.Replaying.{ArePlaying, tale_at}
 use Rattle.trace_replay.specs.Traces.{text_of}
 use Rattle.trace_replay.specs.Turns.{chunks_of}
 use Rattle.trace_replay.proofs.Lasting.{changed_set, one_broke, write_end}
@@ -28,11 +28,7 @@ replay_turn-requires-clause-play g c =
     let playing = at_hand c.args.turns.now c.loop-i.i low c.turn_at-turn.ensures c.loop-i.invariant.playing in
     let runs = playing.left.1.runs in let size = playing.size in let long = playing.long in
     let first = there c.args.engines.now k (omega (arith, runs, c.requires.all)) in (
-      base_at c.args.station.now,
-      c.args.station.now.clocks.now,
-      text_of c.args.trace.now.buffers,
-      c.args.trace.now.window,
-      c.args.trace.now.ticks,
+      tale_at c.args.station.now c.args.trace.now,
       first.0,
       may_play playing c.requires.setting c.requires.sides first.1 (read c.loop-i.engines k c.index-engines-k.result (omega (arith, runs, c.requires.all, size))) (read c.loop-i.rests k c.index-rests-k.result (omega (arith, runs, c.requires.all, long))),
     )
@@ -40,7 +36,6 @@ replay_turn-requires-clause-play g c =
 pub loop-i-preserved : goal.loop-i-preserved
 loop-i-preserved g c =
     let k = c.turn_at-turn.result.clock in
-    let base = base_at c.args.station.now in
     let low : c.loop-i.i < length c.args.turns.now = search rules in
     let playing = at_hand c.args.turns.now c.loop-i.i low c.turn_at-turn.ensures c.loop-i.invariant.playing in
     let runs = playing.left.1.runs in let size = playing.size in let long = playing.long in
@@ -51,10 +46,10 @@ loop-i-preserved g c =
     let at_rest = read c.loop-i.rests k c.index-rests-k.result inside in
     let next : suc c.loop-i.i ≡ c.loop-i.i + 1 = omega arith in
     record {
-      playing = subst (λ (n : ℕ). ArePlaying g.O.Sink.told base c.args.station.now.clocks.now (text_of c.args.trace.now.buffers) c.args.trace.now.window c.args.trace.now.ticks c.args.sides.now.feeders.items c.args.sides.now.readers.items
+      playing = subst (λ (n : ℕ). ArePlaying g.O.Sink.told (tale_at c.args.station.now c.args.trace.now) c.args.sides.now
           (drop n c.args.turns.now) c.args.engines.now (set c.loop-i.engines k c.replay_turn.new.engine) (set c.loop-i.rests k c.replay_turn.new.rest) c.replay_turn.new.taps.buffers.items) next
           (plays_on playing c.requires.setting c.requires.sides first.1 here at_rest c.in_default.ensures.made
-          (c.in_default.ensures.done base c.args.station.now.clocks.now (text_of c.args.trace.now.buffers) c.args.trace.now.window c.args.trace.now.ticks first.0 (may_play playing c.requires.setting c.requires.sides first.1 here at_rest))
+          (c.in_default.ensures.done (tale_at c.args.station.now c.args.trace.now) first.0 (may_play playing c.requires.setting c.requires.sides first.1 here at_rest))
           (changed_set k c.replay_turn.new.engine c.loop-i.engines within) (changed_set k c.replay_turn.new.rest c.loop-i.rests inside));
     }
 
@@ -62,7 +57,6 @@ pub returns-in-Err-clause-part : goal.returns-in-Err-clause-part
 returns-in-Err-clause-part g c = λ run of.
     let k = c.turn_at-turn.result.clock in
     let base = base_at c.args.station.now in
-    let text = text_of c.args.trace.now.buffers in
     let told_is = told_by base c.args.station.now.clocks.now.running c.args.trace.now run of in
     let low : c.loop-i.i < length c.args.turns.now = search rules in
     let playing = at_hand c.args.turns.now c.loop-i.i low c.turn_at-turn.ensures c.loop-i.invariant.playing in
@@ -74,7 +68,7 @@ returns-in-Err-clause-part g c = λ run of.
     let at_rest = read c.loop-i.rests k c.index-rests-k.result inside in
     let over = c.requires.engines.over k first.0 first.1 in
     let may = may_play playing c.requires.setting c.requires.sides first.1 here at_rest in
-    let broken = c.in-Err.ensures.part base c.args.station.now.clocks.now text c.args.trace.now.window c.args.trace.now.ticks first.0 may in
+    let broken = c.in-Err.ensures.part (tale_at c.args.station.now c.args.trace.now) first.0 may in
     let changed = changed_set k c.replay_turn.new.engine c.loop-i.engines within in
     one_broke g.O.Sink.told (setting_in base run) c.args.trace.now.ticks c.args.engines.now c.loop-i.engines playing.size playing.made playing.few
     (λ j before after was is. part_now playing c.requires.setting c.requires.engines c.requires.all run of.lawful told_is j was is)
@@ -86,7 +80,7 @@ returns-in-Err-clause-part g c = λ run of.
     (write_end g.O.Sink.told (setting_in base run) c.args.trace.now.ticks c.args.engines.now c.loop-i.engines playing.size playing.made playing.few
     (λ j before after was is. part_now playing c.requires.setting c.requires.engines c.requires.all run of.lawful told_is j was is)
     k c.replay_turn.new.engine _ changed first.0 first.1 (c.requires.engines.in_order k first.0 first.1) c.in-Err.fault c.end_of.result c.end_of.ensures.write c.end_of.ensures.memory
-    (λ sink e. c.in-Err.ensures.cause base c.args.station.now.clocks.now text c.args.trace.now.window c.args.trace.now.ticks first.0 sink may e))
+    (λ sink e. c.in-Err.ensures.cause (tale_at c.args.station.now c.args.trace.now) first.0 sink may e))
 
 pub returns-clause-done : goal.returns-clause-done
 returns-clause-done g c = λ run of.
