@@ -372,7 +372,7 @@ def rows_that_differ(page):
         return [f"the page has {len(written)} calls, the table {len(table)}"]
     for cells, (name, params, _) in zip(written, table):
         shown = [param for param in params if param[1] != "id" or name == "clock"]
-        own = defaults[{"output.file": "output_file", "add": "sum", "sequence": "over_sources", "rotate": "over_sources"}.get(name, name)]
+        own = defaults[{"output.file": "output_file", "add": "add_sources", "sequence": "over_sources", "rotate": "over_sources"}.get(name, name)]
         call = f"{name}({', '.join(f'{label}={own.get(label)}' if form == 'Perhaps' else label for form, label, _ in shown)})"
         if cells[0].strip("`") != call:
             found.append(f"the page has {cells[0]}, the table {call}")

@@ -144,8 +144,8 @@ type Row = (
     Result<u32, &'static str>,
 );
 
-/// At 8000 Hz the two samples at 4000 Hz are four, and the three of B are one: a file counts for what it becomes if that
-/// is more.
+/// At 8000 Hz the two samples at 4000 Hz are four, and the three of B are one: a file counts for what it becomes if
+/// that is more.
 const ROWS: &[Row] = &[
     (false, false, "B", 1000, 100, Ok(1)),
     (false, false, "B", 50, 50, Ok(1)),

@@ -18,10 +18,12 @@ ListsStand elsewhere lists calls =
 
 -- the record of each end is the answers of the calls on its buffer
 abbrev pub PutsStand : List Side → List Call → Type 0
-PutsStand sides calls = (k : ℕ) (d : Side) → k < length sides → (slice_index_or sides k d).window.answers ≡ puts_to (slice_index_or sides k d).buffer calls
+PutsStand sides calls = (k : ℕ) (d : Side) → k < length sides
+    → (slice_index_or sides k d).window.answers ≡ puts_to (slice_index_or sides k d).buffer calls
 
 abbrev pub TakesStand : List Side → List Call → Type 0
-TakesStand sides calls = (k : ℕ) (d : Side) → k < length sides → (slice_index_or sides k d).window.answers ≡ takes_of (slice_index_or sides k d).buffer calls
+TakesStand sides calls = (k : ℕ) (d : Side) → k < length sides
+    → (slice_index_or sides k d).window.answers ≡ takes_of (slice_index_or sides k d).buffer calls
 
 -- lists alone
 abbrev pub LocalStands : List LocalBuffer → List Call → Type 0
@@ -29,7 +31,8 @@ LocalStands lists calls = ListsStand (λ b. ⊥) lists calls
 
 -- the ends, and the lists of the buffers that have no end here
 abbrev pub EndsStand : List Side → List Side → List LocalBuffer → List Call → Type 0
-EndsStand puts takes lists calls = PutsStand puts calls × TakesStand takes calls × ListsStand (λ b. Has puts b ⊎ Has takes b) lists calls
+EndsStand puts takes lists calls = PutsStand puts calls × TakesStand takes calls
+    × ListsStand (λ b. Has puts b ⊎ Has takes b) lists calls
 
 -- ends of buffers of which nothing was asked: their records are empty, and so are the answers of these buffers' lists
 abbrev pub AreNew : List Side → List LocalBuffer → Type 0
@@ -39,13 +42,15 @@ AreNew sides lists =
     × ((slice_index_or sides k d).buffer < length lists)
     × ((e : LocalBuffer) → all_answers (slice_index_or lists (slice_index_or sides k d).buffer e) ≡ no_answers)
 
--- As many puts of a buffer were accepted, and as many found it full, as its end's record has, or its list's where it has no end.
+-- As many puts of a buffer were accepted, and as many found it full, as its end's record has, or its list's where it
+-- has no end.
 abbrev pub PutsCounted : List Side → LocalBuffer → ℕ → Counts → Type 0
 PutsCounted sides list b counts =
     ((k : ℕ) (d : Side) → k < length sides → (slice_index_or sides k d).buffer ≡ b
     → (counts.accepted ≡ count_by yes (map is_chunk (slice_index_or sides k d).window.answers))
     × (counts.full ≡ count_by not (map is_chunk (slice_index_or sides k d).window.answers)))
-    × ((Has sides b → ⊥) → (counts.accepted ≡ count_by yes (all_answers list).puts) × (counts.full ≡ count_by not (all_answers list).puts))
+    × ((Has sides b → ⊥) → (counts.accepted ≡ count_by yes (all_answers list).puts)
+    × (counts.full ≡ count_by not (all_answers list).puts))
 
 -- the same of the takes
 abbrev pub TakesCounted : List Side → LocalBuffer → ℕ → Counts → Type 0
@@ -53,4 +58,5 @@ TakesCounted sides list b counts =
     ((k : ℕ) (d : Side) → k < length sides → (slice_index_or sides k d).buffer ≡ b
     → (counts.got ≡ count_by yes (map is_chunk (slice_index_or sides k d).window.answers))
     × (counts.empty ≡ count_by not (map is_chunk (slice_index_or sides k d).window.answers)))
-    × ((Has sides b → ⊥) → (counts.got ≡ count_by yes (all_answers list).takes) × (counts.empty ≡ count_by not (all_answers list).takes))
+    × ((Has sides b → ⊥) → (counts.got ≡ count_by yes (all_answers list).takes)
+    × (counts.empty ≡ count_by not (all_answers list).takes))

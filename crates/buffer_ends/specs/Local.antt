@@ -70,7 +70,11 @@ Step before (Took buffer (Some chunk)) after =
     × (after ≡ record { capacity = before.capacity; chunks = rest; answers = with_take true before.answers })
 Step before (Given buffer chunk true) after =
     (length before.chunks < before.capacity)
-    × (after ≡ record { capacity = before.capacity; chunks = before.chunks ++ chunk ∷ []; answers = with_put true before.answers })
+    × (after ≡ record {
+      capacity = before.capacity;
+      chunks = before.chunks ++ chunk ∷ [];
+      answers = with_put true before.answers;
+    })
 Step before (Given buffer chunk false) after =
     (length before.chunks ≡ before.capacity) × (after ≡ record before { answers = with_put false before.answers })
 
@@ -130,4 +134,9 @@ abbrev pub buffer_coded : Coded LocalBuffer
 buffer_coded =
     code_by (ℕ × (List (List Cell) × (List Answers × Answers)))
     (coded× coded_ℕ (coded× (coded_list (coded_list cell_coded)) (coded× (coded_list answers_coded) answers_coded)))
-    (λ b. (b.capacity, (b.chunks, (b.closed, b.current)))) (λ p. record { capacity = p.0; chunks = p.1.0; closed = p.1.1.0; current = p.1.1.1 }) (λ _. refl)
+    (λ b. (b.capacity, (b.chunks, (b.closed, b.current)))) (λ p. record {
+      capacity = p.0;
+      chunks = p.1.0;
+      closed = p.1.1.0;
+      current = p.1.1.1;
+    }) (λ _. refl)

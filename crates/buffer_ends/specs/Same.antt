@@ -10,7 +10,8 @@ pub record SameBuffer (before after : LocalBuffer) : Type 0 where
 
 pub record SameBuffers (before after : List LocalBuffer) : Type 0 where
   pub many : length after ≡ length before
-  pub each : (k : ℕ) (d : LocalBuffer) → k < length before → SameBuffer (slice_index_or before k d) (slice_index_or after k d)
+  pub each : (k : ℕ) (d : LocalBuffer) → k < length before
+      → SameBuffer (slice_index_or before k d) (slice_index_or after k d)
 
 pub same_buffers_refl : (bs : List LocalBuffer) → SameBuffers bs bs
 same_buffers_refl bs = record { many = refl; each = λ k d h. record { capacity = refl; closed = refl } }

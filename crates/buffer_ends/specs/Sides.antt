@@ -11,12 +11,16 @@ pub record Side : Type 0 where
   pub window : Window
 
 abbrev pub side_coded : Coded Side
-side_coded = code_by (ℕ × Window) (coded× coded_ℕ window_coded) (λ s. (s.buffer, s.window)) (λ p. record { buffer = p.0; window = p.1 }) (λ _. refl)
+side_coded = code_by (ℕ × Window) (coded× coded_ℕ window_coded) (λ s. (s.buffer, s.window)) (λ p. record {
+  buffer = p.0;
+  window = p.1;
+}) (λ _. refl)
 
 -- the ends stand from the last buffer to the first
 abbrev pub Falling : List Side → Type 0
 Falling sides =
-    (i j : ℕ) (d : Side) → i < j → j < length sides → (slice_index_or sides j d).buffer < (slice_index_or sides i d).buffer
+    (i j : ℕ) (d : Side) → i < j → j < length sides
+    → (slice_index_or sides j d).buffer < (slice_index_or sides i d).buffer
 
 -- an end before and after a put of this chunk with this answer, and before and after a take
 abbrev pub PutsSide : Side → List Cell → Side → Gave → Type 0

@@ -3,8 +3,8 @@ ghost use Rattle.std.specs.Prelude.{◌≡◌, ◌+◌, IfOk, true, false};
 
 use liq_base::Memory;
 
-/// How many puts of a buffer were accepted and how many found it full, and how many takes got a chunk and how many found
-/// it empty.
+/// How many puts of a buffer were accepted and how many found it full, and how many takes got a chunk and how many
+/// found it empty.
 #[derive(Clone, Copy, Debug, PartialEq, Eq)]
 pub struct Counts {
     pub accepted: u64,

@@ -97,7 +97,8 @@ impl<'a> PutEnd<'a> {
         requires { self.old.window.queue ≡ take.old.window.queue }
         ensures closes { Closes self.old.window take.old.window self.old.window.queue self.new.window take.new.window }
         ensures buffers { (self.new.buffer ≡ self.old.buffer) × (take.new.buffer ≡ take.old.buffer) }
-        ensures log { (result.puts ≡ map is_chunk self.old.window.answers) × (result.takes ≡ map is_chunk take.old.window.answers) }
+        ensures log { (result.puts ≡ map is_chunk self.old.window.answers)
+            × (result.takes ≡ map is_chunk take.old.window.answers) }
     {
         let Ok((puts, takes)) = self
             .queue
@@ -164,7 +165,8 @@ impl<'a> TakeEnd<'a> {
 // The counts of a buffer with those of the puts of its end, if one is there.
 pub(crate) fn with_puts(ends: &Vec<PutEnd<'_>>, buffer: u32, counts: Counts) -> Counts
     requires { Falling ends.now.items }
-    ensures puts { (list : LocalBuffer) → counts ≡ counts_of (all_answers list) → PutsCounted ends.now.items list buffer result }
+    ensures puts { (list : LocalBuffer) → counts ≡ counts_of (all_answers list)
+        → PutsCounted ends.now.items list buffer result }
     ensures takes { (result.got ≡ counts.got) × (result.empty ≡ counts.empty) }
 {
     match put_place(ends, buffer) {
@@ -183,7 +185,8 @@ pub(crate) fn with_puts(ends: &Vec<PutEnd<'_>>, buffer: u32, counts: Counts) -> 
 // The counts of a buffer with those of the takes of its end, if one is there.
 pub(crate) fn with_takes(ends: &Vec<TakeEnd<'_>>, buffer: u32, counts: Counts) -> Counts
     requires { Falling ends.now.items }
-    ensures takes { (list : LocalBuffer) → (counts.got ≡ count_by yes (all_answers list).takes) → (counts.empty ≡ count_by not (all_answers list).takes) → TakesCounted ends.now.items list buffer result }
+    ensures takes { (list : LocalBuffer) → (counts.got ≡ count_by yes (all_answers list).takes)
+        → (counts.empty ≡ count_by not (all_answers list).takes) → TakesCounted ends.now.items list buffer result }
     ensures puts { (result.accepted ≡ counts.accepted) × (result.full ≡ counts.full) }
 {
     match take_place(ends, buffer) {
@@ -202,8 +205,10 @@ pub(crate) fn with_takes(ends: &Vec<TakeEnd<'_>>, buffer: u32, counts: Counts) -
 // Where the end of a buffer stands, if one is there. It halves the ends at each step.
 pub(crate) fn put_place(ends: &Vec<PutEnd<'_>>, buffer: u32) -> Option<usize>
     requires { Falling ends.now.items }
-    ensures some { IfSome result (λ k. (k < length ends.now.items) × ((d : Side) → (slice_index_or ends.now.items k d).buffer ≡ buffer)) }
-    ensures none { IfNone result ((k : ℕ) (d : Side) → k < length ends.now.items → (slice_index_or ends.now.items k d).buffer ≢ buffer) }
+    ensures some { IfSome result (λ k. (k < length ends.now.items)
+        × ((d : Side) → (slice_index_or ends.now.items k d).buffer ≡ buffer)) }
+    ensures none { IfNone result ((k : ℕ) (d : Side) → k < length ends.now.items
+        → (slice_index_or ends.now.items k d).buffer ≢ buffer) }
 {
     let place = ends.partition_point(|end| end.buffer() > buffer);
     if place < ends.len() && ends[place].buffer() == buffer {
@@ -216,8 +221,10 @@ pub(crate) fn put_place(ends: &Vec<PutEnd<'_>>, buffer: u32) -> Option<usize>
 // Where the end of a buffer stands, if one is there. It halves the ends at each step.
 pub(crate) fn take_place(ends: &Vec<TakeEnd<'_>>, buffer: u32) -> Option<usize>
     requires { Falling ends.now.items }
-    ensures some { IfSome result (λ k. (k < length ends.now.items) × ((d : Side) → (slice_index_or ends.now.items k d).buffer ≡ buffer)) }
-    ensures none { IfNone result ((k : ℕ) (d : Side) → k < length ends.now.items → (slice_index_or ends.now.items k d).buffer ≢ buffer) }
+    ensures some { IfSome result (λ k. (k < length ends.now.items)
+        × ((d : Side) → (slice_index_or ends.now.items k d).buffer ≡ buffer)) }
+    ensures none { IfNone result ((k : ℕ) (d : Side) → k < length ends.now.items
+        → (slice_index_or ends.now.items k d).buffer ≢ buffer) }
 {
     let place = ends.partition_point(|end| end.buffer() > buffer);
     if place < ends.len() && ends[place].buffer() == buffer {
@@ -235,7 +242,8 @@ pub(crate) fn give_at<R: Wait>(
     chunk: Chunk,
 ) -> Result<Gave, (Chunk, Memory)>
     requires { place < length ends.old.items }
-    ensures ok { IfOk result (λ gave. (s : Side) × (ends.new.items ≡ slice_set ends.old.items place s) × ((d : Side) → PutsSide (slice_index_or ends.old.items place d) chunk s gave)) }
+    ensures ok { IfOk result (λ gave. (s : Side) × (ends.new.items ≡ slice_set ends.old.items place s)
+        × ((d : Side) → PutsSide (slice_index_or ends.old.items place d) chunk s gave)) }
     ensures memory { IfErr result (λ e. (e.0 ≡ chunk) × (ends.new.items ≡ ends.old.items)) }
     ensures same { SameSides ends.old.items ends.new.items }
     ensures falling { Falling ends.old.items → Falling ends.new.items }
@@ -250,7 +258,8 @@ pub(crate) fn take_at<R: Wait>(
     place: usize,
 ) -> Result<Option<Chunk>, Memory>
     requires { place < length ends.old.items }
-    ensures ok { IfOk result (λ answer. (s : Side) × (ends.new.items ≡ slice_set ends.old.items place s) × ((d : Side) → TakesSide (slice_index_or ends.old.items place d) answer s)) }
+    ensures ok { IfOk result (λ answer. (s : Side) × (ends.new.items ≡ slice_set ends.old.items place s)
+        × ((d : Side) → TakesSide (slice_index_or ends.old.items place d) answer s)) }
     ensures memory { OnErr result (ends.new.items ≡ ends.old.items) }
     ensures same { SameSides ends.old.items ends.new.items }
     ensures falling { Falling ends.old.items → Falling ends.new.items }
@@ -277,9 +286,12 @@ pub(crate) fn close_at(
     other: usize,
 ) -> WindowLog
     requires within { (place < length puts.old.items) × (other < length takes.old.items) }
-    requires queue { (d e : Side) → (slice_index_or puts.old.items place d).window.queue ≡ (slice_index_or takes.old.items other e).window.queue }
-    ensures closed { (s t : Side) × (puts.new.items ≡ slice_set puts.old.items place s) × (takes.new.items ≡ slice_set takes.old.items other t)
-        × ((d e : Side) → ClosesSides (slice_index_or puts.old.items place d) (slice_index_or takes.old.items other e) s t result) }
+    requires queue { (d e : Side) → (slice_index_or puts.old.items place d).window.queue
+        ≡ (slice_index_or takes.old.items other e).window.queue }
+    ensures closed { (s t : Side) × (puts.new.items ≡ slice_set puts.old.items place s)
+        × (takes.new.items ≡ slice_set takes.old.items other t)
+        × ((d e : Side) → ClosesSides (slice_index_or puts.old.items place d) (slice_index_or takes.old.items other e) s
+        t result) }
 {
     puts[place].close(alloc, &mut takes[other])
 }

@@ -1,4 +1,5 @@
-//! The ends of one clock's buffers: those that it keeps as lists of its own, and those that it shares with other clocks.
+//! The ends of one clock's buffers: those that it keeps as lists of its own, and those that it shares with other
+//! clocks.
 #![tactic(auto)]
 
 mod counts;

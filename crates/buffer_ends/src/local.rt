@@ -95,7 +95,8 @@ impl LocalList {
     // Gives to the back. The chunk comes back where the list is full, and where memory is refused.
     fn give(&mut self, chunk: Chunk) -> Result<Gave, (Chunk, Memory)>
         ensures same { SameBuffer self.old self.new }
-        ensures step { IfOk result (λ gave. (b : ℕ) → (call : Call) × IsGive b chunk gave call × Step (held self.old) call (held self.new)) }
+        ensures step { IfOk result (λ gave. (b : ℕ) → (call : Call) × IsGive b chunk gave call
+            × Step (held self.old) call (held self.new)) }
         ensures memory { IfErr result (λ e. (e.0 ≡ chunk) × (self.new ≡ self.old)) }
     {
         let room = self.chunks.len() < self.capacity as usize;
@@ -156,7 +157,8 @@ impl LocalList {
 // Takes from one of the lists.
 pub(crate) fn take_from(lists: &mut Vec<LocalList>, buffer: u32) -> Result<Option<Chunk>, Memory>
     requires { buffer < length lists.old.items }
-    ensures ok { IfOk result (λ answer. (l : LocalBuffer) × (lists.new.items ≡ slice_set lists.old.items buffer l) × ((d : LocalBuffer) → Step (held (slice_index_or lists.old.items buffer d)) (Took buffer answer) (held l))) }
+    ensures ok { IfOk result (λ answer. (l : LocalBuffer) × (lists.new.items ≡ slice_set lists.old.items buffer l)
+        × ((d : LocalBuffer) → Step (held (slice_index_or lists.old.items buffer d)) (Took buffer answer) (held l))) }
     ensures memory { OnErr result (lists.new.items ≡ lists.old.items) }
     ensures same { SameBuffers lists.old.items lists.new.items }
 {
@@ -170,7 +172,9 @@ pub(crate) fn give_into(
     chunk: Chunk,
 ) -> Result<Gave, (Chunk, Memory)>
     requires { buffer < length lists.old.items }
-    ensures ok { IfOk result (λ gave. (l : LocalBuffer) × (lists.new.items ≡ slice_set lists.old.items buffer l) × (call : Call) × IsGive buffer chunk gave call × ((d : LocalBuffer) → Step (held (slice_index_or lists.old.items buffer d)) call (held l))) }
+    ensures ok { IfOk result (λ gave. (l : LocalBuffer) × (lists.new.items ≡ slice_set lists.old.items buffer l)
+        × (call : Call) × IsGive buffer chunk gave call
+        × ((d : LocalBuffer) → Step (held (slice_index_or lists.old.items buffer d)) call (held l))) }
     ensures memory { IfErr result (λ e. (e.0 ≡ chunk) × (lists.new.items ≡ lists.old.items)) }
     ensures same { SameBuffers lists.old.items lists.new.items }
 {
@@ -192,7 +196,8 @@ pub(crate) fn empty_lists(alloc: Global, buffers: &[BufferPlan]) -> Result<Vec<L
 // Closes the window of one of the lists.
 pub(crate) fn close_in(alloc: Global, lists: &mut Vec<LocalList>, buffer: u32) -> Result<(), Memory>
     requires { buffer < length lists.old.items }
-    ensures closed { OnOk result ((d : LocalBuffer) → lists.new.items ≡ slice_set lists.old.items buffer (closed (slice_index_or lists.old.items buffer d))) }
+    ensures closed { OnOk result ((d : LocalBuffer)
+        → lists.new.items ≡ slice_set lists.old.items buffer (closed (slice_index_or lists.old.items buffer d))) }
     ensures memory { OnErr result (lists.new.items ≡ lists.old.items) }
     ensures many { length lists.new.items ≡ length lists.old.items }
 {
@@ -229,7 +234,8 @@ pub(crate) fn into_logs(lists: Vec<LocalList>, mut logs: Vec<BufferLog>) -> Vec<
 // Opens the windows again that were closed last, of the first lists.
 fn reopen_first(lists: &mut Vec<LocalList>, many: usize)
     requires { (bs : List LocalBuffer) × (many ≤ length bs) × (lists.old.items ≡ closed_first many bs) }
-    ensures { (bs : List LocalBuffer) → many ≤ length bs → lists.old.items ≡ closed_first many bs → lists.new.items ≡ bs }
+    ensures { (bs : List LocalBuffer) → many ≤ length bs → lists.old.items ≡ closed_first many bs
+        → lists.new.items ≡ bs }
 {
     let mut left = many;
     while left > 0 {

@@ -56,8 +56,8 @@ impl LocalTaps {
         self.lists[buffer as usize].counted()
     }
 
-    /// Closes the window of every buffer and opens the next. Where memory is refused all is as before; without buffers it
-    /// takes none.
+    /// Closes the window of every buffer and opens the next. Where memory is refused all is as before; without buffers
+    /// it takes none.
     pub fn end_window(&mut self, alloc: Global) -> Result<(), Memory>
         ensures closed { OnOk result (self.new ≡ map closed self.old) }
         ensures memory { OnErr result (self.new ≡ self.old) }
@@ -77,7 +77,8 @@ impl LocalTaps {
     // Closes the window of the list of this buffer.
     pub(crate) fn close_one(&mut self, alloc: Global, buffer: u32) -> Result<(), Memory>
         requires { buffer < length self.old }
-        ensures closed { OnOk result ((d : LocalBuffer) → self.new ≡ slice_set self.old buffer (closed (slice_index_or self.old buffer d))) }
+        ensures closed { OnOk result ((d : LocalBuffer)
+            → self.new ≡ slice_set self.old buffer (closed (slice_index_or self.old buffer d))) }
         ensures memory { OnErr result (self.new ≡ self.old) }
     {
         close_in(alloc, &mut self.lists, buffer)
@@ -86,7 +87,8 @@ impl LocalTaps {
     // Takes from the list of this buffer.
     pub(crate) fn take_of(&mut self, buffer: u32) -> Result<Option<Chunk>, Memory>
         requires { buffer < length self.old }
-        ensures ok { IfOk result (λ answer. (l : LocalBuffer) × (self.new ≡ slice_set self.old buffer l) × ((d : LocalBuffer) → Step (held (slice_index_or self.old buffer d)) (Took buffer answer) (held l))) }
+        ensures ok { IfOk result (λ answer. (l : LocalBuffer) × (self.new ≡ slice_set self.old buffer l)
+            × ((d : LocalBuffer) → Step (held (slice_index_or self.old buffer d)) (Took buffer answer) (held l))) }
         ensures memory { OnErr result (self.new ≡ self.old) }
         ensures same { SameBuffers self.old self.new }
     {
@@ -96,7 +98,9 @@ impl LocalTaps {
     // Gives to the list of this buffer.
     pub(crate) fn give_to(&mut self, buffer: u32, chunk: Chunk) -> Result<Gave, (Chunk, Memory)>
         requires { buffer < length self.old }
-        ensures ok { IfOk result (λ gave. (l : LocalBuffer) × (self.new ≡ slice_set self.old buffer l) × (call : Call) × IsGive buffer chunk gave call × ((d : LocalBuffer) → Step (held (slice_index_or self.old buffer d)) call (held l))) }
+        ensures ok { IfOk result (λ gave. (l : LocalBuffer) × (self.new ≡ slice_set self.old buffer l) × (call : Call)
+            × IsGive buffer chunk gave call
+            × ((d : LocalBuffer) → Step (held (slice_index_or self.old buffer d)) call (held l))) }
         ensures memory { IfErr result (λ e. (e.0 ≡ chunk) × (self.new ≡ self.old)) }
         ensures same { SameBuffers self.old self.new }
     {

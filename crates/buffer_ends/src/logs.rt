@@ -1,8 +1,8 @@
 // The answers of a buffer, window by window.
 use std::marker::Model;
 
-/// The answers of one window, in order: of the puts, true for an accepted chunk, and of the takes, true for a chunk that
-/// was got.
+/// The answers of one window, in order: of the puts, true for an accepted chunk, and of the takes, true for a chunk
+/// that was got.
 #[derive(Debug, Drop)]
 pub struct WindowLog {
     pub puts: Vec<bool>,

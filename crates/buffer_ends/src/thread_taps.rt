@@ -39,7 +39,8 @@ impl<'a, R> ThreadTaps<'a, R> {
         requires puts { Falling puts.items }
         requires takes { Falling takes.items }
         ensures parts { (result.local ≡ local) × (result.puts ≡ puts.entry) × (result.takes ≡ takes.entry) }
-        ensures stands { AreNew puts.entry.items local → AreNew takes.entry.items local → (calls : List Call) → LocalStands local calls
+        ensures stands { AreNew puts.entry.items local → AreNew takes.entry.items local → (calls : List Call)
+            → LocalStands local calls
             → EndsStand result.puts.items result.takes.items result.local calls }
     {
         ThreadTaps {
@@ -50,10 +51,11 @@ impl<'a, R> ThreadTaps<'a, R> {
         }
     }
 
-    /// Adds the end of a buffer to which the clock gives, behind those of later buffers. Where memory is refused the end is
-    /// lost.
+    /// Adds the end of a buffer to which the clock gives, behind those of later buffers. Where memory is refused the
+    /// end is lost.
     pub fn add_put(&mut self, end: PutEnd<'a>) -> Result<(), Memory>
-        requires { (k : ℕ) (d : _) → k < length self.old.puts.items → end.buffer < (slice_index_or self.old.puts.items k d).buffer }
+        requires { (k : ℕ) (d : _) → k < length self.old.puts.items
+            → end.buffer < (slice_index_or self.old.puts.items k d).buffer }
         ensures added { OnOk result (self.new.puts.items ≡ self.old.puts.items ++ end.entry ∷ []) }
         ensures others { (self.new.takes ≡ self.old.takes) × (self.new.local ≡ self.old.local) }
     {
@@ -61,10 +63,11 @@ impl<'a, R> ThreadTaps<'a, R> {
         Ok(())
     }
 
-    /// Adds the end of a buffer from which the clock takes, behind those of later buffers. Where memory is refused the end is
-    /// lost.
+    /// Adds the end of a buffer from which the clock takes, behind those of later buffers. Where memory is refused the
+    /// end is lost.
     pub fn add_take(&mut self, end: TakeEnd<'a>) -> Result<(), Memory>
-        requires { (k : ℕ) (d : _) → k < length self.old.takes.items → end.buffer < (slice_index_or self.old.takes.items k d).buffer }
+        requires { (k : ℕ) (d : _) → k < length self.old.takes.items
+            → end.buffer < (slice_index_or self.old.takes.items k d).buffer }
         ensures added { OnOk result (self.new.takes.items ≡ self.old.takes.items ++ end.entry ∷ []) }
         ensures others { (self.new.puts ≡ self.old.puts) × (self.new.local ≡ self.old.local) }
     {
@@ -85,8 +88,8 @@ impl<'a, R> ThreadTaps<'a, R> {
         (local, puts, takes)
     }
 
-    /// Closes the window of a buffer to which these taps give, with the ends of the clock that takes from it, and opens the
-    /// next one. It answers the window's answers, and takes no memory.
+    /// Closes the window of a buffer to which these taps give, with the ends of the clock that takes from it, and opens
+    /// the next one. It answers the window's answers, and takes no memory.
     pub fn close_with(
         &mut self,
         alloc: Global,
@@ -95,7 +98,8 @@ impl<'a, R> ThreadTaps<'a, R> {
     ) -> WindowLog
         requires ends { HaveEnds self.old.puts.items takes.old.items buffer }
         requires falling { Falling takes.old.items }
-        ensures closed { WasClosed buffer self.old.puts.items self.new.puts.items takes.old.items takes.new.items result }
+        ensures closed { WasClosed buffer self.old.puts.items self.new.puts.items takes.old.items takes.new.items
+            result }
         ensures mine { (self.new.takes ≡ self.old.takes) × (self.new.local ≡ self.old.local) }
         ensures falling { Falling takes.new.items }
     {
@@ -129,21 +133,25 @@ impl<'a, R> ThreadTaps<'a, R> {
     /// Closes the window of the list of a buffer and opens the next one. Where memory is refused all is as before.
     pub fn close_list(&mut self, alloc: Global, buffer: u32) -> Result<(), Memory>
         requires { buffer < length self.old.local }
-        ensures closed { OnOk result ((d : LocalBuffer) → self.new.local ≡ slice_set self.old.local buffer (closed (slice_index_or self.old.local buffer d))) }
+        ensures closed { OnOk result ((d : LocalBuffer)
+            → self.new.local ≡ slice_set self.old.local buffer (closed (slice_index_or self.old.local buffer d))) }
         ensures memory { OnErr result (self.new.local ≡ self.old.local) }
         ensures ends { (self.new.puts ≡ self.old.puts) × (self.new.takes ≡ self.old.takes) }
-        ensures stands { OnOk result ((calls : List Call) → ListsStand (λ b. Has self.old.puts.items b ⊎ Has self.old.takes.items b) self.old.local calls
+        ensures stands { OnOk result ((calls : List Call)
+            → ListsStand (λ b. Has self.old.puts.items b ⊎ Has self.old.takes.items b) self.old.local calls
             → ListsStand (λ b. Has self.old.puts.items b ⊎ Has self.old.takes.items b) self.new.local calls) }
     {
         self.local.close_one(alloc, buffer)
     }
 
-    /// How often the calls on a buffer had which answer, by the answers that are held: those of its end's window, or those
-    /// of its list where it has no end.
+    /// How often the calls on a buffer had which answer, by the answers that are held: those of its end's window, or
+    /// those of its list where it has no end.
     pub fn counts(&self, buffer: u32) -> Counts
         requires { buffer < length self.now.local }
-        ensures puts { (d : LocalBuffer) → PutsCounted self.now.puts.items (slice_index_or self.now.local buffer d) buffer result }
-        ensures takes { (d : LocalBuffer) → TakesCounted self.now.takes.items (slice_index_or self.now.local buffer d) buffer result }
+        ensures puts { (d : LocalBuffer)
+            → PutsCounted self.now.puts.items (slice_index_or self.now.local buffer d) buffer result }
+        ensures takes { (d : LocalBuffer)
+            → TakesCounted self.now.takes.items (slice_index_or self.now.local buffer d) buffer result }
     {
         let counts = self.local.counts(buffer);
         let counts = with_puts(&self.puts, buffer, counts);
@@ -161,11 +169,17 @@ impl<'a, R: Wait> Taps for ThreadTaps<'a, R> {
 
     ghost buffers = { λ s. length s.local };
 
-    ghost same = { λ s t. SameSides s.puts.items t.puts.items × SameSides s.takes.items t.takes.items × SameBuffers s.local t.local };
+    ghost same = { λ s t. SameSides s.puts.items t.puts.items × SameSides s.takes.items t.takes.items
+        × SameBuffers s.local t.local };
 
     ghost same_refl = { λ s. (same_sides_refl s.puts.items, same_sides_refl s.takes.items, same_buffers_refl s.local) };
 
-    ghost same_trans = { λ s t u a b. (same_sides_trans s.puts.items t.puts.items u.puts.items a.0 b.0, same_sides_trans s.takes.items t.takes.items u.takes.items a.1 b.1, same_buffers_trans s.local t.local u.local a.2 b.2) };
+    ghost same_trans = { λ s t u a b. (
+      same_sides_trans s.puts.items t.puts.items u.puts.items a.0 b.0,
+      same_sides_trans s.takes.items t.takes.items
+          u.takes.items a.1 b.1,
+      same_buffers_trans s.local t.local u.local a.2 b.2,
+    ) };
 
     fn take(&mut self, buffer: u32) -> Result<Option<Chunk>, Memory> {
         match take_place(&self.takes, buffer) {

@@ -24,16 +24,33 @@ contents_of v = left_by v.opening v.put v.got
 
 -- the two passes of the next window, which opens with the contents: one has the puts, the other the takes
 abbrev pub putter : ℕ → View → View
-putter n v = record { capacity = n; puts = true; takes = false; opening = contents_of v; put = []; since = []; got = [] }
+putter n v = record {
+  capacity = n;
+  puts = true;
+  takes = false;
+  opening = contents_of v;
+  put = [];
+  since = [];
+  got = [];
+}
 
 abbrev pub taker : ℕ → View → View
 taker n v = record { capacity = n; puts = false; takes = true; opening = []; put = []; since = contents_of v; got = [] }
 
 -- both roles in one pass
 abbrev pub both : View → View → View
-both v w = record { capacity = v.capacity; puts = true; takes = true; opening = v.opening; put = v.put; since = w.since; got = w.got }
+both v w = record {
+  capacity = v.capacity;
+  puts = true;
+  takes = true;
+  opening = v.opening;
+  put = v.put;
+  since = w.since;
+  got = w.got;
+}
 
--- the pass of each role is the only one, and knows the capacity, the window's opening contents and the moves of its role
+-- the pass of each role is the only one, and knows the capacity, the window's opening contents and the moves of its
+-- role
 abbrev pub FitsView : ℕ → ℕ → ℕ → List Cells → List (Move Cells) → ℕ → View → Type 0
 FitsView capacity writer reader queue moves port v =
     (v.puts ≡ true → (port ≡ writer) × (v.capacity ≡ capacity) × (v.opening ≡ queue) × (v.put ≡ puts_of moves))
@@ -58,7 +75,8 @@ IsGot v x w = (n : ℕ) × (w ≡ record v { got = v.got ++ (x, n) ∷ [] })
 -- there or put.
 abbrev pub Fills : View → List Cells → Type 0
 Fills v items =
-    length items ≡ v.capacity → (last_or (length v.opening) v.put ≡ v.capacity) × (v.capacity ≤ length v.opening + length v.put)
+    length items ≡ v.capacity → (last_or (length v.opening) v.put ≡ v.capacity)
+    × (v.capacity ≤ length v.opening + length v.put)
 
 -- of an empty queue: the last chunk got, or the opening, left none, and all that was there was got
 abbrev pub Drains : View → List Cells → Type 0

@@ -20,8 +20,14 @@ pub record Window : Type 0 where
 abbrev pub window_coded : Coded Window
 window_coded =
     code_by (TableId × (List (List Cell) × (ℕ × List (Option (List Cell)))))
-    (coded× table_id_coded (coded× (coded_list (coded_list cell_coded)) (coded× coded_ℕ (coded_list (coded_option (coded_list cell_coded))))))
-    (λ w. (w.queue, (w.opening, (w.left, w.answers)))) (λ p. record { queue = p.0; opening = p.1.0; left = p.1.1.0; answers = p.1.1.1 }) (λ _. refl)
+    (coded× table_id_coded (coded× (coded_list (coded_list cell_coded))
+    (coded× coded_ℕ (coded_list (coded_option (coded_list cell_coded))))))
+    (λ w. (w.queue, (w.opening, (w.left, w.answers)))) (λ p. record {
+      queue = p.0;
+      opening = p.1.0;
+      left = p.1.1.0;
+      answers = p.1.1.1;
+    }) (λ _. refl)
 
 -- how many chunks a queue may hold
 abbrev pub capacity_of : TableId → ℕ

@@ -9,7 +9,8 @@ use plan_core::Plan;
 
 /// The main clock in which a node lies, through its sub-clocks.
 pub fn main_of(plan: &Plan, clocks: &ClockMap, node: u32) -> u32
-    ensures { (setting : Setting) → setting.plan ≡ plan.now → setting.clocks ≡ clocks.now.of → result ≡ main_of setting node }
+    ensures { (setting : Setting) → setting.plan ≡ plan.now → setting.clocks ≡ clocks.now.of
+        → result ≡ main_of setting node }
 {
     let mut clock = clock_at(clocks, node);
     let mut depth = plan.nodes.len();

@@ -58,7 +58,8 @@ pub fn readers(alloc: Global, plan: &Plan) -> Result<Vec<u32>, Memory>
 fn put_reader(number: u32, node: &Node, found: &mut [u32])
     requires { (buffer : ℕ) → node.now.op ≡ Buffer buffer → buffer < length found.old }
     ensures size { length found.new ≡ length found.old }
-    ensures read { (plan : ThePlan) (nodes : List PlanNode) → AreReaders plan (suc number) nodes found.old → AreReaders plan number (node.now ∷ nodes) found.new }
+    ensures read { (plan : ThePlan) (nodes : List PlanNode) → AreReaders plan (suc number) nodes found.old
+        → AreReaders plan number (node.now ∷ nodes) found.new }
 {
     if let Some(buffer) = node.op.buffer_read() {
         found[buffer as usize] = number;

@@ -20,7 +20,7 @@ use Rattle.script_values.specs.declared.fault.Fault.TheVariants.{TooLarge, TooMa
 use Rattle.script_values.specs.declared.fault.Limit.{Limit}
 use Rattle.script_values.specs.declared.fault.Limit.TheVariants.{Crossfades, Outputs}
 use Rattle.script_values.specs.declared.machine.Machine.{Machine}
-use Rattle.script_values.specs.Values.{Value, Source, Nothing}
+use Rattle.script_values.specs.Values.{Value, Source, UnitValue}
 use Rattle.builtin_calls.specs.Nodes.{at_most, few, push, add, add_buffer}
 use Rattle.builtin_calls.specs.Sinks.{is_named, add_output}
 use Rattle.builtin_calls.specs.Builtins.{node}
@@ -208,12 +208,12 @@ sound_output m name s b w there few_outputs so =
     }
 
 put_by : (t u : Bool) (m : Machine) (name : List ℕ) (s : ℕ) (b w : Bool) (x : Value × Machine) → nat_lt (count_by is_output m.plan.sinks) MAX_OUTPUTS ≡ u → s < length m.plan.nodes
-    → ◌≡◌ {A = Result (Value × Machine) Fault} (elim t [ true ↦ Err (SameOutput name) | false ↦ elim u [ true ↦ Ok (Nothing, record m { plan = with_output m.plan name s b w }) | false ↦ Err (TooLarge Outputs) ] ]) (Ok x) → Keeps m x.1
+    → ◌≡◌ {A = Result (Value × Machine) Fault} (elim t [ true ↦ Err (SameOutput name) | false ↦ elim u [ true ↦ Ok (UnitValue, record m { plan = with_output m.plan name s b w }) | false ↦ Err (TooLarge Outputs) ] ]) (Ok x) → Keeps m x.1
 put_by true u m name s b w x test there is = absurd cc
 put_by false false m name s b w x test there is = absurd cc
 put_by false true m name s b w x test there is =
     let few_outputs : count_by is_output m.plan.sinks < MAX_OUTPUTS = grind arith in
-    let state : record m { plan = with_output m.plan name s b w } ≡ x.1 = ap (λ (y : Value × Machine). y.1) (ok_is (Nothing, record m { plan = with_output m.plan name s b w }) x is) in
+    let state : record m { plan = with_output m.plan name s b w } ≡ x.1 = ap (λ (y : Value × Machine). y.1) (ok_is (UnitValue, record m { plan = with_output m.plan name s b w }) x is) in
     let after_it : Keeps m (record m { plan = with_output m.plan name s b w }) = record { sound = sound_output m name s b w there few_outputs; nodes = λ i old is. is } in
     subst (Keeps m) state after_it
 

@@ -11,13 +11,13 @@ use Rattle.script_values.specs.declared.fault.Limit.TheVariants.{Children, Cross
 use Rattle.script_values.specs.declared.machine.Machine.{Machine}
 use Rattle.script_values.specs.Machines.{some_millionths, first_machine}
 use Rattle.script_values.specs.Slots.{Argument}
-use Rattle.script_values.specs.Values.{Value, Int, Number, Text, Nothing, Source, Listed, none, more}
+use Rattle.script_values.specs.Values.{Value, Int, Number, Text, UnitValue, Source, ListValue, no_values, more_values}
 use Rattle.plan_core.specs.Plans.{with_node}
 use Rattle.builtin_calls.specs.Nodes.{few, push, add}
-use Rattle.builtin_calls.specs.Parts.{as_int, as_text, as_decimal, source_of, sources_of, nodes_from, plain, plain_text, plain_decimal, plain_source, plain_sources, bool_or, int_or, text_or, decimal_or}
+use Rattle.builtin_calls.specs.Parts.{as_int, as_text, as_decimal, source_of, sources_of, nodes_from, plain_argument, plain_text, plain_decimal, plain_source, plain_sources, bool_or, int_or, text_or, decimal_or}
 use Rattle.builtin_calls.specs.Settings.{rate_of, set_rate, set_duration, setting}
 use Rattle.builtin_calls.specs.Sinks.{add_output}
-use Rattle.builtin_calls.specs.Times.{overlap_of, track_of, pitch_of, samples_of}
+use Rattle.builtin_calls.specs.Times.{overlap_samples, track_of, pitch_of, samples_of}
 use Rattle.builtin_calls.specs.Builtins.{node, blank, square, playlist, random, over_sources, few_sources, builtin, crossfade, short_overlap, buffer_plan}
 
 -- 8000 samples a second
@@ -45,7 +45,7 @@ unfolding setting set_rate rate_of
 rate_as_decimal = refl
 
 -- any other key has no effect, also late
-other_key : setting (codes "log.stdout") (Int (pos 1)) later ≡ Ok (Nothing, later)
+other_key : setting (codes "log.stdout") (Int (pos 1)) later ≡ Ok (UnitValue, later)
 unfolding setting
 other_key = refl
 
@@ -63,11 +63,11 @@ unfolding track_of
 endless = refl
 
 no_pitch : square 7 (Mono ∷ []) ((None, Number (some_millionths 0 tt)) ∷ []) slow ≡ Err (BadValue 7)
-unfolding square plain_decimal plain as_decimal pitch_of
+unfolding square plain_decimal plain_argument as_decimal pitch_of
 no_pitch = refl
 
 random_mode : playlist 7 (Mono ∷ []) (labelled (codes "mode") (Text (codes "random")) ∷ (None, Text (codes "L")) ∷ []) slow ≡ Err (BadValue 7)
-unfolding playlist bool_or text_or as_text plain_text plain
+unfolding playlist bool_or text_or as_text plain_text plain_argument
 random_mode = refl
 
 -- a blank under so many crossfades
@@ -80,22 +80,22 @@ under n = record slow { plan = record slow.plan { nodes = faded n } }
 
 -- the fifth crossfade of a path is too many, before its overlap is looked at
 five_crossfades : crossfade 7 (Mono ∷ []) (labelled (codes "duration") (Number (some_millionths 999000000 tt)) ∷ (None, Source 4) ∷ []) (under 4) ≡ Err (TooLarge Crossfades)
-unfolding crossfade decimal_or as_decimal plain_source plain source_of short_overlap overlap_of
+unfolding crossfade decimal_or as_decimal plain_source plain_argument source_of short_overlap overlap_samples
 five_crossfades = refl
 
 -- and the fourth is not, so the overlap is told
 long_overlap : crossfade 7 (Mono ∷ []) (labelled (codes "duration") (Number (some_millionths 999000000 tt)) ∷ (None, Source 3) ∷ []) (under 3) ≡ Err (TooLarge Overlap)
-unfolding crossfade decimal_or as_decimal plain_source plain source_of short_overlap overlap_of
+unfolding crossfade decimal_or as_decimal plain_source plain_argument source_of short_overlap overlap_samples
 long_overlap = refl
 
 -- a bad value comes before a limit
 no_overlap : crossfade 7 (Mono ∷ []) (labelled (codes "duration") (Number (some_millionths 100 tt)) ∷ (None, Source 4) ∷ []) (under 4) ≡ Err (BadValue 7)
-unfolding crossfade decimal_or as_decimal plain_source plain source_of short_overlap overlap_of
+unfolding crossfade decimal_or as_decimal plain_source plain_argument source_of short_overlap overlap_samples
 no_overlap = refl
 
 -- a source of another kind is no value of this call
 other_kind : crossfade 7 (Stereo ∷ []) ((None, Source 0) ∷ []) (under 0) ≡ Err Stuck
-unfolding crossfade decimal_or as_decimal plain_source plain source_of
+unfolding crossfade decimal_or as_decimal plain_source plain_argument source_of
 other_kind = refl
 
 -- `buffer(buffer=0., max=0.01, s)` at 8000 samples a second and ticks of 8 samples
@@ -110,25 +110,25 @@ least_buffer = refl
 
 -- `[s]`, where s is the blank
 abbrev blanks : Argument
-blanks = (None, Listed (more (Source 0) none))
+blanks = (None, ListValue (more_values (Source 0) no_values))
 
 -- a seed below zero is bad
 negative_seed : random 7 (Mono ∷ []) (labelled (codes "seed") (Int (negsuc 0)) ∷ blanks ∷ []) (under 0) ≡ Err (BadValue 7)
-unfolding random int_or as_int plain_sources plain sources_of nodes_from source_of
+unfolding random int_or as_int plain_sources plain_argument sources_of nodes_from source_of
 negative_seed = refl
 
 -- the seed is that of the argument, and 0 where none is given
 a_seed : random 7 (Mono ∷ []) (blanks ∷ labelled (codes "seed") (Int (pos 12)) ∷ []) (under 0) ≡ Ok (Source 1, record (under 0) { plan = with_node (under 0).plan (node (op.Random 12) Mono (0 ∷ [])) })
-unfolding random int_or as_int plain_sources plain sources_of nodes_from source_of add push
+unfolding random int_or as_int plain_sources plain_argument sources_of nodes_from source_of add push
 a_seed = refl
 
 no_seed : random 7 (Mono ∷ []) (blanks ∷ []) (under 0) ≡ Ok (Source 1, record (under 0) { plan = with_node (under 0).plan (node (op.Random 0) Mono (0 ∷ [])) })
-unfolding random int_or plain_sources plain sources_of nodes_from source_of add push
+unfolding random int_or plain_sources plain_argument sources_of nodes_from source_of add push
 no_seed = refl
 
 -- `rotate` is no `sequence`
 by_turns : builtin builtins.Rotate 7 (Mono ∷ []) (blanks ∷ []) (under 0) ≡ Ok (Source 1, record (under 0) { plan = with_node (under 0).plan (node op.Rotate Mono (0 ∷ [])) })
-unfolding builtin over_sources few_sources plain_sources plain sources_of nodes_from source_of add push
+unfolding builtin over_sources few_sources plain_sources plain_argument sources_of nodes_from source_of add push
 by_turns = refl
 
 many_children : few (replicate 65536 0) ≡ Err (TooLarge Children)

@@ -21,16 +21,16 @@ use Rattle.script_values.specs.declared.fault.Fault.{Fault}
 use Rattle.script_values.specs.declared.fault.Fault.TheVariants.{BadValue, BadSetting, TooMuchWork}
 use Rattle.script_values.specs.declared.fault.Limit.TheVariants.{Crossfades, Overlap, Prefill, Capacity}
 use Rattle.script_values.specs.declared.machine.Machine.{Machine}
-use Rattle.script_values.specs.Machines.{some_millionths, first_machine, count}
+use Rattle.script_values.specs.Machines.{some_millionths, first_machine, count_work}
 use Rattle.script_values.specs.Outcomes.{◌>>=◌}
 use Rattle.script_values.specs.Slots.{Argument}
-use Rattle.script_values.specs.Values.{Value, Int, Number, Text, Truth, Nothing, Format, Pred, Source, Listed, Tuple}
-use Rattle.builtin_calls.specs.Parts.{one_kind, plain, plain_text, plain_decimal, plain_format, plain_source, plain_sources, plain_pairs, bool_or, int_or, text_or, decimal_or}
+use Rattle.script_values.specs.Values.{Value, Int, Number, Text, TruthValue, UnitValue, FormatValue, Pred, Source, ListValue, TupleValue}
+use Rattle.builtin_calls.specs.Parts.{one_kind, plain_argument, plain_text, plain_decimal, plain_format, plain_source, plain_sources, plain_pairs, bool_or, int_or, text_or, decimal_or}
 use Rattle.builtin_calls.specs.Nodes.{at_most, few, crossfades_with, add, push, add_buffer}
-use Rattle.builtin_calls.specs.Times.{some_samples, overlap_of, track_of, samples_of, pitch_of, chunks}
+use Rattle.builtin_calls.specs.Times.{some_samples, overlap_samples, track_of, samples_of, pitch_of, chunks}
 use Rattle.builtin_calls.specs.Sinks.{add_output}
-use Rattle.builtin_calls.specs.Settings.{opened, rate_of, duration_of, set_rate, set_duration, setting}
-use Rattle.builtin_calls.specs.Builtins.{node, is_normal, builtin, sensitive_or, few_sources, few_pairs, over_sources, seed_of, buffer_plan, short_overlap, safe, output_file, set, single, playlist, blank, square, fail, fallback, switch, random, sum, amplify, mean, stereo, crossfade, mksafe, buffer, clock}
+use Rattle.builtin_calls.specs.Settings.{settings_opened, rate_of, duration_of, set_rate, set_duration, setting}
+use Rattle.builtin_calls.specs.Builtins.{node, is_normal, builtin, sensitive_or, few_sources, few_pairs, over_sources, seed_of, buffer_plan, short_overlap, safe, output_file, set, single, playlist, blank, square, fail, fallback, switch, random, add_sources, amplify, mean, stereo, crossfade, mksafe, buffer, clock}
 use Rattle.builtin_calls.specs.Sound.{IsSound, Keeps}
 use Rattle.builtin_calls.proofs.Reading.{after, ok_is, IsSource, ArePairs, a_source, some_sources, some_pairs}
 use Rattle.builtin_calls.proofs.Adding.{keeps_itself, then_keeps, within, few_are, leaf_over, one_over, two_over, list_over, pushed, added, pushed_source, kept_source, buffered, put_output}
@@ -78,14 +78,14 @@ overlap_by : (b : Bool) (at n r : ℕ) → ◌≡◌ {A = Result ℕ Fault} (eli
 overlap_by true at n r is = absurd cc
 overlap_by false at n r is = some_by (nat_eq n 0) at n r refl is
 
-some_overlap : (at rate : ℕ) (d : Decimal) (r : ℕ) → overlap_of at rate d ≡ Ok r → 1 ≤ r
-unfolding overlap_of
+some_overlap : (at rate : ℕ) (d : Decimal) (r : ℕ) → overlap_samples at rate d ≡ Ok r → 1 ≤ r
+unfolding overlap_samples
 some_overlap at rate d r is = overlap_by (int_le d.millionths (pos 0)) at (samples_in d.millionths rate) r is
 
 short_is : (at s : ℕ) (d : Decimal) (p : Plan) (r : ℕ) → short_overlap at s d p ≡ Ok r → (1 ≤ r) × (r ≤ MAX_OVERLAP)
 unfolding short_overlap
 short_is at s d p r is =
-    let step0 = after (overlap_of at p.rate d) (λ overlap. at_most MAX_CROSSFADES Crossfades (crossfades_with s p) >>= λ crossfades. at_most MAX_OVERLAP Overlap overlap) r is in
+    let step0 = after (overlap_samples at p.rate d) (λ overlap. at_most MAX_CROSSFADES Crossfades (crossfades_with s p) >>= λ crossfades. at_most MAX_OVERLAP Overlap overlap) r is in
     let overlap = step0.0 in
     let step1 = after (at_most MAX_CROSSFADES Crossfades (crossfades_with s p)) (λ crossfades. at_most MAX_OVERLAP Overlap overlap) r step0.2 in
     let some = some_overlap at p.rate d overlap step0.1 in
@@ -151,13 +151,13 @@ unfolding rate_of
 rate_is (Int n) r is = rate_by (int_le (pos MIN_RATE) n && int_le n (pos MAX_RATE)) n r refl is
 rate_is (Number d) r is = absurd cc
 rate_is (Text t) r is = absurd cc
-rate_is (Truth b) r is = absurd cc
-rate_is Nothing r is = absurd cc
-rate_is (Format wide) r is = absurd cc
+rate_is (TruthValue b) r is = absurd cc
+rate_is UnitValue r is = absurd cc
+rate_is (FormatValue wide) r is = absurd cc
 rate_is (Pred p) r is = absurd cc
 rate_is (Source i) r is = absurd cc
-rate_is (Listed vs) r is = absurd cc
-rate_is (Tuple vs) r is = absurd cc
+rate_is (ListValue vs) r is = absurd cc
+rate_is (TupleValue vs) r is = absurd cc
 
 -- another rate in range
 other_rate : (m : Machine) (r : ℕ) → (MIN_RATE ≤ r) × (r ≤ MAX_RATE) → Keeps m (record m { plan = record m.plan { rate = r } })
@@ -186,11 +186,11 @@ other_rate m r within_range = record {
 set_rate_keeps : (v : Value) (m : Machine) (x : Value × Machine) → set_rate v m ≡ Ok x → Keeps m x.1
 unfolding set_rate
 set_rate_keeps v m x is =
-    let step0 = after (opened m) (λ c. rate_of v >>= λ rate. Ok (Nothing, record c { plan = record c.plan { rate = rate } })) x is in
+    let step0 = after (settings_opened m) (λ c. rate_of v >>= λ rate. Ok (UnitValue, record c { plan = record c.plan { rate = rate } })) x is in
     let c = step0.0 in
-    let step1 = after (rate_of v) (λ rate. Ok (Nothing, record c { plan = record c.plan { rate = rate } })) x step0.2 in
+    let step1 = after (rate_of v) (λ rate. Ok (UnitValue, record c { plan = record c.plan { rate = rate } })) x step0.2 in
     let rate = step1.0 in
-    let state : record c { plan = record c.plan { rate = rate } } ≡ x.1 = ap (λ (y : Value × Machine). y.1) (ok_is (Nothing, record c { plan = record c.plan { rate = rate } }) x step1.2) in
+    let state : record c { plan = record c.plan { rate = rate } } ≡ x.1 = ap (λ (y : Value × Machine). y.1) (ok_is (UnitValue, record c { plan = record c.plan { rate = rate } }) x step1.2) in
     let first = same_plan m c (opened_by m.settings.allowed m c step0.1) in
     let second = other_rate c rate (rate_is v rate step1.1) in
     subst (Keeps m) state (then_keeps m c (record c { plan = record c.plan { rate = rate } }) first second)
@@ -198,17 +198,17 @@ set_rate_keeps v m x is =
 set_duration_keeps : (v : Value) (m : Machine) (x : Value × Machine) → set_duration v m ≡ Ok x → Keeps m x.1
 unfolding set_duration
 set_duration_keeps v m x is =
-    let step0 = after (opened m) (λ c. duration_of v >>= λ d. Ok (Nothing, record c { settings = record c.settings { duration = d } })) x is in
+    let step0 = after (settings_opened m) (λ c. duration_of v >>= λ d. Ok (UnitValue, record c { settings = record c.settings { duration = d } })) x is in
     let c = step0.0 in
-    let step1 = after (duration_of v) (λ d. Ok (Nothing, record c { settings = record c.settings { duration = d } })) x step0.2 in
+    let step1 = after (duration_of v) (λ d. Ok (UnitValue, record c { settings = record c.settings { duration = d } })) x step0.2 in
     let d = step1.0 in
-    let state : record c { settings = record c.settings { duration = d } } ≡ x.1 = ap (λ (y : Value × Machine). y.1) (ok_is (Nothing, record c { settings = record c.settings { duration = d } }) x step1.2) in
+    let state : record c { settings = record c.settings { duration = d } } ≡ x.1 = ap (λ (y : Value × Machine). y.1) (ok_is (UnitValue, record c { settings = record c.settings { duration = d } }) x step1.2) in
     same_plan m x.1 (opened_by m.settings.allowed m c step0.1 ∙ ap (λ (n : Machine). n.plan) state)
 
-setting_by : (s t : Bool) (v : Value) (m : Machine) (x : Value × Machine) → ◌≡◌ {A = Result (Value × Machine) Fault} (elim s [ true ↦ set_rate v m | false ↦ elim t [ true ↦ set_duration v m | false ↦ Ok (Nothing, m) ] ]) (Ok x) → Keeps m x.1
+setting_by : (s t : Bool) (v : Value) (m : Machine) (x : Value × Machine) → ◌≡◌ {A = Result (Value × Machine) Fault} (elim s [ true ↦ set_rate v m | false ↦ elim t [ true ↦ set_duration v m | false ↦ Ok (UnitValue, m) ] ]) (Ok x) → Keeps m x.1
 setting_by true t v m x is = set_rate_keeps v m x is
 setting_by false true v m x is = set_duration_keeps v m x is
-setting_by false false v m x is = (let state : m ≡ x.1 = ap (λ (y : Value × Machine). y.1) (ok_is (Nothing, m) x is) in subst (Keeps m) state (keeps_itself m))
+setting_by false false v m x is = (let state : m ≡ x.1 = ap (λ (y : Value × Machine). y.1) (ok_is (UnitValue, m) x is) in subst (Keeps m) state (keeps_itself m))
 
 setting_keeps : (key : List ℕ) (v : Value) (m : Machine) (x : Value × Machine) → setting key v m ≡ Ok x → Keeps m x.1
 unfolding setting
@@ -314,8 +314,8 @@ random_keeps at kinds given m x is =
     let are = subst (All (IsSource m.plan.nodes k)) short.0 (some_sources m.plan.nodes k number.1 sources step2.1) in
     added (node (op.Random seed) k children) m x step4.2 (list_over m.plan.nodes (op.Random seed) k k children are short.1 tt refl tt) (λ b e. cc)
 
-sum_keeps : (kinds : List Kind) (given : List Argument) (m : Machine) (x : Value × Machine) → sum kinds given m ≡ Ok x → Keeps m x.1
-unfolding sum
+sum_keeps : (kinds : List Kind) (given : List Argument) (m : Machine) (x : Value × Machine) → add_sources kinds given m ≡ Ok x → Keeps m x.1
+unfolding add_sources
 sum_keeps kinds given m x is =
     let step = after (bool_or (codes "normalize") true given) (λ normalize. over_sources (op.Add normalize.0) kinds normalize.1 m) x is in
     over_sources_keep (op.Add step.0.0) (λ n. tt) (λ k. refl) tt (λ b e. cc) kinds step.0.1 m x step.2
@@ -430,9 +430,9 @@ output_file_keeps kinds given m x is =
 set_keeps : (given : List Argument) (m : Machine) (x : Value × Machine) → set given m ≡ Ok x → Keeps m x.1
 unfolding set
 set_keeps given m x is =
-    let step0 = after (plain_text given) (λ key. plain key.1 >>= λ value. setting key.0 value.0 m) x is in
+    let step0 = after (plain_text given) (λ key. plain_argument key.1 >>= λ value. setting key.0 value.0 m) x is in
     let key = step0.0 in
-    let step1 = after (plain key.1) (λ value. setting key.0 value.0 m) x step0.2 in
+    let step1 = after (plain_argument key.1) (λ value. setting key.0 value.0 m) x step0.2 in
     let value = step1.0 in
     setting_keeps key.0 value.0 m x step1.2
 
@@ -440,8 +440,8 @@ counted_by : (b : Bool) (n : ℕ) (m c : Machine) → ◌≡◌ {A = Result Mach
 counted_by true n m c is = (let same = ok_is (record m { work = m.work + n }) c is in ap (λ (d : Machine). d.plan) same)
 counted_by false n m c is = absurd cc
 
-pub counting_keeps : (n : ℕ) (m c : Machine) → count n m ≡ Ok c → Keeps m c
-unfolding count
+pub counting_keeps : (n : ℕ) (m c : Machine) → count_work n m ≡ Ok c → Keeps m c
+unfolding count_work
 counting_keeps n m c is = same_plan m c (counted_by (nat_le (m.work + n) MAX_WORK) n m c is)
 
 pub first_sound : IsSound first_machine

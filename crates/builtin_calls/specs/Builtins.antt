@@ -20,9 +20,9 @@ use Rattle.script_values.specs.declared.machine.Machine.{Machine}
 use Rattle.script_values.specs.Machines.{some_millionths}
 use Rattle.script_values.specs.Outcomes.{◌>>=◌, Outcome}
 use Rattle.script_values.specs.Slots.{Argument}
-use Rattle.builtin_calls.specs.Parts.{one_kind, plain, plain_text, plain_decimal, plain_format, plain_source, plain_sources, plain_pairs, bool_or, int_or, text_or, decimal_or}
+use Rattle.builtin_calls.specs.Parts.{one_kind, plain_argument, plain_text, plain_decimal, plain_format, plain_source, plain_sources, plain_pairs, bool_or, int_or, text_or, decimal_or}
 use Rattle.builtin_calls.specs.Nodes.{at_most, few, crossfades_with, add, push, add_buffer}
-use Rattle.builtin_calls.specs.Times.{overlap_of, track_of, samples_of, pitch_of, chunks}
+use Rattle.builtin_calls.specs.Times.{overlap_samples, track_of, samples_of, pitch_of, chunks}
 use Rattle.builtin_calls.specs.Sinks.{add_output}
 use Rattle.builtin_calls.specs.Settings.{setting}
 
@@ -44,7 +44,7 @@ output_file kinds given m = do
 unfoldable pub set : List Argument → Machine → Outcome
 set given m = do
   key ← plain_text given
-  value ← plain key.1
+  value ← plain_argument key.1
   setting key.0 value.0 m
 
 -- single(file)
@@ -151,8 +151,8 @@ random at kinds given m = do
   add (node (op.Random seed) k children) m
 
 -- add(normalize=true, sources)
-unfoldable pub sum : List Kind → List Argument → Machine → Outcome
-sum kinds given m = do
+unfoldable pub add_sources : List Kind → List Argument → Machine → Outcome
+add_sources kinds given m = do
   normalize ← bool_or (codes "normalize") true given
   over_sources (op.Add normalize.0) kinds normalize.1 m
 
@@ -179,7 +179,7 @@ stereo given m = do
 -- the overlap of a crossfade of a source, in samples
 unfoldable pub short_overlap : ℕ → ℕ → Decimal → Plan → Result ℕ Fault
 short_overlap at s duration plan = do
-  overlap ← overlap_of at plan.rate duration
+  overlap ← overlap_samples at plan.rate duration
   crossfades ← at_most MAX_CROSSFADES Crossfades (crossfades_with s plan)
   at_most MAX_OVERLAP Overlap overlap
 
@@ -245,7 +245,7 @@ builtin builtins.Switch at kinds given m = switch kinds given m
 builtin builtins.Sequence at kinds given m = over_sources op.Sequence kinds given m
 builtin builtins.Rotate at kinds given m = over_sources op.Rotate kinds given m
 builtin builtins.Random at kinds given m = random at kinds given m
-builtin builtins.Add at kinds given m = sum kinds given m
+builtin builtins.Add at kinds given m = add_sources kinds given m
 builtin builtins.Amplify at kinds given m = amplify kinds given m
 builtin builtins.Mean at kinds given m = mean given m
 builtin builtins.Stereo at kinds given m = stereo given m

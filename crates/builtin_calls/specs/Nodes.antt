@@ -34,7 +34,8 @@ few children =
 abbrev pub crossfades_with : ℕ → Plan → ℕ
 crossfades_with child plan = 1 + slice_index (crossfade_counts plan.nodes) child
 
--- A node behind the others, and its number. No path down from it may have more than 4 crossfades: only a crossfade can come to that.
+-- A node behind the others, and its number. No path down from it may have more than 4 crossfades: only a crossfade can
+-- come to that.
 unfoldable pub push : Node → Machine → Result (ℕ × Machine) Fault
 push node m = do
   crossfades ← at_most MAX_CROSSFADES Crossfades (crossfades_from m.plan.nodes node)

@@ -10,7 +10,7 @@ use Rattle.script_values.specs.declared.fault.Fault.{Fault}
 use Rattle.script_values.specs.declared.fault.Fault.TheVariants.{Stuck}
 use Rattle.script_values.specs.Outcomes.{◌>>=◌}
 use Rattle.script_values.specs.Slots.{Argument}
-use Rattle.script_values.specs.Values.{ValueTree, Many, none, more, Value, Int, Number, Text, Truth, Format, Pred, Source, Listed, Tuple}
+use Rattle.script_values.specs.Values.{ValueTree, ManyValues, no_values, more_values, Value, Int, Number, Text, TruthValue, FormatValue, Pred, Source, ListValue, TupleValue}
 
 -- the kind of a call with one open kind
 abbrev pub one_kind : List Kind → Result Kind Fault
@@ -31,12 +31,12 @@ as_int (Int n) = Ok n
 as_int v = Err Stuck
 
 unfoldable pub as_bool : Value → Result Bool Fault
-as_bool (Truth b) = Ok b
+as_bool (TruthValue b) = Ok b
 as_bool v = Err Stuck
 
 -- whether the samples of a format are wide
 unfoldable pub as_format : Value → Result Bool Fault
-as_format (Format wide) = Ok wide
+as_format (FormatValue wide) = Ok wide
 as_format v = Err Stuck
 
 abbrev pub is_kind : Kind → Kind → Bool
@@ -59,12 +59,12 @@ source_of nodes k (Source n) = of_kind k n (slice_get nodes n)
 source_of nodes k v = Err Stuck
 
 -- the sources of a list, behind these
-unfoldable pub nodes_from : List Node → Kind → ValueTree Many → List ℕ → Result (List ℕ) Fault
-nodes_from nodes k none ns = Ok ns
-nodes_from nodes k (more v vs) ns = source_of nodes k v >>= λ n. nodes_from nodes k vs (ns ++ n ∷ [])
+unfoldable pub nodes_from : List Node → Kind → ValueTree ManyValues → List ℕ → Result (List ℕ) Fault
+nodes_from nodes k no_values ns = Ok ns
+nodes_from nodes k (more_values v vs) ns = source_of nodes k v >>= λ n. nodes_from nodes k vs (ns ++ n ∷ [])
 
 unfoldable pub sources_of : List Node → Kind → Value → Result (List ℕ) Fault
-sources_of nodes k (Listed vs) = nodes_from nodes k vs []
+sources_of nodes k (ListValue vs) = nodes_from nodes k vs []
 sources_of nodes k v = Err Stuck
 
 unfoldable pub pred_of : Value → Result Predicate Fault
@@ -72,23 +72,25 @@ pred_of (Pred p) = Ok p
 pred_of v = Err Stuck
 
 -- a tuple of a predicate and the source that it stands for
-unfoldable pub pair_in : List Node → Kind → ValueTree Many → Result (Predicate × ℕ) Fault
-pair_in nodes k none = Err Stuck
-pair_in nodes k (more v none) = Err Stuck
-pair_in nodes k (more v (more w none)) = pred_of v >>= λ p. source_of nodes k w >>= λ n. Ok (p, n)
-pair_in nodes k (more v (more w (more x rest))) = Err Stuck
+unfoldable pub pair_in : List Node → Kind → ValueTree ManyValues → Result (Predicate × ℕ) Fault
+pair_in nodes k no_values = Err Stuck
+pair_in nodes k (more_values v no_values) = Err Stuck
+pair_in nodes k (more_values v (more_values w no_values)) = pred_of v >>= λ p. source_of nodes k w >>= λ n. Ok (p, n)
+pair_in nodes k (more_values v (more_values w (more_values x rest))) = Err Stuck
 
-unfoldable pub pair_of : List Node → Kind → Value → Result (Predicate × ℕ) Fault
-pair_of nodes k (Tuple vs) = pair_in nodes k vs
-pair_of nodes k v = Err Stuck
+unfoldable pub case_of : List Node → Kind → Value → Result (Predicate × ℕ) Fault
+case_of nodes k (TupleValue vs) = pair_in nodes k vs
+case_of nodes k v = Err Stuck
 
 -- the predicates and the sources of a list, behind these
-unfoldable pub pairs_from : List Node → Kind → ValueTree Many → List Predicate → List ℕ → Result (List Predicate × List ℕ) Fault
-pairs_from nodes k none ps ns = Ok (ps, ns)
-pairs_from nodes k (more v vs) ps ns = pair_of nodes k v >>= λ x. pairs_from nodes k vs (ps ++ x.0 ∷ []) (ns ++ x.1 ∷ [])
+unfoldable pub pairs_from : List Node → Kind → ValueTree ManyValues → List Predicate → List ℕ
+    → Result (List Predicate × List ℕ) Fault
+pairs_from nodes k no_values ps ns = Ok (ps, ns)
+pairs_from nodes k (more_values v vs) ps ns = case_of nodes k v >>= λ x. pairs_from nodes k vs (ps ++ x.0 ∷ []) (ns
+    ++ x.1 ∷ [])
 
 unfoldable pub pairs_of : List Node → Kind → Value → Result (List Predicate × List ℕ) Fault
-pairs_of nodes k (Listed vs) = pairs_from nodes k vs [] []
+pairs_of nodes k (ListValue vs) = pairs_from nodes k vs [] []
 pairs_of nodes k v = Err Stuck
 
 -- the value of a plain parameter, and the other arguments
@@ -96,47 +98,48 @@ abbrev pub needed : Option (Value × List Argument) → Result (Value × List Ar
 needed None = Err Stuck
 needed (Some x) = Ok x
 
-unfoldable pub plain : List Argument → Result (Value × List Argument) Fault
-plain given = needed (argument None given)
+unfoldable pub plain_argument : List Argument → Result (Value × List Argument) Fault
+plain_argument given = needed (argument None given)
 
 unfoldable pub plain_text : List Argument → Result (List ℕ × List Argument) Fault
 plain_text given = do
-  x ← plain given
+  x ← plain_argument given
   text ← as_text x.0
   Ok (text, x.1)
 
 unfoldable pub plain_decimal : List Argument → Result (Decimal × List Argument) Fault
 plain_decimal given = do
-  x ← plain given
+  x ← plain_argument given
   number ← as_decimal x.0
   Ok (number, x.1)
 
 unfoldable pub plain_format : List Argument → Result (Bool × List Argument) Fault
 plain_format given = do
-  x ← plain given
+  x ← plain_argument given
   wide ← as_format x.0
   Ok (wide, x.1)
 
 unfoldable pub plain_source : List Node → Kind → List Argument → Result (ℕ × List Argument) Fault
 plain_source nodes k given = do
-  x ← plain given
+  x ← plain_argument given
   source ← source_of nodes k x.0
   Ok (source, x.1)
 
 unfoldable pub plain_sources : List Node → Kind → List Argument → Result (List ℕ × List Argument) Fault
 plain_sources nodes k given = do
-  x ← plain given
+  x ← plain_argument given
   sources ← sources_of nodes k x.0
   Ok (sources, x.1)
 
 unfoldable pub plain_pairs : List Node → Kind → List Argument → Result ((List Predicate × List ℕ) × List Argument) Fault
 plain_pairs nodes k given = do
-  x ← plain given
+  x ← plain_argument given
   pairs ← pairs_of nodes k x.0
   Ok (pairs, x.1)
 
 -- the value of a labelled parameter, or its default, and the other arguments
-abbrev pub or_default : {A : Type 0} → (Value → Result A Fault) → A → List Argument → Option (Value × List Argument) → Result (A × List Argument) Fault
+abbrev pub or_default : {A : Type 0} → (Value → Result A Fault) → A → List Argument → Option (Value × List Argument)
+    → Result (A × List Argument) Fault
 or_default read default given None = Ok (default, given)
 or_default read default given (Some x) = read x.0 >>= λ a. Ok (a, x.1)
 

@@ -6,11 +6,11 @@ use Rattle.script_values.specs.declared.fault.Fault.{Fault}
 use Rattle.script_values.specs.declared.fault.Fault.TheVariants.{BadSetting}
 use Rattle.script_values.specs.declared.machine.Machine.{Machine}
 use Rattle.script_values.specs.Outcomes.{◌>>=◌, Outcome}
-use Rattle.script_values.specs.Values.{Value, Int, Number, Nothing}
+use Rattle.script_values.specs.Values.{Value, Int, Number, UnitValue}
 
 -- only a call of `set` at top level that holds no other call, with no other statement before it, may set the two keys
-abbrev pub opened : Machine → Result Machine Fault
-opened m =
+abbrev pub settings_opened : Machine → Result Machine Fault
+settings_opened m =
     elim m.settings.allowed [
       | true ↦ Ok (record m { settings = record m.settings { last = m.settings.statement } })
       | false ↦ Err BadSetting
@@ -35,15 +35,15 @@ duration_of v = Err BadSetting
 
 unfoldable pub set_rate : Value → Machine → Outcome
 set_rate v m = do
-  c ← opened m
+  c ← settings_opened m
   rate ← rate_of v
-  Ok (Nothing, record c { plan = record c.plan { rate = rate } })
+  Ok (UnitValue, record c { plan = record c.plan { rate = rate } })
 
 unfoldable pub set_duration : Value → Machine → Outcome
 set_duration v m = do
-  c ← opened m
+  c ← settings_opened m
   d ← duration_of v
-  Ok (Nothing, record c { settings = record c.settings { duration = d } })
+  Ok (UnitValue, record c { settings = record c.settings { duration = d } })
 
 unfoldable pub setting : List ℕ → Value → Machine → Outcome
 setting key v m =
@@ -51,6 +51,6 @@ setting key v m =
       | true ↦ set_rate v m
       | false ↦ elim (bytes_eq key (codes "frame.duration")) [
         | true ↦ set_duration v m
-        | false ↦ Ok (Nothing, m)
+        | false ↦ Ok (UnitValue, m)
       ]
     ]

@@ -9,7 +9,7 @@ use Rattle.script_values.specs.declared.fault.Fault.TheVariants.{SameOutput, Too
 use Rattle.script_values.specs.declared.fault.Limit.TheVariants.{Outputs}
 use Rattle.script_values.specs.declared.machine.Machine.{Machine}
 use Rattle.script_values.specs.Outcomes.{Outcome}
-use Rattle.script_values.specs.Values.{Nothing}
+use Rattle.script_values.specs.Values.{UnitValue}
 
 abbrev pub is_named : List ℕ → SinkPlan → Bool
 is_named name (Output other node fallible wide) = bytes_eq name other
@@ -21,7 +21,7 @@ add_output name node fallible wide m =
     elim (list_any (is_named name) m.plan.sinks) [
       | true ↦ Err (SameOutput name)
       | false ↦ elim (nat_lt (count_by is_output m.plan.sinks) MAX_OUTPUTS) [
-        | true ↦ Ok (Nothing, record m { plan = with_output m.plan name node fallible wide })
+        | true ↦ Ok (UnitValue, record m { plan = with_output m.plan name node fallible wide })
         | false ↦ Err (TooLarge Outputs)
       ]
     ]

@@ -14,8 +14,8 @@ some_samples at n =
     ]
 
 -- the samples of a time above zero, of which there must be one
-unfoldable pub overlap_of : ℕ → ℕ → Decimal → Result ℕ Fault
-overlap_of at rate d =
+unfoldable pub overlap_samples : ℕ → ℕ → Decimal → Result ℕ Fault
+overlap_samples at rate d =
     elim (int_le d.millionths (pos 0)) [
       | true ↦ Err (BadValue at)
       | false ↦ some_samples at (samples_in d.millionths rate)

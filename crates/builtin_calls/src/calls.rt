@@ -26,7 +26,8 @@ pub fn builtin(
     given: Vec<Given>,
     machine: &mut Machine,
 ) -> Result<Value, Fault>
-    ensures { Gives (λ v. (view_value v, machine.new)) result (builtin name at kinds.now (map view_given given.items) machine.old) }
+    ensures { Gives (λ v. (view_value v, machine.new)) result
+        (builtin name at kinds.now (map view_given given.items) machine.old) }
 {
     let mut rest = given;
     call(alloc, name, at, kinds, &mut rest, machine)
@@ -42,7 +43,8 @@ fn call(
     given: &mut Vec<Given>,
     machine: &mut Machine,
 ) -> Result<Value, Fault>
-    ensures { Gives (λ v. (view_value v, machine.new)) result (builtin name at kinds.now (map view_given given.old.items) machine.old) }
+    ensures { Gives (λ v. (view_value v, machine.new)) result
+        (builtin name at kinds.now (map view_given given.old.items) machine.old) }
 {
     match name {
         Builtin::OutputFile => output_file(kinds, given, machine),

@@ -5,7 +5,7 @@ ghost use Rattle.time_pred.specs.View.{view_pred};
 ghost use Rattle.script_values.specs.Gives.{Gives};
 ghost use Rattle.script_values.specs.View.{view_value};
 ghost use Rattle.script_values.specs.Views.{view_given};
-ghost use Rattle.builtin_calls.specs.Builtins.{fallback, few_pairs, few_sources, over_sources, random, seed_of, sensitive_or, sum, switch};
+ghost use Rattle.builtin_calls.specs.Builtins.{fallback, few_pairs, few_sources, over_sources, random, seed_of, sensitive_or, add_sources, switch};
 
 use crate::nodes::{add, few};
 use crate::parts::{bool_or, int_or, one_kind};
@@ -23,7 +23,8 @@ pub(crate) fn fallback(
     given: &mut Vec<Given>,
     machine: &mut Machine,
 ) -> Result<Value, Fault>
-    ensures { Gives (λ v. (view_value v, machine.new)) result (fallback kinds.now (map view_given given.old.items) machine.old) }
+    ensures { Gives (λ v. (view_value v, machine.new)) result
+        (fallback kinds.now (map view_given given.old.items) machine.old) }
 {
     let sensitive = sensitive_or(given)?;
     over_sources(alloc, Op::Fallback { sensitive }, kinds, given, machine)
@@ -37,7 +38,8 @@ pub(crate) fn switch(
     given: &mut Vec<Given>,
     machine: &mut Machine,
 ) -> Result<Value, Fault>
-    ensures { Gives (λ v. (view_value v, machine.new)) result (switch kinds.now (map view_given given.old.items) machine.old) }
+    ensures { Gives (λ v. (view_value v, machine.new)) result
+        (switch kinds.now (map view_given given.old.items) machine.old) }
 {
     let sensitive = sensitive_or(given)?;
     let kind = one_kind(kinds)?;
@@ -60,7 +62,8 @@ pub(crate) fn random(
     given: &mut Vec<Given>,
     machine: &mut Machine,
 ) -> Result<Value, Fault>
-    ensures { Gives (λ v. (view_value v, machine.new)) result (random at kinds.now (map view_given given.old.items) machine.old) }
+    ensures { Gives (λ v. (view_value v, machine.new)) result
+        (random at kinds.now (map view_given given.old.items) machine.old) }
 {
     let number = int_or(given, "seed", 0)?;
     let kind = one_kind(kinds)?;
@@ -71,14 +74,15 @@ pub(crate) fn random(
 }
 
 /// `add(normalize=true, sources)`.
-#[tactic(auto, unfolding(crate::specs::Builtins::sum))]
+#[tactic(auto, unfolding(crate::specs::Builtins::add_sources))]
 pub(crate) fn sum(
     alloc: Global,
     kinds: &[Kind],
     given: &mut Vec<Given>,
     machine: &mut Machine,
 ) -> Result<Value, Fault>
-    ensures { Gives (λ v. (view_value v, machine.new)) result (sum kinds.now (map view_given given.old.items) machine.old) }
+    ensures { Gives (λ v. (view_value v, machine.new)) result
+        (add_sources kinds.now (map view_given given.old.items) machine.old) }
 {
     let normalize = bool_or(given, "normalize", true)?;
     over_sources(alloc, Op::Add { normalize }, kinds, given, machine)
@@ -93,7 +97,8 @@ pub(crate) fn over_sources(
     given: &mut Vec<Given>,
     machine: &mut Machine,
 ) -> Result<Value, Fault>
-    ensures { Gives (λ v. (view_value v, machine.new)) result (over_sources op kinds.now (map view_given given.old.items) machine.old) }
+    ensures { Gives (λ v. (view_value v, machine.new)) result
+        (over_sources op kinds.now (map view_given given.old.items) machine.old) }
 {
     let kind = one_kind(kinds)?;
     let children = few_sources(alloc, &machine.plan, kind, given)?;
@@ -135,7 +140,8 @@ fn few_pairs(
     kind: Kind,
     given: &mut Vec<Given>,
 ) -> Result<Pairs, Fault>
-    ensures given { Gives (λ ps. (map view_pred ps.preds.items, ps.sources.items)) result (few_pairs plan.now.nodes kind (map view_given given.old.items)) }
+    ensures given { Gives (λ ps. (map view_pred ps.preds.items, ps.sources.items)) result
+        (few_pairs plan.now.nodes kind (map view_given given.old.items)) }
     ensures there { IfOk result (λ ps. All (λ n. n < length plan.now.nodes) ps.sources.items) }
     ensures short { IfOk result (λ ps. length ps.sources.items ≤ MAX_CHILDREN) }
 {

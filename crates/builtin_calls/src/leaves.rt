@@ -21,7 +21,8 @@ pub(crate) fn single(
     given: &mut Vec<Given>,
     machine: &mut Machine,
 ) -> Result<Value, Fault>
-    ensures { Gives (λ v. (view_value v, machine.new)) result (single kinds.now (map view_given given.old.items) machine.old) }
+    ensures { Gives (λ v. (view_value v, machine.new)) result
+        (single kinds.now (map view_given given.old.items) machine.old) }
 {
     let file = plain_text(given)?;
     let kind = one_kind(kinds)?;
@@ -37,7 +38,8 @@ pub(crate) fn playlist(
     given: &mut Vec<Given>,
     machine: &mut Machine,
 ) -> Result<Value, Fault>
-    ensures { Gives (λ v. (view_value v, machine.new)) result (playlist at kinds.now (map view_given given.old.items) machine.old) }
+    ensures { Gives (λ v. (view_value v, machine.new)) result
+        (playlist at kinds.now (map view_given given.old.items) machine.old) }
 {
     let again = bool_or(given, "loop", true)?;
     let normal = Text::from_str(alloc, "normal")?;
@@ -62,7 +64,8 @@ pub(crate) fn blank(
     given: &mut Vec<Given>,
     machine: &mut Machine,
 ) -> Result<Value, Fault>
-    ensures { Gives (λ v. (view_value v, machine.new)) result (blank at kinds.now (map view_given given.old.items) machine.old) }
+    ensures { Gives (λ v. (view_value v, machine.new)) result
+        (blank at kinds.now (map view_given given.old.items) machine.old) }
 {
     let duration = decimal_or(given, "duration", no_time())?;
     let kind = one_kind(kinds)?;
@@ -79,7 +82,8 @@ pub(crate) fn square(
     given: &mut Vec<Given>,
     machine: &mut Machine,
 ) -> Result<Value, Fault>
-    ensures { Gives (λ v. (view_value v, machine.new)) result (square at kinds.now (map view_given given.old.items) machine.old) }
+    ensures { Gives (λ v. (view_value v, machine.new)) result
+        (square at kinds.now (map view_given given.old.items) machine.old) }
 {
     let frequency = plain_decimal(given)?;
     let kind = one_kind(kinds)?;

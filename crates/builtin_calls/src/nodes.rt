@@ -35,7 +35,8 @@ pub(crate) fn few(children: &[u32]) -> Result<(), Fault>
 
 /// One crossfade more may stand over this node.
 pub(crate) fn room_over(plan: &Draft, child: u32) -> Result<(), Fault>
-    ensures { Gives (λ _. crossfades_with child plan.now) result (at_most MAX_CROSSFADES Limit.Crossfades (crossfades_with child plan.now)) }
+    ensures { Gives (λ _. crossfades_with child plan.now) result
+        (at_most MAX_CROSSFADES Limit.Crossfades (crossfades_with child plan.now)) }
 {
     if plan.crossfades_of(child) >= MAX_CROSSFADES {
         return Err(Fault::TooLarge(Limit::Crossfades));
@@ -72,7 +73,11 @@ pub(crate) fn add(
 ) -> Result<Value, Fault>
     requires children { All (λ child. child < length machine.old.plan.nodes) children }
     requires few { length children ≤ MAX_CHILDREN }
-    ensures { Gives (λ v. (view_value v, machine.new)) result (add (record { op = op; kind = kind; children = children }) machine.old) }
+    ensures { Gives (λ v. (view_value v, machine.new)) result (add (record {
+      op = op;
+      kind = kind;
+      children = children;
+    }) machine.old) }
 {
     let number = push(machine, Node { op, kind, children })?;
     Ok(Value::Source(number))

@@ -22,7 +22,8 @@ pub(crate) fn output_file(
     given: &mut Vec<Given>,
     machine: &mut Machine,
 ) -> Result<Value, Fault>
-    ensures { Gives (λ v. (view_value v, machine.new)) result (output_file kinds.now (map view_given given.old.items) machine.old) }
+    ensures { Gives (λ v. (view_value v, machine.new)) result
+        (output_file kinds.now (map view_given given.old.items) machine.old) }
 {
     let fallible = bool_or(given, "fallible", false)?;
     let wide = plain_format(given)?;

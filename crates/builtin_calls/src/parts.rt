@@ -3,7 +3,7 @@ ghost use Rattle.std.specs.Prelude.{◌≡◌, map};
 ghost use Rattle.script_values.specs.Gives.{Gives};
 ghost use Rattle.script_values.specs.View.{view_value};
 ghost use Rattle.script_values.specs.Views.{view_given};
-ghost use Rattle.builtin_calls.specs.Parts.{as_bool, bool_or, as_decimal, decimal_or, as_format, as_int, int_or, one_kind, plain, plain_decimal, plain_format, plain_text, as_text, text_or};
+ghost use Rattle.builtin_calls.specs.Parts.{as_bool, bool_or, as_decimal, decimal_or, as_format, as_int, int_or, one_kind, plain_argument, plain_decimal, plain_format, plain_text, as_text, text_or};
 
 use fixed_text::Decimal;
 use liq_base::{Kind, Text};
@@ -20,9 +20,10 @@ pub(crate) fn one_kind(kinds: &[Kind]) -> Result<Kind, Fault>
 }
 
 /// The value of the next plain parameter.
-#[tactic(auto, unfolding(crate::specs::Parts::plain))]
+#[tactic(auto, unfolding(crate::specs::Parts::plain_argument))]
 pub(crate) fn plain(given: &mut Vec<Given>) -> Result<Value, Fault>
-    ensures { Gives (λ v. (view_value v, map view_given given.new.items)) result (plain (map view_given given.old.items)) }
+    ensures { Gives (λ v. (view_value v, map view_given given.new.items)) result
+        (plain_argument (map view_given given.old.items)) }
 {
     match argument(given, None) {
         None => Err(Fault::Stuck),
@@ -63,7 +64,8 @@ pub(crate) fn plain_format(given: &mut Vec<Given>) -> Result<bool, Fault>
 /// A labelled bool, or its default.
 #[tactic(auto, unfolding(crate::specs::Parts::bool_or))]
 pub(crate) fn bool_or(given: &mut Vec<Given>, label: &str, default: bool) -> Result<bool, Fault>
-    ensures { Gives (λ b. (b, map view_given given.new.items)) result (bool_or label.now default (map view_given given.old.items)) }
+    ensures { Gives (λ b. (b, map view_given given.new.items)) result
+        (bool_or label.now default (map view_given given.old.items)) }
 {
     match argument(given, Some(label)) {
         None => Ok(default),
@@ -81,7 +83,8 @@ pub(crate) fn decimal_or(
     label: &str,
     default: Decimal,
 ) -> Result<Decimal, Fault>
-    ensures { Gives (λ d. (d, map view_given given.new.items)) result (decimal_or label.now default (map view_given given.old.items)) }
+    ensures { Gives (λ d. (d, map view_given given.new.items)) result
+        (decimal_or label.now default (map view_given given.old.items)) }
 {
     match argument(given, Some(label)) {
         None => Ok(default),
@@ -95,7 +98,8 @@ pub(crate) fn decimal_or(
 /// A labelled int, or its default.
 #[tactic(auto, unfolding(crate::specs::Parts::int_or))]
 pub(crate) fn int_or(given: &mut Vec<Given>, label: &str, default: i64) -> Result<i64, Fault>
-    ensures { Gives (λ n. (n, map view_given given.new.items)) result (int_or label.now default (map view_given given.old.items)) }
+    ensures { Gives (λ n. (n, map view_given given.new.items)) result
+        (int_or label.now default (map view_given given.old.items)) }
 {
     match argument(given, Some(label)) {
         None => Ok(default),
@@ -109,7 +113,8 @@ pub(crate) fn int_or(given: &mut Vec<Given>, label: &str, default: i64) -> Resul
 /// A labelled text, or its default.
 #[tactic(auto, unfolding(crate::specs::Parts::text_or))]
 pub(crate) fn text_or(given: &mut Vec<Given>, label: &str, default: Text) -> Result<Text, Fault>
-    ensures { Gives (λ t. (t, map view_given given.new.items)) result (text_or label.now default (map view_given given.old.items)) }
+    ensures { Gives (λ t. (t, map view_given given.new.items)) result
+        (text_or label.now default (map view_given given.old.items)) }
 {
     match argument(given, Some(label)) {
         None => Ok(default),

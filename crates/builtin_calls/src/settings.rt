@@ -4,7 +4,7 @@ ghost use Rattle.script_values.specs.Gives.{Gives};
 ghost use Rattle.script_values.specs.View.{view_value};
 ghost use Rattle.script_values.specs.Views.{view_given};
 ghost use Rattle.builtin_calls.specs.Builtins.{set};
-ghost use Rattle.builtin_calls.specs.Settings.{duration_of, opened, rate_of, rate_within, set_duration, set_rate, setting};
+ghost use Rattle.builtin_calls.specs.Settings.{duration_of, settings_opened, rate_of, rate_within, set_duration, set_rate, setting};
 
 use crate::parts::{plain, plain_text};
 use fixed_text::Decimal;
@@ -23,7 +23,7 @@ pub(crate) fn set(given: &mut Vec<Given>, machine: &mut Machine) -> Result<Value
 
 // A setting may stand here; it is the last one so far.
 fn opened(machine: &mut Machine) -> Result<(), Fault>
-    ensures { Gives (λ _. machine.new) result (opened machine.old) }
+    ensures { Gives (λ _. machine.new) result (settings_opened machine.old) }
 {
     if !machine.settings.allowed {
         return Err(Fault::BadSetting);

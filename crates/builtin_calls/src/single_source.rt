@@ -24,7 +24,8 @@ pub(crate) fn amplify(
     given: &mut Vec<Given>,
     machine: &mut Machine,
 ) -> Result<Value, Fault>
-    ensures { Gives (λ v. (view_value v, machine.new)) result (amplify kinds.now (map view_given given.old.items) machine.old) }
+    ensures { Gives (λ v. (view_value v, machine.new)) result
+        (amplify kinds.now (map view_given given.old.items) machine.old) }
 {
     let factor = plain_decimal(given)?;
     let kind = one_kind(kinds)?;
@@ -70,7 +71,8 @@ pub(crate) fn crossfade(
     given: &mut Vec<Given>,
     machine: &mut Machine,
 ) -> Result<Value, Fault>
-    ensures { Gives (λ v. (view_value v, machine.new)) result (crossfade at kinds.now (map view_given given.old.items) machine.old) }
+    ensures { Gives (λ v. (view_value v, machine.new)) result
+        (crossfade at kinds.now (map view_given given.old.items) machine.old) }
 {
     let duration = decimal_or(given, "duration", five_seconds())?;
     let kind = one_kind(kinds)?;
@@ -88,7 +90,8 @@ pub(crate) fn mksafe(
     given: &mut Vec<Given>,
     machine: &mut Machine,
 ) -> Result<Value, Fault>
-    ensures { Gives (λ v. (view_value v, machine.new)) result (mksafe kinds.now (map view_given given.old.items) machine.old) }
+    ensures { Gives (λ v. (view_value v, machine.new)) result
+        (mksafe kinds.now (map view_given given.old.items) machine.old) }
 {
     let kind = one_kind(kinds)?;
     let source = plain_source(&machine.plan, kind, given)?;
@@ -104,7 +107,8 @@ pub(crate) fn buffer(
     given: &mut Vec<Given>,
     machine: &mut Machine,
 ) -> Result<Value, Fault>
-    ensures { Gives (λ v. (view_value v, machine.new)) result (buffer at kinds.now (map view_given given.old.items) machine.old) }
+    ensures { Gives (λ v. (view_value v, machine.new)) result
+        (buffer at kinds.now (map view_given given.old.items) machine.old) }
 {
     let held = decimal_or(given, "buffer", one_second())?;
     let most = decimal_or(given, "max", ten_seconds())?;
@@ -122,7 +126,8 @@ pub(crate) fn clock(
     given: &mut Vec<Given>,
     machine: &mut Machine,
 ) -> Result<Value, Fault>
-    ensures { Gives (λ v. (view_value v, machine.new)) result (clock kinds.now (map view_given given.old.items) machine.old) }
+    ensures { Gives (λ v. (view_value v, machine.new)) result
+        (clock kinds.now (map view_given given.old.items) machine.old) }
 {
     let unnamed = Text::from_str(alloc, "")?;
     let id = text_or(given, "id", unnamed)?;

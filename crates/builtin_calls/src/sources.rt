@@ -5,7 +5,7 @@ ghost use Rattle.script_values.specs.Gives.{Gives};
 ghost use Rattle.script_values.specs.View.{view_value};
 ghost use Rattle.script_values.specs.Views.{view_given};
 ghost use Rattle.script_values.specs.Values.{many};
-ghost use Rattle.builtin_calls.specs.Parts.{is_kind, nodes_from, of_kind, pair_in, pair_of, pairs_from, pairs_of, plain_pairs, plain_source, plain_sources, pred_of, source_of, sources_of};
+ghost use Rattle.builtin_calls.specs.Parts.{is_kind, nodes_from, of_kind, pair_in, case_of, pairs_from, pairs_of, plain_pairs, plain_source, plain_sources, pred_of, source_of, sources_of};
 
 use crate::parts::plain;
 use liq_base::Kind;
@@ -24,7 +24,8 @@ pub(crate) struct Pairs {
 /// The next plain parameter, a source of this kind, by the number of its node.
 #[tactic(auto, unfolding(crate::specs::Parts::plain_source))]
 pub(crate) fn plain_source(plan: &Draft, kind: Kind, given: &mut Vec<Given>) -> Result<u32, Fault>
-    ensures given { Gives (λ n. (n, map view_given given.new.items)) result (plain_source plan.now.nodes kind (map view_given given.old.items)) }
+    ensures given { Gives (λ n. (n, map view_given given.new.items)) result
+        (plain_source plan.now.nodes kind (map view_given given.old.items)) }
     ensures there { IfOk result (λ n. n < length plan.now.nodes) }
 {
     let value = plain(given)?;
@@ -40,7 +41,8 @@ pub(crate) fn plain_sources(
     kind: Kind,
     given: &mut Vec<Given>,
 ) -> Result<Vec<u32>, Fault>
-    ensures given { Gives (λ ns. (ns.items, map view_given given.new.items)) result (plain_sources plan.now.nodes kind (map view_given given.old.items)) }
+    ensures given { Gives (λ ns. (ns.items, map view_given given.new.items)) result
+        (plain_sources plan.now.nodes kind (map view_given given.old.items)) }
     ensures there { IfOk result (λ ns. All (λ n. n < length plan.now.nodes) ns.items) }
 {
     let value = plain(given)?;
@@ -56,7 +58,8 @@ pub(crate) fn plain_pairs(
     kind: Kind,
     given: &mut Vec<Given>,
 ) -> Result<Pairs, Fault>
-    ensures given { Gives (λ ps. ((map view_pred ps.preds.items, ps.sources.items), map view_given given.new.items)) result (plain_pairs plan.now.nodes kind (map view_given given.old.items)) }
+    ensures given { Gives (λ ps. ((map view_pred ps.preds.items, ps.sources.items), map view_given given.new.items))
+        result (plain_pairs plan.now.nodes kind (map view_given given.old.items)) }
     ensures there { IfOk result (λ ps. All (λ n. n < length plan.now.nodes) ps.sources.items) }
 {
     let value = plain(given)?;
@@ -116,7 +119,8 @@ fn sources_of(alloc: Global, plan: &Draft, kind: Kind, value: &Value) -> Result<
 }
 
 fn sources_in(alloc: Global, plan: &Draft, kind: Kind, parts: &[Value]) -> Result<Vec<u32>, Fault>
-    ensures given { Gives (λ ns. ns.items) result (nodes_from plan.now.nodes kind (many (map view_value parts.now)) []) }
+    ensures given { Gives (λ ns. ns.items) result
+        (nodes_from plan.now.nodes kind (many (map view_value parts.now)) []) }
     ensures there { IfOk result (λ ns. All (λ n. n < length plan.now.nodes) ns.items) }
 {
     let mut sources = Vec::new(alloc);
@@ -138,9 +142,9 @@ fn pred_of(alloc: Global, value: &Value) -> Result<Pred, Fault>
 }
 
 // A predicate and the source that it stands for.
-#[tactic(auto, unfolding(crate::specs::Parts::pair_of))]
+#[tactic(auto, unfolding(crate::specs::Parts::case_of))]
 fn pair_of(alloc: Global, plan: &Draft, kind: Kind, value: &Value) -> Result<(Pred, u32), Fault>
-    ensures given { Gives (λ x. (view_pred x.0, x.1)) result (pair_of plan.now.nodes kind (view_value value.now)) }
+    ensures given { Gives (λ x. (view_pred x.0, x.1)) result (case_of plan.now.nodes kind (view_value value.now)) }
     ensures there { IfOk result (λ x. x.1 < length plan.now.nodes) }
 {
     match value {
@@ -151,7 +155,8 @@ fn pair_of(alloc: Global, plan: &Draft, kind: Kind, value: &Value) -> Result<(Pr
 
 #[tactic(auto, unfolding(crate::specs::Parts::pair_in))]
 fn pair_in(alloc: Global, plan: &Draft, kind: Kind, parts: &[Value]) -> Result<(Pred, u32), Fault>
-    ensures given { Gives (λ x. (view_pred x.0, x.1)) result (pair_in plan.now.nodes kind (many (map view_value parts.now))) }
+    ensures given { Gives (λ x. (view_pred x.0, x.1)) result
+        (pair_in plan.now.nodes kind (many (map view_value parts.now))) }
     ensures there { IfOk result (λ x. x.1 < length plan.now.nodes) }
 {
     match parts {
@@ -167,7 +172,8 @@ fn pair_in(alloc: Global, plan: &Draft, kind: Kind, parts: &[Value]) -> Result<(
 }
 
 fn pairs_in(alloc: Global, plan: &Draft, kind: Kind, parts: &[Value]) -> Result<Pairs, Fault>
-    ensures given { Gives (λ ps. (map view_pred ps.preds.items, ps.sources.items)) result (pairs_from plan.now.nodes kind (many (map view_value parts.now)) [] []) }
+    ensures given { Gives (λ ps. (map view_pred ps.preds.items, ps.sources.items)) result
+        (pairs_from plan.now.nodes kind (many (map view_value parts.now)) [] []) }
     ensures there { IfOk result (λ ps. All (λ n. n < length plan.now.nodes) ps.sources.items) }
 {
     let mut preds = Vec::new(alloc);
@@ -182,7 +188,8 @@ fn pairs_in(alloc: Global, plan: &Draft, kind: Kind, parts: &[Value]) -> Result<
 
 #[tactic(auto, unfolding(crate::specs::Parts::pairs_of))]
 fn pairs_of(alloc: Global, plan: &Draft, kind: Kind, value: &Value) -> Result<Pairs, Fault>
-    ensures given { Gives (λ ps. (map view_pred ps.preds.items, ps.sources.items)) result (pairs_of plan.now.nodes kind (view_value value.now)) }
+    ensures given { Gives (λ ps. (map view_pred ps.preds.items, ps.sources.items)) result
+        (pairs_of plan.now.nodes kind (view_value value.now)) }
     ensures there { IfOk result (λ ps. All (λ n. n < length plan.now.nodes) ps.sources.items) }
 {
     match value {

@@ -3,7 +3,7 @@ ghost use Rattle.std.specs.Prelude.{◌≡◌, ◌<ℤ◌, pos};
 ghost use Rattle.fixed_text.specs.Texts.{samples_in};
 ghost use Rattle.script_values.specs.Gives.{Gives};
 ghost use Rattle.script_values.specs.Machines.{some_millionths};
-ghost use Rattle.builtin_calls.specs.Times.{chunks, overlap_of, pitch_of, samples_of, some_samples, track_of};
+ghost use Rattle.builtin_calls.specs.Times.{chunks, overlap_samples, pitch_of, samples_of, some_samples, track_of};
 
 use fixed_text::Decimal;
 use script_values::Fault;
@@ -20,9 +20,9 @@ pub(crate) fn samples_of(at: u32, rate: u32, time: Decimal) -> Result<u64, Fault
 }
 
 /// The samples of an overlap, which is above zero and has at least one.
-#[tactic(auto, unfolding(crate::specs::Times::overlap_of))]
+#[tactic(auto, unfolding(crate::specs::Times::overlap_samples))]
 pub(crate) fn overlap_of(at: u32, rate: u32, time: Decimal) -> Result<u64, Fault>
-    ensures { Gives (λ n. n) result (overlap_of at rate time) }
+    ensures { Gives (λ n. n) result (overlap_samples at rate time) }
 {
     if time.millionths <= 0 {
         return Err(Fault::BadValue(at));

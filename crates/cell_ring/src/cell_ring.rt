@@ -32,7 +32,8 @@ impl Model for CellRing {
 
     ghost view = { λ r. record { cells = cells_in r.left.items r.right.items r.marks.items; room = r.marks.capacity } };
 
-    ghost invariant = { λ r. (length r.left.items ≡ length r.marks.items) × (length r.right.items ≡ length r.marks.items)
+    ghost invariant = { λ r. (length r.left.items ≡ length r.marks.items)
+        × (length r.right.items ≡ length r.marks.items)
         × (r.left.capacity ≡ r.marks.capacity) × (r.right.capacity ≡ r.marks.capacity)
         × (length r.marks.items ≤ r.marks.capacity) × (r.marks.capacity < 2 ^ 32) };
 }
@@ -74,7 +75,8 @@ impl CellRing {
         )
     }
 
-    /// How many cells, from this one on and at most so many, have this title and begin no track. The front cell is number 0.
+    /// How many cells, from this one on and at most so many, have this title and begin no track. The front cell is
+    /// number 0.
     pub fn inner(&self, title: u32, from: u32, most: u32) -> u32
         ensures inner { (j : ℕ) → j < result → goes_on title (slice_get self.now.cells (from + j)) ≡ true }
         ensures ends { result < most → goes_on title (slice_get self.now.cells (from + result)) ≡ false }
@@ -121,7 +123,10 @@ impl CellRing {
     pub(crate) fn push_cells(&mut self, left: &[i16], right: &[i16], marks: &[CellMark])
         requires same { (length left.now ≡ length marks.now) × (length right.now ≡ length marks.now) }
         requires there { length self.old.cells + length marks.now ≤ self.old.room }
-        ensures { self.new ≡ record { cells = self.old.cells ++ cells_in left.now right.now marks.now; room = self.old.room } }
+        ensures { self.new ≡ record {
+          cells = self.old.cells ++ cells_in left.now right.now marks.now;
+          room = self.old.room;
+        } }
     {
         self.left.extend_from_slice(left);
         self.right.extend_from_slice(right);
@@ -132,7 +137,10 @@ impl CellRing {
     pub fn push_inner(&mut self, title: u32, left: &[i16], right: &[i16])
         requires same { length right.now ≡ length left.now }
         requires there { length self.old.cells + length left.now ≤ self.old.room }
-        ensures { self.new ≡ record { cells = self.old.cells ++ inner_cells title left.now right.now; room = self.old.room } }
+        ensures { self.new ≡ record {
+          cells = self.old.cells ++ inner_cells title left.now right.now;
+          room = self.old.room;
+        } }
     {
         self.left.extend_from_slice(left);
         self.right.extend_from_slice(right);
@@ -191,7 +199,10 @@ fn behind(marks: &HeapCircularBuffer<CellMark>, from: usize) -> (&[CellMark], &[
 // Appends so many marks with this title, none of which begins a track.
 fn push_marks(marks: &mut HeapCircularBuffer<CellMark>, title: u32, count: usize)
     requires { length marks.old.items + count ≤ marks.old.capacity }
-    ensures { marks.new ≡ buffer (marks.old.items ++ replicate count (record { first = false; title = title })) marks.old.capacity }
+    ensures { marks.new ≡ buffer (marks.old.items ++ replicate count (record {
+      first = false;
+      title = title;
+    })) marks.old.capacity }
 {
     let block = [CellMark {
         first: false,

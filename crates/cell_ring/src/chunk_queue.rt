@@ -11,8 +11,8 @@ use liq_base::Memory;
 use std::alloc::Global;
 use std::marker::Model;
 
-/// A queue of cells that come in chunks: a ring, and behind it what is left of a chunk for which the ring had no room. Such a
-/// chunk is kept as it came, so no call but `new` takes memory, however long a chunk is.
+/// A queue of cells that come in chunks: a ring, and behind it what is left of a chunk for which the ring had no room.
+/// Such a chunk is kept as it came, so no call but `new` takes memory, however long a chunk is.
 #[derive(Drop)]
 pub struct ChunkQueue {
     ring: CellRing,
@@ -69,7 +69,8 @@ impl ChunkQueue {
         )
     }
 
-    /// How many cells, from this one on and at most so many, have this title and begin no track. The front cell is number 0.
+    /// How many cells, from this one on and at most so many, have this title and begin no track. The front cell is
+    /// number 0.
     pub fn inner(&self, title: u32, from: u32, most: u32) -> u32
         ensures inner { (j : ℕ) → j < result → goes_on title (slice_get self.now.cells (from + j)) ≡ true }
         ensures ends { result < most → goes_on title (slice_get self.now.cells (from + result)) ≡ false }

@@ -15,7 +15,7 @@ use Rattle.op_select.specs.declared.rule.Rule.{Rule}
 use Rattle.op_select.specs.Selection.{pick_of, picked}
 use Rattle.stream_meaning.specs.declared.part.Part.{Part}
 use Rattle.stream_meaning.specs.Operators.{Work, Choice, Selects, TakesTurns, Eligible, Plays, Picks, Mixes, Fades, Reads, marks_at}
-use Rattle.stream_meaning.specs.Instants.{Setting, Moment, count, demanded, gives, last_pick, moment_after, offer, part_at, part_by, parts_upto, picked_part, position, reading_after, reading_at, second_at, slots_at, work_at}
+use Rattle.stream_meaning.specs.Instants.{Setting, Moment, gives_before, demanded, gives, last_pick, moment_after, offer, part_at, part_by, parts_upto, picked_part, position, reading_after, reading_at, second_at, slots_at, work_at}
 use Rattle.stretch_laws.specs.Steady.{IsFree}
 use Rattle.stretch_laws.specs.Stretches.{IsNode, IsStretch, KeepsTitle, NodeGoes, NodeKeeps}
 use Rattle.stretch_laws.proofs.Parts.{own_part, part_stays}
@@ -100,7 +100,7 @@ module _ (setting : Setting) (sub : ℕ → ℕ → List Slot) (clock : NodeCloc
   keeps_at work at = subst (λ w. NodeKeeps setting sub past First i w more) at keeps
 
   titles_by : (work : Work) → work_at setting i node ≡ work → (j : ℕ) → 0 < j → j ≤ rest → gives First i ≡ true → KeepsTitle setting sub past i work j (title_of (offer First i))
-  titles_by (Plays leaf) at j some low g = ap (λ n. title_of (leaf_slot setting.library leaf n)) (sym (from_one (count past i) j some))
+  titles_by (Plays leaf) at j some low g = ap (λ n. title_of (leaf_slot setting.library leaf n)) (sym (from_one (gives_before past i) j some))
       ∙ keeps_at (Plays leaf) at g (j - 1) (omega (arith, some, low, few))
   titles_by (Picks choice eligible) at j some low g = tt
   titles_by (Mixes mixing) at j some low g = tt
@@ -112,7 +112,7 @@ module _ (setting : Setting) (sub : ℕ → ℕ → List Slot) (clock : NodeCloc
 
   pub node_stretches : NodeStretches setting sub clock past i node rest
   node_stretches = record {
-    leaves = λ leaf j at some low g. ap (λ n. is_inner (leaf_slot setting.library leaf n)) (sym (from_one (count past i) j some))
+    leaves = λ leaf j at some low g. ap (λ n. is_inner (leaf_slot setting.library leaf n)) (sym (from_one (gives_before past i) j some))
         ∙ goes_at (Plays leaf) at g (j - 1) (omega (arith, some, low, few));
     ticks = λ buffer j at some low. within.each j some (let bound = border buffer at in omega (arith, low, bound));
     readers = λ buffer j at some low g.

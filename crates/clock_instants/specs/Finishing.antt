@@ -11,9 +11,10 @@ use Rattle.clock_instants.specs.Held.{IsHeld}
 use Rattle.clock_instants.specs.Shapes.{setting_over}
 use Rattle.clock_instants.specs.States.{AreRoots, AreSettled, ClockStands}
 
--- the instant after these lies in this second, the states stand for these, the items of the clock's crossfades are settled, and `own`
--- tells which of its nodes it demands of themselves
-pub record CanFinish (setting : Setting) (sub : ℕ → ℕ → List Slot) (clock : NodeClock) (past : List Moment) (filled : ℕ → ℕ)
+-- the instant after these lies in this second, the states stand for these, the items of the clock's crossfades are
+-- settled, and `own` tells which of its nodes it demands of themselves
+pub record CanFinish (setting : Setting) (sub : ℕ → ℕ → List Slot) (clock : NodeClock) (past : List Moment) (filled : ℕ
+    → ℕ)
     (own : List Bool) (second : ℕ) (states : List NodeState) : Type 0 where
   pub at : second ≡ second_at setting (length past)
   pub long : AreLong sub
@@ -22,7 +23,8 @@ pub record CanFinish (setting : Setting) (sub : ℕ → ℕ → List Slot) (cloc
   pub roots : AreRoots setting clock own
 
 -- the instant after these was made: these are its parts, what was given is held, and the states stand for it too
-pub record HasFinished (setting : Setting) (sub : ℕ → ℕ → List Slot) (clock : NodeClock) (past : List Moment) (filled : ℕ → ℕ)
+pub record HasFinished (setting : Setting) (sub : ℕ → ℕ
+    → List Slot) (clock : NodeClock) (past : List Moment) (filled : ℕ → ℕ)
     (states : List NodeState) (parts held : List Part) : Type 0 where
   pub parts_are : parts ≡ (moment_after setting sub clock past).parts
   pub held_are : IsHeld setting sub clock past held

@@ -32,40 +32,53 @@ abbrev pub goes_through : Moment → List NodeState → ℕ → Bool
 goes_through moment states i = gives moment i && passes_at states i
 
 -- what the nodes of a clock gave at the instant after these is held
-pub record IsHeld (setting : Setting) (sub : ℕ → ℕ → List Slot) (clock : NodeClock) (past : List Moment) (held : List Part) : Type 0 where
-  pub each : (i : ℕ) → i < length setting.plan.nodes → lies_in setting clock i ≡ true → part_at held i ≡ given_part (moment_after setting sub clock past) i
+pub record IsHeld (setting : Setting) (sub : ℕ → ℕ
+    → List Slot) (clock : NodeClock) (past : List Moment) (held : List Part) : Type 0 where
+  pub each : (i : ℕ) → i < length setting.plan.nodes → lies_in setting clock i ≡ true
+      → part_at held i ≡ given_part (moment_after setting sub clock past) i
 
--- the crossfades of a clock that gave at the instant after these, and through which cells pass, are filled cells of one track for as long
--- as their sub-clocks go on, under the titles that are held of their children
-pub record AreFilledOn (setting : Setting) (sub : ℕ → ℕ → List Slot) (clock : NodeClock) (past : List Moment) (filled : ℕ → ℕ) (held : List Part) (states : List NodeState)
+-- the crossfades of a clock that gave at the instant after these, and through which cells pass, are filled cells of one
+-- track for as long as their sub-clocks go on, under the titles that are held of their children
+pub record AreFilledOn (setting : Setting) (sub : ℕ → ℕ
+    → List Slot) (clock : NodeClock) (past : List Moment) (filled : ℕ → ℕ) (held : List Part) (states : List NodeState)
     (rests : List ℕ) : Type 0 where
   pub each : (k : ℕ) (node : Node) (state : NodeState) → IsNode setting clock k node → slice_get states k ≡ Some state
-      → gives (moment_after setting sub clock past) k ≡ true → passes state ≡ true → AreFilled setting sub k (filled k) (slice_index_or rests k 0) (title_of (part_at held (crossfaded setting.plan.nodes k)).slot)
+      → gives (moment_after setting sub clock past) k ≡ true → passes state ≡ true
+      → AreFilled setting sub k (filled k) (slice_index_or rests k 0)
+      (title_of (part_at held (crossfaded setting.plan.nodes k)).slot)
 
--- of the crossfades of a clock below this node, those that gave and through which cells pass go on no longer than their sub-clocks
-pub record AllPassOn (clocks : List NodeClock) (clock : NodeClock) (held : List Part) (states : List NodeState) (rests : List ℕ) (below count : ℕ) : Type 0 where
+-- of the crossfades of a clock below this node, those that gave and through which cells pass go on no longer than their
+-- sub-clocks
+pub record AllPassOn (clocks : List NodeClock) (clock : NodeClock) (held : List Part) (states : List NodeState)
+    (rests : List ℕ) (below count : ℕ) : Type 0 where
   pub each : (i : ℕ) (state : NodeState) → i < below → lies_at clocks clock i ≡ true → slice_get states i ≡ Some state
       → gave_at held i ≡ true → passes state ≡ true → count ≤ slice_index_or rests i 0
 
 -- the same of all crossfades of a clock
 abbrev pub AllPassOnOver : Shape → NodeClock → List Part → List NodeState → (rests : List ℕ) → (count : ℕ) → Type 0
-AllPassOnOver shape clock held states rests count = AllPassOn shape.clocks.now clock held states rests (length shape.clocks.now) count
+AllPassOnOver shape clock held states rests count = AllPassOn shape.clocks.now clock held states rests
+    (length shape.clocks.now) count
 
--- of the crossfades of a clock below this node, those that gave at the instant after these ask for this in so many instants that go on:
--- where cells pass one slot for each, else none
-pub record AllAsk (setting : Setting) (sub : ℕ → ℕ → List Slot) (clock : NodeClock) (past : List Moment) (filled : ℕ → ℕ) (states : List NodeState)
+-- of the crossfades of a clock below this node, those that gave at the instant after these ask for this in so many
+-- instants that go on: where cells pass one slot for each, else none
+pub record AllAsk (setting : Setting) (sub : ℕ → ℕ → List Slot) (clock : NodeClock) (past : List Moment) (filled : ℕ
+    → ℕ) (states : List NodeState)
     (below count : ℕ) : Type 0 where
-  pub each : (k overlap j : ℕ) (node : Node) (state : NodeState) → k < below → IsNode setting clock k node → work_at setting k node ≡ Fades overlap
+  pub each : (k overlap j : ℕ) (node : Node) (state : NodeState) → k < below → IsNode setting clock k node
+      → work_at setting k node ≡ Fades overlap
       → slice_get states k ≡ Some state → gives (moment_after setting sub clock past) k ≡ true → j < count
       → run_of overlap (sub k) (suc (position past k) + j) ≡ filled k + asked (passes state) j
 
--- the crossfades of a clock that gave at the instant after these, and through which cells pass, have the samples of their children,
--- whose titles are held
-pub record AreSupplied (setting : Setting) (sub : ℕ → ℕ → List Slot) (clock : NodeClock) (past : List Moment) (many : ℕ) (filled : ℕ → ℕ)
+-- the crossfades of a clock that gave at the instant after these, and through which cells pass, have the samples of
+-- their children, whose titles are held
+pub record AreSupplied (setting : Setting) (sub : ℕ → ℕ
+    → List Slot) (clock : NodeClock) (past : List Moment) (many : ℕ) (filled : ℕ → ℕ)
     (held : List Part) (states : List NodeState) (left right : Lanes) : Type 0 where
   pub each : (k : ℕ) (node : Node) (state : NodeState) → IsNode setting clock k node → slice_get states k ≡ Some state
       → gives (moment_after setting sub clock past) k ≡ true → passes state ≡ true
-      → LaneFills (sub k) (filled k) many (title_of (part_at held (crossfaded setting.plan.nodes k)).slot) (samples_of left (crossfaded setting.plan.nodes k) many) (samples_of right (crossfaded setting.plan.nodes k) many)
+      → LaneFills (sub k) (filled k) many (title_of (part_at held (crossfaded setting.plan.nodes k)).slot)
+      (samples_of left (crossfaded setting.plan.nodes k) many) (samples_of right (crossfaded setting.plan.nodes k) many)
   -- which lie in other clocks
   pub apart : (k : ℕ) (node : Node) (state : NodeState) → IsNode setting clock k node → slice_get states k ≡ Some state
-      → gives (moment_after setting sub clock past) k ≡ true → passes state ≡ true → lies_in setting clock (crossfaded setting.plan.nodes k) ≡ false
+      → gives (moment_after setting sub clock past) k ≡ true → passes state ≡ true
+      → lies_in setting clock (crossfaded setting.plan.nodes k) ≡ false

@@ -32,10 +32,14 @@ pub record IsEnd (clocks : List NodeClock) (clock : NodeClock) (below i : ℕ) :
 pub record AreNodesOf (clocks : List NodeClock) (nodes : ClockNodes) : Type 0 where
   pub in_nexts : length nodes.nexts.items ≡ length clocks
   pub in_befores : length nodes.befores.items ≡ length clocks
-  pub first : (clock : NodeClock) → IsFirst clocks clock 0 (slice_index_or nodes.firsts.items (number_of clock) (length clocks))
-  pub next : (i : ℕ) → i < length clocks → IsFirst clocks (slice_index_or clocks i (Main 0)) (suc i) (slice_index_or nodes.nexts.items i 0)
-  pub end : (clock : NodeClock) → IsEnd clocks clock (length clocks) (slice_index_or nodes.ends.items (number_of clock) 0)
-  pub before : (i : ℕ) → i < length clocks → IsEnd clocks (slice_index_or clocks i (Main 0)) i (slice_index_or nodes.befores.items i 0)
+  pub first : (clock : NodeClock)
+      → IsFirst clocks clock 0 (slice_index_or nodes.firsts.items (number_of clock) (length clocks))
+  pub next : (i : ℕ) → i < length clocks
+      → IsFirst clocks (slice_index_or clocks i (Main 0)) (suc i) (slice_index_or nodes.nexts.items i 0)
+  pub end : (clock : NodeClock)
+      → IsEnd clocks clock (length clocks) (slice_index_or nodes.ends.items (number_of clock) 0)
+  pub before : (i : ℕ) → i < length clocks
+      → IsEnd clocks (slice_index_or clocks i (Main 0)) i (slice_index_or nodes.befores.items i 0)
 
 -- what no node of another clock than the latest instant's does: it offers nothing, and is not demanded
 pub record IsLatest (clocks : List NodeClock) (latest : Latest) : Type 0 where

@@ -11,7 +11,7 @@ use Rattle.op_leaf.specs.Leaves.{leaf_slot}
 use Rattle.op_leaf.specs.Readers.{read_by, reader_slot}
 use Rattle.stream_meaning.specs.declared.part.Part.{Part}
 use Rattle.stream_meaning.specs.Operators.{Choice, Eligible, Plays, Picks, Fades, Reads, marks_at, work_of}
-use Rattle.stream_meaning.specs.Instants.{Setting, Moment, count, gives, last_pick, moment_after, offer, parts_upto, position, reading_after, reading_at, second_at, slots_at, work_at}
+use Rattle.stream_meaning.specs.Instants.{Setting, Moment, gives_before, gives, last_pick, moment_after, offer, parts_upto, position, reading_after, reading_at, second_at, slots_at, work_at}
 use Rattle.stretch_laws.specs.Steady.{IsFree}
 use Rattle.stretch_laws.specs.Stretches.{AreFilled, IsNode, KeepsTitle}
 use Rattle.node_states.specs.declared.state.NodeState.{NodeState}
@@ -28,49 +28,67 @@ begins_at parts children None = false
 begins_at parts children (Some place) = is_first (slot_at (slots_at parts children) place)
 
 -- node i goes on for so many instants behind the instant after these
-pub record NodeStretches (setting : Setting) (sub : ℕ → ℕ → List Slot) (clock : NodeClock) (past : List Moment) (i : ℕ) (node : Node) (rest : ℕ) : Type 0 where
+pub record NodeStretches (setting : Setting) (sub : ℕ → ℕ
+    → List Slot) (clock : NodeClock) (past : List Moment) (i : ℕ) (node : Node) (rest : ℕ) : Type 0 where
   pub leaves : (leaf : Leaf) (j : ℕ) → work_at setting i node ≡ Plays leaf → 0 < j → j ≤ rest
-      → gives (moment_after setting sub clock past) i ≡ true → is_inner (leaf_slot setting.library leaf (count past i + j)) ≡ true
-  pub ticks : (buffer j : ℕ) → work_at setting i node ≡ Reads buffer → 0 < j → j ≤ rest → nat_eq ((length past + j) % setting.plan.frame) 0 ≡ false
-  pub readers : (buffer j : ℕ) → work_at setting i node ≡ Reads buffer → 0 < j → j ≤ rest → gives (moment_after setting sub clock past) i ≡ true
-      → is_inner (reader_slot (read_by j (reading_at setting buffer (length past) (reading_after setting i buffer past)).reader)) ≡ true
-  pub items : (overlap : ℕ) → work_at setting i node ≡ Fades overlap → 0 < rest → is_some (offer (moment_after setting sub clock past) i) ≡ true
+      → gives (moment_after setting sub clock past) i ≡ true
+      → is_inner (leaf_slot setting.library leaf (gives_before past i + j)) ≡ true
+  pub ticks : (buffer j : ℕ) → work_at setting i node ≡ Reads buffer → 0 < j → j ≤ rest
+      → nat_eq ((length past + j) % setting.plan.frame) 0 ≡ false
+  pub readers : (buffer j : ℕ) → work_at setting i node ≡ Reads buffer → 0 < j → j ≤ rest
+      → gives (moment_after setting sub clock past) i ≡ true
+      → is_inner (reader_slot (read_by j
+      (reading_at setting buffer (length past) (reading_after setting i buffer past)).reader)) ≡ true
+  pub items : (overlap : ℕ) → work_at setting i node ≡ Fades overlap → 0 < rest
+      → is_some (offer (moment_after setting sub clock past) i) ≡ true
   pub settled : (overlap j : ℕ) → work_at setting i node ≡ Fades overlap → 0 < j → j ≤ rest
-      → gives (moment_after setting sub clock past) i ≡ true → is_inner (item_of overlap (sub i) (position past i + j)) ≡ true
-  pub marks : (choice : Choice) (eligible : Eligible) (j children : ℕ) → work_at setting i node ≡ Picks choice eligible → 0 < j → j ≤ rest
-      → marks_at eligible (second_at setting (length past + j)) children ≡ marks_at eligible (second_at setting (length past)) children
+      → gives (moment_after setting sub clock past) i ≡ true
+      → is_inner (item_of overlap (sub i) (position past i + j)) ≡ true
+  pub marks : (choice : Choice) (eligible : Eligible) (j children : ℕ) → work_at setting i node ≡ Picks choice eligible
+      → 0 < j → j ≤ rest
+      → marks_at eligible (second_at setting (length past + j)) children
+      ≡ marks_at eligible (second_at setting (length past)) children
   pub free : (choice : Choice) (eligible : Eligible) → work_at setting i node ≡ Picks choice eligible → 0 < rest
       → IsFree choice (slots_at (parts_upto setting sub clock past i) node.children)
-      (marks_at eligible (second_at setting (length past)) (length (slots_at (parts_upto setting sub clock past i) node.children))) (last_pick past i)
+      (marks_at eligible (second_at setting (length past))
+      (length (slots_at (parts_upto setting sub clock past i) node.children))) (last_pick past i)
   pub titles : (j : ℕ) → 0 < j → j ≤ rest → gives (moment_after setting sub clock past) i ≡ true
-      → KeepsTitle setting sub past i (work_at setting i node) j (title_of (offer (moment_after setting sub clock past) i))
+      → KeepsTitle setting sub past i (work_at setting i node) j
+      (title_of (offer (moment_after setting sub clock past) i))
 
 -- the readers of a clock have begun so many instants
 pub record AreReadTo (setting : Setting) (clock : NodeClock) (filled : ℕ → ℕ) (n : ℕ) : Type 0 where
-  pub each : (i : ℕ) (node : Node) (buffer : ℕ) → IsNode setting clock i node → work_at setting i node ≡ Reads buffer → filled i ≡ n
+  pub each : (i : ℕ) (node : Node) (buffer : ℕ) → IsNode setting clock i node → work_at setting i node ≡ Reads buffer
+      → filled i ≡ n
 
 -- for so many instants behind one at this time, the eligible children of a node that chooses stay the same
 pub record MarksStay (op : Op) (time : WeekTime) (rest : ℕ) : Type 0 where
   pub each : (rate i : ℕ) (kind : Kind) (choice : Choice) (eligible : Eligible) (start n j children : ℕ)
       → work_of rate i kind op ≡ Picks choice eligible → TimeStands start n time → j ≤ rest
-      → marks_at eligible ((start + (n + j) / time.rate) % 604800) children ≡ marks_at eligible ((start + n / time.rate) % 604800) children
+      → marks_at eligible ((start + (n + j) / time.rate) % 604800) children
+      ≡ marks_at eligible ((start + n / time.rate) % 604800) children
 
 -- so many instants lie behind this one in its tick
 pub record IsSameTick (setting : Setting) (n tick : ℕ) : Type 0 where
   pub each : (j : ℕ) → 0 < j → j ≤ tick → nat_eq ((n + j) % setting.plan.frame) 0 ≡ false
 
--- node i, which has this part and gave this, goes on for so many instants, whatever instants its state stood for; and where it is a crossfade, it
--- asks for one slot in each of them where cells pass, else for none
-pub record NodeGoesOn (shape : Shape) (i : ℕ) (parts : List Part) (held : Part) (state : NodeState) (below below_title : ℕ) (time : WeekTime) (tick rest : ℕ) : Type 0 where
-  pub goes : (other : Setting) (sub : ℕ → ℕ → List Slot) (clock : NodeClock) (past : List Moment) (filled : ℕ) (node : Node) →
+-- node i, which has this part and gave this, goes on for so many instants, whatever instants its state stood for; and
+-- where it is a crossfade, it asks for one slot in each of them where cells pass, else for none
+pub record NodeGoesOn (shape : Shape) (i : ℕ) (parts : List Part) (held : Part) (state : NodeState)
+    (below below_title : ℕ) (time : WeekTime) (tick rest : ℕ) : Type 0 where
+  pub goes : (other : Setting) (sub : ℕ → ℕ
+      → List Slot) (clock : NodeClock) (past : List Moment) (filled : ℕ) (node : Node) →
       let setting = setting_over shape other in
-      AreLong sub → IsNode setting clock i node → StateStands setting sub (moment_after setting sub clock past ∷ past) filled i (work_at setting i node) state
-      → parts ≡ (moment_after setting sub clock past).parts → gives (moment_after setting sub clock past) i ≡ is_some held.slot
+      AreLong sub → IsNode setting clock i node → StateStands setting sub (moment_after setting sub clock past
+      ∷ past) filled i (work_at setting i node) state
+      → parts ≡ (moment_after setting sub clock past).parts
+      → gives (moment_after setting sub clock past) i ≡ is_some held.slot
       → ((buffer : ℕ) → work_at setting i node ≡ Reads buffer → filled ≡ suc (length past))
       → (is_some held.slot ≡ true → passes state ≡ true → AreFilled setting sub i filled below below_title)
       → TimeStands setting.start (length past) time → IsSameTick setting (length past) tick
       → NodeStretches setting sub clock past i node rest
   pub asks : (setting : Setting) (sub : ℕ → ℕ → List Slot) (past : List Moment) (moment : Moment) (filled overlap j : ℕ)
-      → AreLong sub → StateStands setting sub (moment ∷ past) filled i (Fades overlap) state → gives moment i ≡ is_some held.slot → is_some held.slot ≡ true
+      → AreLong sub → StateStands setting sub (moment ∷ past) filled i (Fades overlap) state
+      → gives moment i ≡ is_some held.slot → is_some held.slot ≡ true
       → (passes state ≡ true → AreFilled setting sub i filled below below_title) → j < rest
       → run_of overlap (sub i) (suc (position past i) + j) ≡ filled + asked (passes state) j

@@ -25,19 +25,23 @@ pub record IsIn (setting : Setting) (clock : NodeClock) (i : ℕ) (node : Node) 
   pub inside : lies_in setting clock i ≡ true
 
 -- the states of a clock's nodes stand for these instants of it, where crossfade i was filled `filled i` slots
-pub record ClockStands (setting : Setting) (sub : ℕ → ℕ → List Slot) (clock : NodeClock) (past : List Moment) (filled : ℕ → ℕ)
+pub record ClockStands (setting : Setting) (sub : ℕ → ℕ
+    → List Slot) (clock : NodeClock) (past : List Moment) (filled : ℕ → ℕ)
     (states : List NodeState) : Type 0 where
   pub each : (i : ℕ) (node : Node) (state : NodeState) → IsIn setting clock i node → slice_get states i ≡ Some state
       → StateStands setting sub past (filled i) i (work_at setting i node) state
 
 -- the items of a clock's crossfades are settled
-pub record AreSettled (setting : Setting) (sub : ℕ → ℕ → List Slot) (clock : NodeClock) (past : List Moment) (filled : ℕ → ℕ) : Type 0 where
-  pub each : (i : ℕ) (node : Node) → IsIn setting clock i node → IsSettled sub past (filled i) i (work_at setting i node)
+pub record AreSettled (setting : Setting) (sub : ℕ → ℕ → List Slot) (clock : NodeClock) (past : List Moment) (filled : ℕ
+    → ℕ) : Type 0 where
+  pub each : (i : ℕ) (node : Node) → IsIn setting clock i node
+      → IsSettled sub past (filled i) i (work_at setting i node)
 
 -- each state is one of its node of a plan
 pub record AllFit (plan : Plan) (library : Sounds) (states : List NodeState) : Type 0 where
   pub size : length states ≡ length plan.nodes
-  pub each : (i : ℕ) (node : Node) (state : NodeState) → slice_get plan.nodes i ≡ Some node → slice_get states i ≡ Some state
+  pub each : (i : ℕ) (node : Node) (state : NodeState) → slice_get plan.nodes i ≡ Some node
+      → slice_get states i ≡ Some state
       → Fits library (length node.children) state
 
 -- there is room for the children of each node of a plan
@@ -46,4 +50,5 @@ pub record HasRoomFor (plan : Plan) (room : ℕ) : Type 0 where
 
 -- these tell of each node of a clock whether it is demanded of itself
 pub record AreRoots (setting : Setting) (clock : NodeClock) (own : List Bool) : Type 0 where
-  pub each : (i : ℕ) → i < length setting.plan.nodes → lies_in setting clock i ≡ true → slice_index_or own i false ≡ is_root setting clock i
+  pub each : (i : ℕ) → i < length setting.plan.nodes → lies_in setting clock i ≡ true
+      → slice_index_or own i false ≡ is_root setting clock i

@@ -48,21 +48,26 @@ pub record HasStretchRoom (nodes : ℕ) (room : StretchRoom) : Type 0 where
 -- of the first nodes, as many as there are lanes, each one whose state is not idle has a lane
 pub record HaveLanes (states : List NodeState) (count : ℕ) (lanes : Lanes) : Type 0 where
   pub size : length lanes ≡ count
-  pub each : (i : ℕ) (state : NodeState) → i < count → slice_get states i ≡ Some state → (state ≡ Idle → ⊥) → HasLane lanes i
+  pub each : (i : ℕ) (state : NodeState) → i < count → slice_get states i ≡ Some state → (state ≡ Idle → ⊥)
+      → HasLane lanes i
 
--- so many cells or items of each node of a clock that gave, of those below this one, are there and begin no track, but where cells pass
-pub record AllLieAhead (library : Sounds) (clocks : List NodeClock) (clock : NodeClock) (held : List Part) (states : List NodeState)
+-- so many cells or items of each node of a clock that gave, of those below this one, are there and begin no track, but
+-- where cells pass
+pub record AllLieAhead (library : Sounds) (clocks : List NodeClock) (clock : NodeClock) (held : List Part)
+    (states : List NodeState)
     (below count : ℕ) : Type 0 where
   pub each : (i : ℕ) (state : NodeState) → i < below → lies_at clocks clock i ≡ true → slice_get states i ≡ Some state
       → gave_at held i ≡ true → LiesAhead library state count
 
 -- the same of all nodes of a clock
 abbrev pub AllLieAheadOver : Shape → NodeClock → List Part → List NodeState → (count : ℕ) → Type 0
-AllLieAheadOver shape clock held states count = AllLieAhead shape.library.now shape.clocks.now clock held states (length shape.clocks.now) count
+AllLieAheadOver shape clock held states count = AllLieAhead shape.library.now shape.clocks.now clock held states
+    (length shape.clocks.now) count
 
--- the latest instant of a clock is the one after these, at this time: these are its parts, what was given there is held, and the states
--- stand for it too; and sub-clocks go on for so long
-pub record IsBehind (setting : Setting) (sub : ℕ → ℕ → List Slot) (clock : NodeClock) (past : List Moment) (filled : ℕ → ℕ) (time : WeekTime)
+-- the latest instant of a clock is the one after these, at this time: these are its parts, what was given there is
+-- held, and the states stand for it too; and sub-clocks go on for so long
+pub record IsBehind (setting : Setting) (sub : ℕ → ℕ → List Slot) (clock : NodeClock) (past : List Moment) (filled : ℕ
+    → ℕ) (time : WeekTime)
     (parts held : List Part) (states : List NodeState) (rests : List ℕ) : Type 0 where
   pub long : AreLong sub
   pub stands : ClockStands setting sub clock (moment_after setting sub clock past ∷ past) filled states
@@ -72,20 +77,24 @@ pub record IsBehind (setting : Setting) (sub : ℕ → ℕ → List Slot) (clock
   pub time_is : TimeStands setting.start (length past) time
   pub filled_on : AreFilledOn setting sub clock past filled held states rests
 
--- so many instants go on as the latest one of a clock did, whatever instants the states stood for: they are a stretch with it, and for them
--- each crossfade that gave asks for a slot an instant where cells pass, else for none
-pub record ClockGoesOn (shape : Shape) (clock : NodeClock) (time : WeekTime) (parts held : List Part) (states : List NodeState) (rests : List ℕ)
+-- so many instants go on as the latest one of a clock did, whatever instants the states stood for: they are a stretch
+-- with it, and for them each crossfade that gave asks for a slot an instant where cells pass, else for none
+pub record ClockGoesOn (shape : Shape) (clock : NodeClock) (time : WeekTime) (parts held : List Part)
+    (states : List NodeState) (rests : List ℕ)
     (rest : ℕ) : Type 0 where
   pub stretch : (other : Setting) (sub : ℕ → ℕ → List Slot) (past : List Moment) (filled : ℕ → ℕ) →
       let setting = setting_over shape other in
       IsBehind setting sub clock past filled time parts held states rests → IsStretch setting sub clock past (suc rest)
   pub asks : (other : Setting) (sub : ℕ → ℕ → List Slot) (past : List Moment) (filled : ℕ → ℕ) →
       let setting = setting_over shape other in
-      IsBehind setting sub clock past filled time parts held states rests → AllAsk setting sub clock past filled states (length shape.clocks.now) rest
+      IsBehind setting sub clock past filled time parts held states rests
+      → AllAsk setting sub clock past filled states (length shape.clocks.now) rest
 
--- what was given at the instant after these is held, with which so many instants are a stretch, the states stand for it too, the nodes of
--- the clock have lanes, and the crossfades through which cells pass have the samples of their children
-pub record IsGoing (setting : Setting) (sub : ℕ → ℕ → List Slot) (clock : NodeClock) (past : List Moment) (many : ℕ) (filled : ℕ → ℕ)
+-- what was given at the instant after these is held, with which so many instants are a stretch, the states stand for it
+-- too, the nodes of the clock have lanes, and the crossfades through which cells pass have the samples of their
+-- children
+pub record IsGoing (setting : Setting) (sub : ℕ → ℕ
+    → List Slot) (clock : NodeClock) (past : List Moment) (many : ℕ) (filled : ℕ → ℕ)
     (held : List Part) (states : List NodeState) (left right : Lanes) : Type 0 where
   pub long : AreLong sub
   pub stretch : IsStretch setting sub clock past (suc many)
@@ -95,23 +104,26 @@ pub record IsGoing (setting : Setting) (sub : ℕ → ℕ → List Slot) (clock 
   pub laned : (i : ℕ) (node : Node) → IsNode setting clock i node → HasLanes left right i
   pub supplied : AreSupplied setting sub clock past many filled held states left right
 
--- what the nodes of a clock have begun or were filled, where its readers have begun so many instants more, and its crossfades through which
--- cells pass were filled so many slots more
+-- what the nodes of a clock have begun or were filled, where its readers have begun so many instants more, and its
+-- crossfades through which cells pass were filled so many slots more
 abbrev pub begun_on : Setting → NodeClock → (through : ℕ → Bool) → (many : ℕ) → (filled : ℕ → ℕ) → ℕ → ℕ
-begun_on setting clock through many filled i = filled_on (lies_in setting clock i && (through i || reads_at setting i)) many (filled i)
+begun_on setting clock through many filled i = filled_on (lies_in setting clock i
+    && (through i || reads_at setting i)) many (filled i)
 
--- so many instants go on as the instant after these did, from these states on: the states stand for them too, and the nodes that give
--- have left their samples
-pub record HasGoneOn (setting : Setting) (sub : ℕ → ℕ → List Slot) (clock : NodeClock) (past : List Moment) (many : ℕ) (filled : ℕ → ℕ)
+-- so many instants go on as the instant after these did, from these states on: the states stand for them too, and the
+-- nodes that give have left their samples
+pub record HasGoneOn (setting : Setting) (sub : ℕ → ℕ
+    → List Slot) (clock : NodeClock) (past : List Moment) (many : ℕ) (filled : ℕ → ℕ)
     (old : List NodeState) (left right : Lanes) (states : List NodeState) : Type 0 where
   pub stands : ClockStands setting sub clock (going_on setting sub clock (suc many) past)
       (begun_on setting clock (goes_through (moment_after setting sub clock past) old) many filled) states
   pub lanes : (i : ℕ) → gives (moment_after setting sub clock past) i ≡ true
       → IsLane (λ j. lane setting sub clock past (suc j) i) many (samples_of left i many) (samples_of right i many)
 
--- a stretch of so many instants behind the one after these, as node i sees it before its run: what it and the nodes before it gave, and
--- the samples of those that give; `held` is what all nodes gave
-pub record NodeGivesOn (setting : Setting) (sub : ℕ → ℕ → List Slot) (clock : NodeClock) (past : List Moment) (many filled i : ℕ) (node : Node)
+-- a stretch of so many instants behind the one after these, as node i sees it before its run: what it and the nodes
+-- before it gave, and the samples of those that give; `held` is what all nodes gave
+pub record NodeGivesOn (setting : Setting) (sub : ℕ → ℕ
+    → List Slot) (clock : NodeClock) (past : List Moment) (many filled i : ℕ) (node : Node)
     (held parts : List Part) (left right : Lanes) (state : NodeState) : Type 0 where
   pub long : AreLong sub
   pub stretch : IsStretch setting sub clock past (suc many)
@@ -119,25 +131,31 @@ pub record NodeGivesOn (setting : Setting) (sub : ℕ → ℕ → List Slot) (cl
   pub laned : HasLanes left right i
   pub given : (k : ℕ) → k ≤ i → part_at parts k ≡ given_part (moment_after setting sub clock past) k
   pub begun : reads (work_at setting i node) ≡ true → filled ≡ suc (length past)
-  pub stands : StateStands setting sub (moment_after setting sub clock past ∷ past) filled i (work_at setting i node) state
+  pub stands : StateStands setting sub (moment_after setting sub clock past
+      ∷ past) filled i (work_at setting i node) state
   pub lanes : (k : ℕ) → k < i → gives (moment_after setting sub clock past) k ≡ true
       → IsLane (λ j. lane setting sub clock past (suc j) k) many (samples_of left k many) (samples_of right k many)
   pub supplied : gives (moment_after setting sub clock past) i ≡ true → passes state ≡ true
-      → LaneFills (sub i) filled many (title_of (part_at held (crossfaded setting.plan.nodes i)).slot) (samples_of left (crossfaded setting.plan.nodes i) many) (samples_of right (crossfaded setting.plan.nodes i) many)
+      → LaneFills (sub i) filled many (title_of (part_at held (crossfaded setting.plan.nodes i)).slot)
+      (samples_of left (crossfaded setting.plan.nodes i) many) (samples_of right (crossfaded setting.plan.nodes i) many)
 
 -- and behind it
-pub record NodeHasGone (setting : Setting) (sub : ℕ → ℕ → List Slot) (clock : NodeClock) (past : List Moment) (many filled i : ℕ) (node : Node)
+pub record NodeHasGone (setting : Setting) (sub : ℕ → ℕ
+    → List Slot) (clock : NodeClock) (past : List Moment) (many filled i : ℕ) (node : Node)
     (old : NodeState) (left right : Lanes) (state : NodeState) : Type 0 where
   pub stands : StateStands setting sub (going_on setting sub clock (suc many) past)
-      (filled_on ((gives (moment_after setting sub clock past) i && passes old) || reads (work_at setting i node)) many filled) i (work_at setting i node) state
+      (filled_on ((gives (moment_after setting sub clock past) i && passes old)
+      || reads (work_at setting i node)) many filled) i (work_at setting i node) state
   pub lane_is : gives (moment_after setting sub clock past) i ≡ true
       → IsLane (λ j. lane setting sub clock past (suc j) i) many (samples_of left i many) (samples_of right i many)
 
 -- the same of a node that gave, whose samples are these
-pub record NodeHasMade (setting : Setting) (sub : ℕ → ℕ → List Slot) (clock : NodeClock) (past : List Moment) (many filled i : ℕ) (node : Node)
+pub record NodeHasMade (setting : Setting) (sub : ℕ → ℕ
+    → List Slot) (clock : NodeClock) (past : List Moment) (many filled i : ℕ) (node : Node)
     (old : NodeState) (left right : List ℤ) (state : NodeState) : Type 0 where
   pub gave : gives (moment_after setting sub clock past) i ≡ true
-  pub stands : StateStands setting sub (going_on setting sub clock (suc many) past) (filled_on (passes old || reads (work_at setting i node)) many filled) i (work_at setting i node) state
+  pub stands : StateStands setting sub (going_on setting sub clock (suc many) past) (filled_on (passes old
+      || reads (work_at setting i node)) many filled) i (work_at setting i node) state
   pub lane_is : IsLane (λ j. lane setting sub clock past (suc j) i) many left right
 
 -- so many instants are made at once: one at least, and no more than a run has
@@ -160,24 +178,30 @@ pub record HasRoomToRun (nodes : ℕ) (held parts : List Part) (left right : Lan
   pub in_spare : IsSpare spare
 
 -- the nodes of a clock have made so many instants that go on as its latest one, whatever instants the states stood for
-pub record NodesRun (shape : Shape) (clock : NodeClock) (many : ℕ) (held : List Part) (old : List NodeState) (left_old right_old left right : Lanes)
+pub record NodesRun (shape : Shape) (clock : NodeClock) (many : ℕ) (held : List Part) (old : List NodeState)
+    (left_old right_old left right : Lanes)
     (states : List NodeState) : Type 0 where
   pub run : (other : Setting) (sub : ℕ → ℕ → List Slot) (past : List Moment) (filled : ℕ → ℕ) →
       let setting = setting_over shape other in
-      IsGoing setting sub clock past many filled held old left_old right_old → HasGoneOn setting sub clock past many filled old left right states
+      IsGoing setting sub clock past many filled held old left_old right_old
+      → HasGoneOn setting sub clock past many filled old left right states
 
 -- node i has made them, whatever instants its state stood for
-pub record NodeRun (shape : Shape) (i many : ℕ) (held parts : List Part) (old : NodeState) (left_old right_old left right : Lanes)
+pub record NodeRun (shape : Shape) (i many : ℕ) (held parts : List Part) (old : NodeState)
+    (left_old right_old left right : Lanes)
     (state : NodeState) : Type 0 where
-  pub run : (other : Setting) (sub : ℕ → ℕ → List Slot) (clock : NodeClock) (past : List Moment) (filled : ℕ) (node : Node) →
+  pub run : (other : Setting) (sub : ℕ → ℕ
+      → List Slot) (clock : NodeClock) (past : List Moment) (filled : ℕ) (node : Node) →
       let setting = setting_over shape other in
       NodeGivesOn setting sub clock past many filled i node held parts left_old right_old old
       → NodeHasGone setting sub clock past many filled i node old left right state
 
 -- node i, which gave, has made these samples of them
-pub record NodeMade (shape : Shape) (i many : ℕ) (held parts : List Part) (old : NodeState) (left_old right_old : Lanes) (left right : List ℤ)
+pub record NodeMade (shape : Shape) (i many : ℕ) (held parts : List Part) (old : NodeState) (left_old right_old : Lanes)
+    (left right : List ℤ)
     (state : NodeState) : Type 0 where
-  pub made : (other : Setting) (sub : ℕ → ℕ → List Slot) (clock : NodeClock) (past : List Moment) (filled : ℕ) (node : Node) →
+  pub made : (other : Setting) (sub : ℕ → ℕ
+      → List Slot) (clock : NodeClock) (past : List Moment) (filled : ℕ) (node : Node) →
       let setting = setting_over shape other in
       NodeGivesOn setting sub clock past many filled i node held parts left_old right_old old
       → NodeHasMade setting sub clock past many filled i node old left right state

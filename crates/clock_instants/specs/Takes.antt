@@ -37,11 +37,13 @@ pub record HasReader (plan : Plan) (clocks : List NodeClock) (clock : NodeClock)
 
 -- each reader of a plan reads one of so many buffers
 pub record ReadersAreIn (plan : Plan) (buffers : ℕ) : Type 0 where
-  pub each : (i buffer : ℕ) (node : Node) → slice_get plan.nodes i ≡ Some node → node.op ≡ Buffer buffer → buffer < buffers
+  pub each : (i buffer : ℕ) (node : Node) → slice_get plan.nodes i ≡ Some node → node.op ≡ Buffer buffer
+      → buffer < buffers
 
 -- no buffer has two readers
 pub record HasOwnReaders (setting : Setting) : Type 0 where
-  pub each : (i j buffer : ℕ) (one other : Node) → slice_get setting.plan.nodes i ≡ Some one → slice_get setting.plan.nodes j ≡ Some other
+  pub each : (i j buffer : ℕ) (one other : Node) → slice_get setting.plan.nodes i ≡ Some one
+      → slice_get setting.plan.nodes j ≡ Some other
       → work_at setting i one ≡ Reads buffer → work_at setting j other ≡ Reads buffer → i ≡ j
 
 -- what node i has begun: a reader one instant more
@@ -53,13 +55,15 @@ abbrev pub begun_in : Setting → NodeClock → (filled : ℕ → ℕ) → ℕ �
 begun_in setting clock filled i = begun_by (lies_in setting clock i && reads_at setting i) (filled i)
 
 -- the readers of a clock have taken these answers by the instants before this one, and begun them alone
-pub record HaveTaken (setting : Setting) (clock : NodeClock) (past : List Moment) (filled : ℕ → ℕ) (front : ℕ → List Answer) : Type 0 where
+pub record HaveTaken (setting : Setting) (clock : NodeClock) (past : List Moment) (filled : ℕ → ℕ) (front : ℕ
+    → List Answer) : Type 0 where
   pub even : (i : ℕ) → lies_in setting clock i ≡ true → reads_at setting i ≡ true → filled i ≡ length past
   pub taken : (i buffer : ℕ) (node : Node) → IsIn setting clock i node → work_at setting i node ≡ Reads buffer
       → (reading_after setting i buffer past).taken ≡ length (front buffer)
 
 -- node i, which does this work, has begun, by these calls
-pub record HasBegun (setting : Setting) (sub : ℕ → ℕ → List Slot) (past : List Moment) (filled i : ℕ) (work : Work) (front : ℕ → List Answer)
+pub record HasBegun (setting : Setting) (sub : ℕ → ℕ
+    → List Slot) (past : List Moment) (filled i : ℕ) (work : Work) (front : ℕ → List Answer)
     (more : List Call) (state : NodeState) : Type 0 where
   pub stands : StateStands setting sub past (begun_by (reads work) filled) i work state
   pub calls : more ≡ takes_by setting past i work
@@ -68,74 +72,99 @@ pub record HasBegun (setting : Setting) (sub : ℕ → ℕ → List Slot) (past 
   pub others : (buffer : ℕ) → (work ≡ Reads buffer → ⊥) → answers_in buffer more ≡ []
 
 -- node i, whatever it stood for where a tick begins, has begun
-pub record NodeBegan {T : Type 0} (stands : T → List Call → Type 0) (plan : Plan) (library : Sounds) (clocks : List NodeClock) (i : ℕ)
+pub record NodeBegan {T : Type 0} (stands : T → List Call
+    → Type 0) (plan : Plan) (library : Sounds) (clocks : List NodeClock) (i : ℕ)
     (old new : NodeState) (taps_old taps_new : T) : Type 0 where
   pub more : List Call
   pub taps : Adds stands taps_old taps_new more
-  pub begun : (other : Setting) (sub : ℕ → ℕ → List Slot) (past : List Moment) (filled : ℕ) (node : Node) (front : ℕ → List Answer) →
+  pub begun : (other : Setting) (sub : ℕ → ℕ → List Slot) (past : List Moment) (filled : ℕ) (node : Node) (front : ℕ
+      → List Answer) →
       let setting = over plan library clocks other in
-      slice_get plan.nodes i ≡ Some node → nat_eq (length past % setting.plan.frame) 0 ≡ true → HasAnswers setting (after_calls front more)
-      → StateStands setting sub past filled i (work_at setting i node) old → (reads (work_at setting i node) ≡ true → filled ≡ length past)
-      → ((buffer : ℕ) → work_at setting i node ≡ Reads buffer → (reading_after setting i buffer past).taken ≡ length (front buffer))
+      slice_get plan.nodes i ≡ Some node → nat_eq (length past % setting.plan.frame) 0 ≡ true
+      → HasAnswers setting (after_calls front more)
+      → StateStands setting sub past filled i (work_at setting i node) old
+      → (reads (work_at setting i node) ≡ true → filled ≡ length past)
+      → ((buffer : ℕ) → work_at setting i node ≡ Reads buffer
+      → (reading_after setting i buffer past).taken ≡ length (front buffer))
       → HasBegun setting sub past filled i (work_at setting i node) front more new
 
 -- the same over a shape
-abbrev pub NodeBeganOver : {T : Type 0} → (T → List Call → Type 0) → Shape → (i : ℕ) → NodeState → NodeState → T → T → Type 0
-NodeBeganOver stands shape i old new taps_old taps_new = NodeBegan stands shape.plan.now shape.library.now shape.clocks.now i old new taps_old taps_new
+abbrev pub NodeBeganOver : {T : Type 0} → (T → List Call → Type 0) → Shape → (i : ℕ) → NodeState → NodeState → T → T
+    → Type 0
+NodeBeganOver stands shape i old new taps_old taps_new = NodeBegan stands shape.plan.now shape.library.now
+    shape.clocks.now i old new taps_old taps_new
 
 -- some of these calls were made
-pub record NodeTookSome {T : Type 0} (stands : T → List Call → Type 0) (plan : Plan) (library : Sounds) (clocks : List NodeClock) (i : ℕ)
+pub record NodeTookSome {T : Type 0} (stands : T → List Call
+    → Type 0) (plan : Plan) (library : Sounds) (clocks : List NodeClock) (i : ℕ)
     (old : NodeState) (taps_old taps_new : T) : Type 0 where
   pub made : List Call
   pub taps : Adds stands taps_old taps_new made
-  pub begins : (other : Setting) (sub : ℕ → ℕ → List Slot) (past : List Moment) (filled : ℕ) (node : Node) (front : ℕ → List Answer) →
+  pub begins : (other : Setting) (sub : ℕ → ℕ → List Slot) (past : List Moment) (filled : ℕ) (node : Node) (front : ℕ
+      → List Answer) →
       let setting = over plan library clocks other in
       slice_get plan.nodes i ≡ Some node → HasAnswers setting (after_calls front made)
-      → StateStands setting sub past filled i (work_at setting i node) old → (reads (work_at setting i node) ≡ true → filled ≡ length past)
-      → ((buffer : ℕ) → work_at setting i node ≡ Reads buffer → (reading_after setting i buffer past).taken ≡ length (front buffer))
+      → StateStands setting sub past filled i (work_at setting i node) old
+      → (reads (work_at setting i node) ≡ true → filled ≡ length past)
+      → ((buffer : ℕ) → work_at setting i node ≡ Reads buffer
+      → (reading_after setting i buffer past).taken ≡ length (front buffer))
       → IsBegin made (takes_in setting true past i (Some node))
 
 -- the same over a shape
 abbrev pub NodeTookSomeOver : {T : Type 0} → (T → List Call → Type 0) → Shape → (i : ℕ) → NodeState → T → T → Type 0
-NodeTookSomeOver stands shape i old taps_old taps_new = NodeTookSome stands shape.plan.now shape.library.now shape.clocks.now i old taps_old taps_new
+NodeTookSomeOver stands shape i old taps_old taps_new = NodeTookSome stands shape.plan.now shape.library.now
+    shape.clocks.now i old taps_old taps_new
 
 -- the calls of the readers of a clock, node by node
 abbrev pub takes_below : Setting → NodeClock → List Moment → (n : ℕ) → List Call
-takes_below setting clock past n = joined_upto (λ i. takes_in setting (lies_in setting clock i) past i (slice_get setting.plan.nodes i)) n
+takes_below setting clock past n = joined_upto
+    (λ i. takes_in setting (lies_in setting clock i) past i (slice_get setting.plan.nodes i)) n
 
 -- the readers of a clock have begun, by these calls
-pub record AreBegun (setting : Setting) (sub : ℕ → ℕ → List Slot) (clock : NodeClock) (past : List Moment) (filled : ℕ → ℕ) (front : ℕ → List Answer)
+pub record AreBegun (setting : Setting) (sub : ℕ → ℕ → List Slot) (clock : NodeClock) (past : List Moment) (filled : ℕ
+    → ℕ) (front : ℕ → List Answer)
     (more : List Call) (states : List NodeState) : Type 0 where
   pub stand : ClockStands setting sub clock past (begun_in setting clock filled) states
   pub calls : more ≡ takes_below setting clock past (length setting.plan.nodes)
   pub taken : (i buffer : ℕ) (node : Node) → IsIn setting clock i node → work_at setting i node ≡ Reads buffer
       → (reading_by setting i buffer past (suc (length past))).taken ≡ length (after_calls front more buffer)
-  pub others : (buffer : ℕ) → ((i : ℕ) (node : Node) → IsIn setting clock i node → work_at setting i node ≡ Reads buffer → ⊥) → answers_in buffer more ≡ []
+  pub others : (buffer : ℕ) → ((i : ℕ) (node : Node) → IsIn setting clock i node → work_at setting i node ≡ Reads buffer
+      → ⊥) → answers_in buffer more ≡ []
 
-pub record HaveBegun {T : Type 0} (stands : T → List Call → Type 0) (plan : Plan) (library : Sounds) (clocks : List NodeClock) (clock : NodeClock)
+pub record HaveBegun {T : Type 0} (stands : T → List Call
+    → Type 0) (plan : Plan) (library : Sounds) (clocks : List NodeClock) (clock : NodeClock)
     (old new : List NodeState) (taps_old taps_new : T) : Type 0 where
   pub more : List Call
   pub taps : Adds stands taps_old taps_new more
-  pub begun : (other : Setting) (sub : ℕ → ℕ → List Slot) (past : List Moment) (filled : ℕ → ℕ) (front : ℕ → List Answer) →
+  pub begun : (other : Setting) (sub : ℕ → ℕ → List Slot) (past : List Moment) (filled : ℕ → ℕ) (front : ℕ
+      → List Answer) →
       let setting = over plan library clocks other in
-      HasOwnReaders setting → nat_eq (length past % setting.plan.frame) 0 ≡ true → HasAnswers setting (after_calls front more)
+      HasOwnReaders setting → nat_eq (length past % setting.plan.frame) 0 ≡ true
+      → HasAnswers setting (after_calls front more)
       → ClockStands setting sub clock past filled old → HaveTaken setting clock past filled front
       → AreBegun setting sub clock past filled front more new
 
 -- the same over a shape
-abbrev pub HaveBegunOver : {T : Type 0} → (T → List Call → Type 0) → Shape → NodeClock → List NodeState → List NodeState → T → T → Type 0
-HaveBegunOver stands shape clock old new taps_old taps_new = HaveBegun stands shape.plan.now shape.library.now shape.clocks.now clock old new taps_old taps_new
+abbrev pub HaveBegunOver : {T : Type 0} → (T → List Call → Type 0) → Shape → NodeClock → List NodeState → List NodeState
+    → T → T → Type 0
+HaveBegunOver stands shape clock old new taps_old taps_new = HaveBegun stands shape.plan.now shape.library.now
+    shape.clocks.now clock old new taps_old taps_new
 
-pub record HaveTakenSome {T : Type 0} (stands : T → List Call → Type 0) (plan : Plan) (library : Sounds) (clocks : List NodeClock) (clock : NodeClock)
+pub record HaveTakenSome {T : Type 0} (stands : T → List Call
+    → Type 0) (plan : Plan) (library : Sounds) (clocks : List NodeClock) (clock : NodeClock)
     (old : List NodeState) (taps_old taps_new : T) : Type 0 where
   pub made : List Call
   pub taps : Adds stands taps_old taps_new made
-  pub begins : (other : Setting) (sub : ℕ → ℕ → List Slot) (past : List Moment) (filled : ℕ → ℕ) (front : ℕ → List Answer) →
+  pub begins : (other : Setting) (sub : ℕ → ℕ → List Slot) (past : List Moment) (filled : ℕ → ℕ) (front : ℕ
+      → List Answer) →
       let setting = over plan library clocks other in
-      HasOwnReaders setting → nat_eq (length past % setting.plan.frame) 0 ≡ true → HasAnswers setting (after_calls front made)
+      HasOwnReaders setting → nat_eq (length past % setting.plan.frame) 0 ≡ true
+      → HasAnswers setting (after_calls front made)
       → ClockStands setting sub clock past filled old → HaveTaken setting clock past filled front
       → IsBegin made (takes_below setting clock past (length setting.plan.nodes))
 
 -- the same over a shape
-abbrev pub HaveTakenSomeOver : {T : Type 0} → (T → List Call → Type 0) → Shape → NodeClock → List NodeState → T → T → Type 0
-HaveTakenSomeOver stands shape clock old taps_old taps_new = HaveTakenSome stands shape.plan.now shape.library.now shape.clocks.now clock old taps_old taps_new
+abbrev pub HaveTakenSomeOver : {T : Type 0} → (T → List Call → Type 0) → Shape → NodeClock → List NodeState → T → T
+    → Type 0
+HaveTakenSomeOver stands shape clock old taps_old taps_new = HaveTakenSome stands shape.plan.now shape.library.now
+    shape.clocks.now clock old taps_old taps_new

@@ -28,8 +28,10 @@ pub fn advance_all(
     requires in_demanded { length demanded.now ≡ length shape.now.plan.now.nodes }
     requires fit { AllFitOver shape.now states.old }
     ensures fit { AllFitOver shape.now states.new }
-    ensures others { (i : ℕ) → same_clock (slice_index_or shape.now.clocks.now i (InMain 0)) clock ≡ false → slice_get states.new i ≡ slice_get states.old i }
-    ensures stand { (setting : Setting) (sub : ℕ → ℕ → List TheSlot) (past : List Moment) (moment : Moment) (filled : ℕ → ℕ) →
+    ensures others { (i : ℕ) → same_clock (slice_index_or shape.now.clocks.now i (InMain 0)) clock ≡ false
+        → slice_get states.new i ≡ slice_get states.old i }
+    ensures stand { (setting : Setting) (sub : ℕ → ℕ → List TheSlot) (past : List Moment) (moment : Moment) (filled : ℕ
+        → ℕ) →
         let setting = setting_over shape.now setting in
         AreLong sub → ClockStands setting sub clock past filled states.old → AreSettled setting sub clock past filled
         → parts.now ≡ parts_upto setting sub clock past (length shape.now.plan.now.nodes)

@@ -24,8 +24,8 @@ pub enum Demand {
     Offering,
 }
 
-/// Finds the demanded nodes of a clock, over those that are demanded of themselves. Nodes of other clocks do nothing, and are
-/// not demanded.
+/// Finds the demanded nodes of a clock, over those that are demanded of themselves. Nodes of other clocks do nothing,
+/// and are not demanded.
 pub fn find_demanded(
     shape: &Shape<'_>,
     nodes: &ClockNodes,
@@ -38,10 +38,14 @@ pub fn find_demanded(
     requires in_parts { length parts.now ≡ length shape.now.plan.now.nodes }
     requires in_demanded { length demanded.old ≡ length shape.now.plan.now.nodes }
     requires parts { (j : ℕ) → lies_at shape.now.clocks.now clock j ≡ false → part_at parts.now j ≡ silent }
-    requires demanded { (j : ℕ) → lies_at shape.now.clocks.now clock j ≡ false → slice_index_or demanded.old j false ≡ false }
-    ensures others { (j : ℕ) → lies_at shape.now.clocks.now clock j ≡ false → slice_index_or demanded.new j false ≡ false }
-    ensures demands { (library : Sounds) (clocks : List Clock) (setting : Setting) → PicksOffer shape.now.plan.now.nodes parts.now
-        → demanded.new ≡ demands_from (λ j. slice_index_or demanded.old j false) 0 (uses_from (over shape.now.plan.now library clocks setting) parts.now 0 shape.now.plan.now.nodes) }
+    requires demanded { (j : ℕ) → lies_at shape.now.clocks.now clock j ≡ false
+        → slice_index_or demanded.old j false ≡ false }
+    ensures others { (j : ℕ) → lies_at shape.now.clocks.now clock j ≡ false
+        → slice_index_or demanded.new j false ≡ false }
+    ensures demands { (library : Sounds) (clocks : List Clock) (setting : Setting)
+        → PicksOffer shape.now.plan.now.nodes parts.now
+        → demanded.new ≡ demands_from (λ j. slice_index_or demanded.old j false) 0
+        (uses_from (over shape.now.plan.now library clocks setting) parts.now 0 shape.now.plan.now.nodes) }
 {
     let all = shape.plan.nodes.as_slice();
     let mut i = nodes.end(clock);
@@ -82,7 +86,9 @@ fn demand_of(op: &Op) -> Demand
 fn demand_picked(children: &[u32], parts: &[Part], pick: Option<u32>, demanded: &mut [bool])
     requires in_demanded { All (λ child. child < length demanded.old) children.now }
     requires in_parts { All (λ child. child < length parts.now) children.now }
-    ensures { (j : ℕ) → slice_index_or demanded.new j false ≡ (slice_index_or demanded.old j false || list_any (nat_eq j) (uses_in Demand.Picked parts.now children.now pick)) }
+    ensures { (j : ℕ) → slice_index_or demanded.new j false
+        ≡ (slice_index_or demanded.old j false
+        || list_any (nat_eq j) (uses_in Demand.Picked parts.now children.now pick)) }
 {
     let Some(place) = pick else {
         return;
@@ -99,7 +105,9 @@ fn demand_picked(children: &[u32], parts: &[Part], pick: Option<u32>, demanded: 
 fn demand_offering(children: &[u32], parts: &[Part], demanded: &mut [bool])
     requires in_demanded { All (λ child. child < length demanded.old) children.now }
     requires in_parts { All (λ child. child < length parts.now) children.now }
-    ensures { (j : ℕ) → slice_index_or demanded.new j false ≡ (slice_index_or demanded.old j false || list_any (nat_eq j) (uses_in Demand.Offering parts.now children.now None)) }
+    ensures { (j : ℕ) → slice_index_or demanded.new j false
+        ≡ (slice_index_or demanded.old j false
+        || list_any (nat_eq j) (uses_in Demand.Offering parts.now children.now None)) }
 {
     for child in children {
         if parts[*child as usize].slot.is_some() {
@@ -118,7 +126,8 @@ fn demand_used(
 )
     requires in_demanded { All (λ child. child < length demanded.old) children.now }
     requires in_parts { All (λ child. child < length parts.now) children.now }
-    ensures { (j : ℕ) → slice_index_or demanded.new j false ≡ (slice_index_or demanded.old j false || list_any (nat_eq j) (uses_in demand parts.now children.now pick)) }
+    ensures { (j : ℕ) → slice_index_or demanded.new j false
+        ≡ (slice_index_or demanded.old j false || list_any (nat_eq j) (uses_in demand parts.now children.now pick)) }
 {
     match demand {
         Demand::Nothing => {}

@@ -17,8 +17,8 @@ use fixed_text::WeekSecond;
 use node_states::{Desk, NodeState};
 use stream_meaning::Part;
 
-/// The latest instant that was made: of which clock, what each node of the plan did, and who was demanded. Nodes of other
-/// clocks do nothing at it, and are not demanded.
+/// The latest instant that was made: of which clock, what each node of the plan did, and who was demanded. Nodes of
+/// other clocks do nothing at it, and are not demanded.
 #[derive(Drop)]
 pub struct Latest {
     pub clock: NodeClock,
@@ -27,10 +27,11 @@ pub struct Latest {
 }
 
 impl Latest {
-    /// One instant of a clock, at a second of the week: it becomes the latest one, what each node does and who is demanded, and
-    /// the states of the clock's nodes go on, and what they gave is held. `own` tells of each node whether its own clock demands it of
-    /// itself, and `desk` has room for the children of a node. Nodes of other clocks are not looked at, but for those of the clock whose instant was
-    /// the latest one before. Whatever instants the states stood for, they stand for one more.
+    /// One instant of a clock, at a second of the week: it becomes the latest one, what each node does and who is
+    /// demanded, and the states of the clock's nodes go on, and what they gave is held. `own` tells of each node
+    /// whether its own clock demands it of itself, and `desk` has room for the children of a node. Nodes of other
+    /// clocks are not looked at, but for those of the clock whose instant was the latest one before. Whatever instants
+    /// the states stood for, they stand for one more.
     pub fn finish_instant(
         &mut self,
         shape: &Shape<'_>,
@@ -52,9 +53,12 @@ impl Latest {
         ensures room { desk.new ≡ desk.old }
         ensures latest { IsLatest shape.now.clocks.now self.new }
         ensures fit { AllFitOver shape.now states.new }
-        ensures others { (i : ℕ) → lies_at shape.now.clocks.now clock i ≡ false → slice_get states.new i ≡ slice_get states.old i }
-        ensures kept { (i : ℕ) → lies_at shape.now.clocks.now clock i ≡ false → part_at held.new i ≡ part_at held.old i }
-        ensures finished { InstantFinished shape.now own.now clock at.second states.old states.new self.new.parts.items held.new }
+        ensures others { (i : ℕ) → lies_at shape.now.clocks.now clock i ≡ false
+            → slice_get states.new i ≡ slice_get states.old i }
+        ensures kept { (i : ℕ) → lies_at shape.now.clocks.now clock i ≡ false
+            → part_at held.new i ≡ part_at held.old i }
+        ensures finished { InstantFinished shape.now own.now clock at.second states.old states.new self.new.parts.items
+            held.new }
     {
         clear(
             shape,
@@ -84,7 +88,8 @@ fn clear(
     requires in_parts { length parts.old ≡ length shape.now.clocks.now }
     requires in_demanded { length demanded.old ≡ length shape.now.clocks.now }
     requires parts { (j : ℕ) → lies_at shape.now.clocks.now clock j ≡ false → part_at parts.old j ≡ silent }
-    requires demanded { (j : ℕ) → lies_at shape.now.clocks.now clock j ≡ false → slice_index_or demanded.old j false ≡ false }
+    requires demanded { (j : ℕ) → lies_at shape.now.clocks.now clock j ≡ false
+        → slice_index_or demanded.old j false ≡ false }
     ensures parts { (j : ℕ) → part_at parts.new j ≡ silent }
     ensures demanded { (j : ℕ) → slice_index_or demanded.new j false ≡ false }
 {

@@ -50,11 +50,14 @@ fn numbers_of(clocks: &[NodeClock]) -> usize
 // Chains the nodes of each clock from the first one on.
 fn link_on(clocks: &[NodeClock], firsts: &mut [u32], nexts: &mut [u32])
     requires few { length clocks.now ≤ MAX_NODES }
-    requires in_firsts { (i : ℕ) → i < length clocks.now → number_of (slice_index_or clocks.now i (InMain 0)) < length firsts.old }
+    requires in_firsts { (i : ℕ) → i < length clocks.now
+        → number_of (slice_index_or clocks.now i (InMain 0)) < length firsts.old }
     requires in_nexts { length nexts.old ≡ length clocks.now }
     requires none { (number : ℕ) → slice_index_or firsts.old number (length clocks.now) ≡ length clocks.now }
-    ensures first { (clock : Clock) → IsFirst clocks.now clock 0 (slice_index_or firsts.new (number_of clock) (length clocks.now)) }
-    ensures next { (i : ℕ) → i < length clocks.now → IsFirst clocks.now (slice_index_or clocks.now i (InMain 0)) (suc i) (slice_index_or nexts.new i 0) }
+    ensures first { (clock : Clock)
+        → IsFirst clocks.now clock 0 (slice_index_or firsts.new (number_of clock) (length clocks.now)) }
+    ensures next { (i : ℕ) → i < length clocks.now
+        → IsFirst clocks.now (slice_index_or clocks.now i (InMain 0)) (suc i) (slice_index_or nexts.new i 0) }
 {
     let mut i = clocks.len();
     while i > 0 {
@@ -68,11 +71,14 @@ fn link_on(clocks: &[NodeClock], firsts: &mut [u32], nexts: &mut [u32])
 // Chains the nodes of each clock from the last one back.
 fn link_back(clocks: &[NodeClock], ends: &mut [u32], befores: &mut [u32])
     requires few { length clocks.now ≤ MAX_NODES }
-    requires in_ends { (i : ℕ) → i < length clocks.now → number_of (slice_index_or clocks.now i (InMain 0)) < length ends.old }
+    requires in_ends { (i : ℕ) → i < length clocks.now
+        → number_of (slice_index_or clocks.now i (InMain 0)) < length ends.old }
     requires in_befores { length befores.old ≡ length clocks.now }
     requires none { (number : ℕ) → slice_index_or ends.old number 0 ≡ 0 }
-    ensures end { (clock : Clock) → IsEnd clocks.now clock (length clocks.now) (slice_index_or ends.new (number_of clock) 0) }
-    ensures before { (i : ℕ) → i < length clocks.now → IsEnd clocks.now (slice_index_or clocks.now i (InMain 0)) i (slice_index_or befores.new i 0) }
+    ensures end { (clock : Clock)
+        → IsEnd clocks.now clock (length clocks.now) (slice_index_or ends.new (number_of clock) 0) }
+    ensures before { (i : ℕ) → i < length clocks.now
+        → IsEnd clocks.now (slice_index_or clocks.now i (InMain 0)) i (slice_index_or befores.new i 0) }
 {
     for i in 0..clocks.len() {
         let number = clock_number(clocks[i]);
@@ -115,7 +121,8 @@ impl ClockNodes {
     /// The next node of the clock of node i, or the number of all nodes.
     pub fn after(&self, i: usize) -> usize
         requires { i < length self.now.nexts.items }
-        ensures { (clocks : List Clock) → AreNodesOf clocks self.now → IsFirst clocks (slice_index_or clocks i (InMain 0)) (suc i) result }
+        ensures { (clocks : List Clock) → AreNodesOf clocks self.now
+            → IsFirst clocks (slice_index_or clocks i (InMain 0)) (suc i) result }
     {
         self.nexts[i] as usize
     }
@@ -133,7 +140,8 @@ impl ClockNodes {
     /// One more than the node before node i in its clock, or 0.
     pub fn before(&self, i: usize) -> usize
         requires { i < length self.now.befores.items }
-        ensures { (clocks : List Clock) → AreNodesOf clocks self.now → IsEnd clocks (slice_index_or clocks i (InMain 0)) i result }
+        ensures { (clocks : List Clock) → AreNodesOf clocks self.now
+            → IsEnd clocks (slice_index_or clocks i (InMain 0)) i result }
     {
         self.befores[i] as usize
     }

@@ -57,15 +57,18 @@ fn offer_of(
 ) -> Part
     requires shape { IsShape shape.now }
     requires within { i < length shape.now.plan.now.nodes }
-    requires fits { (node : PlanNode) → slice_get shape.now.plan.now.nodes i ≡ Some node → Fits shape.now.library.now (length node.children) state.now }
+    requires fits { (node : PlanNode) → slice_get shape.now.plan.now.nodes i ≡ Some node
+        → Fits shape.now.library.now (length node.children) state.now }
     requires room { HasRoomFor shape.now.plan.now desk.old }
     ensures room { desk.new ≡ desk.old }
     ensures part { (setting : Setting) (sub : ℕ → ℕ → List TheSlot) (clock : Clock) (past : List Moment) (filled : ℕ) →
         let setting = setting_over shape.now setting in
         at.second ≡ second_at setting (length past) → AreLong sub → lies_in setting clock i ≡ true
-        → ((node : PlanNode) → IsIn setting clock i node → StateStands setting sub past filled i (work_at setting i node) state.now)
+        → ((node : PlanNode) → IsIn setting clock i node
+        → StateStands setting sub past filled i (work_at setting i node) state.now)
         → ((node : PlanNode) → IsIn setting clock i node → IsSettled sub past filled i (work_at setting i node))
-        → result ≡ part_in setting sub (lies_in setting clock i) past i (slice_get shape.now.plan.now.nodes i) parts.now }
+        → result ≡ part_in setting sub (lies_in setting clock i) past i (slice_get shape.now.plan.now.nodes i)
+        parts.now }
 {
     let node = &shape.plan.nodes.as_slice()[i];
     desk.offer(state, node, parts, shape.library, at)

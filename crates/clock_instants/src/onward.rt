@@ -17,9 +17,9 @@ use op_mix::{Before, MAX_STRETCH, Sums};
 use std::mem;
 use stream_meaning::Part;
 
-/// Makes so many instants of a clock that go on as its latest one did. The sub-clocks of its crossfades through which cells pass
-/// have gone on by as many already, and left the samples of the crossfades' children in `stretch_room`. The states of the clock's nodes
-/// go on, and each that gives leaves its samples there.
+/// Makes so many instants of a clock that go on as its latest one did. The sub-clocks of its crossfades through which
+/// cells pass have gone on by as many already, and left the samples of the crossfades' children in `stretch_room`. The
+/// states of the clock's nodes go on, and each that gives leaves its samples there.
 pub fn run_nodes(
     shape: &Shape<'_>,
     nodes: &ClockNodes,
@@ -39,11 +39,16 @@ pub fn run_nodes(
     ensures room { HasStretchRoom (length shape.now.plan.now.nodes) stretch_room.new }
     ensures held { stretch_room.new.held ≡ stretch_room.old.held }
     ensures rests { stretch_room.new.rests ≡ stretch_room.old.rests }
-    ensures others { (i : ℕ) → lies_at shape.now.clocks.now clock i ≡ false → slice_get states.new i ≡ slice_get states.old i }
-    ensures left { (i : ℕ) → lies_at shape.now.clocks.now clock i ≡ false → samples_of stretch_room.new.left.items i many ≡ samples_of stretch_room.old.left.items i many }
-    ensures right { (i : ℕ) → lies_at shape.now.clocks.now clock i ≡ false → samples_of stretch_room.new.right.items i many ≡ samples_of stretch_room.old.right.items i many }
-    ensures laned { (i : ℕ) → HasLanes stretch_room.old.left.items stretch_room.old.right.items i → HasLanes stretch_room.new.left.items stretch_room.new.right.items i }
-    ensures run { NodesRun shape.now clock many stretch_room.old.held.items states.old stretch_room.old.left.items stretch_room.old.right.items stretch_room.new.left.items stretch_room.new.right.items states.new }
+    ensures others { (i : ℕ) → lies_at shape.now.clocks.now clock i ≡ false
+        → slice_get states.new i ≡ slice_get states.old i }
+    ensures left { (i : ℕ) → lies_at shape.now.clocks.now clock i ≡ false
+        → samples_of stretch_room.new.left.items i many ≡ samples_of stretch_room.old.left.items i many }
+    ensures right { (i : ℕ) → lies_at shape.now.clocks.now clock i ≡ false
+        → samples_of stretch_room.new.right.items i many ≡ samples_of stretch_room.old.right.items i many }
+    ensures laned { (i : ℕ) → HasLanes stretch_room.old.left.items stretch_room.old.right.items i
+        → HasLanes stretch_room.new.left.items stretch_room.new.right.items i }
+    ensures run { NodesRun shape.now clock many stretch_room.old.held.items states.old stretch_room.old.left.items
+        stretch_room.old.right.items stretch_room.new.left.items stretch_room.new.right.items states.new }
 {
     run_each(
         shape,
@@ -81,8 +86,10 @@ fn run_each(
     requires ahead { AllLieAheadOver shape.now clock held.now states.old many }
     ensures fit { AllFitOver shape.now states.new }
     ensures outside { (j : ℕ) → lies_at shape.now.clocks.now clock j ≡ false → part_at parts.new j ≡ silent }
-    ensures others { (i : ℕ) → lies_at shape.now.clocks.now clock i ≡ false → slice_get states.new i ≡ slice_get states.old i }
-    ensures samples { (i : ℕ) → lies_at shape.now.clocks.now clock i ≡ false → HasKeptSamples left.old right.old left.new right.new many i }
+    ensures others { (i : ℕ) → lies_at shape.now.clocks.now clock i ≡ false
+        → slice_get states.new i ≡ slice_get states.old i }
+    ensures samples { (i : ℕ) → lies_at shape.now.clocks.now clock i ≡ false
+        → HasKeptSamples left.old right.old left.new right.new many i }
     ensures laned { (i : ℕ) → HasLanes left.old right.old i → HasLanes left.new right.new i }
     ensures spare { IsSpare spare.new }
     ensures run { NodesRun shape.now clock many held.now states.old left.old right.old left.new right.new states.new }
@@ -105,8 +112,9 @@ fn run_each(
     }
 }
 
-// Makes so many instants more of node i, over what it and the nodes before it gave; `held` is what all nodes gave. Its samples are made in the
-// spare lanes, which are then exchanged with its own. A node without lanes is not of the clocks that the engine drives.
+// Makes so many instants more of node i, over what it and the nodes before it gave; `held` is what all nodes gave. Its
+// samples are made in the spare lanes, which are then exchanged with its own. A node without lanes is not of the clocks
+// that the engine drives.
 fn run_node(
     shape: &Shape<'_>,
     i: usize,
@@ -125,13 +133,16 @@ fn run_node(
     requires in_right { length right.old ≡ length shape.now.plan.now.nodes }
     requires spare { IsSpare spare.old }
     requires count { AreAtOnce count }
-    requires fits { (node : PlanNode) → slice_get shape.now.plan.now.nodes i ≡ Some node → Fits shape.now.library.now (length node.children) state.old }
+    requires fits { (node : PlanNode) → slice_get shape.now.plan.now.nodes i ≡ Some node
+        → Fits shape.now.library.now (length node.children) state.old }
     requires ahead { is_some (part_at parts.now i).slot ≡ true → LiesAhead shape.now.library.now state.old count }
-    ensures fits { (node : PlanNode) → slice_get shape.now.plan.now.nodes i ≡ Some node → Fits shape.now.library.now (length node.children) state.new }
+    ensures fits { (node : PlanNode) → slice_get shape.now.plan.now.nodes i ≡ Some node
+        → Fits shape.now.library.now (length node.children) state.new }
     ensures samples { (k : ℕ) → (k ≡ i → ⊥) → HasKeptSamples left.old right.old left.new right.new count k }
     ensures laned { (k : ℕ) → HasLanes left.old right.old k → HasLanes left.new right.new k }
     ensures spare { IsSpare spare.new }
-    ensures run { NodeRun shape.now i count held.now parts.now state.old left.old right.old left.new right.new state.new }
+    ensures run { NodeRun shape.now i count held.now parts.now state.old left.old right.old left.new right.new
+        state.new }
 {
     let part = parts[i];
     if !gives(part, true) {
@@ -180,11 +191,14 @@ fn make_samples(
     requires own_left { 2048 ≤ length own_left.old }
     requires own_right { 2048 ≤ length own_right.old }
     requires count { AreAtOnce count }
-    requires fits { (node : PlanNode) → slice_get shape.now.plan.now.nodes i ≡ Some node → Fits shape.now.library.now (length node.children) state.old }
+    requires fits { (node : PlanNode) → slice_get shape.now.plan.now.nodes i ≡ Some node
+        → Fits shape.now.library.now (length node.children) state.old }
     requires gave { is_some (part_at parts.now i).slot ≡ true }
     requires ahead { LiesAhead shape.now.library.now state.old count }
-    ensures fits { (node : PlanNode) → slice_get shape.now.plan.now.nodes i ≡ Some node → Fits shape.now.library.now (length node.children) state.new }
-    ensures made { NodeMade shape.now i count held.now parts.now state.old left.now right.now (take count own_left.new) (take count own_right.new) state.new }
+    ensures fits { (node : PlanNode) → slice_get shape.now.plan.now.nodes i ≡ Some node
+        → Fits shape.now.library.now (length node.children) state.new }
+    ensures made { NodeMade shape.now i count held.now parts.now state.old left.now right.now (take count own_left.new)
+        (take count own_right.new) state.new }
 {
     let below = title_below(shape.plan.nodes.as_slice(), held, i);
     let node = &shape.plan.nodes.as_slice()[i];

@@ -19,9 +19,9 @@ use node_states::{NodeState, WeekTime, steady_seconds};
 use plan_core::Op;
 use stream_meaning::Part;
 
-/// How many instants, at most so many and no more than a second has, go on as the latest one of a clock did, at which its
-/// nodes had these parts and gave what is held: they are a stretch with it. `time` is its time. A crossfade goes on for the items
-/// that it has ready, or where cells pass for as long as its sub-clock does, by `rests`.
+/// How many instants, at most so many and no more than a second has, go on as the latest one of a clock did, at which
+/// its nodes had these parts and gave what is held: they are a stretch with it. `time` is its time. A crossfade goes on
+/// for the items that it has ready, or where cells pass for as long as its sub-clock does, by `rests`.
 pub fn rest_of(
     shape: &Shape<'_>,
     nodes: &ClockNodes,
@@ -69,8 +69,8 @@ pub fn rest_of(
     rest
 }
 
-// How many of these instants node i goes on, which has this state and gave this; and its sub-clock goes on for so many, under the title
-// `below_title`.
+// How many of these instants node i goes on, which has this state and gave this; and its sub-clock goes on for so many,
+// under the title `below_title`.
 fn node_rest(
     shape: &Shape<'_>,
     parts: &[Part],
@@ -87,7 +87,8 @@ fn node_rest(
     requires rate { time.rate ≡ shape.now.plan.now.rate }
     requires in_parts { length parts.now ≡ length shape.now.plan.now.nodes }
     requires within { i < length shape.now.plan.now.nodes }
-    requires fits { (node : PlanNode) → slice_get shape.now.plan.now.nodes i ≡ Some node → Fits shape.now.library.now (length node.children) state.now }
+    requires fits { (node : PlanNode) → slice_get shape.now.plan.now.nodes i ≡ Some node
+        → Fits shape.now.library.now (length node.children) state.now }
     ensures within { result ≤ most }
     ensures ahead { is_some held.slot ≡ true → LiesAhead shape.now.library.now state.now result }
     ensures through { is_some held.slot ≡ true → passes state.now ≡ true → result ≤ below }
@@ -108,8 +109,8 @@ fn node_rest(
     )
 }
 
-// How many instants behind this one a node goes on before its eligible children may change or a tick begins, where it has to
-// do with one.
+// How many instants behind this one a node goes on before its eligible children may change or a tick begins, where it
+// has to do with one.
 fn border(op: &Op, time: WeekTime, tick: u32, most: u32) -> u32
     ensures marks { MarksStay op.now time result }
     ensures tick { (rate i buffer : ℕ) (kind : TheKind) → work_of rate i kind op.now ≡ Reads buffer → result ≡ tick }
@@ -121,8 +122,8 @@ fn border(op: &Op, time: WeekTime, tick: u32, most: u32) -> u32
     }
 }
 
-// How many instants behind this one the eligible children of a node stay the same, or so many. Its predicates are asked only
-// where the second ends first.
+// How many instants behind this one the eligible children of a node stay the same, or so many. Its predicates are asked
+// only where the second ends first.
 fn steady_left(op: &Op, time: WeekTime, most: u32) -> u32
     ensures { MarksStay op.now time result }
 {

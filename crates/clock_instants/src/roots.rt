@@ -5,8 +5,8 @@ ghost use Rattle.clock_instants.specs.Nodes.{AreNodesOf, lies_at};
 use crate::{ClockNodes, Shape};
 use clock_infer::NodeClock;
 
-/// Tells which nodes of a clock are demanded of themselves, where `own` tells it of each node in its own clock and none is
-/// demanded before.
+/// Tells which nodes of a clock are demanded of themselves, where `own` tells it of each node in its own clock and none
+/// is demanded before.
 pub fn demand_roots(
     shape: &Shape<'_>,
     nodes: &ClockNodes,
@@ -18,8 +18,11 @@ pub fn demand_roots(
     requires in_own { length own.now ≡ length shape.now.clocks.now }
     requires in_demanded { length demanded.old ≡ length shape.now.clocks.now }
     requires none { (j : ℕ) → slice_index_or demanded.old j false ≡ false }
-    ensures roots { (j : ℕ) → j < length shape.now.clocks.now → slice_index_or demanded.new j false ≡ (lies_at shape.now.clocks.now clock j && slice_index_or own.now j false) }
-    ensures others { (j : ℕ) → lies_at shape.now.clocks.now clock j ≡ false → slice_index_or demanded.new j false ≡ false }
+    ensures roots { (j : ℕ) → j < length shape.now.clocks.now
+        → slice_index_or demanded.new j false ≡ (lies_at shape.now.clocks.now clock j
+        && slice_index_or own.now j false) }
+    ensures others { (j : ℕ) → lies_at shape.now.clocks.now clock j ≡ false
+        → slice_index_or demanded.new j false ≡ false }
 {
     let mut i = nodes.first(clock);
     while i < shape.clocks.len() {

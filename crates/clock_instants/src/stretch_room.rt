@@ -12,8 +12,8 @@ use op_mix::{MAX_STRETCH, Sums, samples_of};
 use std::alloc::Global;
 use stream_meaning::Part;
 
-/// What the stretches of a plan's nodes need: the samples of each node that is driven, as many as a stretch has at most; room for a sum; and
-/// what is kept from instant to instant.
+/// What the stretches of a plan's nodes need: the samples of each node that is driven, as many as a stretch has at
+/// most; room for a sum; and what is kept from instant to instant.
 #[derive(Drop)]
 pub struct StretchRoom {
     /// By node: its left samples in the latest stretch; empty for a node that is idle.
@@ -56,11 +56,13 @@ impl Spare {
 }
 
 impl StretchRoom {
-    /// Room for the nodes of which these are the states, `4 * MAX_STRETCH` bytes for each that is not idle. No later call takes memory.
+    /// Room for the nodes of which these are the states, `4 * MAX_STRETCH` bytes for each that is not idle. No later
+    /// call takes memory.
     pub fn new(alloc: Global, states: &[NodeState]) -> Result<StretchRoom, Memory>
         requires { length states.now ≤ MAX_NODES }
         ensures room { IfOk result (HasStretchRoom (length states.now)) }
-        ensures laned { IfOk result (λ room. (i : ℕ) (state : State) → slice_get states.now i ≡ Some state → (state ≡ Idle → ⊥) → HasLanes room.left.items room.right.items i) }
+        ensures laned { IfOk result (λ room. (i : ℕ) (state : State) → slice_get states.now i ≡ Some state
+            → (state ≡ Idle → ⊥) → HasLanes room.left.items room.right.items i) }
         ensures none { IfOk result (λ room. (i : ℕ) → slice_index_or room.rests.items i 0 ≡ 0) }
     {
         let left = lanes_of(alloc, states)?;

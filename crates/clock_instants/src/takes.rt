@@ -15,8 +15,8 @@ use liq_base::Memory;
 use node_states::NodeState;
 use plan_core::Op;
 
-/// Lets the readers of a clock take, in node order, at an instant that begins a tick of it. Where memory is refused some of
-/// these takes were made.
+/// Lets the readers of a clock take, in node order, at an instant that begins a tick of it. Where memory is refused
+/// some of these takes were made.
 pub fn begin_readers<T: Taps>(
     shape: &Shape<'_>,
     nodes: &ClockNodes,
@@ -31,7 +31,8 @@ pub fn begin_readers<T: Taps>(
     ensures buffers { T.buffers taps.new ≡ T.buffers taps.old }
     ensures same { T.same taps.old taps.new }
     ensures fit { AllFitOver shape.now states.new }
-    ensures others { (i : ℕ) → lies_at shape.now.clocks.now clock i ≡ false → slice_get states.new i ≡ slice_get states.old i }
+    ensures others { (i : ℕ) → lies_at shape.now.clocks.now clock i ≡ false
+        → slice_get states.new i ≡ slice_get states.old i }
     ensures begun { OnOk result (HaveBegunOver T.stands shape.now clock states.old states.new taps.old taps.new) }
     ensures stopped { OnErr result (HaveTakenSomeOver T.stands shape.now clock states.old taps.old taps.new) }
     ensures reads { OnErr result (HasReader shape.now.plan.now shape.now.clocks.now clock) }
@@ -55,7 +56,9 @@ fn take_at<T: Taps>(
     requires readers { ReadersAreIn shape.now.plan.now (T.buffers taps.old) }
     ensures buffers { T.buffers taps.new ≡ T.buffers taps.old }
     ensures same { T.same taps.old taps.new }
-    ensures fits { (node : PlanNode) → slice_get shape.now.plan.now.nodes i ≡ Some node → Fits shape.now.library.now (length node.children) state.old → Fits shape.now.library.now (length node.children) state.new }
+    ensures fits { (node : PlanNode) → slice_get shape.now.plan.now.nodes i ≡ Some node
+        → Fits shape.now.library.now (length node.children) state.old
+        → Fits shape.now.library.now (length node.children) state.new }
     ensures begun { OnOk result (NodeBeganOver T.stands shape.now i state.old state.new taps.old taps.new) }
     ensures stopped { OnErr result (NodeTookSomeOver T.stands shape.now i state.old taps.old taps.new) }
     ensures reads { OnErr result (IsReader shape.now.plan.now i) }

@@ -1,6 +1,6 @@
 -- What the sinks of a clock took of its pieces, sink by sink. S is the sinks' type, `told` is what they tell.
 use Rattle.std.specs.Prelude.{◌≡◌, ◌<◌, ◌≤◌, ◌+◌, ℕ, Some, List, length, slice_get}
-use Rattle.liq_base.specs.Pieces.{HasRoom, SinkTold, Took, TookPart}
+use Rattle.liq_base.specs.Pieces.{HasRoom, SinkTold, TookPiece, TookPart}
 use Rattle.clock_outputs.specs.declared.port.Port.{Port}
 
 -- each sink has room for the piece of its output
@@ -11,11 +11,12 @@ pub record HaveRoom {S : Type 0} (told : S → SinkTold) (ports : List Port) (ou
 -- each of the first `below` sinks took the piece of its output, whole, and the others are as they were
 pub record TookAll {S : Type 0} (told : S → SinkTold) (ports : List Port) (below : ℕ) (old new : List S) : Type 0 where
   pub each : (k : ℕ) (port : Port) (before after : S) → k < below → slice_get ports k ≡ Some port
-      → slice_get old k ≡ Some before → slice_get new k ≡ Some after → Took port.piece.bytes (told before) (told after)
+      → slice_get old k ≡ Some before → slice_get new k ≡ Some after
+      → TookPiece port.piece.bytes (told before) (told after)
   pub others : (k : ℕ) → below ≤ k → slice_get new k ≡ slice_get old k
 
--- the sink at this place took a front of the piece of its output, and failed; each before it took its piece whole, and those behind it
--- are as they were
+-- the sink at this place took a front of the piece of its output, and failed; each before it took its piece whole, and
+-- those behind it are as they were
 pub record BrokeAt {S : Type 0} (told : S → SinkTold) (place : ℕ) (ports : List Port) (old new : List S) : Type 0 where
   pub port : Port
   pub before : S
@@ -25,5 +26,6 @@ pub record BrokeAt {S : Type 0} (told : S → SinkTold) (place : ℕ) (ports : L
   pub is : slice_get new place ≡ Some after
   pub part : TookPart port.piece.bytes (told before) (told after)
   pub each : (k : ℕ) (port : Port) (before after : S) → k < place → slice_get ports k ≡ Some port
-      → slice_get old k ≡ Some before → slice_get new k ≡ Some after → Took port.piece.bytes (told before) (told after)
+      → slice_get old k ≡ Some before → slice_get new k ≡ Some after
+      → TookPiece port.piece.bytes (told before) (told after)
   pub others : (k : ℕ) → place + 1 ≤ k → slice_get new k ≡ slice_get old k

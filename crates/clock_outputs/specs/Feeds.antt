@@ -18,25 +18,30 @@ given_by accepted (Some feed) = given feed.buffer (cells_of feed.frame) (accepte
 
 -- no buffer has two feeds
 pub record HaveOwnBuffers (feeds : List FeedPort) : Type 0 where
-  pub each : (j k : ℕ) (one other : FeedPort) → slice_get feeds j ≡ Some one → slice_get feeds k ≡ Some other → one.buffer ≡ other.buffer → j ≡ k
+  pub each : (j k : ℕ) (one other : FeedPort) → slice_get feeds j ≡ Some one → slice_get feeds k ≡ Some other
+      → one.buffer ≡ other.buffer → j ≡ k
 
 -- a feed gave its chunk, if it had cells
-pub record HasGiven {T : Type 0} (stands : T → List Call → Type 0) (feed : FeedPort) (taps_old taps_new : T) : Type 0 where
+pub record HasGiven {T : Type 0} (stands : T → List Call
+    → Type 0) (feed : FeedPort) (taps_old taps_new : T) : Type 0 where
   pub more : List Call
   pub taps : Adds stands taps_old taps_new more
   pub accepted : Bool
   pub is : more ≡ given feed.buffer (cells_of feed.frame) accepted
 
 -- the first feeds gave theirs
-pub record HaveGiven {T : Type 0} (stands : T → List Call → Type 0) (feeds : List FeedPort) (below : ℕ) (taps_old taps_new : T) : Type 0 where
+pub record HaveGiven {T : Type 0} (stands : T → List Call
+    → Type 0) (feeds : List FeedPort) (below : ℕ) (taps_old taps_new : T) : Type 0 where
   pub more : List Call
   pub taps : Adds stands taps_old taps_new more
   pub accepted : ℕ → Bool
   pub are : HaveOwnBuffers feeds → more ≡ joined_upto (λ k. given_by accepted (slice_get feeds k)) below
 
 -- memory was refused: these are the first gives
-pub record HaveGivenSome {T : Type 0} (stands : T → List Call → Type 0) (feeds : List FeedPort) (taps_old taps_new : T) : Type 0 where
+pub record HaveGivenSome {T : Type 0} (stands : T → List Call
+    → Type 0) (feeds : List FeedPort) (taps_old taps_new : T) : Type 0 where
   pub made : List Call
   pub taps : Adds stands taps_old taps_new made
   pub accepted : ℕ → Bool
-  pub begins : HaveOwnBuffers feeds → IsBegin made (joined_upto (λ k. given_by accepted (slice_get feeds k)) (length feeds))
+  pub begins : HaveOwnBuffers feeds
+      → IsBegin made (joined_upto (λ k. given_by accepted (slice_get feeds k)) (length feeds))

@@ -1,4 +1,5 @@
--- What an output has heard of its node: the bytes of the tick so far, and the gaps since the beginning, with and without the tick.
+-- What an output has heard of its node: the bytes of the tick so far, and the gaps since the beginning, with and
+-- without the tick.
 use Rattle.std.specs.Prelude.{ℕ, ◌+◌, ◌-◌, ◌*◌, ◌^◌, ◌≤◌, min, Some, None, List, [], ◌∷◌, ◌++◌, All, length}
 use Rattle.frame_core.specs.Slots.{Slot}
 use Rattle.stream_meaning.specs.Sinks.{block_length, slot_block}
@@ -35,7 +36,8 @@ emptied port = record {
 
 -- after one more slot of its node
 abbrev pub after_slot : Port → Slot → Port
-after_slot port slot = with_bytes port (port.piece.bytes ++ slot_block port.wide port.kind slot) (counted port.gaps slot)
+after_slot port slot = with_bytes port (port.piece.bytes
+    ++ slot_block port.wide port.kind slot) (counted port.gaps slot)
 
 -- after these slots
 abbrev pub after_slots : Port → List Slot → Port

@@ -18,8 +18,9 @@ pub struct FeedPort {
 }
 
 impl FeedPort {
-    /// Takes the slots of its node in a segment that begins at a place of the tick: that of its first instant, and behind it
-    /// the cells of these samples, which have its title and begin no track; or as many slots without a cell where the first one has none.
+    /// Takes the slots of its node in a segment that begins at a place of the tick: that of its first instant, and
+    /// behind it the cells of these samples, which have its title and begin no track; or as many slots without a cell
+    /// where the first one has none.
     pub fn hear(&mut self, at: u32, slot: Option<Cell>, left: &[i16], right: &[i16])
         requires same { length right.now ≡ length left.now }
         requires there { at + suc (length left.now) ≤ length self.old.frame }
@@ -51,8 +52,8 @@ impl FeedPort {
     }
 }
 
-/// Gives the chunk of each feed that has cells to its buffer, in their order. Where memory is refused some of these gives
-/// were made, from the first on.
+/// Gives the chunk of each feed that has cells to its buffer, in their order. Where memory is refused some of these
+/// gives were made, from the first on.
 pub fn give_all<T: Taps>(alloc: Global, feeds: &[FeedPort], taps: &mut T) -> Result<(), Memory>
     requires { All (λ feed. feed.buffer < T.buffers taps.old) feeds.now }
     ensures buffers { T.buffers taps.new ≡ T.buffers taps.old }

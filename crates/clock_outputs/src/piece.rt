@@ -49,7 +49,10 @@ impl Piece {
     pub fn add_cells(&mut self, wide: bool, kind: Kind, left: &[i16], right: &[i16])
         requires same { length right.now ≡ length left.now }
         requires room { length self.old.bytes + length left.now * block_length wide kind ≤ self.old.room }
-        ensures { self.new ≡ record { bytes = self.old.bytes ++ sample_blocks wide kind left.now right.now; room = self.old.room } }
+        ensures { self.new ≡ record {
+          bytes = self.old.bytes ++ sample_blocks wide kind left.now right.now;
+          room = self.old.room;
+        } }
     {
         let start = self.filled;
         let end = start + left.len() * block_size(wide, kind);
@@ -60,7 +63,10 @@ impl Piece {
     /// Adds the blocks of so many slots without a cell, which are zeros, in an output of this width and kind.
     pub fn add_gaps(&mut self, wide: bool, kind: Kind, count: usize)
         requires { length self.old.bytes + count * block_length wide kind ≤ self.old.room }
-        ensures { self.new ≡ record { bytes = self.old.bytes ++ flat_map (slot_block wide kind) (replicate count None); room = self.old.room } }
+        ensures { self.new ≡ record {
+          bytes = self.old.bytes ++ flat_map (slot_block wide kind) (replicate count None);
+          room = self.old.room;
+        } }
     {
         let start = self.filled;
         let end = start + count * block_size(wide, kind);

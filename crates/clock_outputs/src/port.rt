@@ -35,8 +35,8 @@ impl Port {
         self.gaps_before = self.gaps;
     }
 
-    /// Takes the slots of its node in a segment: that of its first instant, and behind it the cells of these samples, which
-    /// begin no track; or as many slots without a cell where the first one has none.
+    /// Takes the slots of its node in a segment: that of its first instant, and behind it the cells of these samples,
+    /// which begin no track; or as many slots without a cell where the first one has none.
     pub fn hear(&mut self, slot: Option<Cell>, left: &[i16], right: &[i16])
         requires same { length right.now ≡ length left.now }
         requires room { HasRoomLeft (suc (length left.now)) self.old }

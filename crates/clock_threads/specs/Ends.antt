@@ -25,7 +25,8 @@ pub record SameButEnds {S R : Type 0} (old new : Task S (ThreadTaps R)) : Type 0
   pub local : new.taps.local ≡ old.taps.local
 
 -- the window of a buffer between two clocks was closed
-pub record TasksClosed {S R : Type 0} (buffer : ℕ) (giver taker next_giver next_taker : Task S (ThreadTaps R)) (log : Answers) : Type 0 where
+pub record TasksClosed {S R : Type 0} (buffer : ℕ) (giver taker next_giver next_taker : Task S (ThreadTaps R))
+    (log : Answers) : Type 0 where
   pub giver_same : SameButEnds giver next_giver
   pub taker_same : SameButEnds taker next_taker
   pub giver_takes : takes_of next_giver ≡ takes_of giver
@@ -46,14 +47,16 @@ pub record WasPutBack {S R : Type 0} (old new : Task S (ThreadTaps R)) (takes : 
   pub same : SameButEnds old new
 
 -- the window of a buffer was closed at the clock that gives, and at these ends
-pub record GiverClosed {S R : Type 0} (buffer : ℕ) (old new : Task S (ThreadTaps R)) (takes after : List Side) (log : Answers) : Type 0 where
+pub record GiverClosed {S R : Type 0} (buffer : ℕ) (old new : Task S (ThreadTaps R)) (takes after : List Side)
+    (log : Answers) : Type 0 where
   pub takes_kept : takes_of new ≡ takes_of old
   pub same : SameButEnds old new
   pub closed : WasClosed buffer (puts_of old) (puts_of new) takes after log
   pub falling : Falling after
 
 -- the window of a buffer between two clocks of a list was closed
-pub record JoinClosed {S R : Type 0} (from to buffer : ℕ) (old new : List (Task S (ThreadTaps R))) (log : Answers) : Type 0 where
+pub record JoinClosed {S R : Type 0} (from to buffer : ℕ) (old new : List (Task S (ThreadTaps R)))
+    (log : Answers) : Type 0 where
   pub giver : Task S (ThreadTaps R)
   pub taker : Task S (ThreadTaps R)
   pub gives : (d : Task S (ThreadTaps R)) → slice_index_or old from d ≡ giver
@@ -64,14 +67,16 @@ pub record JoinClosed {S R : Type 0} (from to buffer : ℕ) (old new : List (Tas
   pub tasks : TasksClosed buffer giver taker next_giver next_taker log
 
 -- both ends of a buffer have a window open with these chunks, and did nothing
-pub record JoinOpen {S R : Type 0} (wire : Wire) (b : ℕ) (chunks : List (List Cell)) (tasks : List (Task S (ThreadTaps R))) : Type 0 where
+pub record JoinOpen {S R : Type 0} (wire : Wire) (b : ℕ) (chunks : List (List Cell))
+    (tasks : List (Task S (ThreadTaps R))) : Type 0 where
   pub queue : TableId
   pub capacity : capacity_of queue ≡ wire.capacity
   pub put : (d : Task S (ThreadTaps R)) → HasEnd (puts_of (slice_index_or tasks wire.from d)) b (opened queue chunks)
   pub take : (d : Task S (ThreadTaps R)) → HasEnd (takes_of (slice_index_or tasks wire.to d)) b (opened queue chunks)
 
 -- both ends of a buffer have a window with these windows' answers
-pub record JoinRan {S R : Type 0} (wire : Wire) (b : ℕ) (put take : Window) (tasks : List (Task S (ThreadTaps R))) : Type 0 where
+pub record JoinRan {S R : Type 0} (wire : Wire) (b : ℕ) (put take : Window)
+    (tasks : List (Task S (ThreadTaps R))) : Type 0 where
   pub capacity : capacity_of put.queue ≡ wire.capacity
   pub queue : take.queue ≡ put.queue
   pub put_end : (d : Task S (ThreadTaps R)) → HasEnd (puts_of (slice_index_or tasks wire.from d)) b put
@@ -80,20 +85,30 @@ pub record JoinRan {S R : Type 0} (wire : Wire) (b : ℕ) (put take : Window) (t
 -- each buffer that joins two clocks has both ends, of one queue
 pub record MayClose {S R : Type 0} (wires : List Wire) (tasks : List (Task S (ThreadTaps R))) : Type 0 where
   pub few : length wires < 2 ^ 32
-  pub places : (b : ℕ) → b < length wires → (wire_at wires b).from < length tasks × ((wire_at wires b).to < length tasks)
-  pub ran : (b : ℕ) → b < length wires → (wire_at wires b).from ≢ (wire_at wires b).to → (put : Window) × (take : Window) × JoinRan (wire_at wires b) b put take tasks
+  pub places : (b : ℕ) → b < length wires → (wire_at wires b).from < length tasks
+      × ((wire_at wires b).to < length tasks)
+  pub ran : (b : ℕ) → b < length wires → (wire_at wires b).from ≢ (wire_at wires b).to
+      → (put : Window) × (take : Window) × JoinRan (wire_at wires b) b put take tasks
 
 -- the tasks as they were, but for the windows of their ends
 pub record SameTasks {S R : Type 0} (old new : List (Task S (ThreadTaps R))) : Type 0 where
   pub many : length new ≡ length old
-  pub same : (k : ℕ) (d : Task S (ThreadTaps R)) → k < length old → SameButEnds (slice_index_or old k d) (slice_index_or new k d)
-  pub puts_many : (k : ℕ) (d : Task S (ThreadTaps R)) → k < length old → length (puts_of (slice_index_or new k d)) ≡ length (puts_of (slice_index_or old k d))
-  pub puts : (k p : ℕ) (d : Task S (ThreadTaps R)) (e : Side) → k < length old → (slice_index_or (puts_of (slice_index_or new k d)) p e).buffer ≡ (slice_index_or (puts_of (slice_index_or old k d)) p e).buffer
-  pub takes_many : (k : ℕ) (d : Task S (ThreadTaps R)) → k < length old → length (takes_of (slice_index_or new k d)) ≡ length (takes_of (slice_index_or old k d))
-  pub takes : (k p : ℕ) (d : Task S (ThreadTaps R)) (e : Side) → k < length old → (slice_index_or (takes_of (slice_index_or new k d)) p e).buffer ≡ (slice_index_or (takes_of (slice_index_or old k d)) p e).buffer
+  pub same : (k : ℕ) (d : Task S (ThreadTaps R)) → k < length old
+      → SameButEnds (slice_index_or old k d) (slice_index_or new k d)
+  pub puts_many : (k : ℕ) (d : Task S (ThreadTaps R)) → k < length old
+      → length (puts_of (slice_index_or new k d)) ≡ length (puts_of (slice_index_or old k d))
+  pub puts : (k p : ℕ) (d : Task S (ThreadTaps R)) (e : Side) → k < length old
+      → (slice_index_or (puts_of (slice_index_or new k d)) p e).buffer
+      ≡ (slice_index_or (puts_of (slice_index_or old k d)) p e).buffer
+  pub takes_many : (k : ℕ) (d : Task S (ThreadTaps R)) → k < length old
+      → length (takes_of (slice_index_or new k d)) ≡ length (takes_of (slice_index_or old k d))
+  pub takes : (k p : ℕ) (d : Task S (ThreadTaps R)) (e : Side) → k < length old
+      → (slice_index_or (takes_of (slice_index_or new k d)) p e).buffer
+      ≡ (slice_index_or (takes_of (slice_index_or old k d)) p e).buffer
 
 -- what a window left in a buffer, with which the next one opens
-pub record JoinTurned {S R : Type 0} (wire : Wire) (b : ℕ) (put take : Window) (tasks : List (Task S (ThreadTaps R))) : Type 0 where
+pub record JoinTurned {S R : Type 0} (wire : Wire) (b : ℕ) (put take : Window)
+    (tasks : List (Task S (ThreadTaps R))) : Type 0 where
   pub rest : List (List Cell)
   pub legal : Legal wire.capacity rest put.opening put.answers take.answers
   pub opens : JoinOpen wire b rest tasks
@@ -101,12 +116,15 @@ pub record JoinTurned {S R : Type 0} (wire : Wire) (b : ℕ) (put take : Window)
 -- the windows of all buffers that join two clocks were closed
 pub record AllShut {S R : Type 0} (wires : List Wire) (old new : List (Task S (ThreadTaps R))) : Type 0 where
   pub tasks : SameTasks old new
-  pub each : (b : ℕ) (put take : Window) → b < length wires → (wire_at wires b).from ≢ (wire_at wires b).to → JoinRan (wire_at wires b) b put take old
+  pub each : (b : ℕ) (put take : Window) → b < length wires → (wire_at wires b).from ≢ (wire_at wires b).to
+      → JoinRan (wire_at wires b) b put take old
       → JoinTurned (wire_at wires b) b put take new
 
 -- and the log of each has the answers
-pub record AllClosed {S R : Type 0} (wires : List Wire) (old new : List (Task S (ThreadTaps R))) (logs after : List (List Answers)) : Type 0 where
+pub record AllClosed {S R : Type 0} (wires : List Wire) (old new : List (Task S (ThreadTaps R)))
+    (logs after : List (List Answers)) : Type 0 where
   pub shut : AllShut wires old new
   pub logs_many : length after ≡ length logs
-  pub logged : (b : ℕ) (put take : Window) (d : List Answers) → b < length wires → (wire_at wires b).from ≢ (wire_at wires b).to → JoinRan (wire_at wires b) b put take old
+  pub logged : (b : ℕ) (put take : Window) (d : List Answers) → b < length wires
+      → (wire_at wires b).from ≢ (wire_at wires b).to → JoinRan (wire_at wires b) b put take old
       → slice_index_or after b d ≡ slice_index_or logs b d ++ told_of (put.answers, take.answers) ∷ []

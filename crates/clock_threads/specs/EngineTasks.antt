@@ -21,6 +21,7 @@ pub record IsBare {S R : Type 0} (plan : Plan) (task : Task S (ThreadTaps R)) : 
   pub takes : take_ends task ≡ []
   pub local : task.taps.local ≡ map planned plan.buffers
 
-pub record AreTasks {S R : Type 0} (plan : Plan) (engines : List (ClockEngine S)) (tasks : List (Task S (ThreadTaps R))) : Type 0 where
+pub record AreTasks {S R : Type 0} (plan : Plan) (engines : List (ClockEngine S))
+    (tasks : List (Task S (ThreadTaps R))) : Type 0 where
   pub engines_are : map engine_of tasks ≡ engines
   pub each : (k : ℕ) (d : Task S (ThreadTaps R)) → k < length tasks → IsBare plan (slice_index_or tasks k d)

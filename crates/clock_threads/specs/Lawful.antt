@@ -42,26 +42,33 @@ clock_calls_of meant windows accepted m = record {
   accepted = accepted m;
 }
 
--- A lawful record of N ticks of each clock, in so many windows of W ticks, by the wires of the buffers: `windows b` are the windows of
--- buffer b, which hold the puts and the takes of these ticks; each buffer's windows are one history; and those of a buffer with both
--- ends in one clock are in the order in which this clock makes its calls.
-pub record IsWiredHistory (meant : Meaning) (wires : List Wire) (W N count : ℕ) (windows : ℕ → List Window) : Type 0 where
+-- A lawful record of N ticks of each clock, in so many windows of W ticks, by the wires of the buffers: `windows b` are
+-- the windows of buffer b, which hold the puts and the takes of these ticks; each buffer's windows are one history; and
+-- those of a buffer with both ends in one clock are in the order in which this clock makes its calls.
+pub record IsWiredHistory (meant : Meaning) (wires : List Wire) (W N count : ℕ) (windows : ℕ
+    → List Window) : Type 0 where
   pub accepted : (m t b : ℕ) → Bool
   pub whole : start W N count ≡ N
   pub tight : (i : ℕ) → i < count → start W N i < N
-  pub are : (b : ℕ) → b < length wires → windows b ≡ windows_upto (wire_at wires b) (clock_calls_of meant windows accepted) b W N count
-  pub legal : (b : ℕ) → b < length wires → (rest : List (List Cell)) × IsHistory (wire_at wires b).capacity [] (windows b) rest
+  pub are : (b : ℕ) → b < length wires → windows b
+      ≡ windows_upto (wire_at wires b) (clock_calls_of meant windows accepted) b W N count
+  pub legal : (b : ℕ) → b < length wires → (rest : List (List Cell))
+      × IsHistory (wire_at wires b).capacity [] (windows b) rest
   pub in_order : (b : ℕ) → b < length wires → (wire_at wires b).from ≡ (wire_at wires b).to
-      → (rest : List (List Cell)) × Follows (wire_at wires b).capacity [] (on b (joined_upto (clock_calls_of meant windows accepted (wire_at wires b).from).calls N)) rest
+      → (rest : List (List Cell))
+      × Follows (wire_at wires b).capacity []
+      (on b (joined_upto (clock_calls_of meant windows accepted (wire_at wires b).from).calls N)) rest
   pub others : (b : ℕ) → length wires ≤ b → answers_of windows b ≡ []
 
 -- a running clock takes only of the buffers whose taking ends it has
 pub record TakeOwn (meant : Meaning) (wires : List Wire) (clocks : ℕ) : Type 0 where
-  pub takes : (answers : Answers) (accepted : ℕ → Bool) (m t b : ℕ) → m < clocks → (wire_at wires b).to ≢ m → takes_of b (meant answers accepted m t) ≡ []
-  pub none : (answers : Answers) (accepted : ℕ → Bool) (m t b : ℕ) → length wires ≤ b → takes_of b (meant answers accepted m t) ≡ []
+  pub takes : (answers : Answers) (accepted : ℕ → Bool) (m t b : ℕ) → m < clocks → (wire_at wires b).to ≢ m
+      → takes_of b (meant answers accepted m t) ≡ []
+  pub none : (answers : Answers) (accepted : ℕ → Bool) (m t b : ℕ) → length wires ≤ b
+      → takes_of b (meant answers accepted m t) ≡ []
 
--- the clock that has the taking end of a buffer, where so many clocks run: that of its reader, and where that does not run, that of
--- its feed, which then never takes
+-- the clock that has the taking end of a buffer, where so many clocks run: that of its reader, and where that does not
+-- run, that of its feed, which then never takes
 abbrev pub taker : Setting → (clocks b : ℕ) → ℕ
 taker setting clocks b = if nat_lt (reader setting b) clocks then reader setting b else feeder setting b
 

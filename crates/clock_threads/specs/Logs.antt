@@ -31,15 +31,22 @@ pub record AreNoLogs (many : ℕ) (logs : List (List Answers)) : Type 0 where
 -- the logs of the buffers with both ends in this clock are those of its lists, and the others are as they were
 pub record TookLogs (wires : List Wire) (clock : ℕ) (lists logs after : List (List Answers)) : Type 0 where
   pub many : length after ≡ length logs
-  pub here : (b : ℕ) (d : List Answers) → b < length wires → b < length lists → b < length logs → (wire_at wires b).from ≡ (wire_at wires b).to → (wire_at wires b).from ≡ clock
+  pub here : (b : ℕ) (d : List Answers) → b < length wires → b < length lists → b < length logs
+      → (wire_at wires b).from ≡ (wire_at wires b).to → (wire_at wires b).from ≡ clock
       → slice_index_or after b d ≡ slice_index_or lists b d
-  pub joined : (b : ℕ) (d : List Answers) → (wire_at wires b).from ≢ (wire_at wires b).to → slice_index_or after b d ≡ slice_index_or logs b d
-  pub others : (b : ℕ) (d : List Answers) → (wire_at wires b).from ≢ clock → slice_index_or after b d ≡ slice_index_or logs b d
+  pub joined : (b : ℕ) (d : List Answers) → (wire_at wires b).from ≢ (wire_at wires b).to
+      → slice_index_or after b d ≡ slice_index_or logs b d
+  pub others : (b : ℕ) (d : List Answers) → (wire_at wires b).from ≢ clock
+      → slice_index_or after b d ≡ slice_index_or logs b d
 
 -- the logs of all buffers with both ends in one of these clocks are those of its lists, and the others are as they were
-pub record AreCollected {S R : Type 0} (wires : List Wire) (tasks : List (Task S (ThreadTaps R))) (logs after : List (List Answers)) : Type 0 where
+pub record AreCollected {S R : Type 0} (wires : List Wire) (tasks : List (Task S (ThreadTaps R)))
+    (logs after : List (List Answers)) : Type 0 where
   pub many : length after ≡ length logs
-  pub local : (b : ℕ) (d : List Answers) (e : Task S (ThreadTaps R)) (f : LocalBuffer) → b < length wires → b < length logs → (wire_at wires b).from ≡ (wire_at wires b).to → (wire_at wires b).from < length tasks
+  pub local : (b : ℕ) (d : List Answers) (e : Task S (ThreadTaps R)) (f : LocalBuffer) → b < length wires
+      → b < length logs → (wire_at wires b).from ≡ (wire_at wires b).to → (wire_at wires b).from < length tasks
       → b < length (slice_index_or tasks (wire_at wires b).from e).taps.local
-      → slice_index_or after b d ≡ (slice_index_or (slice_index_or tasks (wire_at wires b).from e).taps.local b f).closed
-  pub joined : (b : ℕ) (d : List Answers) → (wire_at wires b).from ≢ (wire_at wires b).to → slice_index_or after b d ≡ slice_index_or logs b d
+      → slice_index_or after b d
+      ≡ (slice_index_or (slice_index_or tasks (wire_at wires b).from e).taps.local b f).closed
+  pub joined : (b : ℕ) (d : List Answers) → (wire_at wires b).from ≢ (wire_at wires b).to
+      → slice_index_or after b d ≡ slice_index_or logs b d

@@ -11,7 +11,13 @@ use Rattle.clock_threads.specs.Lawful.{IsWireOf}
 
 -- the same setting with this plan and these clocks
 abbrev pub over : Plan → List NodeClock → Setting → Setting
-over plan clocks other = record { plan = plan; library = other.library; clocks = clocks; start = other.start; answers = other.answers }
+over plan clocks other = record {
+  plan = plan;
+  library = other.library;
+  clocks = clocks;
+  start = other.start;
+  answers = other.answers;
+}
 
 -- a wire between the clocks of two nodes; where the second does not run, both its ends are at the first
 pub record IsWireAt (setting : Setting) (clocks feed reads capacity : ℕ) (wire : Wire) : Type 0 where

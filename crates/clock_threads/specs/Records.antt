@@ -23,14 +23,18 @@ use Rattle.clock_threads.specs.Ends.{puts_of as put_ends, takes_of as take_ends,
 
 -- the puts and the takes of a buffer in so many ticks from one on
 abbrev pub window_of : Wire → (ℕ → TickCalls) → (b from count : ℕ) → Window
-window_of wire clock_calls b from count =
-    (puts_to b (joined_from (clock_calls wire.from).calls from count), takes_of b (joined_from (clock_calls wire.to).calls from count))
+window_of wire clock_calls b from count = (
+  puts_to b (joined_from (clock_calls wire.from).calls from count),
+  takes_of b
+      (joined_from (clock_calls wire.to).calls from count),
+)
 
 -- the first so many windows of a buffer
 abbrev pub windows_upto : Wire → (ℕ → TickCalls) → (b W N count : ℕ) → List Window
 windows_upto wire clock_calls b W N zero = []
 windows_upto wire clock_calls b W N (suc j) =
-    windows_upto wire clock_calls b W N j ++ window_of wire clock_calls b (start W N j) (start W N (suc j) - start W N j) ∷ []
+    windows_upto wire clock_calls b W N j
+    ++ window_of wire clock_calls b (start W N j) (start W N (suc j) - start W N j) ∷ []
 
 -- each end of task k is that of a buffer which joins clock k to another one
 pub record IsWired {S R : Type 0} (wires : List Wire) (k : ℕ) (task : Task S (ThreadTaps R)) : Type 0 where
@@ -39,8 +43,8 @@ pub record IsWired {S R : Type 0} (wires : List Wire) (k : ℕ) (task : Task S (
   pub takes : (p : ℕ) (d : Side) → p < length (take_ends task) → let b = (slice_index_or (take_ends task) p d).buffer in
       (b < length wires) × ((wire_at wires b).to ≡ k) × ((wire_at wires b).from ≢ k)
 
--- clock k has made so many of N ticks, each of its sinks got a piece for each of them, and its taps stand for the calls on the buffers
--- that are its own alone
+-- clock k has made so many of N ticks, each of its sinks got a piece for each of them, and its taps stand for the calls
+-- on the buffers that are its own alone
 pub record ClockGoing {S R : Type 0} (told : S → SinkTold) (wires : List Wire) (N t k : ℕ) (tick_calls : TickCalls)
     (first now : Task S (ThreadTaps R)) : Type 0 where
   pub gone : EngineGone told t tick_calls (held_of told first.engine) now.engine
@@ -50,10 +54,12 @@ pub record ClockGoing {S R : Type 0} (told : S → SinkTold) (wires : List Wire)
   pub wired : IsWired wires k now
   pub stand : EndsStand (put_ends now) (take_ends now) now.taps.local (kept wires k (joined_upto tick_calls.calls t))
   pub lists : length now.taps.local ≡ length wires
-  pub capacities : (b : ℕ) (d : LocalBuffer) → b < length wires → (slice_index_or now.taps.local b d).capacity ≡ (wire_at wires b).capacity
+  pub capacities : (b : ℕ) (d : LocalBuffer) → b < length wires
+      → (slice_index_or now.taps.local b d).capacity ≡ (wire_at wires b).capacity
 
 -- the windows of a buffer between clocks so far are one history, and both ends open the next one
-pub record JoinGoing {S R : Type 0} (wire : Wire) (b : ℕ) (windows : List Window) (tasks : List (Task S (ThreadTaps R))) : Type 0 where
+pub record JoinGoing {S R : Type 0} (wire : Wire) (b : ℕ) (windows : List Window)
+    (tasks : List (Task S (ThreadTaps R))) : Type 0 where
   pub chunks : List (List Cell)
   pub run : IsHistory wire.capacity [] windows chunks
   pub opens : JoinOpen wire b chunks tasks
@@ -63,18 +69,24 @@ pub record IsLogged (windows : List Window) (list : LocalBuffer) : Type 0 where
   pub closed_are : list.closed ≡ map told_of windows
   pub opens : list.current ≡ no_answers
 
--- The logs so far: that of a buffer between clocks stands here, and that of a buffer with both ends in one clock in the clock's list.
-pub record LogsGoing {S R : Type 0} (wires : List Wire) (windows : ℕ → List Window) (now : List (Task S (ThreadTaps R))) (logs : List (List Answers)) (d : Task S (ThreadTaps R)) : Type 0 where
+-- The logs so far: that of a buffer between clocks stands here, and that of a buffer with both ends in one clock in the
+-- clock's list.
+pub record LogsGoing {S R : Type 0} (wires : List Wire) (windows : ℕ
+    → List Window) (now : List (Task S (ThreadTaps R))) (logs : List (List Answers)) (d : Task S (ThreadTaps R)) : Type
+    0 where
   pub many : length logs ≡ length wires
-  pub joined : (b : ℕ) (e : List Answers) → b < length wires → (wire_at wires b).from ≢ (wire_at wires b).to → slice_index_or logs b e ≡ map told_of (windows b)
-  pub local : (b : ℕ) (e : LocalBuffer) → b < length wires → (wire_at wires b).from ≡ (wire_at wires b).to → IsLogged (windows b) (slice_index_or (slice_index_or now (wire_at wires b).from d).taps.local b e)
+  pub joined : (b : ℕ) (e : List Answers) → b < length wires → (wire_at wires b).from ≢ (wire_at wires b).to
+      → slice_index_or logs b e ≡ map told_of (windows b)
+  pub local : (b : ℕ) (e : LocalBuffer) → b < length wires → (wire_at wires b).from ≡ (wire_at wires b).to
+      → IsLogged (windows b) (slice_index_or (slice_index_or now (wire_at wires b).from d).taps.local b e)
 
 -- so many windows were made and closed
 pub record Going {S R : Type 0} (told : S → SinkTold) (wires : List Wire) (W N j : ℕ)
     (first now : List (Task S (ThreadTaps R))) (logs : List (List Answers)) (d : Task S (ThreadTaps R)) : Type 0 where
   pub clock_calls : ℕ → TickCalls
   pub many : length now ≡ length first
-  pub clocks : (k : ℕ) → k < length first → ClockGoing told wires N (start W N j) k (clock_calls k) (slice_index_or first k d) (slice_index_or now k d)
+  pub clocks : (k : ℕ) → k < length first
+      → ClockGoing told wires N (start W N j) k (clock_calls k) (slice_index_or first k d) (slice_index_or now k d)
   pub joins : (b : ℕ) → b < length wires → (wire_at wires b).from ≢ (wire_at wires b).to
       → JoinGoing (wire_at wires b) b (windows_upto (wire_at wires b) clock_calls b W N j) now
   pub logged : LogsGoing wires (λ b. windows_upto (wire_at wires b) clock_calls b W N j) now logs d
@@ -84,7 +96,8 @@ pub record ListClosed {S R : Type 0} (b : ℕ) (old new : Task S (ThreadTaps R))
   pub engine : new.engine ≡ old.engine
   pub puts : put_ends new ≡ put_ends old
   pub takes : take_ends new ≡ take_ends old
-  pub local : (d : LocalBuffer) → new.taps.local ≡ slice_set old.taps.local b (closed (slice_index_or old.taps.local b d))
+  pub local : (d : LocalBuffer) → new.taps.local
+      ≡ slice_set old.taps.local b (closed (slice_index_or old.taps.local b d))
   pub lists : (calls : List Call) → ListsStand (λ n. Has (put_ends old) n ⊎ Has (take_ends old) n) old.taps.local calls
       → ListsStand (λ n. Has (put_ends old) n ⊎ Has (take_ends old) n) new.taps.local calls
 
@@ -98,23 +111,28 @@ pub record EndedTask {S R : Type 0} (wires : List Wire) (below k : ℕ) (old new
   pub puts : put_ends new ≡ put_ends old
   pub takes : take_ends new ≡ take_ends old
   pub many : length new.taps.local ≡ length old.taps.local
-  pub own : (b : ℕ) (d : LocalBuffer) → b < below → IsOwn wires k b → slice_index_or new.taps.local b d ≡ closed (slice_index_or old.taps.local b d)
-  pub others : (b : ℕ) (d : LocalBuffer) → (IsOwn wires k b → ⊥) → slice_index_or new.taps.local b d ≡ slice_index_or old.taps.local b d
+  pub own : (b : ℕ) (d : LocalBuffer) → b < below → IsOwn wires k b
+      → slice_index_or new.taps.local b d ≡ closed (slice_index_or old.taps.local b d)
+  pub others : (b : ℕ) (d : LocalBuffer) → (IsOwn wires k b → ⊥)
+      → slice_index_or new.taps.local b d ≡ slice_index_or old.taps.local b d
   pub lists : (calls : List Call) → ListsStand (λ n. Has (put_ends old) n ⊎ Has (take_ends old) n) old.taps.local calls
       → ListsStand (λ n. Has (put_ends old) n ⊎ Has (take_ends old) n) new.taps.local calls
 
 -- the window of each buffer with both ends in one clock was closed
 pub record AllEndedTasks {S R : Type 0} (wires : List Wire) (old new : List (Task S (ThreadTaps R))) : Type 0 where
   pub many : length new ≡ length old
-  pub each : (k : ℕ) (d : Task S (ThreadTaps R)) → k < length old → EndedTask wires (length wires) k (slice_index_or old k d) (slice_index_or new k d)
+  pub each : (k : ℕ) (d : Task S (ThreadTaps R)) → k < length old
+      → EndedTask wires (length wires) k (slice_index_or old k d) (slice_index_or new k d)
 
 -- the tasks have the lists of these wires' buffers
 pub record HaveLists {S R : Type 0} (wires : List Wire) (tasks : List (Task S (ThreadTaps R))) : Type 0 where
   pub few : length wires < 2 ^ 32
   pub places : (b : ℕ) → b < length wires → (wire_at wires b).from < length tasks
-  pub lists : (k : ℕ) (d : Task S (ThreadTaps R)) → k < length tasks → length (slice_index_or tasks k d).taps.local ≡ length wires
+  pub lists : (k : ℕ) (d : Task S (ThreadTaps R)) → k < length tasks
+      → length (slice_index_or tasks k d).taps.local ≡ length wires
 
 -- the engines as they were
 pub record SameEngines {S R : Type 0} (old new : List (Task S (ThreadTaps R))) : Type 0 where
   pub many : length new ≡ length old
-  pub each : (k : ℕ) (d : Task S (ThreadTaps R)) → k < length old → (slice_index_or new k d).engine ≡ (slice_index_or old k d).engine
+  pub each : (k : ℕ) (d : Task S (ThreadTaps R)) → k < length old
+      → (slice_index_or new k d).engine ≡ (slice_index_or old k d).engine

@@ -10,11 +10,13 @@ use Rattle.clock_threads.specs.Wires.{wire_at}
 use Rattle.clock_threads.specs.Ends.{puts_of as put_ends, takes_of as take_ends, SameButEnds, JoinOpen}
 
 -- a queue for each of the first buffers, with both its ends, in a window that opens with nothing
-pub record AreQueues (wires : List Wire) (many : ℕ) (queues : List TableId) (passes : List (Window × Window)) : Type 0 where
+pub record AreQueues (wires : List Wire) (many : ℕ) (queues : List TableId) (passes : List (Window
+    × Window)) : Type 0 where
   pub queues_many : length queues ≡ many
   pub passes_many : length passes ≡ many
   pub capacity : (b : ℕ) (d : TableId) → b < many → capacity_of (slice_index_or queues b d) ≡ (wire_at wires b).capacity
-  pub ends : (b : ℕ) (d : TableId) (e : Window × Window) → b < many → slice_index_or passes b e ≡ (opened (slice_index_or queues b d) [], opened (slice_index_or queues b d) [])
+  pub ends : (b : ℕ) (d : TableId) (e : Window × Window) → b < many
+      → slice_index_or passes b e ≡ (opened (slice_index_or queues b d) [], opened (slice_index_or queues b d) [])
 
 -- no task has an end
 pub record AreBare {S R : Type 0} (tasks : List (Task S (ThreadTaps R))) : Type 0 where
@@ -33,21 +35,29 @@ pub record TakeAdded {S R : Type 0} (old new : Task S (ThreadTaps R)) (side : Si
   pub same : SameButEnds old new
 
 -- both ends of a buffer were added, at two clocks
-pub record BothAdded {S R : Type 0} (from to : ℕ) (put take : Side) (old new : List (Task S (ThreadTaps R))) : Type 0 where
-  pub giver : Task S (ThreadTaps R)
-  pub taker : Task S (ThreadTaps R)
-  pub are : new ≡ slice_set (slice_set old from giver) to taker
-  pub put_added : (d : Task S (ThreadTaps R)) → PutAdded (slice_index_or old from d) giver put
-  pub take_added : (d : Task S (ThreadTaps R)) → TakeAdded (slice_index_or old to d) taker take
+pub record BothAdded {S R : Type 0} (from to : ℕ) (put take : Side) (old new : List (Task S (ThreadTaps R))) : Type 0
+  where
+    pub giver : Task S (ThreadTaps R)
+    pub taker : Task S (ThreadTaps R)
+    pub are : new ≡ slice_set (slice_set old from giver) to taker
+    pub put_added : (d : Task S (ThreadTaps R)) → PutAdded (slice_index_or old from d) giver put
+    pub take_added : (d : Task S (ThreadTaps R)) → TakeAdded (slice_index_or old to d) taker take
 
 -- the ends of the buffers from `from` on that join two clocks are handed out, and no others
-pub record AreJoined {S R : Type 0} (wires : List Wire) (from : ℕ) (old new : List (Task S (ThreadTaps R))) : Type 0 where
-  pub many : length new ≡ length old
-  pub same : (k : ℕ) (d : Task S (ThreadTaps R)) → k < length old → SameButEnds (slice_index_or old k d) (slice_index_or new k d)
-  pub puts : (k p : ℕ) (d : Task S (ThreadTaps R)) (e : Side) → k < length old → p < length (put_ends (slice_index_or new k d)) →
-      let side = slice_index_or (put_ends (slice_index_or new k d)) p e in
-      (from ≤ side.buffer) × (side.buffer < length wires) × ((wire_at wires side.buffer).from ≡ k) × ((wire_at wires side.buffer).to ≢ k) × (side.window.answers ≡ [])
-  pub takes : (k p : ℕ) (d : Task S (ThreadTaps R)) (e : Side) → k < length old → p < length (take_ends (slice_index_or new k d)) →
-      let side = slice_index_or (take_ends (slice_index_or new k d)) p e in
-      (from ≤ side.buffer) × (side.buffer < length wires) × ((wire_at wires side.buffer).to ≡ k) × ((wire_at wires side.buffer).from ≢ k) × (side.window.answers ≡ [])
-  pub opens : (b : ℕ) → from ≤ b → b < length wires → (wire_at wires b).from ≢ (wire_at wires b).to → JoinOpen (wire_at wires b) b [] new
+pub record AreJoined {S R : Type 0} (wires : List Wire) (from : ℕ) (old new : List (Task S (ThreadTaps R))) : Type 0
+  where
+    pub many : length new ≡ length old
+    pub same : (k : ℕ) (d : Task S (ThreadTaps R)) → k < length old
+        → SameButEnds (slice_index_or old k d) (slice_index_or new k d)
+    pub puts : (k p : ℕ) (d : Task S (ThreadTaps R)) (e : Side) → k < length old
+        → p < length (put_ends (slice_index_or new k d)) →
+        let side = slice_index_or (put_ends (slice_index_or new k d)) p e in
+        (from ≤ side.buffer) × (side.buffer < length wires) × ((wire_at wires side.buffer).from ≡ k)
+        × ((wire_at wires side.buffer).to ≢ k) × (side.window.answers ≡ [])
+    pub takes : (k p : ℕ) (d : Task S (ThreadTaps R)) (e : Side) → k < length old
+        → p < length (take_ends (slice_index_or new k d)) →
+        let side = slice_index_or (take_ends (slice_index_or new k d)) p e in
+        (from ≤ side.buffer) × (side.buffer < length wires) × ((wire_at wires side.buffer).to ≡ k)
+        × ((wire_at wires side.buffer).from ≢ k) × (side.window.answers ≡ [])
+    pub opens : (b : ℕ) → from ≤ b → b < length wires → (wire_at wires b).from ≢ (wire_at wires b).to
+        → JoinOpen (wire_at wires b) b [] new

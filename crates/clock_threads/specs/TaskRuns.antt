@@ -44,14 +44,19 @@ pub record CanRun {S T : Type 0} (told : S → SinkTold) (buffers : T → ℕ) (
   pub few : x.engine.parts.ticks + count ≤ 1000000000
   pub rooms : HaveTicksRoom told x.engine.parts x.engine.outs count
 
-abbrev pub EngineGone : {S : Type 0} → (S → SinkTold) → (t : ℕ) → TickCalls → (ℕ → Option (List ℕ)) → ClockEngine S → Type 0
-EngineGone told t tick_calls first e = HasGone (setting_of e.parts) stands_for (held_of told) e.parts.clock t tick_calls first e
+abbrev pub EngineGone : {S : Type 0} → (S → SinkTold) → (t : ℕ) → TickCalls → (ℕ → Option (List ℕ)) → ClockEngine S
+    → Type 0
+EngineGone told t tick_calls first e = HasGone (setting_of e.parts) stands_for (held_of told) e.parts.clock t tick_calls
+    first e
 
-abbrev pub EngineGonePart : {S : Type 0} → (S → SinkTold) → (t : ℕ) → TickCalls → (ℕ → Option (List ℕ)) → ClockEngine S → Type 0
-EngineGonePart told t tick_calls first e = HasGonePart (setting_of e.parts) stopped_for (held_of told) e.parts.clock t tick_calls first e
+abbrev pub EngineGonePart : {S : Type 0} → (S → SinkTold) → (t : ℕ) → TickCalls → (ℕ → Option (List ℕ)) → ClockEngine S
+    → Type 0
+EngineGonePart told t tick_calls first e = HasGonePart (setting_of e.parts) stopped_for (held_of told) e.parts.clock t
+    tick_calls first e
 
 -- it made all ticks, and each sink got a piece for each of them
-pub record WentOn {S T : Type 0} (told : S → SinkTold) (stands : T → List Call → Type 0) (count t : ℕ) (tick_calls : TickCalls) (first : ℕ → Option (List ℕ))
+pub record WentOn {S T : Type 0} (told : S → SinkTold) (stands : T → List Call
+    → Type 0) (count t : ℕ) (tick_calls : TickCalls) (first : ℕ → Option (List ℕ))
     (old new : Task S T) : Type 0 where
   pub after : TickCalls
   pub agree : Agree t tick_calls after
@@ -59,8 +64,10 @@ pub record WentOn {S T : Type 0} (told : S → SinkTold) (stands : T → List Ca
   pub pieces : GotPieces told count old.engine.outs new.engine.outs
   pub taps : (calls : List Call) → stands old.taps calls → stands new.taps (calls ++ joined_from after.calls t count)
 
--- it stopped in a tick of this window, after these calls; each sink got a piece for each tick before it, and at most one in it
-pub record Halted {S T : Type 0} (told : S → SinkTold) (stands : T → List Call → Type 0) (count t : ℕ) (tick_calls : TickCalls) (first : ℕ → Option (List ℕ))
+-- it stopped in a tick of this window, after these calls; each sink got a piece for each tick before it, and at most
+-- one in it
+pub record Halted {S T : Type 0} (told : S → SinkTold) (stands : T → List Call
+    → Type 0) (count t : ℕ) (tick_calls : TickCalls) (first : ℕ → Option (List ℕ))
     (old new : Task S T) : Type 0 where
   pub made : ℕ
   pub fewer : made < count
@@ -68,20 +75,28 @@ pub record Halted {S T : Type 0} (told : S → SinkTold) (stands : T → List Ca
   pub agree : Agree t tick_calls after
   pub part : EngineGonePart told (t + made) after first new.engine
   pub pieces : GotBetween told made (suc made) old.engine.outs new.engine.outs
-  pub taps : (calls : List Call) → stands old.taps calls → stands new.taps (calls ++ (joined_from after.calls t made ++ part.made))
+  pub taps : (calls : List Call) → stands old.taps calls
+      → stands new.taps (calls ++ (joined_from after.calls t made ++ part.made))
 
-pub record RanTask {S T : Type 0} (told : S → SinkTold) (stands : T → List Call → Type 0) (count : ℕ) (old new : Task S T) : Type 0 where
-  pub on : (t : ℕ) (tick_calls : TickCalls) (first : ℕ → Option (List ℕ)) → EngineGone told t tick_calls first old.engine → new.engine.parts.stopped ≡ None
+pub record RanTask {S T : Type 0} (told : S → SinkTold) (stands : T → List Call
+    → Type 0) (count : ℕ) (old new : Task S T) : Type 0 where
+  pub on : (t : ℕ) (tick_calls : TickCalls) (first : ℕ → Option (List ℕ))
+      → EngineGone told t tick_calls first old.engine → new.engine.parts.stopped ≡ None
       → WentOn told stands count t tick_calls first old new
-  pub halted : (t : ℕ) (tick_calls : TickCalls) (first : ℕ → Option (List ℕ)) → EngineGone told t tick_calls first old.engine → (new.engine.parts.stopped ≡ None → ⊥)
+  pub halted : (t : ℕ) (tick_calls : TickCalls) (first : ℕ → Option (List ℕ))
+      → EngineGone told t tick_calls first old.engine → (new.engine.parts.stopped ≡ None → ⊥)
       → Halted told stands count t tick_calls first old new
 
-pub record WasRun {S T : Type 0} (told : S → SinkTold) (stands : T → List Call → Type 0) (buffers : T → ℕ) (same : T → T → Type 0)
+pub record WasRun {S T : Type 0} (told : S → SinkTold) (stands : T → List Call → Type 0) (buffers : T → ℕ) (same : T → T
+    → Type 0)
     (count : ℕ) (old new : Task S T) : Type 0 where
   pub clock : IsSameClock told old.engine new.engine
   pub taps : same old.taps new.taps
   pub many : buffers new.taps ≡ buffers old.taps
   pub ran : RanTask told stands count old new
   pub write : (sink : ℕ) → new.engine.parts.stopped ≡ Some (Write sink) → IsWriteOf told sink old.engine new.engine
-  pub rooms : (n : ℕ) → new.engine.parts.stopped ≡ None → HaveTicksRoom told old.engine.parts old.engine.outs (n + count) → HaveTicksRoom told new.engine.parts new.engine.outs n
-  pub memory : (old.engine.parts.cues.keeping ≡ true → ⊥) → new.engine.parts.stopped ≡ Some OutOfMemory → 0 < length old.engine.parts.shape.plan.now.buffers
+  pub rooms : (n : ℕ) → new.engine.parts.stopped ≡ None
+      → HaveTicksRoom told old.engine.parts old.engine.outs (n + count)
+      → HaveTicksRoom told new.engine.parts new.engine.outs n
+  pub memory : (old.engine.parts.cues.keeping ≡ true → ⊥) → new.engine.parts.stopped ≡ Some OutOfMemory
+      → 0 < length old.engine.parts.shape.plan.now.buffers

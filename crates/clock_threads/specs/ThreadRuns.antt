@@ -23,39 +23,48 @@ use Rattle.buffer_sides.specs.Logs.{told as told_of}
 use Rattle.clock_threads.specs.Logs.{counts_in}
 
 -- the engine of clock k, which has made no tick, with room for N
-pub record IsFresh {S : Type 0} (told : S → SinkTold) (setting : Setting) (N k : ℕ) (engine : ClockEngine S) : Type 0 where
+pub record IsFresh {S : Type 0} (told : S
+    → SinkTold) (setting : Setting) (N k : ℕ) (engine : ClockEngine S) : Type 0 where
   pub over : setting_of engine.parts ≡ setting
   pub clock : engine.parts.clock ≡ k
   pub stands : EngineStands engine.parts 0 (λ buffer. [])
   pub rooms : HaveTicksRoom told engine.parts engine.outs N
 
 -- the engines of all running clocks, in their order, over one setting of this plan
-pub record AreEngines {S : Type 0} (told : S → SinkTold) (plan : Plan) (clocks : ClockMap) (N : ℕ) (setting : Setting) (engines : List (ClockEngine S)) : Type 0 where
-  pub is : IsSetting setting clocks
-  pub plan_is : setting.plan ≡ plan
-  pub all : length engines ≡ clocks.running
-  pub each : (k : ℕ) (d : ClockEngine S) → k < length engines → IsFresh told setting N k (slice_index_or engines k d)
+pub record AreEngines {S : Type 0} (told : S
+    → SinkTold) (plan : Plan) (clocks : ClockMap) (N : ℕ) (setting : Setting) (engines : List (ClockEngine S)) : Type 0
+  where
+    pub is : IsSetting setting clocks
+    pub plan_is : setting.plan ≡ plan
+    pub all : length engines ≡ clocks.running
+    pub each : (k : ℕ) (d : ClockEngine S) → k < length engines → IsFresh told setting N k (slice_index_or engines k d)
 
-pub record AreAlike {S : Type 0} (told : S → SinkTold) (plan : Plan) (clocks : ClockMap) (N : ℕ) (engines : List (ClockEngine S)) : Type 0 where
+pub record AreAlike {S : Type 0} (told : S
+    → SinkTold) (plan : Plan) (clocks : ClockMap) (N : ℕ) (engines : List (ClockEngine S)) : Type 0 where
   pub setting : Setting
   pub are : AreEngines told plan clocks N setting engines
 
--- An engine has made all its ticks of a run: it stands for them, and for what its takes got in the run; each output has grown by what
--- its node means then, and its sink got a piece for each tick.
-pub record HasMadeAll {S : Type 0} (told : S → SinkTold) (setting : Setting) (run : Run) (N k : ℕ) (old new : ClockEngine S) : Type 0 where
+-- An engine has made all its ticks of a run: it stands for them, and for what its takes got in the run; each output has
+-- grown by what its node means then, and its sink got a piece for each tick.
+pub record HasMadeAll {S : Type 0} (told : S
+    → SinkTold) (setting : Setting) (run : Run) (N k : ℕ) (old new : ClockEngine S) : Type 0 where
   pub same : IsSameClock told old new
   pub answers : ℕ → List Answer
   pub rest : ℕ → List Answer
   pub stands : EngineStands new.parts N answers
   pub are : with_rest setting answers rest ≡ setting_in setting run
-  pub bytes : (sink node : ℕ) (output : IsOutput setting k sink node) → held_of told new sink ≡ grown (ticks_bytes (setting_in setting run) output.wide node N) (held_of told old sink)
+  pub bytes : (sink node : ℕ) (output : IsOutput setting k sink node)
+      → held_of told new sink ≡ grown (ticks_bytes (setting_in setting run) output.wide node N) (held_of told old sink)
   pub pieces : GotPieces told N old.outs new.outs
 
 -- All engines have made their ticks, in windows of W, and this is the record of their calls: it is lawful.
-pub record HasRun {S : Type 0} (told : S → SinkTold) (setting : Setting) (clocks : ClockMap) (W N : ℕ) (run : Run) (old new : List (ClockEngine S)) : Type 0 where
-  pub many : length new ≡ length old
-  pub lawful : AreWindows setting clocks.running W N run
-  pub engines : (k : ℕ) (d : ClockEngine S) → k < length old → HasMadeAll told setting run N k (slice_index_or old k d) (slice_index_or new k d)
+pub record HasRun {S : Type 0} (told : S
+    → SinkTold) (setting : Setting) (clocks : ClockMap) (W N : ℕ) (run : Run) (old new : List (ClockEngine S)) : Type 0
+  where
+    pub many : length new ≡ length old
+    pub lawful : AreWindows setting clocks.running W N run
+    pub engines : (k : ℕ) (d : ClockEngine S) → k < length old
+        → HasMadeAll told setting run N k (slice_index_or old k d) (slice_index_or new k d)
 
 -- each buffer's log has the answers of its windows, and its counts are the numbers of these
 pub record AreTold (run : Run) (counts : List Counts) (logs : List (List Answers)) : Type 0 where
@@ -63,19 +72,23 @@ pub record AreTold (run : Run) (counts : List Counts) (logs : List (List Answers
   pub counts_are : counts ≡ map counts_in logs
 
 -- a run of all ticks, with its counts and logs
-pub record HasRunAll {S : Type 0} (told : S → SinkTold) (setting : Setting) (clocks : ClockMap) (W N : ℕ) (old new : List (ClockEngine S))
+pub record HasRunAll {S : Type 0} (told : S
+    → SinkTold) (setting : Setting) (clocks : ClockMap) (W N : ℕ) (old new : List (ClockEngine S))
     (counts : List Counts) (logs : List (List Answers)) : Type 0 where
   pub run : Run
   pub has_run : HasRun told setting clocks W N run old new
   pub tells : AreTold run counts logs
 
--- How far an engine came in a run that was broken off: it stands for the ticks that it made, or stopped in the next one; with the answers
--- that its takes got in the run. Each output has grown by its bytes of the ticks that were made, and then by a front of those that were
--- tried, whatever answers follow; and its sink got a piece for each tick that was made, and at most one for each that was tried.
-pub record HasMadePart {S : Type 0} (told : S → SinkTold) (setting : Setting) (run : Run) (made tried k : ℕ) (old new : ClockEngine S) : Type 0 where
+-- How far an engine came in a run that was broken off: it stands for the ticks that it made, or stopped in the next
+-- one; with the answers that its takes got in the run. Each output has grown by its bytes of the ticks that were made,
+-- and then by a front of those that were tried, whatever answers follow; and its sink got a piece for each tick that
+-- was made, and at most one for each that was tried.
+pub record HasMadePart {S : Type 0} (told : S
+    → SinkTold) (setting : Setting) (run : Run) (made tried k : ℕ) (old new : ClockEngine S) : Type 0 where
   pub same : IsSameClock told old new
   pub answers : ℕ → List Answer
-  pub given : (rest : ℕ → List Answer) → (more : ℕ → List Answer) × (with_rest setting answers more ≡ setting_then setting run rest)
+  pub given : (rest : ℕ → List Answer) → (more : ℕ → List Answer)
+      × (with_rest setting answers more ≡ setting_then setting run rest)
   pub stands : StandsOrStopped new made tried answers
   pub part : (rest : ℕ → List Answer) (sink node : ℕ) (output : IsOutput setting k sink node)
       → (bytes : List ℕ)
@@ -85,23 +98,29 @@ pub record HasMadePart {S : Type 0} (told : S → SinkTold) (setting : Setting) 
   pub pieces : GotBetween told made tried old.outs new.outs
 
 -- The end names an output of this clock, the lowest that stopped, and the count of faults of its sink rose.
-pub record IsWriteEnd {S : Type 0} (told : S → SinkTold) (setting : Setting) (clock sink : ℕ) (old new : List (ClockEngine S)) : Type 0 where
+pub record IsWriteEnd {S : Type 0} (told : S
+    → SinkTold) (setting : Setting) (clock sink : ℕ) (old new : List (ClockEngine S)) : Type 0 where
   pub before : ClockEngine S
   pub after : ClockEngine S
   pub was : slice_get old clock ≡ Some before
   pub is : slice_get new clock ≡ Some after
   pub stopped : after.parts.stopped ≡ Some (Refused sink)
-  pub lowest : (k : ℕ) (engine : ClockEngine S) → k < clock → slice_get new k ≡ Some engine → engine.parts.stopped ≡ None
+  pub lowest : (k : ℕ) (engine : ClockEngine S) → k < clock → slice_get new k ≡ Some engine
+      → engine.parts.stopped ≡ None
   pub place : ℕ
   pub node : ℕ
   pub there : slice_get (outputs_of setting clock) place ≡ Some (sink, node)
   pub rose : RoseAt told place before.outs after.outs
 
--- A run came so far, and this is its record: each clock made the windows that were closed whole, and none is past the one that follows
--- them.
-pub record HasRunSome {S : Type 0} (told : S → SinkTold) (setting : Setting) (clocks : ClockMap) (W N : ℕ) (old new : List (ClockEngine S)) (end : End) : Type 0 where
-  pub run : Run
-  pub begun : AreWindowsBegun setting clocks.running W N run
-  pub many : length new ≡ length old
-  pub engines : (k : ℕ) (d : ClockEngine S) → k < length old → HasMadePart told setting run (begun.made k) (begun.tried k) k (slice_index_or old k d) (slice_index_or new k d)
-  pub write : (clock sink : ℕ) → end ≡ Write clock sink → IsWriteEnd told setting clock sink old new
+-- A run came so far, and this is its record: each clock made the windows that were closed whole, and none is past the
+-- one that follows them.
+pub record HasRunSome {S : Type 0} (told : S
+    → SinkTold) (setting : Setting) (clocks : ClockMap) (W N : ℕ) (old new : List (ClockEngine S)) (end : End) : Type 0
+  where
+    pub run : Run
+    pub begun : AreWindowsBegun setting clocks.running W N run
+    pub many : length new ≡ length old
+    pub engines : (k : ℕ) (d : ClockEngine S) → k < length old
+        → HasMadePart told setting run (begun.made k) (begun.tried k) k (slice_index_or old k d)
+        (slice_index_or new k d)
+    pub write : (clock sink : ℕ) → end ≡ Write clock sink → IsWriteEnd told setting clock sink old new

@@ -27,24 +27,32 @@ pub record Agree (t : ℕ) (old new : TickCalls) : Type 0 where
 -- the calls of each tick are those that the meaning gives it, by the answers up to its end, whatever answers follow
 abbrev pub AreTicks : Setting → (m t : ℕ) → TickCalls → Type 0
 AreTicks setting m t tick_calls =
-    (i : ℕ) → i < t → (rest : ℕ → List Answer) → tick_calls.calls i ≡ calls_of_tick (with_rest setting (answers_by tick_calls (suc i)) rest) (tick_calls.accepted i) m i
+    (i : ℕ) → i < t → (rest : ℕ → List Answer) → tick_calls.calls i
+    ≡ calls_of_tick (with_rest setting (answers_by tick_calls (suc i)) rest) (tick_calls.accepted i) m i
 
 -- a clock has made so many ticks
-pub record HasGone {E : Type 0} (setting : Setting) (stands : E → ℕ → (ℕ → List Answer) → Type 0) (held : E → ℕ → Option (List ℕ))
+pub record HasGone {E : Type 0} (setting : Setting) (stands : E → ℕ → (ℕ → List Answer) → Type 0) (held : E → ℕ
+    → Option (List ℕ))
     (m t : ℕ) (tick_calls : TickCalls) (first : ℕ → Option (List ℕ)) (e : E) : Type 0 where
   pub stand : stands e t (answers_by tick_calls t)
   pub ticks : AreTicks setting m t tick_calls
-  pub holds : (rest : ℕ → List Answer) (sink node : ℕ) (output : IsOutput setting m sink node) → held e sink ≡ grown (ticks_bytes (with_rest setting (answers_by tick_calls t) rest) output.wide node t) (first sink)
+  pub holds : (rest : ℕ → List Answer) (sink node : ℕ) (output : IsOutput setting m sink node)
+      → held e sink ≡ grown (ticks_bytes (with_rest setting (answers_by tick_calls t) rest) output.wide node t)
+      (first sink)
 
--- a clock has made so many ticks, and stopped in the next one after these calls: each output has grown by its bytes of these ticks, and by a
--- front of those of the next one
-pub record HasGonePart {E : Type 0} (setting : Setting) (halts : E → ℕ → (ℕ → List Answer) → List Call → Type 0) (held : E → ℕ → Option (List ℕ))
+-- a clock has made so many ticks, and stopped in the next one after these calls: each output has grown by its bytes of
+-- these ticks, and by a front of those of the next one
+pub record HasGonePart {E : Type 0} (setting : Setting) (halts : E → ℕ → (ℕ → List Answer) → List Call
+    → Type 0) (held : E → ℕ → Option (List ℕ))
     (m t : ℕ) (tick_calls : TickCalls) (first : ℕ → Option (List ℕ)) (e : E) : Type 0 where
   pub ticks : AreTicks setting m t tick_calls
   pub made : List Call
   pub halted : halts e t (answers_by tick_calls t) made
   pub accepted : ℕ → Bool
-  pub begun : (rest : ℕ → List Answer) → IsBegin made (calls_of_tick (with_rest setting (after_calls (answers_by tick_calls t) made) rest) accepted m t)
+  pub begun : (rest : ℕ → List Answer)
+      → IsBegin made (calls_of_tick (with_rest setting (after_calls (answers_by tick_calls t) made) rest) accepted m t)
   pub part : (rest : ℕ → List Answer) (sink node : ℕ) (output : IsOutput setting m sink node) → (front : List ℕ)
-      × IsPrefix (ticks_bytes (with_rest setting (after_calls (answers_by tick_calls t) made) rest) output.wide node t) front
-      × IsPrefix front (ticks_bytes (with_rest setting (after_calls (answers_by tick_calls t) made) rest) output.wide node (suc t)) × (held e sink ≡ grown front (first sink))
+      × IsPrefix (ticks_bytes (with_rest setting (after_calls (answers_by tick_calls t) made) rest) output.wide node t)
+      front
+      × IsPrefix front (ticks_bytes (with_rest setting (after_calls (answers_by tick_calls t) made) rest) output.wide
+      node (suc t)) × (held e sink ≡ grown front (first sink))

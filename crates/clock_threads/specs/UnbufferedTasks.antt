@@ -11,9 +11,28 @@ abbrev pub no_taps : ThreadTaps ⊤
 no_taps = record {
   rt = record { ref_ptr = (0, 0); now = tt };
   local = [];
-  puts = record { ptr = block_ptr 0 0; len = 0; cap = 0; alloc = record { memory = record { seal = tt } }; items = []; ok = (refl, omega arith); small = omega arith };
-  takes = record { ptr = block_ptr 0 0; len = 0; cap = 0; alloc = record { memory = record { seal = tt } }; items = []; ok = (refl, omega arith); small = omega arith };
-  falling = ((λ i j d low within. absurd (omega (arith, within))), (λ i j d low within. absurd (omega (arith, within))));
+  puts = record {
+    ptr = block_ptr 0 0;
+    len = 0;
+    cap = 0;
+    alloc = record { memory = record { seal = tt } };
+    items = [];
+    ok = (refl, omega arith);
+    small = omega arith;
+  };
+  takes = record {
+    ptr = block_ptr 0 0;
+    len = 0;
+    cap = 0;
+    alloc = record { memory = record { seal = tt } };
+    items = [];
+    ok = (refl, omega arith);
+    small = omega arith;
+  };
+  falling = (
+    (λ i j d low within. absurd (omega (arith, within))),
+    (λ i j d low within. absurd (omega (arith, within))),
+  );
 }
 
 abbrev pub unbuffered_task : {S : Type 0} → ClockEngine S → Task S (ThreadTaps ⊤)

@@ -25,4 +25,5 @@ CanRunUnbuffered told count engine = CanRun told no_buffers count (with_taps tt 
 
 -- what it did
 abbrev pub WasRunUnbuffered : {S : Type 0} → (told : S → SinkTold) → (count : ℕ) → (old new : ClockEngine S) → Type 0
-WasRunUnbuffered told count old new = WasRun told any_calls no_buffers any_taps count (with_taps tt old) (with_taps tt new)
+WasRunUnbuffered told count old new = WasRun told any_calls no_buffers any_taps count (with_taps tt old)
+    (with_taps tt new)

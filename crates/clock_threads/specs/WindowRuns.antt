@@ -23,27 +23,36 @@ use Rattle.run_records.specs.Records.{Follows, start}
 use Rattle.clock_threads.specs.Records.{windows_upto, Going}
 
 -- the tasks of all clocks before the first tick
-pub record IsReady {S R : Type 0} (told : S → SinkTold) (wires : List Wire) (W N : ℕ) (tasks : List (Task S (ThreadTaps R))) (logs : List (List Answers)) : Type 0 where
+pub record IsReady {S R : Type 0} (told : S
+    → SinkTold) (wires : List Wire) (W N : ℕ) (tasks : List (Task S (ThreadTaps R))) (logs : List (List Answers)) : Type
+    0 where
   pub some : 0 < length tasks
   pub few : length wires < 2 ^ 32
-  pub places : (b : ℕ) → b < length wires → (wire_at wires b).from < length tasks × ((wire_at wires b).to < length tasks)
-  pub buffers : (k : ℕ) (d : Task S (ThreadTaps R)) → k < length tasks → length (slice_index_or tasks k d).engine.parts.shape.plan.now.buffers ≡ length wires
+  pub places : (b : ℕ) → b < length wires → (wire_at wires b).from < length tasks
+      × ((wire_at wires b).to < length tasks)
+  pub buffers : (k : ℕ) (d : Task S (ThreadTaps R)) → k < length tasks
+      → length (slice_index_or tasks k d).engine.parts.shape.plan.now.buffers ≡ length wires
   pub begun : (d : Task S (ThreadTaps R)) → Going told wires W N 0 tasks tasks logs d
 
 -- all ticks were made
-pub record DoneAt {S R : Type 0} (told : S → SinkTold) (wires : List Wire) (W N : ℕ) (first now : List (Task S (ThreadTaps R))) (logs : List (List Answers)) (d : Task S (ThreadTaps R)) : Type 0 where
+pub record DoneAt {S R : Type 0} (told : S
+    → SinkTold) (wires : List Wire) (W N : ℕ) (first now : List (Task S (ThreadTaps R))) (logs : List (List Answers))
+    (d : Task S (ThreadTaps R)) : Type 0 where
   pub windows : ℕ
   pub all : start W N windows ≡ N
   pub tight : (i : ℕ) → i < windows → start W N i < N
   pub going : Going told wires W N windows first now logs d
 
-abbrev pub RunDone : {S R : Type 0} → (told : S → SinkTold) → List Wire → (W N : ℕ) → (first now : List (Task S (ThreadTaps R))) → (logs : List (List Answers)) → Type 0
+abbrev pub RunDone : {S R : Type 0} → (told : S → SinkTold) → List Wire → (W N : ℕ)
+    → (first now : List (Task S (ThreadTaps R))) → (logs : List (List Answers)) → Type 0
 RunDone {S} {R} told wires W N first now logs = (d : Task S (ThreadTaps R)) → DoneAt told wires W N first now logs d
 
--- How far a clock came in the window that follows so many: it has made so many ticks, and maybe stopped in the next one, which is still of
--- that window; since the window began it made these calls; and each of its sinks got a piece for each of the ticks, and at most one more
--- where it stopped.
-pub record CameTo {S R : Type 0} (told : S → SinkTold) (W N closed : ℕ) (tick_calls : TickCalls) (since : List Call) (first now : Task S (ThreadTaps R)) : Type 0 where
+-- How far a clock came in the window that follows so many: it has made so many ticks, and maybe stopped in the next
+-- one, which is still of that window; since the window began it made these calls; and each of its sinks got a piece for
+-- each of the ticks, and at most one more where it stopped.
+pub record CameTo {S R : Type 0} (told : S
+    → SinkTold) (W N closed : ℕ) (tick_calls : TickCalls) (since : List Call) (first now : Task S (ThreadTaps R)) : Type
+    0 where
   pub same : IsSameClock told first.engine now.engine
   pub ticks : ℕ
   pub least : start W N closed ≤ ticks
@@ -51,30 +60,43 @@ pub record CameTo {S R : Type 0} (told : S → SinkTold) (W N closed : ℕ) (tic
   pub pieces_part : GotBetween told ticks (suc ticks) first.engine.outs now.engine.outs
   pub came : ((ticks ≤ start W N (suc closed)) × EngineGone told ticks tick_calls (held_of told first.engine) now.engine
       × (since ≡ joined_from tick_calls.calls (start W N closed) (ticks - start W N closed)))
-      ⊎ ((ticks < start W N (suc closed)) × (part : EngineGonePart told ticks tick_calls (held_of told first.engine) now.engine)
+      ⊎ ((ticks < start W N (suc closed))
+      × (part : EngineGonePart told ticks tick_calls (held_of told first.engine) now.engine)
       × (since ≡ joined_from tick_calls.calls (start W N closed) (ticks - start W N closed) ++ part.made))
 
 -- an engine that has made so many ticks and tried no other, or stopped in the next one; with these answers before it
 abbrev pub StandsOrStopped : {S : Type 0} → ClockEngine S → (made tried : ℕ) → (answers : ℕ → List Answer) → Type 0
 StandsOrStopped engine made tried answers =
-    ((tried ≡ made) × EngineStands engine.parts made answers) ⊎ ((tried ≡ suc made) × (calls : List Call) × EngineStopped engine.parts made answers calls)
+    ((tried ≡ made) × EngineStands engine.parts made answers)
+    ⊎ ((tried ≡ suc made) × (calls : List Call) × EngineStopped engine.parts made answers calls)
 
--- The run came so far: no clock is past the window that follows those that were closed, and all ended the window before it, or those that did not stop ended it. The windows of each buffer, the open one too, are
--- one history, and a clock's calls on a buffer of its own are in order.
-pub record PartAt {S R : Type 0} (told : S → SinkTold) (wires : List Wire) (W N : ℕ) (first now : List (Task S (ThreadTaps R))) (d : Task S (ThreadTaps R)) : Type 0 where
+-- The run came so far: no clock is past the window that follows those that were closed, and all ended the window before
+-- it, or those that did not stop ended it. The windows of each buffer, the open one too, are one history, and a clock's
+-- calls on a buffer of its own are in order.
+pub record PartAt {S R : Type 0} (told : S
+    → SinkTold) (wires : List Wire) (W N : ℕ) (first now : List (Task S (ThreadTaps R)))
+    (d : Task S (ThreadTaps R)) : Type 0 where
   pub closed : ℕ
   pub clock_calls : ℕ → TickCalls
   pub since : ℕ → List Call
   pub many : length now ≡ length first
-  pub clocks : (k : ℕ) → k < length first → CameTo told W N closed (clock_calls k) (since k) (slice_index_or first k d) (slice_index_or now k d)
-  pub ended : ((k : ℕ) (low : k < length first) → ((slice_index_or now k d).engine.parts.stopped ≡ None) × ((clocks k low).ticks ≡ start W N closed))
-      ⊎ ((k : ℕ) (low : k < length first) → (slice_index_or now k d).engine.parts.stopped ≡ None → (clocks k low).ticks ≡ start W N (suc closed))
+  pub clocks : (k : ℕ) → k < length first
+      → CameTo told W N closed (clock_calls k) (since k) (slice_index_or first k d) (slice_index_or now k d)
+  pub ended : ((k : ℕ) (low : k < length first)
+      → ((slice_index_or now k d).engine.parts.stopped ≡ None) × ((clocks k low).ticks ≡ start W N closed))
+      ⊎ ((k : ℕ) (low : k < length first) → (slice_index_or now k d).engine.parts.stopped ≡ None
+      → (clocks k low).ticks ≡ start W N (suc closed))
   pub runs : (b : ℕ) → b < length wires → (chunks : List (List Cell))
-      × IsHistory (wire_at wires b).capacity [] (windows_upto (wire_at wires b) clock_calls b W N closed ++ (puts_to b (since (wire_at wires b).from), takes_of b (since (wire_at wires b).to)) ∷ []) chunks
-  pub in_order : (b : ℕ) → b < length wires → (wire_at wires b).from ≡ (wire_at wires b).to → (chunks : List (List Cell))
-      × Follows (wire_at wires b).capacity [] (on b (joined_upto (clock_calls (wire_at wires b).from).calls (start W N closed) ++ since (wire_at wires b).from)) chunks
+      × IsHistory (wire_at wires b).capacity [] (windows_upto (wire_at wires b) clock_calls b W N closed
+      ++ (puts_to b (since (wire_at wires b).from), takes_of b (since (wire_at wires b).to)) ∷ []) chunks
+  pub in_order : (b : ℕ) → b < length wires → (wire_at wires b).from ≡ (wire_at wires b).to
+      → (chunks : List (List Cell))
+      × Follows (wire_at wires b).capacity []
+      (on b (joined_upto (clock_calls (wire_at wires b).from).calls (start W N closed)
+      ++ since (wire_at wires b).from)) chunks
 
-abbrev pub RunPart : {S R : Type 0} → (told : S → SinkTold) → List Wire → (W N : ℕ) → (first now : List (Task S (ThreadTaps R))) → Type 0
+abbrev pub RunPart : {S R : Type 0} → (told : S → SinkTold) → List Wire → (W N : ℕ)
+    → (first now : List (Task S (ThreadTaps R))) → Type 0
 RunPart {S} {R} told wires W N first now = (d : Task S (ThreadTaps R)) → PartAt told wires W N first now d
 
 -- how a run ends, where this fault stopped a clock
@@ -92,10 +114,12 @@ pub record IsToldByLowest {S R : Type 0} (tasks : List (Task S (ThreadTaps R))) 
   pub end_is : (d : Task S (ThreadTaps R)) → end ≡ end_by (slice_index_or tasks place d).engine.parts.clock fault
 
 -- this sink of this clock, the lowest that stopped, refused bytes
-pub record IsWriteAt {S R : Type 0} (told : S → SinkTold) (clock sink : ℕ) (first now : List (Task S (ThreadTaps R))) : Type 0 where
+pub record IsWriteAt {S R : Type 0} (told : S
+    → SinkTold) (clock sink : ℕ) (first now : List (Task S (ThreadTaps R))) : Type 0 where
   pub place : ℕ
   pub within : place < length first
   pub clock_is : (d : Task S (ThreadTaps R)) → (slice_index_or now place d).engine.parts.clock ≡ clock
   pub stopped : (d : Task S (ThreadTaps R)) → (slice_index_or now place d).engine.parts.stopped ≡ Some (Refused sink)
   pub lowest : (k : ℕ) (d : Task S (ThreadTaps R)) → k < place → (slice_index_or now k d).engine.parts.stopped ≡ None
-  pub write : (d : Task S (ThreadTaps R)) → IsWriteOf told sink (slice_index_or first place d).engine (slice_index_or now place d).engine
+  pub write : (d : Task S (ThreadTaps R))
+      → IsWriteOf told sink (slice_index_or first place d).engine (slice_index_or now place d).engine

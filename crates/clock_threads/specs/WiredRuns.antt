@@ -23,24 +23,30 @@ pub record AreLaid (plan : Plan) (clocks : ℕ) (wires : List Wire) : Type 0 whe
   pub many : length wires ≡ length plan.buffers
   pub few : length wires < 4294967296
   pub some : (b : ℕ) → b < length wires → 0 < (wire_at wires b).capacity
-  pub capacities : (b : ℕ) (d : BufferPlan) → b < length wires → (slice_index_or plan.buffers b d).capacity ≡ (wire_at wires b).capacity
+  pub capacities : (b : ℕ) (d : BufferPlan) → b < length wires
+      → (slice_index_or plan.buffers b d).capacity ≡ (wire_at wires b).capacity
   pub places : (b : ℕ) → b < length wires → (wire_at wires b).from < clocks × ((wire_at wires b).to < clocks)
 
 -- the engines of all clocks of this setting, and the wires of its buffers
-pub record AreFresh {S : Type 0} (told : S → SinkTold) (plan : Plan) (wires : List Wire) (N : ℕ) (setting : Setting) (clocks : ClockMap) (engines : List (ClockEngine S)) : Type 0 where
+pub record AreFresh {S : Type 0} (told : S
+    → SinkTold) (plan : Plan) (wires : List Wire) (N : ℕ) (setting : Setting) (clocks : ClockMap)
+    (engines : List (ClockEngine S)) : Type 0 where
   pub engines_are : AreEngines told plan clocks N setting engines
   pub wires_are : AreWires setting clocks.running wires
 
-pub record AreSomeFresh {S : Type 0} (told : S → SinkTold) (plan : Plan) (wires : List Wire) (N : ℕ) (engines : List (ClockEngine S)) : Type 0 where
+pub record AreSomeFresh {S : Type 0} (told : S
+    → SinkTold) (plan : Plan) (wires : List Wire) (N : ℕ) (engines : List (ClockEngine S)) : Type 0 where
   pub setting : Setting
   pub clocks : ClockMap
   pub are : AreFresh told plan wires N setting clocks engines
 
 -- all ticks were made; here are the tasks and the logs, before the lists' logs are put to the others
-pub record HasRunTasks {S R : Type 0} (told : S → SinkTold) (wires : List Wire) (setting : Setting) (clocks : ClockMap) (W N : ℕ)
+pub record HasRunTasks {S R : Type 0} (told : S
+    → SinkTold) (wires : List Wire) (setting : Setting) (clocks : ClockMap) (W N : ℕ)
     (old : List (ClockEngine S)) (tasks : List (Task S (ThreadTaps R))) (logs : List (List Answers)) : Type 0 where
   pub windows : ℕ → List Window
-  pub run : HasRun told setting clocks W N (record { buffers = listed (length wires) windows }) old (map engine_of tasks)
+  pub run : HasRun told setting clocks W N (record { buffers = listed (length wires) windows }) old
+      (map engine_of tasks)
   pub one : Task S (ThreadTaps R)
   pub logged : LogsGoing wires windows tasks logs one
   pub places : (b : ℕ) → b < length wires → (wire_at wires b).from < length tasks

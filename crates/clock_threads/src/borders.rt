@@ -49,7 +49,9 @@ fn close_join<O, R>(
     buffer: u32,
 ) -> WindowLog
     requires places { (from < length tasks.old) × (to < length tasks.old) × (from ≢ to) }
-    requires ends { (d e : _) → HaveEnds (slice_index_or tasks.old from d).taps.puts.items (slice_index_or tasks.old to e).taps.takes.items buffer }
+    requires ends { (d e : _)
+        → HaveEnds (slice_index_or tasks.old from d).taps.puts.items (slice_index_or tasks.old to e).taps.takes.items
+        buffer }
     ensures { JoinClosed from to buffer tasks.old tasks.new result }
 {
     let mut takes = lent(alloc, &mut tasks[to]);
@@ -71,7 +73,8 @@ fn add_window(
     Ok(())
 }
 
-// Closes the window of each buffer between two clocks, and adds its answers to the buffer's log, as long as there is memory.
+// Closes the window of each buffer between two clocks, and adds its answers to the buffer's log, as long as there is
+// memory.
 pub(crate) fn close_joins<O, R>(
     alloc: Global,
     tasks: &mut [Task<'_, O, ThreadTaps<'_, R>>],

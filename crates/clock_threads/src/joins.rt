@@ -15,7 +15,8 @@ fn add_put<'q, O, R>(
     task: &mut Task<'_, O, ThreadTaps<'q, R>>,
     end: PutEnd<'q>,
 ) -> Result<(), Memory>
-    requires { (k : ℕ) (d : _) → k < length task.old.taps.puts.items → end.buffer < (slice_index_or task.old.taps.puts.items k d).buffer }
+    requires { (k : ℕ) (d : _) → k < length task.old.taps.puts.items
+        → end.buffer < (slice_index_or task.old.taps.puts.items k d).buffer }
     ensures added { OnOk result (PutAdded task.old task.new end.entry) }
     ensures engine { task.new.engine ≡ task.old.engine }
 {
@@ -26,7 +27,8 @@ fn add_take<'q, O, R>(
     task: &mut Task<'_, O, ThreadTaps<'q, R>>,
     end: TakeEnd<'q>,
 ) -> Result<(), Memory>
-    requires { (k : ℕ) (d : _) → k < length task.old.taps.takes.items → end.buffer < (slice_index_or task.old.taps.takes.items k d).buffer }
+    requires { (k : ℕ) (d : _) → k < length task.old.taps.takes.items
+        → end.buffer < (slice_index_or task.old.taps.takes.items k d).buffer }
     ensures added { OnOk result (TakeAdded task.old task.new end.entry) }
     ensures engine { task.new.engine ≡ task.old.engine }
 {
@@ -42,8 +44,10 @@ fn join_one<'q, O, R>(
     take: TakeEnd<'q>,
 ) -> Result<(), Memory>
     requires places { (from < length tasks.old) × (to < length tasks.old) × (from ≢ to) }
-    requires put_last { (d : _) (k : ℕ) (e : _) → k < length (slice_index_or tasks.old from d).taps.puts.items → put.buffer < (slice_index_or (slice_index_or tasks.old from d).taps.puts.items k e).buffer }
-    requires take_last { (d : _) (k : ℕ) (e : _) → k < length (slice_index_or tasks.old to d).taps.takes.items → take.buffer < (slice_index_or (slice_index_or tasks.old to d).taps.takes.items k e).buffer }
+    requires put_last { (d : _) (k : ℕ) (e : _) → k < length (slice_index_or tasks.old from d).taps.puts.items
+        → put.buffer < (slice_index_or (slice_index_or tasks.old from d).taps.puts.items k e).buffer }
+    requires take_last { (d : _) (k : ℕ) (e : _) → k < length (slice_index_or tasks.old to d).taps.takes.items
+        → take.buffer < (slice_index_or (slice_index_or tasks.old to d).taps.takes.items k e).buffer }
     ensures added { OnOk result (BothAdded from to put.entry take.entry tasks.old tasks.new) }
     ensures engines { SameEngines tasks.old tasks.new }
 {
@@ -61,7 +65,8 @@ pub(crate) fn join_all<'q, O, R>(
 ) -> Result<(), Memory>
     requires queues { AreQueues wires.now (length wires.now) queues.now.items passes.items }
     requires bare { AreBare tasks.old }
-    requires places { (b : ℕ) → b < length wires.now → (wire_at wires.now b).from < length tasks.old × ((wire_at wires.now b).to < length tasks.old) }
+    requires places { (b : ℕ) → b < length wires.now
+        → (wire_at wires.now b).from < length tasks.old × ((wire_at wires.now b).to < length tasks.old) }
     requires few { length wires.now < 2 ^ 32 }
     ensures joined { OnOk result (AreJoined wires.now 0 tasks.old tasks.new) }
     ensures engines { SameEngines tasks.old tasks.new }

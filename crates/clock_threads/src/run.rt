@@ -16,11 +16,11 @@ use std::alloc::Global;
 use std::sync::Wait;
 use std::thread::Threads;
 
-/// Renders so many ticks, at most 1000000000, of each clock, by a thread for each clock, in windows of so many ticks, at least
-/// one. The engines are those of all running clocks of this plan, in clock order, and made no tick; before each tick the gate is
-/// entered. A clock that stops does so at its tick; the others end their window, and no further one begins. The same engines
-/// come back in the same order, whatever the end is. Where a sink refused bytes, the end names the lowest clock that stopped.
-/// On a plan without buffers, where no engine keeps its marks, it takes no memory.
+/// Renders so many ticks, at most 1000000000, of each clock, by a thread for each clock, in windows of so many ticks,
+/// at least one. The engines are those of all running clocks of this plan, in clock order, and made no tick; before
+/// each tick the gate is entered. A clock that stops does so at its tick; the others end their window, and no further
+/// one begins. The same engines come back in the same order, whatever the end is. Where a sink refused bytes, the end
+/// names the lowest clock that stopped. On a plan without buffers, where no engine keeps its marks, it takes no memory.
 pub fn run_threads<'a, O: Sink + Send, G: Gate + Sync, R: Threads + Wait + Sync>(
     rt: &R,
     alloc: Global,
@@ -35,11 +35,14 @@ pub fn run_threads<'a, O: Sink + Send, G: Gate + Sync, R: Threads + Wait + Sync>
     requires few { ticks ≤ 1000000000 }
     requires window { 0 < window }
     ensures many { length result.0.items ≡ length engines.entry.items }
-    ensures done { result.1.end ≡ Done → (setting : Setting) → AreEngines O.told plan.now clocks.now ticks setting engines.entry.items
-        → HasRunAll O.told setting clocks.now window ticks engines.entry.items result.0.items result.1.counts.items result.1.logs.items }
+    ensures done { result.1.end ≡ Done → (setting : Setting)
+        → AreEngines O.told plan.now clocks.now ticks setting engines.entry.items
+        → HasRunAll O.told setting clocks.now window ticks engines.entry.items result.0.items result.1.counts.items
+        result.1.logs.items }
     ensures part { (setting : Setting) → AreEngines O.told plan.now clocks.now ticks setting engines.entry.items
         → HasRunSome O.told setting clocks.now window ticks engines.entry.items result.0.items result.1.end }
-    ensures memory { All (λ engine. engine.parts.cues.keeping ≡ true → ⊥) engines.entry.items → result.1.end ≡ NoMemory → 0 < length plan.now.buffers }
+    ensures memory { All (λ engine. engine.parts.cues.keeping ≡ true → ⊥) engines.entry.items → result.1.end ≡ NoMemory
+        → 0 < length plan.now.buffers }
 {
     if engines.is_empty() {
         return (engines, ended(alloc, End::Done));

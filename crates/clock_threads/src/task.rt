@@ -22,7 +22,8 @@ pub(crate) fn run_ticks<O: Sink, T: Taps, G: Gate>(
     count: u64,
 )
     requires { CanRun O.told T.buffers count (with_taps taps.old engine.old) }
-    ensures { WasRun O.told T.stands T.buffers T.same count (with_taps taps.old engine.old) (with_taps taps.new engine.new) }
+    ensures { WasRun O.told T.stands T.buffers T.same count (with_taps taps.old engine.old)
+        (with_taps taps.new engine.new) }
 {
     for _ in 0..count {
         gate.enter(engine.clock(), engine.ticks());

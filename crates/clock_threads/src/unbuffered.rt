@@ -29,9 +29,11 @@ pub(crate) fn run_unbuffered<O: Sink + Send, G: Gate + Sync, R: Threads + Sync>(
     requires few { ticks ≤ 1000000000 }
     requires window { 0 < window }
     ensures many { length engines.new ≡ length engines.old }
-    ensures done { result.end ≡ Done → (plan : ThePlan) (setting : Setting) (clocks : Map) → length plan.buffers ≡ 0 → AreEngines O.told plan clocks ticks setting engines.old
+    ensures done { result.end ≡ Done → (plan : ThePlan) (setting : Setting) (clocks : Map) → length plan.buffers ≡ 0
+        → AreEngines O.told plan clocks ticks setting engines.old
         → HasRunAll O.told setting clocks window ticks engines.old engines.new result.counts.items result.logs.items }
-    ensures part { (plan : ThePlan) (setting : Setting) (clocks : Map) → length plan.buffers ≡ 0 → AreEngines O.told plan clocks ticks setting engines.old
+    ensures part { (plan : ThePlan) (setting : Setting) (clocks : Map) → length plan.buffers ≡ 0
+        → AreEngines O.told plan clocks ticks setting engines.old
         → HasRunSome O.told setting clocks window ticks engines.old engines.new result.end }
     ensures memory { All (λ engine. engine.parts.cues.keeping ≡ true → ⊥) engines.old → result.end ≢ Memory }
 {

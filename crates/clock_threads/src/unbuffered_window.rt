@@ -68,7 +68,8 @@ pub fn run_unbuffered_window<O: Sink + Send, G: Gate + Sync, R: Threads + Sync>(
 )
     requires some { 0 < length engines.old }
     requires can { All (CanRunUnbuffered O.told count) engines.old }
-    ensures ran { (i : ℕ) (d : _) → i < length engines.old → WasRunUnbuffered O.told count (slice_index_or engines.old i d) (slice_index_or engines.new i d) }
+    ensures ran { (i : ℕ) (d : _) → i < length engines.old
+        → WasRunUnbuffered O.told count (slice_index_or engines.old i d) (slice_index_or engines.new i d) }
 {
     thread::for_each_mut(
         rt,

@@ -14,7 +14,8 @@ use std::thread::Threads;
 
 // How the run ends, where a clock stopped: the lowest tells.
 fn stopped_among<O>(engines: &[ClockEngine<'_, O>]) -> Option<End>
-    ensures none { IfNone result ((k : ℕ) (d : _) → k < length engines.now → (slice_index_or engines.now k d).parts.stopped ≡ None) }
+    ensures none { IfNone result ((k : ℕ) (d : _) → k < length engines.now
+        → (slice_index_or engines.now k d).parts.stopped ≡ None) }
     ensures some { IfSome result (IsToldByLowest (unbuffered_tasks engines.now)) }
 {
     for k in 0..engines.len() {
@@ -25,8 +26,8 @@ fn stopped_among<O>(engines: &[ClockEngine<'_, O>]) -> Option<End>
     None
 }
 
-/// All engines make so many ticks over a plan without buffers, in windows of so many. Where no engine keeps its marks it takes no
-/// memory.
+/// All engines make so many ticks over a plan without buffers, in windows of so many. Where no engine keeps its marks
+/// it takes no memory.
 pub fn run_unbuffered_windows<O: Sink + Send, G: Gate + Sync, R: Threads + Sync>(
     rt: &R,
     alloc: Global,
@@ -39,9 +40,11 @@ pub fn run_unbuffered_windows<O: Sink + Send, G: Gate + Sync, R: Threads + Sync>
     requires few { ticks ≤ 1000000000 }
     requires window { 0 < window }
     ensures many { length engines.new ≡ length engines.old }
-    ensures done { result ≡ Done → RunDone O.told [] window ticks (unbuffered_tasks engines.old) (unbuffered_tasks engines.new) [] }
+    ensures done { result ≡ Done
+        → RunDone O.told [] window ticks (unbuffered_tasks engines.old) (unbuffered_tasks engines.new) [] }
     ensures part { RunPart O.told [] window ticks (unbuffered_tasks engines.old) (unbuffered_tasks engines.new) }
-    ensures write { (clock sink : ℕ) → result ≡ Write clock sink → IsWriteAt O.told clock sink (unbuffered_tasks engines.old) (unbuffered_tasks engines.new) }
+    ensures write { (clock sink : ℕ) → result ≡ Write clock sink
+        → IsWriteAt O.told clock sink (unbuffered_tasks engines.old) (unbuffered_tasks engines.new) }
     ensures memory { All (λ engine. engine.parts.cues.keeping ≡ true → ⊥) engines.old → result ≢ Memory }
 {
     let mut made = 0;

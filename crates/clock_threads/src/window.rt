@@ -19,7 +19,8 @@ pub fn run_window<O: Sink + Send, T: Taps + Send, G: Gate + Sync, R: Threads + S
 )
     requires some { 0 < length tasks.old }
     requires can { All (CanRun O.told T.buffers count) tasks.old }
-    ensures ran { (i : ℕ) (d : _) → i < length tasks.old → WasRun O.told T.stands T.buffers T.same count (slice_index_or tasks.old i d) (slice_index_or tasks.new i d) }
+    ensures ran { (i : ℕ) (d : _) → i < length tasks.old
+        → WasRun O.told T.stands T.buffers T.same count (slice_index_or tasks.old i d) (slice_index_or tasks.new i d) }
 {
     thread::for_each_mut(
         rt,

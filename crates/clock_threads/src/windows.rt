@@ -29,7 +29,8 @@ pub(crate) fn end_of(clock: u32, fault: TickFault) -> End
 
 // How the run ends, where a clock stopped: the lowest tells.
 fn stopped_in<O, R>(tasks: &[Task<'_, O, ThreadTaps<'_, R>>]) -> Option<End>
-    ensures none { IfNone result ((k : ℕ) (d : _) → k < length tasks.now → (slice_index_or tasks.now k d).engine.parts.stopped ≡ None) }
+    ensures none { IfNone result ((k : ℕ) (d : _) → k < length tasks.now
+        → (slice_index_or tasks.now k d).engine.parts.stopped ≡ None) }
     ensures some { IfSome result (IsToldByLowest tasks.now) }
 {
     for k in 0..tasks.len() {

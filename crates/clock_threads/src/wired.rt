@@ -49,9 +49,11 @@ fn run_tasks<'q, O: Sink + Send, G: Gate + Sync, R: Threads + Wait + Sync>(
     requires few { ticks ≤ 1000000000 }
     requires window { 0 < window }
     ensures many { length tasks.new ≡ length tasks.old }
-    ensures done { result ≡ Done → (setting : Setting) (clocks : Map) → AreFresh O.told plan.now wires.now ticks setting clocks (map engine_of tasks.old)
+    ensures done { result ≡ Done → (setting : Setting) (clocks : Map)
+        → AreFresh O.told plan.now wires.now ticks setting clocks (map engine_of tasks.old)
         → HasRunTasks O.told wires.now setting clocks window ticks (map engine_of tasks.old) tasks.new logs.new }
-    ensures part { (setting : Setting) (clocks : Map) → AreFresh O.told plan.now wires.now ticks setting clocks (map engine_of tasks.old)
+    ensures part { (setting : Setting) (clocks : Map)
+        → AreFresh O.told plan.now wires.now ticks setting clocks (map engine_of tasks.old)
         → HasRunSome O.told setting clocks window ticks (map engine_of tasks.old) (map engine_of tasks.new) result }
 {
     if let Err(Memory) = join_all(wires, queues, passes, tasks) {
@@ -74,7 +76,8 @@ pub(crate) fn ended(alloc: Global, end: End) -> RunEnd
 
 // The answer of a run with these logs.
 fn told(alloc: Global, logs: Vec<BufferLog>, end: End) -> RunEnd
-    ensures done { result.end ≡ Done → (end ≡ Done) × (result.logs.items ≡ logs.items) × (result.counts.items ≡ map counts_in logs.items) }
+    ensures done { result.end ≡ Done → (end ≡ Done) × (result.logs.items ≡ logs.items)
+        × (result.counts.items ≡ map counts_in logs.items) }
     ensures write { (clock sink : ℕ) → result.end ≡ Write clock sink → end ≡ Write clock sink }
 {
     if end != End::Done {
@@ -103,9 +106,12 @@ pub(crate) fn run_wired<'a, O: Sink + Send, G: Gate + Sync, R: Threads + Wait + 
     requires few { ticks ≤ 1000000000 }
     requires window { 0 < window }
     ensures many { length engines.new.items ≡ length engines.old.items }
-    ensures done { result.end ≡ Done → (setting : Setting) (clocks : Map) → AreFresh O.told plan.now wires.now ticks setting clocks engines.old.items
-        → HasRunAll O.told setting clocks window ticks engines.old.items engines.new.items result.counts.items result.logs.items }
-    ensures part { (setting : Setting) (clocks : Map) → AreFresh O.told plan.now wires.now ticks setting clocks engines.old.items
+    ensures done { result.end ≡ Done → (setting : Setting) (clocks : Map)
+        → AreFresh O.told plan.now wires.now ticks setting clocks engines.old.items
+        → HasRunAll O.told setting clocks window ticks engines.old.items engines.new.items result.counts.items
+        result.logs.items }
+    ensures part { (setting : Setting) (clocks : Map)
+        → AreFresh O.told plan.now wires.now ticks setting clocks engines.old.items
         → HasRunSome O.told setting clocks window ticks engines.old.items engines.new.items result.end }
 {
     let Ok(mut logs) = no_logs(alloc, wires.len()) else {

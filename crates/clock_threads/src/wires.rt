@@ -29,7 +29,8 @@ fn buffer_at(buffers: &[BufferPlan], number: usize) -> &BufferPlan
 
 // The wire of a buffer between the clocks of two nodes.
 fn wire_of(plan: &Plan, clocks: &ClockMap, feed: u32, reads: u32, buffer: &BufferPlan) -> Wire
-    ensures { (other : Setting) → IsWireAt (over plan.now clocks.now.of other) clocks.now.running feed reads buffer.now.capacity result }
+    ensures { (other : Setting)
+        → IsWireAt (over plan.now clocks.now.of other) clocks.now.running feed reads buffer.now.capacity result }
 {
     let capacity = buffer.capacity;
     let from = main_of(plan, clocks, feed);

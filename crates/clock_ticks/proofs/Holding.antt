@@ -2,7 +2,7 @@
 use Rattle.std.proofs.Common.{◌≡◌, ◌<◌, ◌≤◌, ◌+◌, ◌∙◌, ℕ, suc, Bool, true, false, Some, None, Option, List, [], ◌∷◌, map, length, slice_get, nat_eq, cond, arith, refl, ap, sym, subst, inl, inr}
 use Rattle.std.proofs.lemmas.Bool.{eqb-true}
 use Rattle.std.proofs.lemmas.List.{append-nil}
-use Rattle.liq_base.specs.Pieces.{IsPrefix, SinkTold, Took, TookPart, grown}
+use Rattle.liq_base.specs.Pieces.{IsPrefix, SinkTold, TookPiece, TookPart, grown}
 use Rattle.clock_outputs.specs.declared.port.Port.{Port}
 use Rattle.clock_outputs.specs.Appends.{BrokeAt}
 use Rattle.clock_outputs.proofs.Places.{low_or_high, same_or_other}
@@ -59,7 +59,7 @@ parts_grew {S} told place ports old new broke k port before after at was is = el
 module _ {S : Type 0} (told : S → SinkTold) (sink : ℕ) (bytes : List ℕ) where
   pub held_grew : (ports : List Port) (old new : List S) → length old ≡ length ports → length new ≡ length ports
       → ((k : ℕ) (port : Port) → slice_get ports k ≡ Some port → port.sink ≡ sink → port.piece.bytes ≡ bytes)
-      → ((k : ℕ) (port : Port) (before after : S) → k < length ports → slice_get ports k ≡ Some port → slice_get old k ≡ Some before → slice_get new k ≡ Some after → Took port.piece.bytes (told before) (told after))
+      → ((k : ℕ) (port : Port) (before after : S) → k < length ports → slice_get ports k ≡ Some port → slice_get old k ≡ Some before → slice_get new k ≡ Some after → TookPiece port.piece.bytes (told before) (told after))
       → held_in told (map output_of ports) new sink ≡ grown bytes (held_in told (map output_of ports) old sink)
   held_grew [] old new one two are took = refl
   held_grew (port ∷ ports) [] new one two are took = absurd (omega (arith, one))

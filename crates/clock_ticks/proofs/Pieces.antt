@@ -2,8 +2,8 @@
 use Rattle.std.proofs.Common.{◌≡◌, ◌<◌, ◌≤◌, ◌+◌, ◌∙◌, ℕ, zero, suc, Some, Option, List, [], ◌∷◌, length, get_or, slice_get, add-one, arith, ap, refl, sym, subst, inl, inr}
 use Rattle.std.specs.Fn.{iterate}
 use Rattle.std.proofs.lemmas.Option.{slice_get-get_or as read, slice_get_within}
-use Rattle.liq_base.specs.Counts.{Rose, counted}
-use Rattle.liq_base.specs.Pieces.{SinkTold, Took}
+use Rattle.liq_base.specs.Counts.{Rose, one_more_append}
+use Rattle.liq_base.specs.Pieces.{SinkTold, TookPiece}
 use Rattle.clock_outputs.specs.declared.port.Port.{Port}
 use Rattle.clock_outputs.specs.Appends.{BrokeAt, TookAll}
 use Rattle.clock_outputs.proofs.Places.{below_or_same, low_or_high}
@@ -28,14 +28,14 @@ some_one is other = cc
 pub got_nothing : (told : SinkTold) → HasGot 0 told told
 got_nothing told = record { name_kept = refl; faults_grew = omega arith; appends_are = refl }
 
-one_got : (taken : List ℕ) (old new : SinkTold) → Took taken old new → HasGot 1 old new
+one_got : (taken : List ℕ) (old new : SinkTold) → TookPiece taken old new → HasGot 1 old new
 one_got taken old new took = record { name_kept = took.name_kept; faults_grew = took.faults_grew; appends_are = took.once }
 
 then_got : (n m : ℕ) (a b c : SinkTold) → HasGot n a b → HasGot m b c → HasGot (n + m) a c
 then_got n m a b c first next = record {
   name_kept = next.name_kept ∙ first.name_kept;
   faults_grew = omega (arith, first.faults_grew, next.faults_grew);
-  appends_are = next.appends_are ∙ ap (iterate counted m) first.appends_are ∙ sym (iterate_then counted n m a.appends);
+  appends_are = next.appends_are ∙ ap (iterate one_more_append m) first.appends_are ∙ sym (iterate_then one_more_append n m a.appends);
 }
 
 module _ {S : Type 0} (told : S → SinkTold) where
@@ -123,10 +123,10 @@ module _ {S : Type 0} (told : S → SinkTold) where
     others = broke.others;
   }
     where
-      here : {before after : S} → slice_get old place ≡ Some before → slice_get new place ≡ Some after → (taken : List ℕ) × Took taken (told before) (told after)
+      here : {before after : S} → slice_get old place ≡ Some before → slice_get new place ≡ Some after → (taken : List ℕ) × TookPiece taken (told before) (told after)
       here {before} {after} was is = (
         broke.part.taken,
-        subst (λ s. Took broke.part.taken (told before) (told s)) (some_one broke.is is) (subst (λ s. Took broke.part.taken (told s) (told broke.after)) (some_one broke.was was) broke.part.took),
+        subst (λ s. TookPiece broke.part.taken (told before) (told s)) (some_one broke.is is) (subst (λ s. TookPiece broke.part.taken (told s) (told broke.after)) (some_one broke.was was) broke.part.took),
       )
 
   pub rose_at : (place : ℕ) (ports : List Port) (old new : List S) → BrokeAt told place ports old new → RoseAt told place old new

@@ -14,17 +14,20 @@ use Rattle.clock_instants.specs.Takes.{IsUnder}
 use Rattle.clock_outputs.specs.declared.port.Port.{Port}
 use Rattle.clock_outputs.specs.declared.feed.FeedPort.{FeedPort}
 
--- the state of node i of a plan before the first instant, in an engine of main clock m: where the clock drives the node, which lies in
--- it or in a sub-clock below it, it stands for no instant
+-- the state of node i of a plan before the first instant, in an engine of main clock m: where the clock drives the
+-- node, which lies in it or in a sub-clock below it, it stands for no instant
 pub record IsNewState (plan : Plan) (clocks : List NodeClock) (m i : ℕ) (node : Node) (state : NodeState) : Type 0 where
-  pub fits : (library : Sounds) → IsLibrary library → i < length library.leaves → Fits library (length node.children) state
-  pub stands : (setting : Setting) (sub : ℕ → ℕ → List Slot) (rank : ℕ) → IsUnder clocks (Main m) rank i → setting.plan ≡ plan → sub i 0 ≡ []
+  pub fits : (library : Sounds) → IsLibrary library → i < length library.leaves
+      → Fits library (length node.children) state
+  pub stands : (setting : Setting) (sub : ℕ → ℕ → List Slot) (rank : ℕ) → IsUnder clocks (Main m) rank i
+      → setting.plan ≡ plan → sub i 0 ≡ []
       → StateStands setting sub [] 0 i (work_at setting i node) state
 
 -- the states of the first n nodes before the first instant
 pub record AreNewStates (plan : Plan) (clocks : List NodeClock) (m n : ℕ) (states : List NodeState) : Type 0 where
   pub size : length states ≡ n
-  pub each : (i : ℕ) (node : Node) (state : NodeState) → slice_get plan.nodes i ≡ Some node → slice_get states i ≡ Some state → IsNewState plan clocks m i node state
+  pub each : (i : ℕ) (node : Node) (state : NodeState) → slice_get plan.nodes i ≡ Some node
+      → slice_get states i ≡ Some state → IsNewState plan clocks m i node state
 
 -- an output before the first tick
 pub record IsNewPort (setting : Setting) (port : Port) : Type 0 where

@@ -38,7 +38,8 @@ setting_of parts = record {
 abbrev pub outputs_from : Setting → (m i : ℕ) → List SinkPlan → List (ℕ × ℕ)
 outputs_from setting m i [] = []
 outputs_from setting m i (Output name node fallible wide ∷ sinks) =
-    if lies_in setting (Main m) node then (i, node) ∷ outputs_from setting m (suc i) sinks else outputs_from setting m (suc i) sinks
+    if lies_in setting (Main m) node then (i, node) ∷ outputs_from setting m (suc i) sinks
+    else outputs_from setting m (suc i) sinks
 outputs_from setting m i (Feed buffer node ∷ sinks) = outputs_from setting m (suc i) sinks
 
 -- the outputs of main clock m, in sink order
@@ -97,7 +98,8 @@ pub record AreParts (parts : EngineParts) : Type 0 where
   pub outputs : map output_of parts.ports.items ≡ outputs_of (setting_of parts) parts.clock
   pub kinds : All (λ port. port.kind ≡ kind_of (setting_of parts) port.node) parts.ports.items
   pub widths : All (λ port. port.wide ≡ is_wide (setting_of parts) port.sink) parts.ports.items
-  pub rooms : All (λ port. parts.shape.plan.now.frame * block_length port.wide port.kind ≤ port.piece.room) parts.ports.items
+  pub rooms : All (λ port. parts.shape.plan.now.frame * block_length port.wide port.kind
+      ≤ port.piece.room) parts.ports.items
   pub feeds : map feed_of parts.feeds.items ≡ feeds_of (setting_of parts) parts.clock
   pub frames : All (λ feed. length feed.frame ≡ parts.shape.plan.now.frame) parts.feeds.items
   pub lists : length parts.cues.lists.items ≡ length parts.ports.items
@@ -112,38 +114,47 @@ pub record IsWhole {S : Type 0} (engine : Engine S) : Type 0 where
   pub parts : AreParts engine.parts
   pub sinks : length engine.outs ≡ length engine.parts.ports.items
 
--- an engine that stands for so many ticks and these answers: no tick of it had a fault; whatever answers follow, its readers have taken
--- exactly these, and its state is the one that the instants imply. No answers are those of buffers that its clock does not read. An engine
--- that keeps its marks has those of the ticks, and so has one without ticks
+-- an engine that stands for so many ticks and these answers: no tick of it had a fault; whatever answers follow, its
+-- readers have taken exactly these, and its state is the one that the instants imply. No answers are those of buffers
+-- that its clock does not read. An engine that keeps its marks has those of the ticks, and so has one without ticks
 pub record EngineStands (parts : EngineParts) (ticks : ℕ) (answers : ℕ → List Answer) : Type 0 where
   pub made : parts.ticks ≡ ticks
   pub runs : parts.stopped ≡ None
   pub others : (buffer : ℕ) → IsUnread (setting_of parts) (Main parts.clock) buffer → answers buffer ≡ []
-  pub state : (rest : ℕ → List Answer) → ClockStateStands (with_rest (setting_of parts) answers rest) (sub_of (with_rest (setting_of parts) answers rest)) (Main parts.clock)
+  pub state : (rest : ℕ → List Answer)
+      → ClockStateStands (with_rest (setting_of parts) answers rest)
+      (sub_of (with_rest (setting_of parts) answers rest)) (Main parts.clock)
       (ticks * parts.shape.plan.now.frame) answers parts.state
   pub gaps_are : (rest : ℕ → List Answer) (k : ℕ) (port : Port) → slice_get parts.ports.items k ≡ Some port
       → port.gaps ≡ gaps (with_rest (setting_of parts) answers rest) port.node ticks
-  pub cues_are : (parts.cues.keeping ≡ false → ticks ≡ 0) → (rest : ℕ → List Answer) (k : ℕ) (port : Port) (list : CueList) → slice_get parts.ports.items k ≡ Some port
-      → slice_get parts.cues.lists.items k ≡ Some list → list.marks.items ≡ map mark_of (cues (with_rest (setting_of parts) answers rest) port.node ticks)
+  pub cues_are : (parts.cues.keeping ≡ false → ticks ≡ 0)
+      → (rest : ℕ → List Answer) (k : ℕ) (port : Port) (list : CueList) → slice_get parts.ports.items k ≡ Some port
+      → slice_get parts.cues.lists.items k ≡ Some list
+      → list.marks.items ≡ map mark_of (cues (with_rest (setting_of parts) answers rest) port.node ticks)
 
--- an engine that stopped in tick t, before which it stood for these answers, after these calls: they are the first ones of the tick's,
--- whatever answers follow theirs; and its ticks and gaps are those of the t ticks before
+-- an engine that stopped in tick t, before which it stood for these answers, after these calls: they are the first ones
+-- of the tick's, whatever answers follow theirs; and its ticks and gaps are those of the t ticks before
 pub record EngineStopped (parts : EngineParts) (t : ℕ) (answers : ℕ → List Answer) (made : List Call) : Type 0 where
   pub ticks_are : parts.ticks ≡ t
   pub fault : TickFault
   pub stopped : parts.stopped ≡ Some fault
   pub accepted : ℕ → Bool
-  pub begun : (rest : ℕ → List Answer) → IsBegin made (calls_of_tick (with_rest (setting_of parts) (after_calls answers made) rest) accepted parts.clock t)
+  pub begun : (rest : ℕ → List Answer)
+      → IsBegin made (calls_of_tick (with_rest (setting_of parts) (after_calls answers made) rest) accepted parts.clock
+      t)
   pub gaps_are : (rest : ℕ → List Answer) (k : ℕ) (port : Port) → slice_get parts.ports.items k ≡ Some port
       → port.gaps_before ≡ gaps (with_rest (setting_of parts) answers rest) port.node t
-  pub cues_are : (parts.cues.keeping ≡ false → t ≡ 0) → (rest : ℕ → List Answer) (k : ℕ) (port : Port) (list : CueList) → slice_get parts.ports.items k ≡ Some port
-      → slice_get parts.cues.lists.items k ≡ Some list → take list.before list.marks.items ≡ map mark_of (cues (with_rest (setting_of parts) answers rest) port.node t)
+  pub cues_are : (parts.cues.keeping ≡ false → t ≡ 0) → (rest : ℕ → List Answer) (k : ℕ) (port : Port) (list : CueList)
+      → slice_get parts.ports.items k ≡ Some port
+      → slice_get parts.cues.lists.items k ≡ Some list
+      → take list.before list.marks.items ≡ map mark_of (cues (with_rest (setting_of parts) answers rest) port.node t)
 
 -- what the sink of this number holds, where it tells it. There is a sink for each output, in the same order
 abbrev pub held_in : {S : Type 0} → (S → SinkTold) → (outputs : List (ℕ × ℕ)) → List S → ℕ → Option (List ℕ)
 held_in told [] outs sink = None
 held_in told (output ∷ outputs) [] sink = None
-held_in told (output ∷ outputs) (out ∷ outs) sink = if nat_eq output.0 sink then (told out).held else held_in told outputs outs sink
+held_in told (output ∷ outputs) (out ∷ outs) sink = if nat_eq output.0 sink then (told out).held
+    else held_in told outputs outs sink
 
 -- what the outputs of an engine hold, by their numbers
 abbrev pub held_of : {S : Type 0} → (S → SinkTold) → Engine S → ℕ → Option (List ℕ)

@@ -37,7 +37,8 @@ slot_in setting sub clock i n = offer (moment_after setting sub clock (first_ins
 
 -- the calls of so many instants from n on
 abbrev pub calls_from : Setting → (sub : ℕ → ℕ → List Slot) → NodeClock → (n count : ℕ) → List Call
-calls_from setting sub clock n count = joined_upto (λ j. calls_of setting sub clock (first_instants setting sub clock (n + j))) count
+calls_from setting sub clock n count = joined_upto
+    (λ j. calls_of setting sub clock (first_instants setting sub clock (n + j))) count
 
 -- the buffer and the node of a feed
 abbrev pub feed_key : FeedPort → ℕ × ℕ
@@ -45,14 +46,20 @@ feed_key feed = (feed.buffer, feed.node)
 
 -- a feed whose node had these slots in the tick so far
 abbrev pub with_slots : FeedPort → List Slot → FeedPort
-with_slots feed slots = record { buffer = feed.buffer; node = feed.node; frame = slots ++ drop (length slots) feed.frame }
+with_slots feed slots = record {
+  buffer = feed.buffer;
+  node = feed.node;
+  frame = slots ++ drop (length slots) feed.frame;
+}
 
--- what the states stand for after so many instants more, where these were the calls, and the slots of the nodes that their own clock demands of
--- itself
-pub record HasMadeInstants (setting : Setting) (sub : ℕ → ℕ → List Slot) (own : List Bool) (clock : NodeClock) (n count : ℕ) (slots : ℕ → List Slot) (front : ℕ → List Answer)
+-- what the states stand for after so many instants more, where these were the calls, and the slots of the nodes that
+-- their own clock demands of itself
+pub record HasMadeInstants (setting : Setting) (sub : ℕ → ℕ
+    → List Slot) (own : List Bool) (clock : NodeClock) (n count : ℕ) (slots : ℕ → List Slot) (front : ℕ → List Answer)
     (more : List Call) (state : ClockState) : Type 0 where
   pub state_stands : ClockStateStands setting sub clock (n + count) (after_calls front more) state
-  pub slots_are : (i : ℕ) → slice_index_or own i false ≡ true → slots i ≡ map (slot_in setting sub clock i) (range_with_len n count)
+  pub slots_are : (i : ℕ) → slice_index_or own i false ≡ true
+      → slots i ≡ map (slot_in setting sub clock i) (range_with_len n count)
   pub calls : more ≡ calls_from setting sub clock n count
 
 -- the states, the outputs, the feeds and the marks of a clock, the first instant of the tick, and its taps
@@ -66,9 +73,17 @@ pub record Scene (T : Type 0) : Type 0 where
 
 -- such a scene
 abbrev pub scene : {T : Type 0} → ClockState → List Port → List FeedPort → Cues → (start : ℕ) → T → Scene T
-scene state ports feeds cues start taps = record { state = state; ports = ports; feeds = feeds; cues = cues; start = start; taps = taps }
+scene state ports feeds cues start taps = record {
+  state = state;
+  ports = ports;
+  feeds = feeds;
+  cues = cues;
+  start = start;
+  taps = taps;
+}
 
--- the outputs and feeds of a clock have room for a tick that begins at this instant, are of nodes of the plan, and each output has its marks
+-- the outputs and feeds of a clock have room for a tick that begins at this instant, are of nodes of the plan, and each
+-- output has its marks
 pub record CanHear (shape : Shape) (ports : List Port) (feeds : List FeedPort) (cues : Cues) (start : ℕ) : Type 0 where
   pub heard : All (λ port. port.node < length shape.plan.now.nodes) ports
   pub fed : All (λ feed. feed.node < length shape.plan.now.nodes) feeds
@@ -77,9 +92,11 @@ pub record CanHear (shape : Shape) (ports : List Port) (feeds : List FeedPort) (
   pub marks : length cues.lists.items ≡ length ports
   pub late : start + shape.plan.now.frame < 2 ^ 64
 
--- so many instants of a tick were made, by these calls, and the outputs, feeds and marks have heard the slots of their nodes; whatever instants the
--- states stood for, these are the next ones
-pub record Heard {T : Type 0} (stands : T → List Call → Type 0) (plan : Plan) (library : Sounds) (clocks : List NodeClock) (clock : NodeClock) (own : List Bool) (count : ℕ)
+-- so many instants of a tick were made, by these calls, and the outputs, feeds and marks have heard the slots of their
+-- nodes; whatever instants the states stood for, these are the next ones
+pub record Heard {T : Type 0} (stands : T → List Call
+    → Type 0) (plan : Plan) (library : Sounds) (clocks : List NodeClock) (clock : NodeClock) (own : List Bool)
+    (count : ℕ)
     (before after : Scene T) : Type 0 where
   pub slots : ℕ → List Slot
   pub long : (i : ℕ) → length (slots i) ≡ count
@@ -87,40 +104,54 @@ pub record Heard {T : Type 0} (stands : T → List Call → Type 0) (plan : Plan
   pub feeds_are : after.feeds ≡ map (λ feed. with_slots feed (slots feed.node)) before.feeds
   pub keeping : after.cues.keeping ≡ before.cues.keeping
   pub lists : length after.cues.lists.items ≡ length before.cues.lists.items
-  pub cues_are : (k : ℕ) (port : Port) (old new : CueList) → slice_get before.ports k ≡ Some port → slice_get before.cues.lists.items k ≡ Some old
-      → slice_get after.cues.lists.items k ≡ Some new → HasMarked (marks_if before.cues.keeping before.start (slots port.node)) old new
+  pub cues_are : (k : ℕ) (port : Port) (old new : CueList) → slice_get before.ports k ≡ Some port
+      → slice_get before.cues.lists.items k ≡ Some old
+      → slice_get after.cues.lists.items k ≡ Some new
+      → HasMarked (marks_if before.cues.keeping before.start (slots port.node)) old new
   pub more : List Call
   pub taps : Adds stands before.taps after.taps more
-  pub run : (other : Setting) (sub : ℕ → ℕ → List Slot) (n : ℕ) (front : ℕ → List Answer) → IsMeant (over plan library clocks other) sub own
-      → HasAnswers (over plan library clocks other) (after_calls front more) → ClockStateStands (over plan library clocks other) sub clock n front before.state
+  pub run : (other : Setting) (sub : ℕ → ℕ → List Slot) (n : ℕ) (front : ℕ → List Answer)
+      → IsMeant (over plan library clocks other) sub own
+      → HasAnswers (over plan library clocks other) (after_calls front more)
+      → ClockStateStands (over plan library clocks other) sub clock n front before.state
       → HasMadeInstants (over plan library clocks other) sub own clock n count slots front more after.state
 
 -- the same over a shape
-abbrev pub HeardOver : {T : Type 0} → (T → List Call → Type 0) → Shape → NodeClock → List Bool → (count : ℕ) → (before after : Scene T) → Type 0
-HeardOver stands shape clock own count before after = Heard stands shape.plan.now shape.library.now shape.clocks.now clock own count before after
+abbrev pub HeardOver : {T : Type 0} → (T → List Call → Type 0) → Shape → NodeClock → List Bool → (count : ℕ)
+    → (before after : Scene T) → Type 0
+HeardOver stands shape clock own count before after = Heard stands shape.plan.now shape.library.now shape.clocks.now
+    clock own count before after
 
 -- memory was refused within a tick of so many instants: these are its first calls
-pub record HeardSome {T : Type 0} (stands : T → List Call → Type 0) (plan : Plan) (library : Sounds) (clocks : List NodeClock) (clock : NodeClock) (own : List Bool) (total : ℕ)
+pub record HeardSome {T : Type 0} (stands : T → List Call
+    → Type 0) (plan : Plan) (library : Sounds) (clocks : List NodeClock) (clock : NodeClock) (own : List Bool)
+    (total : ℕ)
     (before after : Scene T) : Type 0 where
   pub slots : ℕ → List Slot
   pub ports_are : after.ports ≡ map (λ port. after_slots (emptied port) (slots port.node)) before.ports
   pub keeping : after.cues.keeping ≡ before.cues.keeping
   pub lists : length after.cues.lists.items ≡ length before.cues.lists.items
-  pub cues_are : (k : ℕ) (old new : CueList) → slice_get before.cues.lists.items k ≡ Some old → slice_get after.cues.lists.items k ≡ Some new → HasMarkedSome old new
+  pub cues_are : (k : ℕ) (old new : CueList) → slice_get before.cues.lists.items k ≡ Some old
+      → slice_get after.cues.lists.items k ≡ Some new → HasMarkedSome old new
   pub made : List Call
   pub taps : Adds stands before.taps after.taps made
-  pub begins : (other : Setting) (sub : ℕ → ℕ → List Slot) (n : ℕ) (front : ℕ → List Answer) → IsMeant (over plan library clocks other) sub own
-      → HasAnswers (over plan library clocks other) (after_calls front made) → ClockStateStands (over plan library clocks other) sub clock n front before.state
+  pub begins : (other : Setting) (sub : ℕ → ℕ → List Slot) (n : ℕ) (front : ℕ → List Answer)
+      → IsMeant (over plan library clocks other) sub own
+      → HasAnswers (over plan library clocks other) (after_calls front made)
+      → ClockStateStands (over plan library clocks other) sub clock n front before.state
       → IsBegin made (calls_from (over plan library clocks other) sub clock n total)
 
 -- the same over a shape
-abbrev pub HeardSomeOver : {T : Type 0} → (T → List Call → Type 0) → Shape → NodeClock → List Bool → (total : ℕ) → (before after : Scene T) → Type 0
-HeardSomeOver stands shape clock own total before after = HeardSome stands shape.plan.now shape.library.now shape.clocks.now clock own total before after
+abbrev pub HeardSomeOver : {T : Type 0} → (T → List Call → Type 0) → Shape → NodeClock → List Bool → (total : ℕ)
+    → (before after : Scene T) → Type 0
+HeardSomeOver stands shape clock own total before after = HeardSome stands shape.plan.now shape.library.now
+    shape.clocks.now clock own total before after
 
 -- the slots of node i in the latest segment, which had so many instants behind its first one
 abbrev pub segment_of : ClockStates → (many i : ℕ) → List Slot
 segment_of all many i =
-    segment_slots (part_at all.latest.parts.items i).slot many (samples_of all.room.left.items i many) (samples_of all.room.right.items i many)
+    segment_slots (part_at all.latest.parts.items i).slot many (samples_of all.room.left.items i many)
+    (samples_of all.room.right.items i many)
 
 -- the states of a clock, and its taps
 pub record Tapped (T : Type 0) : Type 0 where
@@ -132,27 +163,39 @@ abbrev pub tapped : {T : Type 0} → ClockState → T → Tapped T
 tapped state taps = record { state = state; taps = taps }
 
 -- a segment was made: an instant, and so many that go on as it did
-pub record SegmentMade {T : Type 0} (stands : T → List Call → Type 0) (plan : Plan) (library : Sounds) (clocks : List NodeClock) (clock : NodeClock) (own : List Bool)
+pub record SegmentMade {T : Type 0} (stands : T → List Call
+    → Type 0) (plan : Plan) (library : Sounds) (clocks : List NodeClock) (clock : NodeClock) (own : List Bool)
     (many : ℕ) (before after : Tapped T) : Type 0 where
   pub more : List Call
   pub taps : Adds stands before.taps after.taps more
-  pub run : (other : Setting) (sub : ℕ → ℕ → List Slot) (n : ℕ) (front : ℕ → List Answer) → IsMeant (over plan library clocks other) sub own
-      → HasAnswers (over plan library clocks other) (after_calls front more) → ClockStateStands (over plan library clocks other) sub clock n front before.state
-      → HasMadeInstants (over plan library clocks other) sub own clock n (suc many) (segment_of after.state.clocks many) front more after.state
+  pub run : (other : Setting) (sub : ℕ → ℕ → List Slot) (n : ℕ) (front : ℕ → List Answer)
+      → IsMeant (over plan library clocks other) sub own
+      → HasAnswers (over plan library clocks other) (after_calls front more)
+      → ClockStateStands (over plan library clocks other) sub clock n front before.state
+      → HasMadeInstants (over plan library clocks other) sub own clock n (suc many) (segment_of after.state.clocks many)
+      front more after.state
 
 -- the same over a shape
-abbrev pub SegmentRunOver : {T : Type 0} → (T → List Call → Type 0) → Shape → NodeClock → List Bool → (many : ℕ) → (old new : ClockState) → (taps_old taps_new : T) → Type 0
-SegmentRunOver stands shape clock own many old new taps_old taps_new = SegmentMade stands shape.plan.now shape.library.now shape.clocks.now clock own many (tapped old taps_old) (tapped new taps_new)
+abbrev pub SegmentRunOver : {T : Type 0} → (T → List Call → Type 0) → Shape → NodeClock → List Bool → (many : ℕ)
+    → (old new : ClockState) → (taps_old taps_new : T) → Type 0
+SegmentRunOver stands shape clock own many old new taps_old taps_new = SegmentMade stands shape.plan.now
+    shape.library.now shape.clocks.now clock own many (tapped old taps_old) (tapped new taps_new)
 
 -- memory was refused in its first instant
-pub record SegmentBroken {T : Type 0} (stands : T → List Call → Type 0) (plan : Plan) (library : Sounds) (clocks : List NodeClock) (clock : NodeClock) (own : List Bool)
+pub record SegmentBroken {T : Type 0} (stands : T → List Call
+    → Type 0) (plan : Plan) (library : Sounds) (clocks : List NodeClock) (clock : NodeClock) (own : List Bool)
     (old : ClockState) (taps_old taps_new : T) : Type 0 where
   pub made : List Call
   pub taps : Adds stands taps_old taps_new made
-  pub begins : (other : Setting) (sub : ℕ → ℕ → List Slot) (n : ℕ) (front : ℕ → List Answer) → IsMeant (over plan library clocks other) sub own
-      → HasAnswers (over plan library clocks other) (after_calls front made) → ClockStateStands (over plan library clocks other) sub clock n front old
-      → IsBegin made (calls_of (over plan library clocks other) sub clock (first_instants (over plan library clocks other) sub clock n))
+  pub begins : (other : Setting) (sub : ℕ → ℕ → List Slot) (n : ℕ) (front : ℕ → List Answer)
+      → IsMeant (over plan library clocks other) sub own
+      → HasAnswers (over plan library clocks other) (after_calls front made)
+      → ClockStateStands (over plan library clocks other) sub clock n front old
+      → IsBegin made (calls_of (over plan library clocks other) sub clock
+      (first_instants (over plan library clocks other) sub clock n))
 
 -- the same over a shape
-abbrev pub SegmentBrokenOver : {T : Type 0} → (T → List Call → Type 0) → Shape → NodeClock → List Bool → ClockState → (taps_old taps_new : T) → Type 0
-SegmentBrokenOver stands shape clock own old taps_old taps_new = SegmentBroken stands shape.plan.now shape.library.now shape.clocks.now clock own old taps_old taps_new
+abbrev pub SegmentBrokenOver : {T : Type 0} → (T → List Call → Type 0) → Shape → NodeClock → List Bool → ClockState
+    → (taps_old taps_new : T) → Type 0
+SegmentBrokenOver stands shape clock own old taps_old taps_new = SegmentBroken stands shape.plan.now shape.library.now
+    shape.clocks.now clock own old taps_old taps_new

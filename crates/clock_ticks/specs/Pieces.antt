@@ -1,12 +1,13 @@
 -- How many pieces the sinks of an engine got, sink by sink. S is the sinks' type, `told` is what they tell.
 use Rattle.std.specs.Prelude.{◌≡◌, ◌<◌, ◌≤◌, ℕ, Some, List, slice_get}
 use Rattle.std.specs.Fn.{iterate}
-use Rattle.liq_base.specs.Counts.{Rose, counted}
-use Rattle.liq_base.specs.Pieces.{SinkTold, Took}
+use Rattle.liq_base.specs.Counts.{Rose, one_more_append}
+use Rattle.liq_base.specs.Pieces.{SinkTold, TookPiece}
 
 -- the first `below` sinks took a piece each, or a part of one, and the others are as they were
 pub record GotOnePiece {S : Type 0} (told : S → SinkTold) (below : ℕ) (old new : List S) : Type 0 where
-  pub first : (k : ℕ) (before after : S) → k < below → slice_get old k ≡ Some before → slice_get new k ≡ Some after → (taken : List ℕ) × Took taken (told before) (told after)
+  pub first : (k : ℕ) (before after : S) → k < below → slice_get old k ≡ Some before → slice_get new k ≡ Some after
+      → (taken : List ℕ) × TookPiece taken (told before) (told after)
   pub others : (k : ℕ) → below ≤ k → slice_get new k ≡ slice_get old k
 
 -- some first sinks did
@@ -31,11 +32,12 @@ pub record AreKept {S : Type 0} (told : S → SinkTold) (old new : List S) : Typ
 pub record HasGot (pieces : ℕ) (old new : SinkTold) : Type 0 where
   pub name_kept : new.name ≡ old.name
   pub faults_grew : old.faults ≤ new.faults
-  pub appends_are : new.appends ≡ iterate counted pieces old.appends
+  pub appends_are : new.appends ≡ iterate one_more_append pieces old.appends
 
 -- each sink got so many
 pub record GotPieces {S : Type 0} (told : S → SinkTold) (pieces : ℕ) (old new : List S) : Type 0 where
-  pub each : (k : ℕ) (before after : S) → slice_get old k ≡ Some before → slice_get new k ≡ Some after → HasGot pieces (told before) (told after)
+  pub each : (k : ℕ) (before after : S) → slice_get old k ≡ Some before → slice_get new k ≡ Some after
+      → HasGot pieces (told before) (told after)
 
 -- each sink got at least and at most so many
 pub record GotBetween {S : Type 0} (told : S → SinkTold) (least most : ℕ) (old new : List S) : Type 0 where

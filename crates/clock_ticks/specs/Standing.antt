@@ -27,8 +27,8 @@ pub record IsClockState (plan : Plan) (library : Sounds) (clocks : List NodeCloc
 abbrev pub IsClockStateOver : Shape → ClockState → Type 0
 IsClockStateOver shape state = IsClockState shape.plan.now shape.library.now shape.clocks.now state
 
--- a clock can make instants: these are the states of the nodes, it is no sub-clock, sub-clocks nest no deeper than there are nodes, and it is
--- told of each node whether its own clock demands it of itself
+-- a clock can make instants: these are the states of the nodes, it is no sub-clock, sub-clocks nest no deeper than
+-- there are nodes, and it is told of each node whether its own clock demands it of itself
 pub record CanMake (shape : Shape) (clock : NodeClock) (own : List Bool) (state : ClockState) : Type 0 where
   pub shape_is : IsShape shape
   pub in_own : length own ≡ length shape.plan.now.nodes
@@ -36,9 +36,10 @@ pub record CanMake (shape : Shape) (clock : NodeClock) (own : List Bool) (state 
   pub levels : HasLevels shape.clocks.now clock (length shape.plan.now.nodes)
   pub state_is : IsClockStateOver shape state
 
--- they stand for the first n instants of a clock, and for as many of the sub-clocks below it as its crossfades asked for; all readers
--- have taken these answers by them
-pub record ClockStateStands (setting : Setting) (sub : ℕ → ℕ → List Slot) (clock : NodeClock) (n : ℕ) (front : ℕ → List Answer) (state : ClockState) : Type 0 where
+-- they stand for the first n instants of a clock, and for as many of the sub-clocks below it as its crossfades asked
+-- for; all readers have taken these answers by them
+pub record ClockStateStands (setting : Setting) (sub : ℕ → ℕ → List Slot) (clock : NodeClock) (n : ℕ) (front : ℕ
+    → List Answer) (state : ClockState) : Type 0 where
   pub rank : NodeClock → ℕ
   pub ran : NodeClock → ℕ
   pub fed : ℕ → ℕ

@@ -2,7 +2,7 @@
 use Rattle.std.specs.Prelude.{◌≡◌, ◌<◌, ◌+◌, ◌*◌, ℕ, Some, true, List, ◌++◌, length, slice_get, ◌⊎◌}
 use Rattle.clock_infer.specs.declared.clock_map.NodeClock.TheVariants.{Main}
 use Rattle.clock_instants.specs.Takes.{HasReader}
-use Rattle.liq_base.specs.Pieces.{HasRoom, SinkTold, Took}
+use Rattle.liq_base.specs.Pieces.{HasRoom, SinkTold, TookPiece}
 use Rattle.frame_core.specs.Calls.{Call, Answer}
 use Rattle.stream_meaning.specs.Instants.{Setting}
 use Rattle.stream_meaning.specs.Sinks.{block_length, is_wide, kind_of}
@@ -15,7 +15,8 @@ use Rattle.clock_ticks.specs.declared.fault.TickFault.TheVariants.{Write}
 
 -- an engine with a reader in its clock or below it, or with a feed, or that keeps marks
 abbrev pub HasEnds : EngineParts → Type 0
-HasEnds parts = HasReader parts.shape.plan.now parts.shape.clocks.now (Main parts.clock) ⊎ ((0 < length (feeds_of (setting_of parts) parts.clock)) ⊎ (parts.cues.keeping ≡ true))
+HasEnds parts = HasReader parts.shape.plan.now parts.shape.clocks.now (Main parts.clock)
+    ⊎ ((0 < length (feeds_of (setting_of parts) parts.clock)) ⊎ (parts.cues.keeping ≡ true))
 
 -- the length of the piece of a tick, of an output with this number and node
 abbrev pub piece_size : Setting → (sink node : ℕ) → ℕ
@@ -23,22 +24,27 @@ piece_size setting sink node = setting.plan.frame * block_length (is_wide settin
 
 -- each sink that tells its room has room for the piece of a tick
 pub record HaveTickRoom {S : Type 0} (told : S → SinkTold) (parts : EngineParts) (outs : List S) : Type 0 where
-  pub each : (k sink node : ℕ) (out : S) → slice_get (outputs_of (setting_of parts) parts.clock) k ≡ Some (sink, node) → slice_get outs k ≡ Some out
+  pub each : (k sink node : ℕ) (out : S) → slice_get (outputs_of (setting_of parts) parts.clock) k ≡ Some (sink, node)
+      → slice_get outs k ≡ Some out
       → HasRoom (told out).room (piece_size (setting_of parts) sink node)
 
 -- the same for the pieces of so many ticks
-pub record HaveTicksRoom {S : Type 0} (told : S → SinkTold) (parts : EngineParts) (outs : List S) (ticks : ℕ) : Type 0 where
-  pub each : (k sink node : ℕ) (out : S) → slice_get (outputs_of (setting_of parts) parts.clock) k ≡ Some (sink, node) → slice_get outs k ≡ Some out
+pub record HaveTicksRoom {S : Type 0} (told : S
+    → SinkTold) (parts : EngineParts) (outs : List S) (ticks : ℕ) : Type 0 where
+  pub each : (k sink node : ℕ) (out : S) → slice_get (outputs_of (setting_of parts) parts.clock) k ≡ Some (sink, node)
+      → slice_get outs k ≡ Some out
       → HasRoom (told out).room (ticks * piece_size (setting_of parts) sink node)
 
 -- each sink took one piece, that of a tick
 pub record TookTick {S : Type 0} (told : S → SinkTold) (parts : EngineParts) (old new : List S) : Type 0 where
   pub each : (k : ℕ) (before after : S) → slice_get old k ≡ Some before → slice_get new k ≡ Some after
       → (sink node : ℕ) × (slice_get (outputs_of (setting_of parts) parts.clock) k ≡ Some (sink, node))
-      × (piece : List ℕ) × (length piece ≡ piece_size (setting_of parts) sink node) × Took piece (told before) (told after)
+      × (piece : List ℕ) × (length piece ≡ piece_size (setting_of parts) sink node)
+      × TookPiece piece (told before) (told after)
 
 -- the fault is that of an output's sink, whose count of faults rose; the sinks up to it got one piece each
-pub record IsWriteFault {S : Type 0} (told : S → SinkTold) (parts : EngineParts) (old new : List S) (fault : TickFault) : Type 0 where
+pub record IsWriteFault {S : Type 0} (told : S
+    → SinkTold) (parts : EngineParts) (old new : List S) (fault : TickFault) : Type 0 where
   pub place : ℕ
   pub sink : ℕ
   pub node : ℕ
@@ -48,19 +54,25 @@ pub record IsWriteFault {S : Type 0} (told : S → SinkTold) (parts : EnginePart
   pub once : GotOnePiece told (place + 1) old new
 
 -- a tick that answers Ok has made some calls; whatever engine and taps stood for, they stand for these calls too
-pub record HasMade {S T : Type 0} (told : S → SinkTold) (taps_stand : T → List Call → Type 0) (old new : EngineParts) (outs_old outs_new : List S)
+pub record HasMade {S T : Type 0} (told : S → SinkTold) (taps_stand : T → List Call
+    → Type 0) (old new : EngineParts) (outs_old outs_new : List S)
     (taps_old taps_new : T) : Type 0 where
   pub more : List Call
   pub engine : (t : ℕ) (answers : ℕ → List Answer) → EngineStands old t answers
-      → HasTicked (EngineStands new) (setting_of old) old.clock t answers more (held_in told (outputs_of (setting_of old) old.clock) outs_old) (held_in told (outputs_of (setting_of new) new.clock) outs_new)
+      → HasTicked (EngineStands new) (setting_of old) old.clock t answers more
+      (held_in told (outputs_of (setting_of old) old.clock) outs_old)
+      (held_in told (outputs_of (setting_of new) new.clock) outs_new)
   pub taps : (calls : List Call) → taps_stand taps_old calls → taps_stand taps_new (calls ++ more)
 
--- the same of a tick that answers a fault: the calls that were made are the first ones of the tick's, each output has grown by a part of
--- its bytes, and the engine stopped in this tick
-pub record HasFailed {S T : Type 0} (told : S → SinkTold) (taps_stand : T → List Call → Type 0) (old new : EngineParts) (outs_old outs_new : List S)
+-- the same of a tick that answers a fault: the calls that were made are the first ones of the tick's, each output has
+-- grown by a part of its bytes, and the engine stopped in this tick
+pub record HasFailed {S T : Type 0} (told : S → SinkTold) (taps_stand : T → List Call
+    → Type 0) (old new : EngineParts) (outs_old outs_new : List S)
     (taps_old taps_new : T) : Type 0 where
   pub made : List Call
   pub engine : (t : ℕ) (answers : ℕ → List Answer) → EngineStands old t answers
-      → HasStopped (setting_of old) old.clock t answers made (held_in told (outputs_of (setting_of old) old.clock) outs_old) (held_in told (outputs_of (setting_of new) new.clock) outs_new)
+      → HasStopped (setting_of old) old.clock t answers made
+      (held_in told (outputs_of (setting_of old) old.clock) outs_old)
+      (held_in told (outputs_of (setting_of new) new.clock) outs_new)
   pub halted : (t : ℕ) (answers : ℕ → List Answer) → EngineStands old t answers → EngineStopped new t answers made
   pub taps : (calls : List Call) → taps_stand taps_old calls → taps_stand taps_new (calls ++ made)

@@ -11,8 +11,8 @@ use liq_base::Memory;
 use nested_instants::{ClockStates, make_instant, make_stretch};
 use node_states::WeekTime;
 
-/// What changes from instant to instant in a clock: the states of its nodes and of those in the sub-clocks below it, and the
-/// time of its next instant.
+/// What changes from instant to instant in a clock: the states of its nodes and of those in the sub-clocks below it,
+/// and the time of its next instant.
 #[derive(Drop)]
 pub struct ClockState {
     pub clocks: ClockStates,
@@ -22,9 +22,9 @@ pub struct ClockState {
     pub segments: u64,
 }
 
-/// Makes a segment of a clock: an instant, and behind it instants that go on as it did, at most so many; and answers how many
-/// these are. `own` tells of each node whether its own clock demands it of itself. Whatever instants the states stood for, they
-/// stand for those of the segment too.
+/// Makes a segment of a clock: an instant, and behind it instants that go on as it did, at most so many; and answers
+/// how many these are. `own` tells of each node whether its own clock demands it of itself. Whatever instants the
+/// states stood for, they stand for those of the segment too.
 pub fn make_segment<T: Taps>(
     shape: &Shape<'_>,
     clock: NodeClock,
@@ -40,7 +40,8 @@ pub fn make_segment<T: Taps>(
     ensures buffers { T.buffers taps.new ≡ T.buffers taps.old }
     ensures same { T.same taps.old taps.new }
     ensures within { IfOk result (λ many. many ≤ most) }
-    ensures run { IfOk result (λ many. SegmentRunOver T.stands shape.now clock own.now many state.old state.new taps.old taps.new) }
+    ensures run { IfOk result
+        (λ many. SegmentRunOver T.stands shape.now clock own.now many state.old state.new taps.old taps.new) }
     ensures broken { OnErr result (SegmentBrokenOver T.stands shape.now clock own.now state.old taps.old taps.new) }
     ensures reads { OnErr result (HasReader shape.now.plan.now shape.now.clocks.now clock) }
 {

@@ -41,7 +41,8 @@ pub struct Cues {
 pub fn cues_of(alloc: Global, count: usize) -> Result<Cues, Memory>
     ensures keeping { IfOk result (λ cues. cues.keeping ≡ false) }
     ensures size { IfOk result (λ cues. length cues.lists.items ≡ count) }
-    ensures none { IfOk result (λ cues. (k : ℕ) (list : Marks) → slice_get cues.lists.items k ≡ Some list → list.marks.items ≡ []) }
+    ensures none { IfOk result (λ cues. (k : ℕ) (list : Marks) → slice_get cues.lists.items k ≡ Some list
+        → list.marks.items ≡ []) }
 {
     let mut lists = Vec::with_capacity(alloc, count)?;
     for _ in 0..count {
@@ -60,7 +61,8 @@ pub fn cues_of(alloc: Global, count: usize) -> Result<Cues, Memory>
 pub fn begin_cues(cues: &mut Cues)
     ensures keeping { cues.new.keeping ≡ cues.old.keeping }
     ensures size { length cues.new.lists.items ≡ length cues.old.lists.items }
-    ensures marked { (k : ℕ) (old new : Marks) → slice_get cues.old.lists.items k ≡ Some old → slice_get cues.new.lists.items k ≡ Some new → HasMarked [] old new }
+    ensures marked { (k : ℕ) (old new : Marks) → slice_get cues.old.lists.items k ≡ Some old
+        → slice_get cues.new.lists.items k ≡ Some new → HasMarked [] old new }
 {
     for k in 0..cues.lists.len() {
         begin_list(&mut cues.lists[k]);
@@ -74,8 +76,8 @@ fn begin_list(list: &mut CueList)
     list.before = list.marks.len();
 }
 
-/// Where marks are kept, each output gets that of its node at the latest instant, which is this one, if a track begins there. Where
-/// memory is refused some got theirs.
+/// Where marks are kept, each output gets that of its node at the latest instant, which is this one, if a track begins
+/// there. Where memory is refused some got theirs.
 pub fn mark_all(
     cues: &mut Cues,
     ports: &[Port],
@@ -85,9 +87,13 @@ pub fn mark_all(
     requires sizes { length cues.old.lists.items ≡ length ports.now }
     ensures keeping { cues.new.keeping ≡ cues.old.keeping }
     ensures size { length cues.new.lists.items ≡ length cues.old.lists.items }
-    ensures grown { (k : ℕ) (old new : Marks) → slice_get cues.old.lists.items k ≡ Some old → slice_get cues.new.lists.items k ≡ Some new → HasGrown old new }
-    ensures kept { OnOk result ((k : ℕ) (port : OutputPort) (old new : Marks) → slice_get ports.now k ≡ Some port → slice_get cues.old.lists.items k ≡ Some old
-        → slice_get cues.new.lists.items k ≡ Some new → HasKept (marks_if cues.old.keeping at ((part_at clocks.now.latest.parts.items port.node).slot ∷ [])) old new) }
+    ensures grown { (k : ℕ) (old new : Marks) → slice_get cues.old.lists.items k ≡ Some old
+        → slice_get cues.new.lists.items k ≡ Some new → HasGrown old new }
+    ensures kept { OnOk result ((k : ℕ) (port : OutputPort) (old new : Marks) → slice_get ports.now k ≡ Some port
+        → slice_get cues.old.lists.items k ≡ Some old
+        → slice_get cues.new.lists.items k ≡ Some new
+        → HasKept (marks_if cues.old.keeping at ((part_at clocks.now.latest.parts.items port.node).slot
+        ∷ [])) old new) }
     ensures memory { OnErr result (cues.old.keeping ≡ true) }
 {
     if !cues.keeping {
@@ -105,9 +111,12 @@ fn mark_lists(
 ) -> Result<(), Memory>
     requires sizes { length lists.old.items ≡ length ports.now }
     ensures size { length lists.new.items ≡ length lists.old.items }
-    ensures grown { (k : ℕ) (old new : Marks) → slice_get lists.old.items k ≡ Some old → slice_get lists.new.items k ≡ Some new → HasGrown old new }
-    ensures kept { OnOk result ((k : ℕ) (port : OutputPort) (old new : Marks) → slice_get ports.now k ≡ Some port → slice_get lists.old.items k ≡ Some old
-        → slice_get lists.new.items k ≡ Some new → HasKept (marks_of at ((part_at clocks.now.latest.parts.items port.node).slot ∷ [])) old new) }
+    ensures grown { (k : ℕ) (old new : Marks) → slice_get lists.old.items k ≡ Some old
+        → slice_get lists.new.items k ≡ Some new → HasGrown old new }
+    ensures kept { OnOk result ((k : ℕ) (port : OutputPort) (old new : Marks) → slice_get ports.now k ≡ Some port
+        → slice_get lists.old.items k ≡ Some old
+        → slice_get lists.new.items k ≡ Some new
+        → HasKept (marks_of at ((part_at clocks.now.latest.parts.items port.node).slot ∷ [])) old new) }
 {
     for k in 0..ports.len() {
         mark_list(

@@ -62,8 +62,8 @@ pub struct EngineParts<'a> {
     pub stopped: Option<TickFault>,
 }
 
-/// The engine of one main clock, with the sinks of its outputs, in sink order. Contracts see an `Engine`: its parts and the list
-/// of its sinks. Each one is whole: its parts fit together, and it has a sink for each output of the clock.
+/// The engine of one main clock, with the sinks of its outputs, in sink order. Contracts see an `Engine`: its parts and
+/// the list of its sinks. Each one is whole: its parts fit together, and it has a sink for each output of the clock.
 pub struct ClockEngine<'a, O> {
     parts: EngineParts<'a>,
     outs: Vec<O>,
@@ -96,7 +96,13 @@ fn make_parts<'a>(
     requires library { IsLibrary shape.library.now }
     requires leaves { length shape.library.now.leaves ≡ length shape.plan.now.nodes }
     ensures parts { IfOk result AreParts }
-    ensures setting { IfOk result (λ parts. setting_of parts ≡ record { plan = shape.entry.plan.now; library = shape.entry.library.now; clocks = shape.entry.clocks.now; start = start.second; answers = λ buffer. [] }) }
+    ensures setting { IfOk result (λ parts. setting_of parts ≡ record {
+      plan = shape.entry.plan.now;
+      library = shape.entry.library.now;
+      clocks = shape.entry.clocks.now;
+      start = start.second;
+      answers = λ buffer. [];
+    }) }
     ensures clock { IfOk result (λ parts. parts.clock ≡ clock) }
     ensures stands { IfOk result (λ parts. EngineStands parts 0 (λ buffer. [])) }
     ensures keeps { IfOk result (λ parts. parts.cues.keeping ≡ false) }
@@ -136,12 +142,16 @@ fn run_parts<T: Taps>(parts: &mut EngineParts<'_>, taps: &mut T) -> Result<(), M
     ensures feeds { map feed_of parts.new.feeds.items ≡ map feed_of parts.old.feeds.items }
     ensures buffers { T.buffers taps.new ≡ T.buffers taps.old }
     ensures same { T.same taps.old taps.new }
-    ensures heard { OnOk result (HeardOver T.stands parts.old.shape (InMain parts.old.clock) parts.old.own.items parts.old.shape.plan.now.frame
+    ensures heard { OnOk result
+        (HeardOver T.stands parts.old.shape (InMain parts.old.clock) parts.old.own.items parts.old.shape.plan.now.frame
         (scene_of parts.old taps.old) (scene_of parts.new taps.new)) }
-    ensures stopped { OnErr result (HeardSomeOver T.stands parts.old.shape (InMain parts.old.clock) parts.old.own.items parts.old.shape.plan.now.frame
+    ensures stopped { OnErr result
+        (HeardSomeOver T.stands parts.old.shape (InMain parts.old.clock) parts.old.own.items
+        parts.old.shape.plan.now.frame
         (scene_of parts.old taps.old) (scene_of parts.new taps.new)) }
     ensures cues { parts.new.cues.keeping ≡ parts.old.cues.keeping }
-    ensures needs { OnErr result (HasReader parts.old.shape.plan.now parts.old.shape.clocks.now (InMain parts.old.clock) ⊎ (parts.old.cues.keeping ≡ true)) }
+    ensures needs { OnErr result (HasReader parts.old.shape.plan.now parts.old.shape.clocks.now (InMain parts.old.clock)
+        ⊎ (parts.old.cues.keeping ≡ true)) }
 {
     let clock = NodeClock::Main(parts.clock);
     let start = parts.ticks * parts.shape.plan.frame as u64;
@@ -164,18 +174,23 @@ fn run_or_stop<T: Taps>(parts: &mut EngineParts<'_>, taps: &mut T) -> Result<(),
     requires few { parts.old.ticks < 1000000000 }
     requires buffers { T.buffers taps.old ≡ length parts.old.shape.plan.now.buffers }
     ensures kept { OnOk result (parts.new ≡ after_tick parts.old parts.new parts.old.ticks parts.old.stopped) }
-    ensures ended { IfErr result (λ fault. (fault ≡ OutOfMemory) × (parts.new ≡ after_tick parts.old parts.new parts.old.ticks (Some OutOfMemory))) }
+    ensures ended { IfErr result (λ fault. (fault ≡ OutOfMemory)
+        × (parts.new ≡ after_tick parts.old parts.new parts.old.ticks (Some OutOfMemory))) }
     ensures state { IsClockStateOver parts.old.shape parts.new.state }
     ensures frames { All (λ feed. length feed.frame ≡ parts.old.shape.plan.now.frame) parts.new.feeds.items }
     ensures feeds { map feed_of parts.new.feeds.items ≡ map feed_of parts.old.feeds.items }
     ensures buffers { T.buffers taps.new ≡ T.buffers taps.old }
     ensures same { T.same taps.old taps.new }
-    ensures heard { OnOk result (HeardOver T.stands parts.old.shape (InMain parts.old.clock) parts.old.own.items parts.old.shape.plan.now.frame
+    ensures heard { OnOk result
+        (HeardOver T.stands parts.old.shape (InMain parts.old.clock) parts.old.own.items parts.old.shape.plan.now.frame
         (scene_of parts.old taps.old) (scene_of parts.new taps.new)) }
-    ensures stopped { OnErr result (HeardSomeOver T.stands parts.old.shape (InMain parts.old.clock) parts.old.own.items parts.old.shape.plan.now.frame
+    ensures stopped { OnErr result
+        (HeardSomeOver T.stands parts.old.shape (InMain parts.old.clock) parts.old.own.items
+        parts.old.shape.plan.now.frame
         (scene_of parts.old taps.old) (scene_of parts.new taps.new)) }
     ensures cues { parts.new.cues.keeping ≡ parts.old.cues.keeping }
-    ensures needs { OnErr result (HasReader parts.old.shape.plan.now parts.old.shape.clocks.now (InMain parts.old.clock) ⊎ (parts.old.cues.keeping ≡ true)) }
+    ensures needs { OnErr result (HasReader parts.old.shape.plan.now parts.old.shape.clocks.now (InMain parts.old.clock)
+        ⊎ (parts.old.cues.keeping ≡ true)) }
 {
     match run_parts(parts, taps) {
         Ok(()) => Ok(()),
@@ -194,10 +209,12 @@ fn give_or_stop<T: Taps>(
 ) -> Result<(), TickFault>
     requires { All (λ feed. feed.buffer < T.buffers taps.old) parts.old.feeds.items }
     ensures kept { OnOk result (parts.new ≡ parts.old) }
-    ensures ended { IfErr result (λ fault. (fault ≡ OutOfMemory) × (parts.new ≡ after_tick parts.old parts.old parts.old.ticks (Some OutOfMemory))) }
+    ensures ended { IfErr result (λ fault. (fault ≡ OutOfMemory)
+        × (parts.new ≡ after_tick parts.old parts.old parts.old.ticks (Some OutOfMemory))) }
     ensures buffers { T.buffers taps.new ≡ T.buffers taps.old }
     ensures same { T.same taps.old taps.new }
-    ensures given { OnOk result (HaveGiven T.stands parts.old.feeds.items (length parts.old.feeds.items) taps.old taps.new) }
+    ensures given { OnOk result
+        (HaveGiven T.stands parts.old.feeds.items (length parts.old.feeds.items) taps.old taps.new) }
     ensures stopped { OnErr result (HaveGivenSome T.stands parts.old.feeds.items taps.old taps.new) }
     ensures feeds { OnErr result (0 < length parts.old.feeds.items) }
 {
@@ -223,7 +240,8 @@ fn whole_gaps(port: &Port, stopped: Option<TickFault>) -> u64
 
 impl<'a, O: Sink> ClockEngine<'a, O> {
     /// An engine of a running main clock that made no tick: over a plan, its clocks, its
-    /// files, and one sink for each output of the clock, in sink order. It keeps no marks. Where memory is refused the sinks come back.
+    /// files, and one sink for each output of the clock, in sink order. It keeps no marks. Where memory is refused the
+    /// sinks come back.
     pub fn new(
         alloc: Global,
         plan: &'a Plan,
@@ -237,8 +255,20 @@ impl<'a, O: Sink> ClockEngine<'a, O> {
         requires clocks { IsClockMap plan.now clocks.now }
         requires library { IsLibrary library.now }
         requires leaves { length library.now.leaves ≡ length plan.now.nodes }
-        requires outs { length outs.items ≡ length (outputs_of (record { plan = plan.now; library = library.now; clocks = clocks.now.of; start = start.second; answers = λ buffer. [] }) clock) }
-        ensures setting { IfOk result (λ engine. setting_of engine.parts ≡ record { plan = plan.now; library = library.now; clocks = clocks.now.of; start = start.second; answers = λ buffer. [] }) }
+        requires outs { length outs.items ≡ length (outputs_of (record {
+          plan = plan.now;
+          library = library.now;
+          clocks = clocks.now.of;
+          start = start.second;
+          answers = λ buffer. [];
+        }) clock) }
+        ensures setting { IfOk result (λ engine. setting_of engine.parts ≡ record {
+          plan = plan.now;
+          library = library.now;
+          clocks = clocks.now.of;
+          start = start.second;
+          answers = λ buffer. [];
+        }) }
         ensures clock { IfOk result (λ engine. engine.parts.clock ≡ clock) }
         ensures stands { IfOk result (λ engine. EngineStands engine.parts 0 (λ buffer. [])) }
         ensures outs { IfOk result (λ engine. engine.outs ≡ outs.items) }
@@ -256,8 +286,8 @@ impl<'a, O: Sink> ClockEngine<'a, O> {
         }
     }
 
-    /// Makes a tick: its readers take from the taps, each output of the clock takes its bytes, in one piece and in sink order,
-    /// and then each feed gives its chunk, in sink order. A fault stops the engine.
+    /// Makes a tick: its readers take from the taps, each output of the clock takes its bytes, in one piece and in sink
+    /// order, and then each feed gives its chunk, in sink order. A fault stops the engine.
     pub fn tick<T: Taps>(&mut self, alloc: Global, taps: &mut T) -> Result<(), TickFault>
         requires runs { self.old.parts.stopped ≡ None }
         requires few { self.old.parts.ticks < 1000000000 }
@@ -267,14 +297,18 @@ impl<'a, O: Sink> ClockEngine<'a, O> {
         ensures outs { length self.new.outs ≡ length self.old.outs }
         ensures setting { setting_of self.new.parts ≡ setting_of self.old.parts }
         ensures clock { self.new.parts.clock ≡ self.old.parts.clock }
-        ensures room { OnOk result ((ticks : ℕ) → HaveTicksRoom O.told self.old.parts self.old.outs (ticks + 1) → HaveTicksRoom O.told self.new.parts self.new.outs ticks) }
-        ensures ticked { OnOk result (HasMade O.told T.stands self.old.parts self.new.parts self.old.outs self.new.outs taps.old taps.new) }
-        ensures stopped { OnErr result (HasFailed O.told T.stands self.old.parts self.new.parts self.old.outs self.new.outs taps.old taps.new) }
+        ensures room { OnOk result ((ticks : ℕ) → HaveTicksRoom O.told self.old.parts self.old.outs (ticks + 1)
+            → HaveTicksRoom O.told self.new.parts self.new.outs ticks) }
+        ensures ticked { OnOk result
+            (HasMade O.told T.stands self.old.parts self.new.parts self.old.outs self.new.outs taps.old taps.new) }
+        ensures stopped { OnErr result
+            (HasFailed O.told T.stands self.old.parts self.new.parts self.old.outs self.new.outs taps.old taps.new) }
         ensures taps { T.same taps.old taps.new }
         ensures buffers { T.buffers taps.new ≡ T.buffers taps.old }
         ensures took { OnOk result (TookTick O.told self.old.parts self.old.outs self.new.outs) }
         ensures part { OnErr result (GotSomePieces O.told self.old.outs self.new.outs) }
-        ensures cause { IfErr result (λ fault. (sink : ℕ) → fault ≡ Write sink → IsWriteFault O.told self.old.parts self.old.outs self.new.outs fault) }
+        ensures cause { IfErr result (λ fault. (sink : ℕ) → fault ≡ Write sink
+            → IsWriteFault O.told self.old.parts self.old.outs self.new.outs fault) }
         ensures memory { IfErr result (λ fault. fault ≡ OutOfMemory → HasEnds self.old.parts) }
         ensures fault { IfErr result (λ fault. self.new.parts.stopped ≡ Some fault) }
         ensures runs { OnOk result (self.new.parts.stopped ≡ None) }
@@ -301,19 +335,24 @@ impl<'a, O: Sink> ClockEngine<'a, O> {
         ensures setting { setting_of self.new.parts ≡ setting_of self.old.parts }
         ensures clock { self.new.parts.clock ≡ self.old.parts.clock }
         ensures stopped { self.new.parts.stopped ≡ self.old.parts.stopped }
-        ensures stands { (ticks : ℕ) (answers : ℕ → List Answer) → EngineStands self.old.parts ticks answers → EngineStands self.new.parts ticks answers }
+        ensures stands { (ticks : ℕ) (answers : ℕ → List Answer) → EngineStands self.old.parts ticks answers
+            → EngineStands self.new.parts ticks answers }
     {
         self.parts.cues.keeping = true;
     }
 
-    /// At how many instants of the ticks made the node of this output, which is one of the clock, offered nothing. A tick
-    /// that stopped the engine is not among them.
+    /// At how many instants of the ticks made the node of this output, which is one of the clock, offered nothing. A
+    /// tick that stopped the engine is not among them.
     pub fn gaps(&self, sink: u32) -> u64
         requires output { (node : ℕ) × IsOutput (setting_of self.now.parts) self.now.parts.clock sink node }
-        ensures made { (ticks : ℕ) (answers rest : ℕ → List Answer) (node : ℕ) → EngineStands self.now.parts ticks answers
-            → IsOutput (setting_of self.now.parts) self.now.parts.clock sink node → result ≡ gaps (with_rest (setting_of self.now.parts) answers rest) node ticks }
-        ensures stopped { (ticks : ℕ) (answers rest : ℕ → List Answer) (made : List Call) (node : ℕ) → EngineStopped self.now.parts ticks answers made
-            → IsOutput (setting_of self.now.parts) self.now.parts.clock sink node → result ≡ gaps (with_rest (setting_of self.now.parts) answers rest) node ticks }
+        ensures made { (ticks : ℕ) (answers rest : ℕ → List Answer) (node : ℕ)
+            → EngineStands self.now.parts ticks answers
+            → IsOutput (setting_of self.now.parts) self.now.parts.clock sink node
+            → result ≡ gaps (with_rest (setting_of self.now.parts) answers rest) node ticks }
+        ensures stopped { (ticks : ℕ) (answers rest : ℕ → List Answer) (made : List Call) (node : ℕ)
+            → EngineStopped self.now.parts ticks answers made
+            → IsOutput (setting_of self.now.parts) self.now.parts.clock sink node
+            → result ≡ gaps (with_rest (setting_of self.now.parts) answers rest) node ticks }
     {
         for port in &self.parts.ports {
             if port.sink == sink {
@@ -323,14 +362,17 @@ impl<'a, O: Sink> ClockEngine<'a, O> {
         0
     }
 
-    /// The marks of this output, which is one of the clock: each instant of the ticks made at which its node offered a cell that
-    /// begins a track, and its title. A tick that stopped the engine is not among them. An engine that keeps no marks has none.
+    /// The marks of this output, which is one of the clock: each instant of the ticks made at which its node offered a
+    /// cell that begins a track, and its title. A tick that stopped the engine is not among them. An engine that keeps
+    /// no marks has none.
     pub fn cues(&self, sink: u32) -> &[CueMark]
         requires output { (node : ℕ) × IsOutput (setting_of self.now.parts) self.now.parts.clock sink node }
-        ensures made { (ticks : ℕ) (answers rest : ℕ → List Answer) (node : ℕ) → EngineStands self.now.parts ticks answers
+        ensures made { (ticks : ℕ) (answers rest : ℕ → List Answer) (node : ℕ)
+            → EngineStands self.now.parts ticks answers
             → self.now.parts.cues.keeping ≡ true → IsOutput (setting_of self.now.parts) self.now.parts.clock sink node
             → result.now ≡ map mark_of (cues (with_rest (setting_of self.now.parts) answers rest) node ticks) }
-        ensures stopped { (ticks : ℕ) (answers rest : ℕ → List Answer) (made : List Call) (node : ℕ) → EngineStopped self.now.parts ticks answers made
+        ensures stopped { (ticks : ℕ) (answers rest : ℕ → List Answer) (made : List Call) (node : ℕ)
+            → EngineStopped self.now.parts ticks answers made
             → self.now.parts.cues.keeping ≡ true → IsOutput (setting_of self.now.parts) self.now.parts.clock sink node
             → result.now ≡ map mark_of (cues (with_rest (setting_of self.now.parts) answers rest) node ticks) }
         ensures none { self.now.parts.cues.keeping ≡ false → result.now ≡ [] }
@@ -378,8 +420,9 @@ impl<'a, O> ClockEngine<'a, O> {
         self.parts.ticks
     }
 
-    /// How many cells the reader that is this node wants more at the next tick, where it is one of the main clock; nothing of
-    /// another node. Who asks may go by it, and is told by the answers of the takes whether it was so: no clause says it.
+    /// How many cells the reader that is this node wants more at the next tick, where it is one of the main clock;
+    /// nothing of another node. Who asks may go by it, and is told by the answers of the takes whether it was so: no
+    /// clause says it.
     pub fn missing(&self, node: u32) -> Option<u64> {
         let of = *self.parts.shape.clocks.get(node as usize)?;
         if !is_main(of, self.parts.clock) {
@@ -391,8 +434,8 @@ impl<'a, O> ClockEngine<'a, O> {
         }
     }
 
-    /// How many segments were made: an instant of the clock each, and behind it a stretch of instants that were made at once, as they
-    /// go on as it did.
+    /// How many segments were made: an instant of the clock each, and behind it a stretch of instants that were made at
+    /// once, as they go on as it did.
     pub fn segments(&self) -> u64
         ensures { result ≡ self.now.parts.state.segments }
     {

@@ -9,8 +9,8 @@ use clock_outputs::{FeedPort, Port};
 use nested_instants::ClockStates;
 use stream_meaning::slot_of;
 
-/// Each output takes the slots of its node in the latest segment, which had so many instants behind its first one. There are
-/// `nodes` nodes.
+/// Each output takes the slots of its node in the latest segment, which had so many instants behind its first one.
+/// There are `nodes` nodes.
 pub fn hear_all(ports: &mut Vec<Port>, clocks: &ClockStates, many: u32, nodes: usize)
     requires stretch_room { HasStretchRoom nodes clocks.now.room }
     requires short { many ≤ 2048 }
@@ -40,15 +40,16 @@ fn hear_one(port: &mut Port, clocks: &ClockStates, many: u32, nodes: usize)
     );
 }
 
-/// Each feed takes the slots of its node in the latest segment, which began at a place of the tick, and had so many instants
-/// behind its first one. There are `nodes` nodes.
+/// Each feed takes the slots of its node in the latest segment, which began at a place of the tick, and had so many
+/// instants behind its first one. There are `nodes` nodes.
 pub fn feed_all(feeds: &mut Vec<FeedPort>, at: u32, clocks: &ClockStates, many: u32, nodes: usize)
     requires stretch_room { HasStretchRoom nodes clocks.now.room }
     requires short { many ≤ 2048 }
     requires within { All (λ feed. feed.node < nodes) feeds.old.items }
     requires there { All (λ feed. at + suc many ≤ length feed.frame) feeds.old.items }
     requires fits { at + suc many < 2 ^ 32 }
-    ensures { feeds.new.items ≡ map (λ feed. with_slots_from at (segment_of clocks.now many feed.node) feed) feeds.old.items }
+    ensures { feeds.new.items
+        ≡ map (λ feed. with_slots_from at (segment_of clocks.now many feed.node) feed) feeds.old.items }
 {
     for k in 0..feeds.len() {
         feed_one(&mut feeds[k], at, clocks, many, nodes);

@@ -21,8 +21,10 @@ pub fn ports_of(alloc: Global, shape: &Shape<'_>, clock: u32) -> Result<Vec<Port
     requires frame { shape.now.plan.now.frame ≤ 65536 }
     requires sinks { All (λ sink. sink_node sink < length shape.now.plan.now.nodes) shape.now.plan.now.sinks }
     requires few { length shape.now.plan.now.sinks < 2 ^ 32 }
-    ensures outputs { IfOk result (λ ports. (other : Setting) → map output_of ports.items ≡ outputs_of (setting_over shape.now other) clock) }
-    ensures new { IfOk result (λ ports. (other : Setting) → All (IsNewPort (setting_over shape.now other)) ports.items) }
+    ensures outputs { IfOk result (λ ports. (other : Setting)
+        → map output_of ports.items ≡ outputs_of (setting_over shape.now other) clock) }
+    ensures new { IfOk result (λ ports. (other : Setting)
+        → All (IsNewPort (setting_over shape.now other)) ports.items) }
 {
     let sinks = shape.plan.sinks.as_slice();
     let mut ports = Vec::with_capacity(alloc, sinks.len())?;
@@ -71,7 +73,8 @@ pub fn feeds_of(alloc: Global, shape: &Shape<'_>, clock: u32) -> Result<Vec<Feed
     requires in_clocks { length shape.now.clocks.now ≡ length shape.now.plan.now.nodes }
     requires frame { shape.now.plan.now.frame ≤ 65536 }
     requires sinks { All (λ sink. sink_node sink < length shape.now.plan.now.nodes) shape.now.plan.now.sinks }
-    ensures feeds { IfOk result (λ feeds. (other : Setting) → map feed_of feeds.items ≡ feeds_of (setting_over shape.now other) clock) }
+    ensures feeds { IfOk result (λ feeds. (other : Setting)
+        → map feed_of feeds.items ≡ feeds_of (setting_over shape.now other) clock) }
     ensures new { IfOk result (λ feeds. All (IsNewFeed shape.now.plan.now.frame) feeds.items) }
 {
     let sinks = shape.plan.sinks.as_slice();

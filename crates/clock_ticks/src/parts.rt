@@ -25,8 +25,8 @@ use plan_core::{Node, Plan, SinkPlan};
 use std::alloc::Global;
 use stream_meaning::Part;
 
-/// The states of all clocks before the first instant, where this is the time of the first one, and those of nodes that the main clock of this
-/// number does not drive are idle.
+/// The states of all clocks before the first instant, where this is the time of the first one, and those of nodes that
+/// the main clock of this number does not drive are idle.
 pub fn clocks_of(
     alloc: Global,
     shape: &Shape<'_>,
@@ -40,10 +40,13 @@ pub fn clocks_of(
     requires rate { time.rate ≡ shape.now.plan.now.rate }
     requires frame { time.frame ≡ shape.now.plan.now.frame }
     ensures clocks { IfOk result (AreClockStatesOver shape.now) }
-    ensures states { IfOk result (λ all. AreNewStates shape.now.plan.now shape.now.clocks.now clock (length shape.now.plan.now.nodes) all.states.items) }
+    ensures states { IfOk result
+        (λ all. AreNewStates shape.now.plan.now shape.now.clocks.now clock (length shape.now.plan.now.nodes)
+        all.states.items) }
     ensures times { IfOk result (λ all. (k : ℕ) (one : Time) → slice_get all.times.items k ≡ Some one → one ≡ time) }
     ensures none { IfOk result (λ all. (k : ℕ) → rest_at all k ≡ 0) }
-    ensures laned { IfOk result (λ all. (i : ℕ) (state : State) → slice_get all.states.items i ≡ Some state → (state ≡ Idle → ⊥) → laned_at all i) }
+    ensures laned { IfOk result (λ all. (i : ℕ) (state : State) → slice_get all.states.items i ≡ Some state
+        → (state ≡ Idle → ⊥) → laned_at all i) }
 {
     let states = states_of(alloc, shape, clock)?;
     let times = times_of(alloc, time, states.len())?;
@@ -78,12 +81,14 @@ fn latest_of(alloc: Global, shape: &Shape<'_>, clock: u32) -> Result<Latest, Mem
     })
 }
 
-// The states of the nodes before the first instant, where those that the main clock of this number does not drive are idle.
+// The states of the nodes before the first instant, where those that the main clock of this number does not drive are
+// idle.
 fn states_of(alloc: Global, shape: &Shape<'_>, clock: u32) -> Result<Vec<NodeState>, Memory>
     requires rate { 0 < shape.now.plan.now.rate }
     requires nodes { AreNodes shape.now.plan.now.nodes }
     requires few { length shape.now.plan.now.nodes ≤ MAX_NODES }
-    ensures { IfOk result (λ states. AreNewStates shape.now.plan.now shape.now.clocks.now clock (length shape.now.plan.now.nodes) states.items) }
+    ensures { IfOk result (λ states. AreNewStates shape.now.plan.now shape.now.clocks.now clock
+        (length shape.now.plan.now.nodes) states.items) }
 {
     let nodes = shape.plan.nodes.as_slice();
     let mut states = Vec::with_capacity(alloc, nodes.len())?;
@@ -154,8 +159,8 @@ fn state_of(
     Ok(NodeState::Idle)
 }
 
-// Whether a main clock drives node i, which lies in it or in a sub-clock below it. It goes up by as many clocks as there are
-// nodes, which is more than nest in any plan.
+// Whether a main clock drives node i, which lies in it or in a sub-clock below it. It goes up by as many clocks as
+// there are nodes, which is more than nest in any plan.
 fn is_driven(clocks: &[NodeClock], clock: u32, i: u32) -> bool
     ensures { result ≡ false → (rank : ℕ) → IsUnder clocks.now (InMain clock) rank i → ⊥ }
 {
@@ -195,7 +200,8 @@ fn demand_roots(shape: &Shape<'_>, own: &mut [bool])
     requires sinks { All (λ sink. sink_node sink < length own.old) shape.now.plan.now.sinks }
     requires none { (i : ℕ) → slice_index_or own.old i false ≡ false }
     ensures { (other : Setting) (i : ℕ) → i < length own.old
-        → slice_index_or own.new i false ≡ is_root (setting_over shape.now other) (slice_index_or shape.now.clocks.now i (InMain 0)) i }
+        → slice_index_or own.new i false
+        ≡ is_root (setting_over shape.now other) (slice_index_or shape.now.clocks.now i (InMain 0)) i }
 {
     demand_sinks(shape.plan.sinks.as_slice(), own);
     keep_roots(shape, own);
@@ -204,7 +210,8 @@ fn demand_roots(shape: &Shape<'_>, own: &mut [bool])
 // Demands the nodes of sinks.
 fn demand_sinks(sinks: &[SinkPlan], demanded: &mut [bool])
     requires { All (λ sink. sink_node sink < length demanded.old) sinks.now }
-    ensures { (i : ℕ) → slice_index_or demanded.new i false ≡ (slice_index_or demanded.old i false || list_any (λ sink. nat_eq (sink_node sink) i) sinks.now) }
+    ensures { (i : ℕ) → slice_index_or demanded.new i false
+        ≡ (slice_index_or demanded.old i false || list_any (λ sink. nat_eq (sink_node sink) i) sinks.now) }
 {
     for sink in sinks {
         demanded[node_of(sink) as usize] = true;
@@ -214,9 +221,11 @@ fn demand_sinks(sinks: &[SinkPlan], demanded: &mut [bool])
 // Where the nodes of sinks are demanded, demands those that each node's own clock demands of itself.
 fn keep_roots(shape: &Shape<'_>, own: &mut [bool])
     requires in_clocks { length shape.now.clocks.now ≡ length own.old }
-    requires demanded { (i : ℕ) → slice_index_or own.old i false ≡ list_any (λ sink. nat_eq (sink_node sink) i) shape.now.plan.now.sinks }
+    requires demanded { (i : ℕ) → slice_index_or own.old i false
+        ≡ list_any (λ sink. nat_eq (sink_node sink) i) shape.now.plan.now.sinks }
     ensures { (other : Setting) (i : ℕ) → i < length own.old
-        → slice_index_or own.new i false ≡ is_root (setting_over shape.now other) (slice_index_or shape.now.clocks.now i (InMain 0)) i }
+        → slice_index_or own.new i false
+        ≡ is_root (setting_over shape.now other) (slice_index_or shape.now.clocks.now i (InMain 0)) i }
 {
     for i in 0..shape.clocks.len() {
         own[i] = is_own_root(shape, shape.clocks[i], i, own[i]);

@@ -14,8 +14,8 @@ use frame_core::Taps;
 use liq_base::Memory;
 use op_mix::MAX_STRETCH;
 
-/// Makes the instants of a tick of a clock, segment by segment, and lets its outputs and feeds hear their nodes; its first
-/// instant is `start`. Where memory is refused some of the takes of the tick were made, from the first on.
+/// Makes the instants of a tick of a clock, segment by segment, and lets its outputs and feeds hear their nodes; its
+/// first instant is `start`. Where memory is refused some of the takes of the tick were made, from the first on.
 pub fn run_tick<T: Taps>(
     shape: &Shape<'_>,
     clock: NodeClock,
@@ -37,9 +37,11 @@ pub fn run_tick<T: Taps>(
     ensures buffers { T.buffers taps.new ≡ T.buffers taps.old }
     ensures same { T.same taps.old taps.new }
     ensures heard { OnOk result (HeardOver T.stands shape.now clock own.now shape.now.plan.now.frame
-        (scene state.old ports.old.items feeds.old.items cues.old start taps.old) (scene state.new ports.new.items feeds.new.items cues.new start taps.new)) }
+        (scene state.old ports.old.items feeds.old.items cues.old start taps.old)
+        (scene state.new ports.new.items feeds.new.items cues.new start taps.new)) }
     ensures stopped { OnErr result (HeardSomeOver T.stands shape.now clock own.now shape.now.plan.now.frame
-        (scene state.old ports.old.items feeds.old.items cues.old start taps.old) (scene state.new ports.new.items feeds.new.items cues.new start taps.new)) }
+        (scene state.old ports.old.items feeds.old.items cues.old start taps.old)
+        (scene state.new ports.new.items feeds.new.items cues.new start taps.new)) }
     ensures needs { OnErr result (HasReader shape.now.plan.now shape.now.clocks.now clock ⊎ (cues.old.keeping ≡ true)) }
 {
     let frame = shape.plan.frame;

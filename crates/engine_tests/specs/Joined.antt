@@ -16,7 +16,8 @@ mono_node op children = record { op = op; kind = Mono; children = children }
 
 -- a file, a reader with zeros behind it, and the second clock over both
 abbrev pub joined_nodes : List Node
-joined_nodes = mono_node (Single []) [] ∷ mono_node (Buffer 0) [] ∷ mono_node (Blank 0) [] ∷ mono_node (Fallback false) (1 ∷ 2 ∷ []) ∷ mono_node (Clock []) (3 ∷ []) ∷ []
+joined_nodes = mono_node (Single []) [] ∷ mono_node (Buffer 0) [] ∷ mono_node (Blank 0) []
+    ∷ mono_node (Fallback false) (1 ∷ 2 ∷ []) ∷ mono_node (Clock []) (3 ∷ []) ∷ []
 
 -- an output of the file, its feed, and an output of the second clock
 abbrev pub joined_sinks : List SinkPlan
@@ -24,4 +25,10 @@ joined_sinks = Output [] 0 false false ∷ Feed 0 0 ∷ Output [] 4 false false 
 
 -- a plan with its files and clocks, from second 0 on, without answers
 abbrev pub setting_over : Plan → Sounds → ClockMap → Setting
-setting_over plan library clocks = record { plan = plan; library = library; clocks = clocks.of; start = 0; answers = λ buffer. [] }
+setting_over plan library clocks = record {
+  plan = plan;
+  library = library;
+  clocks = clocks.of;
+  start = 0;
+  answers = λ buffer. [];
+}

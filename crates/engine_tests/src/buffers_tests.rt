@@ -10,7 +10,8 @@ use std::sync::Wait;
 use std::test::Fail;
 use std::thread;
 
-// Puts a chunk whose sample is this number, and answers the sample of the chunk that comes back where the queue is full.
+// Puts a chunk whose sample is this number, and answers the sample of the chunk that comes back where the queue is
+// full.
 fn put_one<R: Wait>(
     rt: &R,
     alloc: Global,

@@ -1,5 +1,5 @@
-//! The marks that an engine keeps. A tick has three samples, and so has the file, which is played again and again: it begins
-//! with each tick, and its title is 1.
+//! The marks that an engine keeps. A tick has three samples, and so has the file, which is played again and again: it
+//! begins with each tick, and its title is 1.
 ghost use Rattle.std.specs.Prelude.{◌≡◌, ℕ, [], Some, length, slice_get, false};
 ghost use Rattle.plan_core.specs.Plans.{IsWellFormed};
 ghost use Rattle.plan_samples.specs.Stereos.{sole_node};

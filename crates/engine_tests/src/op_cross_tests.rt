@@ -18,8 +18,8 @@ fn slot(sample: i16, title: u32, first: bool) -> Option<Cell> {
     })
 }
 
-// A crossfade over a source that gives these slots, again and again or once, gives items with these left samples and titles,
-// both 0 where one is empty.
+// A crossfade over a source that gives these slots, again and again or once, gives items with these left samples and
+// titles, both 0 where one is empty.
 fn check(
     rt: &impl Abort,
     alloc: Global,

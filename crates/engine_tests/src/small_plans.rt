@@ -1,5 +1,5 @@
-//! Small plans, as tables of their nodes, the clocks of these, and the file that the first node plays. Its samples are 1, 2 and
-//! 3.
+//! Small plans, as tables of their nodes, the clocks of these, and the file that the first node plays. Its samples are
+//! 1, 2 and 3.
 ghost use Rattle.std.specs.Prelude.{◌≡◌, ◌<◌, ◌≤◌, [], Some, IfOk, length, slice_get, false, true};
 ghost use Rattle.plan_core.specs.Plans.{IsWellFormed};
 ghost use Rattle.plan_samples.specs.Stereos.{sole_node};

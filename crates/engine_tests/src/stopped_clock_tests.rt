@@ -27,7 +27,8 @@ use std::test::Fail;
 use std::thread;
 use std::thread::Threads;
 
-// The file in the first clock, and a buffer of one chunk that carries it to the second one, with zeros where it has none.
+// The file in the first clock, and a buffer of one chunk that carries it to the second one, with zeros where it has
+// none.
 fn nodes(alloc: Global) -> Result<Items<Node>, AllocError>
     ensures { IfOk result (λ nodes. nodes ≡ joined_nodes) }
 {
@@ -102,7 +103,8 @@ fn begun<'a>(
     requires leaves { length library.now.leaves ≡ length plan.now.nodes }
     requires output { length (outputs_of (setting_over plan.now library.now clocks.now) clock) ≡ 1 }
     requires one { length outs.items ≡ 1 }
-    ensures fresh { (ticks : ℕ) → IfOk result (λ engine. IsFresh sink_told (setting_over plan.now library.now clocks.now) ticks clock engine) }
+    ensures fresh { (ticks : ℕ)
+        → IfOk result (λ engine. IsFresh sink_told (setting_over plan.now library.now clocks.now) ticks clock engine) }
 {
     let start = WeekSecond { second: 0 };
     match ClockEngine::new(alloc, plan, clocks, clock, library, outs, start) {
@@ -138,7 +140,9 @@ fn both<'a>(
     requires two { clocks.now.running ≡ 2 }
     requires first { slice_get clocks.now.of 0 ≡ Some (InMain 0) }
     requires second { slice_get clocks.now.of 4 ≡ Some (InMain 1) }
-    ensures { (ticks : ℕ) → IfOk result (λ engines. AreEngines sink_told plan.now clocks.now ticks (setting_over plan.now library.now clocks.now) engines.items) }
+    ensures { (ticks : ℕ) → IfOk result
+        (λ engines. AreEngines sink_told plan.now clocks.now ticks (setting_over plan.now library.now clocks.now)
+        engines.items) }
 {
     let fails = vec![in alloc; (3, 1)]?;
     let sound = headed(alloc, Vec::new(alloc))?;
@@ -166,8 +170,8 @@ fn both<'a>(
 /// So many turns a clock waits at most.
 const TURNS: u64 = 200_000_000;
 
-/// Lets the second clock make its first tick before the first clock makes any, and its second tick after the first tick of the
-/// first clock.
+/// Lets the second clock make its first tick before the first clock makes any, and its second tick after the first tick
+/// of the first clock.
 #[derive(Drop)]
 struct Turns {
     /// How many ticks each clock has come to.
@@ -239,7 +243,8 @@ fn check_held(rt: &impl Abort, outs: &[MemSink], held: &[u8], more: usize) {
     }
 }
 
-// The engines came back in their order. The first clock has made the window in which the second one stopped in its first tick.
+// The engines came back in their order. The first clock has made the window in which the second one stopped in its
+// first tick.
 fn check_engines(rt: &impl Abort, engines: Vec<ClockEngine<'_, MemSink>>)
     requires { length engines.items ≡ 2 }
 {

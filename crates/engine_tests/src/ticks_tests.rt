@@ -1,6 +1,6 @@
-//! Ticks of the engine of one clock, from the rules of `docs/streams.md`: three ticks of two samples each, and ones of eight.
-//! The file has the samples 1, 2 and 3. A mono node writes a sample as two bytes, the low one first, and a stereo node as four,
-//! since a mono file gives its sample to both sides.
+//! Ticks of the engine of one clock, from the rules of `docs/streams.md`: three ticks of two samples each, and ones of
+//! eight. The file has the samples 1, 2 and 3. A mono node writes a sample as two bytes, the low one first, and a
+//! stereo node as four, since a mono file gives its sample to both sides.
 use crate::small_engines::{Want, check_plan, check_rows, looped};
 use crate::small_plans::{Row, Small};
 use clock_ticks::TickFault;

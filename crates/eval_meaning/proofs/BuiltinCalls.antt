@@ -14,18 +14,18 @@ use Rattle.typing_rules.specs.declared.uses.Builtin.{Builtin}
 use Rattle.typing_rules.specs.declared.uses.Builtin.TheVariants as builtins
 use Rattle.typing_rules.specs.Arguments as arguments
 use Rattle.typing_rules.specs.Arguments.{arguments_taken, TakenAs}
-use Rattle.typing_rules.specs.Table.{IsCallOf, params_of, signature}
+use Rattle.typing_rules.specs.Table.{IsCallOf, params_of_builtin, signature}
 use Rattle.script_values.specs.declared.machine.Machine.{Machine}
 use Rattle.script_values.specs.Machines.{some_millionths}
 use Rattle.script_values.specs.Outcomes.{◌>>=◌}
 use Rattle.script_values.specs.Slots.{Argument}
 use Rattle.script_values.specs.Values.{Value}
-use Rattle.builtin_calls.specs.Parts.{one_kind, plain, plain_text, plain_decimal, plain_format, plain_source, plain_sources, bool_or, int_or, text_or, decimal_or}
+use Rattle.builtin_calls.specs.Parts.{one_kind, plain_argument, plain_text, plain_decimal, plain_format, plain_source, plain_sources, bool_or, int_or, text_or, decimal_or}
 use Rattle.builtin_calls.specs.Nodes.{few, add, push, add_buffer}
 use Rattle.builtin_calls.specs.Times.{track_of, pitch_of}
 use Rattle.builtin_calls.specs.Sinks.{add_output}
 use Rattle.builtin_calls.specs.Settings.{setting}
-use Rattle.builtin_calls.specs.Builtins.{node, is_normal, builtin, sensitive_or, few_sources, few_pairs, over_sources, seed_of, buffer_plan, short_overlap, safe, output_file, set, single, playlist, blank, square, fail, fallback, switch, random, sum, amplify, mean, stereo, crossfade, mksafe, buffer, clock}
+use Rattle.builtin_calls.specs.Builtins.{node, is_normal, builtin, sensitive_or, few_sources, few_pairs, over_sources, seed_of, buffer_plan, short_overlap, safe, output_file, set, single, playlist, blank, square, fail, fallback, switch, random, add_sources, amplify, mean, stereo, crossfade, mksafe, buffer, clock}
 use Rattle.eval_meaning.specs.BuiltinSafety.{AreA, Safe, Of, BuiltinsAreSafe}
 use Rattle.eval_meaning.proofs.BuiltinGrowth.{after, fixed}
 use Rattle.eval_meaning.proofs.BuiltinTaking.{Taking, all, all_commutes, strip, strip_commutes, plain_other, label_other, in_place, perhaps, behind_id}
@@ -125,8 +125,8 @@ random_safe at kinds given m j is_kinds whole =
     fixed m.plan.nodes (λ _. ⊤) (Of (source j)) (few sources.0) (λ children. add (node (op.Random seed) k children) m) (few_step sources.0) (λ children _.
     subst (λ (i : Kind). Safe m.plan.nodes (Of (source i)) (add (node (op.Random seed) k children) m)) is_k (add_safe (node (op.Random seed) k children) m))))))
 
-sum_safe : (kinds : List Kind) (given : List Argument) (m : Machine) (j : Kind) → j ∷ [] ≡ kinds → Taking all m.plan.nodes (perhaps (codes "id") ∷ perhaps (codes "normalize") ∷ in_place (codes "sources") ∷ []) (base_type base.Text ∷ base_type base.Bool ∷ list (source j) ∷ []) given → Safe m.plan.nodes (Of (source j)) (sum kinds given m)
-unfolding sum
+sum_safe : (kinds : List Kind) (given : List Argument) (m : Machine) (j : Kind) → j ∷ [] ≡ kinds → Taking all m.plan.nodes (perhaps (codes "id") ∷ perhaps (codes "normalize") ∷ in_place (codes "sources") ∷ []) (base_type base.Text ∷ base_type base.Bool ∷ list (source j) ∷ []) given → Safe m.plan.nodes (Of (source j)) (add_sources kinds given m)
+unfolding add_sources
 sum_safe kinds given m j is_kinds whole =
     let taking = behind_id m.plan.nodes (perhaps (codes "normalize") ∷ in_place (codes "sources") ∷ []) (base_type base.Text) (base_type base.Bool ∷ list (source j) ∷ []) given whole in
     fixed m.plan.nodes (λ (y : Bool × List Argument). Taking strip m.plan.nodes (in_place (codes "sources") ∷ []) (list (source j) ∷ []) y.1) (Of (source j)) (bool_or (codes "normalize") true given) (λ normalize. over_sources (op.Add normalize.0) kinds normalize.1 m) (bool_or_step strip m.plan.nodes (codes "normalize") (in_place (codes "sources") ∷ []) (list (source j) ∷ []) given true (strip_commutes (Some (codes "normalize")) (label_other (codes "normalize") refl)) taking) (λ normalize taking0.
@@ -201,13 +201,13 @@ clock_safe kinds given m j is_kinds whole =
 set_safe : (given : List Argument) (m : Machine) (t : Ground) → Taking all m.plan.nodes (in_place (codes "key") ∷ in_place (codes "value") ∷ []) (base_type base.Text ∷ t ∷ []) given → Safe m.plan.nodes (Of (unit)) (set given m)
 unfolding set
 set_safe given m t whole =
-    fixed m.plan.nodes (λ (y : List ℕ × List Argument). Taking all m.plan.nodes (in_place (codes "value") ∷ []) (t ∷ []) y.1) (Of (unit)) (plain_text given) (λ key. plain key.1 >>= λ value. setting key.0 value.0 m) (text_step all m.plan.nodes (codes "key") (in_place (codes "value") ∷ []) (t ∷ []) given (all_commutes None) whole) (λ key taking0.
-    fixed m.plan.nodes (λ (y : Value × List Argument). Taking all m.plan.nodes [] [] y.1) (Of (unit)) (plain key.1) (λ value. setting key.0 value.0 m) (value_step all m.plan.nodes (codes "value") [] [] key.1 (t) (all_commutes None) taking0) (λ value taking1.
+    fixed m.plan.nodes (λ (y : List ℕ × List Argument). Taking all m.plan.nodes (in_place (codes "value") ∷ []) (t ∷ []) y.1) (Of (unit)) (plain_text given) (λ key. plain_argument key.1 >>= λ value. setting key.0 value.0 m) (text_step all m.plan.nodes (codes "key") (in_place (codes "value") ∷ []) (t ∷ []) given (all_commutes None) whole) (λ key taking0.
+    fixed m.plan.nodes (λ (y : Value × List Argument). Taking all m.plan.nodes [] [] y.1) (Of (unit)) (plain_argument key.1) (λ value. setting key.0 value.0 m) (value_step all m.plan.nodes (codes "value") [] [] key.1 (t) (all_commutes None) taking0) (λ value taking1.
     setting_safe key.0 value.0 m))
 
 -- the arguments of a call by its row
-taking_of : (b : Builtin) (gs : List (arguments.Given Ground)) (ks : List Kind) (g : Ground) (call : IsCallOf b gs ks g) (ns : List Node) (given : List Argument) → AreA ns given gs → Taking all ns (params_of b) (map (λ p. meaning call.at p.1) (signature b).params) given
-taking_of b gs ks g call ns given are = record { gs = gs; are = are; none = call.matched.0; fits = subst (λ (ts : List Ground). TakenAs (arguments_taken (params_of b) gs) ts) (sym call.params) call.matched.2 }
+taking_of : (b : Builtin) (gs : List (arguments.GivenArgument Ground)) (ks : List Kind) (g : Ground) (call : IsCallOf b gs ks g) (ns : List Node) (given : List Argument) → AreA ns given gs → Taking all ns (params_of_builtin b) (map (λ p. meaning call.at p.1) (signature b).params) given
+taking_of b gs ks g call ns given are = record { gs = gs; are = are; none = call.matched.0; fits = subst (λ (ts : List Ground). TakenAs (arguments_taken (params_of_builtin b) gs) ts) (sym call.params) call.matched.2 }
 
 pub builtins_are_safe : BuiltinsAreSafe
 unfolding builtin
@@ -223,7 +223,7 @@ builtins_are_safe builtins.Switch at kinds gs g call given m are = subst (λ (h 
 builtins_are_safe builtins.Sequence at kinds gs g call given m are = subst (λ (h : Ground). Safe m.plan.nodes (Of h) (over_sources op.Sequence kinds given m)) call.result (sources_safe op.Sequence kinds given m (call.at.kind_of 0) call.kinds (taking_of builtins.Sequence gs kinds g call m.plan.nodes given are))
 builtins_are_safe builtins.Rotate at kinds gs g call given m are = subst (λ (h : Ground). Safe m.plan.nodes (Of h) (over_sources op.Rotate kinds given m)) call.result (sources_safe op.Rotate kinds given m (call.at.kind_of 0) call.kinds (taking_of builtins.Rotate gs kinds g call m.plan.nodes given are))
 builtins_are_safe builtins.Random at kinds gs g call given m are = subst (λ (h : Ground). Safe m.plan.nodes (Of h) (random at kinds given m)) call.result (random_safe at kinds given m (call.at.kind_of 0) call.kinds (taking_of builtins.Random gs kinds g call m.plan.nodes given are))
-builtins_are_safe builtins.Add at kinds gs g call given m are = subst (λ (h : Ground). Safe m.plan.nodes (Of h) (sum kinds given m)) call.result (sum_safe kinds given m (call.at.kind_of 0) call.kinds (taking_of builtins.Add gs kinds g call m.plan.nodes given are))
+builtins_are_safe builtins.Add at kinds gs g call given m are = subst (λ (h : Ground). Safe m.plan.nodes (Of h) (add_sources kinds given m)) call.result (sum_safe kinds given m (call.at.kind_of 0) call.kinds (taking_of builtins.Add gs kinds g call m.plan.nodes given are))
 builtins_are_safe builtins.Amplify at kinds gs g call given m are = subst (λ (h : Ground). Safe m.plan.nodes (Of h) (amplify kinds given m)) call.result (amplify_safe kinds given m (call.at.kind_of 0) call.kinds (taking_of builtins.Amplify gs kinds g call m.plan.nodes given are))
 builtins_are_safe builtins.Mean at kinds gs g call given m are = subst (λ (h : Ground). Safe m.plan.nodes (Of h) (mean given m)) call.result (mean_safe given m (taking_of builtins.Mean gs kinds g call m.plan.nodes given are))
 builtins_are_safe builtins.Stereo at kinds gs g call given m are = subst (λ (h : Ground). Safe m.plan.nodes (Of h) (stereo given m)) call.result (stereo_safe given m (taking_of builtins.Stereo gs kinds g call m.plan.nodes given are))

@@ -25,9 +25,9 @@ use Rattle.script_values.specs.Outcomes.{◌>>=◌, Outcome}
 use Rattle.script_values.specs.Slots.{Argument}
 use Rattle.script_values.specs.Values as value
 use Rattle.script_values.specs.Values.{Value}
-use Rattle.builtin_calls.specs.Parts.{one_kind, is_kind, of_kind, as_text, as_decimal, as_int, as_bool, as_format, source_of, nodes_from, sources_of, pred_of, pair_in, pair_of, pairs_from, pairs_of, needed, or_default, plain, plain_text, plain_decimal, plain_format, plain_source, plain_sources, plain_pairs, bool_or, int_or, decimal_or, text_or}
+use Rattle.builtin_calls.specs.Parts.{one_kind, is_kind, of_kind, as_text, as_decimal, as_int, as_bool, as_format, source_of, nodes_from, sources_of, pred_of, pair_in, case_of, pairs_from, pairs_of, needed, or_default, plain_argument, plain_text, plain_decimal, plain_format, plain_source, plain_sources, plain_pairs, bool_or, int_or, decimal_or, text_or}
 use Rattle.builtin_calls.specs.Nodes.{at_most, few, push, add, add_buffer, crossfades_with}
-use Rattle.builtin_calls.specs.Times.{some_samples, overlap_of, track_of, samples_of, pitch_of, chunks}
+use Rattle.builtin_calls.specs.Times.{some_samples, overlap_samples, track_of, samples_of, pitch_of, chunks}
 use Rattle.builtin_calls.specs.Sinks.{is_named, add_output}
 use Rattle.builtin_calls.specs.Settings.{rate_of, duration_of, set_rate, set_duration, setting}
 use Rattle.builtin_calls.specs.Builtins.{is_normal, seed_of, few_sources, few_pairs, short_overlap, buffer_plan, sensitive_or}
@@ -59,78 +59,78 @@ unfolding as_text
 text_read ns (value.Text t) is = tt
 text_read ns (value.Int n) is = absurd cc
 text_read ns (value.Number d) is = absurd cc
-text_read ns (value.Truth b) is = absurd cc
-text_read ns value.Nothing is = absurd cc
-text_read ns (value.Format wide) is = absurd cc
+text_read ns (value.TruthValue b) is = absurd cc
+text_read ns value.UnitValue is = absurd cc
+text_read ns (value.FormatValue wide) is = absurd cc
 text_read ns (value.Pred p) is = absurd cc
 text_read ns (value.Source n) is = let e = is.2 in absurd cc
-text_read ns (value.Listed vs) is = let e = is.1 in absurd cc
-text_read ns (value.Tuple vs) is = let e = is.1 in absurd cc
+text_read ns (value.ListValue vs) is = let e = is.1 in absurd cc
+text_read ns (value.TupleValue vs) is = let e = is.1 in absurd cc
 
 decimal_read : (ns : List Node) (v : Value) → IsA ns v (base_type base.Decimal) → NotStuck (λ _. ⊤) (as_decimal v)
 unfolding as_decimal
 decimal_read ns (value.Number d) is = tt
 decimal_read ns (value.Text t) is = absurd cc
 decimal_read ns (value.Int n) is = absurd cc
-decimal_read ns (value.Truth b) is = absurd cc
-decimal_read ns value.Nothing is = absurd cc
-decimal_read ns (value.Format wide) is = absurd cc
+decimal_read ns (value.TruthValue b) is = absurd cc
+decimal_read ns value.UnitValue is = absurd cc
+decimal_read ns (value.FormatValue wide) is = absurd cc
 decimal_read ns (value.Pred p) is = absurd cc
 decimal_read ns (value.Source n) is = let e = is.2 in absurd cc
-decimal_read ns (value.Listed vs) is = let e = is.1 in absurd cc
-decimal_read ns (value.Tuple vs) is = let e = is.1 in absurd cc
+decimal_read ns (value.ListValue vs) is = let e = is.1 in absurd cc
+decimal_read ns (value.TupleValue vs) is = let e = is.1 in absurd cc
 
 int_read : (ns : List Node) (v : Value) → IsA ns v (base_type base.Int) → NotStuck (λ _. ⊤) (as_int v)
 unfolding as_int
 int_read ns (value.Int n) is = tt
 int_read ns (value.Number d) is = absurd cc
 int_read ns (value.Text t) is = absurd cc
-int_read ns (value.Truth b) is = absurd cc
-int_read ns value.Nothing is = absurd cc
-int_read ns (value.Format wide) is = absurd cc
+int_read ns (value.TruthValue b) is = absurd cc
+int_read ns value.UnitValue is = absurd cc
+int_read ns (value.FormatValue wide) is = absurd cc
 int_read ns (value.Pred p) is = absurd cc
 int_read ns (value.Source n) is = let e = is.2 in absurd cc
-int_read ns (value.Listed vs) is = let e = is.1 in absurd cc
-int_read ns (value.Tuple vs) is = let e = is.1 in absurd cc
+int_read ns (value.ListValue vs) is = let e = is.1 in absurd cc
+int_read ns (value.TupleValue vs) is = let e = is.1 in absurd cc
 
 bool_read : (ns : List Node) (v : Value) → IsA ns v (base_type base.Bool) → NotStuck (λ _. ⊤) (as_bool v)
 unfolding as_bool
-bool_read ns (value.Truth b) is = tt
+bool_read ns (value.TruthValue b) is = tt
 bool_read ns (value.Text t) is = absurd cc
 bool_read ns (value.Int n) is = absurd cc
 bool_read ns (value.Number d) is = absurd cc
-bool_read ns value.Nothing is = absurd cc
-bool_read ns (value.Format wide) is = absurd cc
+bool_read ns value.UnitValue is = absurd cc
+bool_read ns (value.FormatValue wide) is = absurd cc
 bool_read ns (value.Pred p) is = absurd cc
 bool_read ns (value.Source n) is = let e = is.2 in absurd cc
-bool_read ns (value.Listed vs) is = let e = is.1 in absurd cc
-bool_read ns (value.Tuple vs) is = let e = is.1 in absurd cc
+bool_read ns (value.ListValue vs) is = let e = is.1 in absurd cc
+bool_read ns (value.TupleValue vs) is = let e = is.1 in absurd cc
 
 format_read : (ns : List Node) (v : Value) → IsA ns v (base_type base.Format) → NotStuck (λ _. ⊤) (as_format v)
 unfolding as_format
-format_read ns (value.Format wide) is = tt
+format_read ns (value.FormatValue wide) is = tt
 format_read ns (value.Text t) is = absurd cc
 format_read ns (value.Int n) is = absurd cc
 format_read ns (value.Number d) is = absurd cc
-format_read ns (value.Truth b) is = absurd cc
-format_read ns value.Nothing is = absurd cc
+format_read ns (value.TruthValue b) is = absurd cc
+format_read ns value.UnitValue is = absurd cc
 format_read ns (value.Pred p) is = absurd cc
 format_read ns (value.Source n) is = let e = is.2 in absurd cc
-format_read ns (value.Listed vs) is = let e = is.1 in absurd cc
-format_read ns (value.Tuple vs) is = let e = is.1 in absurd cc
+format_read ns (value.ListValue vs) is = let e = is.1 in absurd cc
+format_read ns (value.TupleValue vs) is = let e = is.1 in absurd cc
 
 pred_read : (ns : List Node) (v : Value) → IsA ns v (base_type base.Pred) → NotStuck (λ _. ⊤) (pred_of v)
 unfolding pred_of
 pred_read ns (value.Pred p) is = tt
-pred_read ns (value.Format wide) is = absurd cc
+pred_read ns (value.FormatValue wide) is = absurd cc
 pred_read ns (value.Text t) is = absurd cc
 pred_read ns (value.Int n) is = absurd cc
 pred_read ns (value.Number d) is = absurd cc
-pred_read ns (value.Truth b) is = absurd cc
-pred_read ns value.Nothing is = absurd cc
+pred_read ns (value.TruthValue b) is = absurd cc
+pred_read ns value.UnitValue is = absurd cc
 pred_read ns (value.Source n) is = let e = is.2 in absurd cc
-pred_read ns (value.Listed vs) is = let e = is.1 in absurd cc
-pred_read ns (value.Tuple vs) is = let e = is.1 in absurd cc
+pred_read ns (value.ListValue vs) is = let e = is.1 in absurd cc
+pred_read ns (value.TupleValue vs) is = let e = is.1 in absurd cc
 
 same_kind : (k : Kind) → is_kind k k ≡ true
 same_kind Mono = refl
@@ -148,88 +148,88 @@ source_there ns k n one stands same =
 source_read : (ns : List Node) (k : Kind) (v : Value) → IsA ns v (source k) → NotStuck (λ _. ⊤) (source_of ns k v)
 unfolding source_of
 source_read ns k (value.Source n) is = source_there ns k n is.0 is.1 is.2
-source_read ns k (value.Format wide) is = absurd cc
+source_read ns k (value.FormatValue wide) is = absurd cc
 source_read ns k (value.Text t) is = absurd cc
 source_read ns k (value.Int n) is = absurd cc
 source_read ns k (value.Number d) is = absurd cc
-source_read ns k (value.Truth b) is = absurd cc
-source_read ns k value.Nothing is = absurd cc
+source_read ns k (value.TruthValue b) is = absurd cc
+source_read ns k value.UnitValue is = absurd cc
 source_read ns k (value.Pred p) is = absurd cc
-source_read ns k (value.Listed vs) is = let e = is.1 in absurd cc
-source_read ns k (value.Tuple vs) is = let e = is.1 in absurd cc
+source_read ns k (value.ListValue vs) is = let e = is.1 in absurd cc
+source_read ns k (value.TupleValue vs) is = let e = is.1 in absurd cc
 
-nodes_read : (ns : List Node) (k : Kind) (vs : value.ValueTree value.Many) (acc : List ℕ) → AllAre ns vs (source k) → NotStuck (λ _. ⊤) (nodes_from ns k vs acc)
+nodes_read : (ns : List Node) (k : Kind) (vs : value.ValueTree value.ManyValues) (acc : List ℕ) → AllAre ns vs (source k) → NotStuck (λ _. ⊤) (nodes_from ns k vs acc)
 unfolding nodes_from
-nodes_read ns k value.none acc is = tt
-nodes_read ns k (value.more v vs) acc is =
+nodes_read ns k value.no_values acc is = tt
+nodes_read ns k (value.more_values v vs) acc is =
     then_not (λ _. ⊤) (λ _. ⊤) (source_of ns k v) (λ n. nodes_from ns k vs (acc ++ n ∷ [])) (source_read ns k v is.0) (λ n _. nodes_read ns k vs (acc ++ n ∷ []) is.1)
 
 sources_read : (ns : List Node) (k : Kind) (v : Value) → IsA ns v (list (source k)) → NotStuck (λ _. ⊤) (sources_of ns k v)
 unfolding sources_of
-sources_read ns k (value.Listed vs) is =
+sources_read ns k (value.ListValue vs) is =
     let same : is.0 ≡ source k = (let e = is.1 in cc) in
     nodes_read ns k vs [] (subst (λ (t : Ground). AllAre ns vs t) same is.2)
-sources_read ns k (value.Format wide) is = absurd cc
+sources_read ns k (value.FormatValue wide) is = absurd cc
 sources_read ns k (value.Text t) is = absurd cc
 sources_read ns k (value.Int n) is = absurd cc
 sources_read ns k (value.Number d) is = absurd cc
-sources_read ns k (value.Truth b) is = absurd cc
-sources_read ns k value.Nothing is = absurd cc
+sources_read ns k (value.TruthValue b) is = absurd cc
+sources_read ns k value.UnitValue is = absurd cc
 sources_read ns k (value.Pred p) is = absurd cc
 sources_read ns k (value.Source n) is = let e = is.2 in absurd cc
-sources_read ns k (value.Tuple vs) is = let e = is.1 in absurd cc
+sources_read ns k (value.TupleValue vs) is = let e = is.1 in absurd cc
 
 abbrev pub pair_types : Kind → Grounds
 pair_types k = ground.more (base_type base.Pred) (ground.more (source k) ground.no_more)
 
-in_pair : (ns : List Node) (k : Kind) (vs : value.ValueTree value.Many) → EachIs ns vs (pair_types k) → NotStuck (λ _. ⊤) (pair_in ns k vs)
+in_pair : (ns : List Node) (k : Kind) (vs : value.ValueTree value.ManyValues) → EachIs ns vs (pair_types k) → NotStuck (λ _. ⊤) (pair_in ns k vs)
 unfolding pair_in
-in_pair ns k value.none is = absurd cc
-in_pair ns k (value.more v value.none) is = let e = is.2 in let f = is.4 in absurd cc
-in_pair ns k (value.more v (value.more w value.none)) is =
+in_pair ns k value.no_values is = absurd cc
+in_pair ns k (value.more_values v value.no_values) is = let e = is.2 in let f = is.4 in absurd cc
+in_pair ns k (value.more_values v (value.more_values w value.no_values)) is =
     let e = is.2 in
     let f = is.4.2 in
     let first : is.0 ≡ base_type base.Pred = cc in
     let second : is.4.0 ≡ source k = cc in
     then_not (λ _. ⊤) (λ _. ⊤) (pred_of v) (λ p. source_of ns k w >>= λ n. Ok (p, n)) (pred_read ns v (subst (λ (t : Ground). IsA ns v t) first is.3)) (λ p _.
     then_not (λ _. ⊤) (λ _. ⊤) (source_of ns k w) (λ n. Ok (p, n)) (source_read ns k w (subst (λ (t : Ground). IsA ns w t) second is.4.3)) (λ n _. tt))
-in_pair ns k (value.more v (value.more w (value.more x rest))) is = let e = is.2 in let f = is.4.2 in let g = is.4.4.2 in absurd cc
+in_pair ns k (value.more_values v (value.more_values w (value.more_values x rest))) is = let e = is.2 in let f = is.4.2 in let g = is.4.4.2 in absurd cc
 
-pair_read : (ns : List Node) (k : Kind) (v : Value) → IsA ns v (tuple (pair_types k)) → NotStuck (λ _. ⊤) (pair_of ns k v)
-unfolding pair_of
-pair_read ns k (value.Tuple vs) is =
+pair_read : (ns : List Node) (k : Kind) (v : Value) → IsA ns v (tuple (pair_types k)) → NotStuck (λ _. ⊤) (case_of ns k v)
+unfolding case_of
+pair_read ns k (value.TupleValue vs) is =
     let same : is.0 ≡ pair_types k = (let e = is.1 in cc) in
     in_pair ns k vs (subst (λ (t : Grounds). EachIs ns vs t) same is.2)
-pair_read ns k (value.Format wide) is = absurd cc
+pair_read ns k (value.FormatValue wide) is = absurd cc
 pair_read ns k (value.Text t) is = absurd cc
 pair_read ns k (value.Int n) is = absurd cc
 pair_read ns k (value.Number d) is = absurd cc
-pair_read ns k (value.Truth b) is = absurd cc
-pair_read ns k value.Nothing is = absurd cc
+pair_read ns k (value.TruthValue b) is = absurd cc
+pair_read ns k value.UnitValue is = absurd cc
 pair_read ns k (value.Pred p) is = absurd cc
 pair_read ns k (value.Source n) is = let e = is.2 in absurd cc
-pair_read ns k (value.Listed vs) is = let e = is.1 in absurd cc
+pair_read ns k (value.ListValue vs) is = let e = is.1 in absurd cc
 
-pairs_read : (ns : List Node) (k : Kind) (vs : value.ValueTree value.Many) (ps : List Predicate) (acc : List ℕ) → AllAre ns vs (tuple (pair_types k)) → NotStuck (λ _. ⊤) (pairs_from ns k vs ps acc)
+pairs_read : (ns : List Node) (k : Kind) (vs : value.ValueTree value.ManyValues) (ps : List Predicate) (acc : List ℕ) → AllAre ns vs (tuple (pair_types k)) → NotStuck (λ _. ⊤) (pairs_from ns k vs ps acc)
 unfolding pairs_from
-pairs_read ns k value.none ps acc is = tt
-pairs_read ns k (value.more v vs) ps acc is =
-    then_not (λ _. ⊤) (λ _. ⊤) (pair_of ns k v) (λ x. pairs_from ns k vs (ps ++ x.0 ∷ []) (acc ++ x.1 ∷ [])) (pair_read ns k v is.0) (λ x _. pairs_read ns k vs (ps ++ x.0 ∷ []) (acc ++ x.1 ∷ []) is.1)
+pairs_read ns k value.no_values ps acc is = tt
+pairs_read ns k (value.more_values v vs) ps acc is =
+    then_not (λ _. ⊤) (λ _. ⊤) (case_of ns k v) (λ x. pairs_from ns k vs (ps ++ x.0 ∷ []) (acc ++ x.1 ∷ [])) (pair_read ns k v is.0) (λ x _. pairs_read ns k vs (ps ++ x.0 ∷ []) (acc ++ x.1 ∷ []) is.1)
 
 all_pairs_read : (ns : List Node) (k : Kind) (v : Value) → IsA ns v (list (tuple (pair_types k))) → NotStuck (λ _. ⊤) (pairs_of ns k v)
 unfolding pairs_of
-all_pairs_read ns k (value.Listed vs) is =
+all_pairs_read ns k (value.ListValue vs) is =
     let same : is.0 ≡ tuple (pair_types k) = (let e = is.1 in cc) in
     pairs_read ns k vs [] [] (subst (λ (t : Ground). AllAre ns vs t) same is.2)
-all_pairs_read ns k (value.Format wide) is = absurd cc
+all_pairs_read ns k (value.FormatValue wide) is = absurd cc
 all_pairs_read ns k (value.Text t) is = absurd cc
 all_pairs_read ns k (value.Int n) is = absurd cc
 all_pairs_read ns k (value.Number d) is = absurd cc
-all_pairs_read ns k (value.Truth b) is = absurd cc
-all_pairs_read ns k value.Nothing is = absurd cc
+all_pairs_read ns k (value.TruthValue b) is = absurd cc
+all_pairs_read ns k value.UnitValue is = absurd cc
 all_pairs_read ns k (value.Pred p) is = absurd cc
 all_pairs_read ns k (value.Source n) is = let e = is.2 in absurd cc
-all_pairs_read ns k (value.Tuple vs) is = let e = is.1 in absurd cc
+all_pairs_read ns k (value.TupleValue vs) is = let e = is.1 in absurd cc
 
 -- ---- parameters
 
@@ -241,32 +241,32 @@ module _ (S : List Argument → List Argument) (ns : List Node) (name : List ℕ
       plain_by read (λ (y : A × List Argument). Taking S ns ps ts y.1) (argument None given) found.taken found.is (weaker (λ _. ⊤) (Taking S ns ps ts found.taken.1) (read found.taken.0) found.others (reads found.taken.0 found.type_of))
 
   pub text_step : Commutes S None → Taking S ns (in_place name ∷ ps) (base_type base.Text ∷ ts) given → NotStuck (λ (y : List ℕ × List Argument). Taking S ns ps ts y.1) (plain_text given)
-  unfolding plain_text plain
+  unfolding plain_text plain_argument
   text_step commutes taking = needed_step (base_type base.Text) as_text (text_read ns) commutes taking
 
   pub decimal_step : Commutes S None → Taking S ns (in_place name ∷ ps) (base_type base.Decimal ∷ ts) given → NotStuck (λ (y : Decimal × List Argument). Taking S ns ps ts y.1) (plain_decimal given)
-  unfolding plain_decimal plain
+  unfolding plain_decimal plain_argument
   decimal_step commutes taking = needed_step (base_type base.Decimal) as_decimal (decimal_read ns) commutes taking
 
   pub format_step : Commutes S None → Taking S ns (in_place name ∷ ps) (base_type base.Format ∷ ts) given → NotStuck (λ (y : Bool × List Argument). Taking S ns ps ts y.1) (plain_format given)
-  unfolding plain_format plain
+  unfolding plain_format plain_argument
   format_step commutes taking = needed_step (base_type base.Format) as_format (format_read ns) commutes taking
 
   pub source_step : (k : Kind) → Commutes S None → Taking S ns (in_place name ∷ ps) (source k ∷ ts) given → NotStuck (λ (y : ℕ × List Argument). Taking S ns ps ts y.1) (plain_source ns k given)
-  unfolding plain_source plain
+  unfolding plain_source plain_argument
   source_step k commutes taking = needed_step (source k) (source_of ns k) (source_read ns k) commutes taking
 
   pub sources_step : (k : Kind) → Commutes S None → Taking S ns (in_place name ∷ ps) (list (source k) ∷ ts) given → NotStuck (λ (y : List ℕ × List Argument). Taking S ns ps ts y.1) (plain_sources ns k given)
-  unfolding plain_sources plain
+  unfolding plain_sources plain_argument
   sources_step k commutes taking = needed_step (list (source k)) (sources_of ns k) (sources_read ns k) commutes taking
 
   pub pairs_step : (k : Kind) → Commutes S None → Taking S ns (in_place name ∷ ps) (list (tuple (pair_types k)) ∷ ts) given → NotStuck (λ (y : (List Predicate × List ℕ) × List Argument). Taking S ns ps ts y.1) (plain_pairs ns k given)
-  unfolding plain_pairs plain
+  unfolding plain_pairs plain_argument
   pairs_step k commutes taking = needed_step (list (tuple (pair_types k))) (pairs_of ns k) (all_pairs_read ns k) commutes taking
 
   -- of any type
-  pub value_step : (t : Ground) → Commutes S None → Taking S ns (in_place name ∷ ps) (t ∷ ts) given → NotStuck (λ (y : Value × List Argument). Taking S ns ps ts y.1) (plain given)
-  unfolding plain
+  pub value_step : (t : Ground) → Commutes S None → Taking S ns (in_place name ∷ ps) (t ∷ ts) given → NotStuck (λ (y : Value × List Argument). Taking S ns ps ts y.1) (plain_argument given)
+  unfolding plain_argument
   value_step t commutes taking =
       let found = take_plain S ns name ps t ts given commutes taking in
       subst (λ (o : Taken). NotStuck (λ (y : Value × List Argument). Taking S ns ps ts y.1) (needed o)) (sym found.is) found.others
@@ -323,8 +323,8 @@ seed_step at n = told_by (int_lt n (pos 0)) (BadValue at) (Ok (unsigned_abs n)) 
 some_step : (at n : ℕ) → NotStuck (λ _. ⊤) (some_samples at n)
 some_step at n = told_by (nat_eq n 0) (BadValue at) (Ok n) tt tt
 
-pub overlap_step : (at rate : ℕ) (d : Decimal) → NotStuck (λ _. ⊤) (overlap_of at rate d)
-unfolding overlap_of
+pub overlap_step : (at rate : ℕ) (d : Decimal) → NotStuck (λ _. ⊤) (overlap_samples at rate d)
+unfolding overlap_samples
 overlap_step at rate d = told_by (int_le d.millionths (pos 0)) (BadValue at) (some_samples at (samples_in d.millionths rate)) tt (some_step at (samples_in d.millionths rate))
 
 track_by : (b : Bool) (at n : ℕ) → NotStuck (λ _. ⊤) (elim b as (λ _. Result ℕ Fault) [ true ↦ Ok 0 | false ↦ some_samples at n ])
@@ -346,7 +346,7 @@ pitch_step at d = told_by (int_le d.millionths (pos 0)) (BadValue at) (Ok d) tt 
 pub short_step : (at s : ℕ) (d : Decimal) (p : Plan) → NotStuck (λ _. ⊤) (short_overlap at s d p)
 unfolding short_overlap
 short_step at s d p =
-    then_not (λ _. ⊤) (λ _. ⊤) (overlap_of at p.rate d) (λ overlap. at_most MAX_CROSSFADES Crossfades (crossfades_with s p) >>= λ crossfades. at_most MAX_OVERLAP Overlap overlap) (overlap_step at p.rate d) (λ overlap _.
+    then_not (λ _. ⊤) (λ _. ⊤) (overlap_samples at p.rate d) (λ overlap. at_most MAX_CROSSFADES Crossfades (crossfades_with s p) >>= λ crossfades. at_most MAX_OVERLAP Overlap overlap) (overlap_step at p.rate d) (λ overlap _.
     then_not (λ _. ⊤) (λ _. ⊤) (at_most MAX_CROSSFADES Crossfades (crossfades_with s p)) (λ crossfades. at_most MAX_OVERLAP Overlap overlap) (at_most_step MAX_CROSSFADES Crossfades (crossfades_with s p)) (λ crossfades _. at_most_step MAX_OVERLAP Overlap overlap))
 
 pub buffer_step : (at : ℕ) (held most : Decimal) (p : Plan) → NotStuck (λ _. ⊤) (buffer_plan at held most p)
@@ -406,7 +406,7 @@ buffered_safe s k plan m = buffer_by (nat_le MAX_NODES (length m.plan.nodes)) m 
 abbrev pub unit : Ground
 unit = base_type base.Unit
 
-output_by : (a b : Bool) (m : Machine) (name : List ℕ) (s : ℕ) (f w : Bool) → Safe m.plan.nodes (Of unit) (elim a as (λ _. Outcome) [ true ↦ Err (SameOutput name) | false ↦ elim b as (λ _. Outcome) [ true ↦ Ok (value.Nothing, record m { plan = with_output m.plan name s f w }) | false ↦ Err (TooLarge Outputs) ] ])
+output_by : (a b : Bool) (m : Machine) (name : List ℕ) (s : ℕ) (f w : Bool) → Safe m.plan.nodes (Of unit) (elim a as (λ _. Outcome) [ true ↦ Err (SameOutput name) | false ↦ elim b as (λ _. Outcome) [ true ↦ Ok (value.UnitValue, record m { plan = with_output m.plan name s f w }) | false ↦ Err (TooLarge Outputs) ] ])
 output_by true b m name s f w = tt
 output_by false true m name s f w = (λ i old there_is. there_is, refl)
 output_by false false m name s f w = tt
@@ -422,37 +422,37 @@ unfolding rate_of
 rate_told (value.Int n) = good_by (int_le (pos MIN_RATE) n && int_le n (pos MAX_RATE)) BadSetting (unsigned_abs n) tt
 rate_told (value.Number d) = tt
 rate_told (value.Text t) = tt
-rate_told (value.Truth b) = tt
-rate_told value.Nothing = tt
-rate_told (value.Format wide) = tt
+rate_told (value.TruthValue b) = tt
+rate_told value.UnitValue = tt
+rate_told (value.FormatValue wide) = tt
 rate_told (value.Pred p) = tt
 rate_told (value.Source n) = tt
-rate_told (value.Listed vs) = tt
-rate_told (value.Tuple vs) = tt
+rate_told (value.ListValue vs) = tt
+rate_told (value.TupleValue vs) = tt
 
 duration_told : (v : Value) → NotStuck (λ _. ⊤) (duration_of v)
 unfolding duration_of
 duration_told (value.Number d) = tt
 duration_told (value.Int n) = tt
 duration_told (value.Text t) = tt
-duration_told (value.Truth b) = tt
-duration_told value.Nothing = tt
-duration_told (value.Format wide) = tt
+duration_told (value.TruthValue b) = tt
+duration_told value.UnitValue = tt
+duration_told (value.FormatValue wide) = tt
 duration_told (value.Pred p) = tt
 duration_told (value.Source n) = tt
-duration_told (value.Listed vs) = tt
-duration_told (value.Tuple vs) = tt
+duration_told (value.ListValue vs) = tt
+duration_told (value.TupleValue vs) = tt
 
-rate_by : (b : Bool) (v : Value) (m : Machine) → Safe m.plan.nodes (Of unit) ((elim b as (λ _. Result Machine Fault) [ true ↦ Ok (record m { settings = record m.settings { last = m.settings.statement } }) | false ↦ Err BadSetting ]) >>= λ c. rate_of v >>= λ rate. Ok (value.Nothing, record c { plan = record c.plan { rate = rate } }))
+rate_by : (b : Bool) (v : Value) (m : Machine) → Safe m.plan.nodes (Of unit) ((elim b as (λ _. Result Machine Fault) [ true ↦ Ok (record m { settings = record m.settings { last = m.settings.statement } }) | false ↦ Err BadSetting ]) >>= λ c. rate_of v >>= λ rate. Ok (value.UnitValue, record c { plan = record c.plan { rate = rate } }))
 rate_by true v m =
     let c : Machine = record m { settings = record m.settings { last = m.settings.statement } } in
-    fixed m.plan.nodes (λ _. ⊤) (Of unit) (rate_of v) (λ rate. Ok (value.Nothing, record c { plan = record c.plan { rate = rate } })) (rate_told v) (λ rate _. (λ i old there_is. there_is, refl))
+    fixed m.plan.nodes (λ _. ⊤) (Of unit) (rate_of v) (λ rate. Ok (value.UnitValue, record c { plan = record c.plan { rate = rate } })) (rate_told v) (λ rate _. (λ i old there_is. there_is, refl))
 rate_by false v m = tt
 
-duration_by : (b : Bool) (v : Value) (m : Machine) → Safe m.plan.nodes (Of unit) ((elim b as (λ _. Result Machine Fault) [ true ↦ Ok (record m { settings = record m.settings { last = m.settings.statement } }) | false ↦ Err BadSetting ]) >>= λ c. duration_of v >>= λ d. Ok (value.Nothing, record c { settings = record c.settings { duration = d } }))
+duration_by : (b : Bool) (v : Value) (m : Machine) → Safe m.plan.nodes (Of unit) ((elim b as (λ _. Result Machine Fault) [ true ↦ Ok (record m { settings = record m.settings { last = m.settings.statement } }) | false ↦ Err BadSetting ]) >>= λ c. duration_of v >>= λ d. Ok (value.UnitValue, record c { settings = record c.settings { duration = d } }))
 duration_by true v m =
     let c : Machine = record m { settings = record m.settings { last = m.settings.statement } } in
-    fixed m.plan.nodes (λ _. ⊤) (Of unit) (duration_of v) (λ d. Ok (value.Nothing, record c { settings = record c.settings { duration = d } })) (duration_told v) (λ d _. (λ i old there_is. there_is, refl))
+    fixed m.plan.nodes (λ _. ⊤) (Of unit) (duration_of v) (λ d. Ok (value.UnitValue, record c { settings = record c.settings { duration = d } })) (duration_told v) (λ d _. (λ i old there_is. there_is, refl))
 duration_by false v m = tt
 
 rate_safe : (v : Value) (m : Machine) → Safe m.plan.nodes (Of unit) (set_rate v m)
@@ -463,7 +463,7 @@ duration_safe : (v : Value) (m : Machine) → Safe m.plan.nodes (Of unit) (set_d
 unfolding set_duration
 duration_safe v m = duration_by m.settings.allowed v m
 
-setting_by : (a b : Bool) (v : Value) (m : Machine) → Safe m.plan.nodes (Of unit) (elim a as (λ _. Outcome) [ true ↦ set_rate v m | false ↦ elim b as (λ _. Outcome) [ true ↦ set_duration v m | false ↦ Ok (value.Nothing, m) ] ])
+setting_by : (a b : Bool) (v : Value) (m : Machine) → Safe m.plan.nodes (Of unit) (elim a as (λ _. Outcome) [ true ↦ set_rate v m | false ↦ elim b as (λ _. Outcome) [ true ↦ set_duration v m | false ↦ Ok (value.UnitValue, m) ] ])
 setting_by true b v m = rate_safe v m
 setting_by false true v m = duration_safe v m
 setting_by false false v m = (λ i old there_is. there_is, refl)

@@ -15,7 +15,7 @@ abbrev pub Taken : Type 0
 Taken = Option (Value × List Argument)
 
 abbrev pub Typed : Type 0
-Typed = Option (Ground × List (arguments.Given Ground))
+Typed = Option (Ground × List (arguments.GivenArgument Ground))
 
 -- what is taken of values and of types
 abbrev pub Same : List Node → Taken → Typed → Type 0
@@ -24,18 +24,18 @@ Same ns None (Some y) = ⊥
 Same ns (Some x) None = ⊥
 Same ns (Some x) (Some y) = IsA ns x.0 y.0 × AreA ns x.1 y.1
 
-behind : (ns : List Node) (g : Argument) (h : arguments.Given Ground) (o : Taken) (p : Typed) → g.0 ≡ h.0 → IsA ns g.1 h.1 → Same ns o p → Same ns (after g o) (after h p)
+behind : (ns : List Node) (g : Argument) (h : arguments.GivenArgument Ground) (o : Taken) (p : Typed) → g.0 ≡ h.0 → IsA ns g.1 h.1 → Same ns o p → Same ns (after g o) (after h p)
 behind ns g h None None label is same = tt
 behind ns g h None (Some y) label is same = absurd same
 behind ns g h (Some x) None label is same = absurd same
 behind ns g h (Some x) (Some y) label is same = (same.0, (label, is, same.1))
 
-here_or_behind : (b : Bool) (ns : List Node) (g : Argument) (h : arguments.Given Ground) (gs : List Argument) (hs : List (arguments.Given Ground)) (o : Taken) (p : Typed) → g.0 ≡ h.0 → IsA ns g.1 h.1 → AreA ns gs hs → Same ns o p
+here_or_behind : (b : Bool) (ns : List Node) (g : Argument) (h : arguments.GivenArgument Ground) (gs : List Argument) (hs : List (arguments.GivenArgument Ground)) (o : Taken) (p : Typed) → g.0 ≡ h.0 → IsA ns g.1 h.1 → AreA ns gs hs → Same ns o p
     → Same ns (cond b (Some (g.1, gs)) (after g o)) (cond b (Some (h.1, hs)) (after h p))
 here_or_behind true ns g h gs hs o p label is are same = (is, are)
 here_or_behind false ns g h gs hs o p label is are same = behind ns g h o p label is same
 
-pub same_taken : (ns : List Node) (l : Option (List ℕ)) (given : List Argument) (gs : List (arguments.Given Ground)) → AreA ns given gs → Same ns (argument l given) (argument l gs)
+pub same_taken : (ns : List Node) (l : Option (List ℕ)) (given : List Argument) (gs : List (arguments.GivenArgument Ground)) → AreA ns given gs → Same ns (argument l given) (argument l gs)
 same_taken ns l [] [] are = tt
 same_taken ns l [] (h ∷ hs) are = absurd are
 same_taken ns l (g ∷ given) [] are = absurd are
@@ -125,7 +125,7 @@ label_other l unlike (Some b) is = differs (bytes_eq l b) l b refl unlike ((byte
 
 -- arguments of the types of these parameters, behind S
 pub record Taking (S : List Argument → List Argument) (ns : List Node) (ps : List Parameter) (ts : List Ground) (given : List Argument) : Type 0 where
-  pub gs : List (arguments.Given Ground)
+  pub gs : List (arguments.GivenArgument Ground)
   pub are : AreA ns (S given) gs
   pub none : first_missing ps gs ≡ None
   pub fits : TakenAs (arguments_taken ps gs) ts
@@ -143,7 +143,7 @@ pub record Found (S : List Argument → List Argument) (ns : List Node) (ps : Li
   pub type_of : IsA ns taken.0 t
   pub others : Taking S ns ps ts taken.1
 
-found_by : (S : List Argument → List Argument) (ns : List Node) (name : List ℕ) (ps : List Parameter) (t : Ground) (ts : List Ground) (o : Taken) (gs : List (arguments.Given Ground)) (q : Typed) → Same ns (through S o) q
+found_by : (S : List Argument → List Argument) (ns : List Node) (name : List ℕ) (ps : List Parameter) (t : Ground) (ts : List Ground) (o : Taken) (gs : List (arguments.GivenArgument Ground)) (q : Typed) → Same ns (through S o) q
     → missing_or (in_place name) q (first_missing ps (others gs q)) ≡ None → TakenAs (option_map (λ x. x.0) q ∷ arguments_taken ps (others gs q)) (t ∷ ts) → Found S ns ps t ts o
 found_by S ns name ps t ts o gs None same none fits = absurd cc
 found_by S ns name ps t ts None gs (Some y) same none fits = absurd same
@@ -163,7 +163,7 @@ pub data Perhaps_found (S : List Argument → List Argument) (ns : List Node) (p
   missing : o ≡ None → Taking S ns ps ts given → Perhaps_found S ns ps t ts given o
   there : Found S ns ps t ts o → Perhaps_found S ns ps t ts given o
 
-perhaps_by : (S : List Argument → List Argument) (ns : List Node) (name : List ℕ) (ps : List Parameter) (t : Ground) (ts : List Ground) (given : List Argument) (o : Taken) (gs : List (arguments.Given Ground)) (q : Typed) → AreA ns (S given) gs → Same ns (through S o) q
+perhaps_by : (S : List Argument → List Argument) (ns : List Node) (name : List ℕ) (ps : List Parameter) (t : Ground) (ts : List Ground) (given : List Argument) (o : Taken) (gs : List (arguments.GivenArgument Ground)) (q : Typed) → AreA ns (S given) gs → Same ns (through S o) q
     → missing_or (perhaps name) q (first_missing ps (others gs q)) ≡ None → TakenAs (option_map (λ x. x.0) q ∷ arguments_taken ps (others gs q)) (t ∷ ts) → Perhaps_found S ns ps t ts given o
 perhaps_by S ns name ps t ts given None gs None are same none fits = missing refl (record { gs = gs; are = are; none = none; fits = fits })
 perhaps_by S ns name ps t ts given (Some x) gs None are same none fits = absurd same

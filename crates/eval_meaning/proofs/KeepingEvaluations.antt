@@ -1,7 +1,7 @@
 -- What counting and the builtins keep true of the state, evaluation keeps.
 use Rattle.std.proofs.Common.{ℕ, zero, suc, List, [], ◌∷◌, ◌++◌, Bool, true, false, Option, Some, None, Result, Ok, Err}
 use Rattle.liq_base.specs.declared.memory.Kind.{Kind}
-use Rattle.script_grammar.specs.Tree.{Tree, Many, none, more, AFull, AnExpr, AnAnd, ANot, ACompare, ASum, AnAdded, AProduct, AMultiplied, AnOperand, ACall, AnArg, AnIf, AParam, AnInner, ADef, Negative, Plain, Expr, And, Not, Alone, Compared, Sum, Added, Product, Multiplied, Constant, Quoted, Truth, Named, Called, Chosen, Nothing, Paren, Tuple, Listed, Braces, Format, Call, Arg, If, Param, Labelled, Optional, Inner, Bind, Def, APart, BindPart, DefPart, CallPart, IfPart}
+use Rattle.script_grammar.specs.Tree.{Tree, Many, none, more, AFull, AnExpr, AnAnd, ANot, ACompare, ASum, AnAdded, AProduct, AMultiplied, AnOperand, ACall, AnArg, AnIf, AParam, AnInner, ADef, Negative, Plain, Expr, And, Not, Alone, Compared, Sum, Added, Product, Multiplied, Constant, Quoted, Truth, Named, Called, Chosen, Nothing, Paren, Tuple, Listed, Braces, Format, NamedCall, Arg, If, Param, Labelled, Optional, Inner, Bind, Def, APart, BindPart, DefPart, CallPart, IfPart}
 use Rattle.typing_rules.specs.declared.uses.Use.{Use}
 use Rattle.typing_rules.specs.declared.uses.Target.{Target}
 use Rattle.typing_rules.specs.declared.uses.Target.TheVariants as target
@@ -12,15 +12,15 @@ use Rattle.typing_rules.specs.Uses.{use_at}
 use Rattle.script_values.specs.declared.fault.Fault.{Fault}
 use Rattle.script_values.specs.declared.fault.Fault.TheVariants.{Stuck}
 use Rattle.script_values.specs.declared.machine.Machine.{Machine}
-use Rattle.script_values.specs.Machines.{count}
+use Rattle.script_values.specs.Machines.{count_work}
 use Rattle.script_values.specs.Numbers.{literal_value, negative, added, multiplied, compared, either, both, opposite, truth_of}
 use Rattle.script_values.specs.Outcomes.{◌>>=◌, Outcome}
-use Rattle.script_values.specs.Slots.{Argument, SlotValue, slot_at}
+use Rattle.script_values.specs.Slots.{Argument, SlotValue, value_at_token}
 use Rattle.script_values.specs.Values as value
 use Rattle.script_values.specs.Values.{Value, many, size}
 use Rattle.eval_meaning.specs.Keeping.{IsKept, HoldsBehind, Leaves}
 use Rattle.eval_meaning.specs.Meaning as meaning
-use Rattle.eval_meaning.specs.Meaning.{Surroundings, World, call_by, full, joined, slot_or_default, taken_slot, value_at, with_slots}
+use Rattle.eval_meaning.specs.Meaning.{Surroundings, World, call_by, full, operator_applied, slot_or_default, taken_slot, value_at, with_slots}
 use Rattle.eval_meaning.specs.Preds.{or_pred}
 use Rattle.eval_meaning.specs.Scripts.{statement}
 
@@ -30,8 +30,8 @@ after : {A B : Type 0} (P : Machine → Type 0) (r : Result (A × Machine) Fault
 after P (Ok x) f is later = later x is
 after P (Err e) f is later = tt
 
-counted : {B : Type 0} {P : Machine → Type 0} → IsKept P → (n : ℕ) (m : Machine) (f : Machine → Result (B × Machine) Fault) → P m → ((c : Machine) → P c → HoldsBehind P (f c)) → HoldsBehind P (count n m >>= f)
-counted {P = P} kept n m f is later = behind (count n m) (kept.counts n m is) where
+counted : {B : Type 0} {P : Machine → Type 0} → IsKept P → (n : ℕ) (m : Machine) (f : Machine → Result (B × Machine) Fault) → P m → ((c : Machine) → P c → HoldsBehind P (f c)) → HoldsBehind P (count_work n m >>= f)
+counted {P = P} kept n m f is later = behind (count_work n m) (kept.counts n m is) where
   behind : (r : Result Machine Fault) → Leaves P r → HoldsBehind P (r >>= f)
   behind (Ok c) held = later c held
   behind (Err e) held = tt
@@ -41,9 +41,9 @@ fixed : {A B : Type 0} (P : Machine → Type 0) (r : Result A Fault) (f : A → 
 fixed P (Ok x) f later = later x
 fixed P (Err e) f later = tt
 
-joined_keeps : {P : Machine → Type 0} → IsKept P → (op : Value → Value → Result Value Fault) (v : Value) (right : Outcome) → HoldsBehind P right → HoldsBehind P (joined op v right)
+joined_keeps : {P : Machine → Type 0} → IsKept P → (op : Value → Value → Result Value Fault) (v : Value) (right : Outcome) → HoldsBehind P right → HoldsBehind P (operator_applied op v right)
 joined_keeps {P = P} kept op v right is =
-    after P right (λ x. count 1 x.1 >>= λ c. op v x.0 >>= λ u. Ok (u, c)) is (λ x held.
+    after P right (λ x. count_work 1 x.1 >>= λ c. op v x.0 >>= λ u. Ok (u, c)) is (λ x held.
     counted kept 1 x.1 (λ c. op v x.0 >>= λ u. Ok (u, c)) held (λ c still. fixed P (op v x.0) (λ u. Ok (u, c)) (λ u. still)))
 
 branch_keeps : (P : Machine → Type 0) (b : Bool) (r q : Outcome) → HoldsBehind P r → HoldsBehind P q → HoldsBehind P (elim b [ true ↦ r | false ↦ q ])
@@ -56,8 +56,8 @@ found_keeps : {P : Machine → Type 0} → IsKept P → (o : Option Value) (m : 
 found_keeps kept None m is = tt
 found_keeps kept (Some v) m is = counted kept (size v) m (λ c. Ok (v, c)) is (λ c still. still)
 
-slot_keeps : {P : Machine → Type 0} → IsKept P → (s : Surroundings) (t : Target) (m : Machine) → P m → HoldsBehind P (elim t [ target.Slot t ↦ value_at (slot_at t s.slots) m | target.Def t ↦ Err Stuck | target.Builtin b ↦ Err Stuck ])
-slot_keeps kept s (target.Slot t) m is = found_keeps kept (slot_at t s.slots) m is
+slot_keeps : {P : Machine → Type 0} → IsKept P → (s : Surroundings) (t : Target) (m : Machine) → P m → HoldsBehind P (elim t [ target.Slot t ↦ value_at (value_at_token t s.slots) m | target.Def t ↦ Err Stuck | target.Builtin b ↦ Err Stuck ])
+slot_keeps kept s (target.Slot t) m is = found_keeps kept (value_at_token t s.slots) m is
 slot_keeps kept s (target.Def t) m is = tt
 slot_keeps kept s (target.Builtin b) m is = tt
 
@@ -95,26 +95,26 @@ mutual
 
   ors_keeps : {P : Machine → Type 0} → IsKept P → (s : Surroundings) → KeepsCalls P s → (rest : Tree (Many AnAnd)) (v : Value) (m : Machine) → P m → HoldsBehind P (meaning.ors s rest v m)
   ors_keeps kept s calls none v m is = is
-  ors_keeps {P = P} kept s calls (more a rest) v m is = after P (joined either v (meaning.conjunction s a m)) (λ x. meaning.ors s rest x.0 x.1) (joined_keeps kept either v (meaning.conjunction s a m) (conjunction_keeps kept s calls a m is)) (λ x held. ors_keeps kept s calls rest x.0 x.1 held)
+  ors_keeps {P = P} kept s calls (more a rest) v m is = after P (operator_applied either v (meaning.conjunction s a m)) (λ x. meaning.ors s rest x.0 x.1) (joined_keeps kept either v (meaning.conjunction s a m) (conjunction_keeps kept s calls a m is)) (λ x held. ors_keeps kept s calls rest x.0 x.1 held)
 
   conjunction_keeps : {P : Machine → Type 0} → IsKept P → (s : Surroundings) → KeepsCalls P s → (e : Tree AnAnd) (m : Machine) → P m → HoldsBehind P (meaning.conjunction s e m)
   conjunction_keeps {P = P} kept s calls (And n rest) m is = after P (meaning.negation s n m) (λ x. meaning.ands s rest x.0 x.1) (negation_keeps kept s calls n m is) (λ x held. ands_keeps kept s calls rest x.0 x.1 held)
 
   ands_keeps : {P : Machine → Type 0} → IsKept P → (s : Surroundings) → KeepsCalls P s → (rest : Tree (Many ANot)) (v : Value) (m : Machine) → P m → HoldsBehind P (meaning.ands s rest v m)
   ands_keeps kept s calls none v m is = is
-  ands_keeps {P = P} kept s calls (more n rest) v m is = after P (joined both v (meaning.negation s n m)) (λ x. meaning.ands s rest x.0 x.1) (joined_keeps kept both v (meaning.negation s n m) (negation_keeps kept s calls n m is)) (λ x held. ands_keeps kept s calls rest x.0 x.1 held)
+  ands_keeps {P = P} kept s calls (more n rest) v m is = after P (operator_applied both v (meaning.negation s n m)) (λ x. meaning.ands s rest x.0 x.1) (joined_keeps kept both v (meaning.negation s n m) (negation_keeps kept s calls n m is)) (λ x held. ands_keeps kept s calls rest x.0 x.1 held)
 
   negation_keeps : {P : Machine → Type 0} → IsKept P → (s : Surroundings) → KeepsCalls P s → (e : Tree ANot) (m : Machine) → P m → HoldsBehind P (meaning.negation s e m)
   negation_keeps {P = P} kept s calls (Not true inner) m is =
-      after P (meaning.compare s inner m) (λ x. count 1 x.1 >>= λ c. opposite x.0 >>= λ u. Ok (u, c)) (compare_keeps kept s calls inner m is) (λ x held.
+      after P (meaning.compare s inner m) (λ x. count_work 1 x.1 >>= λ c. opposite x.0 >>= λ u. Ok (u, c)) (compare_keeps kept s calls inner m is) (λ x held.
       counted kept 1 x.1 (λ c. opposite x.0 >>= λ u. Ok (u, c)) held (λ c still. fixed P (opposite x.0) (λ u. Ok (u, c)) (λ u. still)))
   negation_keeps kept s calls (Not false inner) m is = compare_keeps kept s calls inner m is
 
   compare_keeps : {P : Machine → Type 0} → IsKept P → (s : Surroundings) → KeepsCalls P s → (e : Tree ACompare) (m : Machine) → P m → HoldsBehind P (meaning.compare s e m)
   compare_keeps kept s calls (Alone left) m is = sum_keeps kept s calls left m is
   compare_keeps {P = P} kept s calls (Compared left at o right) m is =
-      after P (meaning.sum s left m) (λ x. meaning.sum s right x.1 >>= λ y. count 1 y.1 >>= λ c. compared o x.0 y.0 >>= λ u. Ok (u, c)) (sum_keeps kept s calls left m is) (λ x held.
-      after P (meaning.sum s right x.1) (λ y. count 1 y.1 >>= λ c. compared o x.0 y.0 >>= λ u. Ok (u, c)) (sum_keeps kept s calls right x.1 held) (λ y still.
+      after P (meaning.sum s left m) (λ x. meaning.sum s right x.1 >>= λ y. count_work 1 y.1 >>= λ c. compared o x.0 y.0 >>= λ u. Ok (u, c)) (sum_keeps kept s calls left m is) (λ x held.
+      after P (meaning.sum s right x.1) (λ y. count_work 1 y.1 >>= λ c. compared o x.0 y.0 >>= λ u. Ok (u, c)) (sum_keeps kept s calls right x.1 held) (λ y still.
       counted kept 1 y.1 (λ c. compared o x.0 y.0 >>= λ u. Ok (u, c)) still (λ c yet. fixed P (compared o x.0 y.0) (λ u. Ok (u, c)) (λ u. yet))))
 
   sum_keeps : {P : Machine → Type 0} → IsKept P → (s : Surroundings) → KeepsCalls P s → (e : Tree ASum) (m : Machine) → P m → HoldsBehind P (meaning.sum s e m)
@@ -122,32 +122,32 @@ mutual
 
   addends_keeps : {P : Machine → Type 0} → IsKept P → (s : Surroundings) → KeepsCalls P s → (rest : Tree (Many AnAdded)) (v : Value) (m : Machine) → P m → HoldsBehind P (meaning.addends s rest v m)
   addends_keeps kept s calls none v m is = is
-  addends_keeps {P = P} kept s calls (more (Added at minus p) rest) v m is = after P (joined (added minus at) v (meaning.product s p m)) (λ x. meaning.addends s rest x.0 x.1) (joined_keeps kept (added minus at) v (meaning.product s p m) (product_keeps kept s calls p m is)) (λ x held. addends_keeps kept s calls rest x.0 x.1 held)
+  addends_keeps {P = P} kept s calls (more (Added at minus p) rest) v m is = after P (operator_applied (added minus at) v (meaning.product s p m)) (λ x. meaning.addends s rest x.0 x.1) (joined_keeps kept (added minus at) v (meaning.product s p m) (product_keeps kept s calls p m is)) (λ x held. addends_keeps kept s calls rest x.0 x.1 held)
 
   product_keeps : {P : Machine → Type 0} → IsKept P → (s : Surroundings) → KeepsCalls P s → (e : Tree AProduct) (m : Machine) → P m → HoldsBehind P (meaning.product s e m)
   product_keeps {P = P} kept s calls (Product p rest) m is = after P (meaning.operand s p m) (λ x. meaning.factors s rest x.0 x.1) (operand_keeps kept s calls p m is) (λ x held. factors_keeps kept s calls rest x.0 x.1 held)
 
   factors_keeps : {P : Machine → Type 0} → IsKept P → (s : Surroundings) → KeepsCalls P s → (rest : Tree (Many AMultiplied)) (v : Value) (m : Machine) → P m → HoldsBehind P (meaning.factors s rest v m)
   factors_keeps kept s calls none v m is = is
-  factors_keeps {P = P} kept s calls (more (Multiplied at divide p) rest) v m is = after P (joined (multiplied divide at) v (meaning.operand s p m)) (λ x. meaning.factors s rest x.0 x.1) (joined_keeps kept (multiplied divide at) v (meaning.operand s p m) (operand_keeps kept s calls p m is)) (λ x held. factors_keeps kept s calls rest x.0 x.1 held)
+  factors_keeps {P = P} kept s calls (more (Multiplied at divide p) rest) v m is = after P (operator_applied (multiplied divide at) v (meaning.operand s p m)) (λ x. meaning.factors s rest x.0 x.1) (joined_keeps kept (multiplied divide at) v (meaning.operand s p m) (operand_keeps kept s calls p m is)) (λ x held. factors_keeps kept s calls rest x.0 x.1 held)
 
   operand_keeps : {P : Machine → Type 0} → IsKept P → (s : Surroundings) → KeepsCalls P s → (e : Tree AnOperand) (m : Machine) → P m → HoldsBehind P (meaning.operand s e m)
   operand_keeps kept s calls (Constant at n) m is = counted kept 1 m (λ c. Ok (literal_value n, c)) is (λ c still. still)
   operand_keeps kept s calls (Quoted at text) m is = counted kept 1 m (λ c. Ok (value.Text text, c)) is (λ c still. still)
-  operand_keeps kept s calls (Truth at b) m is = counted kept 1 m (λ c. Ok (value.Truth b, c)) is (λ c still. still)
+  operand_keeps kept s calls (Truth at b) m is = counted kept 1 m (λ c. Ok (value.TruthValue b, c)) is (λ c still. still)
   operand_keeps kept s calls (Named at name) m is = named_keeps kept s (use_at at s.uses) m is
   operand_keeps kept s calls (Called k) m is = counted kept 1 m (λ c. meaning.call s k c) is (λ c still. call_keeps kept s calls k c still)
   operand_keeps kept s calls (Chosen i) m is = counted kept 1 m (λ c. meaning.choice s i c) is (λ c still. choice_keeps kept s calls i c still)
-  operand_keeps kept s calls (Nothing at) m is = counted kept 1 m (λ c. Ok (value.Nothing, c)) is (λ c still. still)
+  operand_keeps kept s calls (Nothing at) m is = counted kept 1 m (λ c. Ok (value.UnitValue, c)) is (λ c still. still)
   operand_keeps kept s calls (Paren f) m is = counted kept 1 m (λ c. full s f c) is (λ c still. full_keeps kept s calls f c still)
   operand_keeps {P = P} kept s calls (Tuple at f g rest) m is =
-      counted kept 1 m (λ c. full s f c >>= λ x. full s g x.1 >>= λ y. meaning.fulls s rest (x.0 ∷ y.0 ∷ []) y.1 >>= λ z. Ok (value.Tuple (many z.0), z.1)) is (λ c still.
-      after P (full s f c) (λ x. full s g x.1 >>= λ y. meaning.fulls s rest (x.0 ∷ y.0 ∷ []) y.1 >>= λ z. Ok (value.Tuple (many z.0), z.1)) (full_keeps kept s calls f c still) (λ x held.
-      after P (full s g x.1) (λ y. meaning.fulls s rest (x.0 ∷ y.0 ∷ []) y.1 >>= λ z. Ok (value.Tuple (many z.0), z.1)) (full_keeps kept s calls g x.1 held) (λ y yet.
-      after P (meaning.fulls s rest (x.0 ∷ y.0 ∷ []) y.1) (λ z. Ok (value.Tuple (many z.0), z.1)) (fulls_keeps kept s calls rest (x.0 ∷ y.0 ∷ []) y.1 yet) (λ z last. last))))
+      counted kept 1 m (λ c. full s f c >>= λ x. full s g x.1 >>= λ y. meaning.fulls s rest (x.0 ∷ y.0 ∷ []) y.1 >>= λ z. Ok (value.TupleValue (many z.0), z.1)) is (λ c still.
+      after P (full s f c) (λ x. full s g x.1 >>= λ y. meaning.fulls s rest (x.0 ∷ y.0 ∷ []) y.1 >>= λ z. Ok (value.TupleValue (many z.0), z.1)) (full_keeps kept s calls f c still) (λ x held.
+      after P (full s g x.1) (λ y. meaning.fulls s rest (x.0 ∷ y.0 ∷ []) y.1 >>= λ z. Ok (value.TupleValue (many z.0), z.1)) (full_keeps kept s calls g x.1 held) (λ y yet.
+      after P (meaning.fulls s rest (x.0 ∷ y.0 ∷ []) y.1) (λ z. Ok (value.TupleValue (many z.0), z.1)) (fulls_keeps kept s calls rest (x.0 ∷ y.0 ∷ []) y.1 yet) (λ z last. last))))
   operand_keeps {P = P} kept s calls (Listed at parts) m is =
-      counted kept 1 m (λ c. meaning.fulls s parts [] c >>= λ z. Ok (value.Listed (many z.0), z.1)) is (λ c still.
-      after P (meaning.fulls s parts [] c) (λ z. Ok (value.Listed (many z.0), z.1)) (fulls_keeps kept s calls parts [] c still) (λ z last. last))
+      counted kept 1 m (λ c. meaning.fulls s parts [] c >>= λ z. Ok (value.ListValue (many z.0), z.1)) is (λ c still.
+      after P (meaning.fulls s parts [] c) (λ z. Ok (value.ListValue (many z.0), z.1)) (fulls_keeps kept s calls parts [] c still) (λ z last. last))
   operand_keeps kept s calls (Braces at pred) m is = counted kept 1 m (λ c. Ok (value.Pred (or_pred pred), c)) is (λ c still. still)
   operand_keeps {P = P} kept s calls (Format at bits) m is = counted kept 1 m (λ c. meaning.format at bits >>= λ v. Ok (v, c)) is (λ c still. fixed P (meaning.format at bits) (λ v. Ok (v, c)) (λ v. still))
 
@@ -162,7 +162,7 @@ mutual
       branch_keeps P b (full s t x.1) (full s e x.1) (full_keeps kept s calls t x.1 held) (full_keeps kept s calls e x.1 held)))
 
   pub call_keeps : {P : Machine → Type 0} → IsKept P → (s : Surroundings) → KeepsCalls P s → (e : Tree ACall) (m : Machine) → P m → HoldsBehind P (meaning.call s e m)
-  call_keeps {P = P} kept s calls (Call at name args) m is = after P (meaning.arguments s args [] m) (λ x. meaning.applied s (use_at at s.uses) at x.0 x.1) (arguments_keeps kept s calls args [] m is) (λ x held. applied_keeps kept s calls (use_at at s.uses) at x.0 x.1 held)
+  call_keeps {P = P} kept s calls (NamedCall at name args) m is = after P (meaning.arguments s args [] m) (λ x. meaning.applied s (use_at at s.uses) at x.0 x.1) (arguments_keeps kept s calls args [] m is) (λ x held. applied_keeps kept s calls (use_at at s.uses) at x.0 x.1 held)
 
   arguments_keeps : {P : Machine → Type 0} → IsKept P → (s : Surroundings) → KeepsCalls P s → (rest : Tree (Many AnArg)) (given : List Argument) (m : Machine) → P m → HoldsBehind P (meaning.arguments s rest given m)
   arguments_keeps kept s calls none given m is = is

@@ -11,7 +11,7 @@ use Rattle.typing_rules.specs.declared.uses.Use.{Use}
 use Rattle.script_values.specs.declared.fault.Fault.{Fault}
 use Rattle.script_values.specs.declared.fault.EvalFault.TheVariants as told
 use Rattle.script_values.specs.declared.machine.Machine.{Machine}
-use Rattle.script_values.specs.Machines.{count, first_machine}
+use Rattle.script_values.specs.Machines.{count_work, first_machine}
 use Rattle.script_values.specs.Slots.{SlotValue}
 use Rattle.script_values.specs.Values.{Value}
 use Rattle.builtin_calls.specs.Builtins.{builtin}
@@ -19,7 +19,7 @@ use Rattle.builtin_calls.specs.Sound.{IsSound}
 use Rattle.builtin_calls.proofs.Keeping.{call_keeps, counting_keeps, first_sound}
 use Rattle.eval_meaning.specs.Calls.{is_setting}
 use Rattle.eval_meaning.specs.Keeping.{IsKept, HoldsBehind, Leaves}
-use Rattle.eval_meaning.specs.Scripts.{Ending, and_then, closed, ended, evaluation, in_statement, numbered, plan_of, settled, statement, statements, tick_of, top_scope, turned}
+use Rattle.eval_meaning.specs.Scripts.{Ending, and_then, closed, settings_ended, evaluation, ending_in, numbered, plan_of, settings_settled, statement, statements, tick_of, top_scope, turned}
 use Rattle.eval_meaning.proofs.KeepingEvaluations.{calls_keep, statement_keeps}
 
 left_by : (r : Result Machine Fault) (m : Machine) → ((c : Machine) → r ≡ Ok c → IsSound m → IsSound c) → IsSound m → Leaves IsSound r
@@ -32,7 +32,7 @@ kept_by (Err e) m each is = tt
 
 sound_is_kept : IsKept IsSound
 sound_is_kept = record {
-  counts = λ n m is. left_by (count n m) m (λ c same held. (counting_keeps n m c same).sound held) is;
+  counts = λ n m is. left_by (count_work n m) m (λ c same held. (counting_keeps n m c same).sound held) is;
   builtins = λ b at kinds given m is. kept_by (builtin b at kinds given m) m (λ x same held. (call_keeps b at kinds given m x same).sound held) is;
 }
 
@@ -74,15 +74,15 @@ closed_sound : (m : Machine) (o : Option ℕ) → ((frame : ℕ) → o ≡ Some 
 closed_sound m (Some frame) range is = record { well_formed = framed m.plan frame (range frame refl) is.well_formed; outputs = is.outputs; feeds = is.feeds }
 closed_sound m None range is = tt
 
-ended_sound : (m : Machine) → IsSound m → Leaves IsSound (ended m)
-unfolding ended
+ended_sound : (m : Machine) → IsSound m → Leaves IsSound (settings_ended m)
+unfolding settings_ended
 ended_sound m is = closed_sound m (tick_of m.settings.duration.millionths m.plan.rate) (λ frame same. ticked m.settings.duration.millionths m.plan.rate frame same) is
 
-open_sound : (allowed : Bool) (m : Machine) → IsSound m → Leaves IsSound (elim allowed [ true ↦ ended m | false ↦ Ok m ])
+open_sound : (allowed : Bool) (m : Machine) → IsSound m → Leaves IsSound (elim allowed [ true ↦ settings_ended m | false ↦ Ok m ])
 open_sound true m is = ended_sound m is
 open_sound false m is = is
 
-settled_sound : (setting : Bool) (m : Machine) → IsSound m → Leaves IsSound (settled setting m)
+settled_sound : (setting : Bool) (m : Machine) → IsSound m → Leaves IsSound (settings_settled setting m)
 settled_sound true m is = is
 settled_sound false m is = open_sound m.settings.allowed m is
 
@@ -99,14 +99,14 @@ then_leaves : {A : Type 0} (r : Result (A × Machine) Ending) (f : A × Machine 
 then_leaves (Ok x) f is later = later x is
 then_leaves (Err e) f is later = tt
 
-in_keeps : {A : Type 0} (n : ℕ) (r : Result (A × Machine) Fault) → HoldsBehind IsSound r → HoldsBehind IsSound (in_statement n r)
+in_keeps : {A : Type 0} (n : ℕ) (r : Result (A × Machine) Fault) → HoldsBehind IsSound r → HoldsBehind IsSound (ending_in n r)
 in_keeps n (Ok x) is = is
 in_keeps n (Err e) is = tt
 
 turned_sound : (script : Script) (uses : List Use) (part : Tree APart) (n : ℕ) (slots : List SlotValue) (m : Machine) → IsSound m → HoldsBehind IsSound (turned script uses part n slots m)
 unfolding turned
 turned_sound script uses part n slots m is =
-    then_keeps (settled (is_setting uses part) m) (λ b. in_statement n (statement (top_scope script uses slots) part slots (numbered n b))) (settled_sound (is_setting uses part) m is) (λ b held.
+    then_keeps (settings_settled (is_setting uses part) m) (λ b. ending_in n (statement (top_scope script uses slots) part slots (numbered n b))) (settled_sound (is_setting uses part) m is) (λ b held.
     in_keeps n (statement (top_scope script uses slots) part slots (numbered n b))
     (statement_keeps sound_is_kept (top_scope script uses slots) (λ t kinds given k kept. calls_keep sound_is_kept (record { script = script; uses = uses; globals = slots }) MAX_CALLS t kinds given k kept) part slots (numbered n b) (numbered_sound n b held)))
 

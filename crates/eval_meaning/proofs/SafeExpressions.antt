@@ -6,7 +6,7 @@ use Rattle.plan_core.specs.declared.node.Node.{Node}
 use Rattle.script_grammar.specs.declared.tree.Literal.{Literal}
 use Rattle.script_grammar.specs.declared.tree.Literal.TheVariants as literal
 use Rattle.script_grammar.specs.declared.tree.CompareOp.{CompareOp}
-use Rattle.script_grammar.specs.Tree.{Tree, Many, none, more, AFull, AnExpr, AnAnd, ANot, ACompare, ASum, AnAdded, AProduct, AMultiplied, AnOperand, ACall, AnArg, AnIf, APOr, Negative, Plain, Expr, And, Not, Alone, Compared, Sum, Added, Product, Multiplied, Constant, Quoted, Truth, Named, Called, Chosen, Nothing, Paren, Tuple, Listed, Braces, Format, Call, Arg, If}
+use Rattle.script_grammar.specs.Tree.{Tree, Many, none, more, AFull, AnExpr, AnAnd, ANot, ACompare, ASum, AnAdded, AProduct, AMultiplied, AnOperand, ACall, AnArg, AnIf, APOr, Negative, Plain, Expr, And, Not, Alone, Compared, Sum, Added, Product, Multiplied, Constant, Quoted, Truth, Named, Called, Chosen, Nothing, Paren, Tuple, Listed, Braces, Format, NamedCall, Arg, If}
 use Rattle.type_terms.specs.Ground.{Ground, Grounds, base_type, list, tuple, source, IsNumber, no_more}
 use Rattle.type_terms.specs.Ground as ground
 use Rattle.type_terms.specs.declared.ty.Base.TheVariants as base
@@ -21,14 +21,14 @@ use Rattle.typing_rules.specs.Uses.{use_at}
 use Rattle.script_values.specs.declared.fault.Fault.{Fault}
 use Rattle.script_values.specs.declared.fault.Fault.TheVariants as faults
 use Rattle.script_values.specs.declared.machine.Machine.{Machine}
-use Rattle.script_values.specs.Machines.{count}
+use Rattle.script_values.specs.Machines.{count_work}
 use Rattle.script_values.specs.Numbers.{literal_value, negative, added, multiplied, compared, either, both, opposite, truth_of}
 use Rattle.script_values.specs.Outcomes.{◌>>=◌, Outcome}
-use Rattle.script_values.specs.Slots.{Argument, slot_at}
+use Rattle.script_values.specs.Slots.{Argument, value_at_token}
 use Rattle.script_values.specs.Values as value
 use Rattle.script_values.specs.Values.{Value, many, size}
 use Rattle.eval_meaning.specs.Meaning as meaning
-use Rattle.eval_meaning.specs.Meaning.{Surroundings, full, joined, value_at}
+use Rattle.eval_meaning.specs.Meaning.{Surroundings, full, operator_applied, value_at}
 use Rattle.eval_meaning.specs.Preds.{or_pred}
 use Rattle.eval_meaning.specs.BuiltinSafety.{AllAre, AreA, BuiltinsAreSafe, EachIs, Grows, IsA, NotStuck, Of, Safe}
 use Rattle.eval_meaning.specs.Safety.{Knows}
@@ -41,10 +41,10 @@ found_safe : (g : Ground) (o : Option Value) (v : Value) (m : Machine) → o ≡
 found_safe g o v m is held = subst (λ (x : Option Value). Safe m.plan.nodes (Of g) (value_at x m)) (sym is) (counted (Of g) (size v) m (λ c. Ok (v, c)) (λ work. (stays m.plan.nodes, held)))
 
 meant_safe : (s : Surroundings) (t : Sight) (u : Target) (g : Ground) (m : Machine) → Knows s t m.plan.nodes → NameHas t (Some u) g
-    → Safe m.plan.nodes (Of g) (elim u [ target.Slot at ↦ value_at (slot_at at s.slots) m | target.Def at ↦ Err faults.Stuck | target.Builtin b ↦ Err faults.Stuck ])
+    → Safe m.plan.nodes (Of g) (elim u [ target.Slot at ↦ value_at (value_at_token at s.slots) m | target.Def at ↦ Err faults.Stuck | target.Builtin b ↦ Err faults.Stuck ])
 meant_safe s t (target.Slot at) g m knows has =
     let held = knows.slots at g has in
-    found_safe g (slot_at at s.slots) held.0 m held.1 held.2
+    found_safe g (value_at_token at s.slots) held.0 m held.1 held.2
 meant_safe s t (target.Def at) g m knows has = absurd has
 meant_safe s t (target.Builtin b) g m knows has = absurd has
 
@@ -57,13 +57,13 @@ named_safe s t (Some u) g m knows has = meant_safe s t u.target g m knows has
 abbrev of_other_size : ℕ → ℤ → Result Value Fault
 of_other_size at n =
     elim (int_le n (pos 24) && int_le (pos 24) n) [
-      | true ↦ Ok (value.Format true)
+      | true ↦ Ok (value.FormatValue true)
       | false ↦ Err (faults.BadValue at)
     ]
 
 other_size_safe : (ns : List Node) (at : ℕ) (n : ℤ) (g : Ground) → g ≡ base_type base.Format → NotStuck (λ (u : Value). IsA ns u g) (of_other_size at n)
 other_size_safe ns at n g has =
-    elim (int_le n (pos 24) && int_le (pos 24) n) as (λ b. NotStuck (λ (u : Value). IsA ns u g) (elim b [ true ↦ Ok (value.Format true) | false ↦ Err (faults.BadValue at) ])) [
+    elim (int_le n (pos 24) && int_le (pos 24) n) as (λ b. NotStuck (λ (u : Value). IsA ns u g) (elim b [ true ↦ Ok (value.FormatValue true) | false ↦ Err (faults.BadValue at) ])) [
       | true ↦ has
       | false ↦ tt
     ]
@@ -71,7 +71,7 @@ other_size_safe ns at n g has =
 format_safe : (ns : List Node) (at : ℕ) (bits : Option ℤ) (g : Ground) → g ≡ base_type base.Format → NotStuck (λ (u : Value). IsA ns u g) (meaning.format at bits)
 format_safe ns at None g has = has
 format_safe ns at (Some n) g has =
-    elim (int_le n (pos 16) && int_le (pos 16) n) as (λ b. NotStuck (λ (u : Value). IsA ns u g) (elim b [ true ↦ Ok (value.Format false) | false ↦ of_other_size at n ])) [
+    elim (int_le n (pos 16) && int_le (pos 16) n) as (λ b. NotStuck (λ (u : Value). IsA ns u g) (elim b [ true ↦ Ok (value.FormatValue false) | false ↦ of_other_size at n ])) [
       | true ↦ has
       | false ↦ other_size_safe ns at n g has
     ]
@@ -81,7 +81,7 @@ format_safe ns at (Some n) g has =
 same_kinds : (o : Option (List Kind)) (js ks : List Kind) → o ≡ Some js → o ≡ Some ks → js ≡ ks
 same_kinds o js ks a b = cc
 
-called_safe : BuiltinsAreSafe → (s : Surroundings) (t : Sight) (u : Target) (at : ℕ) (o : Option (List Kind)) (given : List Argument) (gs : List (arguments.Given Ground)) (g : Ground) (m : Machine) → Knows s t m.plan.nodes
+called_safe : BuiltinsAreSafe → (s : Surroundings) (t : Sight) (u : Target) (at : ℕ) (o : Option (List Kind)) (given : List Argument) (gs : List (arguments.GivenArgument Ground)) (g : Ground) (m : Machine) → Knows s t m.plan.nodes
     → t.kinds at ≡ o → Applied t at (Some u) gs g → AreA m.plan.nodes given gs → Safe m.plan.nodes (Of g) (meaning.applied_to s u at o given m)
 called_safe bs s t (target.Slot u) at o given gs g m knows kinds has held = absurd has
 called_safe bs s t (target.Def u) at None given gs g m knows kinds has held = let e = has.1 in absurd cc
@@ -89,13 +89,13 @@ called_safe bs s t (target.Def u) at (Some ks) given gs g m knows kinds has held
 called_safe bs s t (target.Builtin b) at None given gs g m knows kinds has held = let e = has.1 in absurd cc
 called_safe bs s t (target.Builtin b) at (Some ks) given gs g m knows kinds has held = bs b at ks gs g (subst (λ (l : List Kind). IsCallOf b gs l g) (same_kinds (t.kinds at) has.0 ks has.1 kinds) has.2) given m held
 
-applied_safe : BuiltinsAreSafe → (s : Surroundings) (t : Sight) (o : Option Use) (at : ℕ) (given : List Argument) (gs : List (arguments.Given Ground)) (g : Ground) (m : Machine) → Knows s t m.plan.nodes
+applied_safe : BuiltinsAreSafe → (s : Surroundings) (t : Sight) (o : Option Use) (at : ℕ) (given : List Argument) (gs : List (arguments.GivenArgument Ground)) (g : Ground) (m : Machine) → Knows s t m.plan.nodes
     → t.kinds at ≡ kinds_in o s.kinds → Applied t at (target_said o) gs g → AreA m.plan.nodes given gs → Safe m.plan.nodes (Of g) (meaning.applied s o at given m)
 unfolding meaning.applied
 applied_safe bs s t None at given gs g m knows kinds has held = absurd has
 applied_safe bs s t (Some u) at given gs g m knows kinds has held = called_safe bs s t u.target at (kinds_of s.kinds u.kinds) given gs g m knows kinds has held
 
-are_push : (ns : List Node) (given : List Argument) (gs : List (arguments.Given Ground)) (one : Argument) (two : arguments.Given Ground) → AreA ns given gs → one.0 ≡ two.0 → IsA ns one.1 two.1 → AreA ns (given ++ one ∷ []) (gs ++ two ∷ [])
+are_push : (ns : List Node) (given : List Argument) (gs : List (arguments.GivenArgument Ground)) (one : Argument) (two : arguments.GivenArgument Ground) → AreA ns given gs → one.0 ≡ two.0 → IsA ns one.1 two.1 → AreA ns (given ++ one ∷ []) (gs ++ two ∷ [])
 are_push ns [] [] one two held label is = (label, is, tt)
 are_push ns [] (h ∷ hs) one two held label is = absurd held
 are_push ns (g ∷ given) [] one two held label is = absurd held
@@ -154,15 +154,15 @@ SafeAt g h op = (ns : List Node) (u w : Value) → IsA ns u g → IsA ns w h →
 goes_on : (s : Surroundings) (t : Sight) (h g : Ground) (first : Machine → Outcome) (next : Value → Machine → Outcome) → Runs s t h first → RunsOn s t h g next → Runs s t g (λ m. first m >>= λ x. next x.0 x.1)
 goes_on s t h g first next a b m knows = after m.plan.nodes (Of h) (Of g) (first m) (λ x. next x.0 x.1) (a m knows) (λ x grows held. b x.0 x.1 (knows_later m.plan.nodes x.1.plan.nodes grows s t knows) held)
 
-linked : (s : Surroundings) (t : Sight) (g h k : Ground) (op : Value → Value → Result Value Fault) (run : Machine → Outcome) (next : Value → Machine → Outcome) → SafeAt g h op → Runs s t h run → RunsOn s t g k next → RunsOn s t g k (λ v m. joined op v (run m) >>= λ x. next x.0 x.1)
+linked : (s : Surroundings) (t : Sight) (g h k : Ground) (op : Value → Value → Result Value Fault) (run : Machine → Outcome) (next : Value → Machine → Outcome) → SafeAt g h op → Runs s t h run → RunsOn s t g k next → RunsOn s t g k (λ v m. operator_applied op v (run m) >>= λ x. next x.0 x.1)
 linked s t g h k op run next safe a b v m knows held =
-    after m.plan.nodes (Of g) (Of k) (joined op v (run m)) (λ x. next x.0 x.1) (joined_safe m.plan.nodes g h op v (run m) (a m knows) (λ ks grows w is. safe ks v w (is_later m.plan.nodes ks grows v g held) is))
+    after m.plan.nodes (Of g) (Of k) (operator_applied op v (run m)) (λ x. next x.0 x.1) (joined_safe m.plan.nodes g h op v (run m) (a m knows) (λ ks grows w is. safe ks v w (is_later m.plan.nodes ks grows v g held) is))
     (λ x grows made. b x.0 x.1 (knows_later m.plan.nodes x.1.plan.nodes grows s t knows) made)
 
 no_more_runs : (s : Surroundings) (t : Sight) (g : Ground) → RunsOn s t g g (λ v m. Ok (v, m))
 no_more_runs s t g v m knows held = (stays m.plan.nodes, held)
 
-counts_one : (s : Surroundings) (t : Sight) (g : Ground) (run : Machine → Outcome) → Runs s t g run → Runs s t g (λ m. count 1 m >>= λ c. run c)
+counts_one : (s : Surroundings) (t : Sight) (g : Ground) (run : Machine → Outcome) → Runs s t g run → Runs s t g (λ m. count_work 1 m >>= λ c. run c)
 counts_one s t g run a m knows = counted (Of g) 1 m run (λ work. a (record m { work = work }) knows)
 
 is_made : (s : Surroundings) (t : Sight) (g : Ground) (v : Value) → ((ns : List Node) → IsA ns v g) → Runs s t g (λ c. Ok (v, c))
@@ -171,16 +171,16 @@ is_made s t g v is m knows = (stays m.plan.nodes, is m.plan.nodes)
 is_found : (s : Surroundings) (t : Sight) (g : Ground) (r : Result Value Fault) → ((ns : List Node) → NotStuck (λ (u : Value). IsA ns u g) r) → Runs s t g (λ c. r >>= λ v. Ok (v, c))
 is_found s t g r is m knows = fixed m.plan.nodes (λ (u : Value). IsA m.plan.nodes u g) (Of g) r (λ v. Ok (v, m)) (is m.plan.nodes) (λ v held. (stays m.plan.nodes, held))
 
-is_opposite : (s : Surroundings) (t : Sight) (inner : Machine → Outcome) → Runs s t truth inner → Runs s t truth (λ m. inner m >>= λ x. count 1 x.1 >>= λ c. opposite x.0 >>= λ u. Ok (u, c))
+is_opposite : (s : Surroundings) (t : Sight) (inner : Machine → Outcome) → Runs s t truth inner → Runs s t truth (λ m. inner m >>= λ x. count_work 1 x.1 >>= λ c. opposite x.0 >>= λ u. Ok (u, c))
 is_opposite s t inner a m knows =
-    after m.plan.nodes (Of truth) (Of truth) (inner m) (λ x. count 1 x.1 >>= λ c. opposite x.0 >>= λ u. Ok (u, c)) (a m knows) (λ x grows held.
+    after m.plan.nodes (Of truth) (Of truth) (inner m) (λ x. count_work 1 x.1 >>= λ c. opposite x.0 >>= λ u. Ok (u, c)) (a m knows) (λ x grows held.
     counted (Of truth) 1 x.1 (λ c. opposite x.0 >>= λ u. Ok (u, c)) (λ work.
     fixed x.1.plan.nodes (λ (u : Value). IsA x.1.plan.nodes u truth) (Of truth) (opposite x.0) (λ u. Ok (u, record x.1 { work = work })) (opposite_safe x.1.plan.nodes x.0 held) (λ u is. (stays x.1.plan.nodes, is))))
 
-is_compared : (s : Surroundings) (t : Sight) (h : Ground) (o : CompareOp) (left right : Machine → Outcome) → IsNumber h → Runs s t h left → Runs s t h right → Runs s t truth (λ m. left m >>= λ x. right x.1 >>= λ y. count 1 y.1 >>= λ c. compared o x.0 y.0 >>= λ u. Ok (u, c))
+is_compared : (s : Surroundings) (t : Sight) (h : Ground) (o : CompareOp) (left right : Machine → Outcome) → IsNumber h → Runs s t h left → Runs s t h right → Runs s t truth (λ m. left m >>= λ x. right x.1 >>= λ y. count_work 1 y.1 >>= λ c. compared o x.0 y.0 >>= λ u. Ok (u, c))
 is_compared s t h o left right number a b m knows =
-    after m.plan.nodes (Of h) (Of truth) (left m) (λ x. right x.1 >>= λ y. count 1 y.1 >>= λ c. compared o x.0 y.0 >>= λ u. Ok (u, c)) (a m knows) (λ x grows held.
-    after x.1.plan.nodes (Of h) (Of truth) (right x.1) (λ y. count 1 y.1 >>= λ c. compared o x.0 y.0 >>= λ u. Ok (u, c)) (b x.1 (knows_later m.plan.nodes x.1.plan.nodes grows s t knows)) (λ y wider kept.
+    after m.plan.nodes (Of h) (Of truth) (left m) (λ x. right x.1 >>= λ y. count_work 1 y.1 >>= λ c. compared o x.0 y.0 >>= λ u. Ok (u, c)) (a m knows) (λ x grows held.
+    after x.1.plan.nodes (Of h) (Of truth) (right x.1) (λ y. count_work 1 y.1 >>= λ c. compared o x.0 y.0 >>= λ u. Ok (u, c)) (b x.1 (knows_later m.plan.nodes x.1.plan.nodes grows s t knows)) (λ y wider kept.
     counted (Of truth) 1 y.1 (λ c. compared o x.0 y.0 >>= λ u. Ok (u, c)) (λ work.
     fixed y.1.plan.nodes (λ (u : Value). IsA y.1.plan.nodes u truth) (Of truth) (compared o x.0 y.0) (λ u. Ok (u, record y.1 { work = work })) (compared_safe y.1.plan.nodes o h number x.0 y.0 (is_later x.1.plan.nodes y.1.plan.nodes wider x.0 h held) kept) (λ u is. (stays y.1.plan.nodes, is)))))
 
@@ -200,21 +200,21 @@ RunAll s t hs ts run = (vs : List Value) (m : Machine) → Knows s t m.plan.node
 abbrev RunEach : Surroundings → Sight → Ground → (List Value → Machine → Result (List Value × Machine) Fault) → Type 0
 RunEach s t g run = (vs : List Value) (m : Machine) → Knows s t m.plan.nodes → AllAre m.plan.nodes (many vs) g → Safe m.plan.nodes (λ ks out. AllAre ks (many out) g) (run vs m)
 
-abbrev RunGiven : Surroundings → Sight → List (arguments.Given Ground) → List (arguments.Given Ground) → (List Argument → Machine → Result (List Argument × Machine) Fault) → Type 0
+abbrev RunGiven : Surroundings → Sight → List (arguments.GivenArgument Ground) → List (arguments.GivenArgument Ground) → (List Argument → Machine → Result (List Argument × Machine) Fault) → Type 0
 RunGiven s t hs gs run = (given : List Argument) (m : Machine) → Knows s t m.plan.nodes → AreA m.plan.nodes given hs → Safe m.plan.nodes (λ ks out. AreA ks out (hs ++ gs)) (run given m)
 
 is_tuple : (s : Surroundings) (t : Sight) (t1 t2 : Ground) (ts : Grounds) (f h : Machine → Outcome) (rest : List Value → Machine → Result (List Value × Machine) Fault) → Runs s t t1 f → Runs s t t2 h → RunAll s t (t1 ∷ t2 ∷ []) ts rest
-    → Runs s t (tuple (ground.more t1 (ground.more t2 ts))) (λ c. f c >>= λ x. h x.1 >>= λ y. rest (x.0 ∷ y.0 ∷ []) y.1 >>= λ z. Ok (value.Tuple (many z.0), z.1))
+    → Runs s t (tuple (ground.more t1 (ground.more t2 ts))) (λ c. f c >>= λ x. h x.1 >>= λ y. rest (x.0 ∷ y.0 ∷ []) y.1 >>= λ z. Ok (value.TupleValue (many z.0), z.1))
 is_tuple s t t1 t2 ts f h rest a b c m knows =
-    after m.plan.nodes (Of t1) (Of (tuple (ground.more t1 (ground.more t2 ts)))) (f m) (λ x. h x.1 >>= λ y. rest (x.0 ∷ y.0 ∷ []) y.1 >>= λ z. Ok (value.Tuple (many z.0), z.1)) (a m knows) (λ x grows held.
-    after x.1.plan.nodes (Of t2) (Of (tuple (ground.more t1 (ground.more t2 ts)))) (h x.1) (λ y. rest (x.0 ∷ y.0 ∷ []) y.1 >>= λ z. Ok (value.Tuple (many z.0), z.1)) (b x.1 (knows_later m.plan.nodes x.1.plan.nodes grows s t knows)) (λ y wider kept.
-    after y.1.plan.nodes (λ ks out. EachIs ks (many out) (ground.more t1 (ground.more t2 ts))) (Of (tuple (ground.more t1 (ground.more t2 ts)))) (rest (x.0 ∷ y.0 ∷ []) y.1) (λ z. Ok (value.Tuple (many z.0), z.1))
+    after m.plan.nodes (Of t1) (Of (tuple (ground.more t1 (ground.more t2 ts)))) (f m) (λ x. h x.1 >>= λ y. rest (x.0 ∷ y.0 ∷ []) y.1 >>= λ z. Ok (value.TupleValue (many z.0), z.1)) (a m knows) (λ x grows held.
+    after x.1.plan.nodes (Of t2) (Of (tuple (ground.more t1 (ground.more t2 ts)))) (h x.1) (λ y. rest (x.0 ∷ y.0 ∷ []) y.1 >>= λ z. Ok (value.TupleValue (many z.0), z.1)) (b x.1 (knows_later m.plan.nodes x.1.plan.nodes grows s t knows)) (λ y wider kept.
+    after y.1.plan.nodes (λ ks out. EachIs ks (many out) (ground.more t1 (ground.more t2 ts))) (Of (tuple (ground.more t1 (ground.more t2 ts)))) (rest (x.0 ∷ y.0 ∷ []) y.1) (λ z. Ok (value.TupleValue (many z.0), z.1))
     (c (x.0 ∷ y.0 ∷ []) y.1 (knows_later x.1.plan.nodes y.1.plan.nodes wider s t (knows_later m.plan.nodes x.1.plan.nodes grows s t knows)) (is_later x.1.plan.nodes y.1.plan.nodes wider x.0 t1 held, (kept, tt)))
     (λ z last all. (stays z.1.plan.nodes, (ground.more t1 (ground.more t2 ts), refl, all)))))
 
-is_list : (s : Surroundings) (t : Sight) (u : Ground) (run : List Value → Machine → Result (List Value × Machine) Fault) → RunEach s t u run → Runs s t (list u) (λ c. run [] c >>= λ z. Ok (value.Listed (many z.0), z.1))
+is_list : (s : Surroundings) (t : Sight) (u : Ground) (run : List Value → Machine → Result (List Value × Machine) Fault) → RunEach s t u run → Runs s t (list u) (λ c. run [] c >>= λ z. Ok (value.ListValue (many z.0), z.1))
 is_list s t u run a m knows =
-    after m.plan.nodes (λ ks out. AllAre ks (many out) u) (Of (list u)) (run [] m) (λ z. Ok (value.Listed (many z.0), z.1)) (a [] m knows tt) (λ z last all. (stays z.1.plan.nodes, (u, refl, all)))
+    after m.plan.nodes (λ ks out. AllAre ks (many out) u) (Of (list u)) (run [] m) (λ z. Ok (value.ListValue (many z.0), z.1)) (a [] m knows tt) (λ z last all. (stays z.1.plan.nodes, (u, refl, all)))
 
 all_end : (s : Surroundings) (t : Sight) (hs : List Ground) → RunAll s t hs no_more (λ vs m. Ok (vs, m))
 all_end s t hs vs m knows held = (stays m.plan.nodes, each_whole m.plan.nodes vs hs held)
@@ -234,22 +234,22 @@ each_next s t g f run a b vs m knows held =
     after m.plan.nodes (Of g) (λ ks out. AllAre ks (many out) g) (f m) (λ x. run (vs ++ x.0 ∷ []) x.1) (a m knows) (λ x grows is.
     b (vs ++ x.0 ∷ []) x.1 (knows_later m.plan.nodes x.1.plan.nodes grows s t knows) (all_push x.1.plan.nodes vs x.0 g (all_later m.plan.nodes x.1.plan.nodes grows (many vs) g held) is))
 
-given_end : (s : Surroundings) (t : Sight) (hs : List (arguments.Given Ground)) → RunGiven s t hs [] (λ given m. Ok (given, m))
-given_end s t hs given m knows held = (stays m.plan.nodes, subst (λ (l : List (arguments.Given Ground)). AreA m.plan.nodes given l) (sym (append-nil hs)) held)
+given_end : (s : Surroundings) (t : Sight) (hs : List (arguments.GivenArgument Ground)) → RunGiven s t hs [] (λ given m. Ok (given, m))
+given_end s t hs given m knows held = (stays m.plan.nodes, subst (λ (l : List (arguments.GivenArgument Ground)). AreA m.plan.nodes given l) (sym (append-nil hs)) held)
 
 -- a value behind its label
 abbrev labelled : Option (List ℕ) → Value × Machine → Result (Argument × Machine) Fault
 labelled label x = Ok ((label, x.0), x.1)
 
-given_next : (s : Surroundings) (t : Sight) (hs : List (arguments.Given Ground)) (label : Option (List ℕ)) (h : Ground) (gs : List (arguments.Given Ground)) (f : Machine → Outcome) (run : List Argument → Machine → Result (List Argument × Machine) Fault) → Runs s t h f → RunGiven s t (hs ++ (label, h) ∷ []) gs run
+given_next : (s : Surroundings) (t : Sight) (hs : List (arguments.GivenArgument Ground)) (label : Option (List ℕ)) (h : Ground) (gs : List (arguments.GivenArgument Ground)) (f : Machine → Outcome) (run : List Argument → Machine → Result (List Argument × Machine) Fault) → Runs s t h f → RunGiven s t (hs ++ (label, h) ∷ []) gs run
     → RunGiven s t hs ((label, h) ∷ gs) (λ given m. (f m >>= labelled label) >>= λ x. run (given ++ x.0 ∷ []) x.1)
 given_next s t hs label h gs f run a b given m knows held =
-    subst (λ (l : List (arguments.Given Ground)). Safe m.plan.nodes (λ ks out. AreA ks out l) ((f m >>= labelled label) >>= λ x. run (given ++ x.0 ∷ []) x.1)) (append_assoc hs ((label, h) ∷ []) gs)
+    subst (λ (l : List (arguments.GivenArgument Ground)). Safe m.plan.nodes (λ ks out. AreA ks out l) ((f m >>= labelled label) >>= λ x. run (given ++ x.0 ∷ []) x.1)) (append_assoc hs ((label, h) ∷ []) gs)
     (after m.plan.nodes (λ ks one. (one.0 ≡ label) × IsA ks one.1 h) (λ ks out. AreA ks out ((hs ++ (label, h) ∷ []) ++ gs)) (f m >>= labelled label) (λ x. run (given ++ x.0 ∷ []) x.1)
     (after m.plan.nodes (Of h) (λ ks one. (one.0 ≡ label) × IsA ks one.1 h) (f m) (labelled label) (a m knows) (λ x grows is. (stays x.1.plan.nodes, (refl, is))))
     (λ x grows one. b (given ++ x.0 ∷ []) x.1 (knows_later m.plan.nodes x.1.plan.nodes grows s t knows) (are_push x.1.plan.nodes given hs x.0 (label, h) (are_later m.plan.nodes x.1.plan.nodes grows given hs held) one.0 one.1)))
 
-is_called : BuiltinsAreSafe → (s : Surroundings) (t : Sight) (at : ℕ) (gs : List (arguments.Given Ground)) (g : Ground) (run : List Argument → Machine → Result (List Argument × Machine) Fault) → Applied t at (t.target at) gs g → RunGiven s t [] gs run
+is_called : BuiltinsAreSafe → (s : Surroundings) (t : Sight) (at : ℕ) (gs : List (arguments.GivenArgument Ground)) (g : Ground) (run : List Argument → Machine → Result (List Argument × Machine) Fault) → Applied t at (t.target at) gs g → RunGiven s t [] gs run
     → Runs s t g (λ m. run [] m >>= λ x. meaning.applied s (use_at at s.uses) at x.0 x.1)
 is_called bs s t at gs g run has a m knows =
     after m.plan.nodes (λ ks given. AreA ks given gs) (Of g) (run [] m) (λ x. meaning.applied s (use_at at s.uses) at x.0 x.1) (a [] m knows tt) (λ x grows held.
@@ -323,7 +323,7 @@ abbrev EachSafe : Surroundings → Sight → Tree (Many AFull) → Type 0
 EachSafe s t rest = (g : Ground) → EachHas t rest g → RunEach s t g (meaning.fulls s rest)
 
 abbrev ArgumentsSafe : Surroundings → Sight → Tree (Many AnArg) → Type 0
-ArgumentsSafe s t rest = (gs hs : List (arguments.Given Ground)) → AreGiven t rest gs → RunGiven s t hs gs (meaning.arguments s rest)
+ArgumentsSafe s t rest = (gs hs : List (arguments.GivenArgument Ground)) → AreGiven t rest gs → RunGiven s t hs gs (meaning.arguments s rest)
 
 of_negative : (s : Surroundings) (t : Sight) (at : ℕ) (n : Literal) → FullSafe s t (Negative at n)
 unfolding full
@@ -414,7 +414,7 @@ of_quoted s t at text g has = counts_one s t g (λ c. Ok (value.Text text, c)) (
 
 of_truth : (s : Surroundings) (t : Sight) (at : ℕ) (b : Bool) → OperandSafe s t (Truth at b)
 unfolding meaning.operand
-of_truth s t at b g has = counts_one s t g (λ c. Ok (value.Truth b, c)) (is_made s t g (value.Truth b) (λ ns. has))
+of_truth s t at b g has = counts_one s t g (λ c. Ok (value.TruthValue b, c)) (is_made s t g (value.TruthValue b) (λ ns. has))
 
 of_named : (s : Surroundings) (t : Sight) (at : ℕ) (name : List ℕ) → OperandSafe s t (Named at name)
 unfolding meaning.operand
@@ -430,7 +430,7 @@ of_chosen s t i a g has = counts_one s t g (meaning.choice s i) (a g has)
 
 of_nothing : (s : Surroundings) (t : Sight) (at : ℕ) → OperandSafe s t (Nothing at)
 unfolding meaning.operand
-of_nothing s t at g has = counts_one s t g (λ c. Ok (value.Nothing, c)) (is_made s t g value.Nothing (λ ns. has))
+of_nothing s t at g has = counts_one s t g (λ c. Ok (value.UnitValue, c)) (is_made s t g value.UnitValue (λ ns. has))
 
 of_paren : (s : Surroundings) (t : Sight) (f : Tree AFull) → FullSafe s t f → OperandSafe s t (Paren f)
 unfolding meaning.operand
@@ -440,14 +440,14 @@ of_tuple : (s : Surroundings) (t : Sight) (at : ℕ) (f h : Tree AFull) (rest : 
 unfolding meaning.operand
 of_tuple s t at f h rest a b c g has =
     subst (λ (k : Ground). Runs s t k (meaning.operand s (Tuple at f h rest))) (sym has.3)
-    (counts_one s t (tuple (ground.more has.0 (ground.more has.1 has.2))) (λ c. full s f c >>= λ x. full s h x.1 >>= λ y. meaning.fulls s rest (x.0 ∷ y.0 ∷ []) y.1 >>= λ z. Ok (value.Tuple (many z.0), z.1))
+    (counts_one s t (tuple (ground.more has.0 (ground.more has.1 has.2))) (λ c. full s f c >>= λ x. full s h x.1 >>= λ y. meaning.fulls s rest (x.0 ∷ y.0 ∷ []) y.1 >>= λ z. Ok (value.TupleValue (many z.0), z.1))
     (is_tuple s t has.0 has.1 has.2 (full s f) (full s h) (meaning.fulls s rest) (a has.0 has.4) (b has.1 has.5) (c has.2 (has.0 ∷ has.1 ∷ []) has.6)))
 
 of_listed : (s : Surroundings) (t : Sight) (at : ℕ) (parts : Tree (Many AFull)) → EachSafe s t parts → OperandSafe s t (Listed at parts)
 unfolding meaning.operand
 of_listed s t at parts a g has =
     subst (λ (k : Ground). Runs s t k (meaning.operand s (Listed at parts))) (sym has.1)
-    (counts_one s t (list has.0) (λ c. meaning.fulls s parts [] c >>= λ z. Ok (value.Listed (many z.0), z.1)) (is_list s t has.0 (meaning.fulls s parts) (a has.0 has.2)))
+    (counts_one s t (list has.0) (λ c. meaning.fulls s parts [] c >>= λ z. Ok (value.ListValue (many z.0), z.1)) (is_list s t has.0 (meaning.fulls s parts) (a has.0 has.2)))
 
 of_braces : (s : Surroundings) (t : Sight) (at : ℕ) (pred : Tree APOr) → OperandSafe s t (Braces at pred)
 unfolding meaning.operand
@@ -479,18 +479,18 @@ of_if : (s : Surroundings) (t : Sight) (at : ℕ) (c d e : Tree AFull) → FullS
 unfolding meaning.choice
 of_if s t at c d e a b f g has = is_chosen s t g (full s c) (full s d) (full s e) (a truth has.0) (b g has.1) (f g has.2)
 
-of_call : BuiltinsAreSafe → (s : Surroundings) (t : Sight) (at : ℕ) (name : List ℕ) (args : Tree (Many AnArg)) → ArgumentsSafe s t args → CallSafe s t (Call at name args)
+of_call : BuiltinsAreSafe → (s : Surroundings) (t : Sight) (at : ℕ) (name : List ℕ) (args : Tree (Many AnArg)) → ArgumentsSafe s t args → CallSafe s t (NamedCall at name args)
 unfolding meaning.call
 of_call bs s t at name args a g has = is_called bs s t at has.0 g (meaning.arguments s args) has.2 (a has.0 [] has.1)
 
 no_arguments : (s : Surroundings) (t : Sight) → ArgumentsSafe s t none
 unfolding meaning.arguments
-no_arguments s t gs hs has = subst (λ (l : List (arguments.Given Ground)). RunGiven s t hs l (meaning.arguments s none)) (sym has) (given_end s t hs)
+no_arguments s t gs hs has = subst (λ (l : List (arguments.GivenArgument Ground)). RunGiven s t hs l (meaning.arguments s none)) (sym has) (given_end s t hs)
 
 of_arguments : (s : Surroundings) (t : Sight) (at : ℕ) (label : Option (List ℕ)) (f : Tree AFull) (rest : Tree (Many AnArg)) → FullSafe s t f → ArgumentsSafe s t rest → ArgumentsSafe s t (more (Arg at label f) rest)
 unfolding meaning.arguments meaning.argued
 of_arguments s t at label f rest first others gs hs has =
-    subst (λ (l : List (arguments.Given Ground)). RunGiven s t hs l (meaning.arguments s (more (Arg at label f) rest))) (sym has.2)
+    subst (λ (l : List (arguments.GivenArgument Ground)). RunGiven s t hs l (meaning.arguments s (more (Arg at label f) rest))) (sym has.2)
     (given_next s t hs label has.0 has.1 (full s f) (meaning.arguments s rest) (first has.0 has.3) (others has.1 (hs ++ (label, has.0) ∷ []) has.4))
 
 -- ---- all trees
@@ -561,7 +561,7 @@ mutual
   safe_choice bs s t (If at c d e) = of_if s t at c d e (safe_full bs s t c) (safe_full bs s t d) (safe_full bs s t e)
 
   pub safe_call : BuiltinsAreSafe → (s : Surroundings) (t : Sight) (e : Tree ACall) → CallSafe s t e
-  safe_call bs s t (Call at name args) = of_call bs s t at name args (safe_arguments bs s t args)
+  safe_call bs s t (NamedCall at name args) = of_call bs s t at name args (safe_arguments bs s t args)
 
   safe_arguments : BuiltinsAreSafe → (s : Surroundings) (t : Sight) (rest : Tree (Many AnArg)) → ArgumentsSafe s t rest
   safe_arguments bs s t none = no_arguments s t

@@ -8,12 +8,12 @@ use Rattle.typing_rules.specs.Typing.{Sight, TypesByToken}
 use Rattle.script_values.specs.declared.fault.Fault.{Fault}
 use Rattle.script_values.specs.declared.fault.Fault.TheVariants as faults
 use Rattle.script_values.specs.declared.machine.Machine.{Machine}
-use Rattle.script_values.specs.Machines.{count}
+use Rattle.script_values.specs.Machines.{count_work}
 use Rattle.script_values.specs.Outcomes.{◌>>=◌, Outcome}
 use Rattle.script_values.specs.Slots.{Argument, SlotValue}
 use Rattle.script_values.specs.Values as value
 use Rattle.script_values.specs.Values.{Value}
-use Rattle.eval_meaning.specs.Meaning.{Surroundings, joined}
+use Rattle.eval_meaning.specs.Meaning.{Surroundings, operator_applied}
 use Rattle.eval_meaning.specs.BuiltinSafety.{AllAre, AreA, EachIs, Grows, IsA, NotStuck, Of, Safe}
 use Rattle.eval_meaning.specs.Safety.{HaveValues, Knows}
 
@@ -28,23 +28,23 @@ mutual
   is_later a b grows (value.Int n) g is = is
   is_later a b grows (value.Number d) g is = is
   is_later a b grows (value.Text t) g is = is
-  is_later a b grows (value.Truth t) g is = is
-  is_later a b grows value.Nothing g is = is
-  is_later a b grows (value.Format wide) g is = is
+  is_later a b grows (value.TruthValue t) g is = is
+  is_later a b grows value.UnitValue g is = is
+  is_later a b grows (value.FormatValue wide) g is = is
   is_later a b grows (value.Pred p) g is = is
   is_later a b grows (value.Source n) g is = (is.0, grows n is.0 is.1, is.2)
-  is_later a b grows (value.Listed vs) g is = (is.0, is.1, all_later a b grows vs is.0 is.2)
-  is_later a b grows (value.Tuple vs) g is = (is.0, is.1, each_later a b grows vs is.0 is.2)
+  is_later a b grows (value.ListValue vs) g is = (is.0, is.1, all_later a b grows vs is.0 is.2)
+  is_later a b grows (value.TupleValue vs) g is = (is.0, is.1, each_later a b grows vs is.0 is.2)
 
-  pub all_later : (a b : List Node) → Grows a b → (vs : value.ValueTree value.Many) (t : Ground) → AllAre a vs t → AllAre b vs t
-  all_later a b grows value.none t is = tt
-  all_later a b grows (value.more v vs) t is = (is_later a b grows v t is.0, all_later a b grows vs t is.1)
+  pub all_later : (a b : List Node) → Grows a b → (vs : value.ValueTree value.ManyValues) (t : Ground) → AllAre a vs t → AllAre b vs t
+  all_later a b grows value.no_values t is = tt
+  all_later a b grows (value.more_values v vs) t is = (is_later a b grows v t is.0, all_later a b grows vs t is.1)
 
-  pub each_later : (a b : List Node) → Grows a b → (vs : value.ValueTree value.Many) (ts : Grounds) → EachIs a vs ts → EachIs b vs ts
-  each_later a b grows value.none ts is = is
-  each_later a b grows (value.more v vs) ts is = (is.0, is.1, is.2, is_later a b grows v is.0 is.3, each_later a b grows vs is.1 is.4)
+  pub each_later : (a b : List Node) → Grows a b → (vs : value.ValueTree value.ManyValues) (ts : Grounds) → EachIs a vs ts → EachIs b vs ts
+  each_later a b grows value.no_values ts is = is
+  each_later a b grows (value.more_values v vs) ts is = (is.0, is.1, is.2, is_later a b grows v is.0 is.3, each_later a b grows vs is.1 is.4)
 
-pub are_later : (a b : List Node) → Grows a b → (given : List Argument) (gs : List (arguments.Given Ground)) → AreA a given gs → AreA b given gs
+pub are_later : (a b : List Node) → Grows a b → (given : List Argument) (gs : List (arguments.GivenArgument Ground)) → AreA a given gs → AreA b given gs
 are_later a b grows [] [] is = tt
 are_later a b grows [] (h ∷ hs) is = absurd is
 are_later a b grows (g ∷ given) [] is = absurd is
@@ -78,8 +78,8 @@ pub fixed : {A B : Type 0} (ns : List Node) (P : A → Type 0) (R : List Node �
 fixed ns P R (Ok x) f is later = later x is
 fixed ns P R (Err e) f is later = is
 
-pub counted : {B : Type 0} (R : List Node → B → Type 0) (n : ℕ) (m : Machine) (f : Machine → Result (B × Machine) Fault) → ((work : ℕ) → Safe m.plan.nodes R (f (record m { work = work }))) → Safe m.plan.nodes R (count n m >>= f)
-unfolding count
+pub counted : {B : Type 0} (R : List Node → B → Type 0) (n : ℕ) (m : Machine) (f : Machine → Result (B × Machine) Fault) → ((work : ℕ) → Safe m.plan.nodes R (f (record m { work = work }))) → Safe m.plan.nodes R (count_work n m >>= f)
+unfolding count_work
 counted R n m f later =
     elim (nat_le (m.work + n) MAX_WORK) as (λ b. Safe m.plan.nodes R ((elim b [ true ↦ Ok (record m { work = m.work + n }) | false ↦ Err faults.TooMuchWork ]) >>= f)) [
       | true ↦ later (m.work + n)
@@ -88,8 +88,8 @@ counted R n m f later =
 
 -- an operator behind its operand
 pub joined_safe : (ns : List Node) (g h : Ground) (op : Value → Value → Result Value Fault) (v : Value) (right : Outcome) → Safe ns (Of h) right
-    → ((ks : List Node) → Grows ns ks → (w : Value) → IsA ks w h → NotStuck (λ u. IsA ks u g) (op v w)) → Safe ns (Of g) (joined op v right)
+    → ((ks : List Node) → Grows ns ks → (w : Value) → IsA ks w h → NotStuck (λ u. IsA ks u g) (op v w)) → Safe ns (Of g) (operator_applied op v right)
 joined_safe ns g h op v right safe later =
-    after ns (Of h) (Of g) right (λ x. count 1 x.1 >>= λ c. op v x.0 >>= λ u. Ok (u, c)) safe (λ x grows held.
+    after ns (Of h) (Of g) right (λ x. count_work 1 x.1 >>= λ c. op v x.0 >>= λ u. Ok (u, c)) safe (λ x grows held.
     counted (Of g) 1 x.1 (λ c. op v x.0 >>= λ u. Ok (u, c)) (λ work.
     fixed x.1.plan.nodes (λ u. IsA x.1.plan.nodes u g) (Of g) (op v x.0) (λ u. Ok (u, record x.1 { work = work })) (later x.1.plan.nodes grows x.0 held) (λ u made. (stays x.1.plan.nodes, made))))

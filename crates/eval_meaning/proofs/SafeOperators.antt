@@ -26,49 +26,49 @@ pub int_value : (ns : List Node) (v : Value) → IsA ns v int → (n : ℤ) × (
 int_value ns (value.Int n) is = (n, refl)
 int_value ns (value.Number d) is = absurd cc
 int_value ns (value.Text t) is = absurd cc
-int_value ns (value.Truth b) is = absurd cc
-int_value ns value.Nothing is = absurd cc
-int_value ns (value.Format wide) is = absurd cc
+int_value ns (value.TruthValue b) is = absurd cc
+int_value ns value.UnitValue is = absurd cc
+int_value ns (value.FormatValue wide) is = absurd cc
 int_value ns (value.Pred p) is = absurd cc
 int_value ns (value.Source n) is = let e = is.2 in absurd cc
-int_value ns (value.Listed vs) is = let e = is.1 in absurd cc
-int_value ns (value.Tuple vs) is = let e = is.1 in absurd cc
+int_value ns (value.ListValue vs) is = let e = is.1 in absurd cc
+int_value ns (value.TupleValue vs) is = let e = is.1 in absurd cc
 
 pub decimal_value : (ns : List Node) (v : Value) → IsA ns v decimal → (d : Decimal) × (v ≡ value.Number d)
 decimal_value ns (value.Int n) is = absurd cc
 decimal_value ns (value.Number d) is = (d, refl)
 decimal_value ns (value.Text t) is = absurd cc
-decimal_value ns (value.Truth b) is = absurd cc
-decimal_value ns value.Nothing is = absurd cc
-decimal_value ns (value.Format wide) is = absurd cc
+decimal_value ns (value.TruthValue b) is = absurd cc
+decimal_value ns value.UnitValue is = absurd cc
+decimal_value ns (value.FormatValue wide) is = absurd cc
 decimal_value ns (value.Pred p) is = absurd cc
 decimal_value ns (value.Source n) is = let e = is.2 in absurd cc
-decimal_value ns (value.Listed vs) is = let e = is.1 in absurd cc
-decimal_value ns (value.Tuple vs) is = let e = is.1 in absurd cc
+decimal_value ns (value.ListValue vs) is = let e = is.1 in absurd cc
+decimal_value ns (value.TupleValue vs) is = let e = is.1 in absurd cc
 
-pub truth_value : (ns : List Node) (v : Value) → IsA ns v truth → (b : Bool) × (v ≡ value.Truth b)
+pub truth_value : (ns : List Node) (v : Value) → IsA ns v truth → (b : Bool) × (v ≡ value.TruthValue b)
 truth_value ns (value.Int n) is = absurd cc
 truth_value ns (value.Number d) is = absurd cc
 truth_value ns (value.Text t) is = absurd cc
-truth_value ns (value.Truth b) is = (b, refl)
-truth_value ns value.Nothing is = absurd cc
-truth_value ns (value.Format wide) is = absurd cc
+truth_value ns (value.TruthValue b) is = (b, refl)
+truth_value ns value.UnitValue is = absurd cc
+truth_value ns (value.FormatValue wide) is = absurd cc
 truth_value ns (value.Pred p) is = absurd cc
 truth_value ns (value.Source n) is = let e = is.2 in absurd cc
-truth_value ns (value.Listed vs) is = let e = is.1 in absurd cc
-truth_value ns (value.Tuple vs) is = let e = is.1 in absurd cc
+truth_value ns (value.ListValue vs) is = let e = is.1 in absurd cc
+truth_value ns (value.TupleValue vs) is = let e = is.1 in absurd cc
 
 pub either_safe : (ns : List Node) (v w : Value) → IsA ns v truth → IsA ns w truth → NotStuck (λ (u : Value). IsA ns u truth) (either v w)
 unfolding either
 either_safe ns v w a b =
     subst (λ (x : Value). NotStuck (λ (u : Value). IsA ns u truth) (either x w)) (sym (truth_value ns v a).1)
-    (subst (λ (y : Value). NotStuck (λ (u : Value). IsA ns u truth) (either (value.Truth (truth_value ns v a).0) y)) (sym (truth_value ns w b).1) refl)
+    (subst (λ (y : Value). NotStuck (λ (u : Value). IsA ns u truth) (either (value.TruthValue (truth_value ns v a).0) y)) (sym (truth_value ns w b).1) refl)
 
 pub both_safe : (ns : List Node) (v w : Value) → IsA ns v truth → IsA ns w truth → NotStuck (λ (u : Value). IsA ns u truth) (both v w)
 unfolding both
 both_safe ns v w a b =
     subst (λ (x : Value). NotStuck (λ (u : Value). IsA ns u truth) (both x w)) (sym (truth_value ns v a).1)
-    (subst (λ (y : Value). NotStuck (λ (u : Value). IsA ns u truth) (both (value.Truth (truth_value ns v a).0) y)) (sym (truth_value ns w b).1) refl)
+    (subst (λ (y : Value). NotStuck (λ (u : Value). IsA ns u truth) (both (value.TruthValue (truth_value ns v a).0) y)) (sym (truth_value ns w b).1) refl)
 
 pub opposite_safe : (ns : List Node) (v : Value) → IsA ns v truth → NotStuck (λ (u : Value). IsA ns u truth) (opposite v)
 unfolding opposite

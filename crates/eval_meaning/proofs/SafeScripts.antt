@@ -25,12 +25,12 @@ use Rattle.script_values.specs.declared.fault.EvalFault.TheVariants as told
 use Rattle.script_values.specs.declared.machine.Machine.{Machine}
 use Rattle.script_values.specs.Faults.{fault_in}
 use Rattle.script_values.specs.Machines.{first_machine}
-use Rattle.script_values.specs.Slots.{Argument, SlotValue, slot_at}
+use Rattle.script_values.specs.Slots.{Argument, SlotValue, value_at_token}
 use Rattle.script_values.specs.Values.{Value}
 use Rattle.eval_meaning.specs.Calls.{is_setting}
 use Rattle.eval_meaning.specs.Meaning as meaning
 use Rattle.eval_meaning.specs.Meaning.{Surroundings, World, call_by, full, run}
-use Rattle.eval_meaning.specs.Scripts.{Ending, and_then, closed, ended, evaluation, in_statement, numbered, plan_of, settled, statement, statements, tick_of, top_scope, turned}
+use Rattle.eval_meaning.specs.Scripts.{Ending, and_then, closed, settings_ended, evaluation, ending_in, numbered, plan_of, settings_settled, statement, statements, tick_of, top_scope, turned}
 use Rattle.eval_meaning.specs.BuiltinSafety.{AreA, BuiltinsAreSafe, Grows, IsA, IsTold, Of, Safe}
 use Rattle.eval_meaning.specs.Safety.{HaveValues, IsNotStuck, Knows}
 use Rattle.eval_meaning.proofs.SafeDefs.{IsFound, safe_body}
@@ -39,25 +39,25 @@ use Rattle.eval_meaning.proofs.SafeGrowth.{after, fits_later, grows_on, stays}
 
 -- ---- the bindings of a script
 
-slot_first : (at : ℕ) (a b : List SlotValue) (v : Value) → slot_at at a ≡ Some v → slot_at at (a ++ b) ≡ Some v
+slot_first : (at : ℕ) (a b : List SlotValue) (v : Value) → value_at_token at a ≡ Some v → value_at_token at (a ++ b) ≡ Some v
 slot_first at [] b v is = absurd cc
-slot_first at (s ∷ a) b v is = by_test (nat_eq s.0 at) s.1 (slot_at at a) (slot_at at (a ++ b)) v (slot_first at a b v) is where
+slot_first at (s ∷ a) b v is = by_test (nat_eq s.0 at) s.1 (value_at_token at a) (value_at_token at (a ++ b)) v (slot_first at a b v) is where
   by_test : (t : Bool) (u : Value) (one other : Option Value) (w : Value) → (one ≡ Some w → other ≡ Some w) → cond t (Some u) one ≡ Some w → cond t (Some u) other ≡ Some w
   by_test true u one other w later same = same
   by_test false u one other w later same = later same
 
-slot_second : (at : ℕ) (a b : List SlotValue) → slot_at at a ≡ None → slot_at at (a ++ b) ≡ slot_at at b
+slot_second : (at : ℕ) (a b : List SlotValue) → value_at_token at a ≡ None → value_at_token at (a ++ b) ≡ value_at_token at b
 slot_second at [] b is = refl
-slot_second at (s ∷ a) b is = no_test (nat_eq s.0 at) s.1 (slot_at at a) (slot_at at (a ++ b)) (slot_at at b) (slot_second at a b) is where
+slot_second at (s ∷ a) b is = no_test (nat_eq s.0 at) s.1 (value_at_token at a) (value_at_token at (a ++ b)) (value_at_token at b) (slot_second at a b) is where
   no_test : (t : Bool) (u : Value) (one other third : Option Value) → (one ≡ None → other ≡ third) → cond t (Some u) one ≡ None → cond t (Some u) other ≡ third
   no_test true u one other third later same = absurd cc
   no_test false u one other third later same = later same
 
 -- each binding stands before this token
 abbrev Below : ℕ → List SlotValue → Type 0
-Below i slots = (at : ℕ) (v : Value) → slot_at at slots ≡ Some v → at < i
+Below i slots = (at : ℕ) (v : Value) → value_at_token at slots ≡ Some v → at < i
 
-unbound : (i : ℕ) (slots : List SlotValue) → Below i slots → (o : Option Value) → slot_at i slots ≡ o → slot_at i slots ≡ None
+unbound : (i : ℕ) (slots : List SlotValue) → Below i slots → (o : Option Value) → value_at_token i slots ≡ o → value_at_token i slots ≡ None
 unbound i slots below None is = is
 unbound i slots below (Some v) is = absurd (omega (arith, below i v is))
 
@@ -65,12 +65,12 @@ below_later : (i k : ℕ) (slots : List SlotValue) → i ≤ k → Below i slots
 below_later i k slots le below at v is = omega (arith, below at v is)
 
 below_push : (i k : ℕ) (slots : List SlotValue) (v : Value) → i < k → Below i slots → Below k (slots ++ (i, v) ∷ [])
-below_push i k slots v lt below at w is = by_old (slot_at at slots) refl where
+below_push i k slots v lt below at w is = by_old (value_at_token at slots) refl where
   by_new : (b : Bool) → nat_eq i at ≡ b → cond b (Some v) None ≡ Some w → at < k
   by_new true same here = let e : i ≡ at = eqb-true i at same in omega arith
   by_new false same here = absurd cc
 
-  by_old : (o : Option Value) → slot_at at slots ≡ o → at < k
+  by_old : (o : Option Value) → value_at_token at slots ≡ o → at < k
   by_old (Some u) old = omega (arith, below at u old)
   by_old None old = by_new (nat_eq i at) refl (sym (slot_second at slots ((i, v) ∷ []) old) ∙ is)
 
@@ -87,19 +87,19 @@ fits_push ns types slots more' fits at g is =
     let held = fits at g is in
     (held.0, slot_first at slots more' held.0 held.1, held.2)
 
-fits_value : (ns : List Node) (types : TypesByToken) (slots : List SlotValue) (at : ℕ) (v : Value) (g : Ground) → slot_at at slots ≡ None → IsA ns v g → HaveValues ns types slots → HaveValues ns ((at, g) ∷ types) (slots ++ (at, v) ∷ [])
+fits_value : (ns : List Node) (types : TypesByToken) (slots : List SlotValue) (at : ℕ) (v : Value) (g : Ground) → value_at_token at slots ≡ None → IsA ns v g → HaveValues ns types slots → HaveValues ns ((at, g) ∷ types) (slots ++ (at, v) ∷ [])
 fits_value ns types slots at v g free held fits u h is = by_token (nat_eq at u) refl is where
-  by_token : (b : Bool) → nat_eq at u ≡ b → cond b (Some g) (type_at u types) ≡ Some h → IsFound ns (slot_at u (slots ++ (at, v) ∷ [])) h
+  by_token : (b : Bool) → nat_eq at u ≡ b → cond b (Some g) (type_at u types) ≡ Some h → IsFound ns (value_at_token u (slots ++ (at, v) ∷ [])) h
   by_token true same here =
       let token : at ≡ u = eqb-true at u same in
       let kind : g ≡ h = cc in
-      let free_here : slot_at u slots ≡ None = subst (λ (k : ℕ). slot_at k slots ≡ None) token free in
+      let free_here : value_at_token u slots ≡ None = subst (λ (k : ℕ). value_at_token k slots ≡ None) token free in
       (v, slot_second u slots ((at, v) ∷ []) free_here ∙ ap (λ (b : Bool). cond b (Some v) None) same, subst (λ (k : Ground). IsA ns v k) kind held)
   by_token false same here =
       let found = fits u h here in
       (found.0, slot_first u slots ((at, v) ∷ []) found.0 found.1, found.2)
 
-sees_value : (ns : List Node) (slots : List SlotValue) (es : List Entry) (at : ℕ) (v : Value) (g : Ground) → slot_at at slots ≡ None → IsA ns v g → Sees ns slots es → Sees ns (slots ++ (at, v) ∷ []) (value at g ∷ es)
+sees_value : (ns : List Node) (slots : List SlotValue) (es : List Entry) (at : ℕ) (v : Value) (g : Ground) → value_at_token at slots ≡ None → IsA ns v g → Sees ns slots es → Sees ns (slots ++ (at, v) ∷ []) (value at g ∷ es)
 sees_value ns slots es at v g free held sees = (fits_value ns (types_of es) slots at v g free held sees.0, behind) where
   behind : (d : Tree ADef) (before : List Entry) → Stands (value at g ∷ es) d before → HaveValues ns (types_of before) (slots ++ (at, v) ∷ [])
   behind d before (inl here) = let e = here.0 in absurd cc
@@ -128,13 +128,13 @@ defs_value script es at g defs d before (inr later) = defs d before later
 
 -- ---- calls of defs, by the number that may still run
 
-abbrev Good : Script → List Use → List SlotValue → List Node → ℕ → ℕ → List Kind → List (arguments.Given Ground) → Ground → Type 0
+abbrev Good : Script → List Use → List SlotValue → List Node → ℕ → ℕ → List Kind → List (arguments.GivenArgument Ground) → Ground → Type 0
 Good script uses slots ns n u ks gs g = (given : List Argument) (m : Machine) → Grows ns m.plan.nodes → AreA m.plan.nodes given gs → Safe m.plan.nodes (Of g) (call_by (record { script = script; uses = uses; globals = slots }) n u ks given m)
 
-one_call : BuiltinsAreSafe → (script : Script) (uses : List Use) (slots : List SlotValue) (ns : List Node) (n : ℕ) (d : Tree ADef) (before : List Entry) (chain : List ℕ) (ks : List Kind) (gs : List (arguments.Given Ground)) (us : List Ground) (g : Ground)
+one_call : BuiltinsAreSafe → (script : Script) (uses : List Use) (slots : List SlotValue) (ns : List Node) (n : ℕ) (d : Tree ADef) (before : List Entry) (chain : List ℕ) (ks : List Kind) (gs : List (arguments.GivenArgument Ground)) (us : List Ground) (g : Ground)
     → def_at (def_token d) script ≡ Some d → Sees ns slots before → around [] uses chain ≡ Some ks → arguments.Matched (params_of d) gs us
     → DefHas (sight (target_at uses) (read [] uses) before chain) d us g
-    → ((at t : ℕ) (js : List Kind) (hs : List (arguments.Given Ground)) (h : Ground) → read [] uses chain at ≡ Some js → calls_behind (target_at uses) (read [] uses) before chain at t hs h → Good script uses slots ns n t js hs h)
+    → ((at t : ℕ) (js : List Kind) (hs : List (arguments.GivenArgument Ground)) (h : Ground) → read [] uses chain at ≡ Some js → calls_behind (target_at uses) (read [] uses) before chain at t hs h → Good script uses slots ns n t js hs h)
     → Good script uses slots ns (suc n) (def_token d) ks gs g
 unfolding call_by
 one_call bs script uses slots ns n d before chain ks gs us g found seen kinds matched has calls given m grows held =
@@ -147,7 +147,7 @@ one_call bs script uses slots ns n d before chain ks gs us g found seen kinds ma
     subst (λ (o : Option (Tree ADef)). Safe m.plan.nodes (Of g) (run (record { uses = uses; slots = slots; kinds = ks; call = call_by (record { script = script; uses = uses; globals = slots }) n }) o given m)) (sym found)
     (safe_body bs (record { uses = uses; slots = slots; kinds = ks; call = call_by (record { script = script; uses = uses; globals = slots }) n }) (sight (target_at uses) (read [] uses) before chain) d (params_of d) us g given gs m knows held refl matched has)
 
-no_call : (script : Script) (uses : List Use) (slots : List SlotValue) (ns : List Node) (u : ℕ) (ks : List Kind) (gs : List (arguments.Given Ground)) (g : Ground) → Good script uses slots ns 0 u ks gs g
+no_call : (script : Script) (uses : List Use) (slots : List SlotValue) (ns : List Node) (u : ℕ) (ks : List Kind) (gs : List (arguments.GivenArgument Ground)) (g : Ground) → Good script uses slots ns 0 u ks gs g
 unfolding call_by
 no_call script uses slots ns u ks gs g given m grows held = tt
 
@@ -178,7 +178,7 @@ told_one n (faults.SameOutput name) is = tt
 told_one n (faults.TooLarge limit) is = tt
 told_one n faults.Stuck is = absurd is
 
-stmt_then : {A : Type 0} (ns : List Node) (n : ℕ) (Q : List Node → A → Type 0) (r : Result (A × Machine) Fault) (f : A × Machine → Result Machine Ending) → Safe ns Q r → ((x : A × Machine) → Grows ns x.1.plan.nodes → Q x.1.plan.nodes x.0 → IsNotStuck (f x)) → IsNotStuck (and_then (in_statement n r) f)
+stmt_then : {A : Type 0} (ns : List Node) (n : ℕ) (Q : List Node → A → Type 0) (r : Result (A × Machine) Fault) (f : A × Machine → Result Machine Ending) → Safe ns Q r → ((x : A × Machine) → Grows ns x.1.plan.nodes → Q x.1.plan.nodes x.0 → IsNotStuck (f x)) → IsNotStuck (and_then (ending_in n r) f)
 stmt_then ns n Q (Ok x) f safe later = later x safe.0 safe.1
 stmt_then ns n Q (Err e) f safe later = told_one n e safe
 
@@ -192,15 +192,15 @@ closed_same : (m : Machine) (o : Option ℕ) → SameNodes m (closed m o)
 closed_same m (Some frame) = refl
 closed_same m None = tt
 
-ended_same : (m : Machine) → SameNodes m (ended m)
-unfolding ended
+ended_same : (m : Machine) → SameNodes m (settings_ended m)
+unfolding settings_ended
 ended_same m = closed_same m (tick_of m.settings.duration.millionths m.plan.rate)
 
-open_same : (allowed : Bool) (m : Machine) → SameNodes m (elim allowed [ true ↦ ended m | false ↦ Ok m ])
+open_same : (allowed : Bool) (m : Machine) → SameNodes m (elim allowed [ true ↦ settings_ended m | false ↦ Ok m ])
 open_same true m = ended_same m
 open_same false m = refl
 
-settled_same : (setting : Bool) (m : Machine) → SameNodes m (settled setting m)
+settled_same : (setting : Bool) (m : Machine) → SameNodes m (settings_settled setting m)
 settled_same true m = refl
 settled_same false m = open_same m.settings.allowed m
 
@@ -223,7 +223,7 @@ safe_bind : BuiltinsAreSafe → (s : Surroundings) (t : Sight) (at : ℕ) (name 
 unfolding statement
 safe_bind bs s t at name f g slots es k m knows has lt below sees =
     after m.plan.nodes (Of g) (Left k (value at g ∷ es)) (full s f m) (λ x. Ok (slots ++ (at, x.0) ∷ [], x.1)) (safe_full bs s t f g has m knows) (λ x grows is.
-    (stays x.1.plan.nodes, (sees_value x.1.plan.nodes slots es at x.0 g (unbound at slots below (slot_at at slots) refl) is (sees_later m.plan.nodes x.1.plan.nodes grows slots es sees), below_push at k slots x.0 lt below)))
+    (stays x.1.plan.nodes, (sees_value x.1.plan.nodes slots es at x.0 g (unbound at slots below (value_at_token at slots) refl) is (sees_later m.plan.nodes x.1.plan.nodes grows slots es sees), below_push at k slots x.0 lt below)))
 
 safe_def : (s : Surroundings) (d : Tree ADef) (slots : List SlotValue) (es : List Entry) (i k : ℕ) (m : Machine) → i ≤ k → Below i slots → Sees m.plan.nodes slots es → Safe m.plan.nodes (Left k (function d ∷ es)) (statement s (DefPart d) slots m)
 unfolding statement
@@ -248,28 +248,28 @@ some_token at name f semicolon = omega arith
 pub safe_statements : BuiltinsAreSafe → (script : Script) (uses : List Use) → IsPlaced 0 script → (rest : Tree (Many AStmt)) (i n : ℕ) (es fs : List Entry) (slots : List SlotValue) (m : Machine) → IsPlaced i rest → IsTypedTo (target_at uses) (read [] uses) es rest fs
     → ((d : Tree ADef) → IsDefOf rest d → IsDefOf script d) → AreDefsOf script es → Sees m.plan.nodes slots es → Below i slots → IsNotStuck (statements script uses rest n slots m)
 unfolding statements turned
-safe_statements bs script uses placed none i n es fs slots m here typed inside defs sees below = same_not_stuck m (settled false m) (settled_same false m)
+safe_statements bs script uses placed none i n es fs slots m here typed inside defs sees below = same_not_stuck m (settings_settled false m) (settled_same false m)
 safe_statements bs script uses placed (more (Stmt (BindPart (Bind at name f)) semicolon) rest) i n es fs slots m here typed inside defs sees below =
-    turn_then m (settled (is_setting uses (BindPart (Bind at name f))) m) (λ b. in_statement (n + 1) (statement (top_scope script uses slots) (BindPart (Bind at name f)) slots (numbered (n + 1) b))) (λ x. statements script uses rest (n + 1) x.0 x.1) (settled_same (is_setting uses (BindPart (Bind at name f))) m) (λ c same.
+    turn_then m (settings_settled (is_setting uses (BindPart (Bind at name f))) m) (λ b. ending_in (n + 1) (statement (top_scope script uses slots) (BindPart (Bind at name f)) slots (numbered (n + 1) b))) (λ x. statements script uses rest (n + 1) x.0 x.1) (settled_same (is_setting uses (BindPart (Bind at name f))) m) (λ c same.
     let seen : Sees c.plan.nodes slots es = subst (λ (ns : List Node). Sees ns slots es) (sym same) sees in
     let here_at : Below at slots = subst (λ (j : ℕ). Below j slots) (sym here.0.0) below in
     stmt_then c.plan.nodes (n + 1) (Left (i + length (spell (Stmt (BindPart (Bind at name f)) semicolon))) (value at typed.0 ∷ es)) (statement (top_scope script uses slots) (BindPart (Bind at name f)) slots (numbered (n + 1) c)) (λ x. statements script uses rest (n + 1) x.0 x.1)
     (safe_bind bs (top_scope script uses slots) (sight (target_at uses) (read [] uses) es []) at name f typed.0 slots es (i + length (spell (Stmt (BindPart (Bind at name f)) semicolon))) (numbered (n + 1) c) (knows_top bs script uses slots es c.plan.nodes placed defs seen) typed.1 (at_before at i _ here.0.0 (some_token at name f semicolon)) here_at seen)
     (λ x grows left. safe_statements bs script uses placed rest (i + length (spell (Stmt (BindPart (Bind at name f)) semicolon))) (n + 1) (value at typed.0 ∷ es) fs x.0 x.1 here.1 typed.2 inside (defs_value script es at typed.0 defs) left.0 left.1))
 safe_statements bs script uses placed (more (Stmt (DefPart d) semicolon) rest) i n es fs slots m here typed inside defs sees below =
-    turn_then m (settled false m) (λ b. in_statement (n + 1) (statement (top_scope script uses slots) (DefPart d) slots (numbered (n + 1) b))) (λ x. statements script uses rest (n + 1) x.0 x.1) (settled_same false m) (λ c same.
+    turn_then m (settings_settled false m) (λ b. ending_in (n + 1) (statement (top_scope script uses slots) (DefPart d) slots (numbered (n + 1) b))) (λ x. statements script uses rest (n + 1) x.0 x.1) (settled_same false m) (λ c same.
     let seen : Sees c.plan.nodes slots es = subst (λ (ns : List Node). Sees ns slots es) (sym same) sees in
     stmt_then c.plan.nodes (n + 1) (Left (i + length (spell (Stmt (DefPart d) semicolon))) (function d ∷ es)) (statement (top_scope script uses slots) (DefPart d) slots (numbered (n + 1) c)) (λ x. statements script uses rest (n + 1) x.0 x.1)
     (safe_def (top_scope script uses slots) d slots es i (i + length (spell (Stmt (DefPart d) semicolon))) (numbered (n + 1) c) (omega arith) below seen)
     (λ x grows left. safe_statements bs script uses placed rest (i + length (spell (Stmt (DefPart d) semicolon))) (n + 1) (function d ∷ es) fs x.0 x.1 here.1 typed.1 (λ e is. inside e (inr is)) (defs_function script es d (inside d (inl refl)) defs) left.0 left.1))
 safe_statements bs script uses placed (more (Stmt (CallPart k) semicolon) rest) i n es fs slots m here typed inside defs sees below =
-    turn_then m (settled (is_setting uses (CallPart k)) m) (λ b. in_statement (n + 1) (statement (top_scope script uses slots) (CallPart k) slots (numbered (n + 1) b))) (λ x. statements script uses rest (n + 1) x.0 x.1) (settled_same (is_setting uses (CallPart k)) m) (λ c same.
+    turn_then m (settings_settled (is_setting uses (CallPart k)) m) (λ b. ending_in (n + 1) (statement (top_scope script uses slots) (CallPart k) slots (numbered (n + 1) b))) (λ x. statements script uses rest (n + 1) x.0 x.1) (settled_same (is_setting uses (CallPart k)) m) (λ c same.
     let seen : Sees c.plan.nodes slots es = subst (λ (ns : List Node). Sees ns slots es) (sym same) sees in
     stmt_then c.plan.nodes (n + 1) (Left (i + length (spell (Stmt (CallPart k) semicolon))) es) (statement (top_scope script uses slots) (CallPart k) slots (numbered (n + 1) c)) (λ x. statements script uses rest (n + 1) x.0 x.1)
     (safe_call_part bs (top_scope script uses slots) (sight (target_at uses) (read [] uses) es []) k typed.0.0 slots es i (i + length (spell (Stmt (CallPart k) semicolon))) (numbered (n + 1) c) (knows_top bs script uses slots es c.plan.nodes placed defs seen) typed.0.1 (omega arith) below seen)
     (λ x grows left. safe_statements bs script uses placed rest (i + length (spell (Stmt (CallPart k) semicolon))) (n + 1) es fs x.0 x.1 here.1 typed.1 inside defs left.0 left.1))
 safe_statements bs script uses placed (more (Stmt (IfPart k) semicolon) rest) i n es fs slots m here typed inside defs sees below =
-    turn_then m (settled false m) (λ b. in_statement (n + 1) (statement (top_scope script uses slots) (IfPart k) slots (numbered (n + 1) b))) (λ x. statements script uses rest (n + 1) x.0 x.1) (settled_same false m) (λ c same.
+    turn_then m (settings_settled false m) (λ b. ending_in (n + 1) (statement (top_scope script uses slots) (IfPart k) slots (numbered (n + 1) b))) (λ x. statements script uses rest (n + 1) x.0 x.1) (settled_same false m) (λ c same.
     let seen : Sees c.plan.nodes slots es = subst (λ (ns : List Node). Sees ns slots es) (sym same) sees in
     stmt_then c.plan.nodes (n + 1) (Left (i + length (spell (Stmt (IfPart k) semicolon))) es) (statement (top_scope script uses slots) (IfPart k) slots (numbered (n + 1) c)) (λ x. statements script uses rest (n + 1) x.0 x.1)
     (safe_if_part bs (top_scope script uses slots) (sight (target_at uses) (read [] uses) es []) k typed.0.0 slots es i (i + length (spell (Stmt (IfPart k) semicolon))) (numbered (n + 1) c) (knows_top bs script uses slots es c.plan.nodes placed defs seen) typed.0.1 (omega arith) below seen)

@@ -3,7 +3,7 @@ use Rattle.std.proofs.Common.{◌≡◌, ℤ, inl, inr, ℕ, List, [], ◌∷◌
 use Rattle.liq_base.specs.declared.memory.Kind.{Kind}
 use Rattle.script_grammar.specs.declared.tree.CompareOp.{CompareOp}
 use Rattle.script_grammar.specs.declared.tree.Literal.{Literal}
-use Rattle.script_grammar.specs.Tree.{Tree, APOr, Many, none, more, AFull, AnExpr, AnAnd, ANot, ACompare, ASum, AnAdded, AProduct, AMultiplied, AnOperand, ACall, AnArg, AnIf, AParam, AnInner, ADef, Negative, Plain, Expr, And, Not, Alone, Compared, Sum, Added, Product, Multiplied, Constant, Quoted, Truth, Named, Called, Chosen, Nothing, Paren, Tuple, Listed, Braces, Format, Call, Arg, If, Param, Labelled, Optional, Inner, Bind, Def, APart, BindPart, DefPart, CallPart, IfPart}
+use Rattle.script_grammar.specs.Tree.{Tree, APOr, Many, none, more, AFull, AnExpr, AnAnd, ANot, ACompare, ASum, AnAdded, AProduct, AMultiplied, AnOperand, ACall, AnArg, AnIf, AParam, AnInner, ADef, Negative, Plain, Expr, And, Not, Alone, Compared, Sum, Added, Product, Multiplied, Constant, Quoted, Truth, Named, Called, Chosen, Nothing, Paren, Tuple, Listed, Braces, Format, NamedCall, Arg, If, Param, Labelled, Optional, Inner, Bind, Def, APart, BindPart, DefPart, CallPart, IfPart}
 use Rattle.typing_rules.specs.declared.uses.Use.{Use}
 use Rattle.typing_rules.specs.declared.uses.Target.{Target}
 use Rattle.typing_rules.specs.declared.uses.Target.TheVariants as target
@@ -15,14 +15,14 @@ use Rattle.typing_rules.specs.Uses.{use_at}
 use Rattle.script_values.specs.declared.fault.Fault.{Fault}
 use Rattle.script_values.specs.declared.fault.Fault.TheVariants.{Stuck}
 use Rattle.script_values.specs.declared.machine.Machine.{Machine}
-use Rattle.script_values.specs.Machines.{count}
+use Rattle.script_values.specs.Machines.{count_work}
 use Rattle.script_values.specs.Numbers.{added, multiplied, compared, either, both, opposite, truth_of}
 use Rattle.script_values.specs.Outcomes.{◌>>=◌, Outcome}
-use Rattle.script_values.specs.Slots.{Argument, SlotValue, slot_at}
+use Rattle.script_values.specs.Slots.{Argument, SlotValue, value_at_token}
 use Rattle.script_values.specs.Values as value
 use Rattle.script_values.specs.Values.{Value, many, size}
 use Rattle.eval_meaning.specs.Meaning as meaning
-use Rattle.eval_meaning.specs.Meaning.{Surroundings, applied, applied_to, full, joined, slot_or_default, taken_slot, value_at, with_slots}
+use Rattle.eval_meaning.specs.Meaning.{Surroundings, applied, applied_to, full, operator_applied, slot_or_default, taken_slot, value_at, with_slots}
 use Rattle.eval_meaning.specs.Scripts.{statement}
 
 -- They have the same bindings and targets, and a call by one of these names does the same.
@@ -93,8 +93,8 @@ then_each (Err e) f g each = refl
 then_same : {A B : Type 0} (p r : Result A Fault) (f g : A → Result B Fault) → p ≡ r → ((x : A) → f x ≡ g x) → (p >>= f) ≡ (r >>= g)
 then_same p r f g same each = ap (λ x. x >>= f) same ∙ then_each r f g each
 
-joined_same : (op : Value → Value → Result Value Fault) (v : Value) (p r : Outcome) → p ≡ r → joined op v p ≡ joined op v r
-joined_same op v p r same = ap (λ (x : Outcome). joined op v x) same
+joined_same : (op : Value → Value → Result Value Fault) (v : Value) (p r : Outcome) → p ≡ r → operator_applied op v p ≡ operator_applied op v r
+joined_same op v p r same = ap (λ (x : Outcome). operator_applied op v x) same
 
 branch_same : (b : Bool) (p r p' r' : Outcome) → p ≡ p' → r ≡ r' → ◌≡◌ {A = Outcome} (elim b [ true ↦ p | false ↦ r ]) (elim b [ true ↦ p' | false ↦ r' ])
 branch_same true p r p' r' first second = first
@@ -111,8 +111,8 @@ named_same s r None None m slots same = refl
 named_same s r None (Some v) m slots same = absurd cc
 named_same s r (Some u) None m slots same = absurd cc
 named_same s r (Some u) (Some v) m slots same =
-    let first : List SlotValue → Outcome = λ ss. elim u.target [ target.Slot t ↦ value_at (slot_at t ss) m | target.Def t ↦ Err Stuck | target.Builtin b ↦ Err Stuck ] in
-    let second : Target → Outcome = λ w. elim w [ target.Slot t ↦ value_at (slot_at t r.slots) m | target.Def t ↦ Err Stuck | target.Builtin b ↦ Err Stuck ] in
+    let first : List SlotValue → Outcome = λ ss. elim u.target [ target.Slot t ↦ value_at (value_at_token t ss) m | target.Def t ↦ Err Stuck | target.Builtin b ↦ Err Stuck ] in
+    let second : Target → Outcome = λ w. elim w [ target.Slot t ↦ value_at (value_at_token t r.slots) m | target.Def t ↦ Err Stuck | target.Builtin b ↦ Err Stuck ] in
     ap first slots ∙ ap second (some_same u.target v.target same)
 
 -- ---- what the same means of each part
@@ -189,7 +189,7 @@ no_ors s r v m = refl
 ors_of : (s r : Surroundings) (a : Tree AnAnd) (rest : Tree (Many AnAnd)) → SameConjunction s r a → SameOrs s r rest → SameOrs s r (more a rest)
 unfolding meaning.ors
 ors_of s r a rest first second v m =
-    then_same (joined either v (meaning.conjunction s a m)) (joined either v (meaning.conjunction r a m)) (λ x. meaning.ors s rest x.0 x.1) (λ x. meaning.ors r rest x.0 x.1)
+    then_same (operator_applied either v (meaning.conjunction s a m)) (operator_applied either v (meaning.conjunction r a m)) (λ x. meaning.ors s rest x.0 x.1) (λ x. meaning.ors r rest x.0 x.1)
     (joined_same either v (meaning.conjunction s a m) (meaning.conjunction r a m) (first m)) (λ x. second x.0 x.1)
 
 conjunction_of : (s r : Surroundings) (a : Tree ANot) (rest : Tree (Many ANot)) → SameNegation s r a → SameAnds s r rest → SameConjunction s r (And a rest)
@@ -203,13 +203,13 @@ no_ands s r v m = refl
 ands_of : (s r : Surroundings) (a : Tree ANot) (rest : Tree (Many ANot)) → SameNegation s r a → SameAnds s r rest → SameAnds s r (more a rest)
 unfolding meaning.ands
 ands_of s r a rest first second v m =
-    then_same (joined both v (meaning.negation s a m)) (joined both v (meaning.negation r a m)) (λ x. meaning.ands s rest x.0 x.1) (λ x. meaning.ands r rest x.0 x.1)
+    then_same (operator_applied both v (meaning.negation s a m)) (operator_applied both v (meaning.negation r a m)) (λ x. meaning.ands s rest x.0 x.1) (λ x. meaning.ands r rest x.0 x.1)
     (joined_same both v (meaning.negation s a m) (meaning.negation r a m) (first m)) (λ x. second x.0 x.1)
 
 not_of : (s r : Surroundings) (negated : Bool) (inside : Tree ACompare) → SameCompare s r inside → SameNegation s r (Not negated inside)
 unfolding meaning.negation
 not_of s r true inside same m =
-    then_same (meaning.compare s inside m) (meaning.compare r inside m) (λ x. count 1 x.1 >>= λ c. opposite x.0 >>= λ u. Ok (u, c)) (λ x. count 1 x.1 >>= λ c. opposite x.0 >>= λ u. Ok (u, c)) (same m) (λ x. refl)
+    then_same (meaning.compare s inside m) (meaning.compare r inside m) (λ x. count_work 1 x.1 >>= λ c. opposite x.0 >>= λ u. Ok (u, c)) (λ x. count_work 1 x.1 >>= λ c. opposite x.0 >>= λ u. Ok (u, c)) (same m) (λ x. refl)
 not_of s r false inside same m = same m
 
 alone_of : (s r : Surroundings) (one : Tree ASum) → SameSum s r one → SameCompare s r (Alone one)
@@ -219,9 +219,9 @@ alone_of s r one same m = same m
 compared_of : (s r : Surroundings) (one : Tree ASum) (at : ℕ) (o : CompareOp) (other : Tree ASum) → SameSum s r one → SameSum s r other → SameCompare s r (Compared one at o other)
 unfolding meaning.compare
 compared_of s r one at o other first second m =
-    then_same (meaning.sum s one m) (meaning.sum r one m) (λ x. meaning.sum s other x.1 >>= λ y. count 1 y.1 >>= λ c. compared o x.0 y.0 >>= λ u. Ok (u, c)) (λ x. meaning.sum r other x.1 >>= λ y. count 1 y.1 >>= λ c. compared o x.0 y.0 >>= λ u. Ok (u, c))
+    then_same (meaning.sum s one m) (meaning.sum r one m) (λ x. meaning.sum s other x.1 >>= λ y. count_work 1 y.1 >>= λ c. compared o x.0 y.0 >>= λ u. Ok (u, c)) (λ x. meaning.sum r other x.1 >>= λ y. count_work 1 y.1 >>= λ c. compared o x.0 y.0 >>= λ u. Ok (u, c))
     (first m) (λ x.
-    then_same (meaning.sum s other x.1) (meaning.sum r other x.1) (λ y. count 1 y.1 >>= λ c. compared o x.0 y.0 >>= λ u. Ok (u, c)) (λ y. count 1 y.1 >>= λ c. compared o x.0 y.0 >>= λ u. Ok (u, c)) (second x.1) (λ y. refl))
+    then_same (meaning.sum s other x.1) (meaning.sum r other x.1) (λ y. count_work 1 y.1 >>= λ c. compared o x.0 y.0 >>= λ u. Ok (u, c)) (λ y. count_work 1 y.1 >>= λ c. compared o x.0 y.0 >>= λ u. Ok (u, c)) (second x.1) (λ y. refl))
 
 sum_of : (s r : Surroundings) (p : Tree AProduct) (rest : Tree (Many AnAdded)) → SameProduct s r p → SameAddends s r rest → SameSum s r (Sum p rest)
 unfolding meaning.sum
@@ -234,7 +234,7 @@ no_addends s r v m = refl
 addends_of : (s r : Surroundings) (at : ℕ) (minus : Bool) (p : Tree AProduct) (rest : Tree (Many AnAdded)) → SameProduct s r p → SameAddends s r rest → SameAddends s r (more (Added at minus p) rest)
 unfolding meaning.addends meaning.plus
 addends_of s r at minus p rest first second v m =
-    then_same (joined (added minus at) v (meaning.product s p m)) (joined (added minus at) v (meaning.product r p m)) (λ x. meaning.addends s rest x.0 x.1) (λ x. meaning.addends r rest x.0 x.1)
+    then_same (operator_applied (added minus at) v (meaning.product s p m)) (operator_applied (added minus at) v (meaning.product r p m)) (λ x. meaning.addends s rest x.0 x.1) (λ x. meaning.addends r rest x.0 x.1)
     (joined_same (added minus at) v (meaning.product s p m) (meaning.product r p m) (first m)) (λ x. second x.0 x.1)
 
 product_of : (s r : Surroundings) (p : Tree AnOperand) (rest : Tree (Many AMultiplied)) → SameOperand s r p → SameFactors s r rest → SameProduct s r (Product p rest)
@@ -248,7 +248,7 @@ no_factors s r v m = refl
 factors_of : (s r : Surroundings) (at : ℕ) (divide : Bool) (p : Tree AnOperand) (rest : Tree (Many AMultiplied)) → SameOperand s r p → SameFactors s r rest → SameFactors s r (more (Multiplied at divide p) rest)
 unfolding meaning.factors meaning.times
 factors_of s r at divide p rest first second v m =
-    then_same (joined (multiplied divide at) v (meaning.operand s p m)) (joined (multiplied divide at) v (meaning.operand r p m)) (λ x. meaning.factors s rest x.0 x.1) (λ x. meaning.factors r rest x.0 x.1)
+    then_same (operator_applied (multiplied divide at) v (meaning.operand s p m)) (operator_applied (multiplied divide at) v (meaning.operand r p m)) (λ x. meaning.factors s rest x.0 x.1) (λ x. meaning.factors r rest x.0 x.1)
     (joined_same (multiplied divide at) v (meaning.operand s p m) (meaning.operand r p m) (first m)) (λ x. second x.0 x.1)
 
 constant_of : (s r : Surroundings) (at : ℕ) (n : Literal) → SameOperand s r (Constant at n)
@@ -281,29 +281,29 @@ named_of s r at name slots target m = named_same s r (use_at at s.uses) (use_at 
 
 called_of : (s r : Surroundings) (k : Tree ACall) → SameCall s r k → SameOperand s r (Called k)
 unfolding meaning.operand
-called_of s r k same m = then_each (count 1 m) (λ c. meaning.call s k c) (λ c. meaning.call r k c) (λ c. same c)
+called_of s r k same m = then_each (count_work 1 m) (λ c. meaning.call s k c) (λ c. meaning.call r k c) (λ c. same c)
 
 chosen_of : (s r : Surroundings) (i : Tree AnIf) → SameChoice s r i → SameOperand s r (Chosen i)
 unfolding meaning.operand
-chosen_of s r i same m = then_each (count 1 m) (λ c. meaning.choice s i c) (λ c. meaning.choice r i c) (λ c. same c)
+chosen_of s r i same m = then_each (count_work 1 m) (λ c. meaning.choice s i c) (λ c. meaning.choice r i c) (λ c. same c)
 
 paren_of : (s r : Surroundings) (f : Tree AFull) → SameFull s r f → SameOperand s r (Paren f)
 unfolding meaning.operand
-paren_of s r f same m = then_each (count 1 m) (λ c. full s f c) (λ c. full r f c) (λ c. same c)
+paren_of s r f same m = then_each (count_work 1 m) (λ c. full s f c) (λ c. full r f c) (λ c. same c)
 
 tuple_of : (s r : Surroundings) (at : ℕ) (f g : Tree AFull) (rest : Tree (Many AFull)) → SameFull s r f → SameFull s r g → SameFulls s r rest → SameOperand s r (Tuple at f g rest)
 unfolding meaning.operand
 tuple_of s r at f g rest first second third m =
-    then_each (count 1 m) (λ c. full s f c >>= λ x. full s g x.1 >>= λ y. meaning.fulls s rest (x.0 ∷ y.0 ∷ []) y.1 >>= λ z. Ok (value.Tuple (many z.0), z.1)) (λ c. full r f c >>= λ x. full r g x.1 >>= λ y. meaning.fulls r rest (x.0 ∷ y.0 ∷ []) y.1 >>= λ z. Ok (value.Tuple (many z.0), z.1)) (λ c.
-    then_same (full s f c) (full r f c) (λ x. full s g x.1 >>= λ y. meaning.fulls s rest (x.0 ∷ y.0 ∷ []) y.1 >>= λ z. Ok (value.Tuple (many z.0), z.1)) (λ x. full r g x.1 >>= λ y. meaning.fulls r rest (x.0 ∷ y.0 ∷ []) y.1 >>= λ z. Ok (value.Tuple (many z.0), z.1)) (first c) (λ x.
-    then_same (full s g x.1) (full r g x.1) (λ y. meaning.fulls s rest (x.0 ∷ y.0 ∷ []) y.1 >>= λ z. Ok (value.Tuple (many z.0), z.1)) (λ y. meaning.fulls r rest (x.0 ∷ y.0 ∷ []) y.1 >>= λ z. Ok (value.Tuple (many z.0), z.1)) (second x.1) (λ y.
-    then_same (meaning.fulls s rest (x.0 ∷ y.0 ∷ []) y.1) (meaning.fulls r rest (x.0 ∷ y.0 ∷ []) y.1) (λ z. Ok (value.Tuple (many z.0), z.1)) (λ z. Ok (value.Tuple (many z.0), z.1)) (third (x.0 ∷ y.0 ∷ []) y.1) (λ z. refl))))
+    then_each (count_work 1 m) (λ c. full s f c >>= λ x. full s g x.1 >>= λ y. meaning.fulls s rest (x.0 ∷ y.0 ∷ []) y.1 >>= λ z. Ok (value.TupleValue (many z.0), z.1)) (λ c. full r f c >>= λ x. full r g x.1 >>= λ y. meaning.fulls r rest (x.0 ∷ y.0 ∷ []) y.1 >>= λ z. Ok (value.TupleValue (many z.0), z.1)) (λ c.
+    then_same (full s f c) (full r f c) (λ x. full s g x.1 >>= λ y. meaning.fulls s rest (x.0 ∷ y.0 ∷ []) y.1 >>= λ z. Ok (value.TupleValue (many z.0), z.1)) (λ x. full r g x.1 >>= λ y. meaning.fulls r rest (x.0 ∷ y.0 ∷ []) y.1 >>= λ z. Ok (value.TupleValue (many z.0), z.1)) (first c) (λ x.
+    then_same (full s g x.1) (full r g x.1) (λ y. meaning.fulls s rest (x.0 ∷ y.0 ∷ []) y.1 >>= λ z. Ok (value.TupleValue (many z.0), z.1)) (λ y. meaning.fulls r rest (x.0 ∷ y.0 ∷ []) y.1 >>= λ z. Ok (value.TupleValue (many z.0), z.1)) (second x.1) (λ y.
+    then_same (meaning.fulls s rest (x.0 ∷ y.0 ∷ []) y.1) (meaning.fulls r rest (x.0 ∷ y.0 ∷ []) y.1) (λ z. Ok (value.TupleValue (many z.0), z.1)) (λ z. Ok (value.TupleValue (many z.0), z.1)) (third (x.0 ∷ y.0 ∷ []) y.1) (λ z. refl))))
 
 listed_of : (s r : Surroundings) (at : ℕ) (parts : Tree (Many AFull)) → SameFulls s r parts → SameOperand s r (Listed at parts)
 unfolding meaning.operand
 listed_of s r at parts same m =
-    then_each (count 1 m) (λ c. meaning.fulls s parts [] c >>= λ z. Ok (value.Listed (many z.0), z.1)) (λ c. meaning.fulls r parts [] c >>= λ z. Ok (value.Listed (many z.0), z.1)) (λ c.
-    then_same (meaning.fulls s parts [] c) (meaning.fulls r parts [] c) (λ z. Ok (value.Listed (many z.0), z.1)) (λ z. Ok (value.Listed (many z.0), z.1)) (same [] c) (λ z. refl))
+    then_each (count_work 1 m) (λ c. meaning.fulls s parts [] c >>= λ z. Ok (value.ListValue (many z.0), z.1)) (λ c. meaning.fulls r parts [] c >>= λ z. Ok (value.ListValue (many z.0), z.1)) (λ c.
+    then_same (meaning.fulls s parts [] c) (meaning.fulls r parts [] c) (λ z. Ok (value.ListValue (many z.0), z.1)) (λ z. Ok (value.ListValue (many z.0), z.1)) (same [] c) (λ z. refl))
 
 no_fulls : (s r : Surroundings) → SameFulls s r none
 unfolding meaning.fulls
@@ -320,7 +320,7 @@ choice_of s r at c t e first second third m =
     then_each (truth_of x.0) (λ b. elim b [ true ↦ full s t x.1 | false ↦ full s e x.1 ]) (λ b. elim b [ true ↦ full r t x.1 | false ↦ full r e x.1 ]) (λ b.
     branch_same b (full s t x.1) (full s e x.1) (full r t x.1) (full r e x.1) (second x.1) (third x.1)))
 
-call_of : (s r : Surroundings) (at : ℕ) (name : List ℕ) (args : Tree (Many AnArg)) → SameArguments s r args → ((given : List Argument) (m : Machine) → applied s (use_at at s.uses) at given m ≡ applied r (use_at at r.uses) at given m) → SameCall s r (Call at name args)
+call_of : (s r : Surroundings) (at : ℕ) (name : List ℕ) (args : Tree (Many AnArg)) → SameArguments s r args → ((given : List Argument) (m : Machine) → applied s (use_at at s.uses) at given m ≡ applied r (use_at at r.uses) at given m) → SameCall s r (NamedCall at name args)
 unfolding meaning.call
 call_of s r at name args first second m = then_same (meaning.arguments s args [] m) (meaning.arguments r args [] m) (λ x. applied s (use_at at s.uses) at x.0 x.1) (λ x. applied r (use_at at r.uses) at x.0 x.1) (first [] m) (λ x. second x.0 x.1)
 
@@ -400,7 +400,7 @@ mutual
   choice_same s r sc (If at c t e) alike = choice_of s r at c t e (full_same s r sc c (first_of s r (names sc c) (names sc t) (names sc e) alike)) (full_same s r sc t (second_of s r (names sc c) (names sc t) (names sc e) alike)) (full_same s r sc e (third_of s r (names sc c) (names sc t) (names sc e) alike))
 
   pub call_same : (s r : Surroundings) (sc : scoping.Scope) (e : Tree ACall) → Alike s r (names sc e) → SameCall s r e
-  call_same s r sc (Call at name args) alike = call_of s r at name args (arguments_same s r sc args (behind s r (called at name sc args) (names sc args) alike)) (alike.calls (called at name sc args) (inl refl))
+  call_same s r sc (NamedCall at name args) alike = call_of s r at name args (arguments_same s r sc args (behind s r (called at name sc args) (names sc args) alike)) (alike.calls (called at name sc args) (inl refl))
 
   arguments_same : (s r : Surroundings) (sc : scoping.Scope) (rest : Tree (Many AnArg)) → Alike s r (names sc rest) → SameArguments s r rest
   arguments_same s r sc none alike = no_arguments s r

@@ -8,7 +8,7 @@ use Rattle.liq_base.specs.declared.memory.Kind.TheVariants.{Mono, Stereo}
 use Rattle.typing_rules.specs.declared.uses.Use.{Use}
 use Rattle.typing_rules.specs.declared.uses.KindOf.{KindOf}
 use Rattle.typing_rules.specs.declared.uses.KindOf.TheVariants as kind
-use Rattle.typing_rules.specs.Kinds.{IsOneOf, MonoOnly, MonoWhere, counted, kind_at, kinds_listed, kinds_of, number_of, numbers_in, put}
+use Rattle.typing_rules.specs.Kinds.{IsOneOf, MonoOnly, MonoWhere, numbered_on, known_kind, kinds_listed, kinds_of, number_of, numbers_in, put}
 use Rattle.typing_rules.specs.Scoping.{Name}
 use Rattle.typing_rules.specs.Uses.{use_at}
 
@@ -36,19 +36,19 @@ Most n k js = (n ≤ k) × AreBelow k js
 most : (n m k j : ℕ) (js : List ℕ) → n ≤ m → j < m → Most m k js → Most n k (j ∷ js)
 most n m k j js le lt rest = (omega (arith, le, rest.0), (omega (arith, lt, rest.0), rest.1))
 
-new_or_none : (n k j : ℕ) (js : List ℕ) → ((q : ℕ) → counted q js ≡ Some k → Most q k js) → (b : Bool) → nat_eq j n ≡ b → cond b (counted (suc n) js) None ≡ Some k → Most n k (j ∷ js)
+new_or_none : (n k j : ℕ) (js : List ℕ) → ((q : ℕ) → numbered_on q js ≡ Some k → Most q k js) → (b : Bool) → nat_eq j n ≡ b → cond b (numbered_on (suc n) js) None ≡ Some k → Most n k (j ∷ js)
 new_or_none n k j js later true same is = let e : j ≡ n = eqb-true j n same in most n (suc n) k j js (omega arith) (omega (arith, e)) (later (suc n) is)
 new_or_none n k j js later false other is = absurd cc
 
-low_or_new : (n k j : ℕ) (js : List ℕ) → ((q : ℕ) → counted q js ≡ Some k → Most q k js) → (b : Bool) → nat_lt j n ≡ b → cond b (counted n js) (cond (nat_eq j n) (counted (suc n) js) None) ≡ Some k → Most n k (j ∷ js)
+low_or_new : (n k j : ℕ) (js : List ℕ) → ((q : ℕ) → numbered_on q js ≡ Some k → Most q k js) → (b : Bool) → nat_lt j n ≡ b → cond b (numbered_on n js) (cond (nat_eq j n) (numbered_on (suc n) js) None) ≡ Some k → Most n k (j ∷ js)
 low_or_new n k j js later true low is = most n n k j js (omega arith) (ltb-true j n low) (later n is)
 low_or_new n k j js later false high is = new_or_none n k j js later (nat_eq j n) refl is
 
-counted_most : (n k : ℕ) (js : List ℕ) → counted n js ≡ Some k → Most n k js
+counted_most : (n k : ℕ) (js : List ℕ) → numbered_on n js ≡ Some k → Most n k js
 counted_most n k [] is = let e = some_count n k is in (omega (arith, e), tt)
 counted_most n k (j ∷ js) is = low_or_new n k j js (λ q same. counted_most q k js same) (nat_lt j n) refl is
 
-pub counted_below : (k : ℕ) (js : List ℕ) → counted 0 js ≡ Some k → AreBelow k js
+pub counted_below : (k : ℕ) (js : List ℕ) → numbered_on 0 js ≡ Some k → AreBelow k js
 counted_below k js is = (counted_most 0 k js is).1
 
 -- ---- kinds are read where each number has a kind
@@ -64,7 +64,7 @@ within_get [] j lt = absurd (omega arith)
 within_get (x ∷ xs) zero lt = (x, refl)
 within_get (x ∷ xs) (suc j) lt = within_get xs j (omega arith)
 
-put_more : (given : List Kind) (w : KindOf) (ws : List KindOf) (k : Kind) → kind_at given w ≡ Some k → AreRead given ws → AreRead given (w ∷ ws)
+put_more : (given : List Kind) (w : KindOf) (ws : List KindOf) (k : Kind) → known_kind given w ≡ Some k → AreRead given ws → AreRead given (w ∷ ws)
 put_more given w ws k is rest = record {
   kinds = k ∷ rest.kinds;
   read = ap (λ (o : Option Kind). put o (kinds_of given ws)) is ∙ ap (λ (o : Option (List Kind)). put (Some k) o) rest.read;

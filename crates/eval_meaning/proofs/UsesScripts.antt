@@ -5,14 +5,14 @@ use Rattle.std.specs.List.{flat_map}
 use Rattle.liq_base.specs.declared.limits.TheConstants.{MAX_CALLS}
 use Rattle.liq_base.specs.declared.memory.Kind.{Kind}
 use Rattle.script_grammar.specs.Placed.{IsPlaced}
-use Rattle.script_grammar.specs.Tree.{Tree, Many, ADef, APart, AStmt, none, more, Stmt, BindPart, DefPart, CallPart, IfPart, Call, Script}
+use Rattle.script_grammar.specs.Tree.{Tree, Many, ADef, APart, AStmt, none, more, Stmt, BindPart, DefPart, CallPart, IfPart, NamedCall, Script}
 use Rattle.typing_rules.specs.declared.uses.Builtin.{Builtin}
 use Rattle.typing_rules.specs.declared.uses.Target.{Target}
 use Rattle.typing_rules.specs.declared.uses.Target.TheVariants as target
 use Rattle.typing_rules.specs.declared.uses.Use.{Use}
 use Rattle.typing_rules.specs.Answers.{IsTyped}
 use Rattle.typing_rules.specs.Defs.{def_at}
-use Rattle.typing_rules.specs.Kinds.{Block, EachHasKinds, HasKinds, IsInOrder, AreInOrder, IsOneOf, IsPlace, IsUsedIn, MonoOnly, around, blocks, counted, is_of, kinds_in, kinds_listed, kinds_of, block_names, numbers_in, open_kinds, number_of, owner, read, target_at, target_said}
+use Rattle.typing_rules.specs.Kinds.{Block, EachHasKinds, HasKinds, IsInOrder, AreInOrder, IsOneOf, IsPlace, IsUsedIn, MonoOnly, around, blocks, numbered_on, is_of, kinds_in, kinds_listed, kinds_of, block_names, numbers_in, open_kinds, number_of, owner, read, target_at, target_said}
 use Rattle.typing_rules.specs.Scoping as scoping
 use Rattle.typing_rules.specs.Scoping.{Meaning, Name, meanings_of, names, target_in, target_of, used, with_statement}
 use Rattle.typing_rules.specs.Scripts.{IsTypedTo, Targets}
@@ -23,7 +23,7 @@ use Rattle.script_values.specs.Machines.{first_machine}
 use Rattle.script_values.specs.Slots.{Argument, SlotValue}
 use Rattle.eval_meaning.specs.Calls.{holds_call, is_setting, means_set}
 use Rattle.eval_meaning.specs.Meaning.{Surroundings, applied, applied_to, call_by, run}
-use Rattle.eval_meaning.specs.Scripts.{Ending, and_then, evaluation, in_statement, numbered, plan_of, settled, statement, statements, top_scope, turned}
+use Rattle.eval_meaning.specs.Scripts.{Ending, and_then, evaluation, ending_in, numbered, plan_of, settings_settled, statement, statements, top_scope, turned}
 use Rattle.eval_meaning.proofs.UsesAlike.{Alike, body_same, part_same}
 use Rattle.eval_meaning.proofs.UsesReadable.{AreBelow, are_read, counted_below, mono_same, numbers_below}
 use Rattle.eval_meaning.proofs.UsesTokens.{AtsAreWithin, Found, IsBlock, block_used, found_in, text_block}
@@ -90,7 +90,7 @@ enters script uses typed chain ns n t u ks reaches inside is means =
 reaches_text : (script : Script) (uses : List Use) (chain : List ℕ) (t : ℕ) (ks : List Kind) (ns : List Name) → find (λ b. is_of t b.0) (blocks [] script) ≡ Some (Some t, ns) → around [] uses chain ≡ Some ks → open_kinds (blocks [] script) uses t ≡ Some (length ks) → Reaches uses chain ns ks
 reaches_text script uses chain t ks ns found kinds asked = record {
   kinds = kinds;
-  below = counted_below (length ks) (numbers_in uses ns) (subst (λ (o : Option Block). counted 0 (numbers_in uses (block_names o)) ≡ Some (length ks)) found asked);
+  below = counted_below (length ks) (numbers_in uses ns) (subst (λ (o : Option Block). numbered_on 0 (numbers_in uses (block_names o)) ≡ Some (length ks)) found asked);
 }
 
 -- ---- calls
@@ -206,7 +206,7 @@ statement_same script a b pair sc (IfPart i) semicolon slots m block = part_same
 
 -- the same statements are settings
 setting_same : (script : Script) (a b : List Use) → Pair script a b → (part : Tree APart) → is_setting a part ≡ is_setting b part
-setting_same script a b pair (CallPart (Call at name args)) = ap (λ (o : Option Target). means_set o && not (holds_call args)) (same_targets script a b pair at)
+setting_same script a b pair (CallPart (NamedCall at name args)) = ap (λ (o : Option Target). means_set o && not (holds_call args)) (same_targets script a b pair at)
 setting_same script a b pair (BindPart d) = refl
 setting_same script a b pair (DefPart d) = refl
 setting_same script a b pair (IfPart i) = refl
@@ -218,9 +218,9 @@ then_each (Err e) f g each = refl
 turned_same : (script : Script) (a b : List Use) → Pair script a b → (sc : scoping.Scope) (part : Tree APart) (semicolon : Bool) (n : ℕ) (slots : List SlotValue) (m : Machine) → IsBlock (blocks [] script) (owner (Stmt part semicolon), names sc part) → turned script a part n slots m ≡ turned script b part n slots m
 unfolding turned
 turned_same script a b pair sc part semicolon n slots m block =
-    let first : Machine → Result (List SlotValue × Machine) Ending = λ c. in_statement n (statement (top_scope script a slots) part slots (numbered n c)) in
-    let second : Machine → Result (List SlotValue × Machine) Ending = λ c. in_statement n (statement (top_scope script b slots) part slots (numbered n c)) in
-    ap (λ (w : Bool). and_then (settled w m) first) (setting_same script a b pair part) ∙ then_each (settled (is_setting b part) m) first second (λ c. ap (in_statement n) (statement_same script a b pair sc part semicolon slots (numbered n c) block))
+    let first : Machine → Result (List SlotValue × Machine) Ending = λ c. ending_in n (statement (top_scope script a slots) part slots (numbered n c)) in
+    let second : Machine → Result (List SlotValue × Machine) Ending = λ c. ending_in n (statement (top_scope script b slots) part slots (numbered n c)) in
+    ap (λ (w : Bool). and_then (settings_settled w m) first) (setting_same script a b pair part) ∙ then_each (settings_settled (is_setting b part) m) first second (λ c. ap (ending_in n) (statement_same script a b pair sc part semicolon slots (numbered n c) block))
 
 statements_same : (script : Script) (a b : List Use) → Pair script a b → (rest : Tree (Many AStmt)) (sc : scoping.Scope) (n : ℕ) (slots : List SlotValue) (m : Machine) → ((x : Block) → IsBlock (blocks sc rest) x → IsBlock (blocks [] script) x) → statements script a rest n slots m ≡ statements script b rest n slots m
 unfolding statements

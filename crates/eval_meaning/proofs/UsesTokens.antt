@@ -5,7 +5,7 @@ use Rattle.std.proofs.lemmas.List.Elements.{All-head, All-tail}
 use Rattle.script_grammar.specs.Ats.{ats}
 use Rattle.script_grammar.specs.Placed.{IsPlaced}
 use Rattle.script_grammar.specs.Spelling.{spell}
-use Rattle.script_grammar.specs.Tree.{Sort, Tree, ADef, AStmt, none, more, Stmt, BindPart, DefPart, CallPart, IfPart, Bind, Def, Inner, Param, Labelled, Optional, Negative, Plain, Expr, And, Not, Alone, Compared, Sum, Added, Product, Multiplied, Constant, Quoted, Truth, Named, Called, Chosen, Nothing, Paren, Tuple, Listed, Braces, Format, Call, Arg, If, POr, PAnd, PNot, Always, Never, Mark, Between, Grouped, Many, AnInner, Script}
+use Rattle.script_grammar.specs.Tree.{Sort, Tree, ADef, AStmt, none, more, Stmt, BindPart, DefPart, CallPart, IfPart, Bind, Def, Inner, Param, Labelled, Optional, Negative, Plain, Expr, And, Not, Alone, Compared, Sum, Added, Product, Multiplied, Constant, Quoted, Truth, Named, Called, Chosen, Nothing, Paren, Tuple, Listed, Braces, Format, NamedCall, Arg, If, POr, PAnd, PNot, TrueAtom, FalseAtom, Mark, IntervalAtom, Grouped, Many, AnInner, Script}
 use Rattle.typing_rules.specs.declared.uses.Target.{Target}
 use Rattle.typing_rules.specs.Defs.{def_at}
 use Rattle.typing_rules.specs.Kinds.{Block, IsOneOf, IsUsedIn, blocks, is_of}
@@ -98,17 +98,17 @@ mutual
   names_at sc (Listed at parts) = later (names sc parts) at (ats parts) (names_at sc parts)
   names_at sc (Braces at pred) = no_names (at ∷ [])
   names_at sc (Format at bits) = no_names (at ∷ [])
-  names_at sc (Call at name args) = λ n is. ⊎_elim (λ same. inl (ap (λ (k : Name). k.at) same)) (λ inside. inr (names_at sc args n inside)) is
+  names_at sc (NamedCall at name args) = λ n is. ⊎_elim (λ same. inl (ap (λ (k : Name). k.at) same)) (λ inside. inr (names_at sc args n inside)) is
   names_at sc (Arg at label f) = later (names sc f) at (ats f) (names_at sc f)
   names_at sc (If at c t e) =
       later (names sc c ++ names sc t ++ names sc e) at (ats c ++ (ats t ++ ats e)) (three (names sc c) (names sc t) (names sc e) (ats c) (ats t) (ats e) (names_at sc c) (names_at sc t) (names_at sc e))
   names_at sc (POr first rest) = no_names []
   names_at sc (PAnd first rest) = no_names []
   names_at sc (PNot negated atom) = no_names []
-  names_at sc Always = no_names []
-  names_at sc Never = no_names []
+  names_at sc TrueAtom = no_names []
+  names_at sc FalseAtom = no_names []
   names_at sc (Mark a) = no_names []
-  names_at sc (Between a b) = no_names []
+  names_at sc (IntervalAtom a b) = no_names []
   names_at sc (Grouped p) = no_names []
 
   inners_at : (sc : Scope) (is : Tree (Many AnInner)) → AreAt (inner_names sc is) (ats is)

@@ -22,28 +22,29 @@ Grows before after = (n : ℕ) (node : Node) → slice_get before n ≡ Some nod
 
 -- The type of a value; a source's kind is that of its node.
 abbrev mutual
-  pub IsA : List Node → value.ValueTree value.One → Ground → Type 0
+  pub IsA : List Node → value.ValueTree value.OneValue → Ground → Type 0
   IsA ns (value.Int n) g = g ≡ base_type base.Int
   IsA ns (value.Number d) g = g ≡ base_type base.Decimal
   IsA ns (value.Text t) g = g ≡ base_type base.Text
-  IsA ns (value.Truth b) g = g ≡ base_type base.Bool
-  IsA ns value.Nothing g = g ≡ base_type base.Unit
-  IsA ns (value.Format wide) g = g ≡ base_type base.Format
+  IsA ns (value.TruthValue b) g = g ≡ base_type base.Bool
+  IsA ns value.UnitValue g = g ≡ base_type base.Unit
+  IsA ns (value.FormatValue wide) g = g ≡ base_type base.Format
   IsA ns (value.Pred p) g = g ≡ base_type base.Pred
   IsA ns (value.Source n) g = (node : Node) × (slice_get ns n ≡ Some node) × (g ≡ source node.kind)
-  IsA ns (value.Listed vs) g = (t : Ground) × (g ≡ list t) × AllAre ns vs t
-  IsA ns (value.Tuple vs) g = (ts : Grounds) × (g ≡ tuple ts) × EachIs ns vs ts
+  IsA ns (value.ListValue vs) g = (t : Ground) × (g ≡ list t) × AllAre ns vs t
+  IsA ns (value.TupleValue vs) g = (ts : Grounds) × (g ≡ tuple ts) × EachIs ns vs ts
 
-  pub AllAre : List Node → value.ValueTree value.Many → Ground → Type 0
-  AllAre ns value.none t = ⊤
-  AllAre ns (value.more v vs) t = IsA ns v t × AllAre ns vs t
+  pub AllAre : List Node → value.ValueTree value.ManyValues → Ground → Type 0
+  AllAre ns value.no_values t = ⊤
+  AllAre ns (value.more_values v vs) t = IsA ns v t × AllAre ns vs t
 
-  pub EachIs : List Node → value.ValueTree value.Many → Grounds → Type 0
-  EachIs ns value.none ts = ts ≡ ground.no_more
-  EachIs ns (value.more v vs) ts = (t : Ground) × (us : Grounds) × (ts ≡ ground.more t us) × IsA ns v t × EachIs ns vs us
+  pub EachIs : List Node → value.ValueTree value.ManyValues → Grounds → Type 0
+  EachIs ns value.no_values ts = ts ≡ ground.no_more
+  EachIs ns (value.more_values v vs) ts = (t : Ground) × (us : Grounds) × (ts ≡ ground.more t us) × IsA ns v t
+      × EachIs ns vs us
 
 -- arguments of these types, each behind the same label
-abbrev pub AreA : List Node → List Argument → List (arguments.Given Ground) → Type 0
+abbrev pub AreA : List Node → List Argument → List (arguments.GivenArgument Ground) → Type 0
 AreA ns [] [] = ⊤
 AreA ns [] (h ∷ hs) = ⊥
 AreA ns (g ∷ gs) [] = ⊥
@@ -75,5 +76,7 @@ Of g ns v = IsA ns v g
 
 -- each call of a builtin with arguments of its types is not stuck
 abbrev pub BuiltinsAreSafe : Type 0
-BuiltinsAreSafe = (b : Builtin) (at : ℕ) (ks : List Kind) (gs : List (arguments.Given Ground)) (g : Ground) → IsCallOf b gs ks g
-    → (given : List Argument) (m : Machine) → AreA m.plan.nodes given gs → Safe m.plan.nodes (Of g) (builtin b at ks given m)
+BuiltinsAreSafe = (b : Builtin) (at : ℕ) (ks : List Kind) (gs : List (arguments.GivenArgument Ground)) (g : Ground)
+    → IsCallOf b gs ks g
+    → (given : List Argument) (m : Machine) → AreA m.plan.nodes given gs
+    → Safe m.plan.nodes (Of g) (builtin b at ks given m)

@@ -1,6 +1,6 @@
 -- Which statements are settings: a call of the builtin `set` that holds no other call.
 use Rattle.std.specs.Prelude.{List, Option, Some, None, Bool, true, false, not, ◌||◌, ◌&&◌}
-use Rattle.script_grammar.specs.Tree.{Sort, Tree, APart, none, more, BindPart, DefPart, CallPart, IfPart, Plain, Expr, And, Not, Alone, Compared, Sum, Added, Product, Multiplied, Called, Chosen, Paren, Tuple, Listed, Call, Arg, If}
+use Rattle.script_grammar.specs.Tree.{Sort, Tree, APart, none, more, BindPart, DefPart, CallPart, IfPart, Plain, Expr, And, Not, Alone, Compared, Sum, Added, Product, Multiplied, Called, Chosen, Paren, Tuple, Listed, NamedCall, Arg, If}
 use Rattle.typing_rules.specs.declared.uses.Use.{Use}
 use Rattle.typing_rules.specs.declared.uses.Builtin.{Builtin}
 use Rattle.typing_rules.specs.declared.uses.Builtin.TheVariants as builtin
@@ -44,7 +44,7 @@ means_set (Some (target.Slot t)) = false
 means_set None = false
 
 abbrev pub is_setting : List Use → Tree APart → Bool
-is_setting uses (CallPart (Call at name args)) = means_set (target_said (use_at at uses)) && not (holds_call args)
+is_setting uses (CallPart (NamedCall at name args)) = means_set (target_said (use_at at uses)) && not (holds_call args)
 is_setting uses (BindPart b) = false
 is_setting uses (DefPart d) = false
 is_setting uses (IfPart i) = false

@@ -3,7 +3,7 @@ use Rattle.std.specs.Prelude.{ℕ, List, Result, Ok, Err, ⊤}
 use Rattle.liq_base.specs.declared.memory.Kind.{Kind}
 use Rattle.typing_rules.specs.declared.uses.Builtin.{Builtin}
 use Rattle.script_values.specs.declared.machine.Machine.{Machine}
-use Rattle.script_values.specs.Machines.{count}
+use Rattle.script_values.specs.Machines.{count_work}
 use Rattle.script_values.specs.Slots.{Argument}
 use Rattle.builtin_calls.specs.Builtins.{builtin}
 
@@ -18,5 +18,6 @@ Leaves P (Err e) = ⊤
 
 -- counting keeps it, and so does each call of a builtin
 pub record IsKept (P : Machine → Type 0) : Type 0 where
-  pub counts : (n : ℕ) (m : Machine) → P m → Leaves P (count n m)
-  pub builtins : (b : Builtin) (at : ℕ) (kinds : List Kind) (given : List Argument) (m : Machine) → P m → HoldsBehind P (builtin b at kinds given m)
+  pub counts : (n : ℕ) (m : Machine) → P m → Leaves P (count_work n m)
+  pub builtins : (b : Builtin) (at : ℕ) (kinds : List Kind) (given : List Argument) (m : Machine) → P m
+      → HoldsBehind P (builtin b at kinds given m)

@@ -1,7 +1,7 @@
 -- What an expression means: a value and the state behind it, or the first fault, by cases on the tree.
 use Rattle.std.specs.Prelude.{ℕ, zero, suc, ℤ, pos, List, [], ◌∷◌, ◌++◌, true, false, Option, Some, None, Result, Ok, Err, int_le, ◌&&◌}
 use Rattle.liq_base.specs.declared.memory.Kind.{Kind}
-use Rattle.script_grammar.specs.Tree.{Tree, Many, none, more, AFull, AnExpr, AnAnd, ANot, ACompare, ASum, AnAdded, AProduct, AMultiplied, AnOperand, ACall, AnArg, AnIf, AParam, AnInner, ADef, Negative, Plain, Expr, And, Not, Alone, Compared, Sum, Added, Product, Multiplied, Constant, Quoted, Truth, Named, Called, Chosen, Nothing, Paren, Tuple, Listed, Braces, Format, Call, Arg, If, Param, Labelled, Optional, Inner, Bind, Def, Script}
+use Rattle.script_grammar.specs.Tree.{Tree, Many, none, more, AFull, AnExpr, AnAnd, ANot, ACompare, ASum, AnAdded, AProduct, AMultiplied, AnOperand, ACall, AnArg, AnIf, AParam, AnInner, ADef, Negative, Plain, Expr, And, Not, Alone, Compared, Sum, Added, Product, Multiplied, Constant, Quoted, Truth, Named, Called, Chosen, Nothing, Paren, Tuple, Listed, Braces, Format, NamedCall, Arg, If, Param, Labelled, Optional, Inner, Bind, Def, Script}
 use Rattle.typing_rules.specs.declared.uses.Use.{Use}
 use Rattle.typing_rules.specs.declared.uses.Target.{Target}
 use Rattle.typing_rules.specs.declared.uses.Target.TheVariants as target
@@ -16,17 +16,18 @@ use Rattle.script_values.specs.declared.machine.Machine.{Machine}
 use Rattle.script_values.specs.Values.{Value, many, size}
 use Rattle.script_values.specs.Values as value
 use Rattle.script_values.specs.Numbers.{literal_value, negative, added, multiplied, compared, either, both, opposite, truth_of}
-use Rattle.script_values.specs.Machines.{count}
+use Rattle.script_values.specs.Machines.{count_work}
 use Rattle.script_values.specs.Outcomes.{Outcome, ◌>>=◌}
 use Rattle.builtin_calls.specs.Builtins.{builtin}
 use Rattle.eval_meaning.specs.Preds.{or_pred}
-use Rattle.script_values.specs.Slots.{Argument, SlotValue, slot_at}
+use Rattle.script_values.specs.Slots.{Argument, SlotValue, value_at_token}
 
 -- a call of the def at this token, with these kinds and arguments
 abbrev pub Caller : Type 0
 Caller = ℕ → List Kind → List Argument → Machine → Outcome
 
--- what is known where an expression stands: what names stand for, the values of bindings, and the open kinds of the def around
+-- what is known where an expression stands: what names stand for, the values of bindings, and the open kinds of the def
+-- around
 pub record Surroundings : Type 0 where
   pub uses : List Use
   pub slots : List SlotValue
@@ -36,13 +37,13 @@ pub record Surroundings : Type 0 where
 -- the value of a binding, which counts its size
 abbrev pub value_at : Option Value → Machine → Outcome
 value_at None m = Err Stuck
-value_at (Some v) m = count (size v) m >>= λ c. Ok (v, c)
+value_at (Some v) m = count_work (size v) m >>= λ c. Ok (v, c)
 
 unfoldable pub named : Surroundings → Option Use → Machine → Outcome
 named s None m = Err Stuck
 named s (Some u) m =
     elim u.target [
-      | target.Slot t ↦ value_at (slot_at t s.slots) m
+      | target.Slot t ↦ value_at (value_at_token t s.slots) m
       | target.Def t ↦ Err Stuck
       | target.Builtin b ↦ Err Stuck
     ]
@@ -58,26 +59,28 @@ unfoldable pub applied : Surroundings → Option Use → ℕ → List Argument �
 applied s None at given m = Err Stuck
 applied s (Some u) at given m = applied_to s u.target at (kinds_of s.kinds u.kinds) given m
 
--- the format that `%wav` names at this token: its samples have 16 bits without a size and with 16, they are wide with 24, and no other size is one
+-- the format that `%wav` names at this token: its samples have 16 bits without a size and with 16, they are wide with
+-- 24, and no other size is one
 abbrev pub format : ℕ → Option ℤ → Result Value Fault
-format at None = Ok (value.Format false)
+format at None = Ok (value.FormatValue false)
 format at (Some n) =
     elim (int_le n (pos 16) && int_le (pos 16) n) [
-      | true ↦ Ok (value.Format false)
+      | true ↦ Ok (value.FormatValue false)
       | false ↦ elim (int_le n (pos 24) && int_le (pos 24) n) [
-        | true ↦ Ok (value.Format true)
+        | true ↦ Ok (value.FormatValue true)
         | false ↦ Err (BadValue at)
       ]
     ]
 
 -- an operator on the value to its left and the operand to its right, which was evaluated
-abbrev pub joined : (Value → Value → Result Value Fault) → Value → Outcome → Outcome
-joined operator v right = right >>= λ x. count 1 x.1 >>= λ c. operator v x.0 >>= λ u. Ok (u, c)
+abbrev pub operator_applied : (Value → Value → Result Value Fault) → Value → Outcome → Outcome
+operator_applied operator v right = right >>= λ x. count_work 1 x.1 >>= λ c. operator v x.0 >>= λ u. Ok (u, c)
 
--- Operands are evaluated from the left. Work is counted when a Prim begins, and when an operator is about to be applied.
+-- Operands are evaluated from the left. Work is counted when a Prim begins, and when an operator is about to be
+-- applied.
 unfoldable mutual
   pub full : Surroundings → Tree AFull → Machine → Outcome
-  full s (Negative at n) m = count 1 m >>= λ c. negative at n >>= λ v. Ok (v, c)
+  full s (Negative at n) m = count_work 1 m >>= λ c. negative at n >>= λ v. Ok (v, c)
   full s (Plain e) m = expr s e m
 
   pub expr : Surroundings → Tree AnExpr → Machine → Outcome
@@ -85,22 +88,23 @@ unfoldable mutual
 
   pub ors : Surroundings → Tree (Many AnAnd) → Value → Machine → Outcome
   ors s none v m = Ok (v, m)
-  ors s (more a rest) v m = joined either v (conjunction s a m) >>= λ x. ors s rest x.0 x.1
+  ors s (more a rest) v m = operator_applied either v (conjunction s a m) >>= λ x. ors s rest x.0 x.1
 
   pub conjunction : Surroundings → Tree AnAnd → Machine → Outcome
   conjunction s (And n rest) m = negation s n m >>= λ x. ands s rest x.0 x.1
 
   pub ands : Surroundings → Tree (Many ANot) → Value → Machine → Outcome
   ands s none v m = Ok (v, m)
-  ands s (more n rest) v m = joined both v (negation s n m) >>= λ x. ands s rest x.0 x.1
+  ands s (more n rest) v m = operator_applied both v (negation s n m) >>= λ x. ands s rest x.0 x.1
 
   pub negation : Surroundings → Tree ANot → Machine → Outcome
-  negation s (Not true inner) m = compare s inner m >>= λ x. count 1 x.1 >>= λ c. opposite x.0 >>= λ u. Ok (u, c)
+  negation s (Not true inner) m = compare s inner m >>= λ x. count_work 1 x.1 >>= λ c. opposite x.0 >>= λ u. Ok (u, c)
   negation s (Not false inner) m = compare s inner m
 
   pub compare : Surroundings → Tree ACompare → Machine → Outcome
   compare s (Alone left) m = sum s left m
-  compare s (Compared left at o right) m = sum s left m >>= λ x. sum s right x.1 >>= λ y. count 1 y.1 >>= λ c. compared o x.0 y.0 >>= λ u. Ok (u, c)
+  compare s (Compared left at o right) m = sum s left m >>= λ x. sum s right x.1 >>= λ y. count_work 1 y.1 >>= λ c.
+      compared o x.0 y.0 >>= λ u. Ok (u, c)
 
   pub sum : Surroundings → Tree ASum → Machine → Outcome
   sum s (Sum p rest) m = product s p m >>= λ x. addends s rest x.0 x.1
@@ -110,7 +114,7 @@ unfoldable mutual
   addends s (more a rest) v m = plus s a v m >>= λ x. addends s rest x.0 x.1
 
   pub plus : Surroundings → Tree AnAdded → Value → Machine → Outcome
-  plus s (Added at minus p) v m = joined (added minus at) v (product s p m)
+  plus s (Added at minus p) v m = operator_applied (added minus at) v (product s p m)
 
   pub product : Surroundings → Tree AProduct → Machine → Outcome
   product s (Product p rest) m = operand s p m >>= λ x. factors s rest x.0 x.1
@@ -120,21 +124,23 @@ unfoldable mutual
   factors s (more a rest) v m = times s a v m >>= λ x. factors s rest x.0 x.1
 
   pub times : Surroundings → Tree AMultiplied → Value → Machine → Outcome
-  times s (Multiplied at divide p) v m = joined (multiplied divide at) v (operand s p m)
+  times s (Multiplied at divide p) v m = operator_applied (multiplied divide at) v (operand s p m)
 
   pub operand : Surroundings → Tree AnOperand → Machine → Outcome
-  operand s (Constant at n) m = count 1 m >>= λ c. Ok (literal_value n, c)
-  operand s (Quoted at text) m = count 1 m >>= λ c. Ok (value.Text text, c)
-  operand s (Truth at b) m = count 1 m >>= λ c. Ok (value.Truth b, c)
+  operand s (Constant at n) m = count_work 1 m >>= λ c. Ok (literal_value n, c)
+  operand s (Quoted at text) m = count_work 1 m >>= λ c. Ok (value.Text text, c)
+  operand s (Truth at b) m = count_work 1 m >>= λ c. Ok (value.TruthValue b, c)
   operand s (Named at name) m = named s (use_at at s.uses) m
-  operand s (Called k) m = count 1 m >>= λ c. call s k c
-  operand s (Chosen i) m = count 1 m >>= λ c. choice s i c
-  operand s (Nothing at) m = count 1 m >>= λ c. Ok (value.Nothing, c)
-  operand s (Paren f) m = count 1 m >>= λ c. full s f c
-  operand s (Tuple at f g rest) m = count 1 m >>= λ c. full s f c >>= λ x. full s g x.1 >>= λ y. fulls s rest (x.0 ∷ y.0 ∷ []) y.1 >>= λ z. Ok (value.Tuple (many z.0), z.1)
-  operand s (Listed at parts) m = count 1 m >>= λ c. fulls s parts [] c >>= λ z. Ok (value.Listed (many z.0), z.1)
-  operand s (Braces at pred) m = count 1 m >>= λ c. Ok (value.Pred (or_pred pred), c)
-  operand s (Format at bits) m = count 1 m >>= λ c. format at bits >>= λ v. Ok (v, c)
+  operand s (Called k) m = count_work 1 m >>= λ c. call s k c
+  operand s (Chosen i) m = count_work 1 m >>= λ c. choice s i c
+  operand s (Nothing at) m = count_work 1 m >>= λ c. Ok (value.UnitValue, c)
+  operand s (Paren f) m = count_work 1 m >>= λ c. full s f c
+  operand s (Tuple at f g rest) m = count_work 1 m >>= λ c. full s f c >>= λ x. full s g x.1 >>= λ y. fulls s rest (x.0
+      ∷ y.0 ∷ []) y.1 >>= λ z. Ok (value.TupleValue (many z.0), z.1)
+  operand s (Listed at parts) m = count_work 1 m >>= λ c. fulls s parts [] c >>= λ z. Ok
+      (value.ListValue (many z.0), z.1)
+  operand s (Braces at pred) m = count_work 1 m >>= λ c. Ok (value.Pred (or_pred pred), c)
+  operand s (Format at bits) m = count_work 1 m >>= λ c. format at bits >>= λ v. Ok (v, c)
 
   -- the values so far, and those of more
   pub fulls : Surroundings → Tree (Many AFull) → List Value → Machine → Result (List Value × Machine) Fault
@@ -143,11 +149,12 @@ unfoldable mutual
 
   -- only the chosen branch is evaluated
   pub choice : Surroundings → Tree AnIf → Machine → Outcome
-  choice s (If at c t e) m = full s c m >>= λ x. truth_of x.0 >>= λ b. elim b [ true ↦ full s t x.1 | false ↦ full s e x.1 ]
+  choice s (If at c t e) m = full s c m >>= λ x. truth_of x.0 >>= λ b. elim b
+      [ true ↦ full s t x.1 | false ↦ full s e x.1 ]
 
   -- arguments are evaluated as written
   pub call : Surroundings → Tree ACall → Machine → Outcome
-  call s (Call at name args) m = arguments s args [] m >>= λ x. applied s (use_at at s.uses) at x.0 x.1
+  call s (NamedCall at name args) m = arguments s args [] m >>= λ x. applied s (use_at at s.uses) at x.0 x.1
 
   pub arguments : Surroundings → Tree (Many AnArg) → List Argument → Machine → Result (List Argument × Machine) Fault
   arguments s none given m = Ok (given, m)
@@ -158,28 +165,33 @@ unfoldable mutual
 
 -- values in parentheses, behind the count
 abbrev pub grouped : Surroundings → Tree (Many AFull) → Machine → Outcome
-grouped s none m = Ok (value.Nothing, m)
+grouped s none m = Ok (value.UnitValue, m)
 grouped s (more f none) m = full s f m
-grouped s (more f (more g rest)) m = fulls s (more f (more g rest)) [] m >>= λ z. Ok (value.Tuple (many z.0), z.1)
+grouped s (more f (more g rest)) m = fulls s (more f (more g rest)) [] m >>= λ z. Ok (value.TupleValue (many z.0), z.1)
 
 abbrev pub all_of : Surroundings → Tree (Many AFull) → Machine → Outcome
-all_of s parts m = fulls s parts [] m >>= λ z. Ok (value.Listed (many z.0), z.1)
+all_of s parts m = fulls s parts [] m >>= λ z. Ok (value.ListValue (many z.0), z.1)
 
--- What a parameter takes of the arguments: its slot and the arguments that are left. A default is evaluated among the names before the def.
-abbrev pub taken_slot : ℕ → Option (Value × List Argument) → Machine → Result ((SlotValue × List Argument) × Machine) Fault
+-- What a parameter takes of the arguments: its slot and the arguments that are left. A default is evaluated among the
+-- names before the def.
+abbrev pub taken_slot : ℕ → Option (Value × List Argument) → Machine
+    → Result ((SlotValue × List Argument) × Machine) Fault
 taken_slot at None m = Err Stuck
 taken_slot at (Some x) m = Ok (((at, x.0), x.1), m)
 
-abbrev pub slot_or_default : ℕ → Option (Value × List Argument) → List Argument → Outcome → Machine → Result ((SlotValue × List Argument) × Machine) Fault
+abbrev pub slot_or_default : ℕ → Option (Value × List Argument) → List Argument → Outcome → Machine
+    → Result ((SlotValue × List Argument) × Machine) Fault
 slot_or_default at None given default m = default >>= λ x. Ok (((at, x.0), given), x.1)
 slot_or_default at (Some x) given default m = Ok (((at, x.0), x.1), m)
 
-unfoldable pub parameter : Surroundings → Tree AParam → List Argument → Machine → Result ((SlotValue × List Argument) × Machine) Fault
+unfoldable pub parameter : Surroundings → Tree AParam → List Argument → Machine
+    → Result ((SlotValue × List Argument) × Machine) Fault
 parameter s (Param at name) given m = taken_slot at (argument None given) m
 parameter s (Labelled at name) given m = taken_slot at (argument (Some name) given) m
 parameter s (Optional at name d) given m = slot_or_default at (argument (Some name) given) given (full s d m) m
 
-unfoldable pub parameters : Surroundings → Tree (Many AParam) → List Argument → List SlotValue → Machine → Result (List SlotValue × Machine) Fault
+unfoldable pub parameters : Surroundings → Tree (Many AParam) → List Argument → List SlotValue → Machine
+    → Result (List SlotValue × Machine) Fault
 parameters s none given slots m = Ok (slots, m)
 parameters s (more p ps) given slots m = parameter s p given m >>= λ x. parameters s ps x.0.1 (slots ++ x.0.0 ∷ []) x.1
 
@@ -190,7 +202,8 @@ with_slots s slots = record s { slots = slots ++ s.slots }
 unfoldable pub inner : Surroundings → Tree AnInner → List SlotValue → Machine → Result (SlotValue × Machine) Fault
 inner s (Inner (Bind at name f) semicolon) slots m = full (with_slots s slots) f m >>= λ x. Ok ((at, x.0), x.1)
 
-unfoldable pub inners : Surroundings → Tree (Many AnInner) → List SlotValue → Machine → Result (List SlotValue × Machine) Fault
+unfoldable pub inners : Surroundings → Tree (Many AnInner) → List SlotValue → Machine
+    → Result (List SlotValue × Machine) Fault
 inners s none slots m = Ok (slots, m)
 inners s (more i is) slots m = inner s i slots m >>= λ x. inners s is (slots ++ x.0 ∷ []) x.1
 
@@ -212,4 +225,9 @@ run s (Some d) given m = body s d given m
 -- A call of a def, where so many more may run. With each call the body is evaluated anew.
 unfoldable pub call_by : World → ℕ → Caller
 call_by w zero t kinds given m = Err (TooLarge Calls)
-call_by w (suc n) t kinds given m = run (record { uses = w.uses; slots = w.globals; kinds = kinds; call = call_by w n }) (def_at t w.script) given m
+call_by w (suc n) t kinds given m = run (record {
+  uses = w.uses;
+  slots = w.globals;
+  kinds = kinds;
+  call = call_by w n;
+}) (def_at t w.script) given m

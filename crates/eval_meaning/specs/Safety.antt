@@ -8,7 +8,7 @@ use Rattle.typing_rules.specs.Kinds.{kinds_in, target_said}
 use Rattle.typing_rules.specs.Typing.{Sight, TypesByToken, type_at}
 use Rattle.typing_rules.specs.Uses.{use_at}
 use Rattle.script_values.specs.declared.machine.Machine.{Machine}
-use Rattle.script_values.specs.Slots.{Argument, SlotValue, slot_at}
+use Rattle.script_values.specs.Slots.{Argument, SlotValue, value_at_token}
 use Rattle.script_values.specs.Values.{Value}
 use Rattle.eval_meaning.specs.BuiltinSafety.{AreA, Grows, IsA, Of, Safe}
 use Rattle.eval_meaning.specs.Meaning.{Surroundings}
@@ -16,15 +16,18 @@ use Rattle.eval_meaning.specs.Scripts.{Ending}
 
 -- each binding with a type has a value of it
 abbrev pub HaveValues : List Node → TypesByToken → List SlotValue → Type 0
-HaveValues ns types slots = (at : ℕ) (g : Ground) → type_at at types ≡ Some g → (v : Value) × (slot_at at slots ≡ Some v) × IsA ns v g
+HaveValues ns types slots = (at : ℕ) (g : Ground) → type_at at types ≡ Some g
+    → (v : Value) × (value_at_token at slots ≡ Some v) × IsA ns v g
 
 -- evaluation in a scope and typing in a sight look up the same
 pub record Knows (s : Surroundings) (t : Sight) (ns : List Node) : Type 0 where
   pub target : (at : ℕ) → target_said (use_at at s.uses) ≡ t.target at
   pub kinds : (at : ℕ) → t.kinds at ≡ kinds_in (use_at at s.uses) s.kinds
   pub slots : HaveValues ns t.types s.slots
-  pub calls : (at u : ℕ) (ks : List Kind) (gs : List (arguments.Given Ground)) (g : Ground) → t.kinds at ≡ Some ks → t.call at u gs g
-      → (given : List Argument) (m : Machine) → Grows ns m.plan.nodes → AreA m.plan.nodes given gs → Safe m.plan.nodes (Of g) (s.call u ks given m)
+  pub calls : (at u : ℕ) (ks : List Kind) (gs : List (arguments.GivenArgument Ground)) (g : Ground)
+      → t.kinds at ≡ Some ks → t.call at u gs g
+      → (given : List Argument) (m : Machine) → Grows ns m.plan.nodes → AreA m.plan.nodes given gs
+      → Safe m.plan.nodes (Of g) (s.call u ks given m)
 
 -- a script's evaluation is not stuck
 abbrev pub IsNotStuck : {A : Type 0} → Result A Ending → Type 0

@@ -20,10 +20,17 @@ use Rattle.eval_meaning.specs.Meaning.{Surroundings, full, call, choice, call_by
 
 -- the scope of a statement: the bindings so far, no open kinds, and 16 calls that may run
 abbrev pub top_scope : Script → List Use → List SlotValue → Surroundings
-top_scope script uses globals = record { uses = uses; slots = globals; kinds = []; call = call_by (record { script = script; uses = uses; globals = globals }) MAX_CALLS }
+top_scope script uses globals = record {
+  uses = uses;
+  slots = globals;
+  kinds = [];
+  call = call_by (record { script = script; uses = uses; globals = globals }) MAX_CALLS;
+}
 
--- what a statement makes of the bindings and of the state. A call or an `if` that is a whole statement counts nothing itself
-unfoldable pub statement : Surroundings → Tree APart → List SlotValue → Machine → Result (List SlotValue × Machine) Fault
+-- what a statement makes of the bindings and of the state. A call or an `if` that is a whole statement counts nothing
+-- itself
+unfoldable pub statement : Surroundings → Tree APart → List SlotValue → Machine
+    → Result (List SlotValue × Machine) Fault
 statement s (BindPart (Bind at name f)) slots m = full s f m >>= λ x. Ok (slots ++ (at, x.0) ∷ [], x.1)
 statement s (DefPart d) slots m = Ok (slots, m)
 statement s (CallPart c) slots m = call s c m >>= λ x. Ok (slots, x.1)
@@ -38,42 +45,50 @@ abbrev pub and_then : {A B : Type 0} → Result A Ending → (A → Result B End
 and_then (Ok x) f = f x
 and_then (Err e) f = Err e
 
-abbrev pub in_statement : {A : Type 0} → ℕ → Result A Fault → Result A Ending
-in_statement n (Ok x) = Ok x
-in_statement n (Err e) = Err (fault_in n e)
+abbrev pub ending_in : {A : Type 0} → ℕ → Result A Fault → Result A Ending
+ending_in n (Ok x) = Ok x
+ending_in n (Err e) = Err (fault_in n e)
 
 -- whether a tick of this duration, in millionths of a second, has a length that a tick may have
 abbrev pub is_tick : ℤ → ℕ → Bool
-is_tick duration rate = int_le (pos 0) duration && (nat_le 1 (samples_in duration rate) && nat_le (samples_in duration rate) MAX_FRAME)
+is_tick duration rate = int_le (pos 0) duration
+    && (nat_le 1 (samples_in duration rate) && nat_le (samples_in duration rate) MAX_FRAME)
 
 abbrev pub tick_of : ℤ → ℕ → Option ℕ
 tick_of duration rate = elim (is_tick duration rate) [ true ↦ Some (samples_in duration rate) | false ↦ None ]
 
 abbrev pub closed : Machine → Option ℕ → Result Machine Ending
-closed m (Some frame) = Ok (record m { plan = record m.plan { frame = frame }; settings = record m.settings { allowed = false } })
+closed m (Some frame) = Ok (record m {
+  plan = record m.plan { frame = frame };
+  settings = record m.settings { allowed = false };
+})
 closed m None = Err (Some (told.BadSetting m.settings.last))
 
--- The end of the settings: the tick is that of the duration and of the rate in force, whichever was set first. A bad one is blamed on the last statement that set either.
-unfoldable pub ended : Machine → Result Machine Ending
-ended m = closed m (tick_of m.settings.duration.millionths m.plan.rate)
+-- The end of the settings: the tick is that of the duration and of the rate in force, whichever was set first. A bad
+-- one is blamed on the last statement that set either.
+unfoldable pub settings_ended : Machine → Result Machine Ending
+settings_ended m = closed m (tick_of m.settings.duration.millionths m.plan.rate)
 
 -- the settings end before the first statement that is none
-abbrev pub settled : Bool → Machine → Result Machine Ending
-settled true m = Ok m
-settled false m = elim m.settings.allowed [ true ↦ ended m | false ↦ Ok m ]
+abbrev pub settings_settled : Bool → Machine → Result Machine Ending
+settings_settled true m = Ok m
+settings_settled false m = elim m.settings.allowed [ true ↦ settings_ended m | false ↦ Ok m ]
 
 -- the state in the statement of this number
 abbrev pub numbered : ℕ → Machine → Machine
 numbered n m = record m { settings = record m.settings { statement = n } }
 
 -- what the statement of this number makes of them, with the end of the settings before it
-unfoldable pub turned : Script → List Use → Tree APart → ℕ → List SlotValue → Machine → Result (List SlotValue × Machine) Ending
-turned script uses part n slots m = and_then (settled (is_setting uses part) m) (λ b. in_statement n (statement (top_scope script uses slots) part slots (numbered n b)))
+unfoldable pub turned : Script → List Use → Tree APart → ℕ → List SlotValue → Machine
+    → Result (List SlotValue × Machine) Ending
+turned script uses part n slots m = and_then (settings_settled (is_setting uses part) m)
+    (λ b. ending_in n (statement (top_scope script uses slots) part slots (numbered n b)))
 
 -- the statements behind the first n, with the bindings so far
 unfoldable pub statements : Script → List Use → Tree (Many AStmt) → ℕ → List SlotValue → Machine → Result Machine Ending
-statements script uses none n slots m = settled false m
-statements script uses (more (Stmt part semicolon) rest) n slots m = and_then (turned script uses part (n + 1) slots m) (λ x. statements script uses rest (n + 1) x.0 x.1)
+statements script uses none n slots m = settings_settled false m
+statements script uses (more (Stmt part semicolon) rest) n slots m = and_then (turned script uses part (n + 1) slots m)
+    (λ x. statements script uses rest (n + 1) x.0 x.1)
 
 -- a script without an output has no plan
 abbrev pub plan_of : Machine → Result Plan Ending

@@ -10,25 +10,28 @@ ghost use Rattle.script_grammar.specs.Tree.{Script};
 ghost use Rattle.typing_rules.specs.Answers.{IsTyped, IsTypedScript};
 ghost use Rattle.typing_rules.specs.declared.uses.Use.{Use};
 
-/// A call of a builtin with arguments of the types of its row, and with its open kinds, gives a value of the type of its
-/// row or a fault that is told, and keeps the nodes that are there.
+/// A call of a builtin with arguments of the types of its row, and with its open kinds, gives a value of the type of
+/// its row or a fault that is told, and keeps the nodes that are there.
 pub fn builtins_are_safe()
     ensures safe { BuiltinsAreSafe }
 {}
 
 /// The plan of a script is well formed.
 pub fn plans_are_well_formed()
-    ensures made { (script : Script) (uses : List Use) (plan : Plan) → evaluation script uses ≡ Ok plan → IsWellFormed plan }
+    ensures made { (script : Script) (uses : List Use) (plan : Plan) → evaluation script uses ≡ Ok plan
+        → IsWellFormed plan }
 {}
 
 /// The evaluation of a typed script meets no value of a wrong type: it ends with a plan or with a fault that is told.
 pub fn typed_scripts_are_not_stuck()
-    ensures told { (script : Script) (uses : List Use) → IsPlaced 0 script → IsTypedScript script uses → IsNotStuck (evaluation script uses) }
+    ensures told { (script : Script) (uses : List Use) → IsPlaced 0 script → IsTypedScript script uses
+        → IsNotStuck (evaluation script uses) }
 {}
 
 /// Whichever of the uses that typing allows a script it is given, evaluation ends with the same plan or the same fault.
 pub fn one_plan()
-    ensures one { (script : Script) (uses others : List Use) → IsPlaced 0 script → IsTyped script uses → IsTyped script others → evaluation script uses ≡ evaluation script others }
+    ensures one { (script : Script) (uses others : List Use) → IsPlaced 0 script → IsTyped script uses
+        → IsTyped script others → evaluation script uses ≡ evaluation script others }
 {
     script_grammar::laws::ats_are_within();
 }

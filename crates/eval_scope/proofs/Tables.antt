@@ -10,7 +10,7 @@ use Rattle.std.proofs.lemmas.Option.{slice_get_past, slice_get-get_or}
 use Rattle.script_grammar.specs.Tree.{Tree, ADef, AStmt, Many, more, Stmt, BindPart, DefPart, CallPart, IfPart}
 use Rattle.script_grammar.specs.View.{listed, view_stmt}
 use Rattle.script_grammar.specs.declared.tree.Stmt.{Stmt as ProgramStmt}
-use Rattle.script_values.specs.Slots.{slot_at}
+use Rattle.script_values.specs.Slots.{value_at_token}
 use Rattle.script_values.specs.Values.{Value}
 use Rattle.script_values.specs.View.{view_value}
 use Rattle.script_values.specs.Views.{view_slot}
@@ -53,9 +53,9 @@ slot_by : (b : Bool) (s : Slot) (o : Option Slot) (p : Option Value) → p ≡ o
 slot_by true s o p is = refl
 slot_by false s o p is = is
 
-pub slot_found : (at : ℕ) (xs : List Slot) → slot_at at (map view_slot xs) ≡ option_map (λ x. view_value x.value) (find (is_slot at) xs)
+pub slot_found : (at : ℕ) (xs : List Slot) → value_at_token at (map view_slot xs) ≡ option_map (λ x. view_value x.value) (find (is_slot at) xs)
 slot_found at [] = refl
-slot_found at (s ∷ xs) = slot_by (nat_eq s.at at) s (find (is_slot at) xs) (slot_at at (map view_slot xs)) (slot_found at xs)
+slot_found at (s ∷ xs) = slot_by (nat_eq s.at at) s (find (is_slot at) xs) (value_at_token at (map view_slot xs)) (slot_found at xs)
 
 def_by : (at : ℕ) (d : Tree ADef) (b : Bool) (s : ProgramStmt) (o : Option ProgramStmt) (p : Option (Tree ADef)) → b ≡ nat_eq (def_token d) at → def_if at (view_stmt s) ≡ elim b [ true ↦ Some d | false ↦ None ] → p ≡ option_and_then (λ x. def_if at (view_stmt x)) o → (elim b [ true ↦ Some d | false ↦ p ]) ≡ option_and_then (λ x. def_if at (view_stmt x)) (cond b (Some s) o)
 def_by at d true s o p test this rest = sym this

@@ -5,23 +5,37 @@ use Rattle.script_grammar.specs.View.{view_script}
 use Rattle.eval_scope.specs.declared.scope.Scope as program
 use Rattle.script_values.specs.Outcomes.{Outcome}
 use Rattle.script_values.specs.declared.machine.Machine.{Machine}
-use Rattle.typing_rules.specs.Arguments.{Given}
+use Rattle.typing_rules.specs.Arguments.{GivenArgument}
 use Rattle.script_values.specs.Values.{Value}
 use Rattle.script_values.specs.Views.{view_slot}
 use Rattle.eval_meaning.specs.Meaning.{Surroundings, World, call_by}
 
 abbrev pub world_of : program.Scope → World
-world_of s = record { script = view_script s.defs.now.script.now; uses = s.uses.now.all.now; globals = map view_slot s.globals.now.all.items }
+world_of s = record {
+  script = view_script s.defs.now.script.now;
+  uses = s.uses.now.all.now;
+  globals = map view_slot s.globals.now.all.items;
+}
 
 abbrev pub scope_of : program.Scope → Surroundings
-scope_of s = record { uses = s.uses.now.all.now; slots = map view_slot s.locals.now ++ map view_slot s.globals.now.all.items; kinds = s.kinds.now; call = call_by (world_of s) s.calls }
+scope_of s = record {
+  uses = s.uses.now.all.now;
+  slots = map view_slot s.locals.now ++ map view_slot s.globals.now.all.items;
+  kinds = s.kinds.now;
+  call = call_by (world_of s) s.calls;
+}
 
 -- the scope without the bindings of the def
 abbrev pub base_of : program.Scope → Surroundings
-base_of s = record { uses = s.uses.now.all.now; slots = map view_slot s.globals.now.all.items; kinds = s.kinds.now; call = call_by (world_of s) s.calls }
+base_of s = record {
+  uses = s.uses.now.all.now;
+  slots = map view_slot s.globals.now.all.items;
+  kinds = s.kinds.now;
+  call = call_by (world_of s) s.calls;
+}
 
 -- a call of the def at this token
-abbrev pub called : program.Scope → ℕ → List Kind → List (Given Value) → Machine → Outcome
+abbrev pub called : program.Scope → ℕ → List Kind → List (GivenArgument Value) → Machine → Outcome
 called s at kinds given m = call_by (world_of s) s.calls at kinds given m
 
 -- kinds before those that are still to be read

@@ -1,7 +1,7 @@
 // The values of the bindings of statements, with a table of where each token's stands.
 ghost use Rattle.std.specs.Prelude.{◌≡◌, ◌++◌, ◌∷◌, [], OnOk, map, option_map};
 ghost use Rattle.eval_scope.specs.Places.{IsTable, is_slot};
-ghost use Rattle.script_values.specs.Slots.{slot_at};
+ghost use Rattle.script_values.specs.Slots.{value_at_token};
 ghost use Rattle.script_values.specs.View.{view_value};
 ghost use Rattle.script_values.specs.Views.{view_slot};
 
@@ -47,7 +47,7 @@ impl Globals {
 
     /// The value of the binding at this token.
     pub fn find(&self, at: u32) -> Option<&Value>
-        ensures { option_map (λ v. view_value v.now) result ≡ slot_at at (map view_slot self.now.all.items) }
+        ensures { option_map (λ v. view_value v.now) result ≡ value_at_token at (map view_slot self.now.all.items) }
     {
         let place = self.places.get(at)?;
         let slot = self.all.get(place as usize)?;

@@ -3,9 +3,9 @@ ghost use Rattle.std.specs.Prelude.{◌≡◌, IfOk, option_map};
 ghost use Rattle.typing_rules.specs.Uses.{use_at};
 ghost use Rattle.script_values.specs.Gives.{Gives};
 ghost use Rattle.eval_meaning.specs.Meaning.{format, named, value_at};
-ghost use Rattle.typing_rules.specs.Kinds.{kind_at, kinds_of};
+ghost use Rattle.typing_rules.specs.Kinds.{known_kind, kinds_of};
 ghost use Rattle.eval_scope.specs.Scopes.{scope_of};
-ghost use Rattle.script_values.specs.Slots.{slot_at};
+ghost use Rattle.script_values.specs.Slots.{value_at_token};
 ghost use Rattle.script_values.specs.View.{view_value};
 
 use crate::defs::Defs;
@@ -36,7 +36,8 @@ pub fn named(
     machine: &mut Machine,
     at: u32,
 ) -> Result<Value, Fault>
-    ensures { Gives (λ v. (view_value v, machine.new)) result (named (scope_of scope.now) (use_at at scope.now.uses.now.all.now) machine.old) }
+    ensures { Gives (λ v. (view_value v, machine.new)) result
+        (named (scope_of scope.now) (use_at at scope.now.uses.now.all.now) machine.old) }
 {
     match scope.uses.find(at) {
         None => Err(Fault::Stuck),
@@ -90,7 +91,8 @@ fn slot_value(
     machine: &mut Machine,
     at: u32,
 ) -> Result<Value, Fault>
-    ensures { Gives (λ v. (view_value v, machine.new)) result (value_at (slot_at at (scope_of scope.now).slots) machine.old) }
+    ensures { Gives (λ v. (view_value v, machine.new)) result
+        (value_at (value_at_token at (scope_of scope.now).slots) machine.old) }
 {
     match lookup(scope, at) {
         None => Err(Fault::Stuck),
@@ -104,7 +106,7 @@ fn slot_value(
 
 // The value of a binding, of the def first.
 fn lookup<'a>(scope: &Scope<'a>, at: u32) -> Option<&'a Value>
-    ensures { option_map (λ v. view_value v.now) result ≡ slot_at at (scope_of scope.now).slots }
+    ensures { option_map (λ v. view_value v.now) result ≡ value_at_token at (scope_of scope.now).slots }
 {
     match slot_at(scope.locals, at) {
         Some(value) => Some(value),
@@ -113,7 +115,7 @@ fn lookup<'a>(scope: &Scope<'a>, at: u32) -> Option<&'a Value>
 }
 
 fn kind_at(given: &[Kind], wanted: KindOf) -> Option<Kind>
-    ensures { result ≡ kind_at given.now wanted }
+    ensures { result ≡ known_kind given.now wanted }
 {
     match wanted {
         KindOf::Fixed(kind) => Some(kind),

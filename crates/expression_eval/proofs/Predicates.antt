@@ -8,7 +8,7 @@ use Rattle.script_grammar.specs.declared.predicate.PAnd as pand
 use Rattle.script_grammar.specs.declared.predicate.PNot as pnot
 use Rattle.script_grammar.proofs.Rows.{pands_listed, pnots_listed}
 use Rattle.time_pred.specs.declared.pred.Pred as pred
-use Rattle.time_pred.specs.Predicates.{All, Any, parts_of, more as more_preds}
+use Rattle.time_pred.specs.Predicates.{All, Any, parts_of, first_part as more_preds}
 use Rattle.time_pred.specs.View.{view_pred}
 use Rattle.time_pred.proofs.Rows.{parts_seen}
 use Rattle.eval_meaning.specs.Preds.{and_pred, and_preds, not_pred, not_preds, or_pred}

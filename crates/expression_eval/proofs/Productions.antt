@@ -32,10 +32,10 @@ use Rattle.script_values.specs.declared.fault.Limit.TheVariants.{Calls}
 use Rattle.script_values.specs.Values as value
 use Rattle.script_values.specs.Values.{Value, many}
 use Rattle.script_values.specs.Numbers.{either, both, compared as numbers_compared, opposite, truth_of}
-use Rattle.script_values.specs.Machines.{count}
+use Rattle.script_values.specs.Machines.{count_work}
 use Rattle.script_values.specs.Slots.{Argument, SlotValue}
 use Rattle.eval_meaning.specs.Meaning as meaning
-use Rattle.eval_meaning.specs.Meaning.{Surroundings, full, conjunction, negation, joined}
+use Rattle.eval_meaning.specs.Meaning.{Surroundings, full, conjunction, negation, operator_applied}
 use Rattle.expression_eval.specs.Steps.{after_count}
 use Rattle.expression_eval.proofs.Loops.{Steps, fails_on, fails_same}
 
@@ -61,11 +61,11 @@ call_means s e l m is = ap (λ (t : Tree ACall). meaning.call s t m) (call_seen 
 
 -- ---- the loops
 
-pub ors_steps : (s : Surroundings) → Steps (meaning.ors s) (λ t v m. joined either v (conjunction s t m))
+pub ors_steps : (s : Surroundings) → Steps (meaning.ors s) (λ t v m. operator_applied either v (conjunction s t m))
 unfolding meaning.ors
 ors_steps s = record { opens = λ t ts v m. refl }
 
-pub ands_steps : (s : Surroundings) → Steps (meaning.ands s) (λ t v m. joined both v (negation s t m))
+pub ands_steps : (s : Surroundings) → Steps (meaning.ands s) (λ t v m. operator_applied both v (negation s t m))
 unfolding meaning.ands
 ands_steps s = record { opens = λ t ts v m. refl }
 
@@ -156,18 +156,18 @@ two_then (Ok x) b k f = one_then (b x) (k x) f
 two_then (Err e) b k f = refl
 
 abbrev pub as_tuple : List Value × Machine → Outcome
-as_tuple z = Ok (value.Tuple (many z.0), z.1)
+as_tuple z = Ok (value.TupleValue (many z.0), z.1)
 
 abbrev pub as_list : List Value × Machine → Outcome
-as_list z = Ok (value.Listed (many z.0), z.1)
+as_list z = Ok (value.ListValue (many z.0), z.1)
 
 -- a bracket of the program, whatever it holds
-pub grouped_means : (s : Surroundings) (at : ℕ) (ts : Tree (Many AFull)) (m : Machine) → meaning.operand s (tuple_of at ts) m ≡ (count 1 m >>= meaning.grouped s ts)
+pub grouped_means : (s : Surroundings) (at : ℕ) (ts : Tree (Many AFull)) (m : Machine) → meaning.operand s (tuple_of at ts) m ≡ (count_work 1 m >>= meaning.grouped s ts)
 unfolding meaning.operand meaning.fulls
 grouped_means s at none m = refl
 grouped_means s at (more f none) m = refl
 grouped_means s at (more f (more g rest)) m =
-    same_after (count 1 m) (λ c. full s f c >>= λ x. full s g x.1 >>= λ y. meaning.fulls s rest (x.0 ∷ y.0 ∷ []) y.1 >>= as_tuple) (λ c. meaning.grouped s (more f (more g rest)) c)
+    same_after (count_work 1 m) (λ c. full s f c >>= λ x. full s g x.1 >>= λ y. meaning.fulls s rest (x.0 ∷ y.0 ∷ []) y.1 >>= as_tuple) (λ c. meaning.grouped s (more f (more g rest)) c)
     (λ c. two_then (full s f c) (λ x. full s g x.1) (λ x y. meaning.fulls s rest (x.0 ∷ y.0 ∷ []) y.1) as_tuple)
 
 pub pair_means : (s : Surroundings) (fs : List Full) (m : Machine) → 2 ≤ length fs → meaning.grouped s (listed (map view_full fs)) m ≡ (meaning.fulls s (listed (map view_full fs)) [] m >>= as_tuple)
@@ -193,7 +193,7 @@ unfolding meaning.compare
 alone_means s e m is = ap (λ (t : Tree ACompare). meaning.compare s t m) (compare_alone e is)
 
 pub compared_means : (s : Surroundings) (e : compare.Compare) (r : compared.Compared) (m : Machine) → (compare.out-Compare e).right ≡ Some r
-    → meaning.compare s (view_compare e) m ≡ (meaning.sum s (view_sum (compare.out-Compare e).left) m >>= λ x. joined (numbers_compared (compared.out-Compared r).op) x.0 (meaning.sum s (view_sum (compared.out-Compared r).sum) x.1))
+    → meaning.compare s (view_compare e) m ≡ (meaning.sum s (view_sum (compare.out-Compare e).left) m >>= λ x. operator_applied (numbers_compared (compared.out-Compared r).op) x.0 (meaning.sum s (view_sum (compared.out-Compared r).sum) x.1))
 unfolding meaning.compare
 compared_means s e r m is = ap (λ (t : Tree ACompare). meaning.compare s t m) (compare_seen e r is)
 
@@ -218,28 +218,28 @@ argued_means s a m = refl
 
 -- ---- operands with parts
 
-pub call_counted : (s : Surroundings) (n : operand.Operand) (k : call.Call) (m : Machine) → n ≡ operand.Call k → meaning.operand s (view_operand n) m ≡ (count 1 m >>= λ c. meaning.call s (view_call k) c)
+pub call_counted : (s : Surroundings) (n : operand.Operand) (k : call.Call) (m : Machine) → n ≡ operand.Call k → meaning.operand s (view_operand n) m ≡ (count_work 1 m >>= λ c. meaning.call s (view_call k) c)
 unfolding meaning.operand
 call_counted s n k m is = ap (λ (x : operand.Operand). meaning.operand s (view_operand x) m) is
 
-pub choice_counted : (s : Surroundings) (n : operand.Operand) (i : If) (m : Machine) → n ≡ operand.If i → meaning.operand s (view_operand n) m ≡ (count 1 m >>= λ c. meaning.choice s (view_if i) c)
+pub choice_counted : (s : Surroundings) (n : operand.Operand) (i : If) (m : Machine) → n ≡ operand.If i → meaning.operand s (view_operand n) m ≡ (count_work 1 m >>= λ c. meaning.choice s (view_if i) c)
 unfolding meaning.operand
 choice_counted s n i m is = ap (λ (x : operand.Operand). meaning.operand s (view_operand x) m) is
 
-pub paren_counted : (s : Surroundings) (n : operand.Operand) (b : Box Full) (m : Machine) → n ≡ operand.Paren b → meaning.operand s (view_operand n) m ≡ (count 1 m >>= λ c. meaning.full s (view_full b.value) c)
+pub paren_counted : (s : Surroundings) (n : operand.Operand) (b : Box Full) (m : Machine) → n ≡ operand.Paren b → meaning.operand s (view_operand n) m ≡ (count_work 1 m >>= λ c. meaning.full s (view_full b.value) c)
 unfolding meaning.operand
 paren_counted s n b m is = ap (λ (x : operand.Operand). meaning.operand s (view_operand x) m) is
 
-pub tuple_counted : (s : Surroundings) (n : operand.Operand) (at : ℕ) (v : Vec Full) (l : List Full) (m : Machine) → n ≡ operand.Tuple at v → l ≡ v.items → meaning.operand s (view_operand n) m ≡ (count 1 m >>= meaning.grouped s (listed (map view_full l)))
+pub tuple_counted : (s : Surroundings) (n : operand.Operand) (at : ℕ) (v : Vec Full) (l : List Full) (m : Machine) → n ≡ operand.Tuple at v → l ≡ v.items → meaning.operand s (view_operand n) m ≡ (count_work 1 m >>= meaning.grouped s (listed (map view_full l)))
 tuple_counted s n at v l m is same =
     ap (λ (x : operand.Operand). meaning.operand s (view_operand x) m) is ∙ ap (λ (t : Tree AnOperand). meaning.operand s t m) (tuple_view at v) ∙ ap (λ (k : List Full). meaning.operand s (tuple_of at (listed (map view_full k))) m) (sym same)
     ∙ grouped_means s at (listed (map view_full l)) m
 
-list_means : (s : Surroundings) (at : ℕ) (ts : Tree (Many AFull)) (m : Machine) → meaning.operand s (Listed at ts) m ≡ (count 1 m >>= meaning.all_of s ts)
+list_means : (s : Surroundings) (at : ℕ) (ts : Tree (Many AFull)) (m : Machine) → meaning.operand s (Listed at ts) m ≡ (count_work 1 m >>= meaning.all_of s ts)
 unfolding meaning.operand
 list_means s at ts m = refl
 
-pub list_counted : (s : Surroundings) (n : operand.Operand) (at : ℕ) (v : Vec Full) (l : List Full) (m : Machine) → n ≡ operand.List at v → l ≡ v.items → meaning.operand s (view_operand n) m ≡ (count 1 m >>= meaning.all_of s (listed (map view_full l)))
+pub list_counted : (s : Surroundings) (n : operand.Operand) (at : ℕ) (v : Vec Full) (l : List Full) (m : Machine) → n ≡ operand.List at v → l ≡ v.items → meaning.operand s (view_operand n) m ≡ (count_work 1 m >>= meaning.all_of s (listed (map view_full l)))
 list_counted s n at v l m is same =
     ap (λ (x : operand.Operand). meaning.operand s (view_operand x) m) is ∙ ap (λ (t : Tree AnOperand). meaning.operand s t m) (list_made at v) ∙ ap (λ (k : List Full). meaning.operand s (Listed at (listed (map view_full k))) m) (sym same)
     ∙ list_means s at (listed (map view_full l)) m

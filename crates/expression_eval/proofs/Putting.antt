@@ -16,7 +16,7 @@ use Rattle.script_grammar.specs.declared.tree.Compared as compared
 use Rattle.script_grammar.specs.declared.tree.Full.{Full}
 use Rattle.script_grammar.specs.declared.tree.If.{If}
 use Rattle.eval_meaning.specs.Meaning as meaning
-use Rattle.eval_meaning.specs.Meaning.{Surroundings, joined}
+use Rattle.eval_meaning.specs.Meaning.{Surroundings, operator_applied}
 use Rattle.expression_eval.specs.Places.{Place, Failed, Goes, Joins, GoesBehind, Tells}
 use Rattle.expression_eval.specs.Steps.{after_count, operation}
 use Rattle.expression_eval.specs.declared.steps.Operator.{Operator}
@@ -57,11 +57,11 @@ pub failed_means : {A : Type 0} (now : Place) (m : Machine) (whole : Outcome) (f
 failed_means now m whole first f means failed = gives_same now m whole (first >>= f) means (failed_gives (λ v. (view_value v, m)) now first f failed)
 
 -- an operator on what its operands give
-pub joins_goes : (o : Operator) (old now right : Place) (m n : Machine) (q : Outcome) → Gives (λ w. (view_value w, m)) right q → Joins o right m old now n → Goes (λ v. joined (operation o) v q) old now n
+pub joins_goes : (o : Operator) (old now right : Place) (m n : Machine) (q : Outcome) → Gives (λ w. (view_value w, m)) right q → Joins o right m old now n → Goes (λ v. operator_applied (operation o) v q) old now n
 joins_goes o (Err e) now right m n q gives joins = joins
 joins_goes o (Ok v) now (Err e) m n q fault same =
-    subst (λ (p : Place). Gives (λ w. (view_value w, n)) p (joined (operation o) (view_value v) q)) (sym same) (fails_on e q (λ x. after_count (operation o (view_value v) x.0) x.1) fault)
-joins_goes o (Ok v) now (Ok w) m n q is gives = subst (λ (r : Outcome). Gives (λ u. (view_value u, n)) now (joined (operation o) (view_value v) r)) (sym is) gives
+    subst (λ (p : Place). Gives (λ w. (view_value w, n)) p (operator_applied (operation o) (view_value v) q)) (sym same) (fails_on e q (λ x. after_count (operation o (view_value v) x.0) x.1) fault)
+joins_goes o (Ok v) now (Ok w) m n q is gives = subst (λ (r : Outcome). Gives (λ u. (view_value u, n)) now (operator_applied (operation o) (view_value v) r)) (sym is) gives
 
 pub goes_same : (old now : Place) (m : Machine) (f g : Value → Outcome) → ((v : Value) → f v ≡ g v) → Goes g old now m → Goes f old now m
 goes_same (Ok v) now m f g same goes = gives_same now m (f (view_value v)) (g (view_value v)) (same (view_value v)) goes

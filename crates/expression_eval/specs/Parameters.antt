@@ -9,7 +9,7 @@ use Rattle.script_values.specs.declared.slots.Given.{Given as AGiven}
 use Rattle.script_values.specs.declared.value.Value.{Value as AValue}
 use Rattle.script_values.specs.Outcomes.{◌>>=◌}
 use Rattle.script_values.specs.Slots.{SlotValue}
-use Rattle.script_values.specs.Values.{Value, Nothing}
+use Rattle.script_values.specs.Values.{Value, UnitValue}
 use Rattle.script_values.specs.View.{view_value}
 use Rattle.eval_meaning.specs.Meaning.{Surroundings, full}
 
@@ -19,7 +19,7 @@ view_taken o = option_map view_value o
 
 -- the value of the argument at a place
 abbrev pub value_at : List AGiven → ℕ → Value
-value_at gs place = get_or (map (λ g. view_value g.value) gs) place Nothing
+value_at gs place = get_or (map (λ g. view_value g.value) gs) place UnitValue
 
 -- no place is this one
 abbrev pub Lacks : ℕ → List (Option ℕ) → Type 0
@@ -46,7 +46,8 @@ filled s (Labelled at name) None m = Err Stuck
 filled s (Optional at name d) None m = full s d m >>= λ x. Ok ((at, x.0), x.1)
 
 -- the slots of parameters that take these, behind others
-unfoldable pub all_filled : Surroundings → Tree (Many AParam) → List (Option Value) → List SlotValue → Machine → Result (List SlotValue × Machine) Fault
+unfoldable pub all_filled : Surroundings → Tree (Many AParam) → List (Option Value) → List SlotValue → Machine
+    → Result (List SlotValue × Machine) Fault
 all_filled s none os slots m = Ok (slots, m)
 all_filled s (more p ps) [] slots m = Err Stuck
 all_filled s (more p ps) (o ∷ os) slots m = filled s p o m >>= λ x. all_filled s ps os (slots ++ x.0 ∷ []) x.1

@@ -39,7 +39,8 @@ Makes view None now meant = Failed now meant
 abbrev pub Joins : Operator → Place → Machine → Place → Place → Machine → Type 0
 Joins operator right m (Err e) now n = now ≡ Err e
 Joins operator (Err e) m (Ok v) now n = now ≡ Err e
-Joins operator (Ok w) m (Ok v) now n = Gives (λ u. (view_value u, n)) now (after_count (operation operator (view_value v) (view_value w)) m)
+Joins operator (Ok w) m (Ok v) now n = Gives (λ u. (view_value u, n)) now
+    (after_count (operation operator (view_value v) (view_value w)) m)
 
 -- the truth of the value in the place
 abbrev pub Tells : Place → Option Bool → Place → Type 0

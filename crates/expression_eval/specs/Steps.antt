@@ -2,7 +2,7 @@
 use Rattle.std.specs.Prelude.{Result, Ok}
 use Rattle.expression_eval.specs.declared.steps.Operator.{Operator}
 use Rattle.expression_eval.specs.declared.steps.Operator.TheVariants as operator
-use Rattle.script_values.specs.Machines.{count}
+use Rattle.script_values.specs.Machines.{count_work}
 use Rattle.script_values.specs.Numbers.{added, both, compared, either, multiplied}
 use Rattle.script_values.specs.Outcomes.{◌>>=◌, Outcome}
 use Rattle.script_values.specs.Values.{Value}
@@ -11,7 +11,7 @@ use Rattle.script_values.specs.declared.machine.Machine.{Machine}
 
 -- what was made, behind the count of 1
 abbrev pub after_count : Result Value Fault → Machine → Outcome
-after_count made m = count 1 m >>= λ c. made >>= λ v. Ok (v, c)
+after_count made m = count_work 1 m >>= λ c. made >>= λ v. Ok (v, c)
 
 -- what an operator makes of two values
 abbrev pub operation : Operator → Value → Value → Result Value Fault

@@ -18,14 +18,15 @@ use std::mem;
 /// So many arguments of a call are looked through for each parameter; more of them by a table.
 const FEW_ARGUMENTS: usize = 16;
 
-/// What each parameter takes of these arguments, if it takes one: the first one behind its label, or the first without one,
-/// as `docs/evaluation.md` says under "Order". Memory may be wanting, and nothing else.
+/// What each parameter takes of these arguments, if it takes one: the first one behind its label, or the first without
+/// one, as `docs/evaluation.md` says under "Order". Memory may be wanting, and nothing else.
 pub fn taken_arguments(
     alloc: Global,
     params: &[Param],
     given: Vec<Given>,
 ) -> Result<Vec<Option<Value>>, Memory>
-    ensures { IfOk result (λ taken. map view_taken taken.items ≡ arguments_taken (parameters_of (listed (map view_param params.now))) (map view_given given.items)) }
+    ensures { IfOk result (λ taken. map view_taken taken.items
+        ≡ arguments_taken (parameters_of (listed (map view_param params.now))) (map view_given given.items)) }
 {
     if given.len() > FEW_ARGUMENTS {
         return taken_by_table(alloc, params, given);
@@ -42,7 +43,9 @@ fn take_in_turn(
     rest: &mut Vec<Given>,
     taken: &mut Vec<Option<Value>>,
 ) -> Result<(), Memory>
-    ensures { OnOk result (map view_taken taken.new.items ≡ map view_taken taken.old.items ++ arguments_taken (parameters_of (listed (map view_param params.now))) (map view_given rest.old.items)) }
+    ensures { OnOk result (map view_taken taken.new.items
+        ≡ map view_taken taken.old.items
+        ++ arguments_taken (parameters_of (listed (map view_param params.now))) (map view_given rest.old.items)) }
 {
     for param in params {
         taken.reserve(1)?;
@@ -57,7 +60,8 @@ fn taken_by_table(
     params: &[Param],
     given: Vec<Given>,
 ) -> Result<Vec<Option<Value>>, Memory>
-    ensures { IfOk result (λ taken. map view_taken taken.items ≡ arguments_taken (parameters_of (listed (map view_param params.now))) (map view_given given.items)) }
+    ensures { IfOk result (λ taken. map view_taken taken.items
+        ≡ arguments_taken (parameters_of (listed (map view_param params.now))) (map view_given given.items)) }
 {
     let places = places_taken(alloc, params, &given)?;
     let mut given = given;
@@ -72,7 +76,9 @@ fn places_taken(
     params: &[Param],
     given: &[Given],
 ) -> Result<Vec<Option<usize>>, Memory>
-    ensures { IfOk result (λ places. places.items ≡ arguments_taken (parameters_of (listed (map view_param params.now))) (placed 0 (map (λ g. g.label) given.now))) }
+    ensures { IfOk result (λ places. places.items
+        ≡ arguments_taken (parameters_of (listed (map view_param params.now)))
+        (placed 0 (map (λ g. g.label) given.now))) }
 {
     let mut labels = Labels::new(alloc, labels_of(alloc, given)?)?;
     let mut places = Vec::new(alloc);
@@ -86,7 +92,8 @@ fn find_places(
     labels: &mut Labels<'_>,
     places: &mut Vec<Option<usize>>,
 ) -> Result<(), Memory>
-    ensures { OnOk result (places.new.items ≡ places.old.items ++ arguments_taken (parameters_of (listed (map view_param params.now))) (left_of labels.old)) }
+    ensures { OnOk result (places.new.items ≡ places.old.items
+        ++ arguments_taken (parameters_of (listed (map view_param params.now))) (left_of labels.old)) }
 {
     for param in params {
         let place = labels.take(label_of(param))?;
@@ -102,7 +109,8 @@ fn take_all(
     taken: &mut Vec<Option<Value>>,
 ) -> Result<(), Memory>
     requires apart { AreApart places.now }
-    ensures { OnOk result (map view_taken taken.new.items ≡ map view_taken taken.old.items ++ map (option_map (value_at given.old)) places.now) }
+    ensures { OnOk result (map view_taken taken.new.items
+        ≡ map view_taken taken.old.items ++ map (option_map (value_at given.old)) places.now) }
 {
     for place in places {
         taken.reserve(1)?;

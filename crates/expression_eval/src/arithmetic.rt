@@ -2,7 +2,7 @@
 ghost use Rattle.std.specs.Prelude.{map};
 ghost use Rattle.script_grammar.specs.View.{listed, view_compare, view_sum, view_added, view_product, view_multiplied};
 ghost use Rattle.script_values.specs.Gives.{Gives};
-ghost use Rattle.eval_meaning.specs.Meaning.{joined, compare, sum, addends, plus, product, factors, times};
+ghost use Rattle.eval_meaning.specs.Meaning.{operator_applied, compare, sum, addends, plus, product, factors, times};
 ghost use Rattle.expression_eval.specs.Places.{Goes};
 ghost use Rattle.script_values.specs.Numbers.{compared};
 ghost use Rattle.eval_scope.specs.Scopes.{scope_of};
@@ -25,7 +25,8 @@ pub fn compare(
     node: &Compare,
     out: &mut Result<Value, Fault>,
 )
-    ensures { Gives (λ v. (view_value v, machine.new)) out.new (compare (scope_of scope.now) (view_compare node.now) machine.old) }
+    ensures { Gives (λ v. (view_value v, machine.new)) out.new
+        (compare (scope_of scope.now) (view_compare node.now) machine.old) }
 {
     sum(alloc, scope, left, machine, &node.left, out);
     if out.is_err() {
@@ -49,7 +50,8 @@ fn compare_with(
     right: &Sum,
     out: &mut Result<Value, Fault>,
 )
-    ensures { Goes (λ v. joined (compared op) v (sum (scope_of scope.now) (view_sum right.now) machine.old)) out.old out.new machine.new }
+    ensures { Goes (λ v. operator_applied (compared op) v (sum (scope_of scope.now) (view_sum right.now) machine.old))
+        out.old out.new machine.new }
 {
     let mut other = Err(Fault::Memory);
     sum(alloc, scope, left, machine, right, &mut other);
@@ -66,7 +68,8 @@ fn sum(
     node: &Sum,
     out: &mut Result<Value, Fault>,
 )
-    ensures { Gives (λ v. (view_value v, machine.new)) out.new (sum (scope_of scope.now) (view_sum node.now) machine.old) }
+    ensures { Gives (λ v. (view_value v, machine.new)) out.new
+        (sum (scope_of scope.now) (view_sum node.now) machine.old) }
 {
     product(alloc, scope, left, machine, &node.first, out);
     addends(alloc, scope, left, machine, &node.rest, out);
@@ -82,7 +85,8 @@ fn addends(
     parts: &[Added],
     out: &mut Result<Value, Fault>,
 )
-    ensures { Goes (λ v. addends (scope_of scope.now) (listed (map view_added parts.now)) v machine.old) out.old out.new machine.new }
+    ensures { Goes (λ v. addends (scope_of scope.now) (listed (map view_added parts.now)) v machine.old) out.old out.new
+        machine.new }
 {
     'turns: for part in parts {
         if out.is_err() {
@@ -124,7 +128,8 @@ fn product(
     node: &Product,
     out: &mut Result<Value, Fault>,
 )
-    ensures { Gives (λ v. (view_value v, machine.new)) out.new (product (scope_of scope.now) (view_product node.now) machine.old) }
+    ensures { Gives (λ v. (view_value v, machine.new)) out.new
+        (product (scope_of scope.now) (view_product node.now) machine.old) }
 {
     operand(alloc, scope, left, machine, &node.first, out);
     factors(alloc, scope, left, machine, &node.rest, out);
@@ -140,7 +145,8 @@ fn factors(
     parts: &[Multiplied],
     out: &mut Result<Value, Fault>,
 )
-    ensures { Goes (λ v. factors (scope_of scope.now) (listed (map view_multiplied parts.now)) v machine.old) out.old out.new machine.new }
+    ensures { Goes (λ v. factors (scope_of scope.now) (listed (map view_multiplied parts.now)) v machine.old) out.old
+        out.new machine.new }
 {
     'turns: for part in parts {
         if out.is_err() {
@@ -161,7 +167,8 @@ fn multiplied(
     part: &Multiplied,
     out: &mut Result<Value, Fault>,
 )
-    ensures { Goes (λ v. times (scope_of scope.now) (view_multiplied part.now) v machine.old) out.old out.new machine.new }
+    ensures { Goes (λ v. times (scope_of scope.now) (view_multiplied part.now) v machine.old) out.old out.new
+        machine.new }
 {
     let mut other = Err(Fault::Memory);
     operand(alloc, scope, left, machine, &part.operand, &mut other);

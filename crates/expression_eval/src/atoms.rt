@@ -22,7 +22,8 @@ pub fn atom(
     machine: &mut Machine,
     node: &Operand,
 ) -> Result<Value, Fault>
-    ensures { Gives (λ v. (view_value v, machine.new)) result (operand (scope_of scope.now) (view_operand node.now) machine.old) }
+    ensures { Gives (λ v. (view_value v, machine.new)) result
+        (operand (scope_of scope.now) (view_operand node.now) machine.old) }
 {
     match node {
         Operand::Name { at, name: _ } => named(alloc, scope, machine, *at),

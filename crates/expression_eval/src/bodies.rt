@@ -29,7 +29,8 @@ pub fn body(
     def: &Def,
     given: Vec<Given>,
 ) -> Result<Value, Fault>
-    ensures { Gives (λ v. (view_value v, machine.new)) result (body (base_of scope.now) (view_def def.now) (map view_given given.items) machine.old) }
+    ensures { Gives (λ v. (view_value v, machine.new)) result
+        (body (base_of scope.now) (view_def def.now) (map view_given given.items) machine.old) }
 {
     if left == 0 {
         return Err(Fault::Memory);
@@ -61,7 +62,9 @@ fn parameters(
     params: &[Param],
     given: Vec<Given>,
 ) -> Result<Vec<Slot>, Fault>
-    ensures { Gives (λ v. (map view_slot v.items, machine.new)) result (parameters (base_of scope.now) (listed (map view_param params.now)) (map view_given given.items) [] machine.old) }
+    ensures { Gives (λ v. (map view_slot v.items, machine.new)) result
+        (parameters (base_of scope.now) (listed (map view_param params.now)) (map view_given given.items) []
+        machine.old) }
 {
     let taken = taken_arguments(alloc, params, given)?;
     filled_parameters(alloc, scope, left, machine, params, taken)
@@ -79,7 +82,9 @@ fn filled_parameters(
     params: &[Param],
     taken: Vec<Option<Value>>,
 ) -> Result<Vec<Slot>, Fault>
-    ensures { Gives (λ v. (map view_slot v.items, machine.new)) result (all_filled (base_of scope.now) (listed (map view_param params.now)) (map view_taken taken.items) [] machine.old) }
+    ensures { Gives (λ v. (map view_slot v.items, machine.new)) result
+        (all_filled (base_of scope.now) (listed (map view_param params.now)) (map view_taken taken.items) []
+        machine.old) }
 {
     let mut rest = taken.into_iter();
     let mut slots = Vec::new(alloc);
@@ -106,7 +111,8 @@ fn parameter(
     param: &Param,
     taken: Option<Value>,
 ) -> Result<Slot, Fault>
-    ensures { Gives (λ v. (view_slot v, machine.new)) result (filled (base_of scope.now) (view_param param.now) (view_taken taken) machine.old) }
+    ensures { Gives (λ v. (view_slot v, machine.new)) result
+        (filled (base_of scope.now) (view_param param.now) (view_taken taken) machine.old) }
 {
     match taken {
         None => missing_parameter(alloc, scope, left, machine, param),
@@ -119,7 +125,8 @@ fn parameter(
 
 /// `~` Name `=` value
 ///
-/// The binding of a parameter that takes no argument, by its default, which is evaluated in the scope outside of the def.
+/// The binding of a parameter that takes no argument, by its default, which is evaluated in the scope outside of the
+/// def.
 #[cycle(value)]
 #[tactic(auto, unfolding(crate::specs::Parameters::filled))]
 fn missing_parameter(
@@ -129,7 +136,8 @@ fn missing_parameter(
     machine: &mut Machine,
     param: &Param,
 ) -> Result<Slot, Fault>
-    ensures { Gives (λ v. (view_slot v, machine.new)) result (filled (base_of scope.now) (view_param param.now) None machine.old) }
+    ensures { Gives (λ v. (view_slot v, machine.new)) result
+        (filled (base_of scope.now) (view_param param.now) None machine.old) }
 {
     match &param.form {
         ParamForm::Plain => Err(Fault::Stuck),
@@ -164,7 +172,9 @@ fn inners(
     bindings: &[Inner],
     slots: &mut Vec<Slot>,
 ) -> Result<(), Fault>
-    ensures { Gives (λ _. (map view_slot slots.new.items, machine.new)) result (inners (base_of scope.now) (listed (map view_inner bindings.now)) (map view_slot slots.old.items) machine.old) }
+    ensures { Gives (λ _. (map view_slot slots.new.items, machine.new)) result
+        (inners (base_of scope.now) (listed (map view_inner bindings.now)) (map view_slot slots.old.items)
+        machine.old) }
 {
     'turns: for binding in bindings {
         let slot = inner(alloc, scope, left, machine, binding, slots)?;
@@ -186,7 +196,8 @@ fn inner(
     binding: &Inner,
     slots: &[Slot],
 ) -> Result<Slot, Fault>
-    ensures { Gives (λ v. (view_slot v, machine.new)) result (inner (base_of scope.now) (view_inner binding.now) (map view_slot slots.now) machine.old) }
+    ensures { Gives (λ v. (view_slot v, machine.new)) result
+        (inner (base_of scope.now) (view_inner binding.now) (map view_slot slots.now) machine.old) }
 {
     let inside = Scope {
         defs: scope.defs,

@@ -31,7 +31,8 @@ pub fn call(
     machine: &mut Machine,
     node: &Call,
 ) -> Result<Value, Fault>
-    ensures { Gives (λ v. (view_value v, machine.new)) result (call (scope_of scope.now) (view_call node.now) machine.old) }
+    ensures { Gives (λ v. (view_value v, machine.new)) result
+        (call (scope_of scope.now) (view_call node.now) machine.old) }
 {
     let mut out = Err(Fault::Memory);
     put_call(alloc, scope, left, machine, node, &mut out);
@@ -51,7 +52,8 @@ pub fn put_call(
     node: &Call,
     out: &mut Result<Value, Fault>,
 )
-    ensures { Gives (λ v. (view_value v, machine.new)) out.new (call (scope_of scope.now) (view_call node.now) machine.old) }
+    ensures { Gives (λ v. (view_value v, machine.new)) out.new
+        (call (scope_of scope.now) (view_call node.now) machine.old) }
 {
     match arguments(alloc, scope, left, machine, &node.args, out) {
         None => {}
@@ -71,7 +73,8 @@ fn arguments(
     args: &[Arg],
     out: &mut Result<Value, Fault>,
 ) -> Option<Vec<Given>>
-    ensures { Makes (λ v. (map view_given v.items, machine.new)) result out.new (arguments (scope_of scope.now) (listed (map view_arg args.now)) [] machine.old) }
+    ensures { Makes (λ v. (map view_given v.items, machine.new)) result out.new
+        (arguments (scope_of scope.now) (listed (map view_arg args.now)) [] machine.old) }
 {
     let mut given = Vec::new(alloc);
     'turns: for arg in args {
@@ -96,7 +99,9 @@ fn applied(
     given: Vec<Given>,
     out: &mut Result<Value, Fault>,
 )
-    ensures { Gives (λ v. (view_value v, machine.new)) out.new (applied (scope_of scope.now) (use_at at scope.now.uses.now.all.now) at (map view_given given.items) machine.old) }
+    ensures { Gives (λ v. (view_value v, machine.new)) out.new
+        (applied (scope_of scope.now) (use_at at scope.now.uses.now.all.now) at (map view_given given.items)
+        machine.old) }
 {
     match scope.uses.find(at) {
         None => put(out, Err(Fault::Stuck)),
@@ -118,7 +123,9 @@ fn applied_to(
     at: u32,
     given: Vec<Given>,
 ) -> Result<Value, Fault>
-    ensures { Gives (λ v. (view_value v, machine.new)) result (applied_to (scope_of scope.now) found.now.target at (kinds_of scope.now.kinds.now found.now.kinds) (map view_given given.items) machine.old) }
+    ensures { Gives (λ v. (view_value v, machine.new)) result
+        (applied_to (scope_of scope.now) found.now.target at (kinds_of scope.now.kinds.now found.now.kinds)
+        (map view_given given.items) machine.old) }
 {
     match kinds_of(alloc, scope.kinds, found.kinds.as_slice())? {
         None => Err(Fault::Stuck),
@@ -130,8 +137,8 @@ fn applied_to(
     }
 }
 
-/// A call of the def at this token, with these kinds and arguments. Where no more calls may run within each other, it is
-/// refused.
+/// A call of the def at this token, with these kinds and arguments. Where no more calls may run within each other, it
+/// is refused.
 #[cycle(value)]
 fn call_def(
     alloc: Global,
@@ -142,7 +149,8 @@ fn call_def(
     kinds: &[Kind],
     given: Vec<Given>,
 ) -> Result<Value, Fault>
-    ensures { Gives (λ v. (view_value v, machine.new)) result (called scope.now at kinds.now (map view_given given.items) machine.old) }
+    ensures { Gives (λ v. (view_value v, machine.new)) result
+        (called scope.now at kinds.now (map view_given given.items) machine.old) }
 {
     if scope.calls == 0 {
         return Err(Fault::TooLarge(Limit::Calls));

@@ -22,7 +22,8 @@ pub fn choice(
     machine: &mut Machine,
     node: &If,
 ) -> Result<Value, Fault>
-    ensures { Gives (λ v. (view_value v, machine.new)) result (choice (scope_of scope.now) (view_if node.now) machine.old) }
+    ensures { Gives (λ v. (view_value v, machine.new)) result
+        (choice (scope_of scope.now) (view_if node.now) machine.old) }
 {
     let mut out = Err(Fault::Memory);
     put_choice(alloc, scope, left, machine, node, &mut out);
@@ -42,7 +43,8 @@ pub fn put_choice(
     node: &If,
     out: &mut Result<Value, Fault>,
 )
-    ensures { Gives (λ v. (view_value v, machine.new)) out.new (choice (scope_of scope.now) (view_if node.now) machine.old) }
+    ensures { Gives (λ v. (view_value v, machine.new)) out.new
+        (choice (scope_of scope.now) (view_if node.now) machine.old) }
 {
     put_full(alloc, scope, left, machine, &node.condition, out);
     match truth(out) {

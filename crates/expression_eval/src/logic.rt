@@ -2,7 +2,7 @@
 ghost use Rattle.std.specs.Prelude.{map};
 ghost use Rattle.script_grammar.specs.View.{listed, view_expr, view_and, view_not};
 ghost use Rattle.script_values.specs.Gives.{Gives};
-ghost use Rattle.eval_meaning.specs.Meaning.{expr, ors, joined, conjunction, ands, negation};
+ghost use Rattle.eval_meaning.specs.Meaning.{expr, ors, operator_applied, conjunction, ands, negation};
 ghost use Rattle.expression_eval.specs.Places.{Goes};
 ghost use Rattle.script_values.specs.Numbers.{both, either};
 ghost use Rattle.eval_scope.specs.Scopes.{scope_of};
@@ -25,7 +25,8 @@ pub fn expr(
     node: &Expr,
     out: &mut Result<Value, Fault>,
 )
-    ensures { Gives (λ v. (view_value v, machine.new)) out.new (expr (scope_of scope.now) (view_expr node.now) machine.old) }
+    ensures { Gives (λ v. (view_value v, machine.new)) out.new
+        (expr (scope_of scope.now) (view_expr node.now) machine.old) }
 {
     conjunction(alloc, scope, left, machine, &node.first, out);
     ors(alloc, scope, left, machine, &node.rest, out);
@@ -41,7 +42,8 @@ fn ors(
     parts: &[And],
     out: &mut Result<Value, Fault>,
 )
-    ensures { Goes (λ v. ors (scope_of scope.now) (listed (map view_and parts.now)) v machine.old) out.old out.new machine.new }
+    ensures { Goes (λ v. ors (scope_of scope.now) (listed (map view_and parts.now)) v machine.old) out.old out.new
+        machine.new }
 {
     'turns: for part in parts {
         if out.is_err() {
@@ -62,7 +64,8 @@ fn or_one(
     part: &And,
     out: &mut Result<Value, Fault>,
 )
-    ensures { Goes (λ v. joined either v (conjunction (scope_of scope.now) (view_and part.now) machine.old)) out.old out.new machine.new }
+    ensures { Goes (λ v. operator_applied either v (conjunction (scope_of scope.now) (view_and part.now) machine.old))
+        out.old out.new machine.new }
 {
     let mut other = Err(Fault::Memory);
     conjunction(alloc, scope, left, machine, part, &mut other);
@@ -79,7 +82,8 @@ fn conjunction(
     node: &And,
     out: &mut Result<Value, Fault>,
 )
-    ensures { Gives (λ v. (view_value v, machine.new)) out.new (conjunction (scope_of scope.now) (view_and node.now) machine.old) }
+    ensures { Gives (λ v. (view_value v, machine.new)) out.new
+        (conjunction (scope_of scope.now) (view_and node.now) machine.old) }
 {
     negation(alloc, scope, left, machine, &node.first, out);
     ands(alloc, scope, left, machine, &node.rest, out);
@@ -95,7 +99,8 @@ fn ands(
     parts: &[Not],
     out: &mut Result<Value, Fault>,
 )
-    ensures { Goes (λ v. ands (scope_of scope.now) (listed (map view_not parts.now)) v machine.old) out.old out.new machine.new }
+    ensures { Goes (λ v. ands (scope_of scope.now) (listed (map view_not parts.now)) v machine.old) out.old out.new
+        machine.new }
 {
     'turns: for part in parts {
         if out.is_err() {
@@ -116,7 +121,8 @@ fn and_one(
     part: &Not,
     out: &mut Result<Value, Fault>,
 )
-    ensures { Goes (λ v. joined both v (negation (scope_of scope.now) (view_not part.now) machine.old)) out.old out.new machine.new }
+    ensures { Goes (λ v. operator_applied both v (negation (scope_of scope.now) (view_not part.now) machine.old))
+        out.old out.new machine.new }
 {
     let mut other = Err(Fault::Memory);
     negation(alloc, scope, left, machine, part, &mut other);
@@ -133,7 +139,8 @@ fn negation(
     node: &Not,
     out: &mut Result<Value, Fault>,
 )
-    ensures { Gives (λ v. (view_value v, machine.new)) out.new (negation (scope_of scope.now) (view_not node.now) machine.old) }
+    ensures { Gives (λ v. (view_value v, machine.new)) out.new
+        (negation (scope_of scope.now) (view_not node.now) machine.old) }
 {
     compare(alloc, scope, left, machine, &node.inner, out);
     if node.negated {

@@ -28,7 +28,8 @@ pub fn operand(
     node: &tree::Operand,
     out: &mut Result<Value, Fault>,
 )
-    ensures { Gives (λ v. (view_value v, machine.new)) out.new (operand (scope_of scope.now) (view_operand node.now) machine.old) }
+    ensures { Gives (λ v. (view_value v, machine.new)) out.new
+        (operand (scope_of scope.now) (view_operand node.now) machine.old) }
 {
     match node {
         tree::Operand::Call(inside) => {
@@ -73,7 +74,8 @@ fn grouped(
     parts: &[Full],
     out: &mut Result<Value, Fault>,
 )
-    ensures { Gives (λ v. (view_value v, machine.new)) out.new (grouped (scope_of scope.now) (listed (map view_full parts.now)) machine.old) }
+    ensures { Gives (λ v. (view_value v, machine.new)) out.new
+        (grouped (scope_of scope.now) (listed (map view_full parts.now)) machine.old) }
 {
     match parts {
         [] => put(out, Ok(Value::Nothing)),
@@ -93,7 +95,8 @@ fn pair(
     out: &mut Result<Value, Fault>,
 )
     requires { 2 ≤ length parts.now }
-    ensures { Gives (λ v. (view_value v, machine.new)) out.new (grouped (scope_of scope.now) (listed (map view_full parts.now)) machine.old) }
+    ensures { Gives (λ v. (view_value v, machine.new)) out.new
+        (grouped (scope_of scope.now) (listed (map view_full parts.now)) machine.old) }
 {
     match fulls(alloc, scope, left, machine, parts, out) {
         None => {}
@@ -112,7 +115,8 @@ fn list(
     parts: &[Full],
     out: &mut Result<Value, Fault>,
 )
-    ensures { Gives (λ v. (view_value v, machine.new)) out.new (all_of (scope_of scope.now) (listed (map view_full parts.now)) machine.old) }
+    ensures { Gives (λ v. (view_value v, machine.new)) out.new
+        (all_of (scope_of scope.now) (listed (map view_full parts.now)) machine.old) }
 {
     match fulls(alloc, scope, left, machine, parts, out) {
         None => {}

@@ -16,7 +16,8 @@ use time_pred::Pred;
 
 /// The value of a predicate in braces, which counts 1.
 pub fn counted_pred(alloc: Global, machine: &mut Machine, node: &POr) -> Result<Value, Fault>
-    ensures { Gives (λ v. (view_value v, machine.new)) result (after_count (Ok (a_pred (or_pred (view_por node.now)))) machine.old) }
+    ensures { Gives (λ v. (view_value v, machine.new)) result
+        (after_count (Ok (a_pred (or_pred (view_por node.now)))) machine.old) }
 {
     count(machine, 1)?;
     let made = any_part(alloc, node)?;

@@ -5,7 +5,7 @@ ghost use Rattle.eval_meaning.specs.Meaning.{format};
 ghost use Rattle.expression_eval.specs.Places.{Goes, GoesOn, Joins, GoesBehind, Tells};
 ghost use Rattle.expression_eval.specs.Steps.{after_count, operation};
 ghost use Rattle.script_values.specs.Gives.{Gives};
-ghost use Rattle.script_values.specs.Machines.{count};
+ghost use Rattle.script_values.specs.Machines.{count_work};
 ghost use Rattle.script_values.specs.Numbers.{negative, opposite};
 ghost use Rattle.script_values.specs.Values.{Text as a_text};
 ghost use Rattle.script_values.specs.View.{view_value};
@@ -110,7 +110,7 @@ pub fn truth(out: &mut Result<Value, Fault>) -> Option<bool>
 /// Counts 1. `false` where that is too much, and then the fault is in the place.
 #[inline(never)]
 pub fn step(machine: &mut Machine, out: &mut Result<Value, Fault>) -> bool
-    ensures { GoesOn result machine.new out.new (count 1 machine.old) }
+    ensures { GoesOn result machine.new out.new (count_work 1 machine.old) }
 {
     match count(machine, 1) {
         Ok(_) => true,
@@ -124,7 +124,8 @@ pub fn step(machine: &mut Machine, out: &mut Result<Value, Fault>) -> bool
 /// Moves the value in the place behind the others. `false` where there is none, and then a fault is in the place.
 #[inline(never)]
 pub fn kept_value(values: &mut Vec<Value>, out: &mut Result<Value, Fault>) -> bool
-    ensures { GoesBehind (λ v. v) out.old result (map view_value values.old.items) (map view_value values.new.items) out.new }
+    ensures { GoesBehind (λ v. v) out.old result (map view_value values.old.items) (map view_value values.new.items)
+        out.new }
 {
     match mem::replace(out, Err(Fault::Memory)) {
         Err(fault) => {
@@ -144,7 +145,8 @@ pub fn kept_argument(
     given: &mut Vec<Given>,
     out: &mut Result<Value, Fault>,
 ) -> bool
-    ensures { GoesBehind (λ v. (label.now, v)) out.old result (map view_given given.old.items) (map view_given given.new.items) out.new }
+    ensures { GoesBehind (λ v. (label.now, v)) out.old result (map view_given given.old.items)
+        (map view_given given.new.items) out.new }
 {
     match mem::replace(out, Err(Fault::Memory)) {
         Err(fault) => {
@@ -161,7 +163,8 @@ fn labelled(
     value: Value,
     given: &mut Vec<Given>,
 ) -> Result<(), Memory>
-    ensures { IfOk result (λ _. map view_given given.new.items ≡ map view_given given.old.items ++ (label.now, view_value value) ∷ []) }
+    ensures { IfOk result (λ _. map view_given given.new.items
+        ≡ map view_given given.old.items ++ (label.now, view_value value) ∷ []) }
 {
     let label = copy_label(alloc, label)?;
     given.push(Given { label, value })?;
@@ -208,7 +211,8 @@ fn counted_operation(
     left: &Value,
     right: &Value,
 ) -> Result<Value, Fault>
-    ensures { Gives (λ v. (view_value v, machine.new)) result (after_count (operation operator (view_value left.now) (view_value right.now)) machine.old) }
+    ensures { Gives (λ v. (view_value v, machine.new)) result
+        (after_count (operation operator (view_value left.now) (view_value right.now)) machine.old) }
 {
     count(machine, 1)?;
     let made = operation(operator, left, right)?;
@@ -228,7 +232,8 @@ fn operation(operator: Operator, left: &Value, right: &Value) -> Result<Value, F
 }
 
 fn counted_opposite(machine: &mut Machine, value: &Value) -> Result<Value, Fault>
-    ensures { Gives (λ v. (view_value v, machine.new)) result (after_count (opposite (view_value value.now)) machine.old) }
+    ensures { Gives (λ v. (view_value v, machine.new)) result
+        (after_count (opposite (view_value value.now)) machine.old) }
 {
     count(machine, 1)?;
     let made = opposite(value)?;

@@ -1,8 +1,8 @@
 // Values. Each function of the seven files of this descent evaluates a production of the grammar, or a loop of one; the
-// production stands at its head, in the notation of `docs/grammar.md`. `left` bounds how deep evaluation may nest: past it
-// memory counts as wanting. A function writes its result into the place `out`, so that a frame of the descent holds no
-// result but the right operand of an operator. Where an operand, an argument or a part has a fault, it is in the place, and
-// nothing behind it is evaluated.
+// production stands at its head, in the notation of `docs/grammar.md`. `left` bounds how deep evaluation may nest: past
+// it memory counts as wanting. A function writes its result into the place `out`, so that a frame of the descent holds
+// no result but the right operand of an operator. Where an operand, an argument or a part has a fault, it is in the
+// place, and nothing behind it is evaluated.
 ghost use Rattle.std.specs.Prelude.{[], map};
 ghost use Rattle.script_grammar.specs.View.{listed, view_full};
 ghost use Rattle.script_values.specs.Gives.{Gives};
@@ -31,7 +31,8 @@ pub fn full(
     machine: &mut Machine,
     node: &Full,
 ) -> Result<Value, Fault>
-    ensures { Gives (λ v. (view_value v, machine.new)) result (full (scope_of scope.now) (view_full node.now) machine.old) }
+    ensures { Gives (λ v. (view_value v, machine.new)) result
+        (full (scope_of scope.now) (view_full node.now) machine.old) }
 {
     let mut out = Err(Fault::Memory);
     put_full(alloc, scope, left, machine, node, &mut out);
@@ -51,7 +52,8 @@ pub fn put_full(
     node: &Full,
     out: &mut Result<Value, Fault>,
 )
-    ensures { Gives (λ v. (view_value v, machine.new)) out.new (full (scope_of scope.now) (view_full node.now) machine.old) }
+    ensures { Gives (λ v. (view_value v, machine.new)) out.new
+        (full (scope_of scope.now) (view_full node.now) machine.old) }
 {
     if left == 0 {
         put(out, Err(Fault::Memory));
@@ -78,7 +80,8 @@ pub fn fulls(
     parts: &[Full],
     out: &mut Result<Value, Fault>,
 ) -> Option<Vec<Value>>
-    ensures { Makes (λ v. (map view_value v.items, machine.new)) result out.new (fulls (scope_of scope.now) (listed (map view_full parts.now)) [] machine.old) }
+    ensures { Makes (λ v. (map view_value v.items, machine.new)) result out.new
+        (fulls (scope_of scope.now) (listed (map view_full parts.now)) [] machine.old) }
 {
     let mut values = Vec::new(alloc);
     'turns: for part in parts {

@@ -1,6 +1,6 @@
 -- Calls of builtins and defs.
 use Rattle.std.proofs.Common.{◌≡◌, ◌∙◌, sym, ap, subst, refl, ℕ, suc, length, List, [], ◌∷◌, map, Some, None, Option, Bool, true, false, slice_get}
-use Rattle.script_grammar.specs.Tree.{Call}
+use Rattle.script_grammar.specs.Tree.{NamedCall}
 use Rattle.script_grammar.specs.View.{listed, view_arg, view_call}
 use Rattle.script_grammar.specs.declared.tree.Call as call
 use Rattle.script_grammar.specs.declared.tree.Arg as arg
@@ -10,8 +10,8 @@ use Rattle.type_terms.specs.declared.ty.KindTerm.{KindTerm}
 use Rattle.typing_rules.specs.declared.uses.Target.{Target}
 use Rattle.typing_rules.specs.declared.uses.Target.TheVariants as target
 use Rattle.typing_rules.specs.declared.uses.Builtin.{Builtin}
-use Rattle.typing_rules.specs.Arguments.{Parameter, Given, Matched}
-use Rattle.typing_rules.specs.Table.{params_of}
+use Rattle.typing_rules.specs.Arguments.{Parameter, GivenArgument, Matched}
+use Rattle.typing_rules.specs.Table.{params_of_builtin}
 use Rattle.general_types.specs.Schemes.{AreAmong, Scheme, IsInstance, builtin_scheme, open_numbers}
 use Rattle.std.specs.Global.{Vec}
 use Rattle.type_terms.specs.declared.ty.Ty.{Ty}
@@ -47,13 +47,13 @@ instantiated_as s s' g params result kinds i = record {
 
 -- ---- builtins
 
-builtin_callable : (s : Table) (env : Env) (at : ℕ) (b : Builtin) → IsCallable s env at (target.Builtin b) (params_of b) (IsInstance (builtin_scheme b))
+builtin_callable : (s : Table) (env : Env) (at : ℕ) (b : Builtin) → IsCallable s env at (target.Builtin b) (params_of_builtin b) (IsInstance (builtin_scheme b))
 builtin_callable s env at b = record {
   calls = λ a m k gs g ts ks matched i takes. (ks, takes, call_of_instance b gs ts ks g a matched i);
   instance = λ a m k gs g h. (h.2.types, h.0, h.2.matched, instance_of_call b gs h.0 g a h.2, h.1);
 }
 
-pub builtin_called : (s : Table) (env : Env) (at : ℕ) (b : Builtin) (ps : List Parameter) → ps ≡ params_of b → env.targets at ≡ Some (target.Builtin b) → IsCalled s env at (target.Builtin b) ps (builtin_scheme b)
+pub builtin_called : (s : Table) (env : Env) (at : ℕ) (b : Builtin) (ps : List Parameter) → ps ≡ params_of_builtin b → env.targets at ≡ Some (target.Builtin b) → IsCalled s env at (target.Builtin b) ps (builtin_scheme b)
 builtin_called s env at b ps is means = record {
   over = builtin_over b s;
   callable = subst (λ qs. IsCallable s env at (target.Builtin b) qs (IsInstance (builtin_scheme b))) (sym is) (builtin_callable s env at b);
@@ -63,8 +63,8 @@ builtin_called s env at b ps is means = record {
 -- ---- the tree of a call
 
 module _ (e : call.Call) (l : List arg.Arg) (lis : l ≡ (call.out-Call e).args.items) where
-  pub call_at : view_call e ≡ Call (call.out-Call e).at (call.out-Call e).name (listed (map view_arg l))
-  call_at = call_seen e ∙ ap (λ (k : List arg.Arg). Call (call.out-Call e).at (call.out-Call e).name (listed (map view_arg k))) (sym lis)
+  pub call_at : view_call e ≡ NamedCall (call.out-Call e).at (call.out-Call e).name (listed (map view_arg l))
+  call_at = call_seen e ∙ ap (λ (k : List arg.Arg). NamedCall (call.out-Call e).at (call.out-Call e).name (listed (map view_arg k))) (sym lis)
 
   module _ (s s1 : Table) (env : Env) (t : Target) (ps : List Parameter) (g : Scheme) (params : List Term) (result : ℕ) (kinds : List KindTerm) (old mid : List Found)
       (o : IsEnvOver s env) (us : AreUsesOver s old) (c : IsCalled s env (call.out-Call e).at t ps g) (f : IsInstantiated s s1 (IsInstance g) params (variable result) kinds) (added : mid ≡ with_use old (call.out-Call e).at t kinds) where
@@ -73,12 +73,12 @@ module _ (e : call.Call) (l : List arg.Arg) (lis : l ≡ (call.out-Call e).args.
         subst (λ x. HasNoType s env x old) (sym call_at)
         (call_no_given s s1 env (call.out-Call e).at (call.out-Call e).name (listed (map view_arg l)) t ps params (variable result) kinds old o us c.meant (IsInstance g) c.callable f (subst (λ (fs : List Found). HaveNoGiven s1 env (listed (map view_arg l)) fs) added h))
 
-    by_answer : (s2 s3 : Table) (gs : List (Given ℕ)) (new : List Found) (made : Bool) → InfersGiven s1 s2 env (listed (map view_arg l)) gs (with_use old (call.out-Call e).at t kinds) new → IsMade made s2 s3 (λ a. Matched ps (given_under a gs) (map (meaning a) params)) →
-        IsTypeOf s s3 env (Call (call.out-Call e).at (call.out-Call e).name (listed (map view_arg l))) old new (if_yes made result)
+    by_answer : (s2 s3 : Table) (gs : List (GivenArgument ℕ)) (new : List Found) (made : Bool) → InfersGiven s1 s2 env (listed (map view_arg l)) gs (with_use old (call.out-Call e).at t kinds) new → IsMade made s2 s3 (λ a. Matched ps (given_under a gs) (map (meaning a) params)) →
+        IsTypeOf s s3 env (NamedCall (call.out-Call e).at (call.out-Call e).name (listed (map view_arg l))) old new (if_yes made result)
     by_answer s2 s3 gs new true i h = call_infers s s1 env (call.out-Call e).at (call.out-Call e).name (listed (map view_arg l)) t ps params (variable result) kinds old o us c.meant (IsInstance g) c.callable f s2 s3 gs new i h
     by_answer s2 s3 gs new false i h = call_no_match s s1 env (call.out-Call e).at (call.out-Call e).name (listed (map view_arg l)) t ps params (variable result) kinds old o us c.meant (IsInstance g) c.callable f s2 gs new i h
 
-    pub call_done : (s2 s3 : Table) (gs : List (Given ℕ)) (new : List Found) (made : Bool) (answer : Option ℕ) → answer ≡ if_yes made result → InfersGiven s1 s2 env (listed (map view_arg l)) gs mid new → IsMade made s2 s3 (λ a. Matched ps (given_under a gs) (map (meaning a) params)) → IsTypeOf s s3 env (view_call e) old new answer
+    pub call_done : (s2 s3 : Table) (gs : List (GivenArgument ℕ)) (new : List Found) (made : Bool) (answer : Option ℕ) → answer ≡ if_yes made result → InfersGiven s1 s2 env (listed (map view_arg l)) gs mid new → IsMade made s2 s3 (λ a. Matched ps (given_under a gs) (map (meaning a) params)) → IsTypeOf s s3 env (view_call e) old new answer
     call_done s2 s3 gs new made answer answers i h =
         subst (λ (r : Option ℕ). IsTypeOf s s3 env (view_call e) old new r) (sym answers)
         (subst (λ x. IsTypeOf s s3 env x old new (if_yes made result)) (sym call_at)

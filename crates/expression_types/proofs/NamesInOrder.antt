@@ -1,7 +1,7 @@
 -- The tokens that a tree uses are those of its names, in whatever scope.
 use Rattle.std.proofs.Common.{◌≡◌, ◌∙◌, sym, ap, ap₂, refl, ℕ, List, ◌∷◌, ◌++◌, map}
 use Rattle.std.proofs.lemmas.List.{map-append}
-use Rattle.script_grammar.specs.Tree.{Sort, Tree, Many, AnInner, none, more, Stmt, BindPart, DefPart, CallPart, IfPart, Bind, Def, Inner, Param, Labelled, Optional, Negative, Plain, Expr, And, Not, Alone, Compared, Sum, Added, Product, Multiplied, Constant, Quoted, Truth, Named, Called, Chosen, Nothing, Paren, Tuple, Listed, Braces, Format, Call, Arg, If, POr, PAnd, PNot, Always, Never, Mark, Between, Grouped}
+use Rattle.script_grammar.specs.Tree.{Sort, Tree, Many, AnInner, none, more, Stmt, BindPart, DefPart, CallPart, IfPart, Bind, Def, Inner, Param, Labelled, Optional, Negative, Plain, Expr, And, Not, Alone, Compared, Sum, Added, Product, Multiplied, Constant, Quoted, Truth, Named, Called, Chosen, Nothing, Paren, Tuple, Listed, Braces, Format, NamedCall, Arg, If, POr, PAnd, PNot, TrueAtom, FalseAtom, Mark, IntervalAtom, Grouped}
 use Rattle.typing_rules.specs.Scoping.{Name, Scope, inner_names, names, with_inner, with_inners, with_params}
 use Rattle.expression_types.specs.Order.{tokens_used}
 
@@ -54,7 +54,7 @@ mutual
   names_in_order sc (Listed at parts) = names_in_order sc parts
   names_in_order sc (Braces at pred) = refl
   names_in_order sc (Format at size) = refl
-  names_in_order sc (Call at name args) = ap (λ (l : List ℕ). at ∷ l) (names_in_order sc args)
+  names_in_order sc (NamedCall at name args) = ap (λ (l : List ℕ). at ∷ l) (names_in_order sc args)
   names_in_order sc (Arg at label f) = names_in_order sc f
   names_in_order sc (If at c t e) =
       both (tokens_used c ++ tokens_used t) (tokens_used e) (names sc c ++ names sc t) (names sc e)
@@ -62,10 +62,10 @@ mutual
   names_in_order sc (POr first rest) = refl
   names_in_order sc (PAnd first rest) = refl
   names_in_order sc (PNot negated atom) = refl
-  names_in_order sc Always = refl
-  names_in_order sc Never = refl
+  names_in_order sc TrueAtom = refl
+  names_in_order sc FalseAtom = refl
   names_in_order sc (Mark m) = refl
-  names_in_order sc (Between a b) = refl
+  names_in_order sc (IntervalAtom a b) = refl
   names_in_order sc (Grouped p) = refl
 
   inners_in_order : (sc : Scope) (is : Tree (Many AnInner)) → tokens_used is ≡ tokens_of (inner_names sc is)

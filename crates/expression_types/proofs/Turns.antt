@@ -4,7 +4,7 @@ use Rattle.script_grammar.specs.Tree.{Sort, Tree, Many, AFull, AnArg, more, none
 use Rattle.script_grammar.specs.View.{listed, view_arg, view_full}
 use Rattle.script_grammar.specs.declared.tree.Arg as arg
 use Rattle.script_grammar.specs.declared.tree.Full.{Full}
-use Rattle.typing_rules.specs.Arguments.{Given}
+use Rattle.typing_rules.specs.Arguments.{GivenArgument}
 use Rattle.type_terms.specs.Table.{Table}
 use Rattle.type_terms.specs.Term.{terms_of, variable}
 use Rattle.type_steps.specs.Environment.{Found, AreUsesOver, IsEnvOver}
@@ -48,14 +48,14 @@ next_typed xs i x lt is s s1 s2 ns vars more_vars n old mid new o grown f g h = 
 })
 
 -- these arguments have these labels and types
-pub record GivenSo (s s' : Table) (ns : Names) (es : Tree (Many AnArg)) (gs : List (Given ℕ)) (old new : List Found) : Type 0 where
+pub record GivenSo (s s' : Table) (ns : Names) (es : Tree (Many AnArg)) (gs : List (GivenArgument ℕ)) (old new : List Found) : Type 0 where
   pub typed : InfersGiven s s' (env_of ns) es gs old new
   pub order : AreAdded ns (tokens_used es) old new
 
-pub none_given : (s : Table) (ns : Names) (gs : List (Given ℕ)) (fs : List Found) → gs ≡ [] → AreUsesOver s fs → GivenSo s s ns none gs fs fs
-none_given s ns gs fs is o = subst (λ (hs : List (Given ℕ)). GivenSo s s ns none hs fs fs) (sym is) (record { typed = given_none s (env_of ns) fs o; order = none_added ns fs })
+pub none_given : (s : Table) (ns : Names) (gs : List (GivenArgument ℕ)) (fs : List Found) → gs ≡ [] → AreUsesOver s fs → GivenSo s s ns none gs fs fs
+none_given s ns gs fs is o = subst (λ (hs : List (GivenArgument ℕ)). GivenSo s s ns none hs fs fs) (sym is) (record { typed = given_none s (env_of ns) fs o; order = none_added ns fs })
 
-pub next_given : (xs : List arg.Arg) (i : ℕ) (x : arg.Arg) → i < length xs → x ≡ get_or xs i x → (s s1 s2 : Table) (ns : Names) (gs hs : List (Given ℕ)) (n : ℕ) (old mid new : List Found) → IsEnvOver s (env_of ns) → hs ≡ gs ++ (x.label, n) ∷ [] →
+pub next_given : (xs : List arg.Arg) (i : ℕ) (x : arg.Arg) → i < length xs → x ≡ get_or xs i x → (s s1 s2 : Table) (ns : Names) (gs hs : List (GivenArgument ℕ)) (n : ℕ) (old mid new : List Found) → IsEnvOver s (env_of ns) → hs ≡ gs ++ (x.label, n) ∷ [] →
     GivenSo s s1 ns (listed (map view_arg (take i xs))) gs old mid → Infers s1 s2 (env_of ns) (view_full x.value) (variable n) mid new → AreAdded ns (tokens_used (view_full x.value)) mid new → GivenSo s s2 ns (listed (map view_arg (take (i + 1) xs))) hs old new
 next_given xs i x lt is s s1 s2 ns gs hs n old mid new o grown f g h = record {
   typed = args_next xs i x lt is s s1 (env_of ns) gs old mid o f.typed s2 n new hs grown g;

@@ -1,6 +1,6 @@
 -- The uses in the text of a value, in the order of the tokens.
 use Rattle.std.specs.Prelude.{◌≡◌, ℕ, List, [], ◌∷◌, ◌++◌, map, length, Bool, true, false, Option, Some, None, option_map, ⊤}
-use Rattle.script_grammar.specs.Tree.{Sort, Tree, none, more, Stmt, BindPart, DefPart, CallPart, IfPart, Bind, Def, Inner, Optional, Plain, Expr, And, Not, Alone, Compared, Sum, Added, Product, Multiplied, Named, Called, Chosen, Paren, Tuple, Listed, Call, Arg, If}
+use Rattle.script_grammar.specs.Tree.{Sort, Tree, none, more, Stmt, BindPart, DefPart, CallPart, IfPart, Bind, Def, Inner, Optional, Plain, Expr, And, Not, Alone, Compared, Sum, Added, Product, Multiplied, Named, Called, Chosen, Paren, Tuple, Listed, NamedCall, Arg, If}
 use Rattle.typing_rules.specs.declared.uses.Target.{Target}
 use Rattle.typing_rules.specs.declared.uses.Target.TheVariants as target
 use Rattle.typing_rules.specs.Table.{signature}
@@ -39,7 +39,7 @@ tokens_used (Chosen i) = tokens_used i
 tokens_used (Paren f) = tokens_used f
 tokens_used (Tuple at f g rest) = tokens_used f ++ tokens_used g ++ tokens_used rest
 tokens_used (Listed at parts) = tokens_used parts
-tokens_used (Call at name args) = at ∷ tokens_used args
+tokens_used (NamedCall at name args) = at ∷ tokens_used args
 tokens_used (Arg at label f) = tokens_used f
 tokens_used (If at c t e) = tokens_used c ++ tokens_used t ++ tokens_used e
 tokens_used t = []

@@ -57,7 +57,11 @@ newest_first ds [] = []
 newest_first ds (k ∷ ks) = newest_first ds ks ++ known_seen ds k
 
 abbrev pub env_of : Names → Env
-env_of n = record { targets = targets_of n.targets.now; before = newest_first n.defs.now n.before.now; inner = types_seen n.inner.now }
+env_of n = record {
+  targets = targets_of n.targets.now;
+  before = newest_first n.defs.now n.before.now;
+  inner = types_seen n.inner.now;
+}
 
 -- ---- what is to hold before
 
@@ -70,7 +74,9 @@ pub record IsCalled (s : Table) (env : Env) (at : ℕ) (t : Target) (ps : List P
 -- the calls of a def in scope are the instances of its general type
 abbrev pub DefIs : Table → Env → ℕ → Option KnownDef → Type 0
 DefIs s env t None = (at : ℕ) → HasNoCall s env at (target.Def t)
-DefIs s env t (Some d) = IsSchemeOver s (scheme_of d.general) × ((at : ℕ) → IsCallable s env at (target.Def t) (map seen_parameter d.params.items) (IsInstance (scheme_of d.general)))
+DefIs s env t (Some d) = IsSchemeOver s (scheme_of d.general)
+    × ((at : ℕ) → IsCallable s env at (target.Def t) (map seen_parameter d.params.items)
+    (IsInstance (scheme_of d.general)))
 
 pub record IsSeen (s : Table) (names : Names) (uses : List FoundUse) : Type 0 where
   pub over : IsEnvOver s (env_of names)
@@ -80,7 +86,8 @@ pub record IsSeen (s : Table) (names : Names) (uses : List FoundUse) : Type 0 wh
 -- where a name outside a call has a type, it means a binding, and its use was added
 abbrev pub IsNamed : Env → ℕ → List Found → List Found → Option ℕ → Type 0
 IsNamed env at old new None = ⊤
-IsNamed env at old new (Some n) = (t : ℕ) × (env.targets at ≡ Some (target.Slot t)) × (new ≡ with_use old at (target.Slot t) [])
+IsNamed env at old new (Some n) = (t : ℕ) × (env.targets at ≡ Some (target.Slot t))
+    × (new ≡ with_use old at (target.Slot t) [])
 
 -- the scheme of what a call calls
 abbrev pub called_scheme : Called → Scheme

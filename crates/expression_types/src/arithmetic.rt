@@ -25,8 +25,12 @@ pub fn type_compare(
     compare: &Compare,
 ) -> Result<Option<u64>, Memory>
     requires seen { IsSeen subst.old names uses.old.items }
-    ensures typed { IfOk result (λ r. IsTypeOf subst.old subst.new (env_of names.entry) (view_compare compare.now) (founds uses.old.items) (founds uses.new.items) r) }
-    ensures order { IfOk result (λ r. AreAddedIf names.entry (tokens_used (view_compare compare.now)) (founds uses.old.items) (founds uses.new.items) r) }
+    ensures typed { IfOk result
+        (λ r. IsTypeOf subst.old subst.new (env_of names.entry) (view_compare compare.now) (founds uses.old.items)
+        (founds uses.new.items) r) }
+    ensures order { IfOk result
+        (λ r. AreAddedIf names.entry (tokens_used (view_compare compare.now)) (founds uses.old.items)
+        (founds uses.new.items) r) }
 {
     match type_sum(alloc, subst, names, uses, &compare.left)? {
         None => Ok(None),
@@ -60,8 +64,12 @@ fn join_sum(
 ) -> Result<bool, Memory>
     requires seen { IsSeen subst.old names uses.old.items }
     requires inside { n < length subst.old.types }
-    ensures typed { IfOk result (λ yes. AreJoined subst.old subst.new (env_of names.entry) (more (view_sum sum.now) none) n (founds uses.old.items) (founds uses.new.items) yes) }
-    ensures order { IfOk result (λ yes. AreAddedWhere names.entry (tokens_used (view_sum sum.now)) (founds uses.old.items) (founds uses.new.items) yes) }
+    ensures typed { IfOk result
+        (λ yes. AreJoined subst.old subst.new (env_of names.entry) (more (view_sum sum.now) none) n
+        (founds uses.old.items) (founds uses.new.items) yes) }
+    ensures order { IfOk result
+        (λ yes. AreAddedWhere names.entry (tokens_used (view_sum sum.now)) (founds uses.old.items)
+        (founds uses.new.items) yes) }
 {
     match type_sum(alloc, subst, names, uses, sum)? {
         None => Ok(false),
@@ -82,8 +90,12 @@ fn type_sum(
     sum: &Sum,
 ) -> Result<Option<u64>, Memory>
     requires seen { IsSeen subst.old names uses.old.items }
-    ensures typed { IfOk result (λ r. IsTypeOf subst.old subst.new (env_of names.entry) (view_sum sum.now) (founds uses.old.items) (founds uses.new.items) r) }
-    ensures order { IfOk result (λ r. AreAddedIf names.entry (tokens_used (view_sum sum.now)) (founds uses.old.items) (founds uses.new.items) r) }
+    ensures typed { IfOk result
+        (λ r. IsTypeOf subst.old subst.new (env_of names.entry) (view_sum sum.now) (founds uses.old.items)
+        (founds uses.new.items) r) }
+    ensures order { IfOk result
+        (λ r. AreAddedIf names.entry (tokens_used (view_sum sum.now)) (founds uses.old.items) (founds uses.new.items)
+        r) }
 {
     match type_product(alloc, subst, names, uses, &sum.first)? {
         None => Ok(None),
@@ -110,8 +122,12 @@ fn join_added(
 ) -> Result<bool, Memory>
     requires seen { IsSeen subst.old names uses.old.items }
     requires inside { n < length subst.old.types }
-    ensures typed { IfOk result (λ yes. AreJoined subst.old subst.new (env_of names.entry) (more (view_added added.now) none) n (founds uses.old.items) (founds uses.new.items) yes) }
-    ensures order { IfOk result (λ yes. AreAddedWhere names.entry (tokens_used (view_added added.now)) (founds uses.old.items) (founds uses.new.items) yes) }
+    ensures typed { IfOk result
+        (λ yes. AreJoined subst.old subst.new (env_of names.entry) (more (view_added added.now) none) n
+        (founds uses.old.items) (founds uses.new.items) yes) }
+    ensures order { IfOk result
+        (λ yes. AreAddedWhere names.entry (tokens_used (view_added added.now)) (founds uses.old.items)
+        (founds uses.new.items) yes) }
 {
     match type_product(alloc, subst, names, uses, &added.product)? {
         None => Ok(false),
@@ -134,8 +150,12 @@ fn join_addends(
 ) -> Result<bool, Memory>
     requires seen { IsSeen subst.old names uses.old.items }
     requires inside { n < length subst.old.types }
-    ensures typed { IfOk result (λ yes. AreJoined subst.old subst.new (env_of names.entry) (listed (map view_added addends.now)) n (founds uses.old.items) (founds uses.new.items) yes) }
-    ensures order { IfOk result (λ yes. AreAddedWhere names.entry (tokens_used (listed (map view_added addends.now))) (founds uses.old.items) (founds uses.new.items) yes) }
+    ensures typed { IfOk result
+        (λ yes. AreJoined subst.old subst.new (env_of names.entry) (listed (map view_added addends.now)) n
+        (founds uses.old.items) (founds uses.new.items) yes) }
+    ensures order { IfOk result
+        (λ yes. AreAddedWhere names.entry (tokens_used (listed (map view_added addends.now))) (founds uses.old.items)
+        (founds uses.new.items) yes) }
 {
     for added in addends {
         let joined = join_added(alloc, subst, names, uses, n, added)?;
@@ -156,8 +176,12 @@ fn type_product(
     product: &Product,
 ) -> Result<Option<u64>, Memory>
     requires seen { IsSeen subst.old names uses.old.items }
-    ensures typed { IfOk result (λ r. IsTypeOf subst.old subst.new (env_of names.entry) (view_product product.now) (founds uses.old.items) (founds uses.new.items) r) }
-    ensures order { IfOk result (λ r. AreAddedIf names.entry (tokens_used (view_product product.now)) (founds uses.old.items) (founds uses.new.items) r) }
+    ensures typed { IfOk result
+        (λ r. IsTypeOf subst.old subst.new (env_of names.entry) (view_product product.now) (founds uses.old.items)
+        (founds uses.new.items) r) }
+    ensures order { IfOk result
+        (λ r. AreAddedIf names.entry (tokens_used (view_product product.now)) (founds uses.old.items)
+        (founds uses.new.items) r) }
 {
     match type_operand(alloc, subst, names, uses, &product.first)? {
         None => Ok(None),
@@ -184,8 +208,12 @@ fn join_multiplied(
 ) -> Result<bool, Memory>
     requires seen { IsSeen subst.old names uses.old.items }
     requires inside { n < length subst.old.types }
-    ensures typed { IfOk result (λ yes. AreJoined subst.old subst.new (env_of names.entry) (more (view_multiplied multiplied.now) none) n (founds uses.old.items) (founds uses.new.items) yes) }
-    ensures order { IfOk result (λ yes. AreAddedWhere names.entry (tokens_used (view_multiplied multiplied.now)) (founds uses.old.items) (founds uses.new.items) yes) }
+    ensures typed { IfOk result
+        (λ yes. AreJoined subst.old subst.new (env_of names.entry) (more (view_multiplied multiplied.now) none) n
+        (founds uses.old.items) (founds uses.new.items) yes) }
+    ensures order { IfOk result
+        (λ yes. AreAddedWhere names.entry (tokens_used (view_multiplied multiplied.now)) (founds uses.old.items)
+        (founds uses.new.items) yes) }
 {
     match type_operand(alloc, subst, names, uses, &multiplied.operand)? {
         None => Ok(false),
@@ -208,8 +236,12 @@ fn join_factors(
 ) -> Result<bool, Memory>
     requires seen { IsSeen subst.old names uses.old.items }
     requires inside { n < length subst.old.types }
-    ensures typed { IfOk result (λ yes. AreJoined subst.old subst.new (env_of names.entry) (listed (map view_multiplied factors.now)) n (founds uses.old.items) (founds uses.new.items) yes) }
-    ensures order { IfOk result (λ yes. AreAddedWhere names.entry (tokens_used (listed (map view_multiplied factors.now))) (founds uses.old.items) (founds uses.new.items) yes) }
+    ensures typed { IfOk result
+        (λ yes. AreJoined subst.old subst.new (env_of names.entry) (listed (map view_multiplied factors.now)) n
+        (founds uses.old.items) (founds uses.new.items) yes) }
+    ensures order { IfOk result
+        (λ yes. AreAddedWhere names.entry (tokens_used (listed (map view_multiplied factors.now)))
+        (founds uses.old.items) (founds uses.new.items) yes) }
 {
     for multiplied in factors {
         let joined = join_multiplied(alloc, subst, names, uses, n, multiplied)?;

@@ -31,7 +31,8 @@ impl Model for Bindings {
 
 /// Notes the variable of a value by its token. Where memory runs out nothing changes.
 fn note(vars: &mut TokenTable<u64>, known: Known) -> Result<(), Memory>
-    ensures noted { OnOk result ((t : ℕ) → at_token t vars.new ≡ option_or (number_known t known) (at_token t vars.old)) }
+    ensures noted { OnOk result ((t : ℕ) → at_token t vars.new
+        ≡ option_or (number_known t known) (at_token t vars.old)) }
     ensures err { OnErr result ((t : ℕ) → at_token t vars.new ≡ at_token t vars.old) }
 {
     match known {

@@ -40,7 +40,8 @@ pub fn begin_call(
     called: Called<'_>,
 ) -> Result<Callee, Memory>
     requires over { IsSchemeOver subst.old (called_scheme called) }
-    ensures { IfOk result (λ c. HasBegun subst.old subst.new (called_scheme called.entry) at target c (founds uses.old.items) (founds uses.new.items)) }
+    ensures { IfOk result (λ c. HasBegun subst.old subst.new (called_scheme called.entry) at target c
+        (founds uses.old.items) (founds uses.new.items)) }
 {
     let instance = instance_of(alloc, subst, called)?;
     let (callee, kinds) = callee_of(alloc, subst, instance)?;
@@ -51,8 +52,11 @@ pub fn begin_call(
 /// The type of what is called, with new variables for its own.
 fn instance_of(alloc: Global, subst: &mut Subst, called: Called<'_>) -> Result<Instance, Memory>
     requires over { IsSchemeOver subst.old (called_scheme called) }
-    ensures instance { IfOk result (λ i. Instantiates subst.old subst.new (called_scheme called.entry) (instance_params i) (term_of i.result) i.kinds.items) }
-    ensures counted { IfOk result (λ i. length i.kinds.items ≡ length (open_numbers 0 (called_scheme called.entry).kinds)) }
+    ensures instance { IfOk result
+        (λ i. Instantiates subst.old subst.new (called_scheme called.entry) (instance_params i) (term_of i.result)
+        i.kinds.items) }
+    ensures counted { IfOk result (λ i. length i.kinds.items
+        ≡ length (open_numbers 0 (called_scheme called.entry).kinds)) }
 {
     match called {
         Called::Builtin(builtin) => instantiate_builtin(alloc, subst, builtin),
@@ -67,7 +71,8 @@ fn callee_of(
     instance: Instance,
 ) -> Result<(Callee, Vec<KindTerm>), Memory>
     requires over { IsOver subst.old (term_of instance.result) }
-    ensures { IfOk result (λ p. (p.0.params ≡ instance.params) × (p.1 ≡ instance.kinds) × Defines subst.old subst.new p.0.result (term_of instance.result)) }
+    ensures { IfOk result (λ p. (p.0.params ≡ instance.params) × (p.1 ≡ instance.kinds)
+        × Defines subst.old subst.new p.0.result (term_of instance.result)) }
 {
     let result = new_type(subst, instance.result)?;
     Ok((

@@ -33,8 +33,12 @@ pub fn type_call(
     call: &Call,
 ) -> Result<Option<u64>, Memory>
     requires seen { IsSeen subst.old names uses.old.items }
-    ensures typed { IfOk result (λ r. IsTypeOf subst.old subst.new (env_of names.entry) (view_call call.now) (founds uses.old.items) (founds uses.new.items) r) }
-    ensures order { IfOk result (λ r. AreAddedIf names.entry (tokens_used (view_call call.now)) (founds uses.old.items) (founds uses.new.items) r) }
+    ensures typed { IfOk result
+        (λ r. IsTypeOf subst.old subst.new (env_of names.entry) (view_call call.now) (founds uses.old.items)
+        (founds uses.new.items) r) }
+    ensures order { IfOk result
+        (λ r. AreAddedIf names.entry (tokens_used (view_call call.now)) (founds uses.old.items) (founds uses.new.items)
+        r) }
 {
     match names.target(call.at) {
         None => Ok(None),
@@ -87,8 +91,12 @@ fn type_args<'s>(
     args: &'s [Arg],
 ) -> Result<Option<Vec<Argument<'s>>>, Memory>
     requires seen { IsSeen subst.old names uses.old.items }
-    ensures typed { IfOk result (λ r. AreGivenOf subst.old subst.new (env_of names.entry) (listed (map view_arg args.entry.now)) (founds uses.old.items) (founds uses.new.items) (option_map (λ v. map seen_argument v.items) r)) }
-    ensures order { IfOk result (λ r. AreAddedIf names.entry (tokens_used (listed (map view_arg args.entry.now))) (founds uses.old.items) (founds uses.new.items) r) }
+    ensures typed { IfOk result
+        (λ r. AreGivenOf subst.old subst.new (env_of names.entry) (listed (map view_arg args.entry.now))
+        (founds uses.old.items) (founds uses.new.items) (option_map (λ v. map seen_argument v.items) r)) }
+    ensures order { IfOk result
+        (λ r. AreAddedIf names.entry (tokens_used (listed (map view_arg args.entry.now))) (founds uses.old.items)
+        (founds uses.new.items) r) }
 {
     let mut given = Vec::new(alloc);
     for arg in args {
@@ -115,10 +123,16 @@ fn apply(
     called: Called<'_>,
 ) -> Result<Option<u64>, Memory>
     requires seen { IsSeen subst.old names uses.old.items }
-    requires callable { IsCalled subst.old (env_of names) (out-Call call.now).at target (map seen_parameter params.now) (called_scheme called) }
-    requires counted { kinds_count names.defs.now (Some target) ≡ Some (length (open_numbers 0 (called_scheme called).kinds)) }
-    ensures typed { IfOk result (λ r. IsTypeOf subst.old subst.new (env_of names.entry) (view_call call.now) (founds uses.old.items) (founds uses.new.items) r) }
-    ensures order { IfOk result (λ r. AreAddedIf names.entry (tokens_used (view_call call.now)) (founds uses.old.items) (founds uses.new.items) r) }
+    requires callable { IsCalled subst.old (env_of names) (out-Call call.now).at target (map seen_parameter params.now)
+        (called_scheme called) }
+    requires counted { kinds_count names.defs.now (Some target)
+        ≡ Some (length (open_numbers 0 (called_scheme called).kinds)) }
+    ensures typed { IfOk result
+        (λ r. IsTypeOf subst.old subst.new (env_of names.entry) (view_call call.now) (founds uses.old.items)
+        (founds uses.new.items) r) }
+    ensures order { IfOk result
+        (λ r. AreAddedIf names.entry (tokens_used (view_call call.now)) (founds uses.old.items) (founds uses.new.items)
+        r) }
 {
     let callee = begin_call(alloc, subst, uses, call.at, target, called)?;
     match type_args(alloc, subst, names, uses, &call.args)? {

@@ -9,8 +9,8 @@ use liq_base::{Memory, TokenTable};
 use std::alloc::Global;
 use std::marker::Model;
 
-/// The defs that statements have bound, the oldest first, with a look-up of the first one at a token in one step. Contracts
-/// see the list of them.
+/// The defs that statements have bound, the oldest first, with a look-up of the first one at a token in one step.
+/// Contracts see the list of them.
 #[derive(Drop)]
 pub struct Defs<'a> {
     all: Vec<KnownDef<'a>>,
@@ -38,7 +38,8 @@ impl<'a> Model for Defs<'a> {
 
 /// Notes the place of a def by its token, unless another one stands there. Where memory runs out nothing changes.
 fn note(places: &mut TokenTable<usize>, at: u32, place: usize) -> Result<(), Memory>
-    ensures noted { OnOk result ((t : ℕ) → at_token t places.new ≡ option_or (at_token t places.old) (cond (nat_eq at t) (Some place) None)) }
+    ensures noted { OnOk result ((t : ℕ) → at_token t places.new
+        ≡ option_or (at_token t places.old) (cond (nat_eq at t) (Some place) None)) }
     ensures err { OnErr result ((t : ℕ) → at_token t places.new ≡ at_token t places.old) }
 {
     if places.get(at).is_some() {

@@ -61,7 +61,8 @@ pub enum Known {
     Function(usize),
 }
 
-/// What names mean, the parameters and inner bindings of the def around, what statements have bound, the newest last, and their defs.
+/// What names mean, the parameters and inner bindings of the def around, what statements have bound, the newest last,
+/// and their defs.
 #[derive(Clone, Copy)]
 pub struct Names<'n, 'a> {
     pub targets: &'n TokenTable<Target>,

@@ -55,8 +55,11 @@ pub fn type_name(
     name: &Text,
 ) -> Result<Option<u64>, Memory>
     requires seen { IsSeen subst.old names uses.old.items }
-    ensures typed { IfOk result (λ r. IsTypeOf subst.old subst.new (env_of names.entry) (Named at name.now) (founds uses.old.items) (founds uses.new.items) r) }
-    ensures named { IfOk result (λ r. IsNamed (env_of names.entry) at (founds uses.old.items) (founds uses.new.items) r) }
+    ensures typed { IfOk result
+        (λ r. IsTypeOf subst.old subst.new (env_of names.entry) (Named at name.now) (founds uses.old.items)
+        (founds uses.new.items) r) }
+    ensures named { IfOk result
+        (λ r. IsNamed (env_of names.entry) at (founds uses.old.items) (founds uses.new.items) r) }
 {
     match names.target(at) {
         None => Ok(None),

@@ -1,5 +1,5 @@
-//! The types of values, expressions, calls and `if`: the inference of one expression, by its tree, and what it sees and finds
-//! (names, uses, and the beginning of a call).
+//! The types of values, expressions, calls and `if`: the inference of one expression, by its tree, and what it sees and
+//! finds (names, uses, and the beginning of a call).
 #![tactic(auto)]
 
 mod arithmetic;

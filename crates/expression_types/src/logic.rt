@@ -27,8 +27,12 @@ pub fn type_expr(
     expr: &Expr,
 ) -> Result<Option<u64>, Memory>
     requires seen { IsSeen subst.old names uses.old.items }
-    ensures typed { IfOk result (λ r. IsTypeOf subst.old subst.new (env_of names.entry) (view_expr expr.now) (founds uses.old.items) (founds uses.new.items) r) }
-    ensures order { IfOk result (λ r. AreAddedIf names.entry (tokens_used (view_expr expr.now)) (founds uses.old.items) (founds uses.new.items) r) }
+    ensures typed { IfOk result
+        (λ r. IsTypeOf subst.old subst.new (env_of names.entry) (view_expr expr.now) (founds uses.old.items)
+        (founds uses.new.items) r) }
+    ensures order { IfOk result
+        (λ r. AreAddedIf names.entry (tokens_used (view_expr expr.now)) (founds uses.old.items) (founds uses.new.items)
+        r) }
 {
     match type_and(alloc, subst, names, uses, &expr.first)? {
         None => Ok(None),
@@ -55,8 +59,12 @@ fn join_and(
 ) -> Result<bool, Memory>
     requires seen { IsSeen subst.old names uses.old.items }
     requires inside { n < length subst.old.types }
-    ensures typed { IfOk result (λ yes. AreJoined subst.old subst.new (env_of names.entry) (more (view_and and.now) none) n (founds uses.old.items) (founds uses.new.items) yes) }
-    ensures order { IfOk result (λ yes. AreAddedWhere names.entry (tokens_used (view_and and.now)) (founds uses.old.items) (founds uses.new.items) yes) }
+    ensures typed { IfOk result
+        (λ yes. AreJoined subst.old subst.new (env_of names.entry) (more (view_and and.now) none) n
+        (founds uses.old.items) (founds uses.new.items) yes) }
+    ensures order { IfOk result
+        (λ yes. AreAddedWhere names.entry (tokens_used (view_and and.now)) (founds uses.old.items)
+        (founds uses.new.items) yes) }
 {
     match type_and(alloc, subst, names, uses, and)? {
         None => Ok(false),
@@ -79,8 +87,12 @@ fn join_ands(
 ) -> Result<bool, Memory>
     requires seen { IsSeen subst.old names uses.old.items }
     requires inside { n < length subst.old.types }
-    ensures typed { IfOk result (λ yes. AreJoined subst.old subst.new (env_of names.entry) (listed (map view_and ands.now)) n (founds uses.old.items) (founds uses.new.items) yes) }
-    ensures order { IfOk result (λ yes. AreAddedWhere names.entry (tokens_used (listed (map view_and ands.now))) (founds uses.old.items) (founds uses.new.items) yes) }
+    ensures typed { IfOk result
+        (λ yes. AreJoined subst.old subst.new (env_of names.entry) (listed (map view_and ands.now)) n
+        (founds uses.old.items) (founds uses.new.items) yes) }
+    ensures order { IfOk result
+        (λ yes. AreAddedWhere names.entry (tokens_used (listed (map view_and ands.now))) (founds uses.old.items)
+        (founds uses.new.items) yes) }
 {
     for and in ands {
         let joined = join_and(alloc, subst, names, uses, n, and)?;
@@ -101,8 +113,12 @@ fn type_and(
     and: &And,
 ) -> Result<Option<u64>, Memory>
     requires seen { IsSeen subst.old names uses.old.items }
-    ensures typed { IfOk result (λ r. IsTypeOf subst.old subst.new (env_of names.entry) (view_and and.now) (founds uses.old.items) (founds uses.new.items) r) }
-    ensures order { IfOk result (λ r. AreAddedIf names.entry (tokens_used (view_and and.now)) (founds uses.old.items) (founds uses.new.items) r) }
+    ensures typed { IfOk result
+        (λ r. IsTypeOf subst.old subst.new (env_of names.entry) (view_and and.now) (founds uses.old.items)
+        (founds uses.new.items) r) }
+    ensures order { IfOk result
+        (λ r. AreAddedIf names.entry (tokens_used (view_and and.now)) (founds uses.old.items) (founds uses.new.items)
+        r) }
 {
     match type_not(alloc, subst, names, uses, &and.first)? {
         None => Ok(None),
@@ -129,8 +145,12 @@ fn join_not(
 ) -> Result<bool, Memory>
     requires seen { IsSeen subst.old names uses.old.items }
     requires inside { n < length subst.old.types }
-    ensures typed { IfOk result (λ yes. AreJoined subst.old subst.new (env_of names.entry) (more (view_not not.now) none) n (founds uses.old.items) (founds uses.new.items) yes) }
-    ensures order { IfOk result (λ yes. AreAddedWhere names.entry (tokens_used (view_not not.now)) (founds uses.old.items) (founds uses.new.items) yes) }
+    ensures typed { IfOk result
+        (λ yes. AreJoined subst.old subst.new (env_of names.entry) (more (view_not not.now) none) n
+        (founds uses.old.items) (founds uses.new.items) yes) }
+    ensures order { IfOk result
+        (λ yes. AreAddedWhere names.entry (tokens_used (view_not not.now)) (founds uses.old.items)
+        (founds uses.new.items) yes) }
 {
     match type_not(alloc, subst, names, uses, not)? {
         None => Ok(false),
@@ -153,8 +173,12 @@ fn join_nots(
 ) -> Result<bool, Memory>
     requires seen { IsSeen subst.old names uses.old.items }
     requires inside { n < length subst.old.types }
-    ensures typed { IfOk result (λ yes. AreJoined subst.old subst.new (env_of names.entry) (listed (map view_not nots.now)) n (founds uses.old.items) (founds uses.new.items) yes) }
-    ensures order { IfOk result (λ yes. AreAddedWhere names.entry (tokens_used (listed (map view_not nots.now))) (founds uses.old.items) (founds uses.new.items) yes) }
+    ensures typed { IfOk result
+        (λ yes. AreJoined subst.old subst.new (env_of names.entry) (listed (map view_not nots.now)) n
+        (founds uses.old.items) (founds uses.new.items) yes) }
+    ensures order { IfOk result
+        (λ yes. AreAddedWhere names.entry (tokens_used (listed (map view_not nots.now))) (founds uses.old.items)
+        (founds uses.new.items) yes) }
 {
     for not in nots {
         let joined = join_not(alloc, subst, names, uses, n, not)?;
@@ -175,8 +199,12 @@ fn type_not(
     not: &Not,
 ) -> Result<Option<u64>, Memory>
     requires seen { IsSeen subst.old names uses.old.items }
-    ensures typed { IfOk result (λ r. IsTypeOf subst.old subst.new (env_of names.entry) (view_not not.now) (founds uses.old.items) (founds uses.new.items) r) }
-    ensures order { IfOk result (λ r. AreAddedIf names.entry (tokens_used (view_not not.now)) (founds uses.old.items) (founds uses.new.items) r) }
+    ensures typed { IfOk result
+        (λ r. IsTypeOf subst.old subst.new (env_of names.entry) (view_not not.now) (founds uses.old.items)
+        (founds uses.new.items) r) }
+    ensures order { IfOk result
+        (λ r. AreAddedIf names.entry (tokens_used (view_not not.now)) (founds uses.old.items) (founds uses.new.items)
+        r) }
 {
     match type_compare(alloc, subst, names, uses, &not.inner)? {
         None => Ok(None),

@@ -29,8 +29,12 @@ pub fn type_full(
     full: &Full,
 ) -> Result<Option<u64>, Memory>
     requires seen { IsSeen subst.old names uses.old.items }
-    ensures typed { IfOk result (λ r. IsTypeOf subst.old subst.new (env_of names.entry) (view_full full.now) (founds uses.old.items) (founds uses.new.items) r) }
-    ensures order { IfOk result (λ r. AreAddedIf names.entry (tokens_used (view_full full.now)) (founds uses.old.items) (founds uses.new.items) r) }
+    ensures typed { IfOk result
+        (λ r. IsTypeOf subst.old subst.new (env_of names.entry) (view_full full.now) (founds uses.old.items)
+        (founds uses.new.items) r) }
+    ensures order { IfOk result
+        (λ r. AreAddedIf names.entry (tokens_used (view_full full.now)) (founds uses.old.items) (founds uses.new.items)
+        r) }
 {
     match full {
         Full::Minus { at: _, number } => {
@@ -54,8 +58,12 @@ pub fn type_operand(
     operand: &Operand,
 ) -> Result<Option<u64>, Memory>
     requires seen { IsSeen subst.old names uses.old.items }
-    ensures typed { IfOk result (λ r. IsTypeOf subst.old subst.new (env_of names.entry) (view_operand operand.now) (founds uses.old.items) (founds uses.new.items) r) }
-    ensures order { IfOk result (λ r. AreAddedIf names.entry (tokens_used (view_operand operand.now)) (founds uses.old.items) (founds uses.new.items) r) }
+    ensures typed { IfOk result
+        (λ r. IsTypeOf subst.old subst.new (env_of names.entry) (view_operand operand.now) (founds uses.old.items)
+        (founds uses.new.items) r) }
+    ensures order { IfOk result
+        (λ r. AreAddedIf names.entry (tokens_used (view_operand operand.now)) (founds uses.old.items)
+        (founds uses.new.items) r) }
 {
     match operand {
         Operand::Literal { at: _, value } => {
@@ -103,8 +111,12 @@ pub fn type_choice(
     choice: &If,
 ) -> Result<Option<u64>, Memory>
     requires seen { IsSeen subst.old names uses.old.items }
-    ensures typed { IfOk result (λ r. IsTypeOf subst.old subst.new (env_of names.entry) (view_if choice.now) (founds uses.old.items) (founds uses.new.items) r) }
-    ensures order { IfOk result (λ r. AreAddedIf names.entry (tokens_used (view_if choice.now)) (founds uses.old.items) (founds uses.new.items) r) }
+    ensures typed { IfOk result
+        (λ r. IsTypeOf subst.old subst.new (env_of names.entry) (view_if choice.now) (founds uses.old.items)
+        (founds uses.new.items) r) }
+    ensures order { IfOk result
+        (λ r. AreAddedIf names.entry (tokens_used (view_if choice.now)) (founds uses.old.items) (founds uses.new.items)
+        r) }
 {
     match type_full(alloc, subst, names, uses, &choice.condition)? {
         None => Ok(None),
@@ -136,8 +148,12 @@ fn join_full(
 ) -> Result<bool, Memory>
     requires seen { IsSeen subst.old names uses.old.items }
     requires inside { n < length subst.old.types }
-    ensures typed { IfOk result (λ yes. AreJoined subst.old subst.new (env_of names.entry) (more (view_full full.now) none) n (founds uses.old.items) (founds uses.new.items) yes) }
-    ensures order { IfOk result (λ yes. AreAddedWhere names.entry (tokens_used (view_full full.now)) (founds uses.old.items) (founds uses.new.items) yes) }
+    ensures typed { IfOk result
+        (λ yes. AreJoined subst.old subst.new (env_of names.entry) (more (view_full full.now) none) n
+        (founds uses.old.items) (founds uses.new.items) yes) }
+    ensures order { IfOk result
+        (λ yes. AreAddedWhere names.entry (tokens_used (view_full full.now)) (founds uses.old.items)
+        (founds uses.new.items) yes) }
 {
     match type_full(alloc, subst, names, uses, full)? {
         None => Ok(false),
@@ -160,8 +176,12 @@ fn join_fulls(
 ) -> Result<bool, Memory>
     requires seen { IsSeen subst.old names uses.old.items }
     requires inside { n < length subst.old.types }
-    ensures typed { IfOk result (λ yes. AreJoined subst.old subst.new (env_of names.entry) (listed (map view_full fulls.now)) n (founds uses.old.items) (founds uses.new.items) yes) }
-    ensures order { IfOk result (λ yes. AreAddedWhere names.entry (tokens_used (listed (map view_full fulls.now))) (founds uses.old.items) (founds uses.new.items) yes) }
+    ensures typed { IfOk result
+        (λ yes. AreJoined subst.old subst.new (env_of names.entry) (listed (map view_full fulls.now)) n
+        (founds uses.old.items) (founds uses.new.items) yes) }
+    ensures order { IfOk result
+        (λ yes. AreAddedWhere names.entry (tokens_used (listed (map view_full fulls.now))) (founds uses.old.items)
+        (founds uses.new.items) yes) }
 {
     for full in fulls {
         let joined = join_full(alloc, subst, names, uses, n, full)?;
@@ -183,8 +203,12 @@ fn type_list(
     parts: &[Full],
 ) -> Result<Option<u64>, Memory>
     requires seen { IsSeen subst.old names uses.old.items }
-    ensures typed { IfOk result (λ r. IsTypeOf subst.old subst.new (env_of names.entry) (Listed at (listed (map view_full parts.now))) (founds uses.old.items) (founds uses.new.items) r) }
-    ensures order { IfOk result (λ r. AreAddedIf names.entry (tokens_used (Listed at (listed (map view_full parts.now)))) (founds uses.old.items) (founds uses.new.items) r) }
+    ensures typed { IfOk result
+        (λ r. IsTypeOf subst.old subst.new (env_of names.entry) (Listed at (listed (map view_full parts.now)))
+        (founds uses.old.items) (founds uses.new.items) r) }
+    ensures order { IfOk result
+        (λ r. AreAddedIf names.entry (tokens_used (Listed at (listed (map view_full parts.now))))
+        (founds uses.old.items) (founds uses.new.items) r) }
 {
     let item = new_var(subst, false)?;
     let joined = join_fulls(alloc, subst, names, uses, item, parts)?;
@@ -205,8 +229,12 @@ fn type_fulls(
     fulls: &[Full],
 ) -> Result<Option<Vec<u64>>, Memory>
     requires seen { IsSeen subst.old names uses.old.items }
-    ensures typed { IfOk result (λ r. AreTypesOf subst.old subst.new (env_of names.entry) (listed (map view_full fulls.now)) (founds uses.old.items) (founds uses.new.items) (option_map (λ v. v.items) r)) }
-    ensures order { IfOk result (λ r. AreAddedIf names.entry (tokens_used (listed (map view_full fulls.now))) (founds uses.old.items) (founds uses.new.items) r) }
+    ensures typed { IfOk result
+        (λ r. AreTypesOf subst.old subst.new (env_of names.entry) (listed (map view_full fulls.now))
+        (founds uses.old.items) (founds uses.new.items) (option_map (λ v. v.items) r)) }
+    ensures order { IfOk result
+        (λ r. AreAddedIf names.entry (tokens_used (listed (map view_full fulls.now))) (founds uses.old.items)
+        (founds uses.new.items) r) }
 {
     let mut vars = Vec::new(alloc);
     for full in fulls {
@@ -229,8 +257,12 @@ fn type_tuple(
     parts: &[Full],
 ) -> Result<Option<u64>, Memory>
     requires seen { IsSeen subst.old names uses.old.items }
-    ensures typed { IfOk result (λ r. IsTypeOf subst.old subst.new (env_of names.entry) (tuple_of at (listed (map view_full parts.now))) (founds uses.old.items) (founds uses.new.items) r) }
-    ensures order { IfOk result (λ r. AreAddedIf names.entry (tokens_used (tuple_of at (listed (map view_full parts.now)))) (founds uses.old.items) (founds uses.new.items) r) }
+    ensures typed { IfOk result
+        (λ r. IsTypeOf subst.old subst.new (env_of names.entry) (tuple_of at (listed (map view_full parts.now)))
+        (founds uses.old.items) (founds uses.new.items) r) }
+    ensures order { IfOk result
+        (λ r. AreAddedIf names.entry (tokens_used (tuple_of at (listed (map view_full parts.now))))
+        (founds uses.old.items) (founds uses.new.items) r) }
 {
     if parts.len() == 0 {
         let unit = new_type(subst, Ty::Unit)?;

@@ -17,10 +17,10 @@ mark_at marks i = slice_index_or marks i false
 abbrev pub last_of : List ℕ → Option ℕ
 last_of children = slice_get children (length children - 1)
 
--- whether a node of this operator over these children is infallible, where the mark of a child says whether it is: a file
--- that is repeated, zeros and a square wave are; a fallback, a rotate, a random and a sum are where some child is; a switch is where some child
--- is whose predicate is always true by its form; a sequence is where it has a last child that is; and what has one child
--- is where that child is
+-- whether a node of this operator over these children is infallible, where the mark of a child says whether it is: a
+-- file that is repeated, zeros and a square wave are; a fallback, a rotate, a random and a sum are where some child is;
+-- a switch is where some child is whose predicate is always true by its form; a sequence is where it has a last child
+-- that is; and what has one child is where that child is
 abbrev pub infallible_by : (mark : ℕ → Bool) → Op → List ℕ → Bool
 infallible_by mark (Single file) children = true
 infallible_by mark (Playlist file again) children = false
@@ -28,7 +28,8 @@ infallible_by mark (Blank track) children = true
 infallible_by mark (Square pitch) children = true
 infallible_by mark Fail children = false
 infallible_by mark (Fallback sensitive) children = list_any mark children
-infallible_by mark (Switch sensitive preds) children = list_any (λ pair. is_always pair.0 && mark pair.1) (zip preds children)
+infallible_by mark (Switch sensitive preds) children = list_any (λ pair. is_always pair.0
+    && mark pair.1) (zip preds children)
 infallible_by mark Sequence children = option_map_or mark (last_of children) false
 infallible_by mark Rotate children = list_any mark children
 infallible_by mark (Random seed) children = list_any mark children
@@ -42,7 +43,8 @@ infallible_by mark (Clock id) children = list_any mark children
 
 -- the mark of each node says whether it is infallible
 abbrev pub IsMarking : List Node → (mark : ℕ → Bool) → Type 0
-IsMarking nodes mark = (i : ℕ) (node : Node) → slice_get nodes i ≡ Some node → mark i ≡ infallible_by mark node.op node.children
+IsMarking nodes mark = (i : ℕ) (node : Node) → slice_get nodes i ≡ Some node
+    → mark i ≡ infallible_by mark node.op node.children
 
 -- an output needs an infallible node, unless it is written with `fallible=true`; a feed does not
 abbrev pub refuses : (mark : ℕ → Bool) → SinkPlan → Bool

@@ -1,4 +1,5 @@
-//! Which nodes of a plan always offer a cell, and whether each output may be written so. `docs/fallible.md` has the rules.
+//! Which nodes of a plan always offer a cell, and whether each output may be written so. `docs/fallible.md` has the
+//! rules.
 #![tactic(auto)]
 
 mod laws;

@@ -12,8 +12,8 @@ use plan_core::{Node, Op, Plan};
 use std::alloc::Global;
 use time_pred::Pred;
 
-/// For each node, by its number, whether it is infallible: whether it offers a cell at each instant, whatever the time of
-/// the week is and whatever buffers answer. `docs/fallible.md` has the rule.
+/// For each node, by its number, whether it is infallible: whether it offers a cell at each instant, whatever the time
+/// of the week is and whatever buffers answer. `docs/fallible.md` has the rule.
 pub fn infallible(alloc: Global, plan: &Plan) -> Result<Vec<bool>, Memory>
     requires { IsWellFormed plan.now }
     ensures size { IfOk result (λ marks. length marks.items ≡ length plan.now.nodes) }
@@ -45,7 +45,8 @@ fn some_child(children: &[u32], marks: &[bool]) -> bool
 fn some_always(preds: &[Pred], children: &[u32], marks: &[bool]) -> bool
     requires number { length children.now ≡ length preds.now }
     requires children { All (λ child. child < length marks.now) children.now }
-    ensures { result ≡ list_any (λ pair. is_always pair.0 && mark_at marks.now pair.1) (zip (map view_pred preds.now) children.now) }
+    ensures { result ≡ list_any (λ pair. is_always pair.0
+        && mark_at marks.now pair.1) (zip (map view_pred preds.now) children.now) }
 {
     for (k, pred) in preds.iter().enumerate() {
         if pred.always() && marks[children[k] as usize] {

@@ -14,14 +14,15 @@ pub struct Fallible {
     pub sink: u32,
 }
 
-/// Refuses the first output without `fallible=true` whose node is not marked as infallible. A feed is never refused. It takes
-/// no memory. A node without a mark counts as one that is not infallible.
+/// Refuses the first output without `fallible=true` whose node is not marked as infallible. A feed is never refused. It
+/// takes no memory. A node without a mark counts as one that is not infallible.
 pub fn check_outputs(plan: &Plan, marks: &[bool]) -> Result<(), Fallible>
     requires few { length plan.now.sinks ≤ 2 ^ 32 }
     ensures accepted { OnOk result (All (λ sink. refuses (mark_at marks.now) sink ≡ false) plan.now.sinks) }
     ensures refused { IfErr result (λ fault. (sink : Sink) × (slice_get plan.now.sinks fault.sink ≡ Some sink)
         × (refuses (mark_at marks.now) sink ≡ true)) }
-    ensures first { IfErr result (λ fault. (k : ℕ) (sink : Sink) → k < fault.sink → slice_get plan.now.sinks k ≡ Some sink
+    ensures first { IfErr result (λ fault. (k : ℕ) (sink : Sink) → k < fault.sink
+        → slice_get plan.now.sinks k ≡ Some sink
         → refuses (mark_at marks.now) sink ≡ false) }
 {
     for (k, sink) in plan.sinks.as_slice().iter().enumerate() {

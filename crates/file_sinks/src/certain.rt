@@ -31,8 +31,8 @@ impl Lasting for File {
 }
 
 /// Has the system make certain what was written to a file, or the names of a folder. Faults that came later than the
-/// writes are told here, as of a disk on the net whose share is used up. What knows no such call, as a pipe or a device,
-/// has told its faults by its writes.
+/// writes are told here, as of a disk on the net whose share is used up. What knows no such call, as a pipe or a
+/// device, has told its faults by its writes.
 pub fn make_certain<F: Lasting>(file: &mut F) -> bool
     ensures bytes { Keeps (F.contents file.old) (F.contents file.new) }
     ensures synced { ForSome (F.answered file.new) (λ answer. IsTrue result ↔ MakesCertain answer) }
@@ -73,7 +73,8 @@ impl<W: Lasting + Drop> FileSink<W> {
     pub fn finish(self) -> Result<Certain<W>, FileSink<W>>
         ensures faults { OnOk result (faults_of self ≡ 0) }
         ensures length { OnOk result (taken_of self ≡ room_of self) }
-        ensures bytes { IfOk result (λ certain. Keeps (tells_of W.contents self) (W.contents (certain_writer certain))) }
+        ensures bytes { IfOk result
+            (λ certain. Keeps (tells_of W.contents self) (W.contents (certain_writer certain))) }
         ensures synced { IfOk result (λ certain. ForSome (W.answered (certain_writer certain)) MakesCertain) }
         ensures place { IfOk result (λ certain. certain_place certain ≡ place_of self) }
         ensures same { IfErr result (λ sink. Keeps (tells_of W.contents self) (tells_of W.contents sink)) }

@@ -1,4 +1,5 @@
-//! Writers and readers as the sinks and the reading of `liq_base`, proved for each writer and reader whose bytes are known.
+//! Writers and readers as the sinks and the reading of `liq_base`, proved for each writer and reader whose bytes are
+//! known.
 #![tactic(auto)]
 
 mod certain;

@@ -4,7 +4,7 @@ ghost use Rattle.std.specs.Option.{ForSome};
 ghost use Rattle.std.specs.Io.KnownBytes.{Appends, Keeps};
 ghost use Rattle.std.specs.IoError.{error_kind};
 ghost use Rattle.liq_base.specs.Counts.{Rose};
-ghost use Rattle.liq_base.specs.Pieces.{Took, TookPart};
+ghost use Rattle.liq_base.specs.Pieces.{TookPiece, TookPart};
 ghost use Rattle.liq_base.specs.Untold.{faults_alone};
 ghost use Rattle.file_sinks.specs.Sinks.{capacity_of, faults_of, kept_of, place_of, room_of, taken_of, tells_of, writer_of};
 ghost use Rattle.file_sinks.specs.Syncs.{MakesCertain};
@@ -22,9 +22,9 @@ pub const KEPT: usize = 65_536;
 
 /// A file that is written: beside its name until it is closed, where that can be, and else in place. It keeps bytes and
 /// hands them on when there is no more room for them; for what takes bytes as they come, as a pipe, it keeps none, and
-/// none once no more than `KEPT` are to come, so that a failure is told while other outputs are not whole yet. It counts
-/// its bytes: it is whole only if it got exactly those that its creation was told. A test may write to another writer
-/// than a real file.
+/// none once no more than `KEPT` are to come, so that a failure is told while other outputs are not whole yet. It
+/// counts its bytes: it is whole only if it got exactly those that its creation was told. A test may write to another
+/// writer than a real file.
 #[derive(Drop)]
 pub struct FileSink<W: Write + Drop> {
     to: OutSink<BufWriter<W>>,
@@ -85,7 +85,8 @@ impl<W: Write + Drop> FileSink<W> {
 
     // Whether no piece failed, it got exactly the bytes that it is to get, and all of them were handed on.
     pub(crate) fn is_whole(&self) -> bool
-        ensures { IsTrue result ↔ (faults_of self.now ≡ 0) × (taken_of self.now ≡ room_of self.now) × (kept_of self.now ≡ []) }
+        ensures { IsTrue result ↔ (faults_of self.now ≡ 0) × (taken_of self.now ≡ room_of self.now)
+            × (kept_of self.now ≡ []) }
     {
         self.to.faults() == 0 && self.taken == self.room && self.to.keeps_nothing()
     }
@@ -136,16 +137,20 @@ impl<W: Write + Drop> Sink for FileSink<W> {
 
     ghost told = { λ s. faults_alone s.to.faults };
 
-    /// Keeps or writes the piece: what was written and then what is kept grow by it, and after `Failed` by a prefix of it.
+    /// Keeps or writes the piece: what was written and then what is kept grow by it, and after `Failed` by a prefix of
+    /// it.
     fn append(&mut self, piece: &[u8]) -> Result<(), Failed>
         ensures whole { OnOk result (Appends (tells_of W.contents self.old) (tells_of W.contents self.new) piece.now) }
-        ensures front { OnErr result (AppendsPart (tells_of W.contents self.old) (tells_of W.contents self.new) piece.now) }
+        ensures front { OnErr result
+            (AppendsPart (tells_of W.contents self.old) (tells_of W.contents self.new) piece.now) }
         ensures counted { OnOk result (taken_of self.new ≡ min (taken_of self.old + length piece.now) (2 ^ 64 - 1)) }
         ensures uncounted { OnErr result (taken_of self.new ≡ taken_of self.old) }
         ensures length { room_of self.new ≡ room_of self.old }
         ensures handed_on { OnOk result (room_of self.new - taken_of self.new ≤ 65536 → kept_of self.new ≡ []) }
-        ensures took { OnOk result (Took piece.now (faults_alone self.old.to.faults) (faults_alone self.new.to.faults)) }
-        ensures part { OnErr result (TookPart piece.now (faults_alone self.old.to.faults) (faults_alone self.new.to.faults)) }
+        ensures took { OnOk result
+            (TookPiece piece.now (faults_alone self.old.to.faults) (faults_alone self.new.to.faults)) }
+        ensures part { OnErr result
+            (TookPart piece.now (faults_alone self.old.to.faults) (faults_alone self.new.to.faults)) }
     {
         let taken = self.taken.saturating_add(piece.len() as u64);
         self.to.append(piece)?;

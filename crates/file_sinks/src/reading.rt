@@ -10,8 +10,8 @@ use std::io::{ErrorKind, Read};
 /// Bytes that one read asks for.
 const CHUNK: usize = 65_536;
 
-/// Adds the bytes that a reader has left, if they are at most `most`. A read that gives nothing is the end, and one that
-/// was interrupted is made again. Any other failure of the reader is `Failed`; it is never taken for the end.
+/// Adds the bytes that a reader has left, if they are at most `most`. A read that gives nothing is the end, and one
+/// that was interrupted is made again. Any other failure of the reader is `Failed`; it is never taken for the end.
 pub fn read_rest<R: Read>(
     file: &mut R,
     into: &mut Vec<u8>,

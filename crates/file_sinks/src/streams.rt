@@ -4,7 +4,7 @@ ghost use Rattle.std.specs.Option.{ForSome};
 ghost use Rattle.std.specs.Io.Buffered.{writer_buffer, writer_contents, writer_inner};
 ghost use Rattle.std.specs.Io.KnownBytes.{Appends, Keeps};
 ghost use Rattle.liq_base.specs.Counts.{Rose};
-ghost use Rattle.liq_base.specs.Pieces.{Took, TookPart};
+ghost use Rattle.liq_base.specs.Pieces.{TookPiece, TookPart};
 ghost use Rattle.liq_base.specs.Untold.{faults_alone};
 ghost use Rattle.file_sinks.specs.Syncs.{MakesCertain};
 ghost use Rattle.file_sinks.specs.Writing.{AppendsPart};
@@ -80,7 +80,8 @@ impl<W: Lasting + Drop> OutSink<BufWriter<W>> {
         ensures bytes { Keeps (writer_contents W.contents self.old.to) (writer_contents W.contents self.new.to) }
         ensures kept { writer_buffer self.new.to ≡ writer_buffer self.old.to }
         ensures faults { self.new.faults ≡ self.old.faults }
-        ensures synced { ForSome (W.answered (writer_inner self.new.to)) (λ answer. IsTrue result ↔ MakesCertain answer) }
+        ensures synced { ForSome (W.answered (writer_inner self.new.to)) (λ answer. IsTrue result
+            ↔ MakesCertain answer) }
     {
         make_certain(self.to.get_mut())
     }
@@ -95,7 +96,7 @@ impl<W: Write + Drop> Sink for OutSink<W> {
     fn append(&mut self, piece: &[u8]) -> Result<(), Failed>
         ensures whole { OnOk result (Appends (W.contents self.old.to) (W.contents self.new.to) piece.now) }
         ensures front { OnErr result (AppendsPart (W.contents self.old.to) (W.contents self.new.to) piece.now) }
-        ensures took { OnOk result (Took piece.now (faults_alone self.old.faults) (faults_alone self.new.faults)) }
+        ensures took { OnOk result (TookPiece piece.now (faults_alone self.old.faults) (faults_alone self.new.faults)) }
         ensures part { OnErr result (TookPart piece.now (faults_alone self.old.faults) (faults_alone self.new.faults)) }
     {
         if write_whole(&mut self.to, piece) {
@@ -106,7 +107,8 @@ impl<W: Write + Drop> Sink for OutSink<W> {
     }
 }
 
-// Whether all of the piece was written. A write that takes nothing is a failure, one that was interrupted is made again.
+// Whether all of the piece was written. A write that takes nothing is a failure, one that was interrupted is made
+// again.
 fn write_whole<W: Write>(to: &mut W, piece: &[u8]) -> bool
     ensures whole { IsTrue result → Appends (W.contents to.old) (W.contents to.new) piece.now }
     ensures part { AppendsPart (W.contents to.old) (W.contents to.new) piece.now }

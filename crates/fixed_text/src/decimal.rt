@@ -20,7 +20,9 @@ impl Decimal {
     pub fn from_digits(whole: &[u8], fraction: &[u8]) -> Option<Decimal>
         requires whole { AllDigits 10 whole.now }
         requires fraction { AllDigits 10 fraction.now }
-        ensures { option_map (λ d. d.millionths) result ≡ (if nat_le (length fraction.now) 6 && nat_le (millionths whole.now fraction.now) 1000000000000000 then Some (pos (millionths whole.now fraction.now)) else None) }
+        ensures { option_map (λ d. d.millionths) result
+            ≡ (if nat_le (length fraction.now) 6 && nat_le (millionths whole.now fraction.now) 1000000000000000
+            then Some (pos (millionths whole.now fraction.now)) else None) }
     {
         let places = scale(fraction.len())?;
         let units = value_up_to(whole, 1_000_000_000)?;
@@ -81,8 +83,10 @@ fn first_point(text: &[u8]) -> Option<usize>
 
 // The digits before and behind the point of a text.
 fn parts(text: &[u8]) -> Option<(&[u8], &[u8])>
-    ensures found { IfSome result (λ p. IsNumeral 10 p.0.now × AllDigits 10 p.1.now × (text.now ≡ p.0.now ++ 46 ∷ p.1.now)) }
-    ensures only { (whole fraction : List ℕ) → text.now ≡ whole ++ 46 ∷ fraction → IsNumeral 10 whole → AllDigits 10 fraction → IsSomeAnd result (λ p. (p.0.now ≡ whole) × (p.1.now ≡ fraction)) }
+    ensures found { IfSome result (λ p. IsNumeral 10 p.0.now × AllDigits 10 p.1.now
+        × (text.now ≡ p.0.now ++ 46 ∷ p.1.now)) }
+    ensures only { (whole fraction : List ℕ) → text.now ≡ whole ++ 46 ∷ fraction → IsNumeral 10 whole
+        → AllDigits 10 fraction → IsSomeAnd result (λ p. (p.0.now ≡ whole) × (p.1.now ≡ fraction)) }
 {
     let point = first_point(text)?;
     let whole = &text[..point];

@@ -7,7 +7,8 @@ ghost use Rattle.std.specs.Char.{is_ascii_digit};
 /// The number that digits write. `None` exactly where it is larger than `most`. No digits write 0. It takes no memory.
 pub fn value_up_to(digits: &[u8], most: u64) -> Option<u64>
     requires { AllDigits 10 digits.now }
-    ensures value { result ≡ (if nat_le (digits_value 10 digits.now) most then Some (digits_value 10 digits.now) else None) }
+    ensures value { result ≡ (if nat_le (digits_value 10 digits.now) most then Some (digits_value 10 digits.now)
+        else None) }
     ensures bounded { IfSome result (λ v. v ≤ most) }
 {
     let mut value = 0;

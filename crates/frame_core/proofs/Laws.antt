@@ -3,7 +3,7 @@ use Rattle.std.specs.Prelude.{◌≡◌, ℕ, suc, ◌+◌, ◌<◌, ◌≤◌, 
 use Rattle.std.proofs.Common.{sym, ap, ◌∙◌, subst, arith, append_assoc, length-append, append-nil}
 use Rattle.frame_core.specs.Frames.{somes}
 use Rattle.frame_core.specs.Legal.{Legal, IsHistory}
-use Rattle.frame_core.specs.Legal.Legal.{ended, accepted, full, got, empty}
+use Rattle.frame_core.specs.Legal.Legal.{all_done, accepted, put_refused, got, empty}
 use Rattle.frame_core.specs.Order.{Move, puts_of, gots_of, Ordered, last_or, Fits, answers_of, left_by}
 use Rattle.frame_core.specs.Order.Move.{Put, Got}
 
@@ -130,7 +130,7 @@ module _ {X : Type 0} where
       → ((cs : List Bool) → Clean cs → Fits C (length q) cs ms → Legal C r q (answers_of cs ms) takes) → Legal C r q (answers_of bs ms) takes
   full_first C r q [] ms takes f go = go [] tt f
   full_first C r q (true ∷ bs) ms takes f go = go (true ∷ bs) tt f
-  full_first C r q (false ∷ bs) ms takes f go = full (f.0) (full_first C r q bs ms takes f.1 go)
+  full_first C r q (false ∷ bs) ms takes f go = put_refused (f.0) (full_first C r q bs ms takes f.1 go)
 
   -- the empty answers directly behind a get stand there
   empty_first : (C : ℕ) (r q : List X) (puts : List (Option X)) (bs : List Bool) (ms : List (X × ℕ)) → Fits 0 (length q) bs ms
@@ -150,7 +150,7 @@ module _ {X : Type 0} where
 
   legal_clean : (C : ℕ) (r : List X) (es : List (Move X)) (q : List X) (bs cs : List Bool) → Clean bs → Clean cs → Ordered C q es r
       → Fits C (length q) bs (puts_of es) → Fits 0 (length q) cs (gots_of es) → Legal C r q (answers_of bs (puts_of es)) (answers_of cs (gots_of es))
-  legal_clean C r [] q [] [] x y o f g = subst (λ (l : List X). Legal C r l [] []) (sym o) ended
+  legal_clean C r [] q [] [] x y o f g = subst (λ (l : List X). Legal C r l [] []) (sym o) all_done
   legal_clean C r [] q (true ∷ bs) cs x y o f g = absurd f
   legal_clean C r [] q (false ∷ bs) cs x y o f g = absurd x
   legal_clean C r [] q [] (true ∷ cs) x y o f g = absurd g
@@ -192,9 +192,9 @@ module _ {X : Type 0} where
 
   -- the items got, and then what is left, are what was there and then what was accepted
   pub legal_whole : {C : ℕ} {r q : List X} {puts takes : List (Option X)} → Legal C r q puts takes → q ++ somes puts ≡ somes takes ++ r
-  legal_whole {r = r} ended = append-nil r
+  legal_whole {r = r} all_done = append-nil r
   legal_whole (accepted {queue = q} {x = x} {puts = puts} less rest) = sym (append_assoc q (x ∷ []) (somes puts)) ∙ legal_whole rest
-  legal_whole (full is rest) = legal_whole rest
+  legal_whole (put_refused is rest) = legal_whole rest
   legal_whole (got {x = x} rest) = ap (λ l. x ∷ l) (legal_whole rest)
   legal_whole (empty rest) = legal_whole rest
 

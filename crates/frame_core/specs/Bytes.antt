@@ -7,10 +7,10 @@ abbrev pub sample_in : ℕ → ℕ → ℤ
 sample_in low high = cast_signed w16 (low + 256 * high)
 
 -- the samples that bytes hold, two by two
-abbrev pub samples_in : List ℕ → List ℤ
-samples_in (low ∷ high ∷ bytes) = sample_in low high ∷ samples_in bytes
-samples_in (low ∷ []) = []
-samples_in [] = []
+abbrev pub samples_from : List ℕ → List ℤ
+samples_from (low ∷ high ∷ bytes) = sample_in low high ∷ samples_from bytes
+samples_from (low ∷ []) = []
+samples_from [] = []
 
 -- the two bytes of a sample
 abbrev pub sample_bytes : ℤ → List ℕ

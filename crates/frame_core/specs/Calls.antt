@@ -16,7 +16,8 @@ pub data Call : Type 0 where
 -- the answers of the takes of one buffer
 abbrev pub takes_of : ℕ → List Call → List Answer
 takes_of buffer [] = []
-takes_of buffer (Took of answer ∷ calls) = if buffer == of then answer ∷ takes_of buffer calls else takes_of buffer calls
+takes_of buffer (Took of answer ∷ calls) = if buffer == of then answer ∷ takes_of buffer calls
+    else takes_of buffer calls
 takes_of buffer (Given to chunk accepted ∷ calls) = takes_of buffer calls
 
 -- the answer of a give: the chunk where it was accepted, nothing where the buffer was full

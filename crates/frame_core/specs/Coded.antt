@@ -6,4 +6,9 @@ use Rattle.frame_core.specs.declared.cell.Cell.{Cell}
 abbrev pub cell_coded : Coded Cell
 cell_coded =
     code_by (ℤ × (ℤ × (Bool × ℕ))) (coded× coded_ℤ (coded× coded_ℤ (coded× coded_bool coded_ℕ)))
-    (λ c. (c.left, (c.right, (c.first, c.title)))) (λ p. record { left = p.0; right = p.1.0; first = p.1.1.0; title = p.1.1.1 }) (λ _. refl)
+    (λ c. (c.left, (c.right, (c.first, c.title)))) (λ p. record {
+      left = p.0;
+      right = p.1.0;
+      first = p.1.1.0;
+      title = p.1.1.1;
+    }) (λ _. refl)

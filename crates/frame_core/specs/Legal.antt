@@ -4,10 +4,10 @@ use Rattle.std.specs.Prelude.{◌≡◌, ℕ, ◌<◌, List, [], ◌∷◌, ◌+
 -- The puts (an item that was accepted, or None for full) and the takes (an item, or None for empty) stand in one
 -- order of a queue of so many items, which begins with the items `queue` and ends with `rest`.
 pub data Legal {X : Type 0} (capacity : ℕ) (rest : List X) : List X → List (Option X) → List (Option X) → Type 0 where
-  ended : Legal capacity rest rest [] []
+  all_done : Legal capacity rest rest [] []
   accepted : {queue : List X} {x : X} {puts takes : List (Option X)} → length queue < capacity →
       Legal capacity rest (queue ++ x ∷ []) puts takes → Legal capacity rest queue (Some x ∷ puts) takes
-  full : {queue : List X} {puts takes : List (Option X)} → length queue ≡ capacity →
+  put_refused : {queue : List X} {puts takes : List (Option X)} → length queue ≡ capacity →
       Legal capacity rest queue puts takes → Legal capacity rest queue (None ∷ puts) takes
   got : {queue : List X} {x : X} {puts takes : List (Option X)} →
       Legal capacity rest queue puts takes → Legal capacity rest (x ∷ queue) puts (Some x ∷ takes)

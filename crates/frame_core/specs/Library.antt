@@ -11,8 +11,8 @@ pub record Sounds : Type 0 where
   pub names : List (List ℕ)
   pub leaves : List (List ℕ)
 
--- each leaf plays files that are there, and fewer than 2^32 of them; each file has a name, whole blocks, and at least one;
--- and there are fewer than 2^32 files
+-- each leaf plays files that are there, and fewer than 2^32 of them; each file has a name, whole blocks, and at least
+-- one; and there are fewer than 2^32 files
 pub record IsLibrary (library : Sounds) : Type 0 where
   pub there : All (All (λ file. file < length library.files)) library.leaves
   pub few : All (λ tracks. length tracks < 2 ^ 32) library.leaves
@@ -35,7 +35,8 @@ AreThere None lists = ⊤
 AreThere (Some numbers) lists = All (λ number. number < length lists) numbers.items
 
 -- a library as it is kept
-pub record IsKept (files : List Sound) (names : List (List ℕ)) (lists : List (List ℕ)) (numbers : Option (Vec ℕ Global)) : Type 0 where
+pub record IsKept (files : List Sound) (names : List (List ℕ)) (lists : List (List ℕ))
+    (numbers : Option (Vec ℕ Global)) : Type 0 where
   pub library : IsLibrary (record { files = files; names = names; leaves = leaves_of numbers lists })
   pub there : AreThere numbers lists
 
@@ -57,6 +58,6 @@ abbrev pub title_at : Sounds → ℕ → ℕ → ℕ
 title_at library leaf track = suc (file_at library leaf track)
 
 -- the name that a title stands for
-abbrev pub name_of : Sounds → (title : ℕ) → Option (List ℕ)
-name_of library zero = None
-name_of library (suc file) = slice_get library.names file
+abbrev pub title_name : Sounds → (title : ℕ) → Option (List ℕ)
+title_name library zero = None
+title_name library (suc file) = slice_get library.names file

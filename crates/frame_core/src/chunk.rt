@@ -29,9 +29,11 @@ impl Model for Chunk {
     ghost view = { λ c. cells_in c.left.items c.right.items c.marks.items };
 
     // The bounds stand for the list too, since callers go by it.
-    ghost invariant = { λ c. (length c.left.items ≡ length c.marks.items) × (length c.right.items ≡ length c.marks.items)
+    ghost invariant = { λ c. (length c.left.items ≡ length c.marks.items)
+        × (length c.right.items ≡ length c.marks.items)
         × (0 < length c.marks.items) × (length c.marks.items ≤ MAX_FRAME)
-        × (0 < length (cells_in c.left.items c.right.items c.marks.items)) × (length (cells_in c.left.items c.right.items c.marks.items) ≤ MAX_FRAME) };
+        × (0 < length (cells_in c.left.items c.right.items c.marks.items))
+        × (length (cells_in c.left.items c.right.items c.marks.items) ≤ MAX_FRAME) };
 }
 
 impl Chunk {

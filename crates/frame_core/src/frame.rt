@@ -135,8 +135,8 @@ impl Frame {
         self.right[at] = right;
     }
 
-    /// Lays cells of these samples and this title from a place on, counted from 0: `first` flags the first of them, and no
-    /// other. The other slots stay.
+    /// Lays cells of these samples and this title from a place on, counted from 0: `first` flags the first of them, and
+    /// no other. The other slots stay.
     pub fn lay(&mut self, at: u32, left: &[i16], right: &[i16], first: bool, title: u32)
         requires same { length right.now ≡ length left.now }
         requires there { at + length left.now ≤ length self.old }

@@ -8,13 +8,14 @@ use crate::{Cell, Track};
 use liq_base::{Kind, Text};
 use std::marker::Model;
 
-/// The audio files of a plan, each once, with their names, and for each of its nodes the numbers of the files that it plays,
-/// in order.
+/// The audio files of a plan, each once, with their names, and for each of its nodes the numbers of the files that it
+/// plays, in order.
 #[derive(Debug, Drop)]
 pub struct Library {
     files: Vec<Track>,
     names: Vec<Text>,
-    // The lists that nodes play, and for each node the number of its own; no numbers: each node has the list at its place.
+    // The lists that nodes play, and for each node the number of its own; no numbers: each node has the list at its
+    // place.
     lists: Vec<Vec<u32>>,
     numbers: Option<Vec<u32>>,
 }
@@ -25,7 +26,11 @@ impl Model for Library {
 
     ghost Value = { Sounds };
 
-    ghost view = { λ l. record { files = l.files.items; names = l.names.items; leaves = leaves_of l.numbers (map (λ v. v.items) l.lists.items) } };
+    ghost view = { λ l. record {
+      files = l.files.items;
+      names = l.names.items;
+      leaves = leaves_of l.numbers (map (λ v. v.items) l.lists.items);
+    } };
 
     ghost invariant = { λ l. IsKept l.files.items l.names.items (map (λ v. v.items) l.lists.items) l.numbers };
 }
@@ -33,8 +38,16 @@ impl Model for Library {
 impl Library {
     /// The library of these files, their names, and these lists.
     pub fn new(files: Vec<Track>, names: Vec<Text>, leaves: Vec<Vec<u32>>) -> Library
-        requires { IsLibrary (record { files = files.items; names = names.items; leaves = map (λ v. v.items) leaves.items }) }
-        ensures { result ≡ record { files = files.items; names = names.items; leaves = map (λ v. v.items) leaves.items } }
+        requires { IsLibrary (record {
+          files = files.items;
+          names = names.items;
+          leaves = map (λ v. v.items) leaves.items;
+        }) }
+        ensures { result ≡ record {
+          files = files.items;
+          names = names.items;
+          leaves = map (λ v. v.items) leaves.items;
+        } }
     {
         Library {
             files,
@@ -44,17 +57,25 @@ impl Library {
         }
     }
 
-    /// The library of these files, their names, and these lists, of which nodes may share one: for each node the number of
-    /// its list, counted from 0.
+    /// The library of these files, their names, and these lists, of which nodes may share one: for each node the number
+    /// of its list, counted from 0.
     pub fn of_lists(
         files: Vec<Track>,
         names: Vec<Text>,
         lists: Vec<Vec<u32>>,
         numbers: Vec<u32>,
     ) -> Library
-        requires library { IsLibrary (record { files = files.items; names = names.items; leaves = chosen_lists (map (λ v. v.items) lists.items) numbers.items }) }
+        requires library { IsLibrary (record {
+          files = files.items;
+          names = names.items;
+          leaves = chosen_lists (map (λ v. v.items) lists.items) numbers.items;
+        }) }
         requires there { All (λ number. number < length lists.items) numbers.items }
-        ensures { result ≡ record { files = files.items; names = names.items; leaves = chosen_lists (map (λ v. v.items) lists.items) numbers.items } }
+        ensures { result ≡ record {
+          files = files.items;
+          names = names.items;
+          leaves = chosen_lists (map (λ v. v.items) lists.items) numbers.items;
+        } }
     {
         Library {
             files,
@@ -96,7 +117,8 @@ impl Library {
         self.files[file as usize].samples()
     }
 
-    /// The samples of as many cells as the slices are long, from a place of a file on, which is a leaf's file number `track`.
+    /// The samples of as many cells as the slices are long, from a place of a file on, which is a leaf's file number
+    /// `track`.
     pub fn read(
         &self,
         leaf: u32,
@@ -117,8 +139,8 @@ impl Library {
         self.files[file as usize].read(at, kind, left, right);
     }
 
-    /// The cell at a place of a file, which is a leaf's file number `track`, in a source of this kind, with the file's title. All
-    /// of them are counted from 0.
+    /// The cell at a place of a file, which is a leaf's file number `track`, in a source of this kind, with the file's
+    /// title. All of them are counted from 0.
     pub fn cell(&self, leaf: u32, track: u32, at: u64, kind: Kind) -> Cell
         requires leaf { leaf < length self.now.leaves }
         requires track { track < length (tracks_of self.now leaf) }

@@ -32,7 +32,8 @@ pub trait Taps {
         requires { buffer < buffers self.old }
         ensures buffers { buffers self.new ≡ buffers self.old }
         ensures same { same self.old self.new }
-        ensures call { IfOk result (λ gave. (call : Call) × IsGive buffer chunk gave call × Adds stands self.old self.new (call ∷ [])) }
+        ensures call { IfOk result (λ gave. (call : Call) × IsGive buffer chunk gave call
+            × Adds stands self.old self.new (call ∷ [])) }
         ensures memory { IfErr result (λ e. (e.0 ≡ chunk) × Adds stands self.old self.new []) };
 
     ghost same_refl: { (s : Self) → same s s };

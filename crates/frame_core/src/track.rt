@@ -52,8 +52,8 @@ impl Track {
         }
     }
 
-    /// The cell at a place, in a source of this kind, with this title. A mono file gives its sample to both sides, and a
-    /// stereo file in a mono source half the sum of its two, rounded toward zero.
+    /// The cell at a place, in a source of this kind, with this title. A mono file gives its sample to both sides, and
+    /// a stereo file in a mono source half the sum of its two, rounded toward zero.
     pub fn cell(&self, title: u32, at: u64, kind: Kind) -> Cell
         requires { at < length_of self.now }
         ensures { result ≡ cell_of self.now title kind at }
@@ -122,7 +122,10 @@ fn part_pairs(samples: &[i16], at: usize, left: &mut [i16], right: &mut [i16])
     requires same { length right.old ≡ length left.old }
     requires within { 2 * (at + length left.old) ≤ length samples.now }
     ensures left { left.new ≡ lefts_from (record { kind = Stereo; samples = samples.now }) Stereo at (length left.old) }
-    ensures right { right.new ≡ rights_from (record { kind = Stereo; samples = samples.now }) Stereo at (length left.old) }
+    ensures right { right.new ≡ rights_from (record {
+      kind = Stereo;
+      samples = samples.now;
+    }) Stereo at (length left.old) }
 {
     for j in 0..left.len() {
         let place = 2 * (at + j);

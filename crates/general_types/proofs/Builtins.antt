@@ -11,8 +11,8 @@ use Rattle.typing_rules.specs.declared.uses.Builtin.{Builtin}
 use Rattle.typing_rules.specs.declared.uses.Builtin.TheVariants as builtin
 use Rattle.typing_rules.specs.declared.builtins.RowType.{RowType}
 use Rattle.typing_rules.specs.Rows.{row_term}
-use Rattle.typing_rules.specs.Arguments.{Given, Matched}
-use Rattle.typing_rules.specs.Table.{IsCallOf, TypedParameter, first_kinds, params_of, signature}
+use Rattle.typing_rules.specs.Arguments.{GivenArgument, Matched}
+use Rattle.typing_rules.specs.Table.{IsCallOf, TypedParameter, first_kinds, params_of_builtin, signature}
 use Rattle.general_types.specs.declared.general.TypeParameter.{TypeParameter}
 use Rattle.general_types.specs.declared.general.TypeParameter.TheVariants.{Any, Outer as OuterType}
 use Rattle.general_types.specs.declared.general.KindParameter.{KindParameter}
@@ -183,7 +183,7 @@ row_kinds_are builtin.Mksafe f = refl
 row_kinds_are builtin.Buffer f = refl
 row_kinds_are builtin.Clock f = refl
 
-pub call_of_instance : (b : Builtin) (gs : List (Given Ground)) (ts : List Ground) (ks : List Kind) (g : Ground) (a : Assignment) → Matched (params_of b) gs ts → IsInstance (builtin_scheme b) a ts g ks → IsCallOf b gs ks g
+pub call_of_instance : (b : Builtin) (gs : List (GivenArgument Ground)) (ts : List Ground) (ks : List Kind) (g : Ground) (a : Assignment) → Matched (params_of_builtin b) gs ts → IsInstance (builtin_scheme b) a ts g ks → IsCallOf b gs ks g
 call_of_instance b gs ts ks g a m x = record {
   types = ts;
   matched = m;
@@ -193,7 +193,7 @@ call_of_instance b gs ts ks g a m x = record {
   kinds = row_kinds_are b x.at.kind_of ∙ x.opened;
 }
 
-pub instance_of_call : (b : Builtin) (gs : List (Given Ground)) (ks : List Kind) (g : Ground) (a : Assignment) (c : IsCallOf b gs ks g) → IsInstance (builtin_scheme b) a c.types g ks
+pub instance_of_call : (b : Builtin) (gs : List (GivenArgument Ground)) (ks : List Kind) (g : Ground) (a : Assignment) (c : IsCallOf b gs ks g) → IsInstance (builtin_scheme b) a c.types g ks
 instance_of_call b gs ks g a c = record {
   at = c.at;
   types = λ i x e. subst (λ y. MayBe a y (c.at.type_of i)) (sym (any_only (signature b).types i x e)) tt;

@@ -12,7 +12,7 @@ use Rattle.type_terms.specs.Term.{Term, meaning, kind_meaning, source_term, term
 use Rattle.type_terms.specs.declared.ty.KindTerm.{KindTerm}
 use Rattle.type_terms.specs.declared.ty.KindTerm.TheVariants.{Fixed, Var}
 use Rattle.type_terms.proofs.Terms.{InTerm-map, InTerms-map}
-use Rattle.typing_rules.specs.Kinds.{kind_at, kinds_of, put}
+use Rattle.typing_rules.specs.Kinds.{known_kind, kinds_of, put}
 use Rattle.general_types.specs.declared.general.TypeParameter.{TypeParameter}
 use Rattle.general_types.specs.declared.general.TypeParameter.TheVariants.{Any, Number, Outer as OuterType}
 use Rattle.general_types.specs.declared.general.KindParameter.{KindParameter}
@@ -42,15 +42,15 @@ opened_at f (Unread ∷ ps) (suc i) m e = opened_at f ps i (suc m) e ∙ ap (λ 
 opened_at f (OuterKind n ∷ ps) (suc i) m e = opened_at f ps i (suc m) e ∙ ap (λ n. Some (f n)) (let z : suc m + i ≡ m + suc i = omega arith in z)
 
 module _ (a at : Assignment) (ps : List KindParameter) (kinds : (i : ℕ) (x : KindParameter) → slice_get ps i ≡ Some x → KindMayBe a x (at.kind_of i)) where
-  variable_text : (i : ℕ) (x : KindParameter) → slice_get ps i ≡ Some x → IsNamed x → kind_at (map at.kind_of (open_numbers 0 ps)) (settled a (variable_in_text i (length (open_numbers 0 (take i ps))) (Some x))) ≡ Some (at.kind_of i)
+  variable_text : (i : ℕ) (x : KindParameter) → slice_get ps i ≡ Some x → IsNamed x → known_kind (map at.kind_of (open_numbers 0 ps)) (settled a (variable_in_text i (length (open_numbers 0 (take i ps))) (Some x))) ≡ Some (at.kind_of i)
   variable_text i OpenKind e named = opened_at at.kind_of ps i 0 e ∙ ap (λ n. Some (at.kind_of n)) (let z : 0 + i ≡ i = omega arith in z)
   variable_text i Unread e named = absurd named
   variable_text i (OuterKind n) e named = ap Some (sym (kinds i (OuterKind n) e))
 
-  one_text : (c : KindTerm) → InKind (λ n. Names ps n) c → kind_at (map at.kind_of (open_numbers 0 ps)) (settled a (text_kind ps c)) ≡ Some (kind_meaning at c)
+  one_text : (c : KindTerm) → InKind (λ n. Names ps n) c → known_kind (map at.kind_of (open_numbers 0 ps)) (settled a (text_kind ps c)) ≡ Some (kind_meaning at c)
   one_text (Fixed k) h = refl
   one_text (Var i) h =
-      ap (λ o. kind_at (map at.kind_of (open_numbers 0 ps)) (settled a (variable_in_text i (length (open_numbers 0 (take i ps))) o))) h.1 ∙ variable_text i h.0 h.1 h.2
+      ap (λ o. known_kind (map at.kind_of (open_numbers 0 ps)) (settled a (variable_in_text i (length (open_numbers 0 (take i ps))) o))) h.1 ∙ variable_text i h.0 h.1 h.2
 
   pub text_means : (cs : List KindTerm) → InTerms (λ _. ⊤) (λ n. Names ps n) (terms_of (map source_term cs)) → kinds_of (map at.kind_of (open_numbers 0 ps)) (map (settled a) (map (text_kind ps) cs)) ≡ Some (map (kind_meaning at) cs)
   text_means [] h = refl

@@ -11,7 +11,7 @@ use Rattle.type_terms.specs.declared.ty.Ty.{Ty}
 use Rattle.type_terms.specs.declared.ty.Ty.TheVariants as ty
 use Rattle.type_terms.proofs.Parts.{map_take_next}
 use Rattle.type_terms.proofs.Views.{term_Source}
-use Rattle.typing_rules.specs.Kinds.{counted}
+use Rattle.typing_rules.specs.Kinds.{numbered_on}
 use Rattle.general_types.specs.Numbering.{AreNumbered, AreSettled, IsFront, IsNumbered, place_of}
 use Rattle.general_types.specs.Texts.{AreOpened, OpenMore, OpensOne, OpensDef}
 use Rattle.general_types.proofs.Places.{below_front, front_both, insides_later, insides_push, map_later, numbered_more}
@@ -89,14 +89,14 @@ opens_kinds s ts ks ks' xs zs ys ys' cs e f h n =
     (opens_more s ts ks ts ks' zs ys (map source_term cs) h (subst (λ (ws : List Term). AreNumbered ts ks ts ks' ws (map source_term cs)) f n))
 
 pub opens_def : (s : Table) (ts1 ks0 ks1 ts2 ks2 ts3 ks3 : List ℕ) (n : ℕ) (xs us : List Term) (x u : Term) (kinds cs : List KindTerm) → length ks0 ≡ 0 → n ≡ length ks1 →
-    ((ts : List ℕ) → OpenMore s ts ks0 ts ks1 (map source_term kinds) (map source_term cs)) → counted (length ks0) (flat_map place_of cs) ≡ Some (length ks1) → OpenMore s ts1 ks1 ts2 ks2 xs us → OpensOne s ts2 ks2 ts3 ks3 x u → OpensDef s xs x kinds ts3 ks3 n us u cs
+    ((ts : List ℕ) → OpenMore s ts ks0 ts ks1 (map source_term kinds) (map source_term cs)) → numbered_on (length ks0) (flat_map place_of cs) ≡ Some (length ks1) → OpenMore s ts1 ks1 ts2 ks2 xs us → OpensOne s ts2 ks2 ts3 ks3 x u → OpensDef s xs x kinds ts3 ks3 n us u cs
 opens_def s ts1 ks0 ks1 ts2 ks2 ts3 ks3 n xs us x u kinds cs none many p order q r =
     let later : IsFront ks1 ks3 = front_both ks1 ks2 ks3 q.kinds r.kinds in
     record {
       params = opened_later s ts2 ks2 ts3 ks3 xs us r.types r.kinds q.are;
       result = r.is;
       sources = opened_later s ts1 ks1 ts3 ks3 (map source_term kinds) (map source_term cs) (front_both ts1 ts2 ts3 q.types r.types) later (p ts1).are;
-      order = ap (λ k. counted k (flat_map place_of cs)) (sym none) ∙ order ∙ ap Some (sym many);
+      order = ap (λ k. numbered_on k (flat_map place_of cs)) (sym none) ∙ order ∙ ap Some (sym many);
       few = subst (λ k. k ≤ length ks3) (sym many) (front_long ks1 ks3 later);
     }
 

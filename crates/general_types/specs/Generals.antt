@@ -6,7 +6,7 @@ use Rattle.type_terms.specs.Ground.{Ground, Assignment}
 use Rattle.type_terms.specs.Table.{Table, Solves}
 use Rattle.type_terms.specs.Term.{InKind, Term, meaning, kind_meaning}
 use Rattle.type_terms.specs.declared.ty.KindTerm.{KindTerm}
-use Rattle.typing_rules.specs.Kinds.{counted, kinds_of}
+use Rattle.typing_rules.specs.Kinds.{numbered_on, kinds_of}
 use Rattle.typing_rules.specs.declared.uses.KindOf.{KindOf}
 use Rattle.typing_rules.specs.declared.uses.KindOf.TheVariants.{Fixed, Given}
 use Rattle.general_types.specs.declared.general.TextKind.{TextKind}
@@ -23,12 +23,17 @@ settled a (Open j) = Given j
 abbrev pub AreKindsOf : Assignment → List TextKind → List Kind → List KindTerm → Assignment → Type 0
 AreKindsOf a text opens kinds b = kinds_of opens (map (settled a) text) ≡ Some (map (kind_meaning b) kinds)
 
--- At each solution the instances of the scheme are what the types and kinds of the text are at the solutions that give the names the same types.
-pub record IsGeneral (s : Table) (names params : List Term) (result : Term) (kinds : List KindTerm) (g : Scheme) (text : List TextKind) : Type 0 where
-  pub sound : (a : Assignment) → Solves a s → (ts : List Ground) (r : Ground) (opens : List Kind) → IsInstance g a ts r opens →
-      (b : Assignment) × Solves b s × SameTypes names a b × (map (meaning b) params ≡ ts) × (meaning b result ≡ r) × AreKindsOf a text opens kinds b
+-- At each solution the instances of the scheme are what the types and kinds of the text are at the solutions that give
+-- the names the same types.
+pub record IsGeneral (s : Table) (names params : List Term) (result : Term) (kinds : List KindTerm) (g : Scheme)
+    (text : List TextKind) : Type 0 where
+  pub sound : (a : Assignment) → Solves a s → (ts : List Ground) (r : Ground) (opens : List Kind)
+      → IsInstance g a ts r opens →
+      (b : Assignment) × Solves b s × SameTypes names a b × (map (meaning b) params ≡ ts) × (meaning b result ≡ r)
+      × AreKindsOf a text opens kinds b
   pub complete : (a b : Assignment) → Solves a s → Solves b s → SameTypes names a b →
-      (opens : List Kind) × IsInstance g a (map (meaning b) params) (meaning b result) opens × AreKindsOf a text opens kinds b
+      (opens : List Kind) × IsInstance g a (map (meaning b) params) (meaning b result) opens
+      × AreKindsOf a text opens kinds b
 
 -- the numbers of open kinds in a text, in its order
 abbrev pub open_of : TextKind → List ℕ
@@ -37,7 +42,7 @@ open_of (Open j) = j ∷ []
 
 -- The open kinds of a text have the numbers from 0 in the order of first mention, and are as many as the scheme has.
 abbrev pub IsNumberedText : Scheme → List TextKind → Type 0
-IsNumberedText g text = counted 0 (flat_map open_of text) ≡ Some (length (open_numbers 0 g.kinds))
+IsNumberedText g text = numbered_on 0 (flat_map open_of text) ≡ Some (length (open_numbers 0 g.kinds))
 
 -- the kinds of a text from outside are there
 abbrev pub IsTextKindOver : Table → TextKind → Type 0

@@ -9,7 +9,8 @@ use Rattle.type_terms.specs.Resolved.{IsFreeType, IsFreeKind}
 use Rattle.type_terms.specs.Table.{Table, Solves}
 use Rattle.type_terms.specs.Term.{Term, meaning}
 
--- The variables that are held, and the bound ones that were gone through: what they are bound to holds no others. They were found among so many type variables and kind variables, so many of which were free.
+-- The variables that are held, and the bound ones that were gone through: what they are bound to holds no others. They
+-- were found among so many type variables and kind variables, so many of which were free.
 pub record HeldVariables : Type 0 where
   pub types : List ℕ
   pub kinds : List ℕ
@@ -52,7 +53,9 @@ pub record AreCounted (s : Table) (h : HeldVariables) : Type 0 where
   pub kinds : (k : ℕ) → is_held h.kinds k ≡ true → k < h.kind_count
   pub free : free_among s h.type_count h.kind_count ≡ h.free_count
 
--- The names hold exactly these variables, which are bound to nothing: two solutions give the names the same types just where they say the same of the variables. A passed variable is larger than the held ones that stand behind it, and these alone fix it.
+-- The names hold exactly these variables, which are bound to nothing: two solutions give the names the same types just
+-- where they say the same of the variables. A passed variable is larger than the held ones that stand behind it, and
+-- these alone fix it.
 pub record IsHeldBy (s : Table) (names : List Term) (h : HeldVariables) : Type 0 where
   pub free_types : (k : ℕ) → is_held h.types k ≡ true → IsFreeType s k
   pub free_kinds : (k : ℕ) → is_held h.kinds k ≡ true → IsFreeKind s k
@@ -63,5 +66,15 @@ pub record IsHeldBy (s : Table) (names : List Term) (h : HeldVariables) : Type 0
 
 abbrev pub held_code : Coded HeldVariables
 held_code =
-    code_by (List ℕ × (List ℕ × (List ℕ × (ℕ × (ℕ × ℕ))))) (coded× (coded_list coded_ℕ) (coded× (coded_list coded_ℕ) (coded× (coded_list coded_ℕ) (coded× coded_ℕ (coded× coded_ℕ coded_ℕ)))))
-    (λ h. (h.types, (h.kinds, (h.passed, (h.type_count, (h.kind_count, h.free_count)))))) (λ p. record { types = p.0; kinds = p.1.0; passed = p.1.1.0; type_count = p.1.1.1.0; kind_count = p.1.1.1.1.0; free_count = p.1.1.1.1.1 }) (λ _. refl)
+    code_by (List ℕ × (List ℕ
+    × (List ℕ × (ℕ × (ℕ × ℕ)))))
+    (coded× (coded_list coded_ℕ)
+    (coded× (coded_list coded_ℕ) (coded× (coded_list coded_ℕ) (coded× coded_ℕ (coded× coded_ℕ coded_ℕ)))))
+    (λ h. (h.types, (h.kinds, (h.passed, (h.type_count, (h.kind_count, h.free_count)))))) (λ p. record {
+      types = p.0;
+      kinds = p.1.0;
+      passed = p.1.1.0;
+      type_count = p.1.1.1.0;
+      kind_count = p.1.1.1.1.0;
+      free_count = p.1.1.1.1.1;
+    }) (λ _. refl)

@@ -17,12 +17,17 @@ pub record Grows (s s' : Table) : Type 0 where
 abbrev pub instance_params : Instance → List Term
 instance_params i = map term_of i.params.items
 
--- Between s and s' the scheme was given these variables: at each solution they are an instance, and each instance at a solution is reached.
-pub record Instantiates (s s' : Table) (g : Scheme) (params : List Term) (result : Term) (kinds : List KindTerm) : Type 0 where
+-- Between s and s' the scheme was given these variables: at each solution they are an instance, and each instance at a
+-- solution is reached.
+pub record Instantiates (s s' : Table) (g : Scheme) (params : List Term) (result : Term) (kinds : List KindTerm) : Type
+    0 where
   pub params_over : AreAmong (length s'.types) (length s'.kinds) params
   pub result_over : IsOver s' result
   pub kinds_over : (i : ℕ) (k : KindTerm) → slice_get kinds i ≡ Some k → IsOver s' (source_term k)
   pub follows : Follows s s'
-  pub sound : (a : Assignment) → Solves a s' → IsInstance g a (map (meaning a) params) (meaning a result) (map (kind_meaning a) kinds)
-  pub complete : (a : Assignment) → Solves a s → (ts : List Ground) (r : Ground) (ks : List Kind) → IsInstance g a ts r ks →
-      (b : Assignment) × Solves b s' × Agrees s a b × (map (meaning b) params ≡ ts) × (meaning b result ≡ r) × (map (kind_meaning b) kinds ≡ ks)
+  pub sound : (a : Assignment) → Solves a s'
+      → IsInstance g a (map (meaning a) params) (meaning a result) (map (kind_meaning a) kinds)
+  pub complete : (a : Assignment) → Solves a s → (ts : List Ground) (r : Ground) (ks : List Kind)
+      → IsInstance g a ts r ks →
+      (b : Assignment) × Solves b s' × Agrees s a b × (map (meaning b) params ≡ ts) × (meaning b result ≡ r)
+      × (map (kind_meaning b) kinds ≡ ks)

@@ -30,13 +30,15 @@ pub record IsNewType (s s' : Table) (x : TypeParameter) (n : ℕ) : Type 0 where
   pub inside : n < length s'.types
   pub follows : Follows s s'
   pub sound : (a : Assignment) → Solves a s' → MayBe a x (a.type_of n)
-  pub complete : (a : Assignment) → Solves a s → (g : Ground) → MayBe a x g → (b : Assignment) × Solves b s' × Agrees s a b × (b.type_of n ≡ g)
+  pub complete : (a : Assignment) → Solves a s → (g : Ground) → MayBe a x g
+      → (b : Assignment) × Solves b s' × Agrees s a b × (b.type_of n ≡ g)
 
 pub record IsNewKind (s s' : Table) (x : KindParameter) (n : ℕ) : Type 0 where
   pub inside : n < length s'.kinds
   pub follows : Follows s s'
   pub sound : (a : Assignment) → Solves a s' → KindMayBe a x (a.kind_of n)
-  pub complete : (a : Assignment) → Solves a s → (k : Kind) → KindMayBe a x k → (b : Assignment) × Solves b s' × Agrees s a b × (b.kind_of n ≡ k)
+  pub complete : (a : Assignment) → Solves a s → (k : Kind) → KindMayBe a x k
+      → (b : Assignment) × Solves b s' × Agrees s a b × (b.kind_of n ≡ k)
 
 -- the kind variables that stand for the open ones
 abbrev pub open_terms : List KindParameter → List ℕ → List KindTerm
@@ -51,14 +53,18 @@ pub record AreNewTypes (s s' : Table) (xs : List TypeParameter) (ns : List ℕ) 
   pub many : length ns ≡ length xs
   pub inside : (i n : ℕ) → slice_get ns i ≡ Some n → n < length s'.types
   pub follows : Follows s s'
-  pub sound : (a : Assignment) → Solves a s' → (i n : ℕ) (x : TypeParameter) → slice_get xs i ≡ Some x → slice_get ns i ≡ Some n → MayBe a x (a.type_of n)
-  pub complete : (a : Assignment) → Solves a s → (f : ℕ → Ground) → ((i : ℕ) (x : TypeParameter) → slice_get xs i ≡ Some x → MayBe a x (f i)) →
+  pub sound : (a : Assignment) → Solves a s' → (i n : ℕ) (x : TypeParameter) → slice_get xs i ≡ Some x
+      → slice_get ns i ≡ Some n → MayBe a x (a.type_of n)
+  pub complete : (a : Assignment) → Solves a s → (f : ℕ → Ground)
+      → ((i : ℕ) (x : TypeParameter) → slice_get xs i ≡ Some x → MayBe a x (f i)) →
       (b : Assignment) × Solves b s' × Agrees s a b × ((i n : ℕ) → slice_get ns i ≡ Some n → b.type_of n ≡ f i)
 
 pub record AreNewKinds (s s' : Table) (xs : List KindParameter) (ns : List ℕ) : Type 0 where
   pub many : length ns ≡ length xs
   pub inside : (i n : ℕ) → slice_get ns i ≡ Some n → n < length s'.kinds
   pub follows : Follows s s'
-  pub sound : (a : Assignment) → Solves a s' → (i n : ℕ) (x : KindParameter) → slice_get xs i ≡ Some x → slice_get ns i ≡ Some n → KindMayBe a x (a.kind_of n)
-  pub complete : (a : Assignment) → Solves a s → (f : ℕ → Kind) → ((i : ℕ) (x : KindParameter) → slice_get xs i ≡ Some x → KindMayBe a x (f i)) →
+  pub sound : (a : Assignment) → Solves a s' → (i n : ℕ) (x : KindParameter) → slice_get xs i ≡ Some x
+      → slice_get ns i ≡ Some n → KindMayBe a x (a.kind_of n)
+  pub complete : (a : Assignment) → Solves a s → (f : ℕ → Kind)
+      → ((i : ℕ) (x : KindParameter) → slice_get xs i ≡ Some x → KindMayBe a x (f i)) →
       (b : Assignment) × Solves b s' × Agrees s a b × ((i n : ℕ) → slice_get ns i ≡ Some n → b.kind_of n ≡ f i)

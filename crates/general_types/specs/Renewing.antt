@@ -21,7 +21,14 @@ pub record AreHeldBy (s : Table) (names : List Term) (h : HeldVariables) : Type 
 
 -- the same lists, with all variables counted
 abbrev pub counted_in : Table → HeldVariables → HeldVariables
-counted_in s h = record { types = h.types; kinds = h.kinds; passed = h.passed; type_count = length s.types; kind_count = length s.kinds; free_count = free_among s (length s.types) (length s.kinds) }
+counted_in s h = record {
+  types = h.types;
+  kinds = h.kinds;
+  passed = h.passed;
+  type_count = length s.types;
+  kind_count = length s.kinds;
+  free_count = free_among s (length s.types) (length s.kinds);
+}
 
 -- the number was there, and is none of the list
 abbrev pub IsLeft : List ℕ → List ℕ → ℕ → Type 0

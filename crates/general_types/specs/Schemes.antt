@@ -12,7 +12,8 @@ use Rattle.general_types.specs.declared.general.TypeParameter.TheVariants.{Any, 
 use Rattle.general_types.specs.declared.general.KindParameter.{KindParameter}
 use Rattle.general_types.specs.declared.general.KindParameter.TheVariants.{Open, Unread, Outer as OuterKind}
 
--- The types of all parameters, and of the result, over variables of the scheme's own, from 0. The lists say what each of these may stand for.
+-- The types of all parameters, and of the result, over variables of the scheme's own, from 0. The lists say what each
+-- of these may stand for.
 pub record Scheme : Type 0 where
   pub params : List Term
   pub result : Term
@@ -21,9 +22,15 @@ pub record Scheme : Type 0 where
 
 -- a general type as plain data
 abbrev pub scheme_of : General → Scheme
-scheme_of g = record { params = map term_of g.params.items; result = term_of g.result; types = g.types.items; kinds = g.kinds.items }
+scheme_of g = record {
+  params = map term_of g.params.items;
+  result = term_of g.result;
+  types = g.types.items;
+  kinds = g.kinds.items;
+}
 
--- What a variable of a scheme may stand for, where the variables outside of it are as in `a`: anything, any number, or what the outer variable is.
+-- What a variable of a scheme may stand for, where the variables outside of it are as in `a`: anything, any number, or
+-- what the outer variable is.
 abbrev pub MayBe : Assignment → TypeParameter → Ground → Type 0
 MayBe a Any g = ⊤
 MayBe a Number g = IsNumber g
@@ -41,7 +48,8 @@ open_numbers n (Open ∷ ks) = n ∷ open_numbers (suc n) ks
 open_numbers n (Unread ∷ ks) = open_numbers (suc n) ks
 open_numbers n (OuterKind k ∷ ks) = open_numbers (suc n) ks
 
--- A call may have parameters of the types ts and the type g, with these open kinds, where the variables outside of the scheme are as in `a`.
+-- A call may have parameters of the types ts and the type g, with these open kinds, where the variables outside of the
+-- scheme are as in `a`.
 pub record IsInstance (s : Scheme) (a : Assignment) (ts : List Ground) (g : Ground) (opens : List Kind) : Type 0 where
   pub at : Assignment
   pub types : (i : ℕ) (x : TypeParameter) → slice_get s.types i ≡ Some x → MayBe a x (at.type_of i)
@@ -52,7 +60,12 @@ pub record IsInstance (s : Scheme) (a : Assignment) (ts : List Ground) (g : Grou
 
 -- the scheme of a builtin's row: nothing is outside of it
 abbrev pub builtin_scheme : Builtin → Scheme
-builtin_scheme b = record { params = map (λ p. p.1) (signature b).params; result = (signature b).result; types = replicate (signature b).types Any; kinds = replicate (signature b).kinds Open }
+builtin_scheme b = record {
+  params = map (λ p. p.1) (signature b).params;
+  result = (signature b).result;
+  types = replicate (signature b).types Any;
+  kinds = replicate (signature b).kinds Open;
+}
 
 -- the variables of terms are among so many
 abbrev pub AreAmong : ℕ → ℕ → List Term → Type 0

@@ -7,7 +7,7 @@ use Rattle.type_terms.specs.Table.{Table}
 use Rattle.type_terms.specs.Term.{Term, InTerm, InTerms, source_term, terms_of}
 use Rattle.type_terms.specs.declared.ty.KindTerm.{KindTerm}
 use Rattle.type_terms.specs.declared.ty.KindTerm.TheVariants.{Fixed, Var}
-use Rattle.typing_rules.specs.Kinds.{counted}
+use Rattle.typing_rules.specs.Kinds.{numbered_on}
 use Rattle.general_types.specs.declared.general.KindParameter.{KindParameter}
 use Rattle.general_types.specs.declared.general.KindParameter.TheVariants.{Open as OpenKind, Unread, Outer as OuterKind}
 use Rattle.general_types.specs.declared.general.TextKind.{TextKind}
@@ -51,14 +51,21 @@ pub record OpensOne (s : Table) (ts ks ts' ks' : List ℕ) (x u : Term) : Type 0
   pub kinds : IsFront ks ks'
   pub is : IsOpened s ts' ks' x u
 
--- all types of a def, and the kinds of its text, over the variables of these numbers; the text names the first n kinds, in their order
-pub record OpensDef (s : Table) (xs : List Term) (x : Term) (kinds : List KindTerm) (ts ks : List ℕ) (n : ℕ) (us : List Term) (u : Term) (cs : List KindTerm) : Type 0 where
+-- all types of a def, and the kinds of its text, over the variables of these numbers; the text names the first n kinds,
+-- in their order
+pub record OpensDef (s : Table) (xs : List Term) (x : Term) (kinds : List KindTerm) (ts ks : List ℕ) (n : ℕ)
+    (us : List Term) (u : Term) (cs : List KindTerm) : Type 0 where
   pub params : AreOpened s ts ks xs us
   pub result : IsOpened s ts ks x u
   pub sources : AreOpened s ts ks (map source_term kinds) (map source_term cs)
-  pub order : counted 0 (flat_map place_of cs) ≡ Some n
+  pub order : numbered_on 0 (flat_map place_of cs) ≡ Some n
   pub few : n ≤ length ks
 
 -- the scheme over the variables of these numbers
 abbrev pub scheme_with : Table → HeldVariables → List ℕ → List ℕ → ℕ → List Term → Term → Scheme
-scheme_with s h ts ks n us u = record { params = us; result = u; types = map (type_parameter s h) ts; kinds = kind_parameters h n ks }
+scheme_with s h ts ks n us u = record {
+  params = us;
+  result = u;
+  types = map (type_parameter s h) ts;
+  kinds = kind_parameters h n ks;
+}

@@ -10,7 +10,14 @@ use Rattle.general_types.specs.Holding.{HeldVariables, AgreeBelow, AgreeOnPassed
 
 -- with nothing counted
 abbrev pub held : List ℕ → List ℕ → List ℕ → HeldVariables
-held types kinds passed = record { types = types; kinds = kinds; passed = passed; type_count = 0; kind_count = 0; free_count = 0 }
+held types kinds passed = record {
+  types = types;
+  kinds = kinds;
+  passed = passed;
+  type_count = 0;
+  kind_count = 0;
+  free_count = 0;
+}
 
 -- what walks have reached
 abbrev pub held_of : Reached → HeldVariables
@@ -39,12 +46,15 @@ pub record IsKindIn (s : Table) (ts : List Term) (k : ℕ) : Type 0 where
   pub free : IsFreeKind s k
   pub fixed : (a b : Assignment) → Solves a s → Solves b s → Every (IsSame a b) ts → a.kind_of k ≡ b.kind_of k
 
--- A walk was to go through some terms and has these left, and what was held is as it is now. Where what is left means the same under two solutions, as far as it has few nodes, so do the terms, and what the walk passed.
+-- A walk was to go through some terms and has these left, and what was held is as it is now. Where what is left means
+-- the same under two solutions, as far as it has few nodes, so do the terms, and what the walk passed.
 pub record Leads (s : Table) (todo left : List Term) (old new : HeldVariables) : Type 0 where
   pub over : Every (IsOver s) todo → Every (IsOver s) left
   pub needed : (a b : Assignment) → Solves a s → Solves b s → Every (IsSame a b) todo → Every (IsSame a b) left
-  pub enough : (a b : Assignment) → Solves a s → Solves b s → (n : ℕ) → AgreeBelow new n a b → AgreeOnPassed new n a b → Every (IsSameBelow a b n) left → Every (IsSameBelow a b n) todo
-  pub learnt : (a b : Assignment) → Solves a s → Solves b s → (n : ℕ) → AgreeBelow new n a b → AgreeOnPassed new n a b → Every (IsSameBelow a b n) left → AgreeOnPassed old (suc n) a b → AgreeOnPassed new (suc n) a b
+  pub enough : (a b : Assignment) → Solves a s → Solves b s → (n : ℕ) → AgreeBelow new n a b → AgreeOnPassed new n a b
+      → Every (IsSameBelow a b n) left → Every (IsSameBelow a b n) todo
+  pub learnt : (a b : Assignment) → Solves a s → Solves b s → (n : ℕ) → AgreeBelow new n a b → AgreeOnPassed new n a b
+      → Every (IsSameBelow a b n) left → AgreeOnPassed old (suc n) a b → AgreeOnPassed new (suc n) a b
   pub types_kept : (k : ℕ) → is_held old.types k ≡ true → is_held new.types k ≡ true
   pub kinds_kept : (k : ℕ) → is_held old.kinds k ≡ true → is_held new.kinds k ≡ true
   pub passed_kept : (k : ℕ) → is_held old.passed k ≡ true → is_held new.passed k ≡ true
@@ -55,4 +65,5 @@ pub record Leads (s : Table) (todo left : List Term) (old new : HeldVariables) :
 pub record AddsKind (s : Table) (kind : KindTerm) (old new : List ℕ) : Type 0 where
   pub kept : (k : ℕ) → is_held old k ≡ true → is_held new k ≡ true
   pub only : (k : ℕ) → is_held new k ≡ true → (is_held old k ≡ true) ⊎ IsKindIn s (source_term kind ∷ []) k
-  pub enough : (a b : Assignment) → Solves a s → Solves b s → ((k : ℕ) → is_held new k ≡ true → a.kind_of k ≡ b.kind_of k) → kind_meaning a kind ≡ kind_meaning b kind
+  pub enough : (a b : Assignment) → Solves a s → Solves b s
+      → ((k : ℕ) → is_held new k ≡ true → a.kind_of k ≡ b.kind_of k) → kind_meaning a kind ≡ kind_meaning b kind

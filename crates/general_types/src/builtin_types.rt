@@ -25,7 +25,9 @@ pub fn instantiate_builtin(
     subst: &mut Subst,
     builtin: Builtin,
 ) -> Result<Instance, Memory>
-    ensures instance { IfOk result (λ i. Instantiates subst.old subst.new (builtin_scheme builtin) (instance_params i) (term_of i.result) i.kinds.items) }
+    ensures instance { IfOk result
+        (λ i. Instantiates subst.old subst.new (builtin_scheme builtin) (instance_params i) (term_of i.result)
+        i.kinds.items) }
     ensures counted { IfOk result (λ i. length i.kinds.items ≡ length (open_numbers 0 (builtin_scheme builtin).kinds)) }
     ensures grows { Grows subst.old subst.new }
 {
@@ -37,7 +39,8 @@ pub fn instantiate_builtin(
 
 /// The number of a new type variable for that of the builtin's row; 0 where it has none.
 fn new_row_type(subst: &mut Subst, builtin: Builtin) -> Result<u64, Memory>
-    ensures new { IfOk result (λ n. AreNewTypes subst.old subst.new (builtin_scheme builtin).types (replicate (signature builtin).types n)) }
+    ensures new { IfOk result
+        (λ n. AreNewTypes subst.old subst.new (builtin_scheme builtin).types (replicate (signature builtin).types n)) }
     ensures grows { Grows subst.old subst.new }
 {
     if !has_type_variable(builtin) {
@@ -49,7 +52,8 @@ fn new_row_type(subst: &mut Subst, builtin: Builtin) -> Result<u64, Memory>
 
 /// The number of a new kind variable for that of the builtin's row; 0 where it has none.
 fn new_row_kind(subst: &mut Subst, builtin: Builtin) -> Result<u64, Memory>
-    ensures new { IfOk result (λ n. AreNewKinds subst.old subst.new (builtin_scheme builtin).kinds (replicate (signature builtin).kinds n)) }
+    ensures new { IfOk result
+        (λ n. AreNewKinds subst.old subst.new (builtin_scheme builtin).kinds (replicate (signature builtin).kinds n)) }
     ensures grows { Grows subst.old subst.new }
 {
     if !has_kind_variable(builtin) {
@@ -61,8 +65,10 @@ fn new_row_kind(subst: &mut Subst, builtin: Builtin) -> Result<u64, Memory>
 
 /// The builtin's row with these numbers for its variables.
 fn row_instance(alloc: Global, builtin: Builtin, any: u64, kind: u64) -> Result<Instance, Memory>
-    ensures params { IfOk result (λ i. map term_of i.params.items ≡ map (instance (any ∷ []) (kind ∷ [])) (builtin_scheme builtin).params) }
-    ensures call { IfOk result (λ i. term_of i.result ≡ instance (any ∷ []) (kind ∷ []) (builtin_scheme builtin).result) }
+    ensures params { IfOk result (λ i. map term_of i.params.items
+        ≡ map (instance (any ∷ []) (kind ∷ [])) (builtin_scheme builtin).params) }
+    ensures call { IfOk result (λ i. term_of i.result
+        ≡ instance (any ∷ []) (kind ∷ []) (builtin_scheme builtin).result) }
     ensures kinds { IfOk result (λ i. i.kinds.items ≡ replicate (signature builtin).kinds (Var kind)) }
 {
     let row = builtin_row(builtin);
@@ -120,7 +126,8 @@ fn sources(alloc: Global, kind: KindTerm) -> Result<Ty, Memory>
 
 /// A pair of a predicate and a source.
 fn pair(alloc: Global, kind: KindTerm) -> Result<Ty, Memory>
-    ensures { IfOk result (λ t. term_of t ≡ tuple_term (one_more (base_term Pred) (one_more (source_term kind) no_terms))) }
+    ensures { IfOk result (λ t. term_of t
+        ≡ tuple_term (one_more (base_term Pred) (one_more (source_term kind) no_terms))) }
 {
     let mut parts = Vec::new(alloc);
     parts.push(Ty::Pred)?;
@@ -130,7 +137,8 @@ fn pair(alloc: Global, kind: KindTerm) -> Result<Ty, Memory>
 
 /// A list of such pairs.
 fn pairs(alloc: Global, kind: KindTerm) -> Result<Ty, Memory>
-    ensures { IfOk result (λ t. term_of t ≡ list_term (tuple_term (one_more (base_term Pred) (one_more (source_term kind) no_terms)))) }
+    ensures { IfOk result (λ t. term_of t
+        ≡ list_term (tuple_term (one_more (base_term Pred) (one_more (source_term kind) no_terms)))) }
 {
     let item = pair(alloc, kind)?;
     let item = Box::new(alloc, item)?;

@@ -1,7 +1,8 @@
 // General types.
 use type_terms::{KindTerm, Ty};
 
-/// What a type variable of a general type may stand for: anything, int or decimal, or what a variable of the substitution stands for.
+/// What a type variable of a general type may stand for: anything, int or decimal, or what a variable of the
+/// substitution stands for.
 #[derive(Clone, Copy, Debug, PartialEq, Eq)]
 pub enum TypeParameter {
     Any,
@@ -9,7 +10,8 @@ pub enum TypeParameter {
     Outer(u64),
 }
 
-/// What a kind variable of a general type may stand for: either kind, or what a variable of the substitution stands for.
+/// What a kind variable of a general type may stand for: either kind, or what a variable of the substitution stands
+/// for.
 ///
 /// Of those that may be either kind, `Open` are the ones that the text of the def names, and `Unread` all others.
 #[derive(Clone, Copy, Debug, PartialEq, Eq)]

@@ -27,8 +27,8 @@ pub struct DefType {
 
 /// Makes the types of a def general in all variables that are bound to nothing and that earlier names do not hold.
 ///
-/// `params` and `answer` are what the types of its parameters and of its result were found to be, and `kinds` the kinds at the uses of its text.
-/// It takes time that grows with these alone, as they are with all that is bound put in.
+/// `params` and `answer` are what the types of its parameters and of its result were found to be, and `kinds` the kinds
+/// at the uses of its text. It takes time that grows with these alone, as they are with all that is bound put in.
 pub fn generalise(
     alloc: Global,
     subst: &Subst,
@@ -40,10 +40,14 @@ pub fn generalise(
     requires params { AreAmong (length subst.now.types) (length subst.now.kinds) (map term_of params.now) }
     requires answer { IsOver subst.now (term_of answer.now) }
     requires kinds { AreAmong (length subst.now.types) (length subst.now.kinds) (map source_term kinds.now) }
-    ensures over { IfOk result (λ d. (names : List Term) → IsHeldBy subst.now names held.now → IsSchemeOver subst.now (scheme_of d.general)) }
+    ensures over { IfOk result (λ d. (names : List Term) → IsHeldBy subst.now names held.now
+        → IsSchemeOver subst.now (scheme_of d.general)) }
     ensures numbered { IfOk result (λ d. IsNumberedText (scheme_of d.general) d.text.items) }
-    ensures text_over { IfOk result (λ d. (names : List Term) → IsHeldBy subst.now names held.now → AreTextKindsOver subst.now d.text.items) }
-    ensures general { IfOk result (λ d. (names : List Term) → IsHeldBy subst.now names held.now → IsGeneral subst.now names (map term_of params.now) (term_of answer.now) kinds.now (scheme_of d.general) d.text.items) }
+    ensures text_over { IfOk result (λ d. (names : List Term) → IsHeldBy subst.now names held.now
+        → AreTextKindsOver subst.now d.text.items) }
+    ensures general { IfOk result (λ d. (names : List Term) → IsHeldBy subst.now names held.now
+        → IsGeneral subst.now names (map term_of params.now) (term_of answer.now) kinds.now (scheme_of d.general)
+        d.text.items) }
 {
     let mut type_numbers = IndexSet::new(alloc);
     let mut kind_numbers = IndexSet::new(alloc);
@@ -74,10 +78,14 @@ fn generalise_with(
     requires answer { IsOver subst.now (term_of answer.now) }
     requires kinds { AreAmong (length subst.now.types) (length subst.now.kinds) (map source_term kinds.now) }
     requires kind_numbers { length kind_numbers.old.keys ≡ 0 }
-    ensures over { IfOk result (λ d. (names : List Term) → IsHeldBy subst.now names held.now → IsSchemeOver subst.now (scheme_of d.general)) }
+    ensures over { IfOk result (λ d. (names : List Term) → IsHeldBy subst.now names held.now
+        → IsSchemeOver subst.now (scheme_of d.general)) }
     ensures numbered { IfOk result (λ d. IsNumberedText (scheme_of d.general) d.text.items) }
-    ensures text_over { IfOk result (λ d. (names : List Term) → IsHeldBy subst.now names held.now → AreTextKindsOver subst.now d.text.items) }
-    ensures general { IfOk result (λ d. (names : List Term) → IsHeldBy subst.now names held.now → IsGeneral subst.now names (map term_of params.now) (term_of answer.now) kinds.now (scheme_of d.general) d.text.items) }
+    ensures text_over { IfOk result (λ d. (names : List Term) → IsHeldBy subst.now names held.now
+        → AreTextKindsOver subst.now d.text.items) }
+    ensures general { IfOk result (λ d. (names : List Term) → IsHeldBy subst.now names held.now
+        → IsGeneral subst.now names (map term_of params.now) (term_of answer.now) kinds.now (scheme_of d.general)
+        d.text.items) }
 {
     subst.extends_each_assignment();
     let mut named = Vec::new(alloc);
@@ -189,7 +197,8 @@ fn push_parameters(
     free: KindParameter,
     numbers: &[u64],
 ) -> Result<(), Memory>
-    ensures { OnOk result (parameters.new.items ≡ parameters.old.items ++ map (kind_parameter held.now free) numbers.now) }
+    ensures { OnOk result (parameters.new.items ≡ parameters.old.items
+        ++ map (kind_parameter held.now free) numbers.now) }
 {
     for number in numbers {
         parameters.push(kind_parameter_of(held, free, *number))?;
@@ -197,7 +206,8 @@ fn push_parameters(
     Ok(())
 }
 
-/// Adds what the kind variables of these numbers may stand for to an empty list. The text names the first `read` of them.
+/// Adds what the kind variables of these numbers may stand for to an empty list. The text names the first `read` of
+/// them.
 fn push_kinds(
     parameters: &mut Vec<KindParameter>,
     held: &Held,

@@ -18,7 +18,8 @@ use type_terms::{Subst, Ty};
 /// Adds the variables that a name's type holds.
 fn add_name(alloc: Global, subst: &Subst, reached: &mut Reached, name: &Ty) -> Result<(), Memory>
     requires over { IsOver subst.now (term_of name.now) }
-    ensures { OnOk result ((names : List Term) → AreHeldBy subst.now names (held_of reached.old) → AreHeldBy subst.now (term_of name.now ∷ names) (held_of reached.new)) }
+    ensures { OnOk result ((names : List Term) → AreHeldBy subst.now names (held_of reached.old)
+        → AreHeldBy subst.now (term_of name.now ∷ names) (held_of reached.new)) }
 {
     let mut work = Vec::new(alloc);
     work.push(name)?;
@@ -42,7 +43,14 @@ impl Model for Held {
 
     ghost coded = { held_code };
 
-    ghost view = { λ s. record { types = s.reached.types.keys; kinds = s.reached.kinds.keys; passed = s.reached.passed.keys; type_count = s.type_count; kind_count = s.kind_count; free_count = s.free_count } };
+    ghost view = { λ s. record {
+      types = s.reached.types.keys;
+      kinds = s.reached.kinds.keys;
+      passed = s.reached.passed.keys;
+      type_count = s.type_count;
+      kind_count = s.kind_count;
+      free_count = s.free_count;
+    } };
 }
 
 impl Held {
@@ -76,26 +84,28 @@ impl Held {
         self.reached.kinds.contains(&number)
     }
 
-    /// Adds what a further name's type holds. It takes time that grows with the type, and goes behind each bound variable once
-    /// for all names.
+    /// Adds what a further name's type holds. It takes time that grows with the type, and goes behind each bound
+    /// variable once for all names.
     ///
     /// Where memory runs out, some of it may have been added.
     pub fn add(&mut self, alloc: Global, subst: &Subst, name: &Ty) -> Result<(), Memory>
         requires over { IsOver subst.now (term_of name.now) }
-        ensures held { OnOk result ((names : List Term) → IsHeldBy subst.now names self.old → IsHeldBy subst.now (term_of name.now ∷ names) self.new) }
+        ensures held { OnOk result ((names : List Term) → IsHeldBy subst.now names self.old
+            → IsHeldBy subst.now (term_of name.now ∷ names) self.new) }
     {
         add_name(alloc, subst, &mut self.reached, name)?;
         self.count(subst);
         Ok(())
     }
 
-    /// What the same names hold now that more is bound. Where none of the variables that were there is bound since, it looks
-    /// only at the new ones; else at each held variable, with further time only for those that were bound.
+    /// What the same names hold now that more is bound. Where none of the variables that were there is bound since, it
+    /// looks only at the new ones; else at each held variable, with further time only for those that were bound.
     ///
     /// Where memory runs out, some of it may have been done.
     pub fn renew(&mut self, alloc: Global, subst: &Subst) -> Result<(), Memory>
         requires there { AreThere subst.now self.old }
-        ensures held { OnOk result ((s : Table) (names : List Term) → Follows s subst.now → IsHeldBy s names self.old → IsHeldBy subst.now names self.new) }
+        ensures held { OnOk result ((s : Table) (names : List Term) → Follows s subst.now → IsHeldBy s names self.old
+            → IsHeldBy subst.now names self.new) }
     {
         if subst.free_among(self.type_count, self.kind_count) == self.free_count {
             self.count(subst);
@@ -118,7 +128,9 @@ impl Held {
     // Puts what bound variables hold in their places.
     fn renew_bound(&mut self, alloc: Global, subst: &Subst) -> Result<(), Memory>
         requires there { AreThere subst.now self.old }
-        ensures held { OnOk result ((s : Table) (names : List Term) → Follows s subst.now → AreHeldBy s names (held self.old.types self.old.kinds self.old.passed) → AreHeldBy subst.now names (held self.new.types self.new.kinds self.new.passed)) }
+        ensures held { OnOk result ((s : Table) (names : List Term) → Follows s subst.now
+            → AreHeldBy s names (held self.old.types self.old.kinds self.old.passed)
+            → AreHeldBy subst.now names (held self.new.types self.new.kinds self.new.passed)) }
     {
         let mut types = Vec::new(alloc);
         let mut kinds = Vec::new(alloc);

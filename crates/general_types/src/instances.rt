@@ -25,7 +25,9 @@ pub struct Instance {
 /// Where memory runs out, the substitution may have new variables that nothing names.
 pub fn instantiate(alloc: Global, subst: &mut Subst, general: &General) -> Result<Instance, Memory>
     requires over { IsSchemeOver subst.old (scheme_of general.now) }
-    ensures instance { IfOk result (λ i. Instantiates subst.old subst.new (scheme_of general.now) (instance_params i) (term_of i.result) i.kinds.items) }
+    ensures instance { IfOk result
+        (λ i. Instantiates subst.old subst.new (scheme_of general.now) (instance_params i) (term_of i.result)
+        i.kinds.items) }
     ensures counted { IfOk result (λ i. length i.kinds.items ≡ length (open_numbers 0 (scheme_of general.now).kinds)) }
     ensures grows { Grows subst.old subst.new }
 {
@@ -43,7 +45,8 @@ fn instance_with(
     numbers: &[u64],
 ) -> Result<Instance, Memory>
     requires { length numbers.now ≡ length general.now.kinds.items }
-    ensures params { IfOk result (λ i. map term_of i.params.items ≡ map (instance types.now numbers.now) (map term_of general.now.params.items)) }
+    ensures params { IfOk result (λ i. map term_of i.params.items
+        ≡ map (instance types.now numbers.now) (map term_of general.now.params.items)) }
     ensures call { IfOk result (λ i. term_of i.result ≡ instance types.now numbers.now (term_of general.now.result)) }
     ensures kinds { IfOk result (λ i. i.kinds.items ≡ open_terms general.now.kinds.items numbers.now) }
 {
@@ -69,7 +72,8 @@ fn rename(
     requires many { length numbers.now ≡ length general.now.kinds.items }
     requires params { params.old.items ≡ [] }
     requires kinds { kinds.old.items ≡ [] }
-    ensures params { OnOk result (map term_of params.new.items ≡ map (instance types.now numbers.now) (map term_of general.now.params.items)) }
+    ensures params { OnOk result (map term_of params.new.items
+        ≡ map (instance types.now numbers.now) (map term_of general.now.params.items)) }
     ensures call { IfOk result (λ t. term_of t ≡ instance types.now numbers.now (term_of general.now.result)) }
     ensures kinds { OnOk result (kinds.new.items ≡ open_terms general.now.kinds.items numbers.now) }
 {

@@ -3,7 +3,7 @@ ghost use Rattle.std.specs.Prelude.{◌≡◌, ◌∷◌, ℕ, List, [], Some, l
 ghost use Rattle.std.specs.List.{flat_map};
 ghost use Rattle.type_terms.specs.Table.{IsOver};
 ghost use Rattle.type_terms.specs.Term.{source_term, term_of};
-ghost use Rattle.typing_rules.specs.Kinds.{counted};
+ghost use Rattle.typing_rules.specs.Kinds.{numbered_on};
 ghost use Rattle.general_types.specs.Texts.{OpenMore, OpensDef, OpensOne};
 ghost use Rattle.general_types.specs.Numbering.{AreNumbered, AreSettled, IsFront, IsNumbered, place_of};
 ghost use Rattle.general_types.specs.Schemes.{AreAmong};
@@ -26,8 +26,8 @@ pub struct OpenedDef {
 
 /// The types of a def over variables of their own, in the order of first mention: the kinds of its text first.
 ///
-/// The numbers of these in the substitution are put into the sets, and the kinds of the text into the list, all empty at first.
-/// The text names the first `read` of the kind variables, in their order.
+/// The numbers of these in the substitution are put into the sets, and the kinds of the text into the list, all empty
+/// at first. The text names the first `read` of the kind variables, in their order.
 pub fn number_def(
     alloc: Global,
     subst: &Subst,
@@ -43,7 +43,8 @@ pub fn number_def(
     requires kinds { AreAmong (length subst.now.types) (length subst.now.kinds) (map source_term kinds.now) }
     requires places { length places.old.keys ≡ 0 }
     requires text { text.old.items ≡ [] }
-    ensures { IfOk result (λ o. OpensDef subst.now (map term_of params.now) (term_of answer.now) kinds.now types.new.keys places.new.keys o.read (map term_of o.params.items) (term_of o.answer) text.new.items) }
+    ensures { IfOk result (λ o. OpensDef subst.now (map term_of params.now) (term_of answer.now) kinds.now
+        types.new.keys places.new.keys o.read (map term_of o.params.items) (term_of o.answer) text.new.items) }
 {
     push_opened_kinds(alloc, text, subst, places, kinds)?;
     let read = places.len();
@@ -60,7 +61,7 @@ pub fn number_def(
 fn place(numbers: &mut IndexSet<u64>, number: u64) -> Result<u64, Memory>
     ensures there { IfOk result (λ i. slice_get numbers.new.keys i ≡ Some number) }
     ensures front { OnOk result (IsFront numbers.old.keys numbers.new.keys) }
-    ensures next { IfOk result (λ i. counted (length numbers.old.keys) (i ∷ []) ≡ Some (length numbers.new.keys)) }
+    ensures next { IfOk result (λ i. numbered_on (length numbers.old.keys) (i ∷ []) ≡ Some (length numbers.new.keys)) }
 {
     let (place, _) = numbers.insert_full(number)?;
     Ok(place as u64)
@@ -68,8 +69,9 @@ fn place(numbers: &mut IndexSet<u64>, number: u64) -> Result<u64, Memory>
 
 /// The kind with the place of its variable for its number.
 fn kind_place(kinds: &mut IndexSet<u64>, kind: KindTerm) -> Result<KindTerm, Memory>
-    ensures numbered { IfOk result (λ k. (ts : List ℕ) → IsNumbered ts kinds.old.keys ts kinds.new.keys (source_term kind) (source_term k)) }
-    ensures next { IfOk result (λ k. counted (length kinds.old.keys) (place_of k) ≡ Some (length kinds.new.keys)) }
+    ensures numbered { IfOk result (λ k. (ts : List ℕ)
+        → IsNumbered ts kinds.old.keys ts kinds.new.keys (source_term kind) (source_term k)) }
+    ensures next { IfOk result (λ k. numbered_on (length kinds.old.keys) (place_of k) ≡ Some (length kinds.new.keys)) }
 {
     match kind {
         KindTerm::Fixed(fixed) => Ok(KindTerm::Fixed(fixed)),
@@ -89,7 +91,8 @@ fn numbered(
     ty: &Ty,
     levels: u32,
 ) -> Result<Ty, Memory>
-    ensures { IfOk result (λ u. IsNumbered types.old.keys kinds.old.keys types.new.keys kinds.new.keys (term_of ty.now) (term_of u)) }
+    ensures { IfOk result (λ u. IsNumbered types.old.keys kinds.old.keys types.new.keys kinds.new.keys (term_of ty.now)
+        (term_of u)) }
 {
     let below = levels.checked_sub(1).ok_or(Memory)?;
     match ty {
@@ -129,7 +132,8 @@ fn all_numbered(
     tys: &[Ty],
     levels: u32,
 ) -> Result<Vec<Ty>, Memory>
-    ensures { IfOk result (λ us. AreNumbered types.old.keys kinds.old.keys types.new.keys kinds.new.keys (map term_of tys.now) (map term_of us.items)) }
+    ensures { IfOk result (λ us. AreNumbered types.old.keys kinds.old.keys types.new.keys kinds.new.keys
+        (map term_of tys.now) (map term_of us.items)) }
 {
     let mut places = Vec::new(alloc);
     for ty in tys {
@@ -172,7 +176,8 @@ fn opened(
     tys: &[Ty],
 ) -> Result<Vec<Ty>, Memory>
     requires over { AreAmong (length subst.now.types) (length subst.now.kinds) (map term_of tys.now) }
-    ensures { IfOk result (λ us. OpenMore subst.now types.old.keys kinds.old.keys types.new.keys kinds.new.keys (map term_of tys.now) (map term_of us.items)) }
+    ensures { IfOk result (λ us. OpenMore subst.now types.old.keys kinds.old.keys types.new.keys kinds.new.keys
+        (map term_of tys.now) (map term_of us.items)) }
 {
     let settled = all_resolved(alloc, subst, tys)?;
     all_numbered(alloc, types, kinds, &settled, MOST_LEVELS)
@@ -187,7 +192,8 @@ fn opened_one(
     ty: &Ty,
 ) -> Result<Ty, Memory>
     requires over { IsOver subst.now (term_of ty.now) }
-    ensures { IfOk result (λ u. OpensOne subst.now types.old.keys kinds.old.keys types.new.keys kinds.new.keys (term_of ty.now) (term_of u)) }
+    ensures { IfOk result (λ u. OpensOne subst.now types.old.keys kinds.old.keys types.new.keys kinds.new.keys
+        (term_of ty.now) (term_of u)) }
 {
     let settled = resolved(alloc, subst, ty)?;
     numbered(alloc, types, kinds, &settled, MOST_LEVELS)
@@ -202,8 +208,11 @@ fn push_places(
     sources: &[Ty],
 ) -> Result<(), Memory>
     requires { places.old.items ≡ [] }
-    ensures numbered { OnOk result ((ts : List ℕ) → AreNumbered ts kinds.old.keys ts kinds.new.keys (map term_of sources.now) (map source_term places.new.items)) }
-    ensures next { OnOk result (counted (length kinds.old.keys) (flat_map place_of places.new.items) ≡ Some (length kinds.new.keys)) }
+    ensures numbered { OnOk result ((ts : List ℕ)
+        → AreNumbered ts kinds.old.keys ts kinds.new.keys (map term_of sources.now)
+        (map source_term places.new.items)) }
+    ensures next { OnOk result (numbered_on (length kinds.old.keys) (flat_map place_of places.new.items)
+        ≡ Some (length kinds.new.keys)) }
 {
     for source in sources {
         match source {
@@ -228,8 +237,11 @@ fn push_opened_kinds(
 ) -> Result<(), Memory>
     requires over { AreAmong (length subst.now.types) (length subst.now.kinds) (map source_term given.now) }
     requires none { places.old.items ≡ [] }
-    ensures opened { OnOk result ((ts : List ℕ) → OpenMore subst.now ts kinds.old.keys ts kinds.new.keys (map source_term given.now) (map source_term places.new.items)) }
-    ensures next { OnOk result (counted (length kinds.old.keys) (flat_map place_of places.new.items) ≡ Some (length kinds.new.keys)) }
+    ensures opened { OnOk result ((ts : List ℕ)
+        → OpenMore subst.now ts kinds.old.keys ts kinds.new.keys (map source_term given.now)
+        (map source_term places.new.items)) }
+    ensures next { OnOk result (numbered_on (length kinds.old.keys) (flat_map place_of places.new.items)
+        ≡ Some (length kinds.new.keys)) }
 {
     let given = sources(alloc, given)?;
     let settled = all_resolved(alloc, subst, &given)?;

@@ -104,7 +104,8 @@ pub fn renew_both(
 ) -> Result<(), Memory>
     requires types { (k : ℕ) → is_held type_numbers.now k ≡ true → k < length subst.now.types }
     requires kinds { (k : ℕ) → is_held kind_numbers.now k ≡ true → k < length subst.now.kinds }
-    ensures { OnOk result (Renews subst.now type_numbers.now kind_numbers.now (held_of reached.old) (held_of reached.new)) }
+    ensures { OnOk result (Renews subst.now type_numbers.now kind_numbers.now (held_of reached.old)
+        (held_of reached.new)) }
 {
     renew_types(alloc, subst, reached, type_numbers)?;
     renew_kinds(subst, reached, kind_numbers)?;

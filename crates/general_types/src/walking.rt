@@ -43,7 +43,10 @@ fn push_bound<'a>(
     number: u64,
     bound: &'a Ty,
 ) -> Result<(), Memory>
-    ensures { OnOk result ((s : Table) → IsOver s (term_of bound.now) → bound_at s.types number ≡ Some (term_of bound.now) → Leads s (terms work.old.items ++ variable number ∷ []) (terms work.new.items) (held_of reached.old) (held_of reached.new)) }
+    ensures { OnOk result ((s : Table) → IsOver s (term_of bound.now)
+        → bound_at s.types number ≡ Some (term_of bound.now)
+        → Leads s (terms work.old.items ++ variable number
+        ∷ []) (terms work.new.items) (held_of reached.old) (held_of reached.new)) }
 {
     match bound {
         Ty::Var(_) => {
@@ -68,7 +71,8 @@ pub fn visit_variable<'a>(
     number: u64,
 ) -> Result<(), Memory>
     requires inside { number < length subst.now.types }
-    ensures { OnOk result (Leads subst.now (terms work.old.items ++ variable number ∷ []) (terms work.new.items) (held_of reached.old) (held_of reached.new)) }
+    ensures { OnOk result (Leads subst.now (terms work.old.items ++ variable number
+        ∷ []) (terms work.new.items) (held_of reached.old) (held_of reached.new)) }
 {
     subst.is_sound();
     match subst.bound(number) {
@@ -98,7 +102,8 @@ fn visit<'a>(
     ty: &'a Ty,
 ) -> Result<(), Memory>
     requires over { IsOver subst.now (term_of ty.now) }
-    ensures { OnOk result (Leads subst.now (terms work.old.items ++ term_of ty.now ∷ []) (terms work.new.items) (held_of reached.old) (held_of reached.new)) }
+    ensures { OnOk result (Leads subst.now (terms work.old.items ++ term_of ty.now
+        ∷ []) (terms work.new.items) (held_of reached.old) (held_of reached.new)) }
 {
     match ty {
         Ty::Var(number) => visit_variable(work, subst, reached, *number),

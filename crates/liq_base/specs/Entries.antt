@@ -18,8 +18,10 @@ entries (Lost' p name bytes left pieces next) = entries next
 -- what is told of each sink that was closed, the newest last
 abbrev pub closings : Closed → List Closing
 closings End = []
-closings (File' p name bytes left pieces next) = closings next ++ closing_of (string_bytes name) bytes.items left pieces ∷ []
-closings (Lost' p name bytes left pieces next) = closings next ++ closing_of (string_bytes name) bytes.items left pieces ∷ []
+closings (File' p name bytes left pieces next) = closings next ++ closing_of (string_bytes name) bytes.items left pieces
+    ∷ []
+closings (Lost' p name bytes left pieces next) = closings next ++ closing_of (string_bytes name) bytes.items left pieces
+    ∷ []
 
 abbrev pub stored : List ℕ → List (List ℕ × List ℕ) → Option (List ℕ)
 stored name [] = None
@@ -35,7 +37,8 @@ files_of closed given = from_entries (entries closed ++ given_entries given)
 found : (all : List (List ℕ × List ℕ)) (name : List ℕ) → find (slice_cmp nat_cmp) name all ≡ stored name all
 found [] name = refl
 found (e ∷ es) name =
-    ap (λ b. cond b (Some e.1) (find (slice_cmp nat_cmp) name es)) (sym (texts_ties name e.0)) ∙ ap (cond (bytes_eq name e.0) (Some e.1)) (found es name)
+    ap (λ b. cond b (Some e.1) (find (slice_cmp nat_cmp) name es)) (sym (texts_ties name e.0)) ∙ ap
+    (cond (bytes_eq name e.0) (Some e.1)) (found es name)
 
 -- the newest entry is the file
 pub stored_is_file : (all : List (List ℕ × List ℕ)) (name : List ℕ) → file_at (from_entries all) name ≡ stored name all
@@ -45,7 +48,9 @@ abbrev pub first_of : Option (List ℕ) → Option (List ℕ) → Option (List �
 first_of None other = other
 first_of (Some bytes) other = Some bytes
 
-pub stored_first : (a b : List (List ℕ × List ℕ)) (name : List ℕ) → stored name (a ++ b) ≡ first_of (stored name a) (stored name b)
+pub stored_first : (a b : List (List ℕ × List ℕ)) (name : List ℕ)
+    → stored name (a ++ b) ≡ first_of (stored name a) (stored name b)
 stored_first [] b name = refl
 stored_first (e ∷ a) b name =
-    elim (bytes_eq name e.0) as (λ t. cond t (Some e.1) (stored name (a ++ b)) ≡ first_of (cond t (Some e.1) (stored name a)) (stored name b)) [ true ↦ refl | false ↦ stored_first a b name ]
+    elim (bytes_eq name e.0) as (λ t. cond t (Some e.1) (stored name (a ++ b))
+    ≡ first_of (cond t (Some e.1) (stored name a)) (stored name b)) [ true ↦ refl | false ↦ stored_first a b name ]

@@ -30,9 +30,11 @@ HoldsPart files name bytes after =
 -- a sink that told this was closed: what its shelf told of its files before, and what it tells now
 abbrev pub Closed : SinkTold → (before after : Option Files) → Type 0
 Closed out before after =
-    ForSome before (λ files. ForSome out.name (λ name. ForSome out.held (λ bytes. after ≡ Some (with_file files name bytes))))
+    ForSome before (λ files. ForSome out.name (λ name. ForSome out.held (λ bytes. after
+    ≡ Some (with_file files name bytes))))
 
 -- the closing failed
 abbrev pub ClosedPart : SinkTold → (before after : Option Files) → Type 0
 ClosedPart out before after =
-    ForSome before (λ files. ForSome out.name (λ name. ForSome out.held (λ bytes. IsSomeAnd after (HoldsPart files name bytes))))
+    ForSome before (λ files. ForSome out.name
+    (λ name. ForSome out.held (λ bytes. IsSomeAnd after (HoldsPart files name bytes))))

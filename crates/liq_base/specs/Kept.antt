@@ -10,10 +10,18 @@ abbrev pub HoldsPartOr : Type 0 → Files → List ℕ → List ℕ → Files �
 HoldsPartOr cause files name bytes after =
     (cause × (after ≡ files)) ⊎ ((part : List ℕ) × IsPrefix part bytes × (after ≡ with_file files name part))
 
-caused : (cause : Type 0) (files : Files) (name h bytes : List ℕ) → cause → IsPrefix h bytes → (after : Files) → HoldsPart files name h after → HoldsPartOr cause files name bytes after
+caused : (cause : Type 0) (files : Files) (name h bytes : List ℕ) → cause → IsPrefix h bytes → (after : Files)
+    → HoldsPart files name h after → HoldsPartOr cause files name bytes after
 caused cause files name h bytes why p after (inl kept) = inl (why, kept)
 caused cause files name h bytes why p after (inr part) =
-    inr (part.0, record { rest = part.1.rest ++ p.rest; whole_is = p.whole_is ∙ ap (λ v. v ++ p.rest) part.1.whole_is ∙ append_assoc part.0 part.1.rest p.rest }, part.2)
+    inr (
+      part.0,
+      record {
+        rest = part.1.rest ++ p.rest;
+        whole_is = p.whole_is ∙ ap (λ v. v ++ p.rest) part.1.whole_is ∙ append_assoc part.0 part.1.rest p.rest;
+      },
+      part.2,
+    )
 
 -- what follows from what a told value is
 pub some_and : {A : Type 0} (o : Option A) (P Q : A → Type 0) → ((x : A) → P x → Q x) → IsSomeAnd o P → IsSomeAnd o Q
@@ -21,16 +29,19 @@ some_and None P Q f p = p
 some_and (Some x) P Q f p = f x p
 
 -- whatever a closing answered, the name holds a part of what was to be written, or what it held if the closing failed
-pub closed_part_or : {E : Type 0} (r : Result (Unit {0}) E) (cause : Type 0) (out : SinkTold) (before after : Option Files) (files : Files) (n h bytes : List ℕ)
+pub closed_part_or : {E : Type 0} (r : Result (Unit {0}) E) (cause : Type 0) (out : SinkTold)
+    (before after : Option Files) (files : Files) (n h bytes : List ℕ)
     → OnOk r (Closed out before after) → OnErr r (ClosedPart out before after) → OnErr r cause
-    → before ≡ Some files → out.name ≡ Some n → out.held ≡ Some h → IsPrefix h bytes → IsSomeAnd after (HoldsPartOr cause files n bytes)
+    → before ≡ Some files → out.name ≡ Some n → out.held ≡ Some h → IsPrefix h bytes
+    → IsSomeAnd after (HoldsPartOr cause files n bytes)
 closed_part_or (Ok x) cause out before after files n h bytes whole part why b m k p =
     subst (λ a. IsSomeAnd a (HoldsPartOr cause files n bytes)) (sym (whole files b n m h k)) (inr (h, p, refl))
 closed_part_or (Err x) cause out before after files n h bytes whole part why b m k p =
     some_and after _ _ (caused cause files n h bytes why p) (part files b n m h k)
 
 -- the cause seen from before and after other calls
-pub later_cause : (cause more : Type 0) (files : Files) (name bytes : List ℕ) (after : Files) → (cause → more) → HoldsPartOr cause files name bytes after → HoldsPartOr more files name bytes after
+pub later_cause : (cause more : Type 0) (files : Files) (name bytes : List ℕ) (after : Files) → (cause → more)
+    → HoldsPartOr cause files name bytes after → HoldsPartOr more files name bytes after
 later_cause cause more files name bytes after f (inl kept) = inl (f kept.0, kept.1)
 later_cause cause more files name bytes after f (inr part) = inr part
 

@@ -20,7 +20,8 @@ is_listed calls call = list_any (λ listed. listed == call) calls
 abbrev pub raised : ℕ → Bool → ℕ
 raised count failed = if failed then one_more count else count
 
--- the files, the names of the sinks that were made, and what is told of those that were closed, in their order; the reads, creations and closings so far; those that are listed to fail, and the appends; the two counts of faults
+-- the files, the names of the sinks that were made, and what is told of those that were closed, in their order; the
+-- reads, creations and closings so far; those that are listed to fail, and the appends; the two counts of faults
 pub record ShelfState : Type 0 where
   pub files : Files
   pub created : List (List ℕ)
@@ -39,22 +40,40 @@ abbrev pub files_code : Coded Files
 files_code = map.code (coded_list coded_ℕ) (coded_list coded_ℕ)
 
 abbrev closing_code : Coded Closing
-closing_code = code_by (List ℕ × (ℕ × (ℕ × ℕ))) (coded× (coded_list coded_ℕ) (coded× coded_ℕ (coded× coded_ℕ coded_ℕ))) (λ c. (c.name, (c.room, (c.bytes, c.pieces)))) (λ p. record { name = p.0; room = p.1.0; bytes = p.1.1.0; pieces = p.1.1.1 }) (λ _. refl)
+closing_code = code_by (List ℕ
+    × (ℕ × (ℕ × ℕ))) (coded× (coded_list coded_ℕ) (coded× coded_ℕ (coded× coded_ℕ coded_ℕ)))
+    (λ c. (c.name, (c.room, (c.bytes, c.pieces)))) (λ p. record {
+      name = p.0;
+      room = p.1.0;
+      bytes = p.1.1.0;
+      pieces = p.1.1.1;
+    }) (λ _. refl)
 
 abbrev append_code : Coded FailingAppend
-append_code = code_by (ℕ × (ℕ × ℕ)) (coded× coded_ℕ (coded× coded_ℕ coded_ℕ)) (λ f. (f.sink, (f.call, f.taken))) (λ p. record { sink = p.0; call = p.1.0; taken = p.1.1 }) (λ _. refl)
+append_code = code_by (ℕ
+    × (ℕ × ℕ)) (coded× coded_ℕ (coded× coded_ℕ coded_ℕ)) (λ f. (f.sink, (f.call, f.taken))) (λ p. record {
+      sink = p.0;
+      call = p.1.0;
+      taken = p.1.1;
+    }) (λ _. refl)
 
 -- a shelf is stored as its files, the calls made, those listed, and the counts of faults
 abbrev pub shelf_code : Coded ShelfState
 shelf_code =
-    code_by ((Files × (List (List ℕ) × List Closing)) × ((ℕ × (ℕ × ℕ)) × ((List ℕ × (List ℕ × (List ℕ × List FailingAppend))) × (ℕ × ℕ))))
-    (coded× (coded× files_code (coded× (coded_list (coded_list coded_ℕ)) (coded_list closing_code))) (coded× (coded× coded_ℕ (coded× coded_ℕ coded_ℕ))
-    (coded× (coded× (coded_list coded_ℕ) (coded× (coded_list coded_ℕ) (coded× (coded_list coded_ℕ) (coded_list append_code)))) (coded× coded_ℕ coded_ℕ))))
+    code_by ((Files × (List (List ℕ) × List Closing))
+    × ((ℕ × (ℕ × ℕ)) × ((List ℕ × (List ℕ × (List ℕ × List FailingAppend))) × (ℕ × ℕ))))
+    (coded× (coded× files_code (coded× (coded_list (coded_list coded_ℕ)) (coded_list closing_code)))
+    (coded× (coded× coded_ℕ (coded× coded_ℕ coded_ℕ))
+    (coded× (coded× (coded_list coded_ℕ)
+    (coded× (coded_list coded_ℕ) (coded× (coded_list coded_ℕ) (coded_list append_code)))) (coded× coded_ℕ coded_ℕ))))
     (λ s. (
       (s.files, (s.created, s.closed)),
       (
         (s.reads, (s.creates, s.closes)),
-        ((s.failing_reads, (s.failing_creates, (s.failing_closes, s.failing_appends))), (s.read_faults, s.write_faults)),
+        (
+          (s.failing_reads, (s.failing_creates, (s.failing_closes, s.failing_appends))),
+          (s.read_faults, s.write_faults),
+        ),
       ),
     ))
     (λ p. record {
@@ -124,7 +143,10 @@ read_answer shelf name most = if read_fails shelf then Err Failed else Ok (fetch
 
 -- the shelf after a read
 abbrev pub after_read : ShelfState → ShelfState
-after_read shelf = record shelf { reads = one_more shelf.reads; read_faults = raised shelf.read_faults (read_fails shelf) }
+after_read shelf = record shelf {
+  reads = one_more shelf.reads;
+  read_faults = raised shelf.read_faults (read_fails shelf);
+}
 
 -- the shelf after a creation that made the sinks of these names: one, or none
 abbrev pub after_create : ShelfState → List (List ℕ) → ShelfState
@@ -140,7 +162,10 @@ appends_of sink fails = map (λ fail. (fail.call, fail.taken)) (filter (λ fail.
 
 -- the sink that a creation makes
 abbrev pub created_sink : ShelfState → List ℕ → ℕ → NamedState
-created_sink shelf name room = record { name = name; sink = empty_sink room (appends_of shelf.creates shelf.failing_appends) }
+created_sink shelf name room = record {
+  name = name;
+  sink = empty_sink room (appends_of shelf.creates shelf.failing_appends);
+}
 
 -- the files after a closing that failed or did not
 abbrev pub files_after : Bool → Files → NamedState → Files

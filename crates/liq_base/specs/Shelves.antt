@@ -5,7 +5,8 @@ use Rattle.liq_base.specs.Counts.{Rose}
 use Rattle.liq_base.specs.Pieces.{SinkTold}
 use Rattle.liq_base.specs.Files.{Files}
 
--- what is told of a sink that was closed: its name, for how many bytes it was created, how many it held, and how many pieces it had got
+-- what is told of a sink that was closed: its name, for how many bytes it was created, how many it held, and how many
+-- pieces it had got
 pub record Closing : Type 0 where
   pub name : List ℕ
   pub room : ℕ
@@ -14,10 +15,16 @@ pub record Closing : Type 0 where
 
 -- that of a sink of this name, which holds these bytes, takes so many more and got so many pieces
 abbrev pub closing_of : (name held : List ℕ) → (left pieces : ℕ) → Closing
-closing_of name held left pieces = record { name = name; room = length held + left; bytes = length held; pieces = pieces }
+closing_of name held left pieces = record {
+  name = name;
+  room = length held + left;
+  bytes = length held;
+  pieces = pieces;
+}
 
--- The files, the names of the sinks that were made and what is told of those that were closed, in their order and also where a closing
--- failed, each where it is told; how often a read failed, and how often a creation or a closing failed or a sink that had failed was closed.
+-- The files, the names of the sinks that were made and what is told of those that were closed, in their order and also
+-- where a closing failed, each where it is told; how often a read failed, and how often a creation or a closing failed
+-- or a sink that had failed was closed.
 pub record ShelfTold : Type 0 where
   pub files : Option Files
   pub created : Option (List (List ℕ))
@@ -53,8 +60,8 @@ pub record TellsAll (out : SinkTold) : Type 0 where
   pub room : IsSome out.room
   pub appends : IsSome out.appends
 
--- an empty sink of this name, with room for so many bytes, as a shelf that told this makes it: where it tells its files, the sink tells
--- its name and bytes, and where it tells its closings, all that they tell of it
+-- an empty sink of this name, with room for so many bytes, as a shelf that told this makes it: where it tells its
+-- files, the sink tells its name and bytes, and where it tells its closings, all that they tell of it
 pub record IsFresh (name : List ℕ) (room : ℕ) (shelf : ShelfTold) (out : SinkTold) : Type 0 where
   pub named : ForSome out.name (λ told. told ≡ name)
   pub empty : ForSome out.held (λ told. told ≡ [])
@@ -67,7 +74,8 @@ pub record IsFresh (name : List ℕ) (room : ℕ) (shelf : ShelfTold) (out : Sin
 -- what is told of closings, after that of a sink that told this
 abbrev pub Lists : SinkTold → (before after : Option (List Closing)) → Type 0
 Lists out before after =
-    ForSome out.name (λ name. ForSome out.held (λ held. ForSome out.room (λ left. ForSome out.appends (λ pieces. after ≡ noted (closing_of name held left pieces) before))))
+    ForSome out.name (λ name. ForSome out.held (λ held. ForSome out.room (λ left. ForSome out.appends (λ pieces. after
+    ≡ noted (closing_of name held left pieces) before))))
 
 -- a sink that told this was closed, whatever was answered, and none made
 pub record OnlyClosed (out : SinkTold) (old new : ShelfTold) : Type 0 where

@@ -53,7 +53,13 @@ appended sink piece = record {
 
 -- what such a sink tells: no name, and no room
 abbrev pub sink_told : SinkState → SinkTold
-sink_told sink = record { held = Some sink.held; name = None; room = None; appends = Some sink.calls; faults = sink.faults }
+sink_told sink = record {
+  held = Some sink.held;
+  name = None;
+  room = None;
+  appends = Some sink.calls;
+  faults = sink.faults;
+}
 
 -- a sink that a shelf in memory made, with its name
 pub record NamedState : Type 0 where
@@ -78,4 +84,10 @@ pub record SureState : Type 0 where
 
 -- what it tells: of its pieces nothing
 abbrev pub sure_told : SureState → SinkTold
-sure_told sure = record { held = Some sure.held; name = Some sure.name; room = Some (sure.room - length sure.held); appends = None; faults = 0 }
+sure_told sure = record {
+  held = Some sure.held;
+  name = Some sure.name;
+  room = Some (sure.room - length sure.held);
+  appends = None;
+  faults = 0;
+}

@@ -1,4 +1,5 @@
-// The sinks that were closed, the newest first, those whose closing failed among them. Each takes over the memory of the sink that it was.
+// The sinks that were closed, the newest first, those whose closing failed among them. Each takes over the memory of
+// the sink that it was.
 ghost use Rattle.std.specs.Prelude.{◌≡◌, ◌≢◌, ◌<◌, length, MatchOption, IsSomeAnd, None, Some, Ok, Err};
 ghost use Rattle.std.specs.Option.{ForSome};
 ghost use Rattle.liq_base.specs.Entries.{entries, stored, given_entries, files_of};
@@ -82,11 +83,17 @@ pub(crate) fn fetch_file(
     into: &mut Vec<u8>,
     most: u64,
 ) -> Result<Fetched, ShelfFault>
-    ensures answer { result ≢ Err ShelfFault.Memory → result ≡ Ok (fetched (file_at (files_of closed.now given.now) name.now) most) }
-    ensures memory { result ≡ Err ShelfFault.Memory → fetched (file_at (files_of closed.now given.now) name.now) most ≡ Fetched.Found }
-    ensures found { result ≡ Ok Fetched.Found → Found (Some (files_of closed.now given.now)) name.now most into.old.items into.new.items }
-    ensures missing { result ≡ Ok Fetched.Missing → ForSome (Some (files_of closed.now given.now)) (λ files. file_at files name.now ≡ None) }
-    ensures too_large { result ≡ Ok Fetched.TooLarge → ForSome (Some (files_of closed.now given.now)) (λ files. IsSomeAnd (file_at files name.now) (λ bytes. most < length bytes)) }
+    ensures answer { result ≢ Err ShelfFault.Memory
+        → result ≡ Ok (fetched (file_at (files_of closed.now given.now) name.now) most) }
+    ensures memory { result ≡ Err ShelfFault.Memory
+        → fetched (file_at (files_of closed.now given.now) name.now) most ≡ Fetched.Found }
+    ensures found { result ≡ Ok Fetched.Found
+        → Found (Some (files_of closed.now given.now)) name.now most into.old.items into.new.items }
+    ensures missing { result ≡ Ok Fetched.Missing
+        → ForSome (Some (files_of closed.now given.now)) (λ files. file_at files name.now ≡ None) }
+    ensures too_large { result ≡ Ok Fetched.TooLarge
+        → ForSome (Some (files_of closed.now given.now)) (λ files. IsSomeAnd (file_at files name.now) (λ bytes. most
+        < length bytes)) }
     ensures otherwise { result ≢ Ok Fetched.Found → into.new.items ≡ into.old.items }
 {
     let Some(bytes) = find_file(closed, given, name) else {

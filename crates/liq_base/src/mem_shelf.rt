@@ -16,8 +16,8 @@ use std::alloc::Global;
 use std::marker::Model;
 use std::mem;
 
-/// A shelf in memory. It tells its files, the names of the sinks that it made, and which it closed; its sinks tell their
-/// bytes, name, room left and number of appends.
+/// A shelf in memory. It tells its files, the names of the sinks that it made, and which it closed; its sinks tell
+/// their bytes, name, room left and number of appends.
 ///
 /// Reads, creations and closings are each counted from 0 since the shelf was made, the appends of
 /// a sink from 0 since its creation. A call fails exactly where it is listed. The read count rises
@@ -99,7 +99,10 @@ impl MemShelf {
 
     /// Lists a read that fails, by its number.
     pub fn fail_read(&mut self, call: u64) -> Result<(), Memory>
-        ensures listed { OnOk result (self.new ≡ record self.old { failing_reads = self.old.failing_reads ++ call ∷ [] }) }
+        ensures listed { OnOk result (self.new ≡ record self.old {
+          failing_reads = self.old.failing_reads ++ call
+              ∷ [];
+        }) }
         ensures unchanged { OnErr result (self.new ≡ self.old) }
     {
         self.failing_reads.push(call)?;
@@ -108,7 +111,10 @@ impl MemShelf {
 
     /// Lists a creation that fails, by its number.
     pub fn fail_create(&mut self, call: u64) -> Result<(), Memory>
-        ensures listed { OnOk result (self.new ≡ record self.old { failing_creates = self.old.failing_creates ++ call ∷ [] }) }
+        ensures listed { OnOk result (self.new ≡ record self.old {
+          failing_creates = self.old.failing_creates ++ call
+              ∷ [];
+        }) }
         ensures unchanged { OnErr result (self.new ≡ self.old) }
     {
         self.failing_creates.push(call)?;
@@ -117,7 +123,10 @@ impl MemShelf {
 
     /// Lists a closing that fails, by its number.
     pub fn fail_close(&mut self, call: u64) -> Result<(), Memory>
-        ensures listed { OnOk result (self.new ≡ record self.old { failing_closes = self.old.failing_closes ++ call ∷ [] }) }
+        ensures listed { OnOk result (self.new ≡ record self.old {
+          failing_closes = self.old.failing_closes ++ call
+              ∷ [];
+        }) }
         ensures unchanged { OnErr result (self.new ≡ self.old) }
     {
         self.failing_closes.push(call)?;
@@ -127,7 +136,10 @@ impl MemShelf {
     /// Lists an append that fails after `taken` bytes: call number `call` of the sink that creation
     /// number `sink` makes. A sink takes its list over when it is made.
     pub fn fail_append(&mut self, sink: u32, call: u64, taken: u64) -> Result<(), Memory>
-        ensures listed { OnOk result (self.new ≡ record self.old { failing_appends = self.old.failing_appends ++ (record { sink = sink; call = call; taken = taken }) ∷ [] }) }
+        ensures listed { OnOk result (self.new ≡ record self.old {
+          failing_appends = self.old.failing_appends
+              ++ (record { sink = sink; call = call; taken = taken }) ∷ [];
+        }) }
         ensures unchanged { OnErr result (self.new ≡ self.old) }
     {
         self.failing_appends
@@ -177,9 +189,13 @@ impl Shelf for MemShelf {
         ensures next { self.new ≡ after_read self.old }
         ensures answer { result ≢ Err ShelfFault.Memory → result ≡ read_answer self.old name.now most }
         ensures memory { result ≡ Err ShelfFault.Memory → read_answer self.old name.now most ≡ Ok Fetched.Found }
-        ensures found { result ≡ Ok Fetched.Found → Found (Some self.old.files) name.now most into.old.items into.new.items }
-        ensures missing { result ≡ Ok Fetched.Missing → ForSome (Some self.old.files) (λ files. file_at files name.now ≡ None) }
-        ensures too_large { result ≡ Ok Fetched.TooLarge → ForSome (Some self.old.files) (λ files. IsSomeAnd (file_at files name.now) (λ bytes. most < length bytes)) }
+        ensures found { result ≡ Ok Fetched.Found
+            → Found (Some self.old.files) name.now most into.old.items into.new.items }
+        ensures missing { result ≡ Ok Fetched.Missing
+            → ForSome (Some self.old.files) (λ files. file_at files name.now ≡ None) }
+        ensures too_large { result ≡ Ok Fetched.TooLarge
+            → ForSome (Some self.old.files) (λ files. IsSomeAnd (file_at files name.now) (λ bytes. most
+            < length bytes)) }
         ensures otherwise { result ≢ Ok Fetched.Found → into.new.items ≡ into.old.items }
         ensures cause { IsErrOf result ShelfFault.Failed → Rose self.old.read_faults self.new.read_faults }
         ensures shelf { OnlyRead (shelf_told self.old) (shelf_told self.new) }

@@ -1,6 +1,6 @@
 // A byte sink in memory, with room for so many bytes, that fails where it is told to.
 ghost use Rattle.std.specs.Prelude.{◌≡◌, ◌-◌, length, is_ok, is_none, IfOk, OnOk, OnErr};
-ghost use Rattle.liq_base.specs.Pieces.{Took, TookPart};
+ghost use Rattle.liq_base.specs.Pieces.{TookPiece, TookPart};
 ghost use Rattle.liq_base.specs.SinkStates.{appended, stops, stop, listed, empty_sink, sink_told};
 
 use crate::{Failed, Memory, Sink};
@@ -26,7 +26,13 @@ impl Model for MemSink {
 
     ghost Value = { SinkState };
 
-    ghost view = { λ s. record { held = s.bytes.items; room = s.room; fails = s.fails.items; calls = s.calls; faults = s.faults } };
+    ghost view = { λ s. record {
+      held = s.bytes.items;
+      room = s.room;
+      fails = s.fails.items;
+      calls = s.calls;
+      faults = s.faults;
+    } };
 
     ghost invariant = { λ s. (vec_len s.bytes ≤ s.room) × (s.room ≤ vec_capacity s.bytes) };
 }
@@ -116,7 +122,7 @@ impl Sink for MemSink {
     fn append(&mut self, piece: &[u8]) -> Result<(), Failed>
         ensures next { self.new ≡ appended self.old piece.now }
         ensures answer { is_ok result ≡ is_none (stops self.old piece.now) }
-        ensures took { OnOk result (Took piece.now (sink_told self.old) (sink_told self.new)) }
+        ensures took { OnOk result (TookPiece piece.now (sink_told self.old) (sink_told self.new)) }
         ensures part { OnErr result (TookPart piece.now (sink_told self.old) (sink_told self.new)) }
     {
         let stop = stop_at(

@@ -1,6 +1,6 @@
 // A sink of a shelf in memory.
 ghost use Rattle.std.specs.Prelude.{◌≡◌, ◌-◌, length, IfOk, OnOk, OnErr, is_ok, is_none, string_bytes};
-ghost use Rattle.liq_base.specs.Pieces.{HasRoom, Took, TookPart};
+ghost use Rattle.liq_base.specs.Pieces.{HasRoom, TookPiece, TookPart};
 ghost use Rattle.liq_base.specs.SinkStates.{appended, listed, empty_sink, named_told};
 
 use crate::closed::{Closed, Entry};
@@ -76,7 +76,7 @@ impl Sink for NamedSink {
         requires { HasRoom (named_told self.old).room (length piece.now) }
         ensures next { self.new ≡ record self.old { sink = appended self.old.sink piece.now } }
         ensures answer { is_ok result ≡ is_none (listed self.old.sink.fails self.old.sink.calls) }
-        ensures took { OnOk result (Took piece.now (named_told self.old) (named_told self.new)) }
+        ensures took { OnOk result (TookPiece piece.now (named_told self.old) (named_told self.new)) }
         ensures part { OnErr result (TookPart piece.now (named_told self.old) (named_told self.new)) }
     {
         self.sink.append(piece)

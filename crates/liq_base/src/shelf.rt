@@ -61,9 +61,13 @@ pub trait Shelf {
     /// Adds the bytes of the file to `into`, if it has at most `most`; any answer but `Found` leaves
     /// `into` as it was.
     fn read(&mut self, name: &str, into: &mut Vec<u8>, most: u64) -> Result<Fetched, ShelfFault>
-        ensures found { result ≡ Ok Fetched.Found → Found (told self.old).files name.now most into.old.items into.new.items }
-        ensures missing { result ≡ Ok Fetched.Missing → ForSome (told self.old).files (λ files. file_at files name.now ≡ None) }
-        ensures too_large { result ≡ Ok Fetched.TooLarge → ForSome (told self.old).files (λ files. IsSomeAnd (file_at files name.now) (λ bytes. most < length bytes)) }
+        ensures found { result ≡ Ok Fetched.Found
+            → Found (told self.old).files name.now most into.old.items into.new.items }
+        ensures missing { result ≡ Ok Fetched.Missing
+            → ForSome (told self.old).files (λ files. file_at files name.now ≡ None) }
+        ensures too_large { result ≡ Ok Fetched.TooLarge
+            → ForSome (told self.old).files (λ files. IsSomeAnd (file_at files name.now) (λ bytes. most
+            < length bytes)) }
         ensures otherwise { result ≢ Ok Fetched.Found → into.new.items ≡ into.old.items }
         ensures cause { IsErrOf result ShelfFault.Failed → Rose (told self.old).reads (told self.new).reads }
         ensures shelf { OnlyRead (told self.old) (told self.new) };

@@ -1,6 +1,6 @@
 // A byte sink.
 ghost use Rattle.std.specs.Prelude.{length, OnOk, OnErr};
-ghost use Rattle.liq_base.specs.Pieces.{HasRoom, SinkTold, Took, TookPart};
+ghost use Rattle.liq_base.specs.Pieces.{HasRoom, SinkTold, TookPiece, TookPart};
 
 use std::fmt;
 
@@ -18,13 +18,14 @@ impl std::error::Error for Failed {}
 
 /// Takes bytes, piece by piece. It takes no memory. The rules stand in `docs/shelves.md`.
 pub trait Sink {
-    /// What it tells of itself. No call changes which of its facts are told, nor its name, and its count of faults never falls.
+    /// What it tells of itself. No call changes which of its facts are told, nor its name, and its count of faults
+    /// never falls.
     ghost told: { Self → SinkTold };
 
-    /// Adds the piece to the bytes held. After `Failed` it holds a prefix of the piece more. A piece that failed is counted too.
-    /// Where the room is told, the piece must fit in it.
+    /// Adds the piece to the bytes held. After `Failed` it holds a prefix of the piece more. A piece that failed is
+    /// counted too. Where the room is told, the piece must fit in it.
     fn append(&mut self, piece: &[u8]) -> Result<(), Failed>
         requires { HasRoom (told self.old).room (length piece.now) }
-        ensures took { OnOk result (Took piece.now (told self.old) (told self.new)) }
+        ensures took { OnOk result (TookPiece piece.now (told self.old) (told self.new)) }
         ensures part { OnErr result (TookPart piece.now (told self.old) (told self.new)) };
 }

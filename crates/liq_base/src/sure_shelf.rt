@@ -69,8 +69,10 @@ impl Shelf for SureShelf {
         ensures answer { result ≢ Err ShelfFault.Memory → result ≡ Ok (fetched (file_at self.old name.now) most) }
         ensures memory { result ≡ Err ShelfFault.Memory → fetched (file_at self.old name.now) most ≡ Fetched.Found }
         ensures found { result ≡ Ok Fetched.Found → Found (Some self.old) name.now most into.old.items into.new.items }
-        ensures missing { result ≡ Ok Fetched.Missing → ForSome (Some self.old) (λ files. file_at files name.now ≡ None) }
-        ensures too_large { result ≡ Ok Fetched.TooLarge → ForSome (Some self.old) (λ files. IsSomeAnd (file_at files name.now) (λ bytes. most < length bytes)) }
+        ensures missing { result ≡ Ok Fetched.Missing
+            → ForSome (Some self.old) (λ files. file_at files name.now ≡ None) }
+        ensures too_large { result ≡ Ok Fetched.TooLarge
+            → ForSome (Some self.old) (λ files. IsSomeAnd (file_at files name.now) (λ bytes. most < length bytes)) }
         ensures otherwise { result ≢ Ok Fetched.Found → into.new.items ≡ into.old.items }
     {
         fetch_file(&self.closed, &self.given, name, into, most)

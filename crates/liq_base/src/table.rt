@@ -6,8 +6,8 @@ use crate::Memory;
 use std::alloc::Global;
 use std::marker::Model;
 
-/// Values by the indexes of tokens, with a place of four bytes for each token up to the last that has a value. Contracts see
-/// the list of these places, each with its value.
+/// Values by the indexes of tokens, with a place of four bytes for each token up to the last that has a value.
+/// Contracts see the list of these places, each with its value.
 #[derive(Drop)]
 pub struct TokenTable<T> {
     // For each token 0 where it has no value, and otherwise how many values there were with its own: `place` names
@@ -51,7 +51,8 @@ impl<T: Copy> TokenTable<T> {
 
     /// Gives the token at an index this value, in place of any that it had. Where memory runs out no value changes.
     pub fn put(&mut self, at: u32, value: T) -> Result<(), Memory>
-        ensures put { OnOk result ((t : ℕ) → at_token t self.new ≡ cond (nat_eq at t) (Some value) (at_token t self.old)) }
+        ensures put { OnOk result ((t : ℕ) → at_token t self.new
+            ≡ cond (nat_eq at t) (Some value) (at_token t self.old)) }
         ensures err { OnErr result ((t : ℕ) → at_token t self.new ≡ at_token t self.old) }
     {
         self.values.reserve(1)?;

@@ -13,10 +13,13 @@ use Rattle.station_jobs.specs.Words.{Replay}
 abbrev pub again : Station → TraceValue → Station
 again station trace = record station { way = Again trace; trace = None; cues = false }
 
--- Over these files the verdict on a replay by the trace in the file of this name is a station, and whatever record it has, its outputs and
--- its report are those of the run.
-pub record IsRenderedAgain (files : Files) (file name : List ℕ) (station : Station) (trace : TraceValue) (run : Run) : Type 0 where
+-- Over these files the verdict on a replay by the trace in the file of this name is a station, and whatever record it
+-- has, its outputs and its report are those of the run.
+pub record IsRenderedAgain (files : Files) (file name : List ℕ) (station : Station) (trace : TraceValue)
+    (run : Run) : Type 0 where
   pub verdict : IsStation (Replay file station.start station.ticks name) files (again station trace)
   pub one : (other : Run) → IsLawful (again station trace) other → other ≡ run
-  pub outputs_are : (other : Run) → IsLawful (again station trace) other → output_files (again station trace) other ≡ output_files station run
-  pub report_is : (other : Run) → IsLawful (again station trace) other → report_of (again station trace) other ≡ report_of station run
+  pub outputs_are : (other : Run) → IsLawful (again station trace) other
+      → output_files (again station trace) other ≡ output_files station run
+  pub report_is : (other : Run) → IsLawful (again station trace) other
+      → report_of (again station trace) other ≡ report_of station run

@@ -2,7 +2,7 @@
 use Rattle.std.specs.Prelude.{◌≡◌, ◌≤◌, ◌⊎◌, ℕ, List, true, Some}
 use Rattle.std.specs.Option.{ForSome}
 use Rattle.liq_base.specs.Counts.{Rose}
-use Rattle.liq_base.specs.Pieces.{SinkTold, Took, TookPart}
+use Rattle.liq_base.specs.Pieces.{SinkTold, TookPiece, TookPart}
 use Rattle.liq_base.specs.Files.{Files}
 use Rattle.liq_base.specs.Shelves.{OnlyRead, ShelfTold}
 use Rattle.refusal_lines.specs.declared.fault.Fault.{Fault}
@@ -34,14 +34,14 @@ ForFiles words shelf P = ForSome shelf.files (λ files. ForVerdict words files (
 -- status 0: `out` got the report in one piece
 pub record ReportSaid (words : List (List ℕ)) (old new : Outside) : Type 0 where
   pub report : List ℕ
-  pub said : Took report old.out new.out
+  pub said : TookPiece report old.out new.out
   pub done : ForFiles words old.shelf (λ files verdict. IsDone verdict files old.shelf new.shelf report)
   pub err_kept : new.err ≡ old.err
 
 -- status 1: `err` got the line of the fault in one piece
 pub record LineSaid (words : List (List ℕ)) (old new : Outside) : Type 0 where
   pub fault : Fault
-  pub said : Took (line_of fault) old.err new.err
+  pub said : TookPiece (line_of fault) old.err new.err
   pub refused : ForFiles words old.shelf (λ files verdict. verdict ≡ Refused fault)
   pub shelf_read : OnlyRead old.shelf new.shelf
   pub out_kept : new.out ≡ old.out
@@ -49,7 +49,7 @@ pub record LineSaid (words : List (List ℕ)) (old new : Outside) : Type 0 where
 -- status 2: `err` got the usage line in one piece
 pub record UsageSaid (words : List (List ℕ)) (old new : Outside) : Type 0 where
   pub no_form : HasNoForm words
-  pub said : Took usage_line old.err new.err
+  pub said : TookPiece usage_line old.err new.err
   pub shelf_kept : new.shelf ≡ old.shelf
   pub out_kept : new.out ≡ old.out
 
@@ -90,11 +90,13 @@ pub record RenderingBroke (words : List (List ℕ)) (old new : Outside) : Type 0
   pub err_kept : new.err ≡ old.err
 
 abbrev pub WriteFailed : (words : List (List ℕ)) → (old new : Outside) → Type 0
-WriteFailed words old new = UsageBroke words old new ⊎ LineBroke words old new ⊎ ReportBroke words old new ⊎ RenderingBroke words old new
+WriteFailed words old new = UsageBroke words old new ⊎ LineBroke words old new ⊎ ReportBroke words old new
+    ⊎ RenderingBroke words old new
 
 -- status 5: memory was refused
 pub record NoMemory (words : List (List ℕ)) (old new : Outside) : Type 0 where
-  pub starved : ForSome old.shelf.files (λ files. ForEachVerdict words files (λ verdict. IsStarved verdict files old.shelf new.shelf))
+  pub starved : ForSome old.shelf.files
+      (λ files. ForEachVerdict words files (λ verdict. IsStarved verdict files old.shelf new.shelf))
   pub out_kept : new.out ≡ old.out
   pub err_kept : new.err ≡ old.err
 
@@ -128,13 +130,14 @@ Completes Usage status = status ≡ 2
 abbrev pub HasVerdict : List (List ℕ) → Files → Type 0
 HasVerdict words files = (verdict : Verdict) × IsVerdict words files verdict
 
--- Where no count rose, memory was refused or there is a verdict; and each verdict is the status, unless memory was refused.
+-- Where no count rose, memory was refused or there is a verdict; and each verdict is the status, unless memory was
+-- refused.
 abbrev pub IsComplete : List (List ℕ) → Outside → Outside → ℕ → Type 0
 IsComplete words old new status = Calm old new → ForSome old.shelf.files (λ files.
     ((status ≡ 5) ⊎ HasVerdict words files) × ForEachVerdict words files (λ verdict. Completes verdict status))
 
--- A call that rests on no file and no device of the shelf: it ends as over any files and a shelf that never fails. So it never ends with 3,
--- and with 4 only where `out` or `err` failed.
+-- A call that rests on no file and no device of the shelf: it ends as over any files and a shelf that never fails. So
+-- it never ends with 3, and with 4 only where `out` or `err` failed.
 pub record EndsApart (words : List (List ℕ)) (old new : Outside) (status : ℕ) : Type 0 where
   pub ends : (files : Files) → Ends words (over files old) (over files new) status
   pub complete : (files : Files) → IsComplete words (over files old) (over files new) status

@@ -15,28 +15,38 @@ ghost use Rattle.station_jobs.specs.Verdicts.{IsPrepared};
 
 /// A run by threads that wrote a trace left it under its name.
 pub fn runs_leave_their_trace()
-    ensures { (files : Files) (station : Station) (old new : ShelfTold) (report : List ℕ) (window : ℕ) (name : List ℕ) → (wrote : Wrote station files old new report)
+    ensures { (files : Files) (station : Station) (old new : ShelfTold) (report : List ℕ) (window : ℕ) (name : List ℕ)
+        → (wrote : Wrote station files old new report)
         → station.way ≡ InWindows window → station.trace ≡ Some name
-        → IsSomeAnd new.files (λ later. file_at later name ≡ Some (trace_text (trace_of window station.ticks wrote.run))) }
+        → IsSomeAnd new.files (λ later. file_at later name
+        ≡ Some (trace_text (trace_of window station.ticks wrote.run))) }
 {}
 
-/// A run by threads whose trace is accepted is rendered again by that trace, to the same outputs and the same report: over all files that
-/// hold the trace, which has at most 268435456 bytes, and in which the script has the same plan, audio files and clocks.
+/// A run by threads whose trace is accepted is rendered again by that trace, to the same outputs and the same report:
+/// over all files that hold the trace, which has at most 268435456 bytes, and in which the script has the same plan,
+/// audio files and clocks.
 pub fn accepted_runs_are_rendered_again()
-    ensures { (files : Files) (file name : List ℕ) (station : Station) (window : ℕ) (run : Run) → station.way ≡ InWindows window → 1 ≤ window → window ≤ 10 ^ 6
-        → IsFit station.plan station.library station.clocks station.ticks → station.start < 604800 → IsLawful station run
+    ensures { (files : Files) (file name : List ℕ) (station : Station) (window : ℕ) (run : Run)
+        → station.way ≡ InWindows window → 1 ≤ window → window ≤ 10 ^ 6
+        → IsFit station.plan station.library station.clocks station.ticks → station.start < 604800
+        → IsLawful station run
         → IsAccepted (bare station) station.clocks.running station.ticks (trace_of window station.ticks run)
-        → HasText files name (trace_text (trace_of window station.ticks run)) → IsPrepared files file None false station.ticks station.plan station.library station.clocks
+        → HasText files name (trace_text (trace_of window station.ticks run))
+        → IsPrepared files file None false station.ticks station.plan station.library station.clocks
         → IsRenderedAgain files file name station (trace_of window station.ticks run) run }
 {
     trace_replay::laws::replays_are_of_the_run();
 }
 
-/// So is each run by threads where the main clocks can be listed so that each buffer that joins two of them leads to a later one.
+/// So is each run by threads where the main clocks can be listed so that each buffer that joins two of them leads to a
+/// later one.
 pub fn onward_runs_are_rendered_again()
-    ensures { (files : Files) (file name : List ℕ) (station : Station) (window : ℕ) (run : Run) (listing : List ℕ) → station.way ≡ InWindows window → 1 ≤ window → window ≤ 10 ^ 6
-        → IsFit station.plan station.library station.clocks station.ticks → station.start < 604800 → IsLawful station run → LeadOnward (bare station) station.clocks.running listing
-        → HasText files name (trace_text (trace_of window station.ticks run)) → IsPrepared files file None false station.ticks station.plan station.library station.clocks
+    ensures { (files : Files) (file name : List ℕ) (station : Station) (window : ℕ) (run : Run) (listing : List ℕ)
+        → station.way ≡ InWindows window → 1 ≤ window → window ≤ 10 ^ 6
+        → IsFit station.plan station.library station.clocks station.ticks → station.start < 604800
+        → IsLawful station run → LeadOnward (bare station) station.clocks.running listing
+        → HasText files name (trace_text (trace_of window station.ticks run))
+        → IsPrepared files file None false station.ticks station.plan station.library station.clocks
         → IsRenderedAgain files file name station (trace_of window station.ticks run) run }
 {
     trace_replay::laws::onward_traces_are_accepted();

@@ -7,22 +7,22 @@ use Rattle.script_grammar.specs.declared.tree.Param.{Param}
 use Rattle.script_grammar.specs.declared.tree.Inner.{Inner}
 use Rattle.script_grammar.specs.declared.tree.ParamForm.{ParamForm}
 use Rattle.script_grammar.specs.declared.tree.ParamForm.TheVariants as form
-use Rattle.typing_rules.specs.Scoping.{Name, Scope, value, inner_names, names, with_inner, with_inners, with_param, with_params}
+use Rattle.typing_rules.specs.Scoping.{Name, Scope, bound_value, inner_names, names, with_inner, with_inners, with_param, with_params}
 use Rattle.name_scope.specs.Noted.{Noted, body_names, names_each, with_names}
 use Rattle.name_scope.proofs.Rows.{each_listed, two_parts}
 
-one_param : (at : ℕ) (name : List ℕ) (f : ParamForm) (sc : Scope) → with_param (param_of at name f) sc ≡ (name, value at) ∷ sc
+one_param : (at : ℕ) (name : List ℕ) (f : ParamForm) (sc : Scope) → with_param (param_of at name f) sc ≡ (name, bound_value at) ∷ sc
 one_param at name form.Plain sc = refl
 one_param at name form.Labelled sc = refl
 one_param at name (form.Optional f) sc = refl
 
-more_params : (ps : List Param) (p : Param) (sc : Scope) → with_params (listed (map view_param (ps ++ p ∷ []))) sc ≡ (p.name, value p.at) ∷ with_params (listed (map view_param ps)) sc
+more_params : (ps : List Param) (p : Param) (sc : Scope) → with_params (listed (map view_param (ps ++ p ∷ []))) sc ≡ (p.name, bound_value p.at) ∷ with_params (listed (map view_param ps)) sc
 more_params [] p sc = one_param p.at p.name p.form sc
 more_params (q ∷ ps) p sc = more_params ps p (with_param (view_param q) sc)
 
-pub param_next : (ps : List Param) (i : ℕ) (p : Param) (name : List ℕ) (sc a new : Scope) → i < length ps → p ≡ get_or ps i p → name ≡ p.name → a ≡ with_params (listed (map view_param (take i ps))) sc → new ≡ (name, value p.at) ∷ a → new ≡ with_params (listed (map view_param (take (i + 1) ps))) sc
+pub param_next : (ps : List Param) (i : ℕ) (p : Param) (name : List ℕ) (sc a new : Scope) → i < length ps → p ≡ get_or ps i p → name ≡ p.name → a ≡ with_params (listed (map view_param (take i ps))) sc → new ≡ (name, bound_value p.at) ∷ a → new ≡ with_params (listed (map view_param (take (i + 1) ps))) sc
 param_next ps i p name sc a new lt is nm e f =
-    f ∙ ap (λ (n : List ℕ). (n, value p.at) ∷ a) nm ∙ ap (λ (l : Scope). (p.name, value p.at) ∷ l) e ∙ sym (more_params (take i ps) p sc)
+    f ∙ ap (λ (n : List ℕ). (n, bound_value p.at) ∷ a) nm ∙ ap (λ (l : Scope). (p.name, bound_value p.at) ∷ l) e ∙ sym (more_params (take i ps) p sc)
     ∙ sym (ap (λ (l : List Param). with_params (listed (map view_param l)) sc) (take_more ps i p lt ∙ ap (λ (y : Param). take i ps ++ y ∷ []) (sym is)))
 
 more_inners : (xs : List Inner) (x : Inner) (sc : Scope) → with_inners (listed (map view_inner (xs ++ x ∷ []))) sc ≡ with_inner (view_inner x) (with_inners (listed (map view_inner xs)) sc)
@@ -36,9 +36,9 @@ more_names (y ∷ xs) x sc = ap (λ (l : List Name). names sc (view_inner y) ++ 
 taken_more : (xs : List Inner) (i : ℕ) (x : Inner) → i < length xs → x ≡ get_or xs i x → take (i + 1) xs ≡ take i xs ++ x ∷ []
 taken_more xs i x lt is = take_more xs i x lt ∙ ap (λ (y : Inner). take i xs ++ y ∷ []) (sym is)
 
-pub inner_bound : (xs : List Inner) (i : ℕ) (x : Inner) (name : List ℕ) (inner outer new sc : Scope) → i < length xs → x ≡ get_or xs i x → name ≡ x.bind.name → inner ++ outer ≡ with_inners (listed (map view_inner (take i xs))) sc → new ≡ (name, value x.bind.at) ∷ inner → new ++ outer ≡ with_inners (listed (map view_inner (take (i + 1) xs))) sc
+pub inner_bound : (xs : List Inner) (i : ℕ) (x : Inner) (name : List ℕ) (inner outer new sc : Scope) → i < length xs → x ≡ get_or xs i x → name ≡ x.bind.name → inner ++ outer ≡ with_inners (listed (map view_inner (take i xs))) sc → new ≡ (name, bound_value x.bind.at) ∷ inner → new ++ outer ≡ with_inners (listed (map view_inner (take (i + 1) xs))) sc
 inner_bound xs i x name inner outer new sc lt is nm e f =
-    ap (λ (l : Scope). l ++ outer) f ∙ ap (λ (n : List ℕ). (n, value x.bind.at) ∷ (inner ++ outer)) nm ∙ ap (with_inner (view_inner x)) e ∙ sym (more_inners (take i xs) x sc)
+    ap (λ (l : Scope). l ++ outer) f ∙ ap (λ (n : List ℕ). (n, bound_value x.bind.at) ∷ (inner ++ outer)) nm ∙ ap (with_inner (view_inner x)) e ∙ sym (more_inners (take i xs) x sc)
     ∙ sym (ap (λ (l : List Inner). with_inners (listed (map view_inner l)) sc) (taken_more xs i x lt is))
 
 pub inner_noted : (xs : List Inner) (i : ℕ) (x : Inner) (both sc : Scope) (old a new : Noted) → i < length xs → x ≡ get_or xs i x → both ≡ with_inners (listed (map view_inner (take i xs))) sc → a ≡ with_names old (inner_names sc (listed (map view_inner (take i xs)))) → new ≡ with_names a (names both (view_inner x)) → new ≡ with_names old (inner_names sc (listed (map view_inner (take (i + 1) xs))))
@@ -48,9 +48,9 @@ inner_noted xs i x both sc old a new lt is b e f =
 
 pub params_onto : (ps : Tree (Many AParam)) (xs ys : Scope) → with_params ps (xs ++ ys) ≡ with_params ps xs ++ ys
 params_onto none xs ys = refl
-params_onto (more (a_param at name) ps) xs ys = params_onto ps ((name, value at) ∷ xs) ys
-params_onto (more (Labelled at name) ps) xs ys = params_onto ps ((name, value at) ∷ xs) ys
-params_onto (more (Optional at name d) ps) xs ys = params_onto ps ((name, value at) ∷ xs) ys
+params_onto (more (a_param at name) ps) xs ys = params_onto ps ((name, bound_value at) ∷ xs) ys
+params_onto (more (Labelled at name) ps) xs ys = params_onto ps ((name, bound_value at) ∷ xs) ys
+params_onto (more (Optional at name d) ps) xs ys = params_onto ps ((name, bound_value at) ∷ xs) ys
 
 -- after the inner bindings, the result
 pub body_noted : (is : Tree (Many AnInner)) (e : Tree AnExpr) (both after sc : Scope) (old a new : Noted) → both ≡ sc → after ≡ with_inners is both → a ≡ with_names old (inner_names both is) → new ≡ with_names a (names after e) → new ≡ with_names old (body_names sc is e)

@@ -1,6 +1,6 @@
 -- Arguments that no parameter takes, by a table of their labels.
 use Rattle.std.proofs.Common.{◌≡◌, refl, sym, ap, ◌∙◌, ℕ, zero, suc, arith, ◌+◌, ◌<◌, ◌≤◌, List, [], ◌∷◌, length, drop, get_or, drop-cons, drop_of_length-le, Option, None, Bool, true, false, not, cond, map}
-use Rattle.typing_rules.specs.Arguments.{Given, Parameter, first_missing, left_over}
+use Rattle.typing_rules.specs.Arguments.{GivenArgument, Parameter, first_missing, left_over}
 use Rattle.typing_rules.specs.declared.fault.NameFault.{NameFault}
 use Rattle.typing_rules.specs.declared.fault.NameFault.TheVariants.{Extra}
 use Rattle.typing_rules.specs.NameFaults.{missing_at}
@@ -11,7 +11,7 @@ use Rattle.name_scope.specs.declared.parameter.Given.{Given as AGiven}
 use Rattle.name_scope.proofs.Labelling.{first_missing_on, left_over_on, placed_on}
 use Rattle.name_scope.proofs.Matching.{all_sooner_more}
 
-abbrev extras : (ℕ → NameFault) → List (Given ℕ) → List NameFault
+abbrev extras : (ℕ → NameFault) → List (GivenArgument ℕ) → List NameFault
 extras f gs = map (λ g. f g.1) gs
 
 pub left_next : (f : ℕ → NameFault) (ls : List (Option (List ℕ))) (ts : List Bool) (i at : ℕ) (o p whole : Option NameFault) (b : Bool) → Extra at ≡ f i → i < length ls → i < length ts → b ≡ get_or ts i false →
@@ -34,7 +34,7 @@ left_next f ls ts i at o p whole b here lt lt' is so new =
 pub left_done : (f : ℕ → NameFault) (ls : List (Option (List ℕ))) (ts : List Bool) (i : ℕ) (o whole : Option NameFault) → length ls ≤ i → all_sooner o (extras f (left_in i (drop i ls) (drop i ts))) ≡ whole → o ≡ whole
 left_done f ls ts i o whole le so = sym (ap (λ (xs : List (Option (List ℕ))). all_sooner o (extras f (left_in i xs (drop i ts)))) (drop_of_length-le ls le)) ∙ so
 
-map_twice : (f : ℕ → ℕ) (gs : List (Given ℕ)) → map (λ g. Extra g.1) (map (on f) gs) ≡ extras (λ i. Extra (f i)) gs
+map_twice : (f : ℕ → ℕ) (gs : List (GivenArgument ℕ)) → map (λ g. Extra g.1) (map (on f) gs) ≡ extras (λ i. Extra (f i)) gs
 map_twice f [] = refl
 map_twice f (g ∷ gs) = ap (λ (fs : List NameFault). Extra (f g.1) ∷ fs) (map_twice f gs)
 
@@ -49,7 +49,7 @@ given_is : (gs : List AGiven) → map (on (token_at gs)) (placed 0 (map (λ g. (
 given_is gs = placed_on seen_given (token_at gs) 0 gs (token_is gs)
 
 -- all faults of a call with many arguments
-pub many_done : (o p q : Option NameFault) (at : ℕ) (ps : List Parameter) (gs : List AGiven) (all left : List (Given ℕ)) (m : Option (List ℕ)) → all ≡ placed 0 (map (λ g. seen_label g.label) gs) → m ≡ first_missing ps all → left ≡ left_over ps all → p ≡ all_sooner o (missing_at at m) → q ≡ all_sooner p (extras (λ i. Extra (token_at gs i)) left) →
+pub many_done : (o p q : Option NameFault) (at : ℕ) (ps : List Parameter) (gs : List AGiven) (all left : List (GivenArgument ℕ)) (m : Option (List ℕ)) → all ≡ placed 0 (map (λ g. seen_label g.label) gs) → m ≡ first_missing ps all → left ≡ left_over ps all → p ≡ all_sooner o (missing_at at m) → q ≡ all_sooner p (extras (λ i. Extra (token_at gs i)) left) →
     q ≡ all_sooner o (mismatches at ps (map seen_given gs))
 many_done o p q at ps gs all left m all_is m_is left_is p_is q_is =
     let f = token_at gs in

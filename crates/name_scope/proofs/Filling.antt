@@ -7,7 +7,7 @@ use Rattle.script_grammar.specs.View.{listed, view_arg}
 use Rattle.script_grammar.specs.declared.tree.Arg.{Arg}
 use Rattle.typing_rules.specs.declared.form.Form.{Form}
 use Rattle.typing_rules.specs.declared.form.Form.TheVariants.{InPlace, ByLabel, Perhaps}
-use Rattle.typing_rules.specs.Arguments.{Given, Parameter, after, argument, first_missing, label_of, left_over, missing_or, others}
+use Rattle.typing_rules.specs.Arguments.{GivenArgument, Parameter, after, argument, first_missing, label_of, left_over, missing_or, others}
 use Rattle.typing_rules.specs.Scoping.{tokens_given}
 use Rattle.typing_rules.specs.declared.parameter.Parameter.{Parameter as AParameter}
 use Rattle.name_scope.specs.InPlace.{has_label, left_behind, left_by}
@@ -15,17 +15,17 @@ use Rattle.name_scope.specs.Seen.{seen_parameter}
 use Rattle.typing_rules.proofs.Searches.{search_default, search_next, search_none, search_there}
 
 abbrev Taken : Type 0
-Taken = Option (ℕ × List (Given ℕ))
+Taken = Option (ℕ × List (GivenArgument ℕ))
 
-unlike : (name : List ℕ) (l : Option (List ℕ)) (t : ℕ) (gs : List (Given ℕ)) → cond (is_some l) true (has_label gs) ≡ false → (has_label gs ≡ false → argument (Some name) gs ≡ None) → argument (Some name) ((l, t) ∷ gs) ≡ None
+unlike : (name : List ℕ) (l : Option (List ℕ)) (t : ℕ) (gs : List (GivenArgument ℕ)) → cond (is_some l) true (has_label gs) ≡ false → (has_label gs ≡ false → argument (Some name) gs ≡ None) → argument (Some name) ((l, t) ∷ gs) ≡ None
 unlike name None t gs h so = ap (after (None, t)) (so h)
 unlike name (Some l) t gs h so = absurd (cc)
 
-none_found : (name : List ℕ) (gs : List (Given ℕ)) → has_label gs ≡ false → argument (Some name) gs ≡ None
+none_found : (name : List ℕ) (gs : List (GivenArgument ℕ)) → has_label gs ≡ false → argument (Some name) gs ≡ None
 none_found name [] h = refl
 none_found name (g ∷ gs) h = unlike name g.0 g.1 gs h (none_found name gs)
 
-first_found : (l : Option (List ℕ)) (t : ℕ) (gs : List (Given ℕ)) → cond (is_some l) true (has_label gs) ≡ false → (argument None ((l, t) ∷ gs) ≡ Some (t, gs)) × (has_label gs ≡ false)
+first_found : (l : Option (List ℕ)) (t : ℕ) (gs : List (GivenArgument ℕ)) → cond (is_some l) true (has_label gs) ≡ false → (argument None ((l, t) ∷ gs) ≡ Some (t, gs)) × (has_label gs ≡ false)
 first_found None t gs h = (refl, h)
 first_found (Some l) t gs h = absurd (cc)
 
@@ -33,20 +33,20 @@ none_left : (ps : List Parameter) → left_behind ps None ≡ None
 none_left [] = refl
 none_left (p ∷ ps) = none_left ps
 
-abbrev pub HasNoFault : List Parameter → List (Given ℕ) → Type 0
+abbrev pub HasNoFault : List Parameter → List (GivenArgument ℕ) → Type 0
 HasNoFault ps gs = (first_missing ps gs ≡ None) × (left_over ps gs ≡ [])
 
 abbrev AreFilled : List Parameter → Type 0
-AreFilled ps = (gs : List (Given ℕ)) → has_label gs ≡ false → left_behind ps (Some (length gs)) ≡ Some 0 → HasNoFault ps gs
+AreFilled ps = (gs : List (GivenArgument ℕ)) → has_label gs ≡ false → left_behind ps (Some (length gs)) ≡ Some 0 → HasNoFault ps gs
 
-by_taken : (p : Parameter) (ps : List Parameter) (gs : List (Given ℕ)) (o : Taken) → argument (label_of p) gs ≡ o → (missing_or p o (first_missing ps (others gs o)) ≡ None) × (left_over ps (others gs o) ≡ []) → HasNoFault (p ∷ ps) gs
+by_taken : (p : Parameter) (ps : List Parameter) (gs : List (GivenArgument ℕ)) (o : Taken) → argument (label_of p) gs ≡ o → (missing_or p o (first_missing ps (others gs o)) ≡ None) × (left_over ps (others gs o) ≡ []) → HasNoFault (p ∷ ps) gs
 by_taken p ps gs o is so = (ap (λ (x : Taken). missing_or p x (first_missing ps (others gs x))) is ∙ so.0, ap (λ (x : Taken). left_over ps (others gs x)) is ∙ so.1)
 
-in_place : (name : List ℕ) (ps : List Parameter) (gs : List (Given ℕ)) → has_label gs ≡ false → left_behind ps (left_by InPlace (Some (length gs))) ≡ Some 0 → AreFilled ps → HasNoFault (record { name = name; form = InPlace } ∷ ps) gs
+in_place : (name : List ℕ) (ps : List Parameter) (gs : List (GivenArgument ℕ)) → has_label gs ≡ false → left_behind ps (left_by InPlace (Some (length gs))) ≡ Some 0 → AreFilled ps → HasNoFault (record { name = name; form = InPlace } ∷ ps) gs
 in_place name ps [] h e so = let never : ◌≡◌ {A = Option ℕ} None (Some 0) = sym (none_left ps) ∙ e in absurd (cc)
 in_place name ps (g ∷ gs) h e so = let first = first_found g.0 g.1 gs h in by_taken (record { name = name; form = InPlace }) ps (g ∷ gs) (Some (g.1, gs)) first.0 (so gs first.1 e)
 
-by_form : (name : List ℕ) (f : Form) (ps : List Parameter) (gs : List (Given ℕ)) → has_label gs ≡ false → left_behind ps (left_by f (Some (length gs))) ≡ Some 0 → AreFilled ps → HasNoFault (record { name = name; form = f } ∷ ps) gs
+by_form : (name : List ℕ) (f : Form) (ps : List Parameter) (gs : List (GivenArgument ℕ)) → has_label gs ≡ false → left_behind ps (left_by f (Some (length gs))) ≡ Some 0 → AreFilled ps → HasNoFault (record { name = name; form = f } ∷ ps) gs
 by_form name InPlace ps gs h e so = in_place name ps gs h e so
 by_form name ByLabel ps gs h e so = let never : ◌≡◌ {A = Option ℕ} None (Some 0) = sym (none_left ps) ∙ e in absurd (cc)
 by_form name Perhaps ps gs h e so = by_taken (record { name = name; form = Perhaps }) ps gs None (none_found name gs h) (so gs h e)

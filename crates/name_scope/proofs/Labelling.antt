@@ -6,24 +6,24 @@ use Rattle.indexmap.specs.IndexMap.{IndexMap, Updates, get_by}
 use Rattle.std.specs.Prelude.{is_some}
 use Rattle.std.specs.Str.{bytes_eq}
 use Rattle.std.proofs.lemmas.List.{get_or-set_other, get_or-set_same}
-use Rattle.typing_rules.specs.Arguments.{Given, Parameter, after, argument, first_missing, is_label, label_of, left_over, missing_or, others}
+use Rattle.typing_rules.specs.Arguments.{GivenArgument, Parameter, after, argument, first_missing, is_label, label_of, left_over, missing_or, others}
 use Rattle.name_scope.specs.Labelled.{AreHeads, AreLinked, first_of, flat, head_at, left_in, next_at, on, placed}
 
 abbrev Taken : Type 0
-Taken = Option (ℕ × List (Given ℕ))
+Taken = Option (ℕ × List (GivenArgument ℕ))
 
-some_pair : (a b : ℕ × List (Given ℕ)) → Some a ≡ Some b → a ≡ b
+some_pair : (a b : ℕ × List (GivenArgument ℕ)) → Some a ≡ Some b → a ≡ b
 some_pair a b e = cc
 
 -- ---- links
 
-link_head : (next : ℕ → Option ℕ) (g : Given ℕ) (gs : List (Given ℕ)) → AreLinked next (g ∷ gs) → next g.1 ≡ first_of g.0 gs
+link_head : (next : ℕ → Option ℕ) (g : GivenArgument ℕ) (gs : List (GivenArgument ℕ)) → AreLinked next (g ∷ gs) → next g.1 ≡ first_of g.0 gs
 link_head next g gs l = cc
 
-link_tail : (next : ℕ → Option ℕ) (g : Given ℕ) (gs : List (Given ℕ)) → AreLinked next (g ∷ gs) → AreLinked next gs
+link_tail : (next : ℕ → Option ℕ) (g : GivenArgument ℕ) (gs : List (GivenArgument ℕ)) → AreLinked next (g ∷ gs) → AreLinked next gs
 link_tail next g gs l = cc
 
-link_more : (next : ℕ → Option ℕ) (g : Given ℕ) (gs : List (Given ℕ)) → next g.1 ≡ first_of g.0 gs → AreLinked next gs → AreLinked next (g ∷ gs)
+link_more : (next : ℕ → Option ℕ) (g : GivenArgument ℕ) (gs : List (GivenArgument ℕ)) → next g.1 ≡ first_of g.0 gs → AreLinked next gs → AreLinked next (g ∷ gs)
 link_more next g gs e l = ap₂ (λ (x : Option ℕ) (xs : List (Option ℕ)). x ∷ xs) e l
 
 -- ---- labels
@@ -42,18 +42,18 @@ own_label (Some a) (Some b) e = (bytes_decides a b).1 (let f : a ≡ b = cc in f
 
 -- ---- the first with a label
 
-first_after : (g : Given ℕ) (o : Taken) → option_map (λ (x : ℕ × List (Given ℕ)). x.0) (after g o) ≡ option_map (λ (x : ℕ × List (Given ℕ)). x.0) o
+first_after : (g : GivenArgument ℕ) (o : Taken) → option_map (λ (x : ℕ × List (GivenArgument ℕ)). x.0) (after g o) ≡ option_map (λ (x : ℕ × List (GivenArgument ℕ)). x.0) o
 first_after g None = refl
 first_after g (Some x) = refl
 
-first_step : (label : Option (List ℕ)) (g : Given ℕ) (gs : List (Given ℕ)) → first_of label (g ∷ gs) ≡ cond (is_label label g.0) (Some g.1) (first_of label gs)
+first_step : (label : Option (List ℕ)) (g : GivenArgument ℕ) (gs : List (GivenArgument ℕ)) → first_of label (g ∷ gs) ≡ cond (is_label label g.0) (Some g.1) (first_of label gs)
 first_step label g gs = by (is_label label g.0) where
-  by : (b : Bool) → option_map (λ (x : ℕ × List (Given ℕ)). x.0) (cond b (Some (g.1, gs)) (after g (argument label gs))) ≡ cond b (Some g.1) (first_of label gs)
+  by : (b : Bool) → option_map (λ (x : ℕ × List (GivenArgument ℕ)). x.0) (cond b (Some (g.1, gs)) (after g (argument label gs))) ≡ cond b (Some g.1) (first_of label gs)
   by true = refl
   by false = first_after g (argument label gs)
 
 -- one more in front
-pub heads_more : (head head' : Option (List ℕ) → Option ℕ) (g : Given ℕ) (gs : List (Given ℕ)) → AreHeads head gs → ((other : Option (List ℕ)) → head' other ≡ cond (is_label other g.0) (Some g.1) (head other)) → AreHeads head' (g ∷ gs)
+pub heads_more : (head head' : Option (List ℕ) → Option ℕ) (g : GivenArgument ℕ) (gs : List (GivenArgument ℕ)) → AreHeads head gs → ((other : Option (List ℕ)) → head' other ≡ cond (is_label other g.0) (Some g.1) (head other)) → AreHeads head' (g ∷ gs)
 heads_more head head' g gs h s label = s label ∙ ap (cond (is_label label g.0) (Some g.1)) (h label) ∙ sym (first_step label g gs)
 
 -- a name's place is written
@@ -71,17 +71,17 @@ named_set m n plain name place u (Some other) =
 -- ---- one is taken
 
 -- what a list becomes where the first with a label is taken, if there is one
-record TakenOut (label : Option (List ℕ)) (gs rest : List (Given ℕ)) (i : ℕ) : Type 0 where
+record TakenOut (label : Option (List ℕ)) (gs rest : List (GivenArgument ℕ)) (i : ℕ) : Type 0 where
   pub elsewhere : (other : Option (List ℕ)) → is_label other label ≡ false → first_of other rest ≡ first_of other gs
   pub linked : (next : ℕ → Option ℕ) → AreLinked next gs → (next i ≡ first_of label rest) × AreLinked next rest
 
-other_first : (label other : Option (List ℕ)) (g : Given ℕ) (gs : List (Given ℕ)) → is_label label g.0 ≡ true → is_label other label ≡ false → first_of other gs ≡ first_of other (g ∷ gs)
+other_first : (label other : Option (List ℕ)) (g : GivenArgument ℕ) (gs : List (GivenArgument ℕ)) → is_label label g.0 ≡ true → is_label other label ≡ false → first_of other gs ≡ first_of other (g ∷ gs)
 other_first label other g gs e n = by (is_label other g.0) refl ∙ sym (first_step other g gs) where
   by : (b : Bool) → is_label other g.0 ≡ b → first_of other gs ≡ cond (is_label other g.0) (Some g.1) (first_of other gs)
   by true f = absurd (let c : ◌≡◌ {A = Bool} true false = sym (own_label other label (same_label other g.0 f ∙ sym (same_label label g.0 e))) ∙ n in cc)
   by false f = sym (ap (λ b. cond b (Some g.1) (first_of other gs)) f)
 
-taken_out : (label : Option (List ℕ)) (gs rest : List (Given ℕ)) (i : ℕ) → argument label gs ≡ Some (i, rest) → TakenOut label gs rest i
+taken_out : (label : Option (List ℕ)) (gs rest : List (GivenArgument ℕ)) (i : ℕ) → argument label gs ≡ Some (i, rest) → TakenOut label gs rest i
 taken_out label [] rest i e = absurd (let f : ◌≡◌ {A = Taken} None (Some (i, rest)) = e in cc)
 taken_out label (g ∷ gs) rest i e = by (taken_out label gs) (is_label label g.0) refl (argument label gs) refl e where
   here : is_label label g.0 ≡ true → g.1 ≡ i → gs ≡ rest → TakenOut label (g ∷ gs) rest i
@@ -90,7 +90,7 @@ taken_out label (g ∷ gs) rest i e = by (taken_out label gs) (is_label label g.
     linked = λ next l. (ap next (sym is) ∙ link_head next g gs l ∙ ap (λ (m : Option (List ℕ)). first_of m gs) (sym (same_label label g.0 f)) ∙ ap (first_of label) are, subst (AreLinked next) are (link_tail next g gs l));
   }
 
-  behind : (more : List (Given ℕ)) → is_label label g.0 ≡ false → TakenOut label gs more i → g ∷ more ≡ rest → TakenOut label (g ∷ gs) rest i
+  behind : (more : List (GivenArgument ℕ)) → is_label label g.0 ≡ false → TakenOut label gs more i → g ∷ more ≡ rest → TakenOut label (g ∷ gs) rest i
   behind more f t are = record {
     elsewhere = λ other n. ap (first_of other) (sym are) ∙ first_step other g more ∙ ap (cond (is_label other g.0) (Some g.1)) (t.elsewhere other n) ∙ sym (first_step other g gs);
     linked = λ next l.
@@ -104,7 +104,7 @@ taken_out label (g ∷ gs) rest i e = by (taken_out label gs) (is_label label g.
     turned true h = absurd (let c : ◌≡◌ {A = Bool} true false = sym (own_label label g.0 (sym (same_label g.0 label h))) ∙ f in cc)
     turned false h = h
 
-  by : ((more : List (Given ℕ)) (j : ℕ) → argument label gs ≡ Some (j, more) → TakenOut label gs more j) → (b : Bool) → is_label label g.0 ≡ b → (o : Taken) → argument label gs ≡ o → cond b (Some (g.1, gs)) (after g o) ≡ Some (i, rest) → TakenOut label (g ∷ gs) rest i
+  by : ((more : List (GivenArgument ℕ)) (j : ℕ) → argument label gs ≡ Some (j, more) → TakenOut label gs more j) → (b : Bool) → is_label label g.0 ≡ b → (o : Taken) → argument label gs ≡ o → cond b (Some (g.1, gs)) (after g o) ≡ Some (i, rest) → TakenOut label (g ∷ gs) rest i
   by later true f o q h = let p = some_pair (g.1, gs) (i, rest) h in here f (ap (λ x. x.0) p) (ap (λ x. x.1) p)
   by later false f None q h = absurd (let c : ◌≡◌ {A = Taken} None (Some (i, rest)) = h in cc)
   by later false f (Some x) q h =
@@ -113,34 +113,34 @@ taken_out label (g ∷ gs) rest i e = by (taken_out label gs) (is_label label g.
       let are : (g ∷ x.1) ≡ rest = ap (λ y. y.1) p in
       behind x.1 f (later x.1 i (q ∙ ap (λ j. Some (j, x.1)) is)) are
 
-first_some : (label : Option (List ℕ)) (gs : List (Given ℕ)) (i : ℕ) → Some i ≡ first_of label gs → argument label gs ≡ Some (i, others gs (argument label gs))
+first_some : (label : Option (List ℕ)) (gs : List (GivenArgument ℕ)) (i : ℕ) → Some i ≡ first_of label gs → argument label gs ≡ Some (i, others gs (argument label gs))
 first_some label gs i = by (argument label gs) where
-  by : (o : Taken) → Some i ≡ option_map (λ (x : ℕ × List (Given ℕ)). x.0) o → o ≡ Some (i, others gs o)
+  by : (o : Taken) → Some i ≡ option_map (λ (x : ℕ × List (GivenArgument ℕ)). x.0) o → o ≡ Some (i, others gs o)
   by None e = absurd (let c : ◌≡◌ {A = Option ℕ} (Some i) None = e in cc)
   by (Some x) e = let is : x.0 ≡ i = cc in ap (λ j. Some (j, x.1)) is
 
-pub none_taken : (label : Option (List ℕ)) (gs : List (Given ℕ)) → None ≡ first_of label gs → gs ≡ others gs (argument label gs)
+pub none_taken : (label : Option (List ℕ)) (gs : List (GivenArgument ℕ)) → None ≡ first_of label gs → gs ≡ others gs (argument label gs)
 none_taken label gs = by (argument label gs) where
-  by : (o : Taken) → None ≡ option_map (λ (x : ℕ × List (Given ℕ)). x.0) o → gs ≡ others gs o
+  by : (o : Taken) → None ≡ option_map (λ (x : ℕ × List (GivenArgument ℕ)). x.0) o → gs ≡ others gs o
   by None e = refl
   by (Some x) e = absurd (let c : ◌≡◌ {A = Option ℕ} None (Some x.0) = e in cc)
 
-pub some_first : (label : Option (List ℕ)) (gs : List (Given ℕ)) → is_some (first_of label gs) ≡ is_some (argument label gs)
+pub some_first : (label : Option (List ℕ)) (gs : List (GivenArgument ℕ)) → is_some (first_of label gs) ≡ is_some (argument label gs)
 some_first label gs = by (argument label gs) where
-  by : (o : Taken) → is_some (option_map (λ (x : ℕ × List (Given ℕ)). x.0) o) ≡ is_some o
+  by : (o : Taken) → is_some (option_map (λ (x : ℕ × List (GivenArgument ℕ)). x.0) o) ≡ is_some o
   by None = refl
   by (Some x) = refl
 
 -- ---- by places
 
 -- the one at a place is taken
-record TakenAt (label : Option (List ℕ)) (k : ℕ) (ls : List (Option (List ℕ))) (ts : List Bool) (i : ℕ) (rest : List (Given ℕ)) : Type 0 where
+record TakenAt (label : Option (List ℕ)) (k : ℕ) (ls : List (Option (List ℕ))) (ts : List Bool) (i : ℕ) (rest : List (GivenArgument ℕ)) : Type 0 where
   pub above : k ≤ i
   pub below : i < k + length ls
   pub same : (d : Option (List ℕ)) → get_or ls (i - k) d ≡ label
   pub left : left_in k ls (set ts (i - k) true) ≡ rest
 
-taken_at : (label : Option (List ℕ)) (k : ℕ) (ls : List (Option (List ℕ))) (ts : List Bool) (i : ℕ) (rest : List (Given ℕ)) → length ts ≡ length ls → argument label (left_in k ls ts) ≡ Some (i, rest) → TakenAt label k ls ts i rest
+taken_at : (label : Option (List ℕ)) (k : ℕ) (ls : List (Option (List ℕ))) (ts : List Bool) (i : ℕ) (rest : List (GivenArgument ℕ)) → length ts ≡ length ls → argument label (left_in k ls ts) ≡ Some (i, rest) → TakenAt label k ls ts i rest
 taken_at label k [] ts i rest long e = absurd (let c : ◌≡◌ {A = Taken} None (Some (i, rest)) = e in cc)
 taken_at label k (l ∷ ls) [] i rest long e = absurd (omega (arith, long))
 taken_at label k (l ∷ ls) (true ∷ ts) i rest long e = behind (taken_at label (suc k) ls ts i rest (omega (arith, long)) e) where
@@ -166,7 +166,7 @@ taken_at label k (l ∷ ls) (false ∷ ts) i rest long e = by (λ more. taken_at
         left = ap (λ j. left_in k (l ∷ ls) (set (false ∷ ts) j true)) is ∙ are;
       }
 
-  behind : (more : List (Given ℕ)) → TakenAt label (suc k) ls ts i more → (l, k) ∷ more ≡ rest → TakenAt label k (l ∷ ls) (false ∷ ts) i rest
+  behind : (more : List (GivenArgument ℕ)) → TakenAt label (suc k) ls ts i more → (l, k) ∷ more ≡ rest → TakenAt label k (l ∷ ls) (false ∷ ts) i rest
   behind more t are =
       let above = t.above in
       let below = t.below in
@@ -175,10 +175,10 @@ taken_at label k (l ∷ ls) (false ∷ ts) i rest long e = by (λ more. taken_at
         above = omega (arith, above);
         below = omega (arith, below);
         same = λ d. ap (λ j. get_or (l ∷ ls) j d) is ∙ t.same d;
-        left = ap (λ j. left_in k (l ∷ ls) (set (false ∷ ts) j true)) is ∙ ap (λ (gs : List (Given ℕ)). (l, k) ∷ gs) t.left ∙ are;
+        left = ap (λ j. left_in k (l ∷ ls) (set (false ∷ ts) j true)) is ∙ ap (λ (gs : List (GivenArgument ℕ)). (l, k) ∷ gs) t.left ∙ are;
       }
 
-  by : ((more : List (Given ℕ)) → argument label (left_in (suc k) ls ts) ≡ Some (i, more) → TakenAt label (suc k) ls ts i more) → (b : Bool) → is_label label l ≡ b → (o : Taken) → argument label (left_in (suc k) ls ts) ≡ o → cond b (Some (k, left_in (suc k) ls ts)) (after (l, k) o) ≡ Some (i, rest) → TakenAt label k (l ∷ ls) (false ∷ ts) i rest
+  by : ((more : List (GivenArgument ℕ)) → argument label (left_in (suc k) ls ts) ≡ Some (i, more) → TakenAt label (suc k) ls ts i more) → (b : Bool) → is_label label l ≡ b → (o : Taken) → argument label (left_in (suc k) ls ts) ≡ o → cond b (Some (k, left_in (suc k) ls ts)) (after (l, k) o) ≡ Some (i, rest) → TakenAt label k (l ∷ ls) (false ∷ ts) i rest
   by later true f o q h = let p = some_pair (k, left_in (suc k) ls ts) (i, rest) h in here f (ap (λ x. x.0) p) (ap (λ x. x.1) p)
   by later false f None q h = absurd (let c : ◌≡◌ {A = Taken} None (Some (i, rest)) = h in cc)
   by later false f (Some x) q h =
@@ -198,7 +198,7 @@ map_long f (x ∷ xs) = ap suc (map_long f xs)
 
 placed_all : (k : ℕ) (ls : List (Option (List ℕ))) → left_in k ls (replicate (length ls) false) ≡ placed k ls
 placed_all k [] = refl
-placed_all k (l ∷ ls) = ap (λ (gs : List (Given ℕ)). (l, k) ∷ gs) (placed_all (suc k) ls)
+placed_all k (l ∷ ls) = ap (λ (gs : List (GivenArgument ℕ)). (l, k) ∷ gs) (placed_all (suc k) ls)
 
 -- none is taken
 pub all_left : {A : Type 0} (see : A → Option (List ℕ)) (xs : List A) (ts : List Bool) (n : ℕ) → ts ≡ replicate n false → n ≡ length xs → left_in 0 (map see xs) ts ≡ placed 0 (map see xs)
@@ -206,10 +206,10 @@ all_left see xs ts n e l = ap (left_in 0 (map see xs)) (e ∙ ap (λ m. replicat
 
 -- one call of `take`, by what the tables say
 module _ {A : Type 0} (see : A → Option (List ℕ)) (xs : List A) (ts : List Bool) (label : Option (List ℕ)) (place : ℕ) (long : length ts ≡ length xs) (found : Some place ≡ first_of label (left_in 0 (map see xs) ts)) where
-  abbrev pub before : List (Given ℕ)
+  abbrev pub before : List (GivenArgument ℕ)
   before = left_in 0 (map see xs) ts
 
-  abbrev pub rest : List (Given ℕ)
+  abbrev pub rest : List (GivenArgument ℕ)
   rest = others before (argument label before)
 
   at_place : TakenAt label 0 (map see xs) ts place rest
@@ -250,7 +250,7 @@ linked_later next next' k (x ∷ ls) e l =
 
 -- the tables of the arguments from one place on, and one more before it
 module _ {A : Type 0} (see : A → Option (List ℕ)) (xs : List A) (back place : ℕ) (x : A) (lt : back < length xs) (is : place ≡ length xs - 1 - back) (at : x ≡ get_or xs place x) where
-  abbrev pub from : ℕ → List (Given ℕ)
+  abbrev pub from : ℕ → List (GivenArgument ℕ)
   from n = placed (length xs - n) (map see (drop (length xs - n) xs))
 
   behind_is : length xs - back ≡ suc place
@@ -288,22 +288,22 @@ left_at ls ts i l m =
     ap (λ (xs : List (Option (List ℕ))). left_in i xs (drop i ts)) (drop-cons ls i None l)
     ∙ ap (left_in i (get_or ls i None ∷ drop (suc i) ls)) (drop-cons ts i false m)
 
-pub taken_behind : (ls : List (Option (List ℕ))) (ts : List Bool) (i : ℕ) (all : List (Given ℕ)) → i < length ls → i < length ts → get_or ts i false ≡ true → left_in i (drop i ls) (drop i ts) ≡ all → left_in (i + 1) (drop (i + 1) ls) (drop (i + 1) ts) ≡ all
+pub taken_behind : (ls : List (Option (List ℕ))) (ts : List Bool) (i : ℕ) (all : List (GivenArgument ℕ)) → i < length ls → i < length ts → get_or ts i false ≡ true → left_in i (drop i ls) (drop i ts) ≡ all → left_in (i + 1) (drop (i + 1) ls) (drop (i + 1) ts) ≡ all
 taken_behind ls ts i all l m e h =
     ap (λ j. left_in j (drop j ls) (drop j ts)) (let q : i + 1 ≡ suc i = omega arith in q)
     ∙ sym (ap (λ b. left_in i (get_or ls i None ∷ drop (suc i) ls) (b ∷ drop (suc i) ts)) e) ∙ sym (left_at ls ts i l m) ∙ h
 
-pub one_left : (ls : List (Option (List ℕ))) (ts : List Bool) (i : ℕ) (all : List (Given ℕ)) → i < length ls → i < length ts → get_or ts i false ≡ false → left_in i (drop i ls) (drop i ts) ≡ all → false ≡ nat_eq (length all) 0
+pub one_left : (ls : List (Option (List ℕ))) (ts : List Bool) (i : ℕ) (all : List (GivenArgument ℕ)) → i < length ls → i < length ts → get_or ts i false ≡ false → left_in i (drop i ls) (drop i ts) ≡ all → false ≡ nat_eq (length all) 0
 one_left ls ts i all l m e h =
     let is : (get_or ls i None, i) ∷ left_in (suc i) (drop (suc i) ls) (drop (suc i) ts) ≡ all = sym (ap (λ b. left_in i (get_or ls i None ∷ drop (suc i) ls) (b ∷ drop (suc i) ts)) e) ∙ sym (left_at ls ts i l m) ∙ h in
     some all is
   where
-    some : (gs : List (Given ℕ)) → (get_or ls i None, i) ∷ left_in (suc i) (drop (suc i) ls) (drop (suc i) ts) ≡ gs → false ≡ nat_eq (length gs) 0
+    some : (gs : List (GivenArgument ℕ)) → (get_or ls i None, i) ∷ left_in (suc i) (drop (suc i) ls) (drop (suc i) ts) ≡ gs → false ≡ nat_eq (length gs) 0
     some [] q = absurd (let c : ((get_or ls i None, i) ∷ left_in (suc i) (drop (suc i) ls) (drop (suc i) ts)) ≡ [] = q in cc)
     some (g ∷ gs) q = sym (ne_eqb (suc (length gs)) 0 (λ e. absurd (omega (arith, e))))
 
-pub none_from : (ls : List (Option (List ℕ))) (ts : List Bool) (i : ℕ) (all : List (Given ℕ)) → length ls ≤ i → left_in i (drop i ls) (drop i ts) ≡ all → true ≡ nat_eq (length all) 0
-none_from ls ts i all l h = ap (λ (gs : List (Given ℕ)). nat_eq (length gs) 0) (sym (ap (λ (xs : List (Option (List ℕ))). left_in i xs (drop i ts)) (drop_of_length-le ls l)) ∙ h)
+pub none_from : (ls : List (Option (List ℕ))) (ts : List Bool) (i : ℕ) (all : List (GivenArgument ℕ)) → length ls ≤ i → left_in i (drop i ls) (drop i ts) ≡ all → true ≡ nat_eq (length all) 0
+none_from ls ts i all l h = ap (λ (gs : List (GivenArgument ℕ)). nat_eq (length gs) 0) (sym (ap (λ (xs : List (Option (List ℕ))). left_in i xs (drop i ts)) (drop_of_length-le ls l)) ∙ h)
 
 -- ---- the same arguments with something else in place of their places
 
@@ -311,27 +311,27 @@ abbrev taken_on : (ℕ → ℕ) → Taken → Taken
 taken_on f None = None
 taken_on f (Some x) = Some (f x.0, map (on f) x.1)
 
-after_on : (f : ℕ → ℕ) (g : Given ℕ) (o : Taken) → after (on f g) (taken_on f o) ≡ taken_on f (after g o)
+after_on : (f : ℕ → ℕ) (g : GivenArgument ℕ) (o : Taken) → after (on f g) (taken_on f o) ≡ taken_on f (after g o)
 after_on f g None = refl
 after_on f g (Some x) = refl
 
-argument_on : (f : ℕ → ℕ) (label : Option (List ℕ)) (gs : List (Given ℕ)) → argument label (map (on f) gs) ≡ taken_on f (argument label gs)
+argument_on : (f : ℕ → ℕ) (label : Option (List ℕ)) (gs : List (GivenArgument ℕ)) → argument label (map (on f) gs) ≡ taken_on f (argument label gs)
 argument_on f label [] = refl
 argument_on f label (g ∷ gs) = by (argument_on f label gs) (is_label label g.0) where
   by : argument label (map (on f) gs) ≡ taken_on f (argument label gs) → (b : Bool) → cond b (Some (f g.1, map (on f) gs)) (after (on f g) (argument label (map (on f) gs))) ≡ taken_on f (cond b (Some (g.1, gs)) (after g (argument label gs)))
   by later true = refl
   by later false = ap (after (on f g)) later ∙ after_on f g (argument label gs)
 
-others_on : (f : ℕ → ℕ) (gs : List (Given ℕ)) (o : Taken) → others (map (on f) gs) (taken_on f o) ≡ map (on f) (others gs o)
+others_on : (f : ℕ → ℕ) (gs : List (GivenArgument ℕ)) (o : Taken) → others (map (on f) gs) (taken_on f o) ≡ map (on f) (others gs o)
 others_on f gs None = refl
 others_on f gs (Some x) = refl
 
-pub others_argument_on : (f : ℕ → ℕ) (label : Option (List ℕ)) (gs : List (Given ℕ)) → others (map (on f) gs) (argument label (map (on f) gs)) ≡ map (on f) (others gs (argument label gs))
+pub others_argument_on : (f : ℕ → ℕ) (label : Option (List ℕ)) (gs : List (GivenArgument ℕ)) → others (map (on f) gs) (argument label (map (on f) gs)) ≡ map (on f) (others gs (argument label gs))
 others_argument_on f label gs = ap (others (map (on f) gs)) (argument_on f label gs) ∙ others_on f gs (argument label gs)
 
-pub first_on : (f : ℕ → ℕ) (label : Option (List ℕ)) (gs : List (Given ℕ)) → first_of label (map (on f) gs) ≡ option_map f (first_of label gs)
-first_on f label gs = ap (option_map (λ (x : ℕ × List (Given ℕ)). x.0)) (argument_on f label gs) ∙ by (argument label gs) where
-  by : (o : Taken) → option_map (λ (x : ℕ × List (Given ℕ)). x.0) (taken_on f o) ≡ option_map f (option_map (λ (x : ℕ × List (Given ℕ)). x.0) o)
+pub first_on : (f : ℕ → ℕ) (label : Option (List ℕ)) (gs : List (GivenArgument ℕ)) → first_of label (map (on f) gs) ≡ option_map f (first_of label gs)
+first_on f label gs = ap (option_map (λ (x : ℕ × List (GivenArgument ℕ)). x.0)) (argument_on f label gs) ∙ by (argument label gs) where
+  by : (o : Taken) → option_map (λ (x : ℕ × List (GivenArgument ℕ)). x.0) (taken_on f o) ≡ option_map f (option_map (λ (x : ℕ × List (GivenArgument ℕ)). x.0) o)
   by None = refl
   by (Some x) = refl
 
@@ -339,21 +339,21 @@ missing_on : (f : ℕ → ℕ) (p : Parameter) (o : Taken) (m : Option (List ℕ
 missing_on f p None m = refl
 missing_on f p (Some x) m = refl
 
-pub first_missing_on : (f : ℕ → ℕ) (ps : List Parameter) (gs : List (Given ℕ)) → first_missing ps (map (on f) gs) ≡ first_missing ps gs
+pub first_missing_on : (f : ℕ → ℕ) (ps : List Parameter) (gs : List (GivenArgument ℕ)) → first_missing ps (map (on f) gs) ≡ first_missing ps gs
 first_missing_on f [] gs = refl
 first_missing_on f (p ∷ ps) gs =
-    ap (λ (hs : List (Given ℕ)). missing_or p (argument (label_of p) (map (on f) gs)) (first_missing ps hs)) (others_argument_on f (label_of p) gs)
+    ap (λ (hs : List (GivenArgument ℕ)). missing_or p (argument (label_of p) (map (on f) gs)) (first_missing ps hs)) (others_argument_on f (label_of p) gs)
     ∙ ap (λ (o : Taken). missing_or p o (first_missing ps (map (on f) (others gs (argument (label_of p) gs))))) (argument_on f (label_of p) gs)
     ∙ missing_on f p (argument (label_of p) gs) (first_missing ps (map (on f) (others gs (argument (label_of p) gs))))
     ∙ ap (missing_or p (argument (label_of p) gs)) (first_missing_on f ps (others gs (argument (label_of p) gs)))
 
-pub left_over_on : (f : ℕ → ℕ) (ps : List Parameter) (gs : List (Given ℕ)) → left_over ps (map (on f) gs) ≡ map (on f) (left_over ps gs)
+pub left_over_on : (f : ℕ → ℕ) (ps : List Parameter) (gs : List (GivenArgument ℕ)) → left_over ps (map (on f) gs) ≡ map (on f) (left_over ps gs)
 left_over_on f [] gs = refl
 left_over_on f (p ∷ ps) gs = ap (left_over ps) (others_argument_on f (label_of p) gs) ∙ left_over_on f ps (others gs (argument (label_of p) gs))
 
 -- arguments by their places are the arguments
-pub placed_on : {A : Type 0} (see : A → Given ℕ) (f : ℕ → ℕ) (k : ℕ) (xs : List A) → ((j : ℕ) (x : A) → j < length xs → f (k + j) ≡ (see (get_or xs j x)).1) → map (on f) (placed k (map (λ x. (see x).0) xs)) ≡ map see xs
+pub placed_on : {A : Type 0} (see : A → GivenArgument ℕ) (f : ℕ → ℕ) (k : ℕ) (xs : List A) → ((j : ℕ) (x : A) → j < length xs → f (k + j) ≡ (see (get_or xs j x)).1) → map (on f) (placed k (map (λ x. (see x).0) xs)) ≡ map see xs
 placed_on see f k [] h = refl
 placed_on see f k (x ∷ xs) h =
     let same : f k ≡ (see x).1 = ap f (let e : k ≡ k + 0 = omega arith in e) ∙ h 0 x (omega arith) in
-    ap₂ (λ (g : Given ℕ) (gs : List (Given ℕ)). g ∷ gs) (ap (λ n. ((see x).0, n)) same) (placed_on see f (suc k) xs (λ j y l. ap f (let e : suc k + j ≡ k + suc j = omega arith in e) ∙ h (suc j) y (omega (arith, l))))
+    ap₂ (λ (g : GivenArgument ℕ) (gs : List (GivenArgument ℕ)). g ∷ gs) (ap (λ n. ((see x).0, n)) same) (placed_on see f (suc k) xs (λ j y l. ap f (let e : suc k + j ≡ k + suc j = omega arith in e) ∙ h (suc j) y (omega (arith, l))))

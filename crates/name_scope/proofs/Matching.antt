@@ -4,7 +4,7 @@ use Rattle.std.proofs.lemmas.List.{at_drop_more, take_more}
 use Rattle.std.proofs.lemmas.List.{map-append}
 use Rattle.std.specs.Prelude.{is_some}
 use Rattle.std.specs.List.{remove}
-use Rattle.typing_rules.specs.Arguments.{Parameter, Given, after, argument, first_missing, is_label, is_needed, label_of, left_over, missing_or, others, parameter_of, parameters_of}
+use Rattle.typing_rules.specs.Arguments.{Parameter, GivenArgument, after, argument, first_missing, is_label, is_needed, label_of, left_over, missing_or, others, parameter_of, parameters_of}
 use Rattle.typing_rules.specs.Scoping.{tokens_given}
 use Rattle.script_grammar.specs.View.{listed, param_of, view_arg, view_param}
 use Rattle.script_grammar.specs.declared.tree.Arg.{Arg}
@@ -21,14 +21,14 @@ use Rattle.name_scope.specs.Seen.{form_seen, seen_given, seen_parameter}
 use Rattle.typing_rules.proofs.Searches.{search_default}
 
 abbrev Taken : Type 0
-Taken = Option (ℕ × List (Given ℕ))
+Taken = Option (ℕ × List (GivenArgument ℕ))
 
 -- where the first is not it, what is found is found behind it
-not_after : (g : Given ℕ) (o : Taken) → after g o ≡ None → o ≡ None
+not_after : (g : GivenArgument ℕ) (o : Taken) → after g o ≡ None → o ≡ None
 not_after g None h = refl
 not_after g (Some x) h = cc
 
-none_behind : (g : Given ℕ) (rest : List (Given ℕ)) (b : Bool) (o : Taken) → cond b (Some (g.1, rest)) (after g o) ≡ None → (b ≡ false) × (o ≡ None)
+none_behind : (g : GivenArgument ℕ) (rest : List (GivenArgument ℕ)) (b : Bool) (o : Taken) → cond b (Some (g.1, rest)) (after g o) ≡ None → (b ≡ false) × (o ≡ None)
 none_behind g rest true o h = cc
 none_behind g rest false o h = (refl, not_after g o h)
 
@@ -48,7 +48,7 @@ taken_at label (g ∷ gs) (suc i) x lt is h same =
 pub taken_from : (label : Option (List ℕ)) (gs slice : List AGiven) (i : ℕ) (d : AGiven) → slice ≡ gs → i < length gs → argument label (map seen_given (take i gs)) ≡ None → is_label label (seen_given (get_or slice i d)).0 ≡ true → argument label (map seen_given gs) ≡ Some ((get_or slice i d).at, map seen_given (remove gs i))
 taken_from label gs slice i d whole lt h same = taken_at label gs i (get_or slice i d) lt (item_of gs slice i d whole lt) h same
 
-none_more : (label : Option (List ℕ)) (gs : List (Given ℕ)) (x : Given ℕ) → argument label gs ≡ None → is_label label x.0 ≡ false → argument label (gs ++ x ∷ []) ≡ None
+none_more : (label : Option (List ℕ)) (gs : List (GivenArgument ℕ)) (x : GivenArgument ℕ) → argument label gs ≡ None → is_label label x.0 ≡ false → argument label (gs ++ x ∷ []) ≡ None
 none_more label [] x h other = ap (λ b. cond b (Some (x.1, [])) None) other
 none_more label (g ∷ gs) x h other =
     let parts = none_behind g gs (is_label label g.0) (argument label gs) h in
@@ -77,7 +77,7 @@ step_missing None p None later = by_need (is_needed p.form) where
   by_need false = refl
 
 -- one more parameter
-pub param_missing : (ps : List AParameter) (gs hs : List (Given ℕ)) (i : ℕ) (p : AParameter) (m n whole : Option (List ℕ)) (taken : Bool) → i < length ps → p ≡ get_or ps i p →
+pub param_missing : (ps : List AParameter) (gs hs : List (GivenArgument ℕ)) (i : ℕ) (p : AParameter) (m n whole : Option (List ℕ)) (taken : Bool) → i < length ps → p ≡ get_or ps i p →
     or_first m (first_missing (map seen_parameter (drop i ps)) gs) ≡ whole → taken ≡ is_some (argument (label_of (seen_parameter p)) gs) → hs ≡ others gs (argument (label_of (seen_parameter p)) gs) → n ≡ missing_with m (seen_parameter p) taken →
     or_first n (first_missing (map seen_parameter (drop (i + 1) ps)) hs) ≡ whole
 param_missing ps gs hs i p m n whole taken lt is so t h nn =
@@ -90,22 +90,22 @@ param_missing ps gs hs i p m n whole taken lt is so t h nn =
     ∙ ap (λ (y : AParameter). or_first m (first_missing (map seen_parameter (y ∷ drop (i + 1) ps)) gs)) is
     ∙ sym (at_drop_more P ps i p lt) ∙ so
 
-pub param_left : (ps : List AParameter) (gs hs whole : List (Given ℕ)) (i : ℕ) (p : AParameter) → i < length ps → p ≡ get_or ps i p →
+pub param_left : (ps : List AParameter) (gs hs whole : List (GivenArgument ℕ)) (i : ℕ) (p : AParameter) → i < length ps → p ≡ get_or ps i p →
     left_over (map seen_parameter (drop i ps)) gs ≡ whole → hs ≡ others gs (argument (label_of (seen_parameter p)) gs) →
     left_over (map seen_parameter (drop (i + 1) ps)) hs ≡ whole
 param_left ps gs hs whole i p lt is so h =
-    let P : List AParameter → List (Given ℕ) = λ l. left_over (map seen_parameter l) gs in
+    let P : List AParameter → List (GivenArgument ℕ) = λ l. left_over (map seen_parameter l) gs in
     ap (left_over (map seen_parameter (drop (i + 1) ps))) h
     ∙ ap (λ (y : AParameter). left_over (map seen_parameter (y ∷ drop (i + 1) ps)) gs) is
     ∙ sym (at_drop_more P ps i p lt) ∙ so
 
 -- arguments and parameters as the tree has them
-abbrev pub token_given : Arg → Given ℕ
+abbrev pub token_given : Arg → GivenArgument ℕ
 token_given a = (a.label, a.at)
 
 pub tokens_listed : (args : List Arg) → map token_given args ≡ tokens_given (listed (map view_arg args))
 tokens_listed [] = refl
-tokens_listed (a ∷ rest) = ap (λ (l : List (Given ℕ)). token_given a ∷ l) (tokens_listed rest)
+tokens_listed (a ∷ rest) = ap (λ (l : List (GivenArgument ℕ)). token_given a ∷ l) (tokens_listed rest)
 
 abbrev pub param_seen : Param → Parameter
 param_seen p = record { name = p.name; form = form_seen p.form }
@@ -171,9 +171,9 @@ extras_seen [] = refl
 extras_seen (g ∷ gs) = ap (λ (l : List NameFault). Extra g.at ∷ l) (extras_seen gs)
 
 -- all faults of a call's arguments
-pub mismatches_done : (o p q : Option NameFault) (at : ℕ) (ps : List Parameter) (gs tokens : List (Given ℕ)) (left rest : List AGiven) (m : Option (List ℕ)) → gs ≡ tokens → m ≡ first_missing ps gs → map seen_given left ≡ left_over ps gs → p ≡ all_sooner o (missing_at at m) → rest ≡ left → q ≡ all_sooner p (extras rest) → q ≡ all_sooner o (mismatches at ps tokens)
+pub mismatches_done : (o p q : Option NameFault) (at : ℕ) (ps : List Parameter) (gs tokens : List (GivenArgument ℕ)) (left rest : List AGiven) (m : Option (List ℕ)) → gs ≡ tokens → m ≡ first_missing ps gs → map seen_given left ≡ left_over ps gs → p ≡ all_sooner o (missing_at at m) → rest ≡ left → q ≡ all_sooner p (extras rest) → q ≡ all_sooner o (mismatches at ps tokens)
 mismatches_done o p q at ps gs tokens left rest m g mm ll pp rr qq =
     qq ∙ ap (λ (l : List AGiven). all_sooner p (extras l)) rr ∙ ap (λ (l : List NameFault). all_sooner p l) (extras_seen left ∙ ap (map (λ g. Extra g.1)) ll)
     ∙ ap (λ (x : Option NameFault). all_sooner x (map (λ g. Extra g.1) (left_over ps gs))) (pp ∙ ap (λ (x : Option (List ℕ)). all_sooner o (missing_at at x)) mm)
     ∙ sym (all_sooner_more o (missing_at at (first_missing ps gs)) (map (λ g. Extra g.1) (left_over ps gs)))
-    ∙ ap (λ (l : List (Given ℕ)). all_sooner o (mismatches at ps l)) g
+    ∙ ap (λ (l : List (GivenArgument ℕ)). all_sooner o (mismatches at ps l)) g

@@ -4,7 +4,7 @@ use Rattle.std.proofs.lemmas.List.{map-append, take_more}
 use Rattle.std.specs.Prelude.{bytes_eq, is_some}
 use Rattle.script_grammar.specs.declared.tree.Param.{Param}
 use Rattle.typing_rules.specs.NameFaults.{is_among}
-use Rattle.typing_rules.specs.Scoping.{Bound, Scope, bound, value}
+use Rattle.typing_rules.specs.Scoping.{Bound, Scope, bound, bound_value}
 use Rattle.name_scope.proofs.Matching.{param_names}
 
 -- the names that are bound are these
@@ -26,10 +26,10 @@ some_of : (b : Bool) (x : Bound) (o : Option Bound) → is_some (cond b (Some x)
 some_of true x o = refl
 some_of false x o = refl
 
-pub bound_next : (ps : List Param) (i : ℕ) (p : Param) (text : List ℕ) (sc new : Scope) → i < length ps → p ≡ get_or ps i p → text ≡ p.name → AreBound sc (param_names (take i ps)) → new ≡ (text, value p.at) ∷ sc → AreBound new (param_names (take (i + 1) ps))
+pub bound_next : (ps : List Param) (i : ℕ) (p : Param) (text : List ℕ) (sc new : Scope) → i < length ps → p ≡ get_or ps i p → text ≡ p.name → AreBound sc (param_names (take i ps)) → new ≡ (text, bound_value p.at) ∷ sc → AreBound new (param_names (take (i + 1) ps))
 bound_next ps i p text sc new lt is same h e name =
     ap (λ (s : Scope). is_some (bound name s)) e
-    ∙ some_of (bytes_eq name text) (value p.at) (bound name sc)
+    ∙ some_of (bytes_eq name text) (bound_value p.at) (bound name sc)
     ∙ ap (λ (t : List ℕ). cond (bytes_eq name t) true (is_some (bound name sc))) same
     ∙ ap (cond (bytes_eq name p.name) true) (h name)
     ∙ sym (among_last name (param_names (take i ps)) p.name)

@@ -6,8 +6,8 @@ use Rattle.script_grammar.specs.Tree.{Tree, APart, AStmt, BindPart, DefPart, Cal
 use Rattle.typing_rules.specs.declared.fault.NameFault.{NameFault}
 use Rattle.typing_rules.specs.declared.fault.NameFault.TheVariants.{Unknown, Missing, Extra, Repeated}
 use Rattle.typing_rules.specs.declared.uses.Target.{Target}
-use Rattle.typing_rules.specs.Arguments.{Parameter, Given}
-use Rattle.typing_rules.specs.NameFaults.{all_faults, earlier, faults_as, faults_in, is_before, number, repeats, repeats_in, token, told}
+use Rattle.typing_rules.specs.Arguments.{Parameter, GivenArgument}
+use Rattle.typing_rules.specs.NameFaults.{all_faults, earlier, faults_as, faults_in, is_before, number, repeats, repeats_in, token, reported_fault}
 use Rattle.typing_rules.specs.Scoping.{Meaning, Name, Scope, meant, names, target_of}
 use Rattle.name_scope.specs.Noted.{Noted, all_sooner, known, meaning_at, sooner, with_name, with_names, with_part, with_repeats, with_statement_names}
 
@@ -83,14 +83,14 @@ three_told : (g f : NameFault) (o : Option NameFault) → earlier (cond (is_befo
 three_told g f None = refl
 three_told g f (Some h) = of_three g f h
 
-kept_is_told : (g : NameFault) (fs : List NameFault) → all_sooner (Some g) fs ≡ Some (earlier g (told fs))
+kept_is_told : (g : NameFault) (fs : List NameFault) → all_sooner (Some g) fs ≡ Some (earlier g (reported_fault fs))
 kept_is_told g [] = refl
 kept_is_told g (f ∷ fs) =
     ap (λ (o : Option NameFault). all_sooner o fs) (some_cond (is_before g f) g f)
     ∙ kept_is_told (cond (is_before g f) g f) fs
-    ∙ ap (λ (x : NameFault). Some x) (three_told g f (told fs))
+    ∙ ap (λ (x : NameFault). Some x) (three_told g f (reported_fault fs))
 
-pub sooner_is_told : (fs : List NameFault) → all_sooner None fs ≡ told fs
+pub sooner_is_told : (fs : List NameFault) → all_sooner None fs ≡ reported_fault fs
 sooner_is_told [] = refl
 sooner_is_told (f ∷ fs) = kept_is_told f fs
 
@@ -127,7 +127,7 @@ part_noted n sc (IfPart i) semicolon = all_noted_is n (names sc i)
 
 -- ---- statements without a fault
 
-none_told : (fs : List NameFault) → told fs ≡ None → fs ≡ []
+none_told : (fs : List NameFault) → reported_fault fs ≡ None → fs ≡ []
 none_told [] h = refl
 none_told (f ∷ fs) h = cc
 
@@ -135,7 +135,7 @@ empty_behind : (fs gs : List NameFault) → fs ++ gs ≡ [] → gs ≡ []
 empty_behind [] gs h = h
 empty_behind (f ∷ fs) gs h = cc
 
-known_step : (at : ℕ) (m : Option (Target × List Parameter)) (given : List (Given ℕ)) (rest : List NameFault) → faults_as at m given ++ rest ≡ [] → (meaning_at at (target_of m) ≡ (at, target_of m) ∷ []) × (rest ≡ [])
+known_step : (at : ℕ) (m : Option (Target × List Parameter)) (given : List (GivenArgument ℕ)) (rest : List NameFault) → faults_as at m given ++ rest ≡ [] → (meaning_at at (target_of m) ≡ (at, target_of m) ∷ []) × (rest ≡ [])
 known_step at None given rest h = cc
 known_step at (Some x) given rest h = (refl, empty_behind (faults_as at (Some x) given) rest h)
 
@@ -145,7 +145,7 @@ all_known (x ∷ xs) h =
     let parts = known_step x.at x.meant x.given (all_faults xs) h in
     ap (λ (l : List Meaning). l ++ known xs) parts.0 ∙ ap (λ (l : List Meaning). meant x ∷ l) (all_known xs parts.1)
 
-pub fault_is : (n m : Noted) (sc : Scope) (s : Tree AStmt) → m ≡ with_statement_names n sc s → n.fault ≡ None → m.fault ≡ told (faults_in sc s)
+pub fault_is : (n m : Noted) (sc : Scope) (s : Tree AStmt) → m ≡ with_statement_names n sc s → n.fault ≡ None → m.fault ≡ reported_fault (faults_in sc s)
 fault_is n m sc s is clear = ap (λ (k : Noted). k.fault) is ∙ ap (λ (o : Option NameFault). all_sooner o (faults_in sc s)) clear ∙ sooner_is_told (faults_in sc s)
 
 pub names_are : (n m : Noted) (sc : Scope) (s : Tree AStmt) → m ≡ with_statement_names n sc s → n.fault ≡ None → m.fault ≡ None → m.found ≡ n.found ++ map meant (names sc s)

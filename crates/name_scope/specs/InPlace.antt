@@ -2,10 +2,10 @@
 use Rattle.std.specs.Prelude.{ℕ, zero, suc, List, [], ◌∷◌, Option, Some, None, is_some, Bool, true, false, cond}
 use Rattle.typing_rules.specs.declared.form.Form.{Form}
 use Rattle.typing_rules.specs.declared.form.Form.TheVariants.{InPlace, ByLabel, Perhaps}
-use Rattle.typing_rules.specs.Arguments.{Given, Parameter}
+use Rattle.typing_rules.specs.Arguments.{GivenArgument, Parameter}
 
 -- whether one of these arguments has a label
-abbrev pub has_label : List (Given ℕ) → Bool
+abbrev pub has_label : List (GivenArgument ℕ) → Bool
 has_label [] = false
 has_label (g ∷ gs) = cond (is_some g.0) true (has_label gs)
 

@@ -5,7 +5,7 @@ use Rattle.script_grammar.specs.Tree.{Sort, Tree, Many, APart, AParam, AStmt, An
 use Rattle.typing_rules.specs.declared.fault.NameFault.{NameFault}
 use Rattle.typing_rules.specs.declared.fault.NameFault.TheVariants.{Extra}
 use Rattle.typing_rules.specs.declared.uses.Target.{Target}
-use Rattle.typing_rules.specs.Arguments.{Parameter, Given, first_missing, is_needed, left_over}
+use Rattle.typing_rules.specs.Arguments.{Parameter, GivenArgument, first_missing, is_needed, left_over}
 use Rattle.typing_rules.specs.NameFaults.{faults_as, faults_in, is_before, missing_at, repeats}
 use Rattle.typing_rules.specs.Scoping.{Meaning, Name, Scope, inner_names, names, target_of, with_inners}
 use Rattle.name_scope.specs.declared.notes.Notes.{Notes}
@@ -27,7 +27,7 @@ all_sooner o [] = o
 all_sooner o (f ∷ fs) = all_sooner (sooner o f) fs
 
 -- the faults of a call of something with these parameters
-abbrev pub mismatches : ℕ → List Parameter → List (Given ℕ) → List NameFault
+abbrev pub mismatches : ℕ → List Parameter → List (GivenArgument ℕ) → List NameFault
 mismatches at ps gs = missing_at at (first_missing ps gs) ++ map (λ g. Extra g.1) (left_over ps gs)
 
 pub record Noted : Type 0 where
@@ -40,7 +40,10 @@ meaning_at at (Some t) = (at, Some t) ∷ []
 
 -- with one more name that is used, and with more of them
 abbrev pub with_name : Noted → Name → Noted
-with_name n x = record { found = n.found ++ meaning_at x.at (target_of x.meant); fault = all_sooner n.fault (faults_as x.at x.meant x.given) }
+with_name n x = record {
+  found = n.found ++ meaning_at x.at (target_of x.meant);
+  fault = all_sooner n.fault (faults_as x.at x.meant x.given);
+}
 
 abbrev pub with_names : Noted → List Name → Noted
 with_names n [] = n
@@ -66,7 +69,8 @@ with_repeats n ps = record { found = n.found; fault = all_sooner n.fault (repeat
 
 abbrev pub with_part : Noted → Scope → Tree APart → Noted
 with_part n sc (BindPart b) = with_names n (names sc b)
-with_part n sc (DefPart (Def at name ps equals is e)) = with_names (with_repeats n ps) (names sc (Def at name ps equals is e))
+with_part n sc (DefPart (Def at name ps equals is e)) = with_names (with_repeats n ps)
+    (names sc (Def at name ps equals is e))
 with_part n sc (CallPart c) = with_names n (names sc c)
 with_part n sc (IfPart i) = with_names n (names sc i)
 
@@ -77,7 +81,10 @@ known (x ∷ xs) = meaning_at x.at (target_of x.meant) ++ known xs
 
 -- what is known after one more statement
 abbrev pub with_statement_names : Noted → Scope → Tree AStmt → Noted
-with_statement_names n sc s = record { found = n.found ++ known (names sc s); fault = all_sooner n.fault (faults_in sc s) }
+with_statement_names n sc s = record {
+  found = n.found ++ known (names sc s);
+  fault = all_sooner n.fault (faults_in sc s);
+}
 
 abbrev pub found_in : Notes → List Meaning
 found_in n = map resolved n.found.items

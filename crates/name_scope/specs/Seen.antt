@@ -1,8 +1,8 @@
 -- What the program's values stand for.
 use Rattle.std.specs.Prelude.{ℕ, get_or, List, [], ◌∷◌, ◌++◌, map}
-use Rattle.typing_rules.specs.Arguments.{Given}
+use Rattle.typing_rules.specs.Arguments.{GivenArgument}
 pub use Rattle.typing_rules.specs.Rows.{seen_parameter}
-use Rattle.typing_rules.specs.Scoping.{Bound, Scope, value, function}
+use Rattle.typing_rules.specs.Scoping.{Bound, Scope, bound_value, bound_function}
 use Rattle.typing_rules.specs.declared.form.Form.{Form}
 use Rattle.typing_rules.specs.declared.form.Form.TheVariants.{InPlace, ByLabel, Perhaps}
 use Rattle.script_grammar.specs.declared.tree.ParamForm.{ParamForm}
@@ -17,12 +17,12 @@ use Rattle.name_scope.specs.declared.labels.Labels.{Labels}
 pub use Rattle.name_scope.specs.Labelled.{seen_label}
 use Rattle.name_scope.specs.Labelled.{left_in}
 
-abbrev pub seen_given : AGiven → Given ℕ
+abbrev pub seen_given : AGiven → GivenArgument ℕ
 seen_given g = (seen_label g.label, g.at)
 
 abbrev pub seen_bound : ABound → Bound
-seen_bound (bound.Value t) = value t
-seen_bound (bound.Function t ps) = function t (map seen_parameter ps.items)
+seen_bound (bound.Value t) = bound_value t
+seen_bound (bound.Function t ps) = bound_function t (map seen_parameter ps.items)
 
 -- the newest binding first
 abbrev pub newest_first : List Binding → Scope
@@ -40,7 +40,7 @@ abbrev pub token_at : List AGiven → ℕ → ℕ
 token_at gs i = get_or (map (λ g. g.at) gs) i 0
 
 -- the arguments that are left, by their places
-abbrev pub left_of : Labels → List (Given ℕ)
+abbrev pub left_of : Labels → List (GivenArgument ℕ)
 left_of t = left_in 0 (map seen_label t.labels.items) t.taken.items
 
 -- the form of a def's parameter

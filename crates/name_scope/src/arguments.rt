@@ -81,11 +81,13 @@ pub fn is_label(wanted: Option<&str>, label: Option<&str>) -> bool
     }
 }
 
-/// Whether no argument has a label, and there is just one for each parameter that is given in its place, and none must be
-/// given by its label: then no argument is missing, and none is left over.
+/// Whether no argument has a label, and there is just one for each parameter that is given in its place, and none must
+/// be given by its label: then no argument is missing, and none is left over.
 pub(crate) fn are_filled(params: &[Parameter<'_>], args: &[Arg]) -> bool
-    ensures missing { result ≡ true → first_missing (map seen_parameter params.now) (tokens_given (listed (map view_arg args.now))) ≡ None }
-    ensures left { result ≡ true → left_over (map seen_parameter params.now) (tokens_given (listed (map view_arg args.now))) ≡ [] }
+    ensures missing { result ≡ true
+        → first_missing (map seen_parameter params.now) (tokens_given (listed (map view_arg args.now))) ≡ None }
+    ensures left { result ≡ true
+        → left_over (map seen_parameter params.now) (tokens_given (listed (map view_arg args.now))) ≡ [] }
 {
     if has_label(args) {
         return false;
@@ -101,8 +103,10 @@ pub(crate) fn match_arguments<'a>(
     params: &[Parameter<'a>],
     given: &mut Untaken<'_>,
 ) -> Option<&'a str>
-    ensures missing { seen_label result ≡ first_missing (map seen_parameter params.now) (map seen_given given.old.items) }
-    ensures left { map seen_given given.new.items ≡ left_over (map seen_parameter params.now) (map seen_given given.old.items) }
+    ensures missing { seen_label result
+        ≡ first_missing (map seen_parameter params.now) (map seen_given given.old.items) }
+    ensures left { map seen_given given.new.items
+        ≡ left_over (map seen_parameter params.now) (map seen_given given.old.items) }
 {
     let mut missing = None;
     for param in params {
@@ -131,7 +135,8 @@ pub(crate) fn match_labels<'a>(
     params: &[Parameter<'a>],
     labels: &mut Labels<'_>,
 ) -> Result<Option<&'a str>, Memory>
-    ensures missing { IfOk result (λ m. seen_label m ≡ first_missing (map seen_parameter params.now) (left_of labels.old)) }
+    ensures missing { IfOk result (λ m. seen_label m
+        ≡ first_missing (map seen_parameter params.now) (left_of labels.old)) }
     ensures left { OnOk result (left_of labels.new ≡ left_over (map seen_parameter params.now) (left_of labels.old)) }
 {
     let mut missing = None;
@@ -145,7 +150,8 @@ pub(crate) fn match_labels<'a>(
 /// Takes out the first argument with this label, or the first without one, and answers whether there is any.
 fn takes(labels: &mut Labels<'_>, label: Option<&str>) -> Result<bool, Memory>
     ensures taken { IfOk result (λ yes. yes ≡ is_some (argument (seen_label label.entry) (left_of labels.old))) }
-    ensures others { OnOk result (left_of labels.new ≡ the_others (left_of labels.old) (argument (seen_label label.entry) (left_of labels.old))) }
+    ensures others { OnOk result (left_of labels.new
+        ≡ the_others (left_of labels.old) (argument (seen_label label.entry) (left_of labels.old))) }
 {
     let place = labels.take(label)?;
     Ok(place.is_some())
@@ -208,7 +214,9 @@ fn one_less(count: usize) -> Option<usize>
 /// Takes out the first argument with this label, or the first without one, and answers whether there is any.
 fn take_argument(given: &mut Untaken<'_>, label: Option<&str>) -> bool
     ensures taken { result ≡ is_some (argument (seen_label label.entry) (map seen_given given.old.items)) }
-    ensures others { map seen_given given.new.items ≡ the_others (map seen_given given.old.items) (argument (seen_label label.entry) (map seen_given given.old.items)) }
+    ensures others { map seen_given given.new.items
+        ≡ the_others (map seen_given given.old.items)
+        (argument (seen_label label.entry) (map seen_given given.old.items)) }
 {
     for index in 0..given.len() {
         if is_label(label, given[index].label) {

@@ -8,8 +8,8 @@ use indexmap::IndexMap;
 use liq_base::Memory;
 use std::alloc::Global;
 
-/// The arguments of a call by the places at which they stand, those of them that no parameter has taken yet, and for each
-/// label the first of these.
+/// The arguments of a call by the places at which they stand, those of them that no parameter has taken yet, and for
+/// each label the first of these.
 #[derive(Drop)]
 pub struct Labels<'a> {
     labels: Vec<Option<&'a str>>,
@@ -80,7 +80,8 @@ impl<'a> Labels<'a> {
     /// Where memory runs out none is taken.
     pub fn take(&mut self, label: Option<&str>) -> Result<Option<usize>, Memory>
         ensures taken { IfOk result (λ r. r ≡ first_of (seen_label label.entry) (left_of self.old)) }
-        ensures others { OnOk result (left_of self.new ≡ the_others (left_of self.old) (argument (seen_label label.entry) (left_of self.old))) }
+        ensures others { OnOk result (left_of self.new
+            ≡ the_others (left_of self.old) (argument (seen_label label.entry) (left_of self.old))) }
     {
         let Some(place) = head(label, &self.named, self.plain) else {
             return Ok(None);
@@ -141,8 +142,11 @@ fn set_head<'a>(
     plain: &mut Option<usize>,
     head: Option<usize>,
 ) -> Result<(), Memory>
-    ensures set { OnOk result ((other : Option (List ℕ)) → head_at named.new plain.new other ≡ cond (is_label other (seen_label label.entry)) head (head_at named.old plain.old other)) }
-    ensures err { OnErr result ((other : Option (List ℕ)) → head_at named.new plain.new other ≡ head_at named.old plain.old other) }
+    ensures set { OnOk result ((other : Option (List ℕ))
+        → head_at named.new plain.new other
+        ≡ cond (is_label other (seen_label label.entry)) head (head_at named.old plain.old other)) }
+    ensures err { OnErr result ((other : Option (List ℕ))
+        → head_at named.new plain.new other ≡ head_at named.old plain.old other) }
 {
     match label {
         None => {

@@ -120,7 +120,10 @@ impl Notes {
 
     /// Adds a name that stands for something.
     fn add_found(&mut self, at: u32, target: Target) -> Result<(), Memory>
-        ensures found { OnOk result (self.new.found.items ≡ self.old.found.items ++ record { at = at; target = target } ∷ []) }
+        ensures found { OnOk result (self.new.found.items ≡ self.old.found.items ++ record {
+          at = at;
+          target = target;
+        } ∷ []) }
         ensures fault { self.new.fault ≡ self.old.fault }
     {
         self.found.push(Resolved { at, target })?;
@@ -135,7 +138,9 @@ impl Notes {
         params: &[Parameter<'_>],
         args: &[Arg],
     ) -> Result<(), Memory>
-        ensures fault { OnOk result (self.new.fault ≡ all_sooner self.old.fault (mismatches at (map seen_parameter params.now) (tokens_given (listed (map view_arg args.now))))) }
+        ensures fault { OnOk result (self.new.fault
+            ≡ all_sooner self.old.fault
+            (mismatches at (map seen_parameter params.now) (tokens_given (listed (map view_arg args.now))))) }
         ensures found { OnOk result (self.new.found ≡ self.old.found) }
     {
         if are_filled(params, args) {
@@ -159,7 +164,8 @@ impl Notes {
         params: &[Parameter<'_>],
         given: &[Given<'_>],
     ) -> Result<(), Memory>
-        ensures fault { OnOk result (self.new.fault ≡ all_sooner self.old.fault (mismatches at (map seen_parameter params.now) (map seen_given given.now))) }
+        ensures fault { OnOk result (self.new.fault
+            ≡ all_sooner self.old.fault (mismatches at (map seen_parameter params.now) (map seen_given given.now))) }
         ensures found { OnOk result (self.new.found ≡ self.old.found) }
     {
         let mut labels = Labels::new(alloc, labels_of(alloc, given)?)?;
@@ -171,7 +177,8 @@ impl Notes {
 
     // Adds the arguments that are left in a table of their labels.
     fn add_left(&mut self, labels: &Labels<'_>, given: &[Given<'_>])
-        ensures fault { self.new.fault ≡ all_sooner self.old.fault (map (λ g. Extra (token_at given.now g.1)) (left_of labels.now)) }
+        ensures fault { self.new.fault
+            ≡ all_sooner self.old.fault (map (λ g. Extra (token_at given.now g.1)) (left_of labels.now)) }
         ensures found { self.new.found ≡ self.old.found }
     {
         for index in 0..labels.count() {
@@ -191,7 +198,8 @@ impl Notes {
 
     /// Adds the first missing argument of a call, if there is one.
     fn add_missing(&mut self, alloc: Global, at: u32, missing: Option<&str>) -> Result<(), Memory>
-        ensures fault { OnOk result (self.new.fault ≡ all_sooner self.old.fault (missing_at at (seen_label missing.entry))) }
+        ensures fault { OnOk result (self.new.fault
+            ≡ all_sooner self.old.fault (missing_at at (seen_label missing.entry))) }
         ensures found { OnOk result (self.new.found ≡ self.old.found) }
     {
         match missing {
@@ -226,7 +234,8 @@ impl Notes {
 
     /// Adds the parameters of a def whose names earlier ones have.
     pub fn add_repeats(&mut self, alloc: Global, params: &[Param]) -> Result<(), Memory>
-        ensures fault { OnOk result (self.new.fault ≡ all_sooner self.old.fault (repeats [] (listed (map view_param params.now)))) }
+        ensures fault { OnOk result (self.new.fault
+            ≡ all_sooner self.old.fault (repeats [] (listed (map view_param params.now)))) }
         ensures found { OnOk result (self.new.found ≡ self.old.found) }
     {
         if params.len() > FEW_PARAMS {
@@ -249,7 +258,8 @@ impl Notes {
 
     // The same with a table of the earlier names.
     fn add_repeats_of_many<'a>(&mut self, alloc: Global, params: &'a [Param]) -> Result<(), Memory>
-        ensures fault { OnOk result (self.new.fault ≡ all_sooner self.old.fault (repeats [] (listed (map view_param params.entry.now)))) }
+        ensures fault { OnOk result (self.new.fault
+            ≡ all_sooner self.old.fault (repeats [] (listed (map view_param params.entry.now)))) }
         ensures found { OnOk result (self.new.found ≡ self.old.found) }
     {
         let mut earlier: Scope<'a> = Scope::new(alloc);
@@ -263,7 +273,11 @@ impl Notes {
 
     /// Adds a name outside a call.
     pub fn add_value(&mut self, scopes: Scopes<'_, '_>, at: u32, name: &Text) -> Result<(), Memory>
-        ensures added { OnOk result (noted self.new ≡ with_name (noted self.old) (record { at = at; meant = no_parameters (value_meant (bound name.now (both_scopes scopes.entry))); given = [] })) }
+        ensures added { OnOk result (noted self.new ≡ with_name (noted self.old) (record {
+          at = at;
+          meant = no_parameters (value_meant (bound name.now (both_scopes scopes.entry)));
+          given = [];
+        })) }
     {
         match scopes.find(name.as_str()) {
             Some(Bound::Value(token)) => self.add_found(at, Target::Slot(*token)),
@@ -283,7 +297,11 @@ impl Notes {
         name: &Text,
         args: &[Arg],
     ) -> Result<(), Memory>
-        ensures added { OnOk result (noted self.new ≡ with_name (noted self.old) (record { at = at; meant = call_meant name.now (bound name.now (both_scopes scopes.entry)); given = tokens_given (listed (map view_arg args.now)) })) }
+        ensures added { OnOk result (noted self.new ≡ with_name (noted self.old) (record {
+          at = at;
+          meant = call_meant name.now (bound name.now (both_scopes scopes.entry));
+          given = tokens_given (listed (map view_arg args.now));
+        })) }
     {
         match scopes.find(name.as_str()) {
             Some(Bound::Value(_)) => {
@@ -306,7 +324,11 @@ impl Notes {
         name: &Text,
         args: &[Arg],
     ) -> Result<(), Memory>
-        ensures added { OnOk result (noted self.new ≡ with_name (noted self.old) (record { at = at; meant = call_meant name.now None; given = tokens_given (listed (map view_arg args.now)) })) }
+        ensures added { OnOk result (noted self.new ≡ with_name (noted self.old) (record {
+          at = at;
+          meant = call_meant name.now None;
+          given = tokens_given (listed (map view_arg args.now));
+        })) }
     {
         match builtin_named(name.as_str()) {
             None => {

@@ -1,7 +1,7 @@
 // What the names of a statement stand for, or the fault that is told.
 ghost use Rattle.std.specs.Prelude.{◌≡◌, ◌≢◌, ◌++◌, IfErr, IsOkUnless, None, OnOk, Some, map, option_map};
 ghost use Rattle.script_grammar.specs.View.{view_stmt};
-ghost use Rattle.typing_rules.specs.NameFaults.{faults_in, in_statement as the_fault_in, told};
+ghost use Rattle.typing_rules.specs.NameFaults.{faults_in, name_fault_in as the_fault_in, reported_fault};
 ghost use Rattle.typing_rules.specs.Scoping.{meant, names, with_statement};
 ghost use Rattle.name_scope.specs.Noted.{found_in};
 ghost use Rattle.name_scope.specs.Seen.{in_scope};
@@ -28,11 +28,15 @@ pub fn resolve_statement<'a>(
     number: u32,
 ) -> Result<(), TypeFault>
     requires clear { notes.old.fault ≡ None }
-    ensures names { OnOk result (found_in notes.new ≡ found_in notes.old ++ map meant (names (in_scope scope.old) (view_stmt stmt.entry.now))) }
+    ensures names { OnOk result (found_in notes.new
+        ≡ found_in notes.old ++ map meant (names (in_scope scope.old) (view_stmt stmt.entry.now))) }
     ensures bound { OnOk result (in_scope scope.new ≡ with_statement (view_stmt stmt.entry.now) (in_scope scope.old)) }
     ensures clear { OnOk result (notes.new.fault ≡ None) }
-    ensures faultless { OnOk result (told (faults_in (in_scope scope.old) (view_stmt stmt.entry.now)) ≡ None) }
-    ensures told { IfErr result (λ f. f ≢ TypeFault.Memory → option_map (the_fault_in number) (told (faults_in (in_scope scope.old) (view_stmt stmt.entry.now))) ≡ Some f) }
+    ensures faultless { OnOk result (reported_fault (faults_in (in_scope scope.old) (view_stmt stmt.entry.now))
+        ≡ None) }
+    ensures told { IfErr result (λ f. f ≢ TypeFault.Memory
+        → option_map (the_fault_in number) (reported_fault (faults_in (in_scope scope.old) (view_stmt stmt.entry.now)))
+        ≡ Some f) }
 {
     note_or_refuse(alloc, scope, notes, stmt)?;
     check_fault(notes, number)?;
@@ -76,8 +80,11 @@ fn note_or_refuse<'a>(
     stmt: &'a Stmt,
 ) -> Result<(), TypeFault>
     requires clear { notes.old.fault ≡ None }
-    ensures fault { OnOk result (notes.new.fault ≡ told (faults_in (in_scope scope.old) (view_stmt stmt.entry.now))) }
-    ensures names { OnOk result (notes.new.fault ≡ None → found_in notes.new ≡ found_in notes.old ++ map meant (names (in_scope scope.old) (view_stmt stmt.entry.now))) }
+    ensures fault { OnOk result (notes.new.fault
+        ≡ reported_fault (faults_in (in_scope scope.old) (view_stmt stmt.entry.now))) }
+    ensures names { OnOk result (notes.new.fault ≡ None
+        → found_in notes.new ≡ found_in notes.old
+        ++ map meant (names (in_scope scope.old) (view_stmt stmt.entry.now))) }
     ensures bound { OnOk result (in_scope scope.new ≡ with_statement (view_stmt stmt.entry.now) (in_scope scope.old)) }
     ensures refused { IsOkUnless result TypeFault.Memory }
 {

@@ -2,8 +2,8 @@
 ghost use Rattle.std.specs.Prelude.{◌≡◌, ◌++◌, ◌∷◌, OnOk, None, map};
 ghost use Rattle.script_grammar.specs.View.{listed, view_bind, view_call, view_def, view_expr, view_full, view_if, view_inner, view_param, view_part, view_stmt};
 ghost use Rattle.typing_rules.specs.Arguments.{parameters_of};
-ghost use Rattle.typing_rules.specs.NameFaults.{faults_in, told};
-ghost use Rattle.typing_rules.specs.Scoping.{function, inner_names, meant, names, with_bind, with_inners, with_params, with_statement};
+ghost use Rattle.typing_rules.specs.NameFaults.{faults_in, reported_fault};
+ghost use Rattle.typing_rules.specs.Scoping.{bound_function, inner_names, meant, names, with_bind, with_inners, with_params, with_statement};
 ghost use Rattle.name_scope.specs.Noted.{body_names, found_in, names_each, noted, with_names, with_part, with_repeats};
 ghost use Rattle.script_grammar.specs.Tree.{Stmt as statement};
 ghost use Rattle.name_scope.specs.Seen.{both_scopes, in_scope};
@@ -23,7 +23,8 @@ pub fn note_def<'a>(
     notes: &mut Notes,
     def: &'a Def,
 ) -> Result<(), Memory>
-    ensures noted { OnOk result (noted notes.new ≡ with_names (noted notes.old) (names (in_scope outer.now) (view_def def.entry.now))) }
+    ensures noted { OnOk result (noted notes.new
+        ≡ with_names (noted notes.old) (names (in_scope outer.now) (view_def def.entry.now))) }
 {
     let mut inner: Scope<'a> = Scope::new(alloc);
     note_defaults(
@@ -48,8 +49,11 @@ pub(crate) fn note_statement<'a>(
     stmt: &'a Stmt,
 ) -> Result<(), Memory>
     requires clear { notes.old.fault ≡ None }
-    ensures fault { OnOk result (notes.new.fault ≡ told (faults_in (in_scope scope.old) (view_stmt stmt.entry.now))) }
-    ensures names { OnOk result (notes.new.fault ≡ None → found_in notes.new ≡ found_in notes.old ++ map meant (names (in_scope scope.old) (view_stmt stmt.entry.now))) }
+    ensures fault { OnOk result (notes.new.fault
+        ≡ reported_fault (faults_in (in_scope scope.old) (view_stmt stmt.entry.now))) }
+    ensures names { OnOk result (notes.new.fault ≡ None
+        → found_in notes.new ≡ found_in notes.old
+        ++ map meant (names (in_scope scope.old) (view_stmt stmt.entry.now))) }
     ensures bound { OnOk result (in_scope scope.new ≡ with_statement (view_stmt stmt.entry.now) (in_scope scope.old)) }
 {
     note_part(alloc, scope, notes, &stmt.part, stmt.semicolon)?;
@@ -63,7 +67,8 @@ fn note_default(
     notes: &mut Notes,
     param: &Param,
 ) -> Result<(), Memory>
-    ensures noted { OnOk result (noted notes.new ≡ with_names (noted notes.old) (names (both_scopes scopes.entry) (view_param param.now))) }
+    ensures noted { OnOk result (noted notes.new
+        ≡ with_names (noted notes.old) (names (both_scopes scopes.entry) (view_param param.now))) }
 {
     match &param.form {
         ParamForm::Plain => Ok(()),
@@ -79,7 +84,8 @@ fn note_defaults(
     notes: &mut Notes,
     params: &[Param],
 ) -> Result<(), Memory>
-    ensures noted { OnOk result (noted notes.new ≡ with_names (noted notes.old) (names_each (both_scopes scopes.entry) (map view_param params.now))) }
+    ensures noted { OnOk result (noted notes.new
+        ≡ with_names (noted notes.old) (names_each (both_scopes scopes.entry) (map view_param params.now))) }
 {
     for param in params {
         note_default(alloc, scopes, notes, param)?;
@@ -89,7 +95,8 @@ fn note_defaults(
 
 /// Binds parameters.
 fn bind_params<'a>(inner: &mut Scope<'a>, params: &'a [Param]) -> Result<(), Memory>
-    ensures bound { OnOk result (in_scope inner.new ≡ with_params (listed (map view_param params.entry.now)) (in_scope inner.old)) }
+    ensures bound { OnOk result (in_scope inner.new
+        ≡ with_params (listed (map view_param params.entry.now)) (in_scope inner.old)) }
 {
     for param in params {
         inner.bind(param.name.as_str(), Bound::Value(param.at))?;
@@ -105,8 +112,10 @@ fn note_inners<'a>(
     notes: &mut Notes,
     inners: &'a [Inner],
 ) -> Result<(), Memory>
-    ensures noted { OnOk result (noted notes.new ≡ with_names (noted notes.old) (inner_names (in_scope inner.old ++ in_scope outer.now) (listed (map view_inner inners.entry.now)))) }
-    ensures bound { OnOk result (in_scope inner.new ++ in_scope outer.now ≡ with_inners (listed (map view_inner inners.entry.now)) (in_scope inner.old ++ in_scope outer.now)) }
+    ensures noted { OnOk result (noted notes.new ≡ with_names (noted notes.old) (inner_names (in_scope inner.old
+        ++ in_scope outer.now) (listed (map view_inner inners.entry.now)))) }
+    ensures bound { OnOk result (in_scope inner.new ++ in_scope outer.now
+        ≡ with_inners (listed (map view_inner inners.entry.now)) (in_scope inner.old ++ in_scope outer.now)) }
 {
     for one in inners {
         note_full(
@@ -131,7 +140,10 @@ fn note_body<'a>(
     notes: &mut Notes,
     def: &'a Def,
 ) -> Result<(), Memory>
-    ensures noted { OnOk result (noted notes.new ≡ with_names (noted notes.old) (body_names (with_params (listed (map view_param def.entry.now.params.items)) (in_scope inner.old) ++ in_scope outer.now) (listed (map view_inner def.entry.now.inner.items)) (view_expr def.entry.now.result))) }
+    ensures noted { OnOk result (noted notes.new
+        ≡ with_names (noted notes.old)
+        (body_names (with_params (listed (map view_param def.entry.now.params.items)) (in_scope inner.old)
+        ++ in_scope outer.now) (listed (map view_inner def.entry.now.inner.items)) (view_expr def.entry.now.result))) }
 {
     bind_params(inner, &def.params)?;
     note_inners(alloc, outer, inner, notes, &def.inner)?;
@@ -154,7 +166,8 @@ fn note_value_part(
     notes: &mut Notes,
     full: &Full,
 ) -> Result<(), Memory>
-    ensures noted { OnOk result (noted notes.new ≡ with_names (noted notes.old) (names (in_scope scope.now) (view_full full.now))) }
+    ensures noted { OnOk result (noted notes.new
+        ≡ with_names (noted notes.old) (names (in_scope scope.now) (view_full full.now))) }
 {
     let none = Scope::new(alloc);
     note_full(
@@ -176,7 +189,8 @@ fn note_bind_part<'a>(
     notes: &mut Notes,
     bind: &'a Bind,
 ) -> Result<(), Memory>
-    ensures noted { OnOk result (noted notes.new ≡ with_names (noted notes.old) (names (in_scope scope.old) (view_bind bind.entry.now))) }
+    ensures noted { OnOk result (noted notes.new
+        ≡ with_names (noted notes.old) (names (in_scope scope.old) (view_bind bind.entry.now))) }
     ensures bound { OnOk result (in_scope scope.new ≡ with_bind (view_bind bind.entry.now) (in_scope scope.old)) }
 {
     note_value_part(alloc, &*scope, notes, &bind.value)?;
@@ -191,8 +205,15 @@ fn note_def_part<'a>(
     notes: &mut Notes,
     def: &'a Def,
 ) -> Result<(), Memory>
-    ensures noted { OnOk result (noted notes.new ≡ with_names (with_repeats (noted notes.old) (listed (map view_param def.entry.now.params.items))) (names (in_scope scope.old) (view_def def.entry.now))) }
-    ensures bound { OnOk result (in_scope scope.new ≡ (def.entry.now.name, function def.entry.now.at (parameters_of (listed (map view_param def.entry.now.params.items)))) ∷ in_scope scope.old) }
+    ensures noted { OnOk result (noted notes.new
+        ≡ with_names (with_repeats (noted notes.old) (listed (map view_param def.entry.now.params.items)))
+        (names (in_scope scope.old) (view_def def.entry.now))) }
+    ensures bound { OnOk result (in_scope scope.new
+        ≡ (
+          def.entry.now.name,
+          bound_function def.entry.now.at
+              (parameters_of (listed (map view_param def.entry.now.params.items))),
+        ) ∷ in_scope scope.old) }
 {
     notes.add_repeats(alloc, &def.params)?;
     note_def(alloc, &*scope, notes, def)?;
@@ -208,7 +229,8 @@ fn note_call_part(
     notes: &mut Notes,
     call: &Call,
 ) -> Result<(), Memory>
-    ensures noted { OnOk result (noted notes.new ≡ with_names (noted notes.old) (names (in_scope scope.now) (view_call call.now))) }
+    ensures noted { OnOk result (noted notes.new
+        ≡ with_names (noted notes.old) (names (in_scope scope.now) (view_call call.now))) }
 {
     let none = Scope::new(alloc);
     note_call(
@@ -230,7 +252,8 @@ fn note_if_part(
     notes: &mut Notes,
     choice: &If,
 ) -> Result<(), Memory>
-    ensures noted { OnOk result (noted notes.new ≡ with_names (noted notes.old) (names (in_scope scope.now) (view_if choice.now))) }
+    ensures noted { OnOk result (noted notes.new
+        ≡ with_names (noted notes.old) (names (in_scope scope.now) (view_if choice.now))) }
 {
     let none = Scope::new(alloc);
     note_choice(
@@ -253,8 +276,10 @@ fn note_part<'a>(
     part: &'a StmtPart,
     _semicolon: bool,
 ) -> Result<(), Memory>
-    ensures noted { OnOk result (noted notes.new ≡ with_part (noted notes.old) (in_scope scope.old) (view_part part.entry.now)) }
-    ensures bound { OnOk result (in_scope scope.new ≡ with_statement (statement (view_part part.entry.now) _semicolon) (in_scope scope.old)) }
+    ensures noted { OnOk result (noted notes.new
+        ≡ with_part (noted notes.old) (in_scope scope.old) (view_part part.entry.now)) }
+    ensures bound { OnOk result (in_scope scope.new
+        ≡ with_statement (statement (view_part part.entry.now) _semicolon) (in_scope scope.old)) }
 {
     match part {
         StmtPart::Bind(bind) => {

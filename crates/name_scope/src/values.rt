@@ -21,7 +21,8 @@ pub fn note_full(
     notes: &mut Notes,
     full: &Full,
 ) -> Result<(), Memory>
-    ensures { OnOk result (noted notes.new ≡ with_names (noted notes.old) (names (both_scopes scopes.entry) (view_full full.now))) }
+    ensures { OnOk result (noted notes.new
+        ≡ with_names (noted notes.old) (names (both_scopes scopes.entry) (view_full full.now))) }
 {
     match full {
         Full::Minus { at: _, number: _ } => Ok(()),
@@ -37,7 +38,8 @@ pub fn note_expr(
     notes: &mut Notes,
     expr: &Expr,
 ) -> Result<(), Memory>
-    ensures { OnOk result (noted notes.new ≡ with_names (noted notes.old) (names (both_scopes scopes.entry) (view_expr expr.now))) }
+    ensures { OnOk result (noted notes.new
+        ≡ with_names (noted notes.old) (names (both_scopes scopes.entry) (view_expr expr.now))) }
 {
     note_and(alloc, scopes, notes, &expr.first)?;
     note_ands(alloc, scopes, notes, &expr.rest)?;
@@ -52,7 +54,8 @@ pub fn note_call(
     notes: &mut Notes,
     call: &Call,
 ) -> Result<(), Memory>
-    ensures { OnOk result (noted notes.new ≡ with_names (noted notes.old) (names (both_scopes scopes.entry) (view_call call.now))) }
+    ensures { OnOk result (noted notes.new
+        ≡ with_names (noted notes.old) (names (both_scopes scopes.entry) (view_call call.now))) }
 {
     notes.add_call(alloc, scopes, call.at, &call.name, &call.args)?;
     note_args(alloc, scopes, notes, &call.args)?;
@@ -67,7 +70,8 @@ pub fn note_choice(
     notes: &mut Notes,
     choice: &If,
 ) -> Result<(), Memory>
-    ensures { OnOk result (noted notes.new ≡ with_names (noted notes.old) (names (both_scopes scopes.entry) (view_if choice.now))) }
+    ensures { OnOk result (noted notes.new
+        ≡ with_names (noted notes.old) (names (both_scopes scopes.entry) (view_if choice.now))) }
 {
     note_full(alloc, scopes, notes, &choice.condition)?;
     note_full(alloc, scopes, notes, &choice.then_part)?;
@@ -82,7 +86,8 @@ fn note_ands(
     notes: &mut Notes,
     ands: &[And],
 ) -> Result<(), Memory>
-    ensures { OnOk result (noted notes.new ≡ with_names (noted notes.old) (names_each (both_scopes scopes.entry) (map view_and ands.now))) }
+    ensures { OnOk result (noted notes.new
+        ≡ with_names (noted notes.old) (names_each (both_scopes scopes.entry) (map view_and ands.now))) }
 {
     for and in ands {
         note_and(alloc, scopes, notes, and)?;
@@ -97,7 +102,8 @@ fn note_and(
     notes: &mut Notes,
     and: &And,
 ) -> Result<(), Memory>
-    ensures { OnOk result (noted notes.new ≡ with_names (noted notes.old) (names (both_scopes scopes.entry) (view_and and.now))) }
+    ensures { OnOk result (noted notes.new
+        ≡ with_names (noted notes.old) (names (both_scopes scopes.entry) (view_and and.now))) }
 {
     note_not(alloc, scopes, notes, &and.first)?;
     note_nots(alloc, scopes, notes, &and.rest)?;
@@ -111,7 +117,8 @@ fn note_nots(
     notes: &mut Notes,
     nots: &[Not],
 ) -> Result<(), Memory>
-    ensures { OnOk result (noted notes.new ≡ with_names (noted notes.old) (names_each (both_scopes scopes.entry) (map view_not nots.now))) }
+    ensures { OnOk result (noted notes.new
+        ≡ with_names (noted notes.old) (names_each (both_scopes scopes.entry) (map view_not nots.now))) }
 {
     for not in nots {
         note_not(alloc, scopes, notes, not)?;
@@ -126,7 +133,8 @@ fn note_not(
     notes: &mut Notes,
     not: &Not,
 ) -> Result<(), Memory>
-    ensures { OnOk result (noted notes.new ≡ with_names (noted notes.old) (names (both_scopes scopes.entry) (view_not not.now))) }
+    ensures { OnOk result (noted notes.new
+        ≡ with_names (noted notes.old) (names (both_scopes scopes.entry) (view_not not.now))) }
 {
     note_compare(alloc, scopes, notes, &not.inner)
 }
@@ -138,7 +146,8 @@ fn note_compare(
     notes: &mut Notes,
     compare: &Compare,
 ) -> Result<(), Memory>
-    ensures { OnOk result (noted notes.new ≡ with_names (noted notes.old) (names (both_scopes scopes.entry) (view_compare compare.now))) }
+    ensures { OnOk result (noted notes.new
+        ≡ with_names (noted notes.old) (names (both_scopes scopes.entry) (view_compare compare.now))) }
 {
     note_sum(alloc, scopes, notes, &compare.left)?;
     match &compare.right {
@@ -157,7 +166,8 @@ fn note_sum(
     notes: &mut Notes,
     sum: &Sum,
 ) -> Result<(), Memory>
-    ensures { OnOk result (noted notes.new ≡ with_names (noted notes.old) (names (both_scopes scopes.entry) (view_sum sum.now))) }
+    ensures { OnOk result (noted notes.new
+        ≡ with_names (noted notes.old) (names (both_scopes scopes.entry) (view_sum sum.now))) }
 {
     note_product(alloc, scopes, notes, &sum.first)?;
     note_addends(alloc, scopes, notes, &sum.rest)?;
@@ -171,7 +181,8 @@ fn note_addends(
     notes: &mut Notes,
     addends: &[Added],
 ) -> Result<(), Memory>
-    ensures { OnOk result (noted notes.new ≡ with_names (noted notes.old) (names_each (both_scopes scopes.entry) (map view_added addends.now))) }
+    ensures { OnOk result (noted notes.new
+        ≡ with_names (noted notes.old) (names_each (both_scopes scopes.entry) (map view_added addends.now))) }
 {
     for added in addends {
         note_added(alloc, scopes, notes, added)?;
@@ -186,7 +197,8 @@ fn note_added(
     notes: &mut Notes,
     added: &Added,
 ) -> Result<(), Memory>
-    ensures { OnOk result (noted notes.new ≡ with_names (noted notes.old) (names (both_scopes scopes.entry) (view_added added.now))) }
+    ensures { OnOk result (noted notes.new
+        ≡ with_names (noted notes.old) (names (both_scopes scopes.entry) (view_added added.now))) }
 {
     note_product(alloc, scopes, notes, &added.product)
 }
@@ -198,7 +210,8 @@ fn note_product(
     notes: &mut Notes,
     product: &Product,
 ) -> Result<(), Memory>
-    ensures { OnOk result (noted notes.new ≡ with_names (noted notes.old) (names (both_scopes scopes.entry) (view_product product.now))) }
+    ensures { OnOk result (noted notes.new
+        ≡ with_names (noted notes.old) (names (both_scopes scopes.entry) (view_product product.now))) }
 {
     note_operand(alloc, scopes, notes, &product.first)?;
     note_factors(alloc, scopes, notes, &product.rest)?;
@@ -212,7 +225,8 @@ fn note_factors(
     notes: &mut Notes,
     factors: &[Multiplied],
 ) -> Result<(), Memory>
-    ensures { OnOk result (noted notes.new ≡ with_names (noted notes.old) (names_each (both_scopes scopes.entry) (map view_multiplied factors.now))) }
+    ensures { OnOk result (noted notes.new
+        ≡ with_names (noted notes.old) (names_each (both_scopes scopes.entry) (map view_multiplied factors.now))) }
 {
     for multiplied in factors {
         note_multiplied(alloc, scopes, notes, multiplied)?;
@@ -227,7 +241,8 @@ fn note_multiplied(
     notes: &mut Notes,
     multiplied: &Multiplied,
 ) -> Result<(), Memory>
-    ensures { OnOk result (noted notes.new ≡ with_names (noted notes.old) (names (both_scopes scopes.entry) (view_multiplied multiplied.now))) }
+    ensures { OnOk result (noted notes.new
+        ≡ with_names (noted notes.old) (names (both_scopes scopes.entry) (view_multiplied multiplied.now))) }
 {
     note_operand(alloc, scopes, notes, &multiplied.operand)
 }
@@ -239,7 +254,8 @@ fn note_operand(
     notes: &mut Notes,
     operand: &tree::Operand,
 ) -> Result<(), Memory>
-    ensures { OnOk result (noted notes.new ≡ with_names (noted notes.old) (names (both_scopes scopes.entry) (view_operand operand.now))) }
+    ensures { OnOk result (noted notes.new
+        ≡ with_names (noted notes.old) (names (both_scopes scopes.entry) (view_operand operand.now))) }
 {
     match operand {
         tree::Operand::Literal { at: _, value: _ } => Ok(()),
@@ -264,7 +280,8 @@ fn note_fulls(
     notes: &mut Notes,
     parts: &[Full],
 ) -> Result<(), Memory>
-    ensures { OnOk result (noted notes.new ≡ with_names (noted notes.old) (names_each (both_scopes scopes.entry) (map view_full parts.now))) }
+    ensures { OnOk result (noted notes.new
+        ≡ with_names (noted notes.old) (names_each (both_scopes scopes.entry) (map view_full parts.now))) }
 {
     for part in parts {
         note_full(alloc, scopes, notes, part)?;
@@ -279,7 +296,8 @@ fn note_args(
     notes: &mut Notes,
     args: &[Arg],
 ) -> Result<(), Memory>
-    ensures { OnOk result (noted notes.new ≡ with_names (noted notes.old) (names_each (both_scopes scopes.entry) (map view_arg args.now))) }
+    ensures { OnOk result (noted notes.new
+        ≡ with_names (noted notes.old) (names_each (both_scopes scopes.entry) (map view_arg args.now))) }
 {
     for arg in args {
         note_arg(alloc, scopes, notes, arg)?;
@@ -294,7 +312,8 @@ fn note_arg(
     notes: &mut Notes,
     arg: &Arg,
 ) -> Result<(), Memory>
-    ensures { OnOk result (noted notes.new ≡ with_names (noted notes.old) (names (both_scopes scopes.entry) (view_arg arg.now))) }
+    ensures { OnOk result (noted notes.new
+        ≡ with_names (noted notes.old) (names (both_scopes scopes.entry) (view_arg arg.now))) }
 {
     note_full(alloc, scopes, notes, &arg.value)
 }

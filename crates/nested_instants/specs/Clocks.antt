@@ -1,5 +1,5 @@
--- What the states of all clocks stand for, while a clock and the sub-clocks below it make instants. `ran clock` is how many
--- instants a clock has made, `filled k` how many slots crossfade k was filled.
+-- What the states of all clocks stand for, while a clock and the sub-clocks below it make instants. `ran clock` is how
+-- many instants a clock has made, `filled k` how many slots crossfade k was filled.
 use Rattle.std.specs.Prelude.{◌≡◌, ◌<◌, ◌≤◌, ◌+◌, ℕ, suc, Bool, true, false, List, Option, Some, None, length, slice_get, slice_index_or}
 use Rattle.std.specs.Option.{option_map_or}
 use Rattle.plan_core.specs.declared.node.Node.{Node}
@@ -53,8 +53,11 @@ rest_at all k = slice_index_or all.room.rests.items k 0
 
 -- the states of a sub-clock's nodes can go on for as many instants as are kept
 pub record AreResting (library : Sounds) (clocks : List NodeClock) (all : ClockStates) : Type 0 where
-  pub ahead : (k : ℕ) → 0 < rest_at all k → AllLieAhead library clocks (Sub k) all.room.held.items all.states.items (length clocks) (rest_at all k)
-  pub through : (k : ℕ) → 0 < rest_at all k → AllPassOn clocks (Sub k) all.room.held.items all.states.items all.room.rests.items (length clocks) (rest_at all k)
+  pub ahead : (k : ℕ) → 0 < rest_at all k
+      → AllLieAhead library clocks (Sub k) all.room.held.items all.states.items (length clocks) (rest_at all k)
+  pub through : (k : ℕ) → 0 < rest_at all k
+      → AllPassOn clocks (Sub k) all.room.held.items all.states.items all.room.rests.items (length clocks)
+      (rest_at all k)
 
 -- no instants are kept of a clock
 pub record IsIdle (clock : NodeClock) (all : ClockStates) : Type 0 where
@@ -78,7 +81,8 @@ AreClockStatesOver shape all = AreClockStates shape.plan.now shape.library.now s
 
 -- these tell of each node whether its own clock demands it of itself
 pub record AreOwnRoots (setting : Setting) (own : List Bool) : Type 0 where
-  pub each : (i : ℕ) → i < length setting.plan.nodes → slice_index_or own i false ≡ is_root setting (clock_of setting i) i
+  pub each : (i : ℕ) → i < length setting.plan.nodes
+      → slice_index_or own i false ≡ is_root setting (clock_of setting i) i
 
 -- whether the node at a place wants a slot, and how many it asks for at most
 abbrev pub wants_at : List NodeState → ℕ → Bool
@@ -104,12 +108,16 @@ is_in clocks clock i = clock_at clocks i ≡ clock
 abbrev pub is_upto : List NodeClock → NodeClock → (below : ℕ) → ℕ → Type 0
 is_upto clocks clock below i = (i < below) × (clock_at clocks i ≡ clock)
 
--- but for some nodes, those in clocks of this rank or a lower one have the states that they had, what is kept of their latest instant,
--- and their sub-clocks the times and the instants that are kept
-pub record AreLeft (clocks : List NodeClock) (rank : NodeClock → ℕ) (level : ℕ) (touched : ℕ → Type 0) (old new : ClockStates) : Type 0 where
-  pub states : (i : ℕ) → (touched i → ⊥) → rank (clock_at clocks i) ≤ level → slice_get new.states.items i ≡ slice_get old.states.items i
-  pub times : (i : ℕ) → (touched i → ⊥) → rank (clock_at clocks i) ≤ level → slice_get new.times.items i ≡ slice_get old.times.items i
-  pub held : (i : ℕ) → (touched i → ⊥) → rank (clock_at clocks i) ≤ level → part_at new.room.held.items i ≡ part_at old.room.held.items i
+-- but for some nodes, those in clocks of this rank or a lower one have the states that they had, what is kept of their
+-- latest instant, and their sub-clocks the times and the instants that are kept
+pub record AreLeft (clocks : List NodeClock) (rank : NodeClock → ℕ) (level : ℕ) (touched : ℕ
+    → Type 0) (old new : ClockStates) : Type 0 where
+  pub states : (i : ℕ) → (touched i → ⊥) → rank (clock_at clocks i) ≤ level
+      → slice_get new.states.items i ≡ slice_get old.states.items i
+  pub times : (i : ℕ) → (touched i → ⊥) → rank (clock_at clocks i) ≤ level
+      → slice_get new.times.items i ≡ slice_get old.times.items i
+  pub held : (i : ℕ) → (touched i → ⊥) → rank (clock_at clocks i) ≤ level
+      → part_at new.room.held.items i ≡ part_at old.room.held.items i
   pub rests : (i : ℕ) → (touched i → ⊥) → rank (clock_at clocks i) ≤ level → rest_at new i ≡ rest_at old i
   -- and each node its lanes
   pub laned : (i : ℕ) → laned_at old i → laned_at new i
@@ -130,54 +138,70 @@ fade_in setting k (Some node) = is_fade (work_at setting k node)
 abbrev pub fade_at : Setting → ℕ → Bool
 fade_at setting k = fade_in setting k (slice_get setting.plan.nodes k)
 
--- each sub-clock of a crossfade whose clock has this rank or a deeper one has made exactly as many instants as settle the
--- crossfade's latest item, and no instant more; and each reader in such a clock has begun the instants that its clock has made, and
--- no instant more
-pub record RanAsNeeded (setting : Setting) (sub : ℕ → ℕ → List Slot) (rank : NodeClock → ℕ) (level : ℕ) (ran : NodeClock → ℕ) (filled : ℕ → ℕ) : Type 0 where
+-- each sub-clock of a crossfade whose clock has this rank or a deeper one has made exactly as many instants as settle
+-- the crossfade's latest item, and no instant more; and each reader in such a clock has begun the instants that its
+-- clock has made, and no instant more
+pub record RanAsNeeded (setting : Setting) (sub : ℕ → ℕ → List Slot) (rank : NodeClock → ℕ) (level : ℕ) (ran : NodeClock
+    → ℕ) (filled : ℕ → ℕ) : Type 0 where
   pub each : (k overlap : ℕ) (node : Node) → slice_get setting.plan.nodes k ≡ Some node → node.op ≡ Crossfade overlap
       → level ≤ rank (clock_of setting k) → ran (Sub k) ≡ ran_by sub k overlap (past_of setting sub ran k)
-  pub begun : (i : ℕ) → reads_at setting i ≡ true → level ≤ rank (clock_of setting i) → filled i ≡ ran (clock_of setting i)
+  pub begun : (i : ℕ) → reads_at setting i ≡ true → level ≤ rank (clock_of setting i)
+      → filled i ≡ ran (clock_of setting i)
 
--- so many instants go on as the one after these did, of which this is kept; and for them each crossfade of the clock through which cells
--- pass asks for a slot an instant, and any other one for none
-pub record GoesOnFor (setting : Setting) (sub : ℕ → ℕ → List Slot) (clock : NodeClock) (past : List Moment) (rest : ℕ) (filled : ℕ → ℕ) (held : List Part)
+-- so many instants go on as the one after these did, of which this is kept; and for them each crossfade of the clock
+-- through which cells pass asks for a slot an instant, and any other one for none
+pub record GoesOnFor (setting : Setting) (sub : ℕ → ℕ
+    → List Slot) (clock : NodeClock) (past : List Moment) (rest : ℕ) (filled : ℕ → ℕ) (held : List Part)
     (states : List NodeState) : Type 0 where
   pub stretch : IsStretch setting sub clock past (suc rest)
   pub held_is : IsHeld setting sub clock past held
   pub asks : AllAsk setting sub clock past filled states (length setting.clocks) rest
 
 -- so many instants of the sub-clock of crossfade k go on as its latest one did, at which the child gave
-pub record IsOpen (setting : Setting) (sub : ℕ → ℕ → List Slot) (k rest : ℕ) (ran : NodeClock → ℕ) (filled : ℕ → ℕ) (all : ClockStates) : Type 0 where
+pub record IsOpen (setting : Setting) (sub : ℕ → ℕ → List Slot) (k rest : ℕ) (ran : NodeClock → ℕ) (filled : ℕ
+    → ℕ) (all : ClockStates) : Type 0 where
   pub n : ℕ
   pub at : ran (Sub k) ≡ suc n
-  pub gave : gives (moment_after setting sub (Sub k) (first_instants setting sub (Sub k) n)) (crossfaded setting.plan.nodes k) ≡ true
-  pub goes : GoesOnFor setting sub (Sub k) (first_instants setting sub (Sub k) n) rest filled all.room.held.items all.states.items
+  pub gave : gives (moment_after setting sub (Sub k) (first_instants setting sub (Sub k) n))
+      (crossfaded setting.plan.nodes k) ≡ true
+  pub goes : GoesOnFor setting sub (Sub k) (first_instants setting sub (Sub k) n) rest filled all.room.held.items
+      all.states.items
 
--- the readers have taken these answers; in clocks of this rank and deeper ones the states stand for the instants that the clocks have
--- made, each crossfade was filled what its sub-clock made, and the sub-clock's time is that of its next instant; and clocks deeper than
--- this ran as needed; and their nodes have lanes. `filled i` is also how many instants reader i has begun. Of states in lower clocks nothing
--- is said: such may be idle
-pub record Stand (setting : Setting) (sub : ℕ → ℕ → List Slot) (rank : NodeClock → ℕ) (level : ℕ) (ran : NodeClock → ℕ) (filled : ℕ → ℕ)
+-- the readers have taken these answers; in clocks of this rank and deeper ones the states stand for the instants that
+-- the clocks have made, each crossfade was filled what its sub-clock made, and the sub-clock's time is that of its next
+-- instant; and clocks deeper than this ran as needed; and their nodes have lanes. `filled i` is also how many instants
+-- reader i has begun. Of states in lower clocks nothing is said: such may be idle
+pub record Stand (setting : Setting) (sub : ℕ → ℕ → List Slot) (rank : NodeClock → ℕ) (level : ℕ) (ran : NodeClock
+    → ℕ) (filled : ℕ → ℕ)
     (front : ℕ → List Answer) (all : ClockStates) : Type 0 where
-  pub stand : (i : ℕ) (node : Node) (state : NodeState) → slice_get setting.plan.nodes i ≡ Some node → slice_get all.states.items i ≡ Some state
-      → level ≤ rank (clock_of setting i) → StateStands setting sub (past_of setting sub ran i) (filled i) i (work_at setting i node) state
-  pub taken : (i buffer : ℕ) (node : Node) → slice_get setting.plan.nodes i ≡ Some node → work_at setting i node ≡ Reads buffer
+  pub stand : (i : ℕ) (node : Node) (state : NodeState) → slice_get setting.plan.nodes i ≡ Some node
+      → slice_get all.states.items i ≡ Some state
+      → level ≤ rank (clock_of setting i)
+      → StateStands setting sub (past_of setting sub ran i) (filled i) i (work_at setting i node) state
+  pub taken : (i buffer : ℕ) (node : Node) → slice_get setting.plan.nodes i ≡ Some node
+      → work_at setting i node ≡ Reads buffer
       → (reading_by setting i buffer (past_of setting sub ran i) (filled i)).taken ≡ length (front buffer)
   pub even : (k : ℕ) → fade_at setting k ≡ true → level ≤ rank (clock_of setting k) → filled k ≡ ran (Sub k)
   pub time : (k : ℕ) (time : WeekTime) → level ≤ rank (clock_of setting k) → slice_get all.times.items k ≡ Some time
       → TimeStands setting.start (ran (Sub k)) time
   pub needed : RanAsNeeded setting sub rank (suc level) ran filled
-  pub kept : (k : ℕ) → k < length setting.plan.nodes → level ≤ rank (clock_of setting k) → 0 < rest_at all k → IsOpen setting sub k (rest_at all k) ran filled all
+  pub kept : (k : ℕ) → k < length setting.plan.nodes → level ≤ rank (clock_of setting k) → 0 < rest_at all k
+      → IsOpen setting sub k (rest_at all k) ran filled all
   pub laned : (i : ℕ) → i < length setting.plan.nodes → level ≤ rank (clock_of setting i) → laned_at all i
 
 -- the item of node k is settled, if it is a crossfade, by no more slots than it takes
-pub record HasItem (setting : Setting) (sub : ℕ → ℕ → List Slot) (ran : NodeClock → ℕ) (filled : ℕ → ℕ) (k : ℕ) (node : Node) : Type 0 where
+pub record HasItem (setting : Setting) (sub : ℕ → ℕ → List Slot) (ran : NodeClock → ℕ) (filled : ℕ
+    → ℕ) (k : ℕ) (node : Node) : Type 0 where
   pub settled : IsSettled sub (past_of setting sub ran k) (filled k) k (work_at setting k node)
-  pub run : (overlap : ℕ) → work_at setting k node ≡ Fades overlap → run_of overlap (sub k) (position (past_of setting sub ran k) k) ≡ filled k
+  pub run : (overlap : ℕ) → work_at setting k node ≡ Fades overlap
+      → run_of overlap (sub k) (position (past_of setting sub ran k) k) ≡ filled k
 
--- some nodes were filled, by these calls, and some of these have their items; no clock of this rank or a lower one has made an instant
-pub record IsReached (setting : Setting) (sub : ℕ → ℕ → List Slot) (rank : NodeClock → ℕ) (level : ℕ) (touched done : ℕ → Type 0)
-    (ran : NodeClock → ℕ) (filled : ℕ → ℕ) (front : ℕ → List Answer) (more : List Call) (all : ClockStates) : Type 0 where
+-- some nodes were filled, by these calls, and some of these have their items; no clock of this rank or a lower one has
+-- made an instant
+pub record IsReached (setting : Setting) (sub : ℕ → ℕ → List Slot) (rank : NodeClock → ℕ) (level : ℕ) (touched done : ℕ
+    → Type 0)
+    (ran : NodeClock → ℕ) (filled : ℕ → ℕ) (front : ℕ
+    → List Answer) (more : List Call) (all : ClockStates) : Type 0 where
   pub ran_now : NodeClock → ℕ
   pub filled_now : ℕ → ℕ
   pub stand : Stand setting sub rank level ran_now filled_now (after_calls front more) all
@@ -185,15 +209,18 @@ pub record IsReached (setting : Setting) (sub : ℕ → ℕ → List Slot) (rank
   pub held : (i : ℕ) → (touched i → ⊥) → rank (clock_of setting i) ≤ level → filled_now i ≡ filled i
   -- but for crossfades no node was filled, and no reader has begun an instant
   pub idle : (i : ℕ) → fade_at setting i ≡ false → rank (clock_of setting i) ≤ level → filled_now i ≡ filled i
-  pub items : (i : ℕ) (node : Node) → done i → slice_get setting.plan.nodes i ≡ Some node → HasItem setting sub ran_now filled_now i node
+  pub items : (i : ℕ) (node : Node) → done i → slice_get setting.plan.nodes i ≡ Some node
+      → HasItem setting sub ran_now filled_now i node
 
 -- the calls of instant m of the sub-clock of crossfade k
 abbrev pub calls_below : Setting → (sub : ℕ → ℕ → List Slot) → (k m : ℕ) → List Call
 calls_below setting sub k m = calls_of setting sub (Sub k) (first_instants setting sub (Sub k) m)
 
 -- node k was filled some slots, by the calls of the instants that its sub-clock made for it
-pub record IsFilling (setting : Setting) (sub : ℕ → ℕ → List Slot) (rank : NodeClock → ℕ) (level k : ℕ) (done : ℕ → Type 0)
-    (ran : NodeClock → ℕ) (filled : ℕ → ℕ) (front : ℕ → List Answer) (more : List Call) (all : ClockStates) : Type 0 where
+pub record IsFilling (setting : Setting) (sub : ℕ → ℕ → List Slot) (rank : NodeClock → ℕ) (level k : ℕ) (done : ℕ
+    → Type 0)
+    (ran : NodeClock → ℕ) (filled : ℕ → ℕ) (front : ℕ
+    → List Answer) (more : List Call) (all : ClockStates) : Type 0 where
   pub reached : IsReached setting sub rank level (is_node k) done ran filled front more all
   pub low : filled k ≤ reached.filled_now k
   pub calls : more ≡ joined_between (calls_below setting sub k) (filled k) (reached.filled_now k)
@@ -201,21 +228,25 @@ pub record IsFilling (setting : Setting) (sub : ℕ → ℕ → List Slot) (rank
 -- the calls of the sub-clocks of a clock's crossfades below node n, at the instant after these
 abbrev pub calls_upto : Setting → (sub : ℕ → ℕ → List Slot) → NodeClock → List Moment → (n : ℕ) → List Call
 calls_upto setting sub clock past n =
-    joined_upto (λ k. fades_in setting sub (calls_below setting sub) (lies_in setting clock k) past k (slice_get setting.plan.nodes k)) n
+    joined_upto (λ k. fades_in setting sub (calls_below setting sub) (lies_in setting clock k) past k
+    (slice_get setting.plan.nodes k)) n
 
--- a clock has made one instant more, by its calls, and no other clock of its rank or a lower one has; below it no clock has made more
--- than its crossfade asks for
-pub record HasMadeInstant (setting : Setting) (sub : ℕ → ℕ → List Slot) (rank : NodeClock → ℕ) (clock : NodeClock) (ran : NodeClock → ℕ) (filled : ℕ → ℕ)
+-- a clock has made one instant more, by its calls, and no other clock of its rank or a lower one has; below it no clock
+-- has made more than its crossfade asks for
+pub record HasMadeInstant (setting : Setting) (sub : ℕ → ℕ → List Slot) (rank : NodeClock
+    → ℕ) (clock : NodeClock) (ran : NodeClock → ℕ) (filled : ℕ → ℕ)
     (front : ℕ → List Answer) (more : List Call) (all : ClockStates) : Type 0 where
   pub ran_now : NodeClock → ℕ
   pub filled_now : ℕ → ℕ
   pub stand : Stand setting sub rank (rank clock) ran_now filled_now (after_calls front more) all
   pub once : ran_now clock ≡ suc (ran clock)
   pub others : (other : NodeClock) → (other ≡ clock → ⊥) → rank other ≤ rank clock → ran_now other ≡ ran other
-  pub held : (i : ℕ) → (clock_of setting i ≡ clock → ⊥) → rank (clock_of setting i) ≤ rank clock → filled_now i ≡ filled i
+  pub held : (i : ℕ) → (clock_of setting i ≡ clock → ⊥) → rank (clock_of setting i) ≤ rank clock
+      → filled_now i ≡ filled i
   pub needed : RanAsNeeded setting sub rank (rank clock) ran_now filled_now
   pub calls : more ≡ calls_of setting sub clock (first_instants setting sub clock (ran clock))
-  pub parts : all.latest.parts.items ≡ (moment_after setting sub clock (first_instants setting sub clock (ran clock))).parts
+  pub parts : all.latest.parts.items
+      ≡ (moment_after setting sub clock (first_instants setting sub clock (ran clock))).parts
   pub keeps : IsHeld setting sub clock (first_instants setting sub clock (ran clock)) all.room.held.items
 
 -- what holds of a setting, whatever its answers are
@@ -226,12 +257,15 @@ pub record IsWorld (setting : Setting) (sub : ℕ → ℕ → List Slot) (rank :
   pub readers : HasOwnReaders setting
   pub roots : AreOwnRoots setting own
 
--- a clock's instant was made, by these calls: whatever instants the states stood for, and whatever answers come behind those of the calls
-pub record InstantMade {T : Type 0} (stands : T → List Call → Type 0) (plan : Plan) (library : Sounds) (clocks : List NodeClock) (own : List Bool)
+-- a clock's instant was made, by these calls: whatever instants the states stood for, and whatever answers come behind
+-- those of the calls
+pub record InstantMade {T : Type 0} (stands : T → List Call
+    → Type 0) (plan : Plan) (library : Sounds) (clocks : List NodeClock) (own : List Bool)
     (clock : NodeClock) (time : WeekTime) (old new : ClockStates) (taps_old taps_new : T) : Type 0 where
   pub more : List Call
   pub taps : Adds stands taps_old taps_new more
-  pub made : (other : Setting) (sub : ℕ → ℕ → List Slot) (rank ran : NodeClock → ℕ) (filled : ℕ → ℕ) (front : ℕ → List Answer) →
+  pub made : (other : Setting) (sub : ℕ → ℕ → List Slot) (rank ran : NodeClock → ℕ) (filled : ℕ → ℕ) (front : ℕ
+      → List Answer) →
       let setting = over plan library clocks other in
       IsWorld setting sub rank own → HasAnswers setting (after_calls front more)
       → Stand setting sub rank (rank clock) ran filled front old → RanAsNeeded setting sub rank (rank clock) ran filled
@@ -239,15 +273,19 @@ pub record InstantMade {T : Type 0} (stands : T → List Call → Type 0) (plan 
       → HasMadeInstant setting sub rank clock ran filled front more new
 
 -- the same over a shape
-abbrev pub InstantMadeOver : {T : Type 0} → (T → List Call → Type 0) → Shape → List Bool → NodeClock → WeekTime → (old new : ClockStates) → (taps_old taps_new : T) → Type 0
-InstantMadeOver stands shape own clock time old new taps_old taps_new = InstantMade stands shape.plan.now shape.library.now shape.clocks.now own clock time old new taps_old taps_new
+abbrev pub InstantMadeOver : {T : Type 0} → (T → List Call → Type 0) → Shape → List Bool → NodeClock → WeekTime
+    → (old new : ClockStates) → (taps_old taps_new : T) → Type 0
+InstantMadeOver stands shape own clock time old new taps_old taps_new = InstantMade stands shape.plan.now
+    shape.library.now shape.clocks.now own clock time old new taps_old taps_new
 
 -- memory was refused: these are the first calls of the instant
-pub record InstantStopped {T : Type 0} (stands : T → List Call → Type 0) (plan : Plan) (library : Sounds) (clocks : List NodeClock) (own : List Bool)
+pub record InstantStopped {T : Type 0} (stands : T → List Call
+    → Type 0) (plan : Plan) (library : Sounds) (clocks : List NodeClock) (own : List Bool)
     (clock : NodeClock) (time : WeekTime) (old : ClockStates) (taps_old taps_new : T) : Type 0 where
   pub made : List Call
   pub taps : Adds stands taps_old taps_new made
-  pub begins : (other : Setting) (sub : ℕ → ℕ → List Slot) (rank ran : NodeClock → ℕ) (filled : ℕ → ℕ) (front : ℕ → List Answer) →
+  pub begins : (other : Setting) (sub : ℕ → ℕ → List Slot) (rank ran : NodeClock → ℕ) (filled : ℕ → ℕ) (front : ℕ
+      → List Answer) →
       let setting = over plan library clocks other in
       IsWorld setting sub rank own → HasAnswers setting (after_calls front made)
       → Stand setting sub rank (rank clock) ran filled front old → RanAsNeeded setting sub rank (rank clock) ran filled
@@ -255,20 +293,25 @@ pub record InstantStopped {T : Type 0} (stands : T → List Call → Type 0) (pl
       → IsBegin made (calls_of setting sub clock (first_instants setting sub clock (ran clock)))
 
 -- the same over a shape
-abbrev pub InstantStoppedOver : {T : Type 0} → (T → List Call → Type 0) → Shape → List Bool → NodeClock → WeekTime → ClockStates → (taps_old taps_new : T) → Type 0
-InstantStoppedOver stands shape own clock time old taps_old taps_new = InstantStopped stands shape.plan.now shape.library.now shape.clocks.now own clock time old taps_old taps_new
+abbrev pub InstantStoppedOver : {T : Type 0} → (T → List Call → Type 0) → Shape → List Bool → NodeClock → WeekTime
+    → ClockStates → (taps_old taps_new : T) → Type 0
+InstantStoppedOver stands shape own clock time old taps_old taps_new = InstantStopped stands shape.plan.now
+    shape.library.now shape.clocks.now own clock time old taps_old taps_new
 
 -- the readers of a clock have begun, if its instant begins a tick
-pub record Opened (setting : Setting) (sub : ℕ → ℕ → List Slot) (rank : NodeClock → ℕ) (clock : NodeClock) (ran : NodeClock → ℕ) (filled : ℕ → ℕ)
+pub record Opened (setting : Setting) (sub : ℕ → ℕ → List Slot) (rank : NodeClock
+    → ℕ) (clock : NodeClock) (ran : NodeClock → ℕ) (filled : ℕ → ℕ)
     (front : ℕ → List Answer) (more : List Call) (all : ClockStates) : Type 0 where
   pub stand : Stand setting sub rank (rank clock) ran (begun_in setting clock filled) (after_calls front more) all
   pub calls : more ≡ takes_at setting clock (first_instants setting sub clock (ran clock))
 
-pub record ClockOpened {T : Type 0} (stands : T → List Call → Type 0) (plan : Plan) (library : Sounds) (clocks : List NodeClock)
+pub record ClockOpened {T : Type 0} (stands : T → List Call
+    → Type 0) (plan : Plan) (library : Sounds) (clocks : List NodeClock)
     (clock : NodeClock) (time : WeekTime) (old new : ClockStates) (taps_old taps_new : T) : Type 0 where
   pub more : List Call
   pub taps : Adds stands taps_old taps_new more
-  pub opened : (other : Setting) (sub : ℕ → ℕ → List Slot) (rank ran : NodeClock → ℕ) (filled : ℕ → ℕ) (front : ℕ → List Answer) →
+  pub opened : (other : Setting) (sub : ℕ → ℕ → List Slot) (rank ran : NodeClock → ℕ) (filled : ℕ → ℕ) (front : ℕ
+      → List Answer) →
       let setting = over plan library clocks other in
       HasRanks clocks rank → HasOwnReaders setting → HasAnswers setting (after_calls front more)
       → Stand setting sub rank (rank clock) ran filled front old → RanAsNeeded setting sub rank (rank clock) ran filled
@@ -276,14 +319,18 @@ pub record ClockOpened {T : Type 0} (stands : T → List Call → Type 0) (plan 
       → Opened setting sub rank clock ran filled front more new
 
 -- the same over a shape
-abbrev pub ClockOpenedOver : {T : Type 0} → (T → List Call → Type 0) → Shape → NodeClock → WeekTime → (old new : ClockStates) → (taps_old taps_new : T) → Type 0
-ClockOpenedOver stands shape clock time old new taps_old taps_new = ClockOpened stands shape.plan.now shape.library.now shape.clocks.now clock time old new taps_old taps_new
+abbrev pub ClockOpenedOver : {T : Type 0} → (T → List Call → Type 0) → Shape → NodeClock → WeekTime
+    → (old new : ClockStates) → (taps_old taps_new : T) → Type 0
+ClockOpenedOver stands shape clock time old new taps_old taps_new = ClockOpened stands shape.plan.now shape.library.now
+    shape.clocks.now clock time old new taps_old taps_new
 
-pub record OpeningStopped {T : Type 0} (stands : T → List Call → Type 0) (plan : Plan) (library : Sounds) (clocks : List NodeClock)
+pub record OpeningStopped {T : Type 0} (stands : T → List Call
+    → Type 0) (plan : Plan) (library : Sounds) (clocks : List NodeClock)
     (clock : NodeClock) (time : WeekTime) (old : ClockStates) (taps_old taps_new : T) : Type 0 where
   pub made : List Call
   pub taps : Adds stands taps_old taps_new made
-  pub begins : (other : Setting) (sub : ℕ → ℕ → List Slot) (rank ran : NodeClock → ℕ) (filled : ℕ → ℕ) (front : ℕ → List Answer) →
+  pub begins : (other : Setting) (sub : ℕ → ℕ → List Slot) (rank ran : NodeClock → ℕ) (filled : ℕ → ℕ) (front : ℕ
+      → List Answer) →
       let setting = over plan library clocks other in
       HasOwnReaders setting → HasAnswers setting (after_calls front made)
       → Stand setting sub rank (rank clock) ran filled front old → RanAsNeeded setting sub rank (rank clock) ran filled
@@ -291,15 +338,19 @@ pub record OpeningStopped {T : Type 0} (stands : T → List Call → Type 0) (pl
       → IsBegin made (takes_at setting clock (first_instants setting sub clock (ran clock)))
 
 -- the same over a shape
-abbrev pub OpeningStoppedOver : {T : Type 0} → (T → List Call → Type 0) → Shape → NodeClock → WeekTime → ClockStates → (taps_old taps_new : T) → Type 0
-OpeningStoppedOver stands shape clock time old taps_old taps_new = OpeningStopped stands shape.plan.now shape.library.now shape.clocks.now clock time old taps_old taps_new
+abbrev pub OpeningStoppedOver : {T : Type 0} → (T → List Call → Type 0) → Shape → NodeClock → WeekTime → ClockStates
+    → (taps_old taps_new : T) → Type 0
+OpeningStoppedOver stands shape clock time old taps_old taps_new = OpeningStopped stands shape.plan.now
+    shape.library.now shape.clocks.now clock time old taps_old taps_new
 
 -- node k has its item, by these calls
-pub record NodeSettled {T : Type 0} (stands : T → List Call → Type 0) (plan : Plan) (library : Sounds) (clocks : List NodeClock) (own : List Bool)
+pub record NodeSettled {T : Type 0} (stands : T → List Call
+    → Type 0) (plan : Plan) (library : Sounds) (clocks : List NodeClock) (own : List Bool)
     (k : ℕ) (old new : ClockStates) (taps_old taps_new : T) : Type 0 where
   pub more : List Call
   pub taps : Adds stands taps_old taps_new more
-  pub settled : (other : Setting) (sub : ℕ → ℕ → List Slot) (rank ran : NodeClock → ℕ) (filled : ℕ → ℕ) (front : ℕ → List Answer) →
+  pub settled : (other : Setting) (sub : ℕ → ℕ → List Slot) (rank ran : NodeClock → ℕ) (filled : ℕ → ℕ) (front : ℕ
+      → List Answer) →
       let setting = over plan library clocks other in
       IsWorld setting sub rank own → HasAnswers setting (after_calls front more)
       → Stand setting sub rank (rank (clock_at clocks k)) ran filled front old
@@ -307,67 +358,90 @@ pub record NodeSettled {T : Type 0} (stands : T → List Call → Type 0) (plan 
       → IsFilling setting sub rank (rank (clock_at clocks k)) k (is_node k) ran filled front more new
 
 -- the same over a shape
-abbrev pub NodeSettledOver : {T : Type 0} → (T → List Call → Type 0) → Shape → List Bool → (k : ℕ) → (old new : ClockStates) → (taps_old taps_new : T) → Type 0
-NodeSettledOver stands shape own k old new taps_old taps_new = NodeSettled stands shape.plan.now shape.library.now shape.clocks.now own k old new taps_old taps_new
+abbrev pub NodeSettledOver : {T : Type 0} → (T → List Call → Type 0) → Shape → List Bool → (k : ℕ)
+    → (old new : ClockStates) → (taps_old taps_new : T) → Type 0
+NodeSettledOver stands shape own k old new taps_old taps_new = NodeSettled stands shape.plan.now shape.library.now
+    shape.clocks.now own k old new taps_old taps_new
 
 -- memory was refused: these are the first calls for the item of node k, which is a crossfade
-pub record IsFillingStopped (setting : Setting) (sub : ℕ → ℕ → List Slot) (ran : NodeClock → ℕ) (filled : ℕ → ℕ) (k : ℕ) (made : List Call) : Type 0 where
+pub record IsFillingStopped (setting : Setting) (sub : ℕ → ℕ → List Slot) (ran : NodeClock → ℕ) (filled : ℕ
+    → ℕ) (k : ℕ) (made : List Call) : Type 0 where
   pub overlap : ℕ
   pub node : Node
   pub there : slice_get setting.plan.nodes k ≡ Some node
   pub fades : work_at setting k node ≡ Fades overlap
-  pub begins : IsBegin made (joined_between (calls_below setting sub k) (filled k) (run_of overlap (sub k) (position (past_of setting sub ran k) k)))
+  pub begins : IsBegin made
+      (joined_between (calls_below setting sub k) (filled k)
+      (run_of overlap (sub k) (position (past_of setting sub ran k) k)))
 
-pub record NodeStopped {T : Type 0} (stands : T → List Call → Type 0) (plan : Plan) (library : Sounds) (clocks : List NodeClock) (own : List Bool)
+pub record NodeStopped {T : Type 0} (stands : T → List Call
+    → Type 0) (plan : Plan) (library : Sounds) (clocks : List NodeClock) (own : List Bool)
     (k : ℕ) (old : ClockStates) (taps_old taps_new : T) : Type 0 where
   pub made : List Call
   pub taps : Adds stands taps_old taps_new made
-  pub begins : (other : Setting) (sub : ℕ → ℕ → List Slot) (rank ran : NodeClock → ℕ) (filled : ℕ → ℕ) (front : ℕ → List Answer) →
+  pub begins : (other : Setting) (sub : ℕ → ℕ → List Slot) (rank ran : NodeClock → ℕ) (filled : ℕ → ℕ) (front : ℕ
+      → List Answer) →
       let setting = over plan library clocks other in
       IsWorld setting sub rank own → HasAnswers setting (after_calls front made)
       → Stand setting sub rank (rank (clock_at clocks k)) ran filled front old
       → IsFillingStopped setting sub ran filled k made
 
 -- the same over a shape
-abbrev pub NodeStoppedOver : {T : Type 0} → (T → List Call → Type 0) → Shape → List Bool → (k : ℕ) → ClockStates → (taps_old taps_new : T) → Type 0
-NodeStoppedOver stands shape own k old taps_old taps_new = NodeStopped stands shape.plan.now shape.library.now shape.clocks.now own k old taps_old taps_new
+abbrev pub NodeStoppedOver : {T : Type 0} → (T → List Call → Type 0) → Shape → List Bool → (k : ℕ) → ClockStates
+    → (taps_old taps_new : T) → Type 0
+NodeStoppedOver stands shape own k old taps_old taps_new = NodeStopped stands shape.plan.now shape.library.now
+    shape.clocks.now own k old taps_old taps_new
 
--- the crossfades of a clock below a node have their items, by the calls of the instants that their sub-clocks made for them
-pub record AreFilled (setting : Setting) (sub : ℕ → ℕ → List Slot) (rank : NodeClock → ℕ) (clock : NodeClock) (below : ℕ) (ran : NodeClock → ℕ) (filled : ℕ → ℕ)
+-- the crossfades of a clock below a node have their items, by the calls of the instants that their sub-clocks made for
+-- them
+pub record AreFilled (setting : Setting) (sub : ℕ → ℕ → List Slot) (rank : NodeClock
+    → ℕ) (clock : NodeClock) (below : ℕ) (ran : NodeClock → ℕ) (filled : ℕ → ℕ)
     (front : ℕ → List Answer) (more : List Call) (all : ClockStates) : Type 0 where
-  pub reached : IsReached setting sub rank (rank clock) (is_upto setting.clocks clock below) (is_upto setting.clocks clock below) ran filled front more all
+  pub reached : IsReached setting sub rank (rank clock) (is_upto setting.clocks clock below)
+      (is_upto setting.clocks clock below) ran filled front more all
   pub calls : more ≡ calls_upto setting sub clock (first_instants setting sub clock (ran clock)) below
 
--- before the crossfades of a clock are settled: they have the items that the instants before took, and the readers have begun
-pub record AreReady (setting : Setting) (sub : ℕ → ℕ → List Slot) (clock : NodeClock) (ran : NodeClock → ℕ) (filled : ℕ → ℕ) : Type 0 where
-  pub each : (k overlap : ℕ) (node : Node) → slice_get setting.plan.nodes k ≡ Some node → work_at setting k node ≡ Fades overlap
+-- before the crossfades of a clock are settled: they have the items that the instants before took, and the readers have
+-- begun
+pub record AreReady (setting : Setting) (sub : ℕ → ℕ → List Slot) (clock : NodeClock) (ran : NodeClock → ℕ) (filled : ℕ
+    → ℕ) : Type 0 where
+  pub each : (k overlap : ℕ) (node : Node) → slice_get setting.plan.nodes k ≡ Some node
+      → work_at setting k node ≡ Fades overlap
       → clock_of setting k ≡ clock → filled k ≡ ran_by sub k overlap (first_instants setting sub clock (ran clock))
   pub begun : (i : ℕ) → reads_at setting i ≡ true → clock_of setting i ≡ clock → filled i ≡ suc (ran clock)
 
-pub record AllSettled {T : Type 0} (stands : T → List Call → Type 0) (plan : Plan) (library : Sounds) (clocks : List NodeClock) (own : List Bool)
+pub record AllSettled {T : Type 0} (stands : T → List Call
+    → Type 0) (plan : Plan) (library : Sounds) (clocks : List NodeClock) (own : List Bool)
     (clock : NodeClock) (below : ℕ) (old new : ClockStates) (taps_old taps_new : T) : Type 0 where
   pub more : List Call
   pub taps : Adds stands taps_old taps_new more
-  pub settled : (other : Setting) (sub : ℕ → ℕ → List Slot) (rank ran : NodeClock → ℕ) (filled : ℕ → ℕ) (front : ℕ → List Answer) →
+  pub settled : (other : Setting) (sub : ℕ → ℕ → List Slot) (rank ran : NodeClock → ℕ) (filled : ℕ → ℕ) (front : ℕ
+      → List Answer) →
       let setting = over plan library clocks other in
       IsWorld setting sub rank own → HasAnswers setting (after_calls front more)
       → Stand setting sub rank (rank clock) ran filled front old → AreReady setting sub clock ran filled
       → AreFilled setting sub rank clock below ran filled front more new
 
 -- the same over a shape
-abbrev pub AllSettledOver : {T : Type 0} → (T → List Call → Type 0) → Shape → List Bool → NodeClock → (below : ℕ) → (old new : ClockStates) → (taps_old taps_new : T) → Type 0
-AllSettledOver stands shape own clock below old new taps_old taps_new = AllSettled stands shape.plan.now shape.library.now shape.clocks.now own clock below old new taps_old taps_new
+abbrev pub AllSettledOver : {T : Type 0} → (T → List Call → Type 0) → Shape → List Bool → NodeClock → (below : ℕ)
+    → (old new : ClockStates) → (taps_old taps_new : T) → Type 0
+AllSettledOver stands shape own clock below old new taps_old taps_new = AllSettled stands shape.plan.now
+    shape.library.now shape.clocks.now own clock below old new taps_old taps_new
 
-pub record SettlingStopped {T : Type 0} (stands : T → List Call → Type 0) (plan : Plan) (library : Sounds) (clocks : List NodeClock) (own : List Bool)
+pub record SettlingStopped {T : Type 0} (stands : T → List Call
+    → Type 0) (plan : Plan) (library : Sounds) (clocks : List NodeClock) (own : List Bool)
     (clock : NodeClock) (old : ClockStates) (taps_old taps_new : T) : Type 0 where
   pub made : List Call
   pub taps : Adds stands taps_old taps_new made
-  pub begins : (other : Setting) (sub : ℕ → ℕ → List Slot) (rank ran : NodeClock → ℕ) (filled : ℕ → ℕ) (front : ℕ → List Answer) →
+  pub begins : (other : Setting) (sub : ℕ → ℕ → List Slot) (rank ran : NodeClock → ℕ) (filled : ℕ → ℕ) (front : ℕ
+      → List Answer) →
       let setting = over plan library clocks other in
       IsWorld setting sub rank own → HasAnswers setting (after_calls front made)
       → Stand setting sub rank (rank clock) ran filled front old → AreReady setting sub clock ran filled
       → IsBegin made (calls_upto setting sub clock (first_instants setting sub clock (ran clock)) (length plan.nodes))
 
 -- the same over a shape
-abbrev pub SettlingStoppedOver : {T : Type 0} → (T → List Call → Type 0) → Shape → List Bool → NodeClock → ClockStates → (taps_old taps_new : T) → Type 0
-SettlingStoppedOver stands shape own clock old taps_old taps_new = SettlingStopped stands shape.plan.now shape.library.now shape.clocks.now own clock old taps_old taps_new
+abbrev pub SettlingStoppedOver : {T : Type 0} → (T → List Call → Type 0) → Shape → List Bool → NodeClock → ClockStates
+    → (taps_old taps_new : T) → Type 0
+SettlingStoppedOver stands shape own clock old taps_old taps_new = SettlingStopped stands shape.plan.now
+    shape.library.now shape.clocks.now own clock old taps_old taps_new

@@ -19,79 +19,100 @@ use Rattle.clock_instants.specs.Held.{IsHeld, gave_at, goes_through, passes_at}
 use Rattle.node_states.specs.Passing.{LaneFills}
 use Rattle.nested_instants.specs.Clocks.{GoesOnFor, IsFilling, IsOpen, IsWorld, RanAsNeeded, Stand, clock_at, fade_at, is_none, laned_at, rest_at}
 
--- at so many instants a node offers nothing, where it offered nothing at the one before them; or cells of its title there that begin no
--- track, and these are their samples
+-- at so many instants a node offers nothing, where it offered nothing at the one before them; or cells of its title
+-- there that begin no track, and these are their samples
 pub record IsStretchOf (slots : ℕ → Slot) (many : ℕ) (first : Slot) (left right : List ℤ) : Type 0 where
   pub given : is_some first ≡ true → IsLane slots many left right
   pub titled : is_some first ≡ true → AreTitled slots many (title_of first)
   pub silent : is_some first ≡ false → (j : ℕ) → j < many → slots j ≡ None
 
--- a clock has made so many instants more behind instant n, without a call, and no other clock of its rank or a lower one has; and the
--- nodes that it demands of themselves have left their samples
-pub record HasMadeOn (setting : Setting) (sub : ℕ → ℕ → List Slot) (rank : NodeClock → ℕ) (own : List Bool) (clock : NodeClock) (n many : ℕ)
+-- a clock has made so many instants more behind instant n, without a call, and no other clock of its rank or a lower
+-- one has; and the nodes that it demands of themselves have left their samples
+pub record HasMadeOn (setting : Setting) (sub : ℕ → ℕ → List Slot) (rank : NodeClock
+    → ℕ) (own : List Bool) (clock : NodeClock) (n many : ℕ)
     (ran : NodeClock → ℕ) (filled : ℕ → ℕ) (front : ℕ → List Answer) (all : ClockStates) : Type 0 where
   pub ran_now : NodeClock → ℕ
   pub filled_now : ℕ → ℕ
   pub stand : Stand setting sub rank (rank clock) ran_now filled_now front all
   pub once : ran_now clock ≡ ran clock + many
   pub others : (other : NodeClock) → (other ≡ clock → ⊥) → rank other ≤ rank clock → ran_now other ≡ ran other
-  pub held : (i : ℕ) → (clock_of setting i ≡ clock → ⊥) → rank (clock_of setting i) ≤ rank clock → filled_now i ≡ filled i
+  pub held : (i : ℕ) → (clock_of setting i ≡ clock → ⊥) → rank (clock_of setting i) ≤ rank clock
+      → filled_now i ≡ filled i
   pub needed : RanAsNeeded setting sub rank (rank clock) ran_now filled_now
   pub quiet : (j : ℕ) → j < many → calls_of setting sub clock (first_instants setting sub clock (ran clock + j)) ≡ []
   pub slots : (i : ℕ) → slice_index_or own i false ≡ true
-      → IsStretchOf (λ j. offer (moment_after setting sub clock (first_instants setting sub clock (ran clock + j))) i) many
-      (offer (moment_after setting sub clock (first_instants setting sub clock n)) i) (samples_of all.room.left.items i many) (samples_of all.room.right.items i many)
+      → IsStretchOf (λ j. offer (moment_after setting sub clock (first_instants setting sub clock (ran clock + j))) i)
+      many
+      (offer (moment_after setting sub clock (first_instants setting sub clock n)) i)
+      (samples_of all.room.left.items i many) (samples_of all.room.right.items i many)
 
 -- what a stretch of a clock asks of the states before it
-pub record CanGoOn (setting : Setting) (sub : ℕ → ℕ → List Slot) (rank : NodeClock → ℕ) (own : List Bool) (clock : NodeClock) (n many : ℕ) (ran : NodeClock → ℕ) (filled : ℕ → ℕ)
+pub record CanGoOn (setting : Setting) (sub : ℕ → ℕ → List Slot) (rank : NodeClock
+    → ℕ) (own : List Bool) (clock : NodeClock) (n many : ℕ) (ran : NodeClock → ℕ) (filled : ℕ → ℕ)
     (front : ℕ → List Answer) (all : ClockStates) : Type 0 where
   pub world : IsWorld setting sub rank own
   pub stand : Stand setting sub rank (rank clock) ran filled front all
   pub needed : RanAsNeeded setting sub rank (rank clock) ran filled
   pub at : ran clock ≡ suc n
-  pub goes : GoesOnFor setting sub clock (first_instants setting sub clock n) many filled all.room.held.items all.states.items
+  pub goes : GoesOnFor setting sub clock (first_instants setting sub clock n) many filled all.room.held.items
+      all.states.items
 
 -- so many instants of a clock were made, which go on as its latest one: whatever instants the states stood for
-pub record ClockMade (plan : Plan) (library : Sounds) (clocks : List NodeClock) (clock : NodeClock) (many : ℕ) (old new : ClockStates) : Type 0 where
-  pub run : (other : Setting) (sub : ℕ → ℕ → List Slot) (rank ran : NodeClock → ℕ) (filled : ℕ → ℕ) (front : ℕ → List Answer) (own : List Bool) (n : ℕ) →
+pub record ClockMade (plan : Plan) (library : Sounds) (clocks : List NodeClock) (clock : NodeClock) (many : ℕ)
+    (old new : ClockStates) : Type 0 where
+  pub run : (other : Setting) (sub : ℕ → ℕ → List Slot) (rank ran : NodeClock → ℕ) (filled : ℕ → ℕ) (front : ℕ
+      → List Answer) (own : List Bool) (n : ℕ) →
       let setting = over plan library clocks other in
-      CanGoOn setting sub rank own clock n many ran filled front old → HasMadeOn setting sub rank own clock n many ran filled front new
+      CanGoOn setting sub rank own clock n many ran filled front old
+      → HasMadeOn setting sub rank own clock n many ran filled front new
 
 -- the same over a shape
 abbrev pub ClockRunOver : Shape → NodeClock → (many : ℕ) → (old new : ClockStates) → Type 0
 ClockRunOver shape clock many old new = ClockMade shape.plan.now shape.library.now shape.clocks.now clock many old new
 
 -- so many instants were made behind the latest one, which was at this time
-pub record StretchMade (plan : Plan) (library : Sounds) (clocks : List NodeClock) (clock : NodeClock) (time : WeekTime) (many : ℕ)
+pub record StretchMade (plan : Plan) (library : Sounds) (clocks : List NodeClock) (clock : NodeClock) (time : WeekTime)
+    (many : ℕ)
     (old new : ClockStates) : Type 0 where
-  pub run : (other : Setting) (sub : ℕ → ℕ → List Slot) (rank ran : NodeClock → ℕ) (filled : ℕ → ℕ) (front : ℕ → List Answer) (own : List Bool) (n : ℕ) →
+  pub run : (other : Setting) (sub : ℕ → ℕ → List Slot) (rank ran : NodeClock → ℕ) (filled : ℕ → ℕ) (front : ℕ
+      → List Answer) (own : List Bool) (n : ℕ) →
       let setting = over plan library clocks other in
-      IsWorld setting sub rank own → Stand setting sub rank (rank clock) ran filled front old → RanAsNeeded setting sub rank (rank clock) ran filled
-      → ran clock ≡ suc n → old.latest.parts.items ≡ (moment_after setting sub clock (first_instants setting sub clock n)).parts
-      → IsHeld setting sub clock (first_instants setting sub clock n) old.room.held.items → TimeStands setting.start n time
+      IsWorld setting sub rank own → Stand setting sub rank (rank clock) ran filled front old
+      → RanAsNeeded setting sub rank (rank clock) ran filled
+      → ran clock ≡ suc n → old.latest.parts.items
+      ≡ (moment_after setting sub clock (first_instants setting sub clock n)).parts
+      → IsHeld setting sub clock (first_instants setting sub clock n) old.room.held.items
+      → TimeStands setting.start n time
       → HasMadeOn setting sub rank own clock n many ran filled front new
 
 -- the same over a shape
 abbrev pub InstantsRunOver : Shape → NodeClock → WeekTime → (many : ℕ) → (old new : ClockStates) → Type 0
-InstantsRunOver shape clock time many old new = StretchMade shape.plan.now shape.library.now shape.clocks.now clock time many old new
+InstantsRunOver shape clock time many old new = StretchMade shape.plan.now shape.library.now shape.clocks.now clock time
+    many old new
 
--- behind an instant of its sub-clock, which was at this time, crossfade k was filled more slots, without a call: whatever it was filled
-pub record FilledOn (plan : Plan) (library : Sounds) (clocks : List NodeClock) (k : ℕ) (time : WeekTime) (old new : ClockStates) : Type 0 where
-  pub filled : (other : Setting) (sub : ℕ → ℕ → List Slot) (rank ran : NodeClock → ℕ) (filled : ℕ → ℕ) (front : ℕ → List Answer) (more : List Call) (own : List Bool) (n : ℕ) →
+-- behind an instant of its sub-clock, which was at this time, crossfade k was filled more slots, without a call:
+-- whatever it was filled
+pub record FilledOn (plan : Plan) (library : Sounds) (clocks : List NodeClock) (k : ℕ) (time : WeekTime)
+    (old new : ClockStates) : Type 0 where
+  pub filled : (other : Setting) (sub : ℕ → ℕ → List Slot) (rank ran : NodeClock → ℕ) (filled : ℕ → ℕ) (front : ℕ
+      → List Answer) (more : List Call) (own : List Bool) (n : ℕ) →
       let setting = over plan library clocks other in
       IsWorld setting sub rank own → fade_at setting k ≡ true
       → (before : IsFilling setting sub rank (rank (clock_at clocks k)) k is_none ran filled front more old)
-      → before.reached.ran_now (Sub k) ≡ suc n → old.latest.parts.items ≡ (moment_after setting sub (Sub k) (first_instants setting sub (Sub k) n)).parts
-      → IsHeld setting sub (Sub k) (first_instants setting sub (Sub k) n) old.room.held.items → TimeStands setting.start n time
+      → before.reached.ran_now (Sub k) ≡ suc n → old.latest.parts.items
+      ≡ (moment_after setting sub (Sub k) (first_instants setting sub (Sub k) n)).parts
+      → IsHeld setting sub (Sub k) (first_instants setting sub (Sub k) n) old.room.held.items
+      → TimeStands setting.start n time
       → IsFilling setting sub rank (rank (clock_at clocks k)) k is_none ran filled front more new
 
 -- the same over a shape
 abbrev pub FedOnOver : Shape → (k : ℕ) → WeekTime → (old new : ClockStates) → Type 0
 FedOnOver shape k time old new = FilledOn shape.plan.now shape.library.now shape.clocks.now k time old new
 
--- of the crossfades of a clock below this node, the sub-clocks of those through which cells pass have made so many instants more, without
--- a call, and left the samples of the crossfades' children
-pub record SubsMade (setting : Setting) (sub : ℕ → ℕ → List Slot) (rank : NodeClock → ℕ) (clock : NodeClock) (many : ℕ) (through : ℕ → Bool) (below : ℕ)
+-- of the crossfades of a clock below this node, the sub-clocks of those through which cells pass have made so many
+-- instants more, without a call, and left the samples of the crossfades' children
+pub record SubsMade (setting : Setting) (sub : ℕ → ℕ → List Slot) (rank : NodeClock
+    → ℕ) (clock : NodeClock) (many : ℕ) (through : ℕ → Bool) (below : ℕ)
     (ran : NodeClock → ℕ) (filled : ℕ → ℕ) (front : ℕ → List Answer) (all : ClockStates) : Type 0 where
   pub ran_now : NodeClock → ℕ
   pub filled_now : ℕ → ℕ
@@ -99,52 +120,72 @@ pub record SubsMade (setting : Setting) (sub : ℕ → ℕ → List Slot) (rank 
   pub needed : RanAsNeeded setting sub rank (suc (rank clock)) ran_now filled_now
   pub others : (other : NodeClock) → rank other ≤ rank clock → ran_now other ≡ ran other
   pub held : (i : ℕ) → rank (clock_of setting i) ≤ rank clock → filled_now i ≡ filled i
-  pub went : (k : ℕ) → k < length setting.plan.nodes → clock_of setting k ≡ clock → k < below → through k ≡ true → ran_now (Sub k) ≡ ran (Sub k) + many
-  pub stayed : (k : ℕ) → k < length setting.plan.nodes → rank (clock_of setting k) ≡ rank clock → (clock_of setting k ≡ clock → k < below → through k ≡ false)
+  pub went : (k : ℕ) → k < length setting.plan.nodes → clock_of setting k ≡ clock → k < below → through k ≡ true
+      → ran_now (Sub k) ≡ ran (Sub k) + many
+  pub stayed : (k : ℕ) → k < length setting.plan.nodes → rank (clock_of setting k) ≡ rank clock
+      → (clock_of setting k ≡ clock → k < below → through k ≡ false)
       → ran_now (Sub k) ≡ ran (Sub k)
-  pub time : (k : ℕ) (time : WeekTime) → k < length setting.plan.nodes → rank clock ≤ rank (clock_of setting k) → slice_get all.times.items k ≡ Some time
+  pub time : (k : ℕ) (time : WeekTime) → k < length setting.plan.nodes → rank clock ≤ rank (clock_of setting k)
+      → slice_get all.times.items k ≡ Some time
       → TimeStands setting.start (ran_now (Sub k)) time
-  pub kept : (k : ℕ) → k < length setting.plan.nodes → rank (clock_of setting k) ≡ rank clock → 0 < rest_at all k → IsOpen setting sub k (rest_at all k) ran_now filled_now all
-  pub quiet : (k j : ℕ) → k < length setting.plan.nodes → clock_of setting k ≡ clock → k < below → through k ≡ true → j < many
+  pub kept : (k : ℕ) → k < length setting.plan.nodes → rank (clock_of setting k) ≡ rank clock → 0 < rest_at all k
+      → IsOpen setting sub k (rest_at all k) ran_now filled_now all
+  pub quiet : (k j : ℕ) → k < length setting.plan.nodes → clock_of setting k ≡ clock → k < below → through k ≡ true
+      → j < many
       → calls_of setting sub (Sub k) (first_instants setting sub (Sub k) (ran (Sub k) + j)) ≡ []
   pub fills : (k : ℕ) → k < length setting.plan.nodes → clock_of setting k ≡ clock → k < below → through k ≡ true
-      → LaneFills (sub k) (ran (Sub k)) many (title_of (part_at all.room.held.items (crossfaded setting.plan.nodes k)).slot)
-      (samples_of all.room.left.items (crossfaded setting.plan.nodes k) many) (samples_of all.room.right.items (crossfaded setting.plan.nodes k) many)
+      → LaneFills (sub k) (ran (Sub k)) many
+      (title_of (part_at all.room.held.items (crossfaded setting.plan.nodes k)).slot)
+      (samples_of all.room.left.items (crossfaded setting.plan.nodes k) many)
+      (samples_of all.room.right.items (crossfaded setting.plan.nodes k) many)
   pub inside : (k : ℕ) → k < length setting.plan.nodes → clock_of setting k ≡ clock → k < below → through k ≡ true
       → clock_of setting (crossfaded setting.plan.nodes k) ≡ Sub k
 
 -- the same for the sub-clocks below a node, whatever instants the states stood for
-pub record SubClocksMade (plan : Plan) (library : Sounds) (clocks : List NodeClock) (clock : NodeClock) (many below : ℕ) (old new : ClockStates) : Type 0 where
-  pub run : (other : Setting) (sub : ℕ → ℕ → List Slot) (rank ran : NodeClock → ℕ) (filled : ℕ → ℕ) (front : ℕ → List Answer) (own : List Bool) (n : ℕ) →
+pub record SubClocksMade (plan : Plan) (library : Sounds) (clocks : List NodeClock) (clock : NodeClock) (many below : ℕ)
+    (old new : ClockStates) : Type 0 where
+  pub run : (other : Setting) (sub : ℕ → ℕ → List Slot) (rank ran : NodeClock → ℕ) (filled : ℕ → ℕ) (front : ℕ
+      → List Answer) (own : List Bool) (n : ℕ) →
       let setting = over plan library clocks other in
       CanGoOn setting sub rank own clock n many ran filled front old
-      → SubsMade setting sub rank clock many (goes_through (moment_after setting sub clock (first_instants setting sub clock n)) old.states.items) below ran filled front new
+      → SubsMade setting sub rank clock many
+      (goes_through (moment_after setting sub clock (first_instants setting sub clock n)) old.states.items) below ran
+      filled front new
 
 -- the same over a shape
 abbrev pub SubClocksRunOver : Shape → NodeClock → (many below : ℕ) → (old new : ClockStates) → Type 0
-SubClocksRunOver shape clock many below old new = SubClocksMade shape.plan.now shape.library.now shape.clocks.now clock many below old new
+SubClocksRunOver shape clock many below old new = SubClocksMade shape.plan.now shape.library.now shape.clocks.now clock
+    many below old new
 
 -- the same for the sub-clock of node i, if it is a crossfade through which cells pass, behind those below it
-pub record SubClockMade (plan : Plan) (library : Sounds) (clocks : List NodeClock) (i many : ℕ) (old new : ClockStates) : Type 0 where
-  pub step : (other : Setting) (sub : ℕ → ℕ → List Slot) (rank ran : NodeClock → ℕ) (filled : ℕ → ℕ) (front : ℕ → List Answer) (own : List Bool) (through : ℕ → Bool) →
+pub record SubClockMade (plan : Plan) (library : Sounds) (clocks : List NodeClock) (i many : ℕ)
+    (old new : ClockStates) : Type 0 where
+  pub step : (other : Setting) (sub : ℕ → ℕ → List Slot) (rank ran : NodeClock → ℕ) (filled : ℕ → ℕ) (front : ℕ
+      → List Answer) (own : List Bool) (through : ℕ → Bool) →
       let setting = over plan library clocks other in
       IsWorld setting sub rank own → through i ≡ (gave_at old.room.held.items i && passes_at old.states.items i)
-      → SubsMade setting sub rank (clock_at clocks i) many through i ran filled front old → SubsMade setting sub rank (clock_at clocks i) many through (suc i) ran filled front new
+      → SubsMade setting sub rank (clock_at clocks i) many through i ran filled front old
+      → SubsMade setting sub rank (clock_at clocks i) many through (suc i) ran filled front new
 
 -- the same over a shape
 abbrev pub SubClockRunOver : Shape → (i many : ℕ) → (old new : ClockStates) → Type 0
 SubClockRunOver shape i many old new = SubClockMade shape.plan.now shape.library.now shape.clocks.now i many old new
 
 -- but for some nodes, those in clocks of this rank or a lower one have the samples that they had
-pub record AreSamplesLeft (clocks : List NodeClock) (rank : NodeClock → ℕ) (level : ℕ) (touched : ℕ → Type 0) (many : ℕ) (old new : ClockStates) : Type 0 where
-  pub left : (i : ℕ) → (touched i → ⊥) → rank (clock_at clocks i) ≤ level → samples_of new.room.left.items i many ≡ samples_of old.room.left.items i many
-  pub right : (i : ℕ) → (touched i → ⊥) → rank (clock_at clocks i) ≤ level → samples_of new.room.right.items i many ≡ samples_of old.room.right.items i many
+pub record AreSamplesLeft (clocks : List NodeClock) (rank : NodeClock → ℕ) (level : ℕ) (touched : ℕ
+    → Type 0) (many : ℕ) (old new : ClockStates) : Type 0 where
+  pub left : (i : ℕ) → (touched i → ⊥) → rank (clock_at clocks i) ≤ level
+      → samples_of new.room.left.items i many ≡ samples_of old.room.left.items i many
+  pub right : (i : ℕ) → (touched i → ⊥) → rank (clock_at clocks i) ≤ level
+      → samples_of new.room.right.items i many ≡ samples_of old.room.right.items i many
 
--- nodes in clocks of this rank or a lower one have the states that they had, and what is kept of them; and but for some nodes their
--- sub-clocks have the times and the instants that are kept; and each node keeps its lanes
-pub record AreAbove (clocks : List NodeClock) (rank : NodeClock → ℕ) (level : ℕ) (touched : ℕ → Type 0) (old new : ClockStates) : Type 0 where
+-- nodes in clocks of this rank or a lower one have the states that they had, and what is kept of them; and but for some
+-- nodes their sub-clocks have the times and the instants that are kept; and each node keeps its lanes
+pub record AreAbove (clocks : List NodeClock) (rank : NodeClock → ℕ) (level : ℕ) (touched : ℕ
+    → Type 0) (old new : ClockStates) : Type 0 where
   pub states : (i : ℕ) → rank (clock_at clocks i) ≤ level → slice_get new.states.items i ≡ slice_get old.states.items i
   pub held : (i : ℕ) → rank (clock_at clocks i) ≤ level → part_at new.room.held.items i ≡ part_at old.room.held.items i
-  pub times : (i : ℕ) → (touched i → ⊥) → rank (clock_at clocks i) ≤ level → slice_get new.times.items i ≡ slice_get old.times.items i
+  pub times : (i : ℕ) → (touched i → ⊥) → rank (clock_at clocks i) ≤ level
+      → slice_get new.times.items i ≡ slice_get old.times.items i
   pub rests : (i : ℕ) → (touched i → ⊥) → rank (clock_at clocks i) ≤ level → rest_at new i ≡ rest_at old i
   pub laned : (i : ℕ) → laned_at old i → laned_at new i

@@ -2,10 +2,10 @@
 use clock_instants::{ClockNodes, Latest, StretchRoom};
 use node_states::{Desk, NodeState, WeekTime};
 
-/// What changes from instant to instant in a clock and in the sub-clocks below it: for each node of the plan its state, and
-/// the time of the next instant of its sub-clock, where it is a crossfade; the latest instant of any of the clocks; room for
-/// the children of a node; and for stretches the samples of the latest one, and what is kept of the latest instants of all clocks.
-/// With the nodes of each clock, which stay.
+/// What changes from instant to instant in a clock and in the sub-clocks below it: for each node of the plan its state,
+/// and the time of the next instant of its sub-clock, where it is a crossfade; the latest instant of any of the clocks;
+/// room for the children of a node; and for stretches the samples of the latest one, and what is kept of the latest
+/// instants of all clocks. With the nodes of each clock, which stay.
 #[derive(Drop)]
 pub struct ClockStates {
     pub states: Vec<NodeState>,

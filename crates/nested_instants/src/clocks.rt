@@ -18,9 +18,10 @@ use liq_base::Memory;
 use node_states::WeekTime;
 
 /// Makes one instant of a clock at a time: where it begins a tick its readers take, and then its crossfades run their
-/// sub-clocks until their items are settled, and no instant more. `own` tells of each node whether its own clock demands it
-/// of itself, and `levels` bounds how deep sub-clocks nest below the clock. Whatever instants the states stood for, they stand
-/// for one more of this clock. Where memory is refused some of the calls of the instant were made, from the first on.
+/// sub-clocks until their items are settled, and no instant more. `own` tells of each node whether its own clock
+/// demands it of itself, and `levels` bounds how deep sub-clocks nest below the clock. Whatever instants the states
+/// stood for, they stand for one more of this clock. Where memory is refused some of the calls of the instant were
+/// made, from the first on.
 #[cycle(clocks)]
 pub fn make_instant<T: Taps>(
     shape: &Shape<'_>,
@@ -44,8 +45,10 @@ pub fn make_instant<T: Taps>(
     ensures same { T.same taps.old taps.new }
     ensures left { OnOk result ((rank : Clock → ℕ) → HasRanks shape.now.clocks.now rank
         → AreLeft shape.now.clocks.now rank (rank clock) (is_in shape.now.clocks.now clock) clocks.old clocks.new) }
-    ensures made { OnOk result (InstantMadeOver T.stands shape.now own.now clock time clocks.old clocks.new taps.old taps.new) }
-    ensures stopped { OnErr result (InstantStoppedOver T.stands shape.now own.now clock time clocks.old taps.old taps.new) }
+    ensures made { OnOk result
+        (InstantMadeOver T.stands shape.now own.now clock time clocks.old clocks.new taps.old taps.new) }
+    ensures stopped { OnErr result
+        (InstantStoppedOver T.stands shape.now own.now clock time clocks.old taps.old taps.new) }
     ensures reads { OnErr result (HasReader shape.now.plan.now shape.now.clocks.now clock) }
 {
     begin_clock(shape, clocks, clock, time, taps)?;
@@ -75,10 +78,13 @@ fn settle<T: Taps>(
     ensures buffers { T.buffers taps.new ≡ T.buffers taps.old }
     ensures same { T.same taps.old taps.new }
     ensures left { OnOk result ((rank : Clock → ℕ) → HasRanks shape.now.clocks.now rank
-        → AreLeft shape.now.clocks.now rank (rank (slice_index_or shape.now.clocks.now k (InMain 0))) (is_node k) clocks.old clocks.new) }
-    ensures settled { OnOk result (NodeSettledOver T.stands shape.now own.now k clocks.old clocks.new taps.old taps.new) }
+        → AreLeft shape.now.clocks.now rank (rank (slice_index_or shape.now.clocks.now k (InMain 0))) (is_node k)
+        clocks.old clocks.new) }
+    ensures settled { OnOk result
+        (NodeSettledOver T.stands shape.now own.now k clocks.old clocks.new taps.old taps.new) }
     ensures stopped { OnErr result (NodeStoppedOver T.stands shape.now own.now k clocks.old taps.old taps.new) }
-    ensures reads { OnErr result (HasReader shape.now.plan.now shape.now.clocks.now (slice_index_or shape.now.clocks.now k (InMain 0))) }
+    ensures reads { OnErr result
+        (HasReader shape.now.plan.now shape.now.clocks.now (slice_index_or shape.now.clocks.now k (InMain 0))) }
 {
     while clocks.states[k as usize].wants() {
         let time = clocks.times[k as usize];
@@ -119,7 +125,9 @@ fn settle_all<T: Taps>(
     ensures same { T.same taps.old taps.new }
     ensures left { OnOk result ((rank : Clock → ℕ) → HasRanks shape.now.clocks.now rank
         → AreLeft shape.now.clocks.now rank (rank clock) (is_in shape.now.clocks.now clock) clocks.old clocks.new) }
-    ensures settled { OnOk result (AllSettledOver T.stands shape.now own.now clock (length shape.now.plan.now.nodes) clocks.old clocks.new taps.old taps.new) }
+    ensures settled { OnOk result
+        (AllSettledOver T.stands shape.now own.now clock (length shape.now.plan.now.nodes) clocks.old clocks.new
+        taps.old taps.new) }
     ensures stopped { OnErr result (SettlingStoppedOver T.stands shape.now own.now clock clocks.old taps.old taps.new) }
     ensures reads { OnErr result (HasReader shape.now.plan.now shape.now.clocks.now clock) }
 {

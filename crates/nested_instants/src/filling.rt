@@ -39,8 +39,8 @@ pub fn child_of(nodes: &[Node], k: u32) -> u32
     }
 }
 
-/// Feeds crossfade k, which wants it, the slot that its child has at the instant that its sub-clock made, and takes the time
-/// of the sub-clock on.
+/// Feeds crossfade k, which wants it, the slot that its child has at the instant that its sub-clock made, and takes the
+/// time of the sub-clock on.
 pub fn fill_child(shape: &Shape<'_>, clocks: &mut ClockStates, k: u32)
     requires clocks { AreClockStatesOver shape.now clocks.old }
     requires within { k < length shape.now.plan.now.nodes }
@@ -52,10 +52,12 @@ pub fn fill_child(shape: &Shape<'_>, clocks: &mut ClockStates, k: u32)
     ensures states { (i : ℕ) → (i ≡ k → ⊥) → slice_get clocks.new.states.items i ≡ slice_get clocks.old.states.items i }
     ensures times { (i : ℕ) → (i ≡ k → ⊥) → slice_get clocks.new.times.items i ≡ slice_get clocks.old.times.items i }
     ensures less { left_at clocks.new.states.items k < left_at clocks.old.states.items k }
-    ensures filled { (setting : Setting) (sub : ℕ → ℕ → List Slot) (past : List Moment) (filled : ℕ) (work : Work) (before after : State)
+    ensures filled { (setting : Setting) (sub : ℕ → ℕ
+        → List Slot) (past : List Moment) (filled : ℕ) (work : Work) (before after : State)
         → slice_get clocks.old.states.items k ≡ Some before → slice_get clocks.new.states.items k ≡ Some after
         → StateStands setting sub past filled k work before
-        → sub k (suc filled) ≡ sub k filled ++ (part_at clocks.old.latest.parts.items (crossfaded shape.now.plan.now.nodes k)).slot ∷ []
+        → sub k (suc filled) ≡ sub k filled
+        ++ (part_at clocks.old.latest.parts.items (crossfaded shape.now.plan.now.nodes k)).slot ∷ []
         → StateStands setting sub past (suc filled) k work after }
     ensures time { (start n : ℕ) (before after : Time) → slice_get clocks.old.times.items k ≡ Some before
         → slice_get clocks.new.times.items k ≡ Some after → TimeStands start n before → TimeStands start (suc n) after }
@@ -67,9 +69,10 @@ pub fn fill_child(shape: &Shape<'_>, clocks: &mut ClockStates, k: u32)
     clocks.times[at] = clocks.times[at].next();
 }
 
-/// Feeds crossfade k the slots that its child has at the instants of its sub-clock which go on as the latest one did, where it
-/// wants them: so many are made, and no more. Where it wants none, it is kept how many go on. `time` is that of the latest
-/// instant, whose slot it was filled, and `levels` bounds how deep sub-clocks nest below the crossfade's clock.
+/// Feeds crossfade k the slots that its child has at the instants of its sub-clock which go on as the latest one did,
+/// where it wants them: so many are made, and no more. Where it wants none, it is kept how many go on. `time` is that
+/// of the latest instant, whose slot it was filled, and `levels` bounds how deep sub-clocks nest below the crossfade's
+/// clock.
 pub fn fill_on(shape: &Shape<'_>, clocks: &mut ClockStates, k: u32, time: WeekTime, levels: usize)
     requires shape { IsShape shape.now }
     requires clocks { AreClockStatesOver shape.now clocks.old }
@@ -82,7 +85,8 @@ pub fn fill_on(shape: &Shape<'_>, clocks: &mut ClockStates, k: u32, time: WeekTi
     ensures clocks { AreClockStatesOver shape.now clocks.new }
     ensures no_more { left_at clocks.new.states.items k ≤ left_at clocks.old.states.items k }
     ensures left { (rank : Clock → ℕ) → HasRanks shape.now.clocks.now rank
-        → AreLeft shape.now.clocks.now rank (rank (slice_index_or shape.now.clocks.now k (InMain 0))) (is_node k) clocks.old clocks.new }
+        → AreLeft shape.now.clocks.now rank (rank (slice_index_or shape.now.clocks.now k (InMain 0))) (is_node k)
+        clocks.old clocks.new }
     ensures filled { FedOnOver shape.now k time clocks.old clocks.new }
 {
     let rest = goes_for(shape, clocks, k, time);
@@ -95,8 +99,8 @@ pub fn fill_on(shape: &Shape<'_>, clocks: &mut ClockStates, k: u32, time: WeekTi
     fill_lane(shape, clocks, k, many);
 }
 
-// How many instants of the sub-clock of crossfade k go on as its latest one did, at this time, if the child gave; no more than the
-// crossfade can use.
+// How many instants of the sub-clock of crossfade k go on as its latest one did, at this time, if the child gave; no
+// more than the crossfade can use.
 fn goes_for(shape: &Shape<'_>, clocks: &ClockStates, k: u32, time: WeekTime) -> u32
     requires shape { IsShape shape.now }
     requires clocks { AreClockStatesOver shape.now clocks.now }
@@ -105,12 +109,16 @@ fn goes_for(shape: &Shape<'_>, clocks: &ClockStates, k: u32, time: WeekTime) -> 
     requires frame { time.frame ≡ shape.now.plan.now.frame }
     ensures later { result ≤ time.rate }
     ensures ahead { AllLieAheadOver shape.now (InSub k) clocks.now.room.held.items clocks.now.states.items result }
-    ensures through { AllPassOnOver shape.now (InSub k) clocks.now.room.held.items clocks.now.states.items clocks.now.room.rests.items result }
-    ensures gave { 0 < result → is_some (part_at clocks.now.latest.parts.items (crossfaded shape.now.plan.now.nodes k)).slot ≡ true }
+    ensures through { AllPassOnOver shape.now (InSub k) clocks.now.room.held.items clocks.now.states.items
+        clocks.now.room.rests.items result }
+    ensures gave { 0 < result
+        → is_some (part_at clocks.now.latest.parts.items (crossfaded shape.now.plan.now.nodes k)).slot ≡ true }
     ensures goes { (other : Setting) (sub : ℕ → ℕ → List Slot) (past : List Moment) (filled : ℕ → ℕ) →
         let setting = setting_over shape.now other in
-        IsBehind setting sub (InSub k) past filled time clocks.now.latest.parts.items clocks.now.room.held.items clocks.now.states.items clocks.now.room.rests.items
-        → 0 < result → GoesOnFor setting sub (InSub k) past result filled clocks.now.room.held.items clocks.now.states.items }
+        IsBehind setting sub (InSub k) past filled time clocks.now.latest.parts.items clocks.now.room.held.items
+        clocks.now.states.items clocks.now.room.rests.items
+        → 0 < result → GoesOnFor setting sub (InSub k) past result filled clocks.now.room.held.items
+        clocks.now.states.items }
 {
     let child = child_of(shape.plan.nodes.as_slice(), k);
     if slot_of(&clocks.latest.parts, child).is_none() {
@@ -120,8 +128,8 @@ fn goes_for(shape: &Shape<'_>, clocks: &ClockStates, k: u32, time: WeekTime) -> 
     rest_for(shape, clocks, NodeClock::Sub(k), time, most)
 }
 
-// How many of its sub-clock's instants that go on crossfade k can use at once, at most: as many as it takes where it wants any, else those of a
-// stretch through it.
+// How many of its sub-clock's instants that go on crossfade k can use at once, at most: as many as it takes where it
+// wants any, else those of a stretch through it.
 fn most_used(clocks: &ClockStates, k: u32) -> u32
     requires within { k < length clocks.now.states.items }
     ensures some { 0 < result }
@@ -143,8 +151,8 @@ fn wanted(clocks: &ClockStates, k: u32, rest: u32) -> u32
     rest.min(clocks.states[k as usize].room()).min(MAX_STRETCH)
 }
 
-// Feeds crossfade k, which takes them, the samples of its child in the latest stretch, which had so many instants, under its title at the
-// latest instant, and takes the time of the sub-clock on.
+// Feeds crossfade k, which takes them, the samples of its child in the latest stretch, which had so many instants,
+// under its title at the latest instant, and takes the time of the sub-clock on.
 fn fill_lane(shape: &Shape<'_>, clocks: &mut ClockStates, k: u32, many: u32)
     requires shape { IsShape shape.now }
     requires clocks { AreClockStatesOver shape.now clocks.old }
@@ -159,16 +167,19 @@ fn fill_lane(shape: &Shape<'_>, clocks: &mut ClockStates, k: u32, many: u32)
     ensures states { (i : ℕ) → (i ≡ k → ⊥) → slice_get clocks.new.states.items i ≡ slice_get clocks.old.states.items i }
     ensures times { (i : ℕ) → (i ≡ k → ⊥) → slice_get clocks.new.times.items i ≡ slice_get clocks.old.times.items i }
     ensures no_more { left_at clocks.new.states.items k ≤ left_at clocks.old.states.items k }
-    ensures filled { (setting : Setting) (sub : ℕ → ℕ → List Slot) (past : List Moment) (filled : ℕ) (work : Work) (slots : ℕ → Slot) (before after : State)
+    ensures filled { (setting : Setting) (sub : ℕ → ℕ
+        → List Slot) (past : List Moment) (filled : ℕ) (work : Work) (slots : ℕ → Slot) (before after : State)
         → slice_get clocks.old.states.items k ≡ Some before → slice_get clocks.new.states.items k ≡ Some after
         → StateStands setting sub past filled k work before
         → IsLane slots many (samples_of clocks.old.room.left.items (crossfaded shape.now.plan.now.nodes k) many)
         (samples_of clocks.old.room.right.items (crossfaded shape.now.plan.now.nodes k) many)
-        → AreTitled slots many (title_of (part_at clocks.old.latest.parts.items (crossfaded shape.now.plan.now.nodes k)).slot)
+        → AreTitled slots many (title_of
+        (part_at clocks.old.latest.parts.items (crossfaded shape.now.plan.now.nodes k)).slot)
         → ((m : ℕ) → m < many → sub k (suc (filled + m)) ≡ sub k (filled + m) ++ slots m ∷ [])
         → StateStands setting sub past (filled + many) k work after }
     ensures time { (start n : ℕ) (before after : Time) → slice_get clocks.old.times.items k ≡ Some before
-        → slice_get clocks.new.times.items k ≡ Some after → TimeStands start n before → TimeStands start (n + many) after }
+        → slice_get clocks.new.times.items k ≡ Some after → TimeStands start n before
+        → TimeStands start (n + many) after }
 {
     let child = child_of(shape.plan.nodes.as_slice(), k);
     let at = k as usize;
@@ -194,11 +205,14 @@ fn fill_samples(
     requires short { count ≤ 2048 }
     requires some { 0 < count }
     requires room { count ≤ room state.old }
-    ensures fits { (library : Sounds) (children : ℕ) → Fits library children state.old → Fits library children state.new }
+    ensures fits { (library : Sounds) (children : ℕ) → Fits library children state.old
+        → Fits library children state.new }
     ensures less { left state.new < left state.old }
-    ensures filled { (setting : Setting) (sub : ℕ → ℕ → List Slot) (past : List Moment) (filled i : ℕ) (work : Work) (slots : ℕ → Slot)
+    ensures filled { (setting : Setting) (sub : ℕ → ℕ
+        → List Slot) (past : List Moment) (filled i : ℕ) (work : Work) (slots : ℕ → Slot)
         → StateStands setting sub past filled i work state.old
-        → IsLane slots count (samples_of stretch_room.now.left.items child count) (samples_of stretch_room.now.right.items child count)
+        → IsLane slots count (samples_of stretch_room.now.left.items child count)
+        (samples_of stretch_room.now.right.items child count)
         → AreTitled slots count title
         → ((m : ℕ) → m < count → sub i (suc (filled + m)) ≡ sub i (filled + m) ++ slots m ∷ [])
         → StateStands setting sub past (filled + count) i work state.new }

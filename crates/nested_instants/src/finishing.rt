@@ -32,7 +32,8 @@ pub fn finish(
     ensures others { (i : ℕ) → same_clock (slice_index_or shape.now.clocks.now i (InMain 0)) clock ≡ false
         → slice_get clocks.new.states.items i ≡ slice_get clocks.old.states.items i }
     ensures times { clocks.new.times.items ≡ clocks.old.times.items }
-    ensures finished { InstantFinished shape.now own.now clock at.second clocks.old.states.items clocks.new.states.items clocks.new.latest.parts.items clocks.new.room.held.items }
+    ensures finished { InstantFinished shape.now own.now clock at.second clocks.old.states.items clocks.new.states.items
+        clocks.new.latest.parts.items clocks.new.room.held.items }
 {
     clocks.latest.finish_instant(
         shape,

@@ -23,8 +23,11 @@ pub fn keep(shape: &Shape<'_>, clocks: &mut ClockStates, k: u32, rest: u32)
     requires clocks { AreClockStatesOver shape.now clocks.old }
     requires within { k < length shape.now.plan.now.nodes }
     requires idle { IsIdle (slice_index_or shape.now.clocks.now k (InMain 0)) clocks.old }
-    requires ahead { 0 < rest → AllLieAheadOver shape.now (InSub k) clocks.old.room.held.items clocks.old.states.items rest }
-    requires through { 0 < rest → AllPassOnOver shape.now (InSub k) clocks.old.room.held.items clocks.old.states.items clocks.old.room.rests.items rest }
+    requires ahead { 0 < rest
+        → AllLieAheadOver shape.now (InSub k) clocks.old.room.held.items clocks.old.states.items rest }
+    requires through { 0 < rest
+        → AllPassOnOver shape.now (InSub k) clocks.old.room.held.items clocks.old.states.items
+        clocks.old.room.rests.items rest }
     ensures clocks { AreClockStatesOver shape.now clocks.new }
     ensures kept { rest_at clocks.new k ≡ rest }
     ensures others { (i : ℕ) → (i ≡ k → ⊥) → rest_at clocks.new i ≡ rest_at clocks.old i }
@@ -53,10 +56,12 @@ pub fn rest_for(
     ensures within { result ≤ most }
     ensures later { result ≤ time.rate }
     ensures ahead { AllLieAheadOver shape.now clock clocks.now.room.held.items clocks.now.states.items result }
-    ensures through { AllPassOnOver shape.now clock clocks.now.room.held.items clocks.now.states.items clocks.now.room.rests.items result }
+    ensures through { AllPassOnOver shape.now clock clocks.now.room.held.items clocks.now.states.items
+        clocks.now.room.rests.items result }
     ensures goes { (other : Setting) (sub : ℕ → ℕ → List Slot) (past : List Moment) (filled : ℕ → ℕ) →
         let setting = setting_over shape.now other in
-        IsBehind setting sub clock past filled time clocks.now.latest.parts.items clocks.now.room.held.items clocks.now.states.items clocks.now.room.rests.items
+        IsBehind setting sub clock past filled time clocks.now.latest.parts.items clocks.now.room.held.items
+        clocks.now.states.items clocks.now.room.rests.items
         → GoesOnFor setting sub clock past result filled clocks.now.room.held.items clocks.now.states.items }
 {
     rest_of(
@@ -83,7 +88,8 @@ pub fn take_on(shape: &Shape<'_>, clocks: &mut ClockStates, k: u32, many: u32)
     ensures room { clocks.new.room ≡ clocks.old.room }
     ensures times { (i : ℕ) → (i ≡ k → ⊥) → slice_get clocks.new.times.items i ≡ slice_get clocks.old.times.items i }
     ensures time { (start n : ℕ) (before after : Time) → slice_get clocks.old.times.items k ≡ Some before
-        → slice_get clocks.new.times.items k ≡ Some after → TimeStands start n before → TimeStands start (n + many) after }
+        → slice_get clocks.new.times.items k ≡ Some after → TimeStands start n before
+        → TimeStands start (n + many) after }
 {
     let at = k as usize;
     clocks.times[at] = clocks.times[at].later(many);

@@ -16,8 +16,9 @@ use crate::keeping::{keep, take_on};
 use clock_infer::NodeClock;
 use clock_instants::{Shape, run_nodes};
 
-/// Makes so many instants of a clock, which go on as its latest one did: first those of the sub-clocks of its crossfades through
-/// which cells pass, and then what its own nodes do. `levels` bounds how deep sub-clocks nest below the clock.
+/// Makes so many instants of a clock, which go on as its latest one did: first those of the sub-clocks of its
+/// crossfades through which cells pass, and then what its own nodes do. `levels` bounds how deep sub-clocks nest below
+/// the clock.
 #[cycle(onward)]
 pub fn run_clock(
     shape: &Shape<'_>,
@@ -34,14 +35,16 @@ pub fn run_clock(
     requires short { many ≤ 2048 }
     requires later { many ≤ shape.now.plan.now.rate }
     requires ahead { AllLieAheadOver shape.now clock clocks.old.room.held.items clocks.old.states.items many }
-    requires through { AllPassOnOver shape.now clock clocks.old.room.held.items clocks.old.states.items clocks.old.room.rests.items many }
+    requires through { AllPassOnOver shape.now clock clocks.old.room.held.items clocks.old.states.items
+        clocks.old.room.rests.items many }
     ensures clocks { AreClockStatesOver shape.now clocks.new }
     ensures latest { clocks.new.latest ≡ clocks.old.latest }
     ensures held { clocks.new.room.held ≡ clocks.old.room.held }
     ensures left { (rank : Clock → ℕ) → HasRanks shape.now.clocks.now rank
         → AreLeft shape.now.clocks.now rank (rank clock) (is_in shape.now.clocks.now clock) clocks.old clocks.new }
     ensures samples { (rank : Clock → ℕ) → HasRanks shape.now.clocks.now rank
-        → AreSamplesLeft shape.now.clocks.now rank (rank clock) (is_in shape.now.clocks.now clock) many clocks.old clocks.new }
+        → AreSamplesLeft shape.now.clocks.now rank (rank clock) (is_in shape.now.clocks.now clock) many clocks.old
+        clocks.new }
     ensures run { ClockRunOver shape.now clock many clocks.old clocks.new }
 {
     run_subs(shape, clocks, clock, many, levels);
@@ -58,7 +61,8 @@ fn run_subs(shape: &Shape<'_>, clocks: &mut ClockStates, clock: NodeClock, many:
     requires some { 0 < many }
     requires short { many ≤ 2048 }
     requires later { many ≤ shape.now.plan.now.rate }
-    requires through { AllPassOnOver shape.now clock clocks.old.room.held.items clocks.old.states.items clocks.old.room.rests.items many }
+    requires through { AllPassOnOver shape.now clock clocks.old.room.held.items clocks.old.states.items
+        clocks.old.room.rests.items many }
     ensures clocks { AreClockStatesOver shape.now clocks.new }
     ensures latest { clocks.new.latest ≡ clocks.old.latest }
     ensures held { clocks.new.room.held ≡ clocks.old.room.held }
@@ -86,14 +90,17 @@ fn run_sub(shape: &Shape<'_>, clocks: &mut ClockStates, i: u32, many: u32, level
     requires some { 0 < many }
     requires short { many ≤ 2048 }
     requires later { many ≤ shape.now.plan.now.rate }
-    requires through { (gave_at clocks.old.room.held.items i && passes_at clocks.old.states.items i) ≡ true → many ≤ rest_at clocks.old i }
+    requires through { (gave_at clocks.old.room.held.items i && passes_at clocks.old.states.items i) ≡ true
+        → many ≤ rest_at clocks.old i }
     ensures clocks { AreClockStatesOver shape.now clocks.new }
     ensures latest { clocks.new.latest ≡ clocks.old.latest }
     ensures held { clocks.new.room.held ≡ clocks.old.room.held }
     ensures above { (rank : Clock → ℕ) → HasRanks shape.now.clocks.now rank
-        → AreAbove shape.now.clocks.now rank (rank (slice_index_or shape.now.clocks.now i (InMain 0))) (is_node i) clocks.old clocks.new }
+        → AreAbove shape.now.clocks.now rank (rank (slice_index_or shape.now.clocks.now i (InMain 0))) (is_node i)
+        clocks.old clocks.new }
     ensures samples { (rank : Clock → ℕ) → HasRanks shape.now.clocks.now rank
-        → AreSamplesLeft shape.now.clocks.now rank (rank (InSub i)) (is_in shape.now.clocks.now (InSub i)) many clocks.old clocks.new }
+        → AreSamplesLeft shape.now.clocks.now rank (rank (InSub i)) (is_in shape.now.clocks.now (InSub i)) many
+        clocks.old clocks.new }
     ensures run { SubClockRunOver shape.now i many clocks.old clocks.new }
 {
     if !passes_on(clocks, i) {
@@ -138,8 +145,10 @@ fn run_own(shape: &Shape<'_>, clocks: &mut ClockStates, clock: NodeClock, many: 
     ensures laned { (i : ℕ) → laned_at clocks.old i → laned_at clocks.new i }
     ensures run { (other : Setting) (sub : ℕ → ℕ → List TheSlot) (past : List Moment) (filled : ℕ → ℕ) →
         let setting = setting_over shape.now other in
-        IsGoing setting sub clock past many filled clocks.old.room.held.items clocks.old.states.items clocks.old.room.left.items clocks.old.room.right.items
-        → HasGoneOn setting sub clock past many filled clocks.old.states.items clocks.new.room.left.items clocks.new.room.right.items clocks.new.states.items }
+        IsGoing setting sub clock past many filled clocks.old.room.held.items clocks.old.states.items
+        clocks.old.room.left.items clocks.old.room.right.items
+        → HasGoneOn setting sub clock past many filled clocks.old.states.items clocks.new.room.left.items
+        clocks.new.room.right.items clocks.new.states.items }
 {
     run_nodes(
         shape,

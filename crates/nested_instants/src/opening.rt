@@ -33,7 +33,8 @@ pub fn begin_clock<T: Taps>(
         → slice_get clocks.new.states.items i ≡ slice_get clocks.old.states.items i }
     ensures times { clocks.new.times.items ≡ clocks.old.times.items }
     ensures room { clocks.new.room ≡ clocks.old.room }
-    ensures opened { OnOk result (ClockOpenedOver T.stands shape.now clock time clocks.old clocks.new taps.old taps.new) }
+    ensures opened { OnOk result
+        (ClockOpenedOver T.stands shape.now clock time clocks.old clocks.new taps.old taps.new) }
     ensures stopped { OnErr result (OpeningStoppedOver T.stands shape.now clock time clocks.old taps.old taps.new) }
     ensures reads { OnErr result (HasReader shape.now.plan.now shape.now.clocks.now clock) }
 {

@@ -8,8 +8,8 @@ use std::io;
 
 /// What stands before all levels; what opens a level, stands within all of them and closes a level; what stands behind
 /// them; and how many levels there are. Each bracket is nested, in each place where a value or a predicate may stand in
-/// it. With the brackets that stand before the levels and within them there are 200; 170 behind operators of every kind,
-/// where a level takes the most stack.
+/// it. With the brackets that stand before the levels and within them there are 200; 170 behind operators of every
+/// kind, where a level takes the most stack.
 type Nest = (
     &'static str,
     &'static str,

@@ -6,7 +6,7 @@ use Rattle.std.proofs.lemmas.List.{length-append}
 use Rattle.frame_core.specs.declared.cell.Cell.{Cell}
 use Rattle.frame_core.specs.Slots.{Slot}
 use Rattle.frame_core.specs.Calls.{Adds, Call, Took, Answer}
-use Rattle.op_leaf.specs.Readers.{Reader, after_takes, at_start, begun, takes_of, wants}
+use Rattle.op_leaf.specs.Readers.{Reader, after_takes, at_start, begun, reader_takes, wants}
 use Rattle.stream_meaning.specs.Operators.{Reads}
 use Rattle.stream_meaning.specs.Instants.{Setting, Moment, next_answers, reading_after, reading_at, started}
 use Rattle.node_states.specs.declared.state.NodeState.{NodeState}
@@ -48,11 +48,11 @@ module _ {T : Type 0} (stands : T → List Call → Type 0) (buffer : ℕ) where
     more = so.more ++ Some chunk ∷ [];
     taps = adds_one a b c so.more (Some chunk) so.taps call;
     takes = λ rest.
-        ap (λ answers. takes_of answers before) (append_assoc so.more (Some chunk ∷ []) rest)
+        ap (λ answers. reader_takes answers before) (append_assoc so.more (Some chunk ∷ []) rest)
         ∙ so.takes (Some chunk ∷ rest)
-        ∙ ap (λ (w : Bool). so.more ++ cond w (Some chunk ∷ takes_of rest (record now { cells = now.cells ++ chunk })) []) wanting
-        ∙ ap (λ (r : Reader). so.more ++ Some chunk ∷ takes_of rest r) (sym is)
-        ∙ sym (append_assoc so.more (Some chunk ∷ []) (takes_of rest next));
+        ∙ ap (λ (w : Bool). so.more ++ cond w (Some chunk ∷ reader_takes rest (record now { cells = now.cells ++ chunk })) []) wanting
+        ∙ ap (λ (r : Reader). so.more ++ Some chunk ∷ reader_takes rest r) (sym is)
+        ∙ sym (append_assoc so.more (Some chunk ∷ []) (reader_takes rest next));
     holds = λ rest.
         ap (λ answers. after_takes answers before) (append_assoc so.more (Some chunk ∷ []) rest)
         ∙ so.holds (Some chunk ∷ rest)
@@ -66,16 +66,16 @@ module _ {T : Type 0} (stands : T → List Call → Type 0) (buffer : ℕ) where
     more = so.more ++ None ∷ [];
     taps = adds_one a b c so.more None so.taps call;
     takes = λ rest.
-        ap (λ answers. takes_of answers before) (append_assoc so.more (None ∷ []) rest)
+        ap (λ answers. reader_takes answers before) (append_assoc so.more (None ∷ []) rest)
         ∙ so.takes (None ∷ rest)
         ∙ ap (λ (w : Bool). so.more ++ cond w (None ∷ []) []) wanting;
     holds = λ rest. ap (λ answers. after_takes answers before) (append_assoc so.more (None ∷ []) rest) ∙ so.holds (None ∷ rest);
   }
 
-  none_wanted : (now : Reader) (rest : List Answer) → wants now ≡ false → takes_of rest now ≡ []
+  none_wanted : (now : Reader) (rest : List Answer) → wants now ≡ false → reader_takes rest now ≡ []
   none_wanted now [] full = ap (λ (w : Bool). cond w (None ∷ []) []) full
   none_wanted now (None ∷ rest) full = ap (λ (w : Bool). cond w (None ∷ []) []) full
-  none_wanted now (Some chunk ∷ rest) full = ap (λ (w : Bool). cond w (Some chunk ∷ takes_of rest (record now { cells = now.cells ++ chunk })) []) full
+  none_wanted now (Some chunk ∷ rest) full = ap (λ (w : Bool). cond w (Some chunk ∷ reader_takes rest (record now { cells = now.cells ++ chunk })) []) full
 
   none_held : (now : Reader) (rest : List Answer) → wants now ≡ false → after_takes rest now ≡ now
   none_held now [] full = refl
@@ -96,7 +96,7 @@ module _ {T : Type 0} (stands : T → List Call → Type 0) (buffer : ℕ) where
   taken_some before now a b c call so = record {
     more = so.more;
     taps = subst (Adds stands a c) (append-nil (map (Took buffer) so.more)) (adds_then stands a b c (map (Took buffer) so.more) [] so.taps call);
-    begins = λ rest. (takes_of rest now, so.takes rest);
+    begins = λ rest. (reader_takes rest now, so.takes rest);
   }
 
   pub has_taken : (before now new : Reader) (a b : T) → new ≡ begun now → HasHeld stands buffer before now a b → HasTaken stands buffer before new a b
@@ -152,12 +152,12 @@ has_begun stands buffer before now a b has = record {
       let was : before ≡ (reading_after setting i buffer past).reader = at ∙ ap (λ r. r.reader) (reading_closed setting i buffer past) in
       let next = behind setting i buffer past front has.more rest are taken in
       let open' = reading_starts setting i buffer past starts in
-      let all : takes_of (next_answers (setting.answers buffer) (reading_after setting i buffer past)) (reading_after setting i buffer past).reader ≡ has.more =
-      ap (λ answers. takes_of answers (reading_after setting i buffer past).reader) next ∙ ap (λ r. takes_of (has.more ++ rest) r) (sym was) ∙ has.takes rest in
+      let all : reader_takes (next_answers (setting.answers buffer) (reading_after setting i buffer past)) (reading_after setting i buffer past).reader ≡ has.more =
+      ap (λ answers. reader_takes answers (reading_after setting i buffer past).reader) next ∙ ap (λ r. reader_takes (has.more ++ rest) r) (sym was) ∙ has.takes rest in
       record {
         stands = sym (ap (λ r. r.reader) open' ∙ ap (λ answers. at_start answers (reading_after setting i buffer past).reader) next ∙ ap (λ r. at_start (has.more ++ rest) r) (sym was) ∙ has.begun rest);
         takes = all;
-        taken = ap (λ r. r.taken) open' ∙ ap (λ n. n + length (takes_of (next_answers (setting.answers buffer) (reading_after setting i buffer past)) (reading_after setting i buffer past).reader)) taken
+        taken = ap (λ r. r.taken) open' ∙ ap (λ n. n + length (reader_takes (next_answers (setting.answers buffer) (reading_after setting i buffer past)) (reading_after setting i buffer past).reader)) taken
             ∙ ap (λ answers. length front + length answers) all ∙ sym (length-append front has.more);
       };
 }
@@ -170,7 +170,7 @@ has_taken_some stands buffer before a b has = record {
       let was : before ≡ (reading_after setting i buffer past).reader = at ∙ ap (λ r. r.reader) (reading_closed setting i buffer past) in
       let next = behind setting i buffer past front has.more rest are taken in
       let left = has.begins rest in
-      (left.0, ap (λ answers. takes_of answers (reading_after setting i buffer past).reader) next ∙ ap (λ r. takes_of (has.more ++ rest) r) (sym was) ∙ left.1);
+      (left.0, ap (λ answers. reader_takes answers (reading_after setting i buffer past).reader) next ∙ ap (λ r. reader_takes (has.more ++ rest) r) (sym was) ∙ left.1);
 }
 
 -- no state but a reader's stands for a reader

@@ -22,7 +22,7 @@ use Rattle.op_select.specs.Selection.{picked}
 use Rattle.stream_meaning.specs.declared.part.Part.{Part}
 use Rattle.stream_meaning.specs.Arithmetic.{Mixing, Adds, Scales, Halves, Doubles, Passes, cells_of, changed_slot, mix_slot, summed_slot}
 use Rattle.stream_meaning.specs.Operators.{Choice, Eligible, Plays, Picks, Mixes, Fades, Reads, child_used, marks_at}
-use Rattle.stream_meaning.specs.Instants.{Setting, Moment, child_at, choices, count, demanded, gives, is_root, last_pick, lies_in, moment_after, offer, offering, part_at, part_by, parts_upto, picked_part, position, reading_after, reading_at, second_at, silent, slots_at, uses_by, uses_from, work_at}
+use Rattle.stream_meaning.specs.Instants.{Setting, Moment, child_at, choices, gives_before, demanded, gives, is_root, last_pick, lies_in, moment_after, offer, offering, part_at, part_by, parts_upto, picked_part, position, reading_after, reading_at, second_at, silent, slots_at, uses_by, uses_from, work_at}
 use Rattle.stretch_laws.specs.Stretches.{lane}
 use Rattle.stretch_laws.proofs.Demanding.{used_demanded}
 use Rattle.stretch_laws.proofs.Following.{AreBelow, at_place, below_from, child_is_below, one_used, place_is, slot_is}
@@ -302,13 +302,13 @@ module _ (setting : Setting) (sub : ℕ → ℕ → List Slot) (clock : NodeCloc
       (λ j less. chosen setting sub clock past (suc many) goes.nodes goes.stretch i node goes.is choice eligible one.place one.child (suc j) at (omega arith) (omega (arith, less)) goes.gave one.pick_is one.there) own
 
   -- a leaf
-  pub leaf_run : (leaf : Leaf) → work_at setting i node ≡ Plays leaf → (left right : List ℤ) → left ≡ lefts_of (leaf_slot setting.library leaf) (suc (count past i)) many
-      → right ≡ rights_of (leaf_slot setting.library leaf) (suc (count past i)) many → IsLane (λ j. Lane j i) many left right
-  leaf_run leaf at left right left_is right_is = lane_of_same (λ j. leaf_slot setting.library leaf (suc (count past i) + j)) (λ j. Lane j i) many left right
-      (λ j less. let e : count past i + suc j ≡ suc (count past i) + j = omega arith in
+  pub leaf_run : (leaf : Leaf) → work_at setting i node ≡ Plays leaf → (left right : List ℤ) → left ≡ lefts_of (leaf_slot setting.library leaf) (suc (gives_before past i)) many
+      → right ≡ rights_of (leaf_slot setting.library leaf) (suc (gives_before past i)) many → IsLane (λ j. Lane j i) many left right
+  leaf_run leaf at left right left_is right_is = lane_of_same (λ j. leaf_slot setting.library leaf (suc (gives_before past i) + j)) (λ j. Lane j i) many left right
+      (λ j less. let e : gives_before past i + suc j ≡ suc (gives_before past i) + j = omega arith in
       played setting sub clock past (suc many) goes.nodes goes.stretch i node goes.is leaf (suc j) at (omega (arith, less)) goes.gave ∙ ap (leaf_slot setting.library leaf) e)
-      (lane_from (leaf_slot setting.library leaf) (suc (count past i)) many left right left_is right_is
-      (λ j less. let e : count past i + suc j ≡ suc (count past i) + j = omega arith in
+      (lane_from (leaf_slot setting.library leaf) (suc (gives_before past i)) many left right left_is right_is
+      (λ j less. let e : gives_before past i + suc j ≡ suc (gives_before past i) + j = omega arith in
       sym (ap (λ n. is_inner (leaf_slot setting.library leaf n)) e)
       ∙ goes.stretch.leaves i node leaf (suc j) goes.is at (omega arith) (omega (arith, less)) goes.gave))
 

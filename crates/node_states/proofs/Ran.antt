@@ -22,7 +22,7 @@ use Rattle.op_mix.specs.Mixings.{mixing_of}
 use Rattle.op_mix.specs.Stretches.{AreHeard, many_give, offers_in, samples_of}
 use Rattle.stream_meaning.specs.Arithmetic.{mix_slot}
 use Rattle.stream_meaning.specs.Operators.{Choice, Eligible, Work, Plays, Picks, Mixes, Fades, Reads}
-use Rattle.stream_meaning.specs.Instants.{Setting, Moment, Reading, choices, count, last_pick, moment_after, position, read_on, reading_after, reading_at, work_at}
+use Rattle.stream_meaning.specs.Instants.{Setting, Moment, Reading, choices, gives_before, last_pick, moment_after, position, read_on, reading_after, reading_at, work_at}
 use Rattle.stretch_laws.specs.Stretches.{going_on, lane}
 use Rattle.node_states.specs.declared.state.NodeState.TheVariants.{Leaf, Select, Turn, Mix, Cross, Read, Idle}
 use Rattle.node_states.specs.Stretches.{ChildrenGive, GoesOn, filled_on}
@@ -56,11 +56,11 @@ module _ (setting : Setting) (sub : ℕ → ℕ → List Slot) (clock : NodeCloc
   leaf_stands some library old new same leaf_is on (Plays leaf) s = record {
     plays = leaf_is ∙ s.plays;
     stands = subst (λ n. StandsAt setting.library new n) (sym on_count)
-        (subst (λ l. StandsAt l new (count Past i + many)) (sym same) (on (count Past i) (subst (λ l. StandsAt l old (count Past i)) same s.stands)));
+        (subst (λ l. StandsAt l new (gives_before Past i + many)) (sym same) (on (gives_before Past i) (subst (λ l. StandsAt l old (gives_before Past i)) same s.stands)));
   }
     where
-      on_count : count Later i ≡ count Past i + many
-      on_count = subst (λ n. count (going_on setting sub clock n past) i ≡ count Past i + many) e
+      on_count : gives_before Later i ≡ gives_before Past i + many
+      on_count = subst (λ n. gives_before (going_on setting sub clock n past) i ≡ gives_before Past i + many) e
           (count_later setting sub clock past (suc many) 1 many goes.nodes goes.stretch (omega arith) (omega arith) some i node goes.is goes.gave)
   leaf_stands some library old new same leaf_is on (Picks rule eligible) s = absurd s
   leaf_stands some library old new same leaf_is on (Mixes mixing) s = absurd s
@@ -72,13 +72,13 @@ module _ (setting : Setting) (sub : ℕ → ℕ → List Slot) (clock : NodeCloc
       → ((p : ℕ) → StandsAt library old p → right ≡ rights_of (leaf_slot library (leaf_of old)) p many)
       → (work : Work) → work_at setting i node ≡ work → StateStands setting sub Past filled i work (Leaf old) → IsLane (λ j. Lane j i) many left right
   leaf_lane library old left right same left_is right_is (Plays leaf) at s =
-      let stands : StandsAt library old (count Past i) = subst (λ l. StandsAt l old (count Past i)) same s.stands in
-      let gone : count Past i ≡ suc (count past i) = gave_count past First i goes.gave in
+      let stands : StandsAt library old (gives_before Past i) = subst (λ l. StandsAt l old (gives_before Past i)) same s.stands in
+      let gone : gives_before Past i ≡ suc (gives_before past i) = gave_count past First i goes.gave in
       leaf_run setting sub clock past many i node goes leaf at left right
-      (left_is (count Past i) stands ∙ ap (λ n. lefts_of (leaf_slot library (leaf_of old)) n many) gone
-      ∙ ap (λ l. lefts_of (leaf_slot library l) (suc (count past i)) many) s.plays ∙ ap (λ l. lefts_of (leaf_slot l leaf) (suc (count past i)) many) (sym same))
-      (right_is (count Past i) stands ∙ ap (λ n. rights_of (leaf_slot library (leaf_of old)) n many) gone
-      ∙ ap (λ l. rights_of (leaf_slot library l) (suc (count past i)) many) s.plays ∙ ap (λ l. rights_of (leaf_slot l leaf) (suc (count past i)) many) (sym same))
+      (left_is (gives_before Past i) stands ∙ ap (λ n. lefts_of (leaf_slot library (leaf_of old)) n many) gone
+      ∙ ap (λ l. lefts_of (leaf_slot library l) (suc (gives_before past i)) many) s.plays ∙ ap (λ l. lefts_of (leaf_slot l leaf) (suc (gives_before past i)) many) (sym same))
+      (right_is (gives_before Past i) stands ∙ ap (λ n. rights_of (leaf_slot library (leaf_of old)) n many) gone
+      ∙ ap (λ l. rights_of (leaf_slot library l) (suc (gives_before past i)) many) s.plays ∙ ap (λ l. rights_of (leaf_slot l leaf) (suc (gives_before past i)) many) (sym same))
   leaf_lane library old left right same left_is right_is (Picks rule eligible) at s = absurd s
   leaf_lane library old left right same left_is right_is (Mixes mixing) at s = absurd s
   leaf_lane library old left right same left_is right_is (Fades overlap) at s = absurd s

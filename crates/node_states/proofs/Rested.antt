@@ -18,7 +18,7 @@ use Rattle.op_leaf.specs.Leaves.{leaf_slot}
 use Rattle.op_leaf.specs.Standing.{StandsAt, leaf_of}
 use Rattle.node_states.specs.declared.state.NodeState.{NodeState}
 use Rattle.node_states.specs.declared.state.NodeState.TheVariants.{Leaf, Select, Turn, Mix, Cross, Read, Idle}
-use Rattle.stream_meaning.specs.Instants.{Setting, Moment, Reading, count, demanded, gives, offer, position, reading_after, reading_at, read_on}
+use Rattle.stream_meaning.specs.Instants.{Setting, Moment, Reading, gives_before, demanded, gives, offer, position, reading_after, reading_at, read_on}
 use Rattle.stretch_laws.specs.Stretches.{AreFilled, NodeGoes, NodeKeeps}
 use Rattle.stretch_laws.proofs.Reaching.{item_more, item_titled, run_more}
 use Rattle.node_states.specs.Passing.{asked}
@@ -77,7 +77,7 @@ cross_asks setting sub filled i p overlap below under rest state long stands are
         run_of-is state.overlap (sub i) (p + j) filled (long.each i) (inner_within (cross state.overlap (sub i filled)) (p + j) (ready e j low)) (λ m less. let l = least m less in omega (arith, l)) ∙ none
 
 -- what a node that gave has gone on by
-pub gave_count : (past : List Moment) (moment : Moment) (i : ℕ) → gives moment i ≡ true → count (moment ∷ past) i ≡ suc (count past i)
+pub gave_count : (past : List Moment) (moment : Moment) (i : ℕ) → gives moment i ≡ true → gives_before (moment ∷ past) i ≡ suc (gives_before past i)
 gave_count past moment i e = rw e refl
 
 pub gave_position : (past : List Moment) (moment : Moment) (i : ℕ) → gives moment i ≡ true → position (moment ∷ past) i ≡ suc (position past i)
@@ -163,8 +163,8 @@ pub leaf_keeps : (setting : Setting) (sub : ℕ → ℕ → List Slot) (past : L
     → NodeKeeps setting sub past moment i work rest
 leaf_keeps setting sub past moment filled i (Plays leaf) rest state stands gave titled = λ g j low.
     ap (λ p. title_of (leaf_slot setting.library leaf (p + j))) (sym (gave_count past moment i gave))
-    ∙ ap (λ (l : TheLeaf). title_of (leaf_slot setting.library l (count (moment ∷ past) i + j))) (sym stands.plays)
-    ∙ titled (count (moment ∷ past) i) j stands.stands low
+    ∙ ap (λ (l : TheLeaf). title_of (leaf_slot setting.library l (gives_before (moment ∷ past) i + j))) (sym stands.plays)
+    ∙ titled (gives_before (moment ∷ past) i) j stands.stands low
 leaf_keeps setting sub past moment filled i (Picks rule eligible) rest state stands gave titled = absurd stands
 leaf_keeps setting sub past moment filled i (Mixes mixing) rest state stands gave titled = absurd stands
 leaf_keeps setting sub past moment filled i (Fades overlap) rest state stands gave titled = absurd stands

@@ -15,7 +15,7 @@ use Rattle.op_cross.proofs.LeastRuns.{run_of-is}
 use Rattle.op_cross.proofs.Running.{passing}
 use Rattle.stream_meaning.specs.Operators.{Work, Plays, Picks, Mixes, Fades, Reads}
 use Rattle.op_leaf.specs.Readers.{Reader, after_cell, read_by}
-use Rattle.stream_meaning.specs.Instants.{Setting, Moment, Reading, choices, count, gives, last_pick, moment_after, offer, position, reading_after, reading_at, work_at}
+use Rattle.stream_meaning.specs.Instants.{Setting, Moment, Reading, choices, gives_before, gives, last_pick, moment_after, offer, position, reading_after, reading_at, work_at}
 use Rattle.stream_meaning.specs.Calls.{ran_by}
 use Rattle.stretch_laws.specs.Stretches.{AreFilled, IsNode, IsOn, IsStretch, going_on}
 use Rattle.stretch_laws.proofs.Stretching.{on_all}
@@ -28,7 +28,7 @@ use Rattle.node_states.proofs.Chunks.{reading_closed}
 
 -- two pasts are the same to a node of this work
 abbrev pub SamePast : Setting → Work → ℕ → List Moment → List Moment → Type 0
-SamePast setting (Plays leaf) i past later = count later i ≡ count past i
+SamePast setting (Plays leaf) i past later = gives_before later i ≡ gives_before past i
 SamePast setting (Picks choice eligible) i past later = (last_pick later i ≡ last_pick past i) × (choices later i ≡ choices past i)
 SamePast setting (Mixes mixing) i past later = Unit {0}
 SamePast setting (Fades overlap) i past later = position later i ≡ position past i
@@ -121,7 +121,7 @@ module _ (setting : Setting) (sub : ℕ → ℕ → List Slot) (clock : NodeCloc
   chosen_same gave = on_later.chosen i gave (omega (arith, begun)) ∙ sym (on_now.chosen i gave begun)
 
   -- and the others have gone on by as many cells or items
-  pub count_later : gives First i ≡ true → count Later i ≡ count Past i + many
+  pub count_later : gives First i ≡ true → gives_before Later i ≡ gives_before Past i + many
   count_later gave = let a = on_later.given i gave in let b = on_now.given i gave in omega (arith, a, b)
 
   pub position_later : gives First i ≡ true → position Later i ≡ position Past i + many
@@ -184,10 +184,10 @@ module _ (setting : Setting) (sub : ℕ → ℕ → List Slot) (clock : NodeCloc
         | inl low ↦ (let l = stands.least k low in let p = position_later gave in omega (arith, l, p))
         | inr high ↦ (let e : filled + (k - filled) ≡ k = omega (arith, high) in
             let few : k - filled ≤ many = omega (arith, high, less) in
-            let count : length (cross overlap (sub i k)) ≡ position Past i + (k - filled) =
+            let gives_before : length (cross overlap (sub i k)) ≡ position Past i + (k - filled) =
             ap (λ n. length (cross overlap (sub i n))) (sym e) ∙ ap (λ slots. length (cross overlap slots)) (filled_cells (k - filled) few)
             ∙ ap (λ most. length (cross most (sub i filled ++ map Some (take (k - filled) cells)))) (sym stands.overlap_is)
             ∙ least (sub i filled) (position Past i) (k - filled) stands.stands few in
-            let p = position_later gave in omega (arith, count, p, few))
+            let p = position_later gave in omega (arith, gives_before, p, few))
       ];
     }

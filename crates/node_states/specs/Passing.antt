@@ -12,7 +12,8 @@ use Rattle.op_mix.specs.Stretches.{Lanes, samples_of}
 use Rattle.node_states.specs.declared.state.NodeState.{NodeState}
 use Rattle.node_states.specs.declared.state.NodeState.TheVariants.{Leaf, Select, Turn, Mix, Cross, Read, Idle}
 
--- it is a crossfade that holds as much of a track as overlaps, and nothing else: each cell that goes on with it settles one item
+-- it is a crossfade that holds as much of a track as overlaps, and nothing else: each cell that goes on with it settles
+-- one item
 abbrev pub passes : NodeState → Bool
 passes (Leaf state) = false
 passes (Select state) = false
@@ -39,11 +40,13 @@ pub record LaneFills (slots_of : ℕ → List Slot) (n count title : ℕ) (left 
   pub filled : (m : ℕ) → m < count → slots_of (suc (n + m)) ≡ slots_of (n + m) ++ slots m ∷ []
 
 -- they are the cells of the lane of its child
-pub record ChildFills (slots_of : ℕ → List Slot) (n count title : ℕ) (children : List ℕ) (lefts rights : Lanes) : Type 0 where
+pub record ChildFills (slots_of : ℕ
+    → List Slot) (n count title : ℕ) (children : List ℕ) (lefts rights : Lanes) : Type 0 where
   pub child : ℕ
   pub there : slice_get children 0 ≡ Some child
   pub fills : LaneFills slots_of n count title (samples_of lefts child count) (samples_of rights child count)
 
 -- the samples of node i over so many instants, as cells of this title that begin no track
 abbrev pub cells_before : (title : ℕ) → Before → (i count : ℕ) → List Cell
-cells_before title before i count = inner_cells title (samples_of before.left.now i count) (samples_of before.right.now i count)
+cells_before title before i count = inner_cells title (samples_of before.left.now i count)
+    (samples_of before.right.now i count)

@@ -1,5 +1,5 @@
--- For what the state of a node stands. A past is a list of the instants of the node's clock, the latest first; `sub k m` are
--- the first m slots of the child of crossfade k.
+-- For what the state of a node stands. A past is a list of the instants of the node's clock, the latest first; `sub k
+-- m` are the first m slots of the child of crossfade k.
 use Rattle.std.specs.Prelude.{◌≡◌, ⊤, ◌<◌, ◌≤◌, Bool, true, false, Option, Some, None, List, ℕ, suc, length, nat_eq, slice_get, if◌then◌else◌}
 use Rattle.frame_core.specs.Library.{Sounds}
 use Rattle.frame_core.specs.Slots.{Slot}
@@ -14,7 +14,7 @@ use Rattle.op_cross.specs.Runs.{run_of}
 use Rattle.op_cross.specs.States.{Crossing, StandsFor, track_room, wants as crossing_wants, left as crossing_left}
 use Rattle.stream_meaning.specs.Operators.{Choice, Selects, TakesTurns, Work, Plays, Picks, Mixes, Fades, Reads}
 use Rattle.plan_core.specs.declared.node.Node.{Node}
-use Rattle.stream_meaning.specs.Instants.{Setting, Moment, Reading, choices, count, last_pick, position, reading_after, reading_at, work_at}
+use Rattle.stream_meaning.specs.Instants.{Setting, Moment, Reading, choices, gives_before, last_pick, position, reading_after, reading_at, work_at}
 use Rattle.op_mix.specs.Mixings.{mixing_of}
 use Rattle.node_states.specs.declared.state.NodeState.{NodeState}
 use Rattle.node_states.specs.declared.state.NodeState.TheVariants.{Leaf, Select, Turn, Mix, Cross, Read, Idle}
@@ -51,15 +51,20 @@ reading_by setting i buffer past begun =
     if nat_eq begun (length past) then reading_after setting i buffer past
     else reading_at setting buffer (length past) (reading_after setting i buffer past)
 
--- node i, which does this work, has the state that its past implies, where a crossfade was filled so many slots of its child, and a
--- reader has begun so many instants; an idle state stands for no past
+-- node i, which does this work, has the state that its past implies, where a crossfade was filled so many slots of its
+-- child, and a reader has begun so many instants; an idle state stands for no past
 abbrev pub StateStands : Setting → (sub : ℕ → ℕ → List Slot) → List Moment → (filled i : ℕ) → Work → NodeState → Type 0
-StateStands setting sub past filled i (Plays leaf) (Leaf state) = LeafStands setting.library leaf (count past i) state
-StateStands setting sub past filled i (Picks choice eligible) (Select state) = HasSelected choice (last_pick past i) state
-StateStands setting sub past filled i (Picks choice eligible) (Turn state) = HasTurned choice (last_pick past i) (choices past i) state
+StateStands setting sub past filled i (Plays leaf) (Leaf state) = LeafStands setting.library leaf (gives_before past i)
+    state
+StateStands setting sub past filled i (Picks choice eligible) (Select state) = HasSelected choice (last_pick past i)
+    state
+StateStands setting sub past filled i (Picks choice eligible) (Turn state) = HasTurned choice (last_pick past i)
+    (choices past i) state
 StateStands setting sub past filled i (Mixes mixing) (Mix mixer) = mixing_of mixer ≡ mixing
-StateStands setting sub past filled i (Fades overlap) (Cross state) = CrossStands (sub i) filled (position past i) overlap state
-StateStands setting sub past filled i (Reads buffer) (Read reader) = reader ≡ (reading_by setting i buffer past filled).reader
+StateStands setting sub past filled i (Fades overlap) (Cross state) = CrossStands (sub i) filled (position past i)
+    overlap state
+StateStands setting sub past filled i (Reads buffer) (Read reader) = reader
+    ≡ (reading_by setting i buffer past filled).reader
 StateStands setting sub past filled i work state = ⊥
 
 -- the item of a crossfade with this past is settled by so many slots of its child; a reader has begun the next instant

@@ -2,59 +2,71 @@
 use Rattle.std.specs.Prelude.{◌≡◌, ℕ, suc, true, List, ◌++◌, ◌%◌, length, map, nat_eq}
 use Rattle.frame_core.specs.Slots.{Slot}
 use Rattle.frame_core.specs.Calls.{Adds, Call, Took, Answer}
-use Rattle.op_leaf.specs.Readers.{Reader, after_takes, at_start, takes_of}
+use Rattle.op_leaf.specs.Readers.{Reader, after_takes, at_start, reader_takes}
 use Rattle.stream_meaning.specs.Operators.{Reads}
 use Rattle.stream_meaning.specs.Instants.{Setting, Moment, next_answers, reading_after}
 use Rattle.node_states.specs.declared.state.NodeState.{NodeState}
 use Rattle.node_states.specs.States.{StateStands, reading_by}
 
 -- the first takes of a reader, which holds this by now
-pub record IsTaking {T : Type 0} (stands : T → List Call → Type 0) (buffer : ℕ) (before now : Reader) (taps_old taps_new : T) : Type 0 where
+pub record IsTaking {T : Type 0} (stands : T → List Call
+    → Type 0) (buffer : ℕ) (before now : Reader) (taps_old taps_new : T) : Type 0 where
   pub more : List Answer
   pub taps : Adds stands taps_old taps_new (map (Took buffer) more)
-  pub takes : (rest : List Answer) → takes_of (more ++ rest) before ≡ more ++ takes_of rest now
+  pub takes : (rest : List Answer) → reader_takes (more ++ rest) before ≡ more ++ reader_takes rest now
   pub holds : (rest : List Answer) → after_takes (more ++ rest) before ≡ after_takes rest now
 
 -- all takes of a reader, which holds this by now and has not begun
-pub record HasHeld {T : Type 0} (stands : T → List Call → Type 0) (buffer : ℕ) (before now : Reader) (taps_old taps_new : T) : Type 0 where
+pub record HasHeld {T : Type 0} (stands : T → List Call
+    → Type 0) (buffer : ℕ) (before now : Reader) (taps_old taps_new : T) : Type 0 where
   pub more : List Answer
   pub taps : Adds stands taps_old taps_new (map (Took buffer) more)
-  pub takes : (rest : List Answer) → takes_of (more ++ rest) before ≡ more
+  pub takes : (rest : List Answer) → reader_takes (more ++ rest) before ≡ more
   pub holds : (rest : List Answer) → after_takes (more ++ rest) before ≡ now
 
 -- all takes of a reader, and then it began
-pub record HasTaken {T : Type 0} (stands : T → List Call → Type 0) (buffer : ℕ) (before now : Reader) (taps_old taps_new : T) : Type 0 where
+pub record HasTaken {T : Type 0} (stands : T → List Call
+    → Type 0) (buffer : ℕ) (before now : Reader) (taps_old taps_new : T) : Type 0 where
   pub more : List Answer
   pub taps : Adds stands taps_old taps_new (map (Took buffer) more)
-  pub takes : (rest : List Answer) → takes_of (more ++ rest) before ≡ more
+  pub takes : (rest : List Answer) → reader_takes (more ++ rest) before ≡ more
   pub begun : (rest : List Answer) → at_start (more ++ rest) before ≡ now
 
 -- some of the takes of a reader, from the first on
-pub record IsTaken {T : Type 0} (stands : T → List Call → Type 0) (buffer : ℕ) (before : Reader) (taps_old taps_new : T) : Type 0 where
+pub record IsTaken {T : Type 0} (stands : T → List Call
+    → Type 0) (buffer : ℕ) (before : Reader) (taps_old taps_new : T) : Type 0 where
   pub more : List Answer
   pub taps : Adds stands taps_old taps_new (map (Took buffer) more)
-  pub begins : (rest : List Answer) → (left : List Answer) × (takes_of (more ++ rest) before ≡ more ++ left)
+  pub begins : (rest : List Answer) → (left : List Answer) × (reader_takes (more ++ rest) before ≡ more ++ left)
 
 -- what node i, which reads this buffer, has of an instant that begins a tick
-pub record HasBegunAt (setting : Setting) (sub : ℕ → ℕ → List Slot) (past : List Moment) (i buffer : ℕ) (front more : List Answer) (state : NodeState) : Type 0 where
+pub record HasBegunAt (setting : Setting) (sub : ℕ → ℕ
+    → List Slot) (past : List Moment) (i buffer : ℕ) (front more : List Answer) (state : NodeState) : Type 0 where
   pub stands : StateStands setting sub past (suc (length past)) i (Reads buffer) state
-  pub takes : takes_of (next_answers (setting.answers buffer) (reading_after setting i buffer past)) (reading_after setting i buffer past).reader ≡ more
+  pub takes : reader_takes (next_answers (setting.answers buffer) (reading_after setting i buffer past))
+      (reading_after setting i buffer past).reader ≡ more
   pub taken : (reading_by setting i buffer past (suc (length past))).taken ≡ length (front ++ more)
 
--- a reader that stood for instants after which a tick begins, and had taken the answers `front`, has taken the next ones
-pub record HasBegun {T : Type 0} (stands : T → List Call → Type 0) (buffer : ℕ) (before now : NodeState) (taps_old taps_new : T) : Type 0 where
+-- a reader that stood for instants after which a tick begins, and had taken the answers `front`, has taken the next
+-- ones
+pub record HasBegun {T : Type 0} (stands : T → List Call
+    → Type 0) (buffer : ℕ) (before now : NodeState) (taps_old taps_new : T) : Type 0 where
   pub more : List Answer
   pub taps : Adds stands taps_old taps_new (map (Took buffer) more)
   pub begun : (setting : Setting) (sub : ℕ → ℕ → List Slot) (past : List Moment) (i : ℕ) (front rest : List Answer)
-      → StateStands setting sub past (length past) i (Reads buffer) before → nat_eq (length past % setting.plan.frame) 0 ≡ true
+      → StateStands setting sub past (length past) i (Reads buffer) before
+      → nat_eq (length past % setting.plan.frame) 0 ≡ true
       → setting.answers buffer ≡ (front ++ more) ++ rest → (reading_after setting i buffer past).taken ≡ length front
       → HasBegunAt setting sub past i buffer front more now
 
 -- some of these takes, from the first on
-pub record HasTakenSome {T : Type 0} (stands : T → List Call → Type 0) (buffer : ℕ) (before : NodeState) (taps_old taps_new : T) : Type 0 where
+pub record HasTakenSome {T : Type 0} (stands : T → List Call
+    → Type 0) (buffer : ℕ) (before : NodeState) (taps_old taps_new : T) : Type 0 where
   pub more : List Answer
   pub taps : Adds stands taps_old taps_new (map (Took buffer) more)
   pub begins : (setting : Setting) (sub : ℕ → ℕ → List Slot) (past : List Moment) (i : ℕ) (front rest : List Answer)
       → StateStands setting sub past (length past) i (Reads buffer) before
       → setting.answers buffer ≡ (front ++ more) ++ rest → (reading_after setting i buffer past).taken ≡ length front
-      → (left : List Answer) × (takes_of (next_answers (setting.answers buffer) (reading_after setting i buffer past)) (reading_after setting i buffer past).reader ≡ more ++ left)
+      → (left : List Answer) ×
+      (reader_takes (next_answers (setting.answers buffer) (reading_after setting i buffer past))
+      (reading_after setting i buffer past).reader ≡ more ++ left)

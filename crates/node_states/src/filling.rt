@@ -37,9 +37,12 @@ impl NodeState {
     pub fn fill_stretch(&mut self, title: u32, lefts: &[i16], rights: &[i16])
         requires same { length rights.now ≡ length lefts.now }
         requires few { length lefts.now ≤ room self.old }
-        ensures fits { (library : Sounds) (children : ℕ) → Fits library children self.old → Fits library children self.new }
-        ensures filled { (setting : Setting) (sub : ℕ → ℕ → List TheSlot) (past : List Moment) (filled i : ℕ) (work : Work) (slots : ℕ → TheSlot)
-            → StateStands setting sub past filled i work self.old → IsLane slots (length lefts.now) lefts.now rights.now → AreTitled slots (length lefts.now) title
+        ensures fits { (library : Sounds) (children : ℕ) → Fits library children self.old
+            → Fits library children self.new }
+        ensures filled { (setting : Setting) (sub : ℕ → ℕ
+            → List TheSlot) (past : List Moment) (filled i : ℕ) (work : Work) (slots : ℕ → TheSlot)
+            → StateStands setting sub past filled i work self.old → IsLane slots (length lefts.now) lefts.now rights.now
+            → AreTitled slots (length lefts.now) title
             → ((m : ℕ) → m < length lefts.now → sub i (suc (filled + m)) ≡ sub i (filled + m) ++ slots m ∷ [])
             → StateStands setting sub past (filled + length lefts.now) i work self.new }
         ensures less { 0 < length lefts.now → left self.new < left self.old }

@@ -1,5 +1,5 @@
-//! The state of one node of a plan, and what it offers and does at an instant of its clock. `docs/engine.md`, "The state
-//! of a node", has the rules.
+//! The state of one node of a plan, and what it offers and does at an instant of its clock. `docs/engine.md`, "The
+//! state of a node", has the rules.
 #![tactic(auto)]
 
 mod desk;

@@ -13,11 +13,13 @@ use time_pred::Pred;
 // The seconds of a week.
 const WEEK: u32 = 604_800;
 
-/// Marks the children that are eligible at this second of the week: of a switch those whose predicate holds, and else each.
+/// Marks the children that are eligible at this second of the week: of a switch those whose predicate holds, and else
+/// each.
 pub fn mark_eligible(op: &Op, at: WeekSecond, marks: &mut [bool])
     requires { HasChildren op.now (length marks.old) }
     ensures { (rate i : ℕ) (kind : Kind) (choice : Choice) (eligible : Eligible)
-        → work_of rate i kind op.now ≡ Picks choice eligible → marks.new ≡ marks_at eligible at.second (length marks.old) }
+        → work_of rate i kind op.now ≡ Picks choice eligible
+        → marks.new ≡ marks_at eligible at.second (length marks.old) }
 {
     match op {
         Op::Switch { preds, .. } => test_all(preds.as_slice(), at, marks),
@@ -35,8 +37,8 @@ fn test_all(preds: &[Pred], at: WeekSecond, marks: &mut [bool])
     }
 }
 
-/// For how many seconds from this one on, at least 1 and at most a week, the eligible children of a node that chooses stay
-/// the same.
+/// For how many seconds from this one on, at least 1 and at most a week, the eligible children of a node that chooses
+/// stay the same.
 pub fn steady_seconds(op: &Op, at: WeekSecond) -> u32
     ensures some { 0 < result }
     ensures most { result ≤ 604800 }
@@ -55,7 +57,8 @@ fn least_steady(preds: &[Pred], at: WeekSecond) -> u32
     ensures some { 0 < result }
     ensures most { result ≤ 604800 }
     ensures stays { (j : ℕ) → j < result
-        → map (λ pred. holds (view_pred pred) ((at.second + j) % 604800)) preds.now ≡ map (λ pred. holds (view_pred pred) at.second) preds.now }
+        → map (λ pred. holds (view_pred pred) ((at.second + j) % 604800)) preds.now
+        ≡ map (λ pred. holds (view_pred pred) at.second) preds.now }
 {
     let mut least = WEEK;
     for pred in preds {

@@ -8,8 +8,8 @@ ghost use Rattle.node_states.specs.Passing.{cells_before};
 use op_cross::CrossState;
 use op_mix::{Before, samples_of};
 
-/// Takes as many cells of the crossfade's child as the slices are long, which have this title and go on with the track that it
-/// holds, and gives as many items.
+/// Takes as many cells of the crossfade's child as the slices are long, which have this title and go on with the track
+/// that it holds, and gives as many items.
 pub fn pass_child(
     state: &mut CrossState,
     title: u32,
@@ -22,14 +22,22 @@ pub fn pass_child(
     requires same { length right.old ≡ length left.old }
     requires short { length left.old ≤ 2048 }
     ensures overlap { (child : ℕ) → slice_get children.now 0 ≡ Some child → state.new.overlap ≡ state.old.overlap }
-    ensures stands { (child p : ℕ) (slots : List Slot) → slice_get children.now 0 ≡ Some child → StandsFor state.old slots p
-        → StandsFor state.new (slots ++ map Some (cells_before title before.now child (length left.old))) (p + length left.old) }
-    ensures least { (child p m : ℕ) (slots : List Slot) → slice_get children.now 0 ≡ Some child → StandsFor state.old slots p → m ≤ length left.old
-        → length (cross state.old.overlap (slots ++ map Some (take m (cells_before title before.now child (length left.old))))) ≡ p + m }
-    ensures left { (child p : ℕ) (slots : List Slot) → slice_get children.now 0 ≡ Some child → StandsFor state.old slots p
-        → left.new ≡ map slot_left (take (length left.old) (drop p (cross state.old.overlap (slots ++ map Some (cells_before title before.now child (length left.old)))))) }
-    ensures right { (child p : ℕ) (slots : List Slot) → slice_get children.now 0 ≡ Some child → StandsFor state.old slots p
-        → right.new ≡ map slot_right (take (length left.old) (drop p (cross state.old.overlap (slots ++ map Some (cells_before title before.now child (length left.old)))))) }
+    ensures stands { (child p : ℕ) (slots : List Slot) → slice_get children.now 0 ≡ Some child
+        → StandsFor state.old slots p
+        → StandsFor state.new (slots
+        ++ map Some (cells_before title before.now child (length left.old))) (p + length left.old) }
+    ensures least { (child p m : ℕ) (slots : List Slot) → slice_get children.now 0 ≡ Some child
+        → StandsFor state.old slots p → m ≤ length left.old
+        → length (cross state.old.overlap (slots
+        ++ map Some (take m (cells_before title before.now child (length left.old))))) ≡ p + m }
+    ensures left { (child p : ℕ) (slots : List Slot) → slice_get children.now 0 ≡ Some child
+        → StandsFor state.old slots p
+        → left.new ≡ map slot_left (take (length left.old) (drop p (cross state.old.overlap (slots
+        ++ map Some (cells_before title before.now child (length left.old)))))) }
+    ensures right { (child p : ℕ) (slots : List Slot) → slice_get children.now 0 ≡ Some child
+        → StandsFor state.old slots p
+        → right.new ≡ map slot_right (take (length left.old) (drop p (cross state.old.overlap (slots
+        ++ map Some (cells_before title before.now child (length left.old)))))) }
 {
     let Some(child) = children.get(0) else {
         return;

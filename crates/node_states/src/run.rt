@@ -18,10 +18,10 @@ use op_mix::{Before, Sums, samples_of};
 use plan_core::Node;
 
 impl NodeState {
-    /// Makes as many instants as the slices are long of a node that gave at the latest one, with which they go on: its samples
-    /// are laid, over what the nodes before it gave, and its state goes on behind them. `pick` is the child that it used at the
-    /// latest instant; through a crossfade that passes go the samples of its child, whose cells have the title `below`. It takes
-    /// no memory.
+    /// Makes as many instants as the slices are long of a node that gave at the latest one, with which they go on: its
+    /// samples are laid, over what the nodes before it gave, and its state goes on behind them. `pick` is the child
+    /// that it used at the latest instant; through a crossfade that passes go the samples of its child, whose cells
+    /// have the title `below`. It takes no memory.
     pub fn run(
         &mut self,
         node: &Node,
@@ -40,10 +40,14 @@ impl NodeState {
         requires short { length left.old ≤ 2048 }
         requires ahead { LiesAhead library.now self.old (length left.old) }
         ensures fits { Fits library.now (length node.now.children) self.new }
-        ensures stands { (setting : Setting) (sub : ℕ → ℕ → List TheSlot) (clock : Clock) (past : List Moment) (filled i : ℕ)
+        ensures stands { (setting : Setting) (sub : ℕ → ℕ
+            → List TheSlot) (clock : Clock) (past : List Moment) (filled i : ℕ)
             → GivesOn setting sub clock past (length left.old) filled i node.now library.now below before.now self.old
-            → StateStands setting sub (going_on setting sub clock (suc (length left.old)) past) (filled_on (passes self.old || reads (work_at setting i node.now)) (length left.old) filled) i (work_at setting i node.now) self.new }
-        ensures lane { (setting : Setting) (sub : ℕ → ℕ → List TheSlot) (clock : Clock) (past : List Moment) (filled i : ℕ)
+            → StateStands setting sub (going_on setting sub clock (suc (length left.old)) past)
+            (filled_on (passes self.old
+            || reads (work_at setting i node.now)) (length left.old) filled) i (work_at setting i node.now) self.new }
+        ensures lane { (setting : Setting) (sub : ℕ → ℕ
+            → List TheSlot) (clock : Clock) (past : List Moment) (filled i : ℕ)
             → GivesOn setting sub clock past (length left.old) filled i node.now library.now below before.now self.old
             → ChildrenGive setting sub clock past (length left.old) i node.now pick before.now
             → IsLane (λ j. lane setting sub clock past (suc j) i) (length left.old) left.new right.new }
@@ -83,8 +87,10 @@ fn copy_picked(
 )
     requires same { length right.old ≡ length left.old }
     requires short { length left.old ≤ 2048 }
-    ensures left { (place child : ℕ) → pick ≡ Some place → slice_get children.now place ≡ Some child → left.new ≡ samples_of before.now.left.now child (length left.old) }
-    ensures right { (place child : ℕ) → pick ≡ Some place → slice_get children.now place ≡ Some child → right.new ≡ samples_of before.now.right.now child (length left.old) }
+    ensures left { (place child : ℕ) → pick ≡ Some place → slice_get children.now place ≡ Some child
+        → left.new ≡ samples_of before.now.left.now child (length left.old) }
+    ensures right { (place child : ℕ) → pick ≡ Some place → slice_get children.now place ≡ Some child
+        → right.new ≡ samples_of before.now.right.now child (length left.old) }
 {
     let Some(place) = pick else {
         return;

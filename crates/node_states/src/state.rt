@@ -31,7 +31,8 @@ use plan_core::{Node, Plan};
 use std::alloc::Global;
 use stream_meaning::Part;
 
-/// The state of a node between two instants of its clock. It takes its memory when it is made, and no other call takes any.
+/// The state of a node between two instants of its clock. It takes its memory when it is made, and no other call takes
+/// any.
 #[derive(Drop)]
 pub enum NodeState {
     /// A leaf.
@@ -64,7 +65,8 @@ impl NodeState {
         requires few { length node.now.children ≤ MAX_CHILDREN }
         ensures fits { IfOk result (λ state. (library : Sounds) → IsLibrary library → i < length library.leaves
             → Fits library (length node.now.children) state) }
-        ensures stands { IfOk result (λ state. (setting : Setting) (sub : ℕ → ℕ → List TheSlot) → setting.plan ≡ plan.now
+        ensures stands { IfOk result (λ state. (setting : Setting) (sub : ℕ → ℕ → List TheSlot)
+            → setting.plan ≡ plan.now
             → sub i 0 ≡ [] → StateStands setting sub [] 0 i (work_at setting i node.now) state) }
     {
         match task_of(node, i, plan.rate) {
@@ -94,12 +96,15 @@ impl NodeState {
     pub fn wants(&self) -> bool
         ensures wants { result ≡ wants self.now }
         ensures ends { result ≡ true → 0 < left self.now }
-        ensures settled { (setting : Setting) (sub : ℕ → ℕ → List TheSlot) (past : List Moment) (filled i : ℕ) (work : Work)
+        ensures settled { (setting : Setting) (sub : ℕ → ℕ
+            → List TheSlot) (past : List Moment) (filled i : ℕ) (work : Work)
             → StateStands setting sub past filled i work self.now → result ≡ false
             → ((buffer : ℕ) → work ≡ Reads buffer → filled ≡ suc (length past)) → IsSettled sub past filled i work }
-        ensures more { (setting : Setting) (sub : ℕ → ℕ → List TheSlot) (past : List Moment) (filled i : ℕ) (work : Work) → AreLong sub
+        ensures more { (setting : Setting) (sub : ℕ → ℕ
+            → List TheSlot) (past : List Moment) (filled i : ℕ) (work : Work) → AreLong sub
             → StateStands setting sub past filled i work self.now → result ≡ true → FadesOn sub past filled i work }
-        ensures run { (setting : Setting) (sub : ℕ → ℕ → List TheSlot) (past : List Moment) (filled i overlap : ℕ) → AreLong sub
+        ensures run { (setting : Setting) (sub : ℕ → ℕ → List TheSlot) (past : List Moment) (filled i overlap : ℕ)
+            → AreLong sub
             → StateStands setting sub past filled i (Fades overlap) self.now → result ≡ false
             → run_of overlap (sub i) (position past i) ≡ filled }
     {
@@ -112,8 +117,10 @@ impl NodeState {
     /// Takes the next slot of a crossfade's child.
     pub fn feed(&mut self, slot: Option<Cell>)
         requires { wants self.old ≡ true }
-        ensures fits { (library : Sounds) (children : ℕ) → Fits library children self.old → Fits library children self.new }
-        ensures filled { (setting : Setting) (sub : ℕ → ℕ → List TheSlot) (past : List Moment) (filled i : ℕ) (work : Work)
+        ensures fits { (library : Sounds) (children : ℕ) → Fits library children self.old
+            → Fits library children self.new }
+        ensures filled { (setting : Setting) (sub : ℕ → ℕ
+            → List TheSlot) (past : List Moment) (filled i : ℕ) (work : Work)
             → StateStands setting sub past filled i work self.old → sub i (suc filled) ≡ sub i filled ++ slot ∷ []
             → StateStands setting sub past (suc filled) i work self.new }
         ensures less { left self.new < left self.old }
@@ -125,8 +132,8 @@ impl NodeState {
         }
     }
 
-    /// What the node offers over the slots of its children, at an instant whose second is this, and which child it uses,
-    /// where it chooses. `marks` is room for a mark a child; what stands there does not matter.
+    /// What the node offers over the slots of its children, at an instant whose second is this, and which child it
+    /// uses, where it chooses. `marks` is room for a mark a child; what stands there does not matter.
     pub fn offer(
         &self,
         node: &Node,
@@ -162,8 +169,10 @@ impl NodeState {
 
     /// The child that a selection used when it last gave.
     pub fn last(&self) -> Option<u32>
-        ensures { (setting : Setting) (sub : ℕ → ℕ → List TheSlot) (past : List Moment) (filled i : ℕ) (rule : TheRule) (eligible : Eligible)
-            → StateStands setting sub past filled i (Picks (Selects rule) eligible) self.now → result ≡ last_pick past i }
+        ensures { (setting : Setting) (sub : ℕ → ℕ
+            → List TheSlot) (past : List Moment) (filled i : ℕ) (rule : TheRule) (eligible : Eligible)
+            → StateStands setting sub past filled i (Picks (Selects rule) eligible) self.now
+            → result ≡ last_pick past i }
     {
         match self {
             NodeState::Select(state) => state.last(),
@@ -171,10 +180,10 @@ impl NodeState {
         }
     }
 
-    /// How many instants, at most so many, go on behind one at which the node had this part and gave, or did not, as far as it
-    /// goes; a reader within its tick. `begins` tells whether the child that a selection used last begins a track there, and
-    /// `below` how many instants of a crossfade's sub-clock go on with a track, under the title `below_title`. Where cells pass, each
-    /// of its items asks for one of these, and else for none.
+    /// How many instants, at most so many, go on behind one at which the node had this part and gave, or did not, as
+    /// far as it goes; a reader within its tick. `begins` tells whether the child that a selection used last begins a
+    /// track there, and `below` how many instants of a crossfade's sub-clock go on with a track, under the title
+    /// `below_title`. Where cells pass, each of its items asks for one of these, and else for none.
     pub fn rest(
         &self,
         part: Part,
@@ -189,19 +198,27 @@ impl NodeState {
         ensures within { result ≤ most }
         ensures ahead { gave ≡ true → LiesAhead library.now self.now result }
         ensures through { gave ≡ true → passes self.now ≡ true → result ≤ below }
-        ensures goes { (setting : Setting) (sub : ℕ → ℕ → List TheSlot) (past : List Moment) (moment : Moment) (filled i : ℕ) (work : Work)
-            → setting.library ≡ library.now → AreLong sub → StateStands setting sub (moment ∷ past) filled i work self.now
+        ensures goes { (setting : Setting) (sub : ℕ → ℕ
+            → List TheSlot) (past : List Moment) (moment : Moment) (filled i : ℕ) (work : Work)
+            → setting.library ≡ library.now → AreLong sub
+            → StateStands setting sub (moment ∷ past) filled i work self.now
             → ((buffer : ℕ) → work ≡ Reads buffer → filled ≡ suc (length past))
-            → part_at moment.parts i ≡ part → gives moment i ≡ gave → (gave ≡ true → passes self.now ≡ true → AreFilled setting sub i filled below below_title)
+            → part_at moment.parts i ≡ part → gives moment i ≡ gave
+            → (gave ≡ true → passes self.now ≡ true → AreFilled setting sub i filled below below_title)
             → NodeGoes setting sub past moment i work begins result }
-        ensures keeps { (setting : Setting) (sub : ℕ → ℕ → List TheSlot) (past : List Moment) (moment : Moment) (filled i : ℕ) (work : Work)
-            → setting.library ≡ library.now → AreLong sub → StateStands setting sub (moment ∷ past) filled i work self.now
+        ensures keeps { (setting : Setting) (sub : ℕ → ℕ
+            → List TheSlot) (past : List Moment) (moment : Moment) (filled i : ℕ) (work : Work)
+            → setting.library ≡ library.now → AreLong sub
+            → StateStands setting sub (moment ∷ past) filled i work self.now
             → ((buffer : ℕ) → work ≡ Reads buffer → filled ≡ suc (length past))
-            → part_at moment.parts i ≡ part → gives moment i ≡ gave → (gave ≡ true → passes self.now ≡ true → AreFilled setting sub i filled below below_title)
+            → part_at moment.parts i ≡ part → gives moment i ≡ gave
+            → (gave ≡ true → passes self.now ≡ true → AreFilled setting sub i filled below below_title)
             → NodeKeeps setting sub past moment i work result }
-        ensures asks { (setting : Setting) (sub : ℕ → ℕ → List TheSlot) (past : List Moment) (moment : Moment) (filled i overlap j : ℕ)
+        ensures asks { (setting : Setting) (sub : ℕ → ℕ
+            → List TheSlot) (past : List Moment) (moment : Moment) (filled i overlap j : ℕ)
             → AreLong sub → StateStands setting sub (moment ∷ past) filled i (Fades overlap) self.now
-            → gives moment i ≡ gave → gave ≡ true → (passes self.now ≡ true → AreFilled setting sub i filled below below_title) → j < result
+            → gives moment i ≡ gave → gave ≡ true → (passes self.now ≡ true
+            → AreFilled setting sub i filled below below_title) → j < result
             → run_of overlap (sub i) (suc (position past i) + j) ≡ filled + asked (passes self.now) j }
     {
         match self {
@@ -245,7 +262,8 @@ impl NodeState {
     pub fn next(&mut self, part: Part, is_demanded: bool, library: &Library, children: usize)
         requires fits { Fits library.now children self.old }
         ensures fits { Fits library.now children self.new }
-        ensures stands { (setting : Setting) (sub : ℕ → ℕ → List TheSlot) (past : List Moment) (moment : Moment) (filled i : ℕ)
+        ensures stands { (setting : Setting) (sub : ℕ → ℕ
+            → List TheSlot) (past : List Moment) (moment : Moment) (filled i : ℕ)
             (work : Work) (slots : List TheSlot) → setting.library ≡ library.now → AreLong sub
             → StateStands setting sub past filled i work self.old → IsSettled sub past filled i work
             → length slots ≡ children → part ≡ part_by setting sub past i work slots

@@ -94,8 +94,10 @@ pub fn step_selection(state: &mut SelectState, gave: bool, pick: Option<u32>, ch
 pub fn step_turn(state: &mut TurnState, gave: bool, part: Part, children: usize)
     requires { state.old.children ≡ children }
     ensures children { state.new.children ≡ state.old.children }
-    ensures given { (turn : Turn) (past : Past) (pick : ThePicked) → gave ≡ true → part.pick ≡ Some pick.child → part.slot ≡ Some pick.cell
-        → pick.child < children → TurnStandsFor turn past state.old → TurnStandsFor turn (past_given past pick) state.new }
+    ensures given { (turn : Turn) (past : Past) (pick : ThePicked) → gave ≡ true → part.pick ≡ Some pick.child
+        → part.slot ≡ Some pick.cell
+        → pick.child < children → TurnStandsFor turn past state.old
+        → TurnStandsFor turn (past_given past pick) state.new }
     ensures stayed { gave ≡ false → state.new ≡ state.old }
 {
     if gave
@@ -110,7 +112,8 @@ pub fn step_turn(state: &mut TurnState, gave: bool, part: Part, children: usize)
 /// Takes a crossfade whose item is settled to the next one, where it gave, and where the item is empty.
 pub fn step_crossfade(state: &mut CrossState, gave: bool)
     ensures overlap { state.new.overlap ≡ state.old.overlap }
-    ensures stands { (slots : List Slot) (p : ℕ) → StandsFor state.old slots p → p < length (cross state.old.overlap slots)
+    ensures stands { (slots : List Slot) (p : ℕ) → StandsFor state.old slots p
+        → p < length (cross state.old.overlap slots)
         → StandsFor state.new slots (position_after gave (slot_at (cross state.old.overlap slots) p) p) }
 {
     if !state.wants() {

@@ -10,12 +10,14 @@ use liq_base::Memory;
 use op_leaf::ReaderState;
 
 impl NodeState {
-    /// Takes what a reader takes at the start of a tick, and begins. Where memory is refused some of these takes were made.
+    /// Takes what a reader takes at the start of a tick, and begins. Where memory is refused some of these takes were
+    /// made.
     pub fn take<T: Taps>(&mut self, buffer: u32, taps: &mut T) -> Result<(), Memory>
         requires { buffer < T.buffers taps.old }
         ensures buffers { T.buffers taps.new ≡ T.buffers taps.old }
         ensures same { T.same taps.old taps.new }
-        ensures fits { (library : Sounds) (children : ℕ) → Fits library children self.old → Fits library children self.new }
+        ensures fits { (library : Sounds) (children : ℕ) → Fits library children self.old
+            → Fits library children self.new }
         ensures took { OnOk result (HasBegun T.stands buffer self.old self.new taps.old taps.new) }
         ensures stopped { OnErr result (HasTakenSome T.stands buffer self.old taps.old taps.new) }
     {

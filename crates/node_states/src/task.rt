@@ -12,8 +12,8 @@ use op_select::Rule;
 use op_turn::Turn;
 use plan_core::{Node, Op, Plan};
 
-/// What a node does: it plays, picks among its children by a rule or by turns, mixes them, fades its child's tracks or reads
-/// a buffer.
+/// What a node does: it plays, picks among its children by a rule or by turns, mixes them, fades its child's tracks or
+/// reads a buffer.
 #[derive(Clone, Copy, Debug)]
 pub enum Task {
     Play(Leaf),

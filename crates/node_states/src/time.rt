@@ -3,8 +3,8 @@ ghost use Rattle.std.specs.Prelude.{◌≡◌, ◌<◌, ◌≤◌, ◌+◌, ◌/
 
 use fixed_text::WeekSecond;
 
-/// The second of the week of a clock's instant, how many samples of this second are over, and how many instants of its tick.
-/// No count of instants is kept.
+/// The second of the week of a clock's instant, how many samples of this second are over, and how many instants of its
+/// tick. No count of instants is kept.
 #[derive(Clone, Copy, Debug)]
 pub struct WeekTime {
     /// Samples a second, above 0.
@@ -56,7 +56,8 @@ impl WeekTime {
     /// counts.
     pub fn seconds_left(self, seconds: u32) -> u32
         requires { 0 < seconds }
-        ensures { (start n j : ℕ) → TimeStands start n self → j ≤ result → (n + j) / self.rate < n / self.rate + seconds }
+        ensures { (start n j : ℕ) → TimeStands start n self → j ≤ result
+            → (n + j) / self.rate < n / self.rate + seconds }
     {
         let later = (seconds - 1).saturating_mul(self.rate);
         (self.rate - 1 - self.samples).saturating_add(later)
@@ -64,7 +65,8 @@ impl WeekTime {
 
     /// How many instants behind this one lie in its tick.
     pub fn tick_left(self) -> u32
-        ensures { (start n j : ℕ) → TimeStands start n self → 0 < j → j ≤ result → nat_eq ((n + j) % self.frame) 0 ≡ false }
+        ensures { (start n j : ℕ) → TimeStands start n self → 0 < j → j ≤ result
+            → nat_eq ((n + j) % self.frame) 0 ≡ false }
     {
         self.frame - 1 - self.place
     }

@@ -5,8 +5,8 @@ use Rattle.std.proofs.lemmas.List.{length-append, append-nil, take-append-le, dr
 use Rattle.std.proofs.Math.Seq.{take-add, take-length}
 use Rattle.frame_core.specs.declared.cell.Cell.{Cell}
 use Rattle.frame_core.specs.Slots.{Slot, is_first}
-use Rattle.op_cross.specs.Tracks.{Border, Flag, Gap, Open, Piece, is_closed, with_front, begins_track, pieces_of}
-use Rattle.op_cross.specs.Crossfade.{mixed_cells, overlap_of, takes_part, held_back, joined, settled, settled_from, cross}
+use Rattle.op_cross.specs.Tracks.{Border, Flag, Gap, Unended, Piece, is_closed, with_front, begins_track, track_pieces}
+use Rattle.op_cross.specs.Crossfade.{mixed_cells, overlap_of, takes_part, held_back, overlapped, settled, settled_from, cross}
 
 -- the first list begins the second
 pub record Begins {A : Type 0} (front whole : List A) : Type 0 where
@@ -25,7 +25,7 @@ Begins-more xs ys zs b = record { rest = b.rest ++ zs; is = sym (append_assoc xs
 abbrev pub IsClosed : Border → Type 0
 IsClosed Flag = Unit {0}
 IsClosed Gap = Unit {0}
-IsClosed Open = ⊥
+IsClosed Unended = ⊥
 
 -- the pieces of a list and those of a longer one: only an open last piece may grow
 abbrev pub Grows : List Piece → List Piece → Type 0
@@ -33,9 +33,9 @@ Grows [] longer = Unit {0}
 Grows (piece ∷ pieces) [] = ⊥
 Grows (piece ∷ pieces) (next ∷ longer) =
     ((piece ≡ next) × IsClosed piece.border × Grows pieces longer)
-    ⊎ ((pieces ≡ []) × (piece.border ≡ Open) × Begins piece.cells next.cells)
+    ⊎ ((pieces ≡ []) × (piece.border ≡ Unended) × Begins piece.cells next.cells)
 
-front-alone : (cell : Cell) (pieces : List Piece) → Grows (record { cells = cell ∷ []; border = Open } ∷ []) (with_front cell pieces)
+front-alone : (cell : Cell) (pieces : List Piece) → Grows (record { cells = cell ∷ []; border = Unended } ∷ []) (with_front cell pieces)
 front-alone cell [] = inr (refl, refl, Begins-same (cell ∷ []))
 front-alone cell (piece ∷ pieces) = inr (refl, refl, record { rest = piece.cells; is = refl })
 
@@ -47,20 +47,20 @@ with_front-grows cell (piece ∷ pieces) (next ∷ longer) g = elim g [
   | inr o ↦ inr (o.0, o.1, record { rest = o.2.rest; is = ap (λ l. cell ∷ l) o.2.is })
 ]
 
-pub pieces_of-grows : (slots more : List Slot) → Grows (pieces_of slots) (pieces_of (slots ++ more))
+pub pieces_of-grows : (slots more : List Slot) → Grows (track_pieces slots) (track_pieces (slots ++ more))
 pieces_of-grows [] more = tt
 pieces_of-grows (None ∷ slots) more = inl (refl, tt, pieces_of-grows slots more)
 pieces_of-grows (Some cell ∷ []) more =
-    elim (begins_track more) as (λ b. Grows (record { cells = cell ∷ []; border = Open } ∷ []) (cond b (record { cells = cell ∷ []; border = Flag } ∷ pieces_of more) (with_front cell (pieces_of more)))) [
+    elim (begins_track more) as (λ b. Grows (record { cells = cell ∷ []; border = Unended } ∷ []) (cond b (record { cells = cell ∷ []; border = Flag } ∷ track_pieces more) (with_front cell (track_pieces more)))) [
       | true ↦ inr (refl, refl, Begins-same (cell ∷ []))
-      | false ↦ front-alone cell (pieces_of more)
+      | false ↦ front-alone cell (track_pieces more)
     ]
 pieces_of-grows (Some cell ∷ slot ∷ slots) more =
     let rest = pieces_of-grows (slot ∷ slots) more in
-    elim (is_first slot) as (λ b. Grows (cond b (record { cells = cell ∷ []; border = Flag } ∷ pieces_of (slot ∷ slots)) (with_front cell (pieces_of (slot ∷ slots))))
-    (cond b (record { cells = cell ∷ []; border = Flag } ∷ pieces_of (slot ∷ slots ++ more)) (with_front cell (pieces_of (slot ∷ slots ++ more))))) [
+    elim (is_first slot) as (λ b. Grows (cond b (record { cells = cell ∷ []; border = Flag } ∷ track_pieces (slot ∷ slots)) (with_front cell (track_pieces (slot ∷ slots))))
+    (cond b (record { cells = cell ∷ []; border = Flag } ∷ track_pieces (slot ∷ slots ++ more)) (with_front cell (track_pieces (slot ∷ slots ++ more))))) [
       | true ↦ inl (refl, tt, rest)
-      | false ↦ with_front-grows cell (pieces_of (slot ∷ slots)) (pieces_of (slot ∷ slots ++ more)) rest
+      | false ↦ with_front-grows cell (track_pieces (slot ∷ slots)) (track_pieces (slot ∷ slots ++ more)) rest
     ]
 
 -- fewer cells of a shorter track begin more cells of a longer one
@@ -97,22 +97,22 @@ held-all most cells more =
 
 -- a next track leaves what is held back of the one before it
 held-joined : (most o : ℕ) (cells more : List Cell) (next : List Cell) (rest : List Slot) → o ≤ min most (length (cells ++ more)) →
-    Begins (held_back most cells) (joined o (cells ++ more) next ++ rest)
+    Begins (held_back most cells) (overlapped o (cells ++ more) next ++ rest)
 held-joined most o cells more next rest small =
     let long = length-append cells more in
-    Begins-more (held_back most cells) (joined o (cells ++ more) next) rest
+    Begins-more (held_back most cells) (overlapped o (cells ++ more) next) rest
     (Begins-more (held_back most cells) (map Some (take (length (cells ++ more) - o) (cells ++ more))) (mixed_cells (drop (length (cells ++ more) - o) (cells ++ more)) (take o next) 0 o)
     (some-begins (length cells - min most (length cells)) (length (cells ++ more) - o) cells more (omega (arith, long, small)) (omega arith)))
 
 -- what is held back of a track is held back of nothing longer
 held-begins : (most : ℕ) (cells more : List Cell) (border : Border) (pieces : List Piece) → Begins (held_back most cells) (settled most (cells ++ more) border pieces)
-held-begins most cells more Open pieces = held-held most cells more
+held-begins most cells more Unended pieces = held-held most cells more
 held-begins most cells more Gap [] = Begins-more (held_back most cells) (map Some (cells ++ more)) (None ∷ []) (held-all most cells more)
 held-begins most cells more Gap (next ∷ pieces) = Begins-more (held_back most cells) (map Some (cells ++ more)) (None ∷ settled most next.cells next.border pieces) (held-all most cells more)
 held-begins most cells more Flag [] = held-held most cells more
 held-begins most cells more Flag (next ∷ pieces) =
     elim (takes_part most (cells ++ more) next) as (λ b. Begins (held_back most cells)
-    (cond b (joined (overlap_of most (cells ++ more) next.cells) (cells ++ more) next.cells ++ settled most (drop (overlap_of most (cells ++ more) next.cells) next.cells) next.border pieces) (held_back most (cells ++ more)))) [
+    (cond b (overlapped (overlap_of most (cells ++ more) next.cells) (cells ++ more) next.cells ++ settled most (drop (overlap_of most (cells ++ more) next.cells) next.cells) next.border pieces) (held_back most (cells ++ more)))) [
       | true ↦ held-joined most (overlap_of most (cells ++ more) next.cells) cells more next.cells (settled most (drop (overlap_of most (cells ++ more) next.cells) next.cells) next.border pieces) (omega arith)
       | false ↦ held-held most cells more
     ]
@@ -127,20 +127,20 @@ closed-takes most r next closed = go next.border closed
     go : (border : Border) → IsClosed border → (is_closed border || nat_le (min most (length r)) (length next.cells)) ≡ true
     go Flag c = refl
     go Gap c = refl
-    go Open c = absurd c
+    go Unended c = absurd c
 
 -- the track behind a closed one grows, and is not closed itself
 grown-open : (most : ℕ) (r cells more : List Cell) (border : Border) (longer : List Piece) → nat_le (min most (length r)) (length cells) ≡ true →
-    Begins (joined (overlap_of most r cells) r cells ++ held_back most (drop (overlap_of most r cells) cells)) (settled most r Flag (record { cells = cells ++ more; border = border } ∷ longer))
+    Begins (overlapped (overlap_of most r cells) r cells ++ held_back most (drop (overlap_of most r cells) cells)) (settled most r Flag (record { cells = cells ++ more; border = border } ∷ longer))
 grown-open most r cells more border longer e =
     let takes : (is_closed border || nat_le (min most (length r)) (length (cells ++ more))) ≡ true = taken (is_closed border) in
     let front : take (overlap_of most r cells) (cells ++ more) ≡ take (overlap_of most r cells) cells = take-append-le (overlap_of most r cells) cells more (omega arith) in
     let back : drop (overlap_of most r cells) (cells ++ more) ≡ drop (overlap_of most r cells) cells ++ more = drop-append-le (overlap_of most r cells) cells more (omega arith) in
     rw takes
-    (subst (λ n. Begins (joined (overlap_of most r cells) r cells ++ held_back most (drop (overlap_of most r cells) cells)) (joined n r (cells ++ more) ++ settled most (drop n (cells ++ more)) border longer)) (sym same)
-    (subst (λ t. Begins (joined (overlap_of most r cells) r cells ++ held_back most (drop (overlap_of most r cells) cells))
+    (subst (λ n. Begins (overlapped (overlap_of most r cells) r cells ++ held_back most (drop (overlap_of most r cells) cells)) (overlapped n r (cells ++ more) ++ settled most (drop n (cells ++ more)) border longer)) (sym same)
+    (subst (λ t. Begins (overlapped (overlap_of most r cells) r cells ++ held_back most (drop (overlap_of most r cells) cells))
     ((map Some (take (length r - overlap_of most r cells) r) ++ mixed_cells (drop (length r - overlap_of most r cells) r) t 0 (overlap_of most r cells)) ++ settled most (drop (overlap_of most r cells) (cells ++ more)) border longer)) (sym front)
-    (Begins-behind (joined (overlap_of most r cells) r cells) (held_back most (drop (overlap_of most r cells) cells)) (settled most (drop (overlap_of most r cells) (cells ++ more)) border longer)
+    (Begins-behind (overlapped (overlap_of most r cells) r cells) (held_back most (drop (overlap_of most r cells) cells)) (settled most (drop (overlap_of most r cells) (cells ++ more)) border longer)
     (subst (λ l. Begins (held_back most (drop (overlap_of most r cells) cells)) (settled most l border longer)) (sym back)
     (held-begins most (drop (overlap_of most r cells) cells) more border longer)))))
   where
@@ -159,9 +159,9 @@ grown-open most r cells more border longer e =
 
 flag-open : (most : ℕ) (r : List Cell) (cells : List Cell) (next : Piece) (longer : List Piece) → Begins cells next.cells →
     (t : Bool) → nat_le (min most (length r)) (length cells) ≡ t →
-    Begins (cond t (joined (overlap_of most r cells) r cells ++ held_back most (drop (overlap_of most r cells) cells)) (held_back most r)) (settled most r Flag (next ∷ longer))
+    Begins (cond t (overlapped (overlap_of most r cells) r cells ++ held_back most (drop (overlap_of most r cells) cells)) (held_back most r)) (settled most r Flag (next ∷ longer))
 flag-open most r cells next longer b true e =
-    subst (λ l. Begins (joined (overlap_of most r cells) r cells ++ held_back most (drop (overlap_of most r cells) cells)) (settled most r Flag (record { cells = l; border = next.border } ∷ longer))) b.is
+    subst (λ l. Begins (overlapped (overlap_of most r cells) r cells ++ held_back most (drop (overlap_of most r cells) cells)) (settled most r Flag (record { cells = l; border = next.border } ∷ longer))) b.is
     (grown-open most r cells b.rest next.border longer e)
 flag-open most r cells next longer b false e = open-grows most r r Flag (next ∷ longer) (Begins-same r)
 
@@ -171,7 +171,7 @@ flag-closed false front held rest rest' e b = let no : false ≡ true = e in cc
 
 pub settled-grows : (most : ℕ) (r : List Cell) (border : Border) (pieces longer : List Piece) → IsClosed border → Grows pieces longer →
     Begins (settled most r border pieces) (settled most r border longer)
-settled-grows most r Open pieces longer closed g = absurd closed
+settled-grows most r Unended pieces longer closed g = absurd closed
 settled-grows most r Gap [] [] closed g = Begins-same (map Some r ++ None ∷ [])
 settled-grows most r Gap [] (next ∷ longer) closed g = record { rest = settled most next.cells next.border longer; is = append_assoc (map Some r) (None ∷ []) (settled most next.cells next.border longer) }
 settled-grows most r Gap (piece ∷ pieces) [] closed g = absurd g
@@ -190,7 +190,7 @@ settled-grows most r Flag [] (next ∷ longer) closed g = open-grows most r r Fl
 settled-grows most r Flag (piece ∷ pieces) [] closed g = absurd g
 settled-grows most r Flag (piece ∷ pieces) (next ∷ longer) closed g = elim g [
   | inl c ↦ subst (λ (p : Piece). Begins (settled most r Flag (piece ∷ pieces)) (settled most r Flag (p ∷ longer))) c.0
-      (flag-closed (takes_part most r piece) (joined (overlap_of most r piece.cells) r piece.cells) (held_back most r)
+      (flag-closed (takes_part most r piece) (overlapped (overlap_of most r piece.cells) r piece.cells) (held_back most r)
       (settled most (drop (overlap_of most r piece.cells) piece.cells) piece.border pieces) (settled most (drop (overlap_of most r piece.cells) piece.cells) piece.border longer)
       (closed-takes most r piece c.1)
       (settled-grows most (drop (overlap_of most r piece.cells) piece.cells) piece.border pieces longer c.1 c.2))
@@ -212,4 +212,4 @@ settled_from-grows most (piece ∷ pieces) (next ∷ longer) g = elim g [
 
 -- a longer list keeps the settled items
 pub cross-begins : (most : ℕ) (slots more : List Slot) → Begins (cross most slots) (cross most (slots ++ more))
-cross-begins most slots more = settled_from-grows most (pieces_of slots) (pieces_of (slots ++ more)) (pieces_of-grows slots more)
+cross-begins most slots more = settled_from-grows most (track_pieces slots) (track_pieces (slots ++ more)) (pieces_of-grows slots more)

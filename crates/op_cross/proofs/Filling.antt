@@ -5,9 +5,9 @@ use Rattle.std.proofs.lemmas.List.{length-append, append-nil, take_at, drop_at}
 use Rattle.std.proofs.Math.Seq.{take-nil}
 use Rattle.frame_core.specs.declared.cell.Cell.{Cell}
 use Rattle.frame_core.specs.Slots.{Slot}
-use Rattle.op_cross.specs.Tracks.{Border, Flag, Gap, Open, Piece, is_closed, with_front, begins_track, pieces_of}
+use Rattle.op_cross.specs.Tracks.{Border, Flag, Gap, Unended, Piece, is_closed, with_front, begins_track, track_pieces}
 use Rattle.op_cross.specs.States.{AllInner, IsTrack, BeginsTrack}
-use Rattle.op_cross.specs.Crossfade.{mixed_cells, overlap_of, takes_part, held_back, joined, settled, settled_from, cross}
+use Rattle.op_cross.specs.Crossfade.{mixed_cells, overlap_of, takes_part, held_back, overlapped, settled, settled_from, cross}
 
 -- whether these slots end a track that stands before them
 abbrev pub ends : List Slot → Bool
@@ -20,21 +20,21 @@ pub record Cut (most : ℕ) (cells : List Cell) (slots : List Slot) : Type 0 whe
   pub behind : List Cell
   pub border : Border
   pub pieces : List Piece
-  pub is : pieces_of (map Some cells ++ slots) ≡ record { cells = cells ++ behind; border = border } ∷ pieces
+  pub is : track_pieces (map Some cells ++ slots) ≡ record { cells = cells ++ behind; border = border } ∷ pieces
   pub eaten : settled most behind border pieces ≡ cross most slots
   pub closed : ends slots ≡ true → (is_closed border ≡ true) × (behind ≡ [])
-  pub flagged : begins_track slots ≡ true → (border ≡ Flag) × (pieces ≡ pieces_of slots)
+  pub flagged : begins_track slots ≡ true → (border ≡ Flag) × (pieces ≡ track_pieces slots)
 
 -- a cell in front of one that goes on with its track
-fronted : (cell next : Cell) (slots : List Slot) → next.first ≡ false → pieces_of (Some cell ∷ Some next ∷ slots) ≡ with_front cell (pieces_of (Some next ∷ slots))
-fronted cell next slots inner = let P : Bool → Type 0 = λ b. cond b (record { cells = cell ∷ []; border = Flag } ∷ pieces_of (Some next ∷ slots)) (with_front cell (pieces_of (Some next ∷ slots))) ≡ with_front cell (pieces_of (Some next ∷ slots)) in
+fronted : (cell next : Cell) (slots : List Slot) → next.first ≡ false → track_pieces (Some cell ∷ Some next ∷ slots) ≡ with_front cell (track_pieces (Some next ∷ slots))
+fronted cell next slots inner = let P : Bool → Type 0 = λ b. cond b (record { cells = cell ∷ []; border = Flag } ∷ track_pieces (Some next ∷ slots)) (with_front cell (track_pieces (Some next ∷ slots))) ≡ with_front cell (track_pieces (Some next ∷ slots)) in
     subst P (sym inner) refl
 
 -- a track of no cells holds nothing back, and overlaps nothing
 held_nothing : (most : ℕ) → held_back most [] ≡ []
 held_nothing most = rw take-nil refl
 
-joined_nothing : (next : List Cell) → joined 0 [] next ≡ []
+joined_nothing : (next : List Cell) → overlapped 0 [] next ≡ []
 joined_nothing next = refl
 
 -- a track that is wholly eaten leaves the next one as it is
@@ -53,15 +53,15 @@ fronted_some : (cell : Cell) (pieces : List Piece) → with_front cell pieces �
 fronted_some cell [] e = cc
 fronted_some cell (piece ∷ pieces) e = cc
 
-some_pieces : (cell : Cell) (slots : List Slot) → pieces_of (Some cell ∷ slots) ≡ [] → ⊥
+some_pieces : (cell : Cell) (slots : List Slot) → track_pieces (Some cell ∷ slots) ≡ [] → ⊥
 some_pieces cell slots e = by (begins_track slots) e
   where
-    by : (begins : Bool) → cond begins (record { cells = cell ∷ []; border = Flag } ∷ pieces_of slots) (with_front cell (pieces_of slots)) ≡ [] → ⊥
+    by : (begins : Bool) → cond begins (record { cells = cell ∷ []; border = Flag } ∷ track_pieces slots) (with_front cell (track_pieces slots)) ≡ [] → ⊥
     by true e = cc
-    by false e = fronted_some cell (pieces_of slots) e
+    by false e = fronted_some cell (track_pieces slots) e
 
 -- one cell, and what is behind it, which goes on with its track
-one_on : (most : ℕ) (cell next : Cell) (slots : List Slot) (pieces : List Piece) → pieces_of (Some next ∷ slots) ≡ pieces → next.first ≡ false → Cut most (cell ∷ []) (Some next ∷ slots)
+one_on : (most : ℕ) (cell next : Cell) (slots : List Slot) (pieces : List Piece) → track_pieces (Some next ∷ slots) ≡ pieces → next.first ≡ false → Cut most (cell ∷ []) (Some next ∷ slots)
 one_on most cell next slots [] e inner = absurd (some_pieces next slots e)
 one_on most cell next slots (piece ∷ pieces) e inner = record {
   behind = piece.cells;
@@ -76,7 +76,7 @@ one_on most cell next slots (piece ∷ pieces) e inner = record {
 one : (most : ℕ) (cell : Cell) (slots : List Slot) → Cut most (cell ∷ []) slots
 one most cell [] = record {
   behind = [];
-  border = Open;
+  border = Unended;
   pieces = [];
   is = refl;
   eaten = held_nothing most;
@@ -86,9 +86,9 @@ one most cell [] = record {
 one most cell (None ∷ slots) = record {
   behind = [];
   border = Gap;
-  pieces = pieces_of slots;
+  pieces = track_pieces slots;
   is = refl;
-  eaten = gap (pieces_of slots);
+  eaten = gap (track_pieces slots);
   closed = λ h. (refl, refl);
   flagged = λ h. absurd (cc h);
 }
@@ -101,13 +101,13 @@ one most cell (Some next ∷ slots) = by next.first refl
     by true e = record {
       behind = [];
       border = Flag;
-      pieces = pieces_of (Some next ∷ slots);
+      pieces = track_pieces (Some next ∷ slots);
       is = rw e refl;
-      eaten = eaten_flag most (pieces_of (Some next ∷ slots));
+      eaten = eaten_flag most (track_pieces (Some next ∷ slots));
       closed = λ h. (refl, refl);
       flagged = λ h. (refl, refl);
     }
-    by false e = one_on most cell next slots (pieces_of (Some next ∷ slots)) refl e
+    by false e = one_on most cell next slots (track_pieces (Some next ∷ slots)) refl e
 
 more : (most : ℕ) (cell next : Cell) (cells : List Cell) (slots : List Slot) → next.first ≡ false → Cut most (next ∷ cells) slots → Cut most (cell ∷ next ∷ cells) slots
 more most cell next cells slots inner cut = record {
@@ -131,10 +131,10 @@ mixed_end r next = map Some (take (length r - length next) r) ++ mixed_cells (dr
 -- a next track that takes part, and is eaten as far as it is given here
 pub joined_cut : (most : ℕ) (r : List Cell) (cell : Cell) (cells : List Cell) (slots : List Slot) → AllInner cells →
     length (cell ∷ cells) ≤ min most (length r) → ((ends slots ≡ true) ⊎ (length r ≤ length (cell ∷ cells))) →
-    settled most r Flag (pieces_of (map Some (cell ∷ cells) ++ slots)) ≡ mixed_end r (cell ∷ cells) ++ cross most slots
+    settled most r Flag (track_pieces (map Some (cell ∷ cells) ++ slots)) ≡ mixed_end r (cell ∷ cells) ++ cross most slots
 joined_cut most r cell cells slots inner fits ended = by (cut_of most cell cells slots inner)
   where
-    by : Cut most (cell ∷ cells) slots → settled most r Flag (pieces_of (map Some (cell ∷ cells) ++ slots)) ≡ mixed_end r (cell ∷ cells) ++ cross most slots
+    by : Cut most (cell ∷ cells) slots → settled most r Flag (track_pieces (map Some (cell ∷ cells) ++ slots)) ≡ mixed_end r (cell ∷ cells) ++ cross most slots
     by cut =
         let long = length-append (cell ∷ cells) cut.behind in
         let o : overlap_of most r (cell ∷ cells ++ cut.behind) ≡ length (cell ∷ cells) = elim ended [
@@ -166,8 +166,8 @@ joined_cut most r cell cells slots inner fits ended = by (cut_of most cell cells
             ≡ (map Some (take (length r - o) r) ++ mixed_cells (drop (length r - o) r) next 0 o) ++ settled most behind border pieces
         go most r whole border pieces next behind o takes is eaten mixed =
             rw takes
-            (ap (λ n. joined n r whole ++ settled most (drop n whole) border pieces) is
-            ∙ ap (λ l. joined o r whole ++ settled most l border pieces) eaten
+            (ap (λ n. overlapped n r whole ++ settled most (drop n whole) border pieces) is
+            ∙ ap (λ l. overlapped o r whole ++ settled most l border pieces) eaten
             ∙ ap (λ l. (map Some (take (length r - o) r) ++ mixed_cells (drop (length r - o) r) l 0 o) ++ settled most behind border pieces) mixed)
 
 -- nothing more is behind a track that a flagged cell ends
@@ -190,24 +190,24 @@ two_tracks most a r b next slots inner flag inner_next fits ended = by (cut_of m
         let flagged = cut.flagged flag in
         let closed = cut.closed flag in
         ap (settled_from most) cut.is
-        ∙ plain most (a ∷ r) cut.behind cut.border cut.pieces (pieces_of (map Some (b ∷ next) ++ slots)) closed.1 flagged.0 flagged.1
+        ∙ plain most (a ∷ r) cut.behind cut.border cut.pieces (track_pieces (map Some (b ∷ next) ++ slots)) closed.1 flagged.0 flagged.1
         ∙ joined_cut most (a ∷ r) b next slots inner_next fits ended
 
 -- an empty slot ends a track
 pub gap_first : (most : ℕ) (slots : List Slot) → cross most (None ∷ slots) ≡ None ∷ cross most slots
-gap_first most slots = by (pieces_of slots)
+gap_first most slots = by (track_pieces slots)
   where
     by : (pieces : List Piece) → settled most [] Gap pieces ≡ None ∷ settled_from most pieces
     by [] = refl
     by (piece ∷ pieces) = refl
 
-gap_pieces : (a : Cell) (r : List Cell) (slots : List Slot) → AllInner r → pieces_of (map Some (a ∷ r) ++ None ∷ slots) ≡ record { cells = a ∷ r; border = Gap } ∷ pieces_of slots
+gap_pieces : (a : Cell) (r : List Cell) (slots : List Slot) → AllInner r → track_pieces (map Some (a ∷ r) ++ None ∷ slots) ≡ record { cells = a ∷ r; border = Gap } ∷ track_pieces slots
 gap_pieces a [] slots inner = refl
 gap_pieces a (b ∷ r) slots inner = fronted a b (map Some r ++ None ∷ slots) inner.0 ∙ ap (with_front a) (gap_pieces b r slots inner.1)
 
 pub gap_behind : (most : ℕ) (r : List Cell) (slots : List Slot) → IsTrack r → cross most (map Some r ++ None ∷ slots) ≡ map Some r ++ None ∷ cross most slots
 gap_behind most [] slots track = gap_first most slots
-gap_behind most (a ∷ r) slots track = ap (settled_from most) (gap_pieces a r slots track) ∙ by (pieces_of slots)
+gap_behind most (a ∷ r) slots track = ap (settled_from most) (gap_pieces a r slots track) ∙ by (track_pieces slots)
   where
     by : (pieces : List Piece) → settled most (a ∷ r) Gap pieces ≡ map Some (a ∷ r) ++ None ∷ settled_from most pieces
     by [] = refl
@@ -219,20 +219,20 @@ held_front most a r long =
     let n : length (a ∷ r) - min most (length (a ∷ r)) ≡ suc (length r - min most (length r)) = omega (arith, long) in
     ap (λ n. map Some (take n (a ∷ r))) n
 
-joined_front : (o : ℕ) (a : Cell) (r next : List Cell) → o ≤ length r → joined o (a ∷ r) next ≡ Some a ∷ joined o r next
+joined_front : (o : ℕ) (a : Cell) (r next : List Cell) → o ≤ length r → overlapped o (a ∷ r) next ≡ Some a ∷ overlapped o r next
 joined_front o a r next long =
     let n : length (a ∷ r) - o ≡ suc (length r - o) = omega (arith, long) in
     ap (λ n. map Some (take n (a ∷ r)) ++ mixed_cells (drop n (a ∷ r)) (take o next) 0 o) n
 
 settled_front : (most : ℕ) (a : Cell) (r : List Cell) (border : Border) (pieces : List Piece) → most ≤ length r →
     settled most (a ∷ r) border pieces ≡ Some a ∷ settled most r border pieces
-settled_front most a r Open pieces long = held_front most a r long
+settled_front most a r Unended pieces long = held_front most a r long
 settled_front most a r Gap [] long = refl
 settled_front most a r Gap (piece ∷ pieces) long = refl
 settled_front most a r Flag [] long = held_front most a r long
 settled_front most a r Flag (piece ∷ pieces) long =
-    ap (λ n. cond (is_closed piece.border || nat_le n (length piece.cells)) (joined (overlap_of most (a ∷ r) piece.cells) (a ∷ r) piece.cells ++ settled most (drop (overlap_of most (a ∷ r) piece.cells) piece.cells) piece.border pieces) (held_back most (a ∷ r))) held
-    ∙ ap (λ o. cond (takes_part most r piece) (joined o (a ∷ r) piece.cells ++ settled most (drop o piece.cells) piece.border pieces) (held_back most (a ∷ r))) same
+    ap (λ n. cond (is_closed piece.border || nat_le n (length piece.cells)) (overlapped (overlap_of most (a ∷ r) piece.cells) (a ∷ r) piece.cells ++ settled most (drop (overlap_of most (a ∷ r) piece.cells) piece.cells) piece.border pieces) (held_back most (a ∷ r))) held
+    ∙ ap (λ o. cond (takes_part most r piece) (overlapped o (a ∷ r) piece.cells ++ settled most (drop o piece.cells) piece.border pieces) (held_back most (a ∷ r))) same
     ∙ by (takes_part most r piece)
   where
     held : min most (length (a ∷ r)) ≡ min most (length r)
@@ -241,8 +241,8 @@ settled_front most a r Flag (piece ∷ pieces) long =
     same : overlap_of most (a ∷ r) piece.cells ≡ overlap_of most r piece.cells
     same = omega (arith, long)
 
-    by : (takes : Bool) → cond takes (joined (overlap_of most r piece.cells) (a ∷ r) piece.cells ++ settled most (drop (overlap_of most r piece.cells) piece.cells) piece.border pieces) (held_back most (a ∷ r))
-        ≡ Some a ∷ cond takes (joined (overlap_of most r piece.cells) r piece.cells ++ settled most (drop (overlap_of most r piece.cells) piece.cells) piece.border pieces) (held_back most r)
+    by : (takes : Bool) → cond takes (overlapped (overlap_of most r piece.cells) (a ∷ r) piece.cells ++ settled most (drop (overlap_of most r piece.cells) piece.cells) piece.border pieces) (held_back most (a ∷ r))
+        ≡ Some a ∷ cond takes (overlapped (overlap_of most r piece.cells) r piece.cells ++ settled most (drop (overlap_of most r piece.cells) piece.cells) piece.border pieces) (held_back most r)
     by true = ap (λ l. l ++ settled most (drop (overlap_of most r piece.cells) piece.cells) piece.border pieces) (joined_front (overlap_of most r piece.cells) a r piece.cells (omega arith))
     by false = held_front most a r long
 
@@ -258,12 +258,12 @@ one_settled most a b r slots flag inner long = by (cut_of most b r slots inner)
         ∙ ap (λ l. Some a ∷ settled_from most l) (sym cut.is)
 
 -- what is held back of a track, with what is there of the next one, settles nothing
-open_pieces : (a : Cell) (r : List Cell) → AllInner r → pieces_of (map Some (a ∷ r) ++ []) ≡ record { cells = a ∷ r; border = Open } ∷ []
+open_pieces : (a : Cell) (r : List Cell) → AllInner r → track_pieces (map Some (a ∷ r) ++ []) ≡ record { cells = a ∷ r; border = Unended } ∷ []
 open_pieces a [] inner = refl
 open_pieces a (b ∷ r) inner = fronted a b (map Some r ++ []) inner.0 ∙ ap (with_front a) (open_pieces b r inner.1)
 
 flag_pieces : (a : Cell) (r : List Cell) (b : Cell) (slots : List Slot) → AllInner r → b.first ≡ true →
-    pieces_of (map Some (a ∷ r) ++ Some b ∷ slots) ≡ record { cells = a ∷ r; border = Flag } ∷ pieces_of (Some b ∷ slots)
+    track_pieces (map Some (a ∷ r) ++ Some b ∷ slots) ≡ record { cells = a ∷ r; border = Flag } ∷ track_pieces (Some b ∷ slots)
 flag_pieces a [] b slots inner flag = rw flag refl
 flag_pieces a (c ∷ r) b slots inner flag = fronted a c (map Some r ++ Some b ∷ slots) inner.0 ∙ ap (with_front a) (flag_pieces c r b slots inner.1 flag)
 

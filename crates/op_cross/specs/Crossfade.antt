@@ -3,7 +3,7 @@ use Rattle.std.specs.Prelude.{Bool, ◌||◌, Some, None, List, [], ◌∷◌, �
 use Rattle.frame_core.specs.declared.cell.Cell.{Cell}
 use Rattle.sample_kernels.specs.Mixing.{faded}
 use Rattle.frame_core.specs.Slots.{Slot}
-use Rattle.op_cross.specs.Tracks.{Border, Flag, Gap, Open, Piece, is_closed, pieces_of}
+use Rattle.op_cross.specs.Tracks.{Border, Flag, Gap, Unended, Piece, is_closed, track_pieces}
 
 -- cell `at` of a mix over `whole` cells; the first alone is flagged, and it has the title of the next track's cell
 abbrev pub mixed_cell : Cell → Cell → ℕ → ℕ → Cell
@@ -33,18 +33,18 @@ abbrev pub held_back : ℕ → List Cell → List Slot
 held_back most r = map Some (take (length r - min most (length r)) r)
 
 -- r, but its last o cells, and the mix of these with the first o of the next track
-abbrev pub joined : ℕ → List Cell → List Cell → List Slot
-joined o r next = map Some (take (length r - o) r) ++ mixed_cells (drop (length r - o) r) (take o next) 0 o
+abbrev pub overlapped : ℕ → List Cell → List Cell → List Slot
+overlapped o r next = map Some (take (length r - o) r) ++ mixed_cells (drop (length r - o) r) (take o next) 0 o
 
 -- the settled items from the track r on, which has this border and before these pieces
 abbrev pub settled : ℕ → List Cell → Border → List Piece → List Slot
-settled most r Open pieces = held_back most r
+settled most r Unended pieces = held_back most r
 settled most r Gap [] = map Some r ++ None ∷ []
 settled most r Gap (next ∷ pieces) = map Some r ++ None ∷ settled most next.cells next.border pieces
 settled most r Flag [] = held_back most r
 settled most r Flag (next ∷ pieces) =
     if takes_part most r next
-    then joined (overlap_of most r next.cells) r next.cells
+    then overlapped (overlap_of most r next.cells) r next.cells
     ++ settled most (drop (overlap_of most r next.cells) next.cells) next.border pieces
     else held_back most r
 
@@ -54,4 +54,4 @@ settled_from most (piece ∷ pieces) = settled most piece.cells piece.border pie
 
 -- the settled items of a list of slots, where tracks overlap by at most so many cells
 abbrev pub cross : ℕ → List Slot → List Slot
-cross most slots = settled_from most (pieces_of slots)
+cross most slots = settled_from most (track_pieces slots)

@@ -11,7 +11,8 @@ pub record Crossing : Type 0 where
   pub overlap : ℕ
   -- the cells of the items that are ready, and behind them those that are held back of a track
   pub cells : List Cell
-  -- while items are ready: the cells that are to be mixed with the last of theirs. Else: what is there of the next track
+  -- while items are ready: the cells that are to be mixed with the last of theirs. Else: what is there of the next
+  -- track
   pub next : List Cell
   -- how many of the cells are ready
   pub ready : ℕ
@@ -51,7 +52,8 @@ growing state = growing_at state.ready state.next
 abbrev pub ready_cells : Crossing → List Slot
 ready_cells state =
     map Some (take (state.ready - length state.next) state.cells)
-    ++ mixed_cells (drop (state.ready - length state.next) (take state.ready state.cells)) state.next (state.whole - length state.next) state.whole
+    ++ mixed_cells (drop (state.ready - length state.next) (take state.ready state.cells)) state.next
+    (state.whole - length state.next) state.whole
 
 abbrev pub gap_of : Bool → List Slot
 gap_of gap = if gap then None ∷ [] else []
@@ -66,7 +68,8 @@ mixed_on n state = record state { cells = drop n state.cells; next = drop n stat
 
 -- the samples of one side of so many mixed items
 abbrev pub mixed_side : (Cell → ℤ) → ℕ → Crossing → List ℤ
-mixed_side side n state = mixed (map side (take n state.cells)) (map side (take n state.next)) (state.whole - length state.next) state.whole
+mixed_side side n state = mixed (map side (take n state.cells)) (map side (take n state.next))
+    (state.whole - length state.next) state.whole
 
 -- what is not settled yet, with these slots behind it
 abbrev pub unsettled : Crossing → List Slot → List Slot
@@ -79,7 +82,8 @@ wants state = nat_eq state.ready 0 && not state.gap
 -- how many cells of a track that goes on settle its item, where it is not settled
 abbrev pub track_room : Crossing → ℕ
 track_room state =
-    if nat_lt 0 (length state.next) then length state.cells - length state.next else suc state.overlap - length state.cells
+    if nat_lt 0 (length state.next) then length state.cells - length state.next
+    else suc state.overlap - length state.cells
 
 -- as much of a track is held as overlaps, and nothing else: each cell that goes on with it settles one item
 abbrev pub passes : Crossing → Bool
@@ -100,12 +104,13 @@ pub record IsCrossing (state : Crossing) : Type 0 where
   pub whole : state.whole ≤ state.overlap
   pub ended : state.gap ≡ true → length state.cells ≡ state.ready
 
--- the state stands for the slots that were filled and for item p: the slots' items are p past ones, those that are ready and
--- whatever comes of what is not settled, with any slots behind it
+-- the state stands for the slots that were filled and for item p: the slots' items are p past ones, those that are
+-- ready and whatever comes of what is not settled, with any slots behind it
 pub record StandsFor (state : Crossing) (slots : List Slot) (p : ℕ) : Type 0 where
   pub past : List Slot
   pub count : length past ≡ p
-  pub items : (more : List Slot) → cross state.overlap (slots ++ more) ≡ past ++ (ready_items state ++ cross state.overlap (unsettled state more))
+  pub items : (more : List Slot) → cross state.overlap (slots ++ more)
+      ≡ past ++ (ready_items state ++ cross state.overlap (unsettled state more))
   pub plain : IsTrack (take (state.ready - length state.next) state.cells)
   pub track : IsTrack (held state)
   pub next : BeginsTrack (growing state)

@@ -18,7 +18,8 @@ stretch (Some cell ∷ slots) = suc (inner_count slots)
 abbrev pub titled_count : (title : ℕ) → List Slot → ℕ
 titled_count title [] = 0
 titled_count title (None ∷ slots) = 0
-titled_count title (Some cell ∷ slots) = if cell.first || not (nat_eq cell.title title) then 0 else suc (titled_count title slots)
+titled_count title (Some cell ∷ slots) = if cell.first || not (nat_eq cell.title title) then 0
+    else suc (titled_count title slots)
 
 -- how many items, from the first on, are cells of its title of which none but the first begins a track
 abbrev pub titled_stretch : List Slot → ℕ

@@ -7,7 +7,7 @@ use Rattle.frame_core.specs.Slots.{Slot, is_first}
 pub data Border : Type 0 where
   Flag : Border
   Gap : Border
-  Open : Border
+  Unended : Border
 
 -- a track and what follows it
 pub record Piece : Type 0 where
@@ -17,7 +17,7 @@ pub record Piece : Type 0 where
 abbrev pub is_closed : Border → Bool
 is_closed Flag = true
 is_closed Gap = true
-is_closed Open = false
+is_closed Unended = false
 
 abbrev pub begins_track : List Slot → Bool
 begins_track [] = false
@@ -25,14 +25,14 @@ begins_track (slot ∷ slots) = is_first slot
 
 -- the pieces, the first of them with this cell in front
 abbrev pub with_front : Cell → List Piece → List Piece
-with_front cell [] = record { cells = cell ∷ []; border = Open } ∷ []
+with_front cell [] = record { cells = cell ∷ []; border = Unended } ∷ []
 with_front cell (piece ∷ pieces) = record { cells = cell ∷ piece.cells; border = piece.border } ∷ pieces
 
 -- a list of slots, cut at each empty slot and before each flagged cell
-abbrev pub pieces_of : List Slot → List Piece
-pieces_of [] = []
-pieces_of (None ∷ slots) = record { cells = []; border = Gap } ∷ pieces_of slots
-pieces_of (Some cell ∷ slots) =
+abbrev pub track_pieces : List Slot → List Piece
+track_pieces [] = []
+track_pieces (None ∷ slots) = record { cells = []; border = Gap } ∷ track_pieces slots
+track_pieces (Some cell ∷ slots) =
     if begins_track slots
-    then record { cells = cell ∷ []; border = Flag } ∷ pieces_of slots
-    else with_front cell (pieces_of slots)
+    then record { cells = cell ∷ []; border = Flag } ∷ track_pieces slots
+    else with_front cell (track_pieces slots)

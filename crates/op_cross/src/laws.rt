@@ -8,25 +8,32 @@ ghost use Rattle.op_cross.specs.Runs.{run_of, item_of};
 
 /// Item p is settled once so many slots are there.
 pub fn settled_in_time()
-    ensures many { (overlap : ℕ) (slots : List Slot) (p : ℕ) → 2 * p + 2 * overlap + 2 ≤ length slots → p < length (cross overlap slots) }
+    ensures many { (overlap : ℕ) (slots : List Slot) (p : ℕ) → 2 * p + 2 * overlap + 2 ≤ length slots
+        → p < length (cross overlap slots) }
 {}
 
 /// A longer list keeps the settled items.
 pub fn settled_items_stay()
-    ensures begins { (overlap : ℕ) (slots more : List Slot) → take (length (cross overlap slots)) (cross overlap (slots ++ more)) ≡ cross overlap slots }
+    ensures begins { (overlap : ℕ) (slots more : List Slot)
+        → take (length (cross overlap slots)) (cross overlap (slots ++ more)) ≡ cross overlap slots }
 {}
 
 /// A child that runs only until item p is settled has run the least number of slots.
 pub fn least_run()
-    ensures run { (overlap : ℕ) (slots : ℕ → List Slot) (p filled : ℕ) → ((m : ℕ) → length (slots m) ≡ m) → p < length (cross overlap (slots filled)) →
+    ensures run { (overlap : ℕ) (slots : ℕ → List Slot) (p filled : ℕ) → ((m : ℕ) → length (slots m) ≡ m)
+        → p < length (cross overlap (slots filled)) →
         ((m : ℕ) → m < filled → length (cross overlap (slots m)) ≤ p) → run_of overlap slots p ≡ filled }
-    ensures item { (overlap : ℕ) (slots : ℕ → List Slot) (p filled : ℕ) → ((m : ℕ) → length (slots m) ≡ m) → p < length (cross overlap (slots filled)) →
-        ((m : ℕ) → m < filled → length (cross overlap (slots m)) ≤ p) → item_of overlap slots p ≡ slot_at (cross overlap (slots filled)) p }
+    ensures item { (overlap : ℕ) (slots : ℕ → List Slot) (p filled : ℕ) → ((m : ℕ) → length (slots m) ≡ m)
+        → p < length (cross overlap (slots filled)) →
+        ((m : ℕ) → m < filled → length (cross overlap (slots m)) ≤ p)
+        → item_of overlap slots p ≡ slot_at (cross overlap (slots filled)) p }
 {}
 
 /// Where as much of a track is held as overlaps, each further cell of the track settles one item.
 pub fn track_goes_on()
-    ensures goes_on { (overlap : ℕ) (cells r : List Cell) (more : List Slot) → IsTrack r → AllInner cells → length r ≡ overlap → 0 < overlap →
+    ensures goes_on { (overlap : ℕ) (cells r : List Cell) (more : List Slot) → IsTrack r → AllInner cells
+        → length r ≡ overlap → 0 < overlap →
         cross overlap (map Some (r ++ cells) ++ more)
-        ≡ map Some (take (length cells) (r ++ cells)) ++ cross overlap (map Some (drop (length cells) (r ++ cells)) ++ more) }
+        ≡ map Some (take (length cells) (r ++ cells))
+        ++ cross overlap (map Some (drop (length cells) (r ++ cells)) ++ more) }
 {}

@@ -38,15 +38,29 @@ impl Model for CrossState {
 
     ghost Value = { Crossing };
 
-    ghost view = { λ s. record { overlap = s.overlap; cells = s.cells.cells; next = s.next.cells; ready = s.ready; whole = s.whole; gap = s.gap } };
+    ghost view = { λ s. record {
+      overlap = s.overlap;
+      cells = s.cells.cells;
+      next = s.next.cells;
+      ready = s.ready;
+      whole = s.whole;
+      gap = s.gap;
+    } };
 
-    ghost invariant = { λ s. IsCrossing (record { overlap = s.overlap; cells = s.cells.cells; next = s.next.cells; ready = s.ready; whole = s.whole; gap = s.gap }) × (s.cells.room ≡ s.overlap + 2049) × (s.next.room ≡ s.overlap) };
+    ghost invariant = { λ s. IsCrossing (record {
+      overlap = s.overlap;
+      cells = s.cells.cells;
+      next = s.next.cells;
+      ready = s.ready;
+      whole = s.whole;
+      gap = s.gap;
+    }) × (s.cells.room ≡ s.overlap + 2049) × (s.next.room ≡ s.overlap) };
 }
 
 impl CrossState {
-    /// The state of a crossfade that was filled nothing, whose tracks overlap by at most so many samples, from 1 to `MAX_OVERLAP`.
-    /// It reserves room for twice as many cells and one; no other call takes memory. The kind changes nothing, since a
-    /// mono cell has 0 on its right, and so has a mix of such cells.
+    /// The state of a crossfade that was filled nothing, whose tracks overlap by at most so many samples, from 1 to
+    /// `MAX_OVERLAP`. It reserves room for twice as many cells and one; no other call takes memory. The kind changes
+    /// nothing, since a mono cell has 0 on its right, and so has a mix of such cells.
     pub fn new(alloc: Global, overlap: u32, _kind: Kind) -> Result<CrossState, Memory>
         requires { (0 < overlap) × (overlap ≤ MAX_OVERLAP) }
         ensures overlap { IfOk result (λ state. state.overlap ≡ overlap) }
@@ -67,8 +81,10 @@ impl CrossState {
     /// Whether its item is not settled yet: a slot that is still to come may change it.
     pub fn wants(&self) -> bool
         ensures wants { result ≡ wants self.now }
-        ensures unsettled { (slots : List Slot) (p : ℕ) → StandsFor self.now slots p → IsTrue result ↔ (length (cross self.now.overlap slots) ≤ p) }
-        ensures bound { (slots : List Slot) (p : ℕ) → StandsFor self.now slots p → 2 * p + 2 * self.now.overlap + 2 ≤ length slots → result ≡ false }
+        ensures unsettled { (slots : List Slot) (p : ℕ) → StandsFor self.now slots p → IsTrue result
+            ↔ (length (cross self.now.overlap slots) ≤ p) }
+        ensures bound { (slots : List Slot) (p : ℕ) → StandsFor self.now slots p
+            → 2 * p + 2 * self.now.overlap + 2 ≤ length slots → result ≡ false }
         ensures ends { result ≡ true → 0 < left self.now }
     {
         self.ready == 0 && !self.gap
@@ -78,7 +94,8 @@ impl CrossState {
     pub fn feed(&mut self, slot: Option<Cell>)
         requires { wants self.old ≡ true }
         ensures overlap { self.new.overlap ≡ self.old.overlap }
-        ensures filled { (slots : List Slot) (p : ℕ) → StandsFor self.old slots p → StandsFor self.new (slots ++ slot ∷ []) p }
+        ensures filled { (slots : List Slot) (p : ℕ) → StandsFor self.old slots p
+            → StandsFor self.new (slots ++ slot ∷ []) p }
         ensures less { left self.new < left self.old }
     {
         match slot {
@@ -121,15 +138,18 @@ impl CrossState {
         }
     }
 
-    /// Takes the next slots of its source, which are cells of this title and of a track that goes on, no more than settle its item.
+    /// Takes the next slots of its source, which are cells of this title and of a track that goes on, no more than
+    /// settle its item.
     pub fn fill_stretch(&mut self, title: u32, lefts: &[i16], rights: &[i16])
         requires wants { wants self.old ≡ true }
         requires same { length rights.now ≡ length lefts.now }
         requires few { length lefts.now ≤ track_room self.old }
         ensures overlap { self.new.overlap ≡ self.old.overlap }
-        ensures filled { (slots : List Slot) (p : ℕ) → StandsFor self.old slots p → StandsFor self.new (slots ++ map Some (inner_cells title lefts.now rights.now)) p }
+        ensures filled { (slots : List Slot) (p : ℕ) → StandsFor self.old slots p
+            → StandsFor self.new (slots ++ map Some (inner_cells title lefts.now rights.now)) p }
         ensures least { (slots : List Slot) (p m : ℕ) → StandsFor self.old slots p → m < length lefts.now
-            → length (cross self.old.overlap (slots ++ map Some (take m (inner_cells title lefts.now rights.now)))) ≤ p }
+            → length (cross self.old.overlap (slots ++ map Some (take m (inner_cells title lefts.now rights.now))))
+            ≤ p }
         ensures less { 0 < length lefts.now → left self.new < left self.old }
     {
         if self.next.len() > 0 {
@@ -146,14 +166,16 @@ impl CrossState {
         }
     }
 
-    /// Whether as much of a track is held as overlaps, and nothing else: each cell that goes on with it settles one item.
+    /// Whether as much of a track is held as overlaps, and nothing else: each cell that goes on with it settles one
+    /// item.
     pub fn passes(&self) -> bool
         ensures { result ≡ passes self.now }
     {
         self.ready == 0 && !self.gap && self.next.len() == 0 && self.cells.len() == self.overlap
     }
 
-    /// Takes the next slots of its source, which are cells of this title and of the track that goes on, and gives as many items.
+    /// Takes the next slots of its source, which are cells of this title and of the track that goes on, and gives as
+    /// many items.
     pub fn pass(
         &mut self,
         title: u32,
@@ -169,13 +191,17 @@ impl CrossState {
         ensures overlap { self.new.overlap ≡ self.old.overlap }
         ensures passes { passes self.new ≡ true }
         ensures stands { (slots : List Slot) (p : ℕ) → StandsFor self.old slots p
-            → StandsFor self.new (slots ++ map Some (inner_cells title from_left.now from_right.now)) (p + length from_left.now) }
+            → StandsFor self.new (slots
+            ++ map Some (inner_cells title from_left.now from_right.now)) (p + length from_left.now) }
         ensures least { (slots : List Slot) (p m : ℕ) → StandsFor self.old slots p → m ≤ length from_left.now
-            → length (cross self.old.overlap (slots ++ map Some (take m (inner_cells title from_left.now from_right.now)))) ≡ p + m }
+            → length (cross self.old.overlap (slots
+            ++ map Some (take m (inner_cells title from_left.now from_right.now)))) ≡ p + m }
         ensures left { (slots : List Slot) (p : ℕ) → StandsFor self.old slots p
-            → left.new ≡ map slot_left (take (length left.old) (drop p (cross self.old.overlap (slots ++ map Some (inner_cells title from_left.now from_right.now))))) }
+            → left.new ≡ map slot_left (take (length left.old) (drop p (cross self.old.overlap (slots
+            ++ map Some (inner_cells title from_left.now from_right.now))))) }
         ensures right { (slots : List Slot) (p : ℕ) → StandsFor self.old slots p
-            → right.new ≡ map slot_right (take (length left.old) (drop p (cross self.old.overlap (slots ++ map Some (inner_cells title from_left.now from_right.now))))) }
+            → right.new ≡ map slot_right (take (length left.old) (drop p (cross self.old.overlap (slots
+            ++ map Some (inner_cells title from_left.now from_right.now))))) }
     {
         self.cells.push_inner(title, from_left, from_right);
         self.cells.take_into(left, right);
@@ -184,7 +210,8 @@ impl CrossState {
     /// Its item: a cell, or nothing.
     pub fn offer(&self) -> Option<Cell>
         requires { wants self.now ≡ false }
-        ensures item { (slots : List Slot) (p : ℕ) → StandsFor self.now slots p → result ≡ slot_at (cross self.now.overlap slots) p }
+        ensures item { (slots : List Slot) (p : ℕ) → StandsFor self.now slots p
+            → result ≡ slot_at (cross self.now.overlap slots) p }
     {
         if self.ready == 0 {
             return None;
@@ -198,12 +225,13 @@ impl CrossState {
         Some(mixed_cell(cell, to, at, self.whole))
     }
 
-    /// How many items, from its item on and at most so many, are settled cells of its title of which none but the first begins a
-    /// track.
+    /// How many items, from its item on and at most so many, are settled cells of its title of which none but the first
+    /// begins a track.
     pub fn ready(&self, most: u32) -> u32
         ensures cells { result ≤ ready_stretch self.now }
         ensures within { result ≤ most }
-        ensures stretch { (slots : List Slot) (p : ℕ) → StandsFor self.now slots p → result ≡ min most (titled_stretch (drop p (cross self.now.overlap slots))) }
+        ensures stretch { (slots : List Slot) (p : ℕ) → StandsFor self.now slots p
+            → result ≡ min most (titled_stretch (drop p (cross self.now.overlap slots))) }
     {
         let mixed = self.next.len();
         if mixed < self.ready {
@@ -218,10 +246,14 @@ impl CrossState {
         requires same { length right.old ≡ length left.old }
         requires ready { length left.old ≤ ready_stretch self.old }
         ensures overlap { self.new.overlap ≡ self.old.overlap }
-        ensures settled { (slots : List Slot) (p : ℕ) → StandsFor self.old slots p → p + length left.old ≤ length (cross self.old.overlap slots) }
-        ensures stands { (slots : List Slot) (p : ℕ) → StandsFor self.old slots p → StandsFor self.new slots (p + length left.old) }
-        ensures left { (slots : List Slot) (p : ℕ) → StandsFor self.old slots p → left.new ≡ map slot_left (take (length left.old) (drop p (cross self.old.overlap slots))) }
-        ensures right { (slots : List Slot) (p : ℕ) → StandsFor self.old slots p → right.new ≡ map slot_right (take (length left.old) (drop p (cross self.old.overlap slots))) }
+        ensures settled { (slots : List Slot) (p : ℕ) → StandsFor self.old slots p
+            → p + length left.old ≤ length (cross self.old.overlap slots) }
+        ensures stands { (slots : List Slot) (p : ℕ) → StandsFor self.old slots p
+            → StandsFor self.new slots (p + length left.old) }
+        ensures left { (slots : List Slot) (p : ℕ) → StandsFor self.old slots p
+            → left.new ≡ map slot_left (take (length left.old) (drop p (cross self.old.overlap slots))) }
+        ensures right { (slots : List Slot) (p : ℕ) → StandsFor self.old slots p
+            → right.new ≡ map slot_right (take (length left.old) (drop p (cross self.old.overlap slots))) }
     {
         if self.next.len() < self.ready {
             self.copy_plain(left, right);
@@ -236,9 +268,12 @@ impl CrossState {
         requires plain { length self.old.next < self.old.ready }
         requires ready { length left.old ≤ self.old.ready - length self.old.next }
         ensures overlap { self.new.overlap ≡ self.old.overlap }
-        ensures stands { (slots : List Slot) (p : ℕ) → StandsFor self.old slots p → StandsFor self.new slots (p + length left.old) }
-        ensures left { (slots : List Slot) (p : ℕ) → StandsFor self.old slots p → left.new ≡ map slot_left (take (length left.old) (drop p (cross self.old.overlap slots))) }
-        ensures right { (slots : List Slot) (p : ℕ) → StandsFor self.old slots p → right.new ≡ map slot_right (take (length left.old) (drop p (cross self.old.overlap slots))) }
+        ensures stands { (slots : List Slot) (p : ℕ) → StandsFor self.old slots p
+            → StandsFor self.new slots (p + length left.old) }
+        ensures left { (slots : List Slot) (p : ℕ) → StandsFor self.old slots p
+            → left.new ≡ map slot_left (take (length left.old) (drop p (cross self.old.overlap slots))) }
+        ensures right { (slots : List Slot) (p : ℕ) → StandsFor self.old slots p
+            → right.new ≡ map slot_right (take (length left.old) (drop p (cross self.old.overlap slots))) }
     {
         self.cells.take_into(left, right);
         self.ready -= left.len() as u32;
@@ -250,9 +285,12 @@ impl CrossState {
         requires mixed { self.old.ready ≤ length self.old.next }
         requires ready { length left.old ≤ self.old.ready }
         ensures overlap { self.new.overlap ≡ self.old.overlap }
-        ensures stands { (slots : List Slot) (p : ℕ) → StandsFor self.old slots p → StandsFor self.new slots (p + length left.old) }
-        ensures left { (slots : List Slot) (p : ℕ) → StandsFor self.old slots p → left.new ≡ map slot_left (take (length left.old) (drop p (cross self.old.overlap slots))) }
-        ensures right { (slots : List Slot) (p : ℕ) → StandsFor self.old slots p → right.new ≡ map slot_right (take (length left.old) (drop p (cross self.old.overlap slots))) }
+        ensures stands { (slots : List Slot) (p : ℕ) → StandsFor self.old slots p
+            → StandsFor self.new slots (p + length left.old) }
+        ensures left { (slots : List Slot) (p : ℕ) → StandsFor self.old slots p
+            → left.new ≡ map slot_left (take (length left.old) (drop p (cross self.old.overlap slots))) }
+        ensures right { (slots : List Slot) (p : ℕ) → StandsFor self.old slots p
+            → right.new ≡ map slot_right (take (length left.old) (drop p (cross self.old.overlap slots))) }
     {
         let _ = &self.ready;
         let mut done = 0;
@@ -294,16 +332,20 @@ impl CrossState {
         self.ready -= count as u32;
     }
 
-    /// A number of items, from its item on and at most so many, that are cells of this title which begin no track: those that are
-    /// settled so, or where cells pass through, at most as many as there are behind it of a track that its source goes on with,
-    /// under the title `below_title`.
+    /// A number of items, from its item on and at most so many, that are cells of this title which begin no track:
+    /// those that are settled so, or where cells pass through, at most as many as there are behind it of a track that
+    /// its source goes on with, under the title `below_title`.
     pub fn rest(&self, title: u32, below: u32, below_title: u32, most: u32) -> u32
-        ensures ready { (slots : List Slot) (p j : ℕ) → StandsFor self.now slots p → passes self.now ≡ false → j < result
+        ensures ready { (slots : List Slot) (p j : ℕ) → StandsFor self.now slots p → passes self.now ≡ false
+            → j < result
             → is_inner (slot_at (cross self.now.overlap slots) (p + j)) ≡ true }
-        ensures titled { (slots : List Slot) (p j : ℕ) → StandsFor self.now slots p → passes self.now ≡ false → j < result
+        ensures titled { (slots : List Slot) (p j : ℕ) → StandsFor self.now slots p → passes self.now ≡ false
+            → j < result
             → title_of (slot_at (cross self.now.overlap slots) (p + j)) ≡ title }
-        ensures plain { (slots : List Slot) (p : ℕ) → StandsFor self.now slots p → passes self.now ≡ true → 0 < result → AllInner self.now.cells }
-        ensures held { (j : ℕ) → passes self.now ≡ true → j < result → j < length self.now.cells → title_of (slice_get self.now.cells j) ≡ title }
+        ensures plain { (slots : List Slot) (p : ℕ) → StandsFor self.now slots p → passes self.now ≡ true → 0 < result
+            → AllInner self.now.cells }
+        ensures held { (j : ℕ) → passes self.now ≡ true → j < result → j < length self.now.cells
+            → title_of (slice_get self.now.cells j) ≡ title }
         ensures over { passes self.now ≡ true → length self.now.cells < result → below_title ≡ title }
         ensures below { passes self.now ≡ true → result ≤ below }
         ensures ahead { passes self.now ≡ false → result ≤ ready_stretch self.now }
@@ -325,7 +367,8 @@ impl CrossState {
         requires passes { passes self.now ≡ true }
         ensures within { result ≤ most }
         ensures front { 0 < result → goes_on title (slice_get self.now.cells 0) ≡ true }
-        ensures held { (j : ℕ) → j < result → j < length self.now.cells → goes_on title (slice_get self.now.cells j) ≡ true }
+        ensures held { (j : ℕ) → j < result → j < length self.now.cells
+            → goes_on title (slice_get self.now.cells j) ≡ true }
         ensures over { length self.now.cells < result → below_title ≡ title }
     {
         let held = self.cells.inner(title, 0, most.min(self.overlap));
@@ -341,7 +384,8 @@ impl CrossState {
         requires { wants self.old ≡ false }
         ensures overlap { self.new.overlap ≡ self.old.overlap }
         ensures stretch { gave ≡ true → ready_stretch self.old ≤ ready_stretch self.new + 1 }
-        ensures stands { (slots : List Slot) (p : ℕ) → StandsFor self.old slots p → StandsFor self.new slots (position_after gave (slot_at (cross self.old.overlap slots) p) p) }
+        ensures stands { (slots : List Slot) (p : ℕ) → StandsFor self.old slots p
+            → StandsFor self.new slots (position_after gave (slot_at (cross self.old.overlap slots) p) p) }
     {
         if self.ready == 0 {
             self.gap = false;
@@ -359,8 +403,10 @@ impl CrossState {
 fn of_one_title(ring: &CellRing, most: u32) -> u32
     ensures within { result ≤ most }
     ensures some { 0 < most → 0 < result }
-    ensures titled { (j : ℕ) → 0 < j → j < result → has_title (title_of (slice_get ring.now.cells 0)) (slice_get ring.now.cells j) ≡ true }
-    ensures ends { result < most → has_title (title_of (slice_get ring.now.cells 0)) (slice_get ring.now.cells result) ≡ false }
+    ensures titled { (j : ℕ) → 0 < j → j < result
+        → has_title (title_of (slice_get ring.now.cells 0)) (slice_get ring.now.cells j) ≡ true }
+    ensures ends { result < most → has_title (title_of (slice_get ring.now.cells 0)) (slice_get ring.now.cells result)
+        ≡ false }
 {
     if most == 0 {
         return 0;

@@ -13,7 +13,8 @@ use Rattle.op_leaf.specs.declared.leaf.LeafState.{LeafState}
 -- how many positions, from this one on and at most so many, have cells that begin no track
 abbrev pub inner_from : (slots : ℕ → Slot) → (position most : ℕ) → ℕ
 inner_from slots position zero = zero
-inner_from slots position (suc most) = if is_inner (slots position) then suc (inner_from slots (suc position) most) else zero
+inner_from slots position (suc most) = if is_inner (slots position) then suc (inner_from slots (suc position) most)
+    else zero
 
 -- how many positions, from this one on and at most so many, are of one track, where this one has a cell
 abbrev pub stretch_from : (slots : ℕ → Slot) → (position most : ℕ) → ℕ
@@ -23,7 +24,8 @@ stretch_from slots position (suc most) = suc (inner_from slots (suc position) mo
 -- the same, where those behind this one have its title too
 abbrev pub going_from : (slots : ℕ → Slot) → (title position most : ℕ) → ℕ
 going_from slots title position zero = zero
-going_from slots title position (suc most) = if goes_on title (slots position) then suc (going_from slots title (suc position) most) else zero
+going_from slots title position (suc most) = if goes_on title (slots position)
+    then suc (going_from slots title (suc position) most) else zero
 
 abbrev pub titled_stretch : (slots : ℕ → Slot) → (position most : ℕ) → ℕ
 titled_stretch slots position zero = zero

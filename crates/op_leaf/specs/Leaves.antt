@@ -22,11 +22,13 @@ sounds_of library node = map (λ file. file_of library file) (tracks_of library 
 abbrev pub total_of : List Sound → ℕ
 total_of sounds = sum_by length_of sounds
 
--- the slot at a position of these files, played one after the other: whole files are left out. A cell has its file's title
+-- the slot at a position of these files, played one after the other: whole files are left out. A cell has its file's
+-- title
 abbrev pub joined_slot : Sounds → (files : List ℕ) → Kind → ℕ → Slot
 joined_slot library [] kind position = None
 joined_slot library (file ∷ files) kind position =
-    if nat_lt position (length_of (file_of library file)) then Some (cell_of (file_of library file) (suc file) kind position)
+    if nat_lt position (length_of (file_of library file))
+    then Some (cell_of (file_of library file) (suc file) kind position)
     else joined_slot library files kind (position - length_of (file_of library file))
 
 -- the position in a round of the files: they are played again and again, or once
@@ -42,12 +44,18 @@ files_slot library node again kind position =
 -- zero; a track begins at each multiple of its length, or at 0 alone where it is endless
 abbrev pub blank_cell : ℕ → ℕ → Cell
 blank_cell track position =
-    record { left = pos 0; right = pos 0; first = nat_eq (if nat_eq track 0 then position else (position % track)) 0; title = 0 }
+    record {
+      left = pos 0;
+      right = pos 0;
+      first = nat_eq (if nat_eq track 0 then position else (position % track)) 0;
+      title = 0;
+    }
 
 -- the upper value in the first half of each period, and the lower one in the second
 abbrev pub height_at : Decimal → ℕ → ℕ → ℤ
 height_at pitch rate position =
-    if nat_lt (position * unsigned_abs pitch.millionths % (rate * 1000000)) (rate * 500000) then pos 8192 else negsuc 8191
+    if nat_lt (position * unsigned_abs pitch.millionths % (rate * 1000000)) (rate * 500000) then pos 8192
+    else negsuc 8191
 
 -- the right sample of a source of this kind, where both sides are alike
 abbrev pub on_the_right : Kind → ℤ → ℤ

@@ -71,11 +71,11 @@ after_takes (Some chunk ∷ answers) reader =
     if wants reader then after_takes answers (record reader { cells = reader.cells ++ chunk }) else reader
 
 -- these takes
-abbrev pub takes_of : List Answer → Reader → List Answer
-takes_of [] reader = if wants reader then None ∷ [] else []
-takes_of (None ∷ answers) reader = if wants reader then None ∷ [] else []
-takes_of (Some chunk ∷ answers) reader =
-    if wants reader then Some chunk ∷ takes_of answers (record reader { cells = reader.cells ++ chunk }) else []
+abbrev pub reader_takes : List Answer → Reader → List Answer
+reader_takes [] reader = if wants reader then None ∷ [] else []
+reader_takes (None ∷ answers) reader = if wants reader then None ∷ [] else []
+reader_takes (Some chunk ∷ answers) reader =
+    if wants reader then Some chunk ∷ reader_takes answers (record reader { cells = reader.cells ++ chunk }) else []
 
 -- the reader at a tick's start, over the answers that come next; past their end an answer is empty
 abbrev pub at_start : List Answer → Reader → Reader

@@ -15,12 +15,14 @@ use Rattle.op_leaf.specs.Leaves.{place_in_round, sounds_of, total_of}
 -- the files before the cursor and its place in its own file make up the position
 abbrev pub FilesStandAt : Sounds → Files → ℕ → Type 0
 FilesStandAt library files position =
-    total_of (take files.track (sounds_of library files.node)) + files.at ≡ place_in_round (sounds_of library files.node) files.again position
+    total_of (take files.track (sounds_of library files.node)) + files.at
+    ≡ place_in_round (sounds_of library files.node) files.again position
 
 -- the library has the node's files, and the cursor is within one of them or past the last
 pub record FilesArePlacedIn (library : Sounds) (files : Files) : Type 0 where
   pub there : files.node < length library.leaves
-  pub within : files.track < length (tracks_of library files.node) → files.at < length_of (sound_at library files.node files.track)
+  pub within : files.track < length (tracks_of library files.node)
+      → files.at < length_of (sound_at library files.node files.track)
 
 -- the place in a blank's track; in an endless one, whether it has begun
 abbrev pub BlankStandsAt : Blank → ℕ → Type 0

@@ -9,7 +9,8 @@ abbrev pub shown : Bool → List Cell → List Cell
 shown true cells = flag_front cells
 shown false cells = cells
 
--- the queue has room for a tick's chunk wherever the reader wants one; a reader that has just begun plays and holds a cell
+-- the queue has room for a tick's chunk wherever the reader wants one; a reader that has just begun plays and holds a
+-- cell
 pub record IsStore (queue : Ring) (prefill frame : ℕ) (playing fresh : Bool) : Type 0 where
   pub fits : max prefill frame + frame ≤ queue.room + 1
   pub some : 0 < prefill

@@ -42,7 +42,8 @@ impl Blank {
     pub fn stretch(&self, most: u32) -> u32
         requires placed { BlankIsPlaced self.now }
         requires some { 0 < most }
-        ensures stretch { (p : ℕ) → BlankStandsAt self.now p → result ≡ stretch_from (λ q. Some (blank_cell self.now.track q)) p most }
+        ensures stretch { (p : ℕ) → BlankStandsAt self.now p
+            → result ≡ stretch_from (λ q. Some (blank_cell self.now.track q)) p most }
         ensures within { result ≤ most }
         ensures some { 0 < result }
         ensures ahead { LieInTrack self.now result }

@@ -32,7 +32,8 @@ impl Files {
     /// At the start of the first file.
     pub fn new(node: u32, again: bool, kind: Kind) -> Files
         ensures start { result ≡ record { node = node; again = again; kind = kind; track = 0; at = 0 } }
-        ensures placed { (library : Sounds) → IsLibrary library → node < length library.leaves → FilesArePlacedIn library result }
+        ensures placed { (library : Sounds) → IsLibrary library → node < length library.leaves
+            → FilesArePlacedIn library result }
     {
         Files {
             node,
@@ -46,7 +47,8 @@ impl Files {
     /// The cell at its place, with its file's title; nothing past the last file.
     pub fn offer(&self, library: &Library) -> Option<Cell>
         requires { FilesArePlacedIn library.now self.now }
-        ensures offered { (p : ℕ) → FilesStandAt library.now self.now p → result ≡ files_slot library.now self.now.node self.now.again self.now.kind p }
+        ensures offered { (p : ℕ) → FilesStandAt library.now self.now p
+            → result ≡ files_slot library.now self.now.node self.now.again self.now.kind p }
         ensures ahead { IsSome result → LieInFile library.now self.now 1 }
     {
         if self.track < library.tracks(self.node) {
@@ -60,10 +62,13 @@ impl Files {
     pub fn stretch(&self, library: &Library, most: u32) -> u32
         requires placed { FilesArePlacedIn library.now self.now }
         requires some { 0 < most }
-        ensures stretch { (p : ℕ) → FilesStandAt library.now self.now p → IsSome (files_slot library.now self.now.node self.now.again self.now.kind p)
+        ensures stretch { (p : ℕ) → FilesStandAt library.now self.now p
+            → IsSome (files_slot library.now self.now.node self.now.again self.now.kind p)
             → result ≡ stretch_from (files_slot library.now self.now.node self.now.again self.now.kind) p most }
-        ensures titled { (p j : ℕ) → FilesStandAt library.now self.now p → IsSome (files_slot library.now self.now.node self.now.again self.now.kind p) → j < result
-            → title_of (files_slot library.now self.now.node self.now.again self.now.kind (p + j)) ≡ title_of (files_slot library.now self.now.node self.now.again self.now.kind p) }
+        ensures titled { (p j : ℕ) → FilesStandAt library.now self.now p
+            → IsSome (files_slot library.now self.now.node self.now.again self.now.kind p) → j < result
+            → title_of (files_slot library.now self.now.node self.now.again self.now.kind (p + j))
+            ≡ title_of (files_slot library.now self.now.node self.now.again self.now.kind p) }
         ensures within { result ≤ most }
         ensures some { 0 < result }
         ensures ahead { LieInFile library.now self.now 1 → LieInFile library.now self.now result }
@@ -85,11 +90,14 @@ impl Files {
         ensures again { self.new.again ≡ self.old.again }
         ensures kind { self.new.kind ≡ self.old.kind }
         ensures placed { FilesArePlacedIn library.now self.new }
-        ensures stands { (p : ℕ) → FilesStandAt library.now self.old p → FilesStandAt library.now self.new (p + length left.old) }
+        ensures stands { (p : ℕ) → FilesStandAt library.now self.old p
+            → FilesStandAt library.now self.new (p + length left.old) }
         ensures left { (p : ℕ) → FilesStandAt library.now self.old p
-            → left.new ≡ lefts_of (files_slot library.now self.old.node self.old.again self.old.kind) p (length left.old) }
+            → left.new ≡ lefts_of (files_slot library.now self.old.node self.old.again self.old.kind) p
+            (length left.old) }
         ensures right { (p : ℕ) → FilesStandAt library.now self.old p
-            → right.new ≡ rights_of (files_slot library.now self.old.node self.old.again self.old.kind) p (length left.old) }
+            → right.new ≡ rights_of (files_slot library.now self.old.node self.old.again self.old.kind) p
+            (length left.old) }
     {
         library.read(self.node, self.track, self.at, self.kind, left, right);
         let samples = library.samples(self.node, self.track);
@@ -109,8 +117,11 @@ impl Files {
         ensures again { self.new.again ≡ self.old.again }
         ensures kind { self.new.kind ≡ self.old.kind }
         ensures placed { FilesArePlacedIn library.now self.new }
-        ensures stands { (p : ℕ) → FilesStandAt library.now self.old p → IsSome (files_slot library.now self.old.node self.old.again self.old.kind p) → FilesStandAt library.now self.new (suc p) }
-        ensures stays { (p : ℕ) → FilesStandAt library.now self.old p → files_slot library.now self.old.node self.old.again self.old.kind p ≡ None → self.new ≡ self.old }
+        ensures stands { (p : ℕ) → FilesStandAt library.now self.old p
+            → IsSome (files_slot library.now self.old.node self.old.again self.old.kind p)
+            → FilesStandAt library.now self.new (suc p) }
+        ensures stays { (p : ℕ) → FilesStandAt library.now self.old p
+            → files_slot library.now self.old.node self.old.again self.old.kind p ≡ None → self.new ≡ self.old }
     {
         let tracks = library.tracks(self.node);
         if self.track >= tracks {

@@ -74,7 +74,8 @@ impl LeafState {
     /// What it offers. All calls on one state are given one library.
     pub fn offer(&self, library: &Library) -> Option<Cell>
         requires { IsPlacedIn library.now self.now }
-        ensures offered { (p : ℕ) → StandsAt library.now self.now p → result ≡ leaf_slot library.now (leaf_of self.now) p }
+        ensures offered { (p : ℕ) → StandsAt library.now self.now p
+            → result ≡ leaf_slot library.now (leaf_of self.now) p }
         ensures ahead { IsSome result → LiesAhead library.now self.now 1 }
     {
         match &self.cursor {
@@ -89,10 +90,13 @@ impl LeafState {
     pub fn stretch(&self, library: &Library, most: u32) -> u32
         requires placed { IsPlacedIn library.now self.now }
         requires some { 0 < most }
-        ensures stretch { (p : ℕ) → StandsAt library.now self.now p → IsSome (leaf_slot library.now (leaf_of self.now) p)
+        ensures stretch { (p : ℕ) → StandsAt library.now self.now p
+            → IsSome (leaf_slot library.now (leaf_of self.now) p)
             → result ≡ stretch_from (leaf_slot library.now (leaf_of self.now)) p most }
-        ensures titled { (p j : ℕ) → StandsAt library.now self.now p → IsSome (leaf_slot library.now (leaf_of self.now) p) → j < result
-            → title_of (leaf_slot library.now (leaf_of self.now) (p + j)) ≡ title_of (leaf_slot library.now (leaf_of self.now) p) }
+        ensures titled { (p j : ℕ) → StandsAt library.now self.now p
+            → IsSome (leaf_slot library.now (leaf_of self.now) p) → j < result
+            → title_of (leaf_slot library.now (leaf_of self.now) (p + j))
+            ≡ title_of (leaf_slot library.now (leaf_of self.now) p) }
         ensures within { result ≤ most }
         ensures some { 0 < result }
         ensures ahead { LiesAhead library.now self.now 1 → LiesAhead library.now self.now result }
@@ -108,8 +112,10 @@ impl LeafState {
     /// A number of cells, from the offered one on and at most so many, that have this title and begin no track.
     pub fn rest(&self, library: &Library, title: u32, most: u32) -> u32
         requires placed { IsPlacedIn library.now self.now }
-        ensures inner { (p j : ℕ) → StandsAt library.now self.now p → j < result → is_inner (leaf_slot library.now (leaf_of self.now) (p + j)) ≡ true }
-        ensures titled { (p j : ℕ) → StandsAt library.now self.now p → j < result → title_of (leaf_slot library.now (leaf_of self.now) (p + j)) ≡ title }
+        ensures inner { (p j : ℕ) → StandsAt library.now self.now p → j < result
+            → is_inner (leaf_slot library.now (leaf_of self.now) (p + j)) ≡ true }
+        ensures titled { (p j : ℕ) → StandsAt library.now self.now p → j < result
+            → title_of (leaf_slot library.now (leaf_of self.now) (p + j)) ≡ title }
         ensures within { result ≤ most }
         ensures ahead { 0 < result → LiesAhead library.now self.now result }
     {
@@ -127,9 +133,12 @@ impl LeafState {
         requires ahead { LiesAhead library.now self.old (length left.old) }
         ensures leaf { leaf_of self.new ≡ leaf_of self.old }
         ensures placed { IsPlacedIn library.now self.new }
-        ensures stands { (p : ℕ) → StandsAt library.now self.old p → StandsAt library.now self.new (p + length left.old) }
-        ensures left { (p : ℕ) → StandsAt library.now self.old p → left.new ≡ lefts_of (leaf_slot library.now (leaf_of self.old)) p (length left.old) }
-        ensures right { (p : ℕ) → StandsAt library.now self.old p → right.new ≡ rights_of (leaf_slot library.now (leaf_of self.old)) p (length left.old) }
+        ensures stands { (p : ℕ) → StandsAt library.now self.old p
+            → StandsAt library.now self.new (p + length left.old) }
+        ensures left { (p : ℕ) → StandsAt library.now self.old p
+            → left.new ≡ lefts_of (leaf_slot library.now (leaf_of self.old)) p (length left.old) }
+        ensures right { (p : ℕ) → StandsAt library.now self.old p
+            → right.new ≡ rights_of (leaf_slot library.now (leaf_of self.old)) p (length left.old) }
     {
         match &mut self.cursor {
             Cursor::Track(files) => files.run(library, left, right),
@@ -148,8 +157,10 @@ impl LeafState {
         requires { IsPlacedIn library.now self.old }
         ensures leaf { leaf_of self.new ≡ leaf_of self.old }
         ensures placed { IsPlacedIn library.now self.new }
-        ensures stands { (p : ℕ) → StandsAt library.now self.old p → IsSome (leaf_slot library.now (leaf_of self.old) p) → StandsAt library.now self.new (suc p) }
-        ensures stays { (p : ℕ) → StandsAt library.now self.old p → leaf_slot library.now (leaf_of self.old) p ≡ None → self.new ≡ self.old }
+        ensures stands { (p : ℕ) → StandsAt library.now self.old p → IsSome (leaf_slot library.now (leaf_of self.old) p)
+            → StandsAt library.now self.new (suc p) }
+        ensures stays { (p : ℕ) → StandsAt library.now self.old p → leaf_slot library.now (leaf_of self.old) p ≡ None
+            → self.new ≡ self.old }
     {
         match &mut self.cursor {
             Cursor::Track(files) => files.advance(library),

@@ -29,16 +29,26 @@ impl Model for ReaderState {
 
     ghost Value = { Reader };
 
-    ghost view = { λ r. record { cells = shown r.fresh r.queue.cells; playing = r.playing; prefill = r.prefill; frame = r.frame } };
+    ghost view = { λ r. record {
+      cells = shown r.fresh r.queue.cells;
+      playing = r.playing;
+      prefill = r.prefill;
+      frame = r.frame;
+    } };
 
     ghost invariant = { λ r. IsStore r.queue r.prefill r.frame r.playing r.fresh };
 }
 
 impl ReaderState {
-    /// A reader that holds nothing and does not play, with room for what it may hold of chunks of a tick. It plays once it
-    /// holds `pre` samples, and at least one; `frame` is the samples of a tick.
+    /// A reader that holds nothing and does not play, with room for what it may hold of chunks of a tick. It plays once
+    /// it holds `pre` samples, and at least one; `frame` is the samples of a tick.
     pub fn new(alloc: Global, pre: u64, frame: u32) -> Result<ReaderState, Memory>
-        ensures { IfOk result (λ reader. reader ≡ record { cells = []; playing = false; prefill = max 1 pre; frame = frame }) }
+        ensures { IfOk result (λ reader. reader ≡ record {
+          cells = [];
+          playing = false;
+          prefill = max 1 pre;
+          frame = frame;
+        }) }
     {
         let prefill = u32::try_from(pre.max(1)).map_err(|_| Memory)?;
         let most = prefill.max(frame);
@@ -115,7 +125,8 @@ impl ReaderState {
     /// How many of its cells, from the offered one on and at most so many, are of one track and of one title.
     pub fn stretch(&self, most: u32) -> u32
         requires some { 0 < most }
-        ensures stretch { IsSome (reader_slot self.now) → result ≡ titled_stretch (λ j. reader_slot (read_by j self.now)) 0 most }
+        ensures stretch { IsSome (reader_slot self.now)
+            → result ≡ titled_stretch (λ j. reader_slot (read_by j self.now)) 0 most }
         ensures within { result ≤ most }
         ensures some { 0 < result }
         ensures ahead { IsSome (reader_slot self.now) → IsOneTrack (λ j. reader_slot (read_by j self.now)) result }
@@ -143,7 +154,8 @@ impl ReaderState {
         ensures read { self.new ≡ read_by (length left.old) self.old }
         ensures left { left.new ≡ lefts_of (λ j. reader_slot (read_by j self.old)) 0 (length left.old) }
         ensures right { right.new ≡ rights_of (λ j. reader_slot (read_by j self.old)) 0 (length left.old) }
-        ensures lane { is_inner (reader_slot self.old) ≡ true → IsLane (λ j. reader_slot (read_by j self.old)) (length left.old) left.new right.new }
+        ensures lane { is_inner (reader_slot self.old) ≡ true
+            → IsLane (λ j. reader_slot (read_by j self.old)) (length left.old) left.new right.new }
     {
         self.queue.take_into(left, right);
         self.fresh = false;

@@ -54,7 +54,8 @@ impl Square {
 
     /// The upper value in the first half of each period, and the lower one in the second.
     pub fn offer(&self) -> Cell
-        ensures { (p : ℕ) → SquareStandsAt self.now p → result ≡ square_cell self.now.pitch self.now.rate self.now.kind p }
+        ensures { (p : ℕ) → SquareStandsAt self.now p
+            → result ≡ square_cell self.now.pitch self.now.rate self.now.kind p }
     {
         let left = if self.phase < u64::from(self.rate) * (MILLION / 2) {
             HEIGHT
@@ -97,8 +98,12 @@ impl Square {
         ensures rate { self.new.rate ≡ self.old.rate }
         ensures kind { self.new.kind ≡ self.old.kind }
         ensures stands { (p : ℕ) → SquareStandsAt self.old p → SquareStandsAt self.new (p + length left.old) }
-        ensures left { (p : ℕ) → SquareStandsAt self.old p → left.new ≡ lefts_of (λ q. Some (square_cell self.old.pitch self.old.rate self.old.kind q)) p (length left.old) }
-        ensures right { (p : ℕ) → SquareStandsAt self.old p → right.new ≡ rights_of (λ q. Some (square_cell self.old.pitch self.old.rate self.old.kind q)) p (length left.old) }
+        ensures left { (p : ℕ) → SquareStandsAt self.old p
+            → left.new ≡ lefts_of (λ q. Some (square_cell self.old.pitch self.old.rate self.old.kind q)) p
+            (length left.old) }
+        ensures right { (p : ℕ) → SquareStandsAt self.old p
+            → right.new ≡ rights_of (λ q. Some (square_cell self.old.pitch self.old.rate self.old.kind q)) p
+            (length left.old) }
     {
         for at in 0..left.len() {
             let cell = self.offer();

@@ -4,14 +4,14 @@ use Rattle.std.proofs.lemmas.Int.{ints}
 use Rattle.std.proofs.lemmas.List.{take_more, length-take, append-nil}
 use Rattle.frame_core.specs.declared.cell.Cell.{Cell}
 use Rattle.frame_core.specs.Slots.{Slot}
-use Rattle.stream_meaning.specs.Arithmetic.{cells_of, levelled, sum_of, summed_slot}
+use Rattle.stream_meaning.specs.Arithmetic.{cells_of, levelled, total_by, summed_slot}
 use Rattle.sample_kernels.specs.Samples.{IsSumOf}
 use Rattle.op_mix.specs.Mixings.{front_of}
 
 -- so far the sums and the number of these cells
 pub record Summed (cells : List Cell) (left right : ℤ) (parts : ℕ) : Type 0 where
-  pub left_is : left ≡ sum_of (λ cell. cell.left) cells
-  pub right_is : right ≡ sum_of (λ cell. cell.right) cells
+  pub left_is : left ≡ total_by (λ cell. cell.left) cells
+  pub right_is : right ≡ total_by (λ cell. cell.right) cells
   pub parts_is : parts ≡ length cells
   pub left_fits : IsSumOf parts left
   pub right_fits : IsSumOf parts right
@@ -26,7 +26,7 @@ few_cells [] = omega arith
 few_cells (None ∷ xs) = let few = few_cells xs in omega arith
 few_cells (Some cell ∷ xs) = let few = few_cells xs in omega arith
 
-pub sum_of-more : (sample : Cell → ℤ) (cells : List Cell) (cell : Cell) → sum_of sample (cells ++ cell ∷ []) ≡ sum_of sample cells +ℤ sample cell
+pub sum_of-more : (sample : Cell → ℤ) (cells : List Cell) (cell : Cell) → total_by sample (cells ++ cell ∷ []) ≡ total_by sample cells +ℤ sample cell
 sum_of-more sample [] cell = omega (arith, ints)
 sum_of-more sample (one ∷ cells) cell = let more = sum_of-more sample cells cell in omega (arith, ints, more)
 

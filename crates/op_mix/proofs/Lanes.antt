@@ -11,7 +11,7 @@ use Rattle.sample_kernels.specs.Samples.{clamped, half_of, mean_of, scaled}
 use Rattle.op_leaf.specs.Inner.{lefts_of}
 use Rattle.op_leaf.specs.Lanes.{IsLane}
 use Rattle.op_leaf.proofs.Laid.{each_same, inner_is}
-use Rattle.stream_meaning.specs.Arithmetic.{Mixing, Adds, Scales, Halves, Doubles, Passes, cells_of, changed_slot, levelled, mix_slot, sum_of, summed_slot}
+use Rattle.stream_meaning.specs.Arithmetic.{Mixing, Adds, Scales, Halves, Doubles, Passes, cells_of, changed_slot, levelled, mix_slot, total_by, summed_slot}
 use Rattle.op_mix.specs.Stretches.{AreHeard, IsHeard, changed_left, changed_right, first_that_gives, levels_of, many_give, sums_of}
 use Rattle.op_mix.proofs.CellSums.{cells_of-append, sum_of-more}
 
@@ -21,17 +21,17 @@ cells_more : (slots : ℕ → Slot) (children : List ℕ) (child : ℕ) → cell
 cells_more slots children child = ap cells_of (map-append slots children (child ∷ [])) ∙ cells_of-append (map slots children) (slots child ∷ [])
 
 sum_by : (side : Cell → ℤ) (of_slot : Slot → ℤ) → ((cell : Cell) → of_slot (Some cell) ≡ side cell) → (slot : Slot) → is_inner slot ≡ true → (cells : List Cell)
-    → sum_of side cells +ℤ of_slot slot ≡ sum_of side (cells ++ cells_of (slot ∷ []))
+    → total_by side cells +ℤ of_slot slot ≡ total_by side (cells ++ cells_of (slot ∷ []))
 sum_by side of_slot same None e cells = absurd (false≢true e)
-sum_by side of_slot same (Some cell) e cells = ap (λ x. sum_of side cells +ℤ x) (same cell) ∙ sym (sum_of-more side cells cell)
+sum_by side of_slot same (Some cell) e cells = ap (λ x. total_by side cells +ℤ x) (same cell) ∙ sym (sum_of-more side cells cell)
 
 sum_with : (side : Cell → ℤ) (of_slot : Slot → ℤ) → ((cell : Cell) → of_slot (Some cell) ≡ side cell) → (slots : ℕ → ℕ → Slot) (count : ℕ) (children : List ℕ) (child : ℕ) (sums lane : List ℤ)
     → sums ≡ sums_of side slots count children → lane ≡ map (λ j. of_slot (slots j child)) (range_with_len 0 count)
     → ((j : ℕ) → j < count → is_inner (slots j child) ≡ true) → zip2 ◌+ℤ◌ sums lane ≡ sums_of side slots count (children ++ child ∷ [])
 sum_with side of_slot same slots count children child sums lane sums_are lane_is inner =
-    zip2_of_maps ◌+ℤ◌ (λ j. sum_of side (cells_of (map (slots j) children))) (λ j. of_slot (slots j child)) (range_with_len 0 count) sums_are lane_is
-    ∙ each_same (λ j. sum_of side (cells_of (map (slots j) children)) +ℤ of_slot (slots j child)) (λ j. sum_of side (cells_of (map (slots j) (children ++ child ∷ [])))) count
-    (λ j low. sum_by side of_slot same (slots j child) (inner j low) (cells_of (map (slots j) children)) ∙ sym (ap (sum_of side) (cells_more (slots j) children child)))
+    zip2_of_maps ◌+ℤ◌ (λ j. total_by side (cells_of (map (slots j) children))) (λ j. of_slot (slots j child)) (range_with_len 0 count) sums_are lane_is
+    ∙ each_same (λ j. total_by side (cells_of (map (slots j) children)) +ℤ of_slot (slots j child)) (λ j. total_by side (cells_of (map (slots j) (children ++ child ∷ [])))) count
+    (λ j low. sum_by side of_slot same (slots j child) (inner j low) (cells_of (map (slots j) children)) ∙ sym (ap (total_by side) (cells_more (slots j) children child)))
 
 -- a child that gives: `add_into`
 pub lefts_with : (slots : ℕ → ℕ → Slot) (count : ℕ) (children : List ℕ) (child : ℕ) (sums left right : List ℤ) → sums ≡ sums_of (λ cell. cell.left) slots count children
@@ -48,8 +48,8 @@ rights_with slots count children child sums left right sums_are lane =
 pub sums_without : (side : Cell → ℤ) (slots : ℕ → ℕ → Slot) (count : ℕ) (children : List ℕ) (child : ℕ) → ((j : ℕ) → j < count → slots j child ≡ None)
     → sums_of side slots count children ≡ sums_of side slots count (children ++ child ∷ [])
 sums_without side slots count children child silent =
-    each_same (λ j. sum_of side (cells_of (map (slots j) children))) (λ j. sum_of side (cells_of (map (slots j) (children ++ child ∷ [])))) count
-    (λ j low. sym (ap (sum_of side) (cells_more (slots j) children child
+    each_same (λ j. total_by side (cells_of (map (slots j) children))) (λ j. total_by side (cells_of (map (slots j) (children ++ child ∷ [])))) count
+    (λ j low. sym (ap (total_by side) (cells_more (slots j) children child
     ∙ ap (λ (slot : Slot). cells_of (map (slots j) children) ++ cells_of (slot ∷ [])) (silent j low) ∙ append-nil (cells_of (map (slots j) children)))))
 
 -- ---- its children's cells at one instant
@@ -97,13 +97,13 @@ none_begins slots gives lefts rights count j low (child ∷ children) (here, hea
 
 -- ---- the lanes of sums
 
-level_left : (normalize : Bool) (parts : ℕ) (cells : List Cell) → length cells ≡ parts → 0 < parts → levelled normalize parts (sum_of (λ cell. cell.left) cells) ≡ slot_left (summed_slot normalize cells)
+level_left : (normalize : Bool) (parts : ℕ) (cells : List Cell) → length cells ≡ parts → 0 < parts → levelled normalize parts (total_by (λ cell. cell.left) cells) ≡ slot_left (summed_slot normalize cells)
 level_left normalize parts [] long some = absurd (omega (arith, long, some))
-level_left normalize parts (cell ∷ cells) long some = ap (λ n. levelled normalize n (sum_of (λ c. c.left) (cell ∷ cells))) (sym long)
+level_left normalize parts (cell ∷ cells) long some = ap (λ n. levelled normalize n (total_by (λ c. c.left) (cell ∷ cells))) (sym long)
 
-level_right : (normalize : Bool) (parts : ℕ) (cells : List Cell) → length cells ≡ parts → 0 < parts → levelled normalize parts (sum_of (λ cell. cell.right) cells) ≡ slot_right (summed_slot normalize cells)
+level_right : (normalize : Bool) (parts : ℕ) (cells : List Cell) → length cells ≡ parts → 0 < parts → levelled normalize parts (total_by (λ cell. cell.right) cells) ≡ slot_right (summed_slot normalize cells)
 level_right normalize parts [] long some = absurd (omega (arith, long, some))
-level_right normalize parts (cell ∷ cells) long some = ap (λ n. levelled normalize n (sum_of (λ c. c.right) (cell ∷ cells))) (sym long)
+level_right normalize parts (cell ∷ cells) long some = ap (λ n. levelled normalize n (total_by (λ c. c.right) (cell ∷ cells))) (sym long)
 
 level_inner : (normalize : Bool) (parts : ℕ) (cells : List Cell) → length cells ≡ parts → 0 < parts → Begins cells → is_inner (summed_slot normalize cells) ≡ true
 level_inner normalize parts [] long some begins = absurd (omega (arith, long, some))
@@ -122,13 +122,13 @@ pub sum_lane : (slots : ℕ → ℕ → Slot) (gives : ℕ → Bool) (lefts righ
     → IsLane (λ j. mix_slot (Adds normalize) (map (slots j) children)) count (levels_of normalize (many_give gives children) left) (levels_of normalize (many_give gives children) right)
 sum_lane slots gives lefts rights count children normalize left right heard some left_is right_is = record {
   left_is = ap (levels_of normalize (many_give gives children)) left_is
-      ∙ levels_are normalize (many_give gives children) count (λ j. sum_of (λ cell. cell.left) (cells_of (map (slots j) children)))
-      ∙ each_same (λ j. levelled normalize (many_give gives children) (sum_of (λ cell. cell.left) (cells_of (map (slots j) children))))
+      ∙ levels_are normalize (many_give gives children) count (λ j. total_by (λ cell. cell.left) (cells_of (map (slots j) children)))
+      ∙ each_same (λ j. levelled normalize (many_give gives children) (total_by (λ cell. cell.left) (cells_of (map (slots j) children))))
       (λ j. slot_left (summed_slot normalize (cells_of (map (slots j) children)))) count
       (λ j low. level_left normalize (many_give gives children) (cells_of (map (slots j) children)) (as_many slots gives lefts rights count j low children heard) some);
   right_is = ap (levels_of normalize (many_give gives children)) right_is
-      ∙ levels_are normalize (many_give gives children) count (λ j. sum_of (λ cell. cell.right) (cells_of (map (slots j) children)))
-      ∙ each_same (λ j. levelled normalize (many_give gives children) (sum_of (λ cell. cell.right) (cells_of (map (slots j) children))))
+      ∙ levels_are normalize (many_give gives children) count (λ j. total_by (λ cell. cell.right) (cells_of (map (slots j) children)))
+      ∙ each_same (λ j. levelled normalize (many_give gives children) (total_by (λ cell. cell.right) (cells_of (map (slots j) children))))
       (λ j. slot_right (summed_slot normalize (cells_of (map (slots j) children)))) count
       (λ j low. level_right normalize (many_give gives children) (cells_of (map (slots j) children)) (as_many slots gives lefts rights count j low children heard) some);
   inner = λ j low. level_inner normalize (many_give gives children) (cells_of (map (slots j) children)) (as_many slots gives lefts rights count j low children heard) some

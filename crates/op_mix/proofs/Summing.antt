@@ -10,7 +10,7 @@ use Rattle.frame_core.specs.Slots.{Slot}
 use Rattle.op_leaf.specs.Lanes.{IsLane}
 use Rattle.op_leaf.proofs.Laid.{lane_of_same}
 use Rattle.sample_kernels.specs.Samples.{IsSumOf}
-use Rattle.stream_meaning.specs.Arithmetic.{Adds, cells_of, changed_slot, mix_slot, sum_of}
+use Rattle.stream_meaning.specs.Arithmetic.{Adds, cells_of, changed_slot, mix_slot, total_by}
 use Rattle.op_mix.specs.declared.mixer.Mixer.{Mixer}
 use Rattle.op_mix.specs.declared.mixer.Mixer.TheVariants as variant
 use Rattle.op_mix.specs.Mixings.{mixing_of}
@@ -87,7 +87,7 @@ passed_over gives lanes room children child count sums so_far e = record {
 
 -- ---- over lanes that are heard
 
-zeros_are : (side : Cell → ℤ) (slots : ℕ → ℕ → Slot) (at count : ℕ) → replicate count (pos 0) ≡ map (λ j. sum_of side (cells_of (map (slots j) []))) (range_with_len at count)
+zeros_are : (side : Cell → ℤ) (slots : ℕ → ℕ → Slot) (at count : ℕ) → replicate count (pos 0) ≡ map (λ j. total_by side (cells_of (map (slots j) []))) (range_with_len at count)
 zeros_are side slots at zero = refl
 zeros_are side slots at (suc count) = ap (λ sums. pos 0 ∷ sums) (zeros_are side slots (at + 1) count)
 

@@ -10,7 +10,7 @@ use Rattle.op_leaf.specs.Lanes.{IsLane}
 use Rattle.sample_kernels.specs.Samples.{clamped, half_of, mean_of, scaled}
 use Rattle.stream_meaning.specs.declared.part.Part.{Part}
 use Rattle.stream_meaning.specs.Instants.{part_at}
-use Rattle.stream_meaning.specs.Arithmetic.{Mixing, Adds, Scales, Halves, Doubles, Passes, cells_of, sum_of}
+use Rattle.stream_meaning.specs.Arithmetic.{Mixing, Adds, Scales, Halves, Doubles, Passes, cells_of, total_by}
 
 -- by node: room for its samples over a run, on one side
 abbrev pub Lanes : Type 0
@@ -36,23 +36,29 @@ samples_of lanes i count = heard_of (lane_at lanes i) count
 abbrev pub offers_in : List Part → ℕ → Bool
 offers_in parts i = is_some (part_at parts i).slot
 
--- over a run a child either gives, and these are its lane, or offers nothing: `slots j` are the slots of all nodes at instant j
-pub record IsHeard (slots : ℕ → ℕ → Slot) (gives : ℕ → Bool) (lefts rights : ℕ → List ℤ) (count child : ℕ) : Type 0 where
+-- over a run a child either gives, and these are its lane, or offers nothing: `slots j` are the slots of all nodes at
+-- instant j
+pub record IsHeard (slots : ℕ → ℕ → Slot) (gives : ℕ → Bool) (lefts rights : ℕ
+    → List ℤ) (count child : ℕ) : Type 0 where
   pub given : gives child ≡ true → IsLane (λ j. slots j child) count (lefts child) (rights child)
   pub silent : gives child ≡ false → (j : ℕ) → j < count → slots j child ≡ None
 
-abbrev pub AreHeard : (slots : ℕ → ℕ → Slot) → (gives : ℕ → Bool) → (lefts rights : ℕ → List ℤ) → (count : ℕ) → (children : List ℕ) → Type 0
+abbrev pub AreHeard : (slots : ℕ → ℕ → Slot) → (gives : ℕ → Bool) → (lefts rights : ℕ → List ℤ) → (count : ℕ)
+    → (children : List ℕ) → Type 0
 AreHeard slots gives lefts rights count [] = Unit {0}
-AreHeard slots gives lefts rights count (child ∷ children) = IsHeard slots gives lefts rights count child × AreHeard slots gives lefts rights count children
+AreHeard slots gives lefts rights count (child ∷ children) = IsHeard slots gives lefts rights count child
+    × AreHeard slots gives lefts rights count children
 
 -- the sum of one side at each instant
 abbrev pub sums_of : (Cell → ℤ) → (slots : ℕ → ℕ → Slot) → (count : ℕ) → (children : List ℕ) → List ℤ
-sums_of side slots count children = map (λ j. sum_of side (cells_of (map (slots j) children))) (range_with_len 0 count)
+sums_of side slots count children = map (λ j. total_by side (cells_of (map (slots j) children)))
+    (range_with_len 0 count)
 
 -- these sums and the lanes of the children that give
 abbrev pub summed_lanes : (gives : ℕ → Bool) → (lanes : ℕ → List ℤ) → (sums : List ℤ) → (children : List ℕ) → List ℤ
 summed_lanes gives lanes sums [] = sums
-summed_lanes gives lanes sums (child ∷ children) = summed_lanes gives lanes (if gives child then zip2 ◌+ℤ◌ sums (lanes child) else sums) children
+summed_lanes gives lanes sums (child ∷ children) = summed_lanes gives lanes (if gives child
+    then zip2 ◌+ℤ◌ sums (lanes child) else sums) children
 
 -- how many children give
 abbrev pub many_give : (ℕ → Bool) → List ℕ → ℕ

@@ -29,9 +29,12 @@ impl Mixer {
         requires same { length right.old ≡ length left.old }
         requires short { length left.old ≤ 2048 }
         ensures lane { (slots : ℕ → ℕ → Slot)
-            → AreHeard slots (offers_in before.now.parts.now) (λ child. samples_of before.now.left.now child (length left.old)) (λ child. samples_of before.now.right.now child (length left.old)) (length left.old) children.now
+            → AreHeard slots (offers_in before.now.parts.now)
+            (λ child. samples_of before.now.left.now child (length left.old))
+            (λ child. samples_of before.now.right.now child (length left.old)) (length left.old) children.now
             → 0 < many_give (offers_in before.now.parts.now) children.now
-            → IsLane (λ j. mix_slot (mixing_of self.now) (map (slots j) children.now)) (length left.old) left.new right.new }
+            → IsLane (λ j. mix_slot (mixing_of self.now) (map (slots j) children.now)) (length left.old) left.new
+            right.new }
     {
         match self {
             Mixer::Adds { normalize } => {
@@ -53,9 +56,11 @@ impl Mixer {
         requires same { length right.old ≡ length left.old }
         requires short { length left.old ≤ 2048 }
         ensures left { (first : ℕ) → first_that_gives (offers_in before.now.parts.now) children.now ≡ Some first
-            → left.new ≡ changed_left (mixing_of self.now) (samples_of before.now.left.now first (length left.old)) (samples_of before.now.right.now first (length left.old)) }
+            → left.new ≡ changed_left (mixing_of self.now) (samples_of before.now.left.now first (length left.old))
+            (samples_of before.now.right.now first (length left.old)) }
         ensures right { (first : ℕ) → first_that_gives (offers_in before.now.parts.now) children.now ≡ Some first
-            → right.new ≡ changed_right (mixing_of self.now) (samples_of before.now.left.now first (length left.old)) (samples_of before.now.right.now first (length left.old)) }
+            → right.new ≡ changed_right (mixing_of self.now) (samples_of before.now.left.now first (length left.old))
+            (samples_of before.now.right.now first (length left.old)) }
     {
         let Some(first) = first_that_offers(children, before.parts) else {
             return;
@@ -95,7 +100,8 @@ impl Mixer {
     }
 }
 
-/// One side of the samples of a sum: that of the children that offer, at each instant. Where none does nothing is written.
+/// One side of the samples of a sum: that of the children that offer, at each instant. Where none does nothing is
+/// written.
 pub fn sum_lane(
     children: &[u32],
     parts: &[Part],
@@ -111,7 +117,8 @@ pub fn sum_lane(
     requires counts { length into.old ≤ length counts.old }
     ensures sum { 0 < many_give (offers_in parts.now) children.now
         → into.new ≡ levels_of normalize (many_give (offers_in parts.now) children.now)
-        (summed_lanes (offers_in parts.now) (λ child. samples_of lanes.now child (length into.old)) (replicate (length into.old) (pos 0)) children.now) }
+        (summed_lanes (offers_in parts.now) (λ child. samples_of lanes.now child (length into.old))
+        (replicate (length into.old) (pos 0)) children.now) }
 {
     let (sums, _) = sums.split_at_mut(into.len());
     let (counts, _) = counts.split_at_mut(into.len());
@@ -126,7 +133,8 @@ fn add_all(children: &[u32], parts: &[Part], lanes: &[Vec<i16>], sums: &mut [i32
     requires few { length children.now ≤ 65535 }
     requires short { length sums.old ≤ 2048 }
     ensures count { result ≡ many_give (offers_in parts.now) children.now }
-    ensures sums { sums.new ≡ summed_lanes (offers_in parts.now) (λ child. samples_of lanes.now child (length sums.old)) (replicate (length sums.old) (pos 0)) children.now }
+    ensures sums { sums.new ≡ summed_lanes (offers_in parts.now) (λ child. samples_of lanes.now child (length sums.old))
+        (replicate (length sums.old) (pos 0)) children.now }
     ensures fit { All (IsSumOf result) sums.new }
 {
     sums.fill(0);
@@ -142,8 +150,8 @@ fn add_all(children: &[u32], parts: &[Part], lanes: &[Vec<i16>], sums: &mut [i32
     count
 }
 
-// One side of the samples of a sum, from the sums of so many children: their mean with `normalize`, or the sum cut to the
-// range of a sample.
+// One side of the samples of a sum, from the sums of so many children: their mean with `normalize`, or the sum cut to
+// the range of a sample.
 fn level_all(sums: &[i32], parts: u16, normalize: bool, counts: &mut [u16], into: &mut [i16])
     requires counts { length counts.old ≡ length sums.now }
     requires same { length into.old ≡ length sums.now }

@@ -1,5 +1,5 @@
-//! What a node makes of the slots of its children, at an instant or over a run of them: a sum, a gain, a mean of both sides,
-//! or one side on both. `docs/streams.md`, "Arithmetic", has the rules.
+//! What a node makes of the slots of its children, at an instant or over a run of them: a sum, a gain, a mean of both
+//! sides, or one side on both. `docs/streams.md`, "Arithmetic", has the rules.
 #![tactic(auto)]
 
 mod before;

@@ -11,8 +11,8 @@ use stream_meaning::Part;
 /// The most instants of a run.
 pub const MAX_STRETCH: u32 = 2048;
 
-/// Room for a sum at each instant of a run, and for how many samples it has. Contracts see for how many instants, which is
-/// `MAX_STRETCH`.
+/// Room for a sum at each instant of a run, and for how many samples it has. Contracts see for how many instants, which
+/// is `MAX_STRETCH`.
 #[derive(Drop)]
 pub struct Sums {
     sums: Vec<i32>,
@@ -37,7 +37,8 @@ impl Sums {
         Ok(Sums { sums, counts })
     }
 
-    /// One side of the samples of a sum: that of the children that offer, at each instant. Where none does nothing is written.
+    /// One side of the samples of a sum: that of the children that offer, at each instant. Where none does nothing is
+    /// written.
     pub fn sum(
         &mut self,
         children: &[u32],
@@ -50,7 +51,8 @@ impl Sums {
         requires short { length into.old ≤ 2048 }
         ensures sum { 0 < many_give (offers_in parts.now) children.now
             → into.new ≡ levels_of normalize (many_give (offers_in parts.now) children.now)
-            (summed_lanes (offers_in parts.now) (λ child. samples_of lanes.now child (length into.old)) (replicate (length into.old) (pos 0)) children.now) }
+            (summed_lanes (offers_in parts.now) (λ child. samples_of lanes.now child (length into.old))
+            (replicate (length into.old) (pos 0)) children.now) }
     {
         sum_lane(
             children,

@@ -7,7 +7,8 @@ use crate::change::first_cell;
 use frame_core::Cell;
 use sample_kernels::{clamp_all, divide};
 
-/// The sum or the mean of the cells among these slots, with the flag and the title of the first of them; nothing where there is none.
+/// The sum or the mean of the cells among these slots, with the flag and the title of the first of them; nothing where
+/// there is none.
 pub fn summed(slots: &[Option<Cell>], normalize: bool) -> Option<Cell>
     requires { length slots.now ≤ 65535 }
     ensures { result ≡ summed_slot normalize (cells_of slots.now) }

@@ -10,7 +10,7 @@ use Rattle.op_select.specs.declared.rule.Picked.{Picked}
 use Rattle.op_select.specs.Selection.{goes_on, is_last, picked, picked_cell, plays_on}
 use Rattle.seed_words.specs.Words.{Unread}
 use Rattle.op_turn.specs.Choices.{chosen_by, used_by}
-use Rattle.op_turn.specs.Turns.{offering, rotated}
+use Rattle.op_turn.specs.Turns.{offering_from, rotated}
 
 -- the child offers a cell
 abbrev pub Offers : List Slot → ℕ → Type 0
@@ -24,7 +24,7 @@ some_offers (Some cell ∷ slots) child offers = refl
 
 -- the children that are found offer
 
-found_offers : (slots : List Slot) (from number child : ℕ) → slice_get (offering slots from) number ≡ Some child
+found_offers : (slots : List Slot) (from number child : ℕ) → slice_get (offering_from slots from) number ≡ Some child
     → (at : ℕ) × (child ≡ from + at) × Offers slots at
 found_offers [] from number child is = absurd cc
 found_offers (None ∷ slots) from number child is =
@@ -57,17 +57,17 @@ first_in (other ∷ front) back child is = inl is
 rotated_offers : (slots : List Slot) (last : Option ℕ) (child : ℕ) → rotated slots last ≡ Some child → Offers slots child
 rotated_offers slots None child is = at_place slots 0 child refl (found_offers slots 0 0 child is)
 rotated_offers slots (Some last) child is =
-    ⊎_elim behind before (first_in (offering (drop (suc last) slots) (suc last)) (offering (take (suc last) slots) 0) child is)
+    ⊎_elim behind before (first_in (offering_from (drop (suc last) slots) (suc last)) (offering_from (take (suc last) slots) 0) child is)
   where
-    behind : slice_get (offering (drop (suc last) slots) (suc last)) 0 ≡ Some child → Offers slots child
+    behind : slice_get (offering_from (drop (suc last) slots) (suc last)) 0 ≡ Some child → Offers slots child
     behind here = let (at, place, offers) = found_offers (drop (suc last) slots) (suc last) 0 child here in of_back (suc last) slots at child place offers
 
-    before : slice_get (offering (take (suc last) slots) 0) 0 ≡ Some child → Offers slots child
+    before : slice_get (offering_from (take (suc last) slots) 0) 0 ≡ Some child → Offers slots child
     before here = of_front (suc last) slots child (at_place (take (suc last) slots) 0 child refl (found_offers (take (suc last) slots) 0 0 child here))
 
 chosen_offers : (words : Option Unread) (last : Option ℕ) (slots : List Slot) (child : ℕ) → chosen_by words last slots ≡ Some child → Offers slots child
 chosen_offers None last slots child is = rotated_offers slots last child is
-chosen_offers (Some words) last slots child is = at_place slots 0 child refl (found_offers slots 0 (words.next % length (offering slots 0)) child is)
+chosen_offers (Some words) last slots child is = at_place slots 0 child refl (found_offers slots 0 (words.next % length (offering_from slots 0)) child is)
 
 front_holds : (a b : Bool) → (a && b) ≡ true → a ≡ true
 front_holds true b both = refl
@@ -88,13 +88,13 @@ used_offers words last slots child is = by_test_offers words last slots child (p
 
 -- a child is found where some child offers
 
-some_found : (slots : List Slot) (from : ℕ) → list_any is_some slots ≡ true → 0 < length (offering slots from)
+some_found : (slots : List Slot) (from : ℕ) → list_any is_some slots ≡ true → 0 < length (offering_from slots from)
 some_found [] from any = absurd cc
 some_found (None ∷ slots) from any = some_found slots (suc from) any
 some_found (Some cell ∷ slots) from any = omega arith
 
 in_parts : (k : ℕ) (slots : List Slot) (from below : ℕ) → list_any is_some slots ≡ true
-    → 0 < length (offering (drop k slots) from) + length (offering (take k slots) below)
+    → 0 < length (offering_from (drop k slots) from) + length (offering_from (take k slots) below)
 in_parts k [] from below any = absurd cc
 in_parts zero (slot ∷ slots) from below any = let some = some_found (slot ∷ slots) from any in omega (arith, some)
 in_parts (suc k) (None ∷ slots) from below any = in_parts k slots from (suc below) any
@@ -104,16 +104,16 @@ there : (children : List ℕ) (number : ℕ) → number < length children → is
 there children number low = ap is_some (slice_get-get_or children number 0 low)
 
 rotated_found : (slots : List Slot) (last : Option ℕ) → list_any is_some slots ≡ true → is_some (rotated slots last) ≡ true
-rotated_found slots None any = there (offering slots 0) 0 (some_found slots 0 any)
+rotated_found slots None any = there (offering_from slots 0) 0 (some_found slots 0 any)
 rotated_found slots (Some last) any =
-    let long = length-append (offering (drop (suc last) slots) (suc last)) (offering (take (suc last) slots) 0) in
+    let long = length-append (offering_from (drop (suc last) slots) (suc last)) (offering_from (take (suc last) slots) 0) in
     let some = in_parts (suc last) slots (suc last) 0 any in
-    there (offering (drop (suc last) slots) (suc last) ++ offering (take (suc last) slots) 0) 0 (omega (arith, long, some))
+    there (offering_from (drop (suc last) slots) (suc last) ++ offering_from (take (suc last) slots) 0) 0 (omega (arith, long, some))
 
 chosen_found : (words : Option Unread) (last : Option ℕ) (slots : List Slot) → list_any is_some slots ≡ true → is_some (chosen_by words last slots) ≡ true
 chosen_found None last slots any = rotated_found slots last any
 chosen_found (Some words) last slots any =
-    there (offering slots 0) _ (mod_below words.next (length (offering slots 0)) (some_found slots 0 any))
+    there (offering_from slots 0) _ (mod_below words.next (length (offering_from slots 0)) (some_found slots 0 any))
 
 playing_found : (slots : List Slot) (last : Option ℕ) → plays_on slots last ≡ true → is_some last ≡ true
 playing_found slots None plays = plays

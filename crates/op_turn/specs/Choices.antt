@@ -3,12 +3,12 @@ use Rattle.std.specs.Prelude.{Option, Some, None, List, ℕ, if◌then◌else◌
 use Rattle.frame_core.specs.Slots.{Slot}
 use Rattle.seed_words.specs.Words.{Unread}
 use Rattle.op_select.specs.Selection.{plays_on}
-use Rattle.op_turn.specs.Turns.{drawn, rotated}
+use Rattle.op_turn.specs.Turns.{random_pick, rotated}
 
 -- the child that a choice finds: without words a rotate's
 abbrev pub chosen_by : Option Unread → (last : Option ℕ) → List Slot → Option ℕ
 chosen_by None last slots = rotated slots last
-chosen_by (Some words) last slots = drawn slots words.next
+chosen_by (Some words) last slots = random_pick slots words.next
 
 -- the child that is used
 abbrev pub used_by : Option Unread → (last : Option ℕ) → List Slot → Option ℕ

@@ -9,21 +9,22 @@ use Rattle.op_turn.specs.declared.turn.Turn.{Turn}
 use Rattle.op_turn.specs.declared.turn.Turn.TheVariants.{Random, Rotate}
 
 -- the children that offer, in their order, where the first of these slots is that of child `from`
-abbrev pub offering : List Slot → (from : ℕ) → List ℕ
-offering [] from = []
-offering (slot ∷ slots) from = if is_some slot then from ∷ offering slots (suc from) else offering slots (suc from)
+abbrev pub offering_from : List Slot → (from : ℕ) → List ℕ
+offering_from [] from = []
+offering_from (slot ∷ slots) from = if is_some slot then from ∷ offering_from slots (suc from)
+    else offering_from slots (suc from)
 
 -- a rotate's choice
 --   where no child was used: the first that offers
 --   otherwise: the first that offers of those after the child used last, and then of those from 0 to that child
 abbrev pub rotated : List Slot → (last : Option ℕ) → Option ℕ
-rotated slots None = slice_get (offering slots 0) 0
+rotated slots None = slice_get (offering_from slots 0) 0
 rotated slots (Some last) =
-    slice_get (offering (drop (suc last) slots) (suc last) ++ offering (take (suc last) slots) 0) 0
+    slice_get (offering_from (drop (suc last) slots) (suc last) ++ offering_from (take (suc last) slots) 0) 0
 
 -- a random's choice by a word w: of the m children that offer the one with number w mod m; none where m is 0
-abbrev pub drawn : List Slot → (w : ℕ) → Option ℕ
-drawn slots w = slice_get (offering slots 0) (w % length (offering slots 0))
+abbrev pub random_pick : List Slot → (w : ℕ) → Option ℕ
+random_pick slots w = slice_get (offering_from slots 0) (w % length (offering_from slots 0))
 
 -- what lies behind a node: the child that it used when it last gave, or none, and at how many of the instants at which
 -- it gave the child was found by a choice
@@ -34,7 +35,7 @@ pub record Past : Type 0 where
 -- the child that a choice finds; a random takes one word for each choice at which it gave
 abbrev pub chosen : Turn → Past → List Slot → Option ℕ
 chosen Rotate past slots = rotated slots past.last
-chosen (Random seed) past slots = drawn slots (word seed past.choices)
+chosen (Random seed) past slots = random_pick slots (word seed past.choices)
 
 -- the child that is used
 abbrev pub used_child : Turn → Past → List Slot → Option ℕ

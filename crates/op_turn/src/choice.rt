@@ -2,7 +2,7 @@
 ghost use Rattle.std.specs.Prelude.{◌≡◌, ◌<◌, ◌+◌, ◌^◌, ℕ, suc, length, slice_get, IfSome};
 ghost use Rattle.op_turn.specs.declared.turn.Turn.{Turn as TheTurn};
 ghost use Rattle.op_select.specs.Selection.{picked};
-ghost use Rattle.op_turn.specs.Turns.{drawn, offering, rotated, words_left};
+ghost use Rattle.op_turn.specs.Turns.{random_pick, offering_from, rotated, words_left};
 
 use crate::{Pick, Turn};
 use frame_core::Cell;
@@ -20,7 +20,8 @@ pub fn words_of(turn: Turn) -> Option<SeedWords>
 
 /// Uses up one word, if words choose.
 pub fn use_word(words: &mut Option<SeedWords>)
-    ensures { (turn : TheTurn) (choices : ℕ) → words.old ≡ words_left turn choices → words.new ≡ words_left turn (suc choices) }
+    ensures { (turn : TheTurn) (choices : ℕ) → words.old ≡ words_left turn choices
+        → words.new ≡ words_left turn (suc choices) }
 {
     if let Some(words) = words {
         words.next_word();
@@ -46,7 +47,7 @@ pub fn rotated(offers: &[Option<Cell>], last: Option<u32>) -> Option<u32>
 /// The child that a random chooses by this word.
 pub fn drawn(offers: &[Option<Cell>], word: u32) -> Option<u32>
     requires { length offers.now < 2 ^ 32 }
-    ensures { result ≡ drawn offers.now word }
+    ensures { result ≡ random_pick offers.now word }
 {
     let count = count_offering(offers);
     if count == 0 {
@@ -68,10 +69,11 @@ pub fn picked(offers: &[Option<Cell>], last: Option<u32>, used: Option<u32>) -> 
     })
 }
 
-// Of the children that offer, in their order, the one with this number, from 0. The first offer is that of child `from`.
+// Of the children that offer, in their order, the one with this number, from 0. The first offer is that of child
+// `from`.
 fn find_offering(offers: &[Option<Cell>], from: u32, number: u32) -> Option<u32>
     requires { from + length offers.now < 2 ^ 32 }
-    ensures { result ≡ slice_get (offering offers.now from) number }
+    ensures { result ≡ slice_get (offering_from offers.now from) number }
 {
     let mut left = number;
     for at in 0..offers.len() {
@@ -89,7 +91,7 @@ fn find_offering(offers: &[Option<Cell>], from: u32, number: u32) -> Option<u32>
 // How many children offer.
 fn count_offering(offers: &[Option<Cell>]) -> u32
     requires { length offers.now < 2 ^ 32 }
-    ensures { result ≡ length (offering offers.now 0) }
+    ensures { result ≡ length (offering_from offers.now 0) }
 {
     let mut count = 0;
     for at in 0..offers.len() {

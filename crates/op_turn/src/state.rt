@@ -51,7 +51,8 @@ impl TurnState {
     /// `None` where no child offers. The rules are in `docs/streams.md`.
     pub fn offer(&self, offers: &[Option<Cell>]) -> Option<Pick>
         requires { length offers.now ≡ self.now.children }
-        ensures offered { (turn : TheTurn) (past : Past) → StandsFor turn past self.now → result ≡ offered turn past offers.now }
+        ensures offered { (turn : TheTurn) (past : Past) → StandsFor turn past self.now
+            → result ≡ offered turn past offers.now }
         ensures child { IfSome result (λ pick. pick.child < self.now.children) }
         ensures some { is_some result ≡ list_any is_some offers.now }
     {
@@ -75,7 +76,8 @@ impl TurnState {
     pub fn give(&mut self, pick: Pick)
         requires { pick.child < self.old.children }
         ensures children { self.new.children ≡ self.old.children }
-        ensures stands { (turn : TheTurn) (past : Past) → StandsFor turn past self.old → StandsFor turn (past_given past pick) self.new }
+        ensures stands { (turn : TheTurn) (past : Past) → StandsFor turn past self.old
+            → StandsFor turn (past_given past pick) self.new }
     {
         let is_chosen = pick.cell.first;
         self.last = Some(pick.child);

@@ -4,12 +4,12 @@ use Rattle.std.proofs.lemmas.List.{length-map}
 use Rattle.script_lex.specs.declared.token.Token.{Token}
 use Rattle.script_grammar.specs.ReadPredicate.{por_step, por_by, por}
 use Rattle.script_grammar.specs.ReadValue.{full_step, full_by}
-use Rattle.parse_base.specs.Gives.{kind_of, kinds}
+use Rattle.parse_base.specs.Gives.{token_kind, kinds}
 
 -- no level is left
 pub por_ends : (n : ℕ) (ts : List Token) → n ≡ 0 → por_by n (kinds ts) ≡ Err (length ts)
 unfolding por_by
-por_ends zero ts e = rw (length-map ts kind_of) refl
+por_ends zero ts e = rw (length-map ts token_kind) refl
 por_ends (suc n) ts e = absurd (omega arith)
 
 -- one level less
@@ -23,13 +23,13 @@ por_turn n m ts e =
 pub por_levels : (ts : List Token) → por (kinds ts) ≡ por_by (length ts + 1) (kinds ts)
 unfolding por
 por_levels ts =
-    let levels : suc (length (kinds ts)) ≡ length ts + 1 = omega (arith, length-map ts kind_of) in
+    let levels : suc (length (kinds ts)) ≡ length ts + 1 = omega (arith, length-map ts token_kind) in
     ap (λ (k : ℕ). por_by k (kinds ts)) levels
 
 -- no level is left for a value
 pub full_ends : (n : ℕ) (stamp : ℕ → ℕ) (ts : List Token) → n ≡ 0 → full_by n stamp (kinds ts) ≡ Err (length ts)
 unfolding full_by
-full_ends zero stamp ts e = rw (length-map ts kind_of) refl
+full_ends zero stamp ts e = rw (length-map ts token_kind) refl
 full_ends (suc n) stamp ts e = absurd (omega arith)
 
 -- one level less for a value

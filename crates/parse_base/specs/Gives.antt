@@ -5,12 +5,12 @@ use Rattle.script_lex.specs.declared.token.TokenKind.{TokenKind}
 use Rattle.parse_base.specs.declared.fault.Fault.{Fault}
 use Rattle.parse_base.specs.declared.fault.Fault.TheVariants as faults
 
-abbrev pub kind_of : Token → TokenKind
-kind_of t = t.kind
+abbrev pub token_kind : Token → TokenKind
+token_kind t = t.kind
 
 -- the kinds of tokens
 abbrev pub kinds : List Token → List TokenKind
-kinds ts = map kind_of ts
+kinds ts = map token_kind ts
 
 -- want of memory is free, and a fault of the tokens is the one of reading
 abbrev pub Fails : {Y : Type 0} → Fault → Result Y ℕ → Type 0

@@ -58,7 +58,8 @@ fn por_step(alloc: Global, levels: usize, tokens: &[Token]) -> Result<(POr, &[To
 #[cycle(predicate)]
 fn pands(alloc: Global, levels: usize, tokens: &[Token]) -> Result<(Vec<PAnd>, &[Token]), Fault>
     ensures shorter { IfOk result (λ x. length x.1.now ≤ length tokens.now) }
-    ensures gives { Gives (λ x. (listed (map view_pand x.0.items), kinds x.1.now)) result (many (next is_or) (behind is_or (pand (por_by levels))) (kinds tokens.now)) }
+    ensures gives { Gives (λ x. (listed (map view_pand x.0.items), kinds x.1.now)) result
+        (many (next is_or) (behind is_or (pand (por_by levels))) (kinds tokens.now)) }
     ensures whole { IfOk result (λ x. All IsWholePAnd x.0.items) }
 {
     let mut items = Vec::new(alloc);
@@ -75,7 +76,8 @@ fn pands(alloc: Global, levels: usize, tokens: &[Token]) -> Result<(Vec<PAnd>, &
 #[tactic(auto, unfolding(script_grammar::specs::Read::behind))]
 fn or_pand(alloc: Global, levels: usize, tokens: &[Token]) -> Result<(PAnd, &[Token]), Fault>
     ensures shorter { IfOk result (λ x. length x.1.now < length tokens.now) }
-    ensures gives { Gives (λ x. (view_pand x.0, kinds x.1.now)) result (behind is_or (pand (por_by levels)) (kinds tokens.now)) }
+    ensures gives { Gives (λ x. (view_pand x.0, kinds x.1.now)) result
+        (behind is_or (pand (por_by levels)) (kinds tokens.now)) }
     ensures whole { IfOk result (λ x. IsWholePAnd x.0) }
 {
     let ((), rest) = token::expect(tokens, Class::Or)?;
@@ -97,7 +99,8 @@ fn pand(alloc: Global, levels: usize, tokens: &[Token]) -> Result<(PAnd, &[Token
 #[cycle(predicate)]
 fn pnots(alloc: Global, levels: usize, tokens: &[Token]) -> Result<(Vec<PNot>, &[Token]), Fault>
     ensures shorter { IfOk result (λ x. length x.1.now ≤ length tokens.now) }
-    ensures gives { Gives (λ x. (listed (map view_pnot x.0.items), kinds x.1.now)) result (many (next is_and) (behind is_and (pnot (por_by levels))) (kinds tokens.now)) }
+    ensures gives { Gives (λ x. (listed (map view_pnot x.0.items), kinds x.1.now)) result
+        (many (next is_and) (behind is_and (pnot (por_by levels))) (kinds tokens.now)) }
     ensures whole { IfOk result (λ x. All IsWholePNot x.0.items) }
 {
     let mut items = Vec::new(alloc);
@@ -114,7 +117,8 @@ fn pnots(alloc: Global, levels: usize, tokens: &[Token]) -> Result<(Vec<PNot>, &
 #[tactic(auto, unfolding(script_grammar::specs::Read::behind))]
 fn and_pnot(alloc: Global, levels: usize, tokens: &[Token]) -> Result<(PNot, &[Token]), Fault>
     ensures shorter { IfOk result (λ x. length x.1.now < length tokens.now) }
-    ensures gives { Gives (λ x. (view_pnot x.0, kinds x.1.now)) result (behind is_and (pnot (por_by levels)) (kinds tokens.now)) }
+    ensures gives { Gives (λ x. (view_pnot x.0, kinds x.1.now)) result
+        (behind is_and (pnot (por_by levels)) (kinds tokens.now)) }
     ensures whole { IfOk result (λ x. IsWholePNot x.0) }
 {
     let ((), rest) = token::expect(tokens, Class::And)?;

@@ -18,7 +18,7 @@ use Rattle.stations.specs.declared.fault.StationFault.TheVariants.{Files, Fallib
 use Rattle.refusal_lines.specs.declared.fault.Fault.{Fault}
 use Rattle.refusal_lines.specs.declared.fault.Fault.TheVariants.{NoScript, Script, SameFile, Station, Replay}
 use Rattle.refusal_lines.specs.declared.replay_lines.ReplayFault.TheVariants.{NoTrace, TraceTooLarge, NotATrace, DoesNotFit}
-use Rattle.refusal_lines.specs.Lines.{clock_name, limit_name, wav_number}
+use Rattle.refusal_lines.specs.Lines.{clock_in_words, limit_name, wav_number}
 use Rattle.script_places.specs.Naming.{EndsIn, IsNumbered, Leads}
 use Rattle.script_places.specs.declared.named.Named.{Named}
 use Rattle.script_places.specs.declared.named.Named.TheVariants.{Byte, Token, Statement, Source, Clash, Text, Fallible}
@@ -155,8 +155,8 @@ file_names load_memory line e = no_line line e
 
 clock_names : (fault : ClockFault) → NamesItsPlace (Station (Clocks fault))
 clock_names (TwoClocks node first second) line e =
-    of_text (Some (Source node)) (codes "E26 source" ++ codes " " ++ decimal node ++ codes " under clocks " ++ clock_name first ++ codes " and " ++ clock_name second) _ line refl e
-    (numbered Source _ node (leads_clocks 32 node (codes "under clocks ") (clock_name first) (codes " and ") (clock_name second)))
+    of_text (Some (Source node)) (codes "E26 source" ++ codes " " ++ decimal node ++ codes " under clocks " ++ clock_in_words first ++ codes " and " ++ clock_in_words second) _ line refl e
+    (numbered Source _ node (leads_clocks 32 node (codes "under clocks ") (clock_in_words first) (codes " and ") (clock_in_words second)))
 clock_names (Nested node) line e =
     of_text (Some (Source node)) (codes "E27 crossfade " ++ (decimal node ++ codes " lies in its own clock")) _ line
     (three (codes "E27 crossfade ") (decimal node) (codes " lies in its own clock") (codes "\n")) e

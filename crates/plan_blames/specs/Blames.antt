@@ -19,15 +19,17 @@ use Rattle.clock_forcings.specs.Forcings.{id_or}
 use Rattle.plan_blames.specs.Needs.{needs}
 use Rattle.plan_blames.specs.Texts.{escaped}
 
--- whether source n is red for a silence: it is the one that was refused, or may offer nothing and is needed by a red one of those
--- behind it
+-- whether source n is red for a silence: it is the one that was refused, or may offer nothing and is needed by a red
+-- one of those behind it
 abbrev pub is_to_blame : (mark : ℕ → Bool) → (refused n : ℕ) → (behind : List Node) → (reds : List Bool) → Bool
-is_to_blame mark refused n behind reds = nat_eq n refused || (not (mark n) && list_any (λ pair. pair.1 && needs (pair.0).op (pair.0).children n) (zip behind reds))
+is_to_blame mark refused n behind reds = nat_eq n refused
+    || (not (mark n) && list_any (λ pair. pair.1 && needs (pair.0).op (pair.0).children n) (zip behind reds))
 
 -- the same of each of these sources, of which the first has this number
 abbrev pub reds_from : (mark : ℕ → Bool) → (refused n : ℕ) → List Node → List Bool
 reds_from mark refused n [] = []
-reds_from mark refused n (node ∷ nodes) = is_to_blame mark refused n nodes (reds_from mark refused (suc n) nodes) ∷ reds_from mark refused (suc n) nodes
+reds_from mark refused n (node ∷ nodes) = is_to_blame mark refused n nodes (reds_from mark refused (suc n) nodes)
+    ∷ reds_from mark refused (suc n) nodes
 
 abbrev pub childless_words : (children : List ℕ) → List ℕ
 childless_words [] = codes "\\nhas nothing to play"
@@ -89,7 +91,8 @@ nested_words false = []
 
 abbrev pub clock_words : Result ClockMap ClockFault → (k : ℕ) → Op → List ℕ
 clock_words (Ok map) k op = []
-clock_words (Err (TwoClocks node first second)) k op = shared_words (nat_eq node k) first second ++ asking_words (either_asks first second k op) k op
+clock_words (Err (TwoClocks node first second)) k op = shared_words (nat_eq node k) first second
+    ++ asking_words (either_asks first second k op) k op
 clock_words (Err (Nested node)) k op = nested_words (nat_eq node k)
 clock_words (Err TooManyClocks) k op = []
 clock_words (Err Memory) k op = []

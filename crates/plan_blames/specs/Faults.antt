@@ -22,7 +22,8 @@ abbrev pub red_members : (group : ℕ → ℕ) → (these : List ℕ) → List N
 red_members group these nodes = numbered (λ k node. red_member (shares group these k) k) 0 nodes
 
 abbrev pub red_rest : (group : ℕ → ℕ) → (these : List ℕ) → List Node → List ℕ
-red_rest group these nodes = codes "\"; style=\"rounded,dashed\"; color=\"#b3261e\"; fontsize=11;\n" ++ (red_members group these nodes ++ codes "}\n")
+red_rest group these nodes = codes "\"; style=\"rounded,dashed\"; color=\"#b3261e\"; fontsize=11;\n"
+    ++ (red_members group these nodes ++ codes "}\n")
 
 -- a region with this label round the sources of the groups of these
 abbrev pub red_region : (label : List ℕ) → (group : ℕ → ℕ) → (these : List ℕ) → List Node → List ℕ
@@ -38,7 +39,8 @@ own_label k = codes "own clock of crossfade " ++ decimal k
 abbrev pub children_at : List Node → (k : ℕ) → List ℕ
 children_at nodes k = option_map_or (λ node. node.children) (slice_get nodes k) []
 
--- round what one clock would drive: the group that is forced into two, or what lies in the clock of a crossfade that lies in it too
+-- round what one clock would drive: the group that is forced into two, or what lies in the clock of a crossfade that
+-- lies in it too
 abbrev pub fault_region : List Node → ClockFault → (group : ℕ → ℕ) → List ℕ
 fault_region nodes (TwoClocks node first second) group = red_region (shared_label first second) group (node ∷ []) nodes
 fault_region nodes (Nested node) group = red_region (own_label node) group (children_at nodes node) nodes

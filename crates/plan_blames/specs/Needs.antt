@@ -24,8 +24,8 @@ is_last children child = option_map_or (is_child child) (last_of children) false
 abbrev pub some_case : List Predicate → (children : List ℕ) → (child : ℕ) → Bool
 some_case preds children child = list_any (is_case child) (zip preds children)
 
--- whether a source that may offer nothing needs this child, so that it would always offer something if this child did: a sequence needs
--- its last one, a switch each whose predicate is always true, and any other each of its children
+-- whether a source that may offer nothing needs this child, so that it would always offer something if this child did:
+-- a sequence needs its last one, a switch each whose predicate is always true, and any other each of its children
 abbrev pub needs : Op → (children : List ℕ) → (child : ℕ) → Bool
 needs (Switch sensitive preds) children child = some_case preds children child
 needs Sequence children child = is_last children child

@@ -160,7 +160,8 @@ fn push_reason(into: &mut Vec<u8>, op: &Op, children: &[u32]) -> Result<(), Memo
 }
 
 fn push_switch_reason(into: &mut Vec<u8>, preds: &[Pred]) -> Result<(), Memory>
-    ensures { OnOk result (into.new.items ≡ into.old.items ++ (if list_any is_always (map view_pred preds.now) then [] else codes "\\nno case is always true")) }
+    ensures { OnOk result (into.new.items ≡ into.old.items
+        ++ (if list_any is_always (map view_pred preds.now) then [] else codes "\\nno case is always true")) }
 {
     if some_always(preds) {
         Ok(())
@@ -234,7 +235,9 @@ fn push_two_clocks(
     k: u64,
     op: &Op,
 ) -> Result<(), Memory>
-    ensures { OnOk result (into.new.items ≡ into.old.items ++ (shared_words is_it first.now second.now ++ asking_words (either_asks first.now second.now k op.now) k op.now)) }
+    ensures { OnOk result (into.new.items ≡ into.old.items
+        ++ (shared_words is_it first.now second.now
+        ++ asking_words (either_asks first.now second.now k op.now) k op.now)) }
 {
     push_shared(into, is_it, first, second)?;
     let asks = either_asks(alloc, first, second, k, op)?;
@@ -257,7 +260,8 @@ fn push_shared(
 }
 
 fn push_both(into: &mut Vec<u8>, first: &ClockName, second: &ClockName) -> Result<(), Memory>
-    ensures { OnOk result (into.new.items ≡ into.old.items ++ (codes "\\nE26 under clocks " ++ both_names first.now second.now)) }
+    ensures { OnOk result (into.new.items ≡ into.old.items
+        ++ (codes "\\nE26 under clocks " ++ both_names first.now second.now)) }
 {
     push_plain(into, b"\\nE26 under clocks ")?;
     push_names(into, first, second)

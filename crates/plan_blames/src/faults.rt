@@ -16,7 +16,8 @@ pub fn push_fault(
     fault: &ClockFault,
     groups: &[u32],
 ) -> Result<(), Memory>
-    ensures { OnOk result (into.new.items ≡ into.old.items ++ fault_text silent nodes.now fault.now (λ k. slice_index groups.now k)) }
+    ensures { OnOk result (into.new.items ≡ into.old.items
+        ++ fault_text silent nodes.now fault.now (λ k. slice_index groups.now k)) }
 {
     if silent {
         return Ok(());
@@ -53,7 +54,8 @@ fn push_region(
     fault: &ClockFault,
     groups: &[u32],
 ) -> Result<(), Memory>
-    ensures { OnOk result (into.new.items ≡ into.old.items ++ fault_region nodes.now fault.now (λ k. slice_index groups.now k)) }
+    ensures { OnOk result (into.new.items ≡ into.old.items
+        ++ fault_region nodes.now fault.now (λ k. slice_index groups.now k)) }
 {
     match fault {
         ClockFault::TwoClocks {
@@ -75,7 +77,8 @@ fn push_shared_region(
     second: &ClockName,
     groups: &[u32],
 ) -> Result<(), Memory>
-    ensures { OnOk result (into.new.items ≡ into.old.items ++ red_region (shared_label first.now second.now) (λ k. slice_index groups.now k) (node ∷ []) nodes.now) }
+    ensures { OnOk result (into.new.items ≡ into.old.items
+        ++ red_region (shared_label first.now second.now) (λ k. slice_index groups.now k) (node ∷ []) nodes.now) }
 {
     push_plain(into, b"subgraph cluster_red { label=\"")?;
     push_shared_label(into, first, second)?;
@@ -101,7 +104,8 @@ fn push_own_region(
     node: u32,
     groups: &[u32],
 ) -> Result<(), Memory>
-    ensures { OnOk result (into.new.items ≡ into.old.items ++ red_region (own_label node) (λ k. slice_index groups.now k) (children_at nodes.now node) nodes.now) }
+    ensures { OnOk result (into.new.items ≡ into.old.items
+        ++ red_region (own_label node) (λ k. slice_index groups.now k) (children_at nodes.now node) nodes.now) }
 {
     push_plain(into, b"subgraph cluster_red { label=\"")?;
     push_own_label(into, node as u64)?;
@@ -121,7 +125,8 @@ fn push_own_rest(
     node: u32,
     groups: &[u32],
 ) -> Result<(), Memory>
-    ensures { OnOk result (into.new.items ≡ into.old.items ++ red_rest (λ k. slice_index groups.now k) (children_at nodes.now node) nodes.now) }
+    ensures { OnOk result (into.new.items ≡ into.old.items
+        ++ red_rest (λ k. slice_index groups.now k) (children_at nodes.now node) nodes.now) }
 {
     match nodes.get(node as usize) {
         Some(crossfade) => push_red_rest(into, groups, crossfade.children.as_slice(), nodes),
@@ -135,7 +140,8 @@ fn push_red_rest(
     these: &[u32],
     nodes: &[Node],
 ) -> Result<(), Memory>
-    ensures { OnOk result (into.new.items ≡ into.old.items ++ red_rest (λ k. slice_index groups.now k) these.now nodes.now) }
+    ensures { OnOk result (into.new.items ≡ into.old.items
+        ++ red_rest (λ k. slice_index groups.now k) these.now nodes.now) }
 {
     push_plain(
         into,
@@ -152,7 +158,8 @@ fn push_red_members(
     these: &[u32],
     nodes: &[Node],
 ) -> Result<(), Memory>
-    ensures { OnOk result (into.new.items ≡ into.old.items ++ red_members (λ k. slice_index groups.now k) these.now nodes.now) }
+    ensures { OnOk result (into.new.items ≡ into.old.items
+        ++ red_members (λ k. slice_index groups.now k) these.now nodes.now) }
 {
     for (k, _node) in nodes.iter().enumerate() {
         push_red_member(into, shares(groups, these, k as u64), k as u64)?;

@@ -1,5 +1,5 @@
-//! Why a plan is refused for a silence or for its clocks: which of its sources are to blame, and how that is told. `docs/fallible.md` and
-//! `docs/clocks.md` have the rules.
+//! Why a plan is refused for a silence or for its clocks: which of its sources are to blame, and how that is told.
+//! `docs/fallible.md` and `docs/clocks.md` have the rules.
 #![tactic(auto)]
 
 mod blames;

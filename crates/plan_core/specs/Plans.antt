@@ -165,7 +165,8 @@ with_buffer plan source kind buffer = record plan {
 -- a path down from a node: a child of it, a child of that one, and so on
 abbrev pub IsPathDown : List Node → ℕ → List ℕ → Type 0
 IsPathDown nodes i [] = i < length nodes
-IsPathDown nodes i (child ∷ path) = ((node : Node) × (slice_get nodes i ≡ Some node) × Contains node.children child) × IsPathDown nodes child path
+IsPathDown nodes i (child ∷ path) = ((node : Node) × (slice_get nodes i ≡ Some node) × Contains node.children child)
+    × IsPathDown nodes child path
 
 -- 1 if there is a crossfade of this number
 abbrev pub crossfades_at : List Node → ℕ → ℕ

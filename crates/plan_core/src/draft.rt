@@ -33,7 +33,8 @@ impl Model for Draft {
 
     ghost view = { λ d. d.plan };
 
-    ghost invariant = { λ d. (d.crossfades ≡ crossfade_counts d.plan.nodes) × All (λ count. count ≤ MAX_CROSSFADES) d.crossfades };
+    ghost invariant = { λ d. (d.crossfades ≡ crossfade_counts d.plan.nodes)
+        × All (λ count. count ≤ MAX_CROSSFADES) d.crossfades };
 }
 
 impl Draft {
@@ -135,8 +136,8 @@ impl Draft {
         }
     }
 
-    /// Adds an output of a node to the file of this name, of 24 bits a sample if it is `wide`, else of 16. Where there is no room for it, which is memory or the 2^32nd
-    /// sink, the plan is as it was.
+    /// Adds an output of a node to the file of this name, of 24 bits a sample if it is `wide`, else of 16. Where there
+    /// is no room for it, which is memory or the 2^32nd sink, the plan is as it was.
     pub fn push_output(
         &mut self,
         name: Text,
@@ -146,7 +147,8 @@ impl Draft {
     ) -> Result<(), Memory>
         ensures added { OnOk result (self.new ≡ with_output self.old name node fallible wide) }
         ensures room { OnOk result (length self.old.sinks + 1 < 2 ^ 32) }
-        ensures well_formed { OnOk result (IsWellFormed self.old → node < length self.old.nodes → IsWellFormed self.new) }
+        ensures well_formed { OnOk result (IsWellFormed self.old → node < length self.old.nodes
+            → IsWellFormed self.new) }
         ensures unchanged { OnErr result (self.new ≡ self.old) }
     {
         if self.plan.sinks.len() >= u32::MAX as usize {
@@ -163,8 +165,8 @@ impl Draft {
     }
 
     /// Adds a buffer, its feed from the node `source`, and its reader, which is of this kind, and answers the reader's
-    /// number. `TooManySources` comes exactly where `MAX_NODES` nodes are there. After that, and where there is no room for
-    /// it, which is memory or the 2^32nd sink or buffer, the plan is as it was.
+    /// number. `TooManySources` comes exactly where `MAX_NODES` nodes are there. After that, and where there is no room
+    /// for it, which is memory or the 2^32nd sink or buffer, the plan is as it was.
     pub fn push_buffer(
         &mut self,
         alloc: Global,

@@ -44,7 +44,8 @@ pub fn a_node_keeps_plans()
 /// A well-formed plan stays so with one more output of a node that is there.
 pub fn an_output_keeps_plans()
     ensures { (plan : Plan) (name : List ℕ) (node : ℕ) (fallible wide : Bool) → IsWellFormed plan
-        → length plan.sinks + 1 < 2 ^ 32 → node < length plan.nodes → IsWellFormed (with_output plan name node fallible wide) }
+        → length plan.sinks + 1 < 2 ^ 32 → node < length plan.nodes
+        → IsWellFormed (with_output plan name node fallible wide) }
 {}
 
 /// A well-formed plan stays so with one more buffer, its feed from a node that is there, and its reader of that node's

@@ -49,9 +49,9 @@ impl From<Memory> for PlanFault {
 }
 
 impl Plan {
-    /// Adds a node, whose children are nodes of the plan, at most `MAX_CHILDREN` of them, and answers its number. No path
-    /// down from it may have more than `MAX_CROSSFADES` crossfades. `TooManySources` comes exactly where `MAX_NODES` nodes
-    /// are there. The plan is unchanged after that, and where memory is refused.
+    /// Adds a node, whose children are nodes of the plan, at most `MAX_CHILDREN` of them, and answers its number. No
+    /// path down from it may have more than `MAX_CROSSFADES` crossfades. `TooManySources` comes exactly where
+    /// `MAX_NODES` nodes are there. The plan is unchanged after that, and where memory is refused.
     pub fn push_node(&mut self, node: Node) -> Result<u32, PlanFault>
         requires children { All (λ child. child < length self.old.nodes) node.children }
         requires few { length node.children ≤ MAX_CHILDREN }

@@ -3,7 +3,7 @@ use Rattle.std.proofs.Common.{◌≡◌, ℕ, ◌≤◌, suc, Bool, true, List, 
 use Rattle.std.proofs.lemmas.List.{take_all}
 use Rattle.std.specs.Global.{Vec}
 use Rattle.time_pred.specs.declared.pred.Pred as pred
-use Rattle.time_pred.specs.Predicates.{PredicateTree, Many, parts_of}
+use Rattle.time_pred.specs.Predicates.{PredicateTree, PredicateParts, parts_of}
 use Rattle.time_pred.specs.View.{view_pred}
 use Rattle.time_pred.proofs.Rows.{parts_seen}
 use Rattle.plan_blames.specs.Texts.{numbered}
@@ -21,7 +21,7 @@ pub all_parts : (word : List ℕ) (k : ℕ) (ps : List pred.Pred) → length ps 
 all_parts word k ps h = ap (numbered (part_with word) 0) (take_all k ps h) ∙ sym (listed word 0 ps)
 
 pub all_text : (within : Bool) (v : Vec pred.Pred) → pred_text within (view_pred (pred.All v)) ≡ opening within ++ (joined (codes " and ") 0 (parts_of (map view_pred v.items)) ++ closing within)
-all_text within v = ap (λ (t : PredicateTree Many). opening within ++ (joined (codes " and ") 0 t ++ closing within)) (parts_seen v)
+all_text within v = ap (λ (t : PredicateTree PredicateParts). opening within ++ (joined (codes " and ") 0 t ++ closing within)) (parts_seen v)
 
 pub any_text : (within : Bool) (v : Vec pred.Pred) → pred_text within (view_pred (pred.Any v)) ≡ opening within ++ (joined (codes " or ") 0 (parts_of (map view_pred v.items)) ++ closing within)
-any_text within v = ap (λ (t : PredicateTree Many). opening within ++ (joined (codes " or ") 0 t ++ closing within)) (parts_seen v)
+any_text within v = ap (λ (t : PredicateTree PredicateParts). opening within ++ (joined (codes " or ") 0 t ++ closing within)) (parts_seen v)

@@ -28,12 +28,16 @@ abbrev pub box_label : Plan → (silent : Bool) → Result ClockMap ClockFault �
 box_label plan silent clocks k node red = words plan k node.op ++ red_words silent red clocks k node
 
 -- the box of source k
-abbrev pub node_box : Plan → (silent : Bool) → Result ClockMap ClockFault → (k : ℕ) → Node → (infallible red : Bool) → List ℕ
-node_box plan silent clocks k node infallible red = box_front k ++ (box_label plan silent clocks k node red ++ box_end infallible red)
+abbrev pub node_box : Plan → (silent : Bool) → Result ClockMap ClockFault → (k : ℕ) → Node → (infallible red : Bool)
+    → List ℕ
+node_box plan silent clocks k node infallible red = box_front k
+    ++ (box_label plan silent clocks k node red ++ box_end infallible red)
 
 -- the boxes of the sources, each once
-abbrev pub node_boxes : Plan → List Node → (mark : ℕ → Bool) → (silent : Bool) → (reds : List Bool) → Result ClockMap ClockFault → List ℕ
-node_boxes plan nodes mark silent reds clocks = numbered (λ k node. node_box plan silent clocks k node (mark k) (node_red silent reds clocks k node.op)) 0 nodes
+abbrev pub node_boxes : Plan → List Node → (mark : ℕ → Bool) → (silent : Bool) → (reds : List Bool)
+    → Result ClockMap ClockFault → List ℕ
+node_boxes plan nodes mark silent reds clocks = numbered
+    (λ k node. node_box plan silent clocks k node (mark k) (node_red silent reds clocks k node.op)) 0 nodes
 
 -- an output that may offer nothing has a dashed border too
 abbrev pub sheet : (infallible : Bool) → List ℕ
@@ -56,7 +60,8 @@ output_front k infallible red = (codes "s" ++ decimal k) ++ (sheet infallible ++
 
 -- the sheet of output k
 abbrev pub output_box : (k : ℕ) → (name : List ℕ) → (fallible infallible red : Bool) → List ℕ
-output_box k name fallible infallible red = output_front k infallible red ++ (codes ", label=\"" ++ (output_label name fallible red ++ codes "\"];\n"))
+output_box k name fallible infallible red = output_front k infallible red
+    ++ (codes ", label=\"" ++ (output_label name fallible red ++ codes "\"];\n"))
 
 -- whether a sink is the one that was refused
 abbrev pub is_refused : Option ℕ → (k : ℕ) → Bool

@@ -25,7 +25,8 @@ abbrev pub place_label : (many : Bool) → (place : ℕ) → List ℕ
 place_label true place = codes "label=\" " ++ decimal (place + 1) ++ codes " \""
 place_label false place = []
 
--- an edge into a switch has its predicate, and any other its place where there are several; the order of a sum says nothing
+-- an edge into a switch has its predicate, and any other its place where there are several; the order of a sum says
+-- nothing
 abbrev pub edge_label : Op → (count place : ℕ) → List ℕ
 edge_label (Switch sensitive preds) count place = codes "label=\" " ++ (pred_at preds place ++ codes " \"")
 edge_label (Add normalize) count place = []
@@ -40,30 +41,38 @@ edge_ends from to = (codes "n" ++ decimal from) ++ (codes " -> n" ++ decimal to)
 
 -- the edge from the child at this place of source k
 abbrev pub child_edge : Op → (count k child place : ℕ) → (red : Bool) → List ℕ
-child_edge op count k child place red = edge_ends child k ++ (codes " [" ++ (edge_label op count place ++ (edge_style red ++ codes "];\n")))
+child_edge op count k child place red = edge_ends child k
+    ++ (codes " [" ++ (edge_label op count place ++ (edge_style red ++ codes "];\n")))
 
-abbrev pub child_edges : (silent : Bool) → (reds : List Bool) → Result ClockMap ClockFault → (k : ℕ) → Op → (children : List ℕ) → List ℕ
-child_edges silent reds clocks k op children = numbered (λ place child. child_edge op (length children) k child place (edge_red silent reds clocks k child)) 0 children
+abbrev pub child_edges : (silent : Bool) → (reds : List Bool) → Result ClockMap ClockFault → (k : ℕ) → Op
+    → (children : List ℕ) → List ℕ
+child_edges silent reds clocks k op children = numbered
+    (λ place child. child_edge op (length children) k child place (edge_red silent reds clocks k child)) 0 children
 
 -- the edges between sources, each once
 abbrev pub node_edges : List Node → (silent : Bool) → (reds : List Bool) → Result ClockMap ClockFault → List ℕ
-node_edges nodes silent reds clocks = numbered (λ k node. child_edges silent reds clocks k node.op node.children) 0 nodes
+node_edges nodes silent reds clocks = numbered (λ k node. child_edges silent reds clocks k node.op node.children) 0
+    nodes
 
 abbrev pub output_edge : (k node : ℕ) → (red : Bool) → List ℕ
-output_edge k node red = (codes "n" ++ decimal node) ++ ((codes " -> s" ++ decimal k) ++ (codes " [" ++ (edge_style red ++ codes "];\n")))
+output_edge k node red = (codes "n" ++ decimal node)
+    ++ ((codes " -> s" ++ decimal k) ++ (codes " [" ++ (edge_style red ++ codes "];\n")))
 
 abbrev pub reads : Op → (buffer : ℕ) → Bool
 reads op buffer = option_map_or (λ read. nat_eq read buffer) (buffer_read op) false
 
 abbrev pub capacity : Plan → BufferPlan → List ℕ
-capacity plan size = (codes "  at most " ++ decimal size.capacity) ++ (codes " chunks, " ++ (seconds (size.capacity * plan.frame) plan.rate ++ codes "  "))
+capacity plan size = (codes "  at most " ++ decimal size.capacity)
+    ++ (codes " chunks, " ++ (seconds (size.capacity * plan.frame) plan.rate ++ codes "  "))
 
 abbrev pub buffer_label : Plan → (buffer : ℕ) → List ℕ
 buffer_label plan buffer = option_map_or (capacity plan) (slice_get plan.buffers buffer) []
 
 -- a thick edge through a buffer to its reader k
 abbrev pub through : (is_reader : Bool) → Plan → (buffer node k : ℕ) → List ℕ
-through true plan buffer node k = edge_ends node k ++ (codes " [style=bold, color=\"#7a4a00\", fontcolor=\"#7a4a00\", penwidth=2.5, label=\"" ++ (buffer_label plan buffer ++ codes "\"];\n"))
+through true plan buffer node k = edge_ends node k
+    ++ (codes " [style=bold, color=\"#7a4a00\", fontcolor=\"#7a4a00\", penwidth=2.5, label=\""
+    ++ (buffer_label plan buffer ++ codes "\"];\n"))
 through false plan buffer node k = []
 
 abbrev pub feed_edges : Plan → List Node → (buffer node : ℕ) → List ℕ
@@ -71,7 +80,8 @@ feed_edges plan nodes buffer node = numbered (λ k reader. through (reads reader
 
 -- an output with the edge to it; of a feed the edge through its buffer
 abbrev pub sink_text : Plan → (mark : ℕ → Bool) → (refused : Option ℕ) → (k : ℕ) → SinkPlan → List ℕ
-sink_text plan mark refused k (Output name node fallible wide) = output_box k name fallible (mark node) (is_refused refused k) ++ output_edge k node (is_refused refused k)
+sink_text plan mark refused k (Output name node fallible wide) = output_box k name fallible (mark node)
+    (is_refused refused k) ++ output_edge k node (is_refused refused k)
 sink_text plan mark refused k (Feed buffer node) = feed_edges plan plan.nodes buffer node
 
 abbrev pub sink_texts : Plan → List SinkPlan → (mark : ℕ → Bool) → (refused : Option ℕ) → List ℕ

@@ -18,17 +18,21 @@ abbrev pub reds : Plan → (mark : ℕ → Bool) → Option ℕ → List Bool
 reds plan mark None = []
 reds plan mark (Some sink) = reds_from mark (refused_node plan.sinks sink) 0 plan.nodes
 
-abbrev pub picture_with : Plan → (mark : ℕ → Bool) → Option ℕ → Result ClockMap ClockFault → (group : ℕ → ℕ) → (silent : Bool) → (red : List Bool) → List ℕ
-picture_with plan mark refused clocks group silent red = beginning ++ (node_boxes plan plan.nodes mark silent red clocks ++ (node_edges plan.nodes silent red clocks
+abbrev pub picture_with : Plan → (mark : ℕ → Bool) → Option ℕ → Result ClockMap ClockFault → (group : ℕ → ℕ)
+    → (silent : Bool) → (red : List Bool) → List ℕ
+picture_with plan mark refused clocks group silent red = beginning
+    ++ (node_boxes plan plan.nodes mark silent red clocks ++ (node_edges plan.nodes silent red clocks
     ++ (sink_texts plan plan.sinks mark refused ++ (regions_of plan silent clocks group ++ codes "}\n"))))
 
--- the text of a plan, of which these sources are infallible, this output was refused, these are the clocks, and these the groups of
--- sources that share one
+-- the text of a plan, of which these sources are infallible, this output was refused, these are the clocks, and these
+-- the groups of sources that share one
 abbrev pub picture : Plan → (mark : ℕ → Bool) → Option ℕ → Result ClockMap ClockFault → (group : ℕ → ℕ) → List ℕ
-picture plan mark refused clocks group = picture_with plan mark refused clocks group (is_some refused) (reds plan mark refused)
+picture plan mark refused clocks group = picture_with plan mark refused clocks group (is_some refused)
+    (reds plan mark refused)
 
 -- a text is that of a plan with its groups, of which there is one grouping alone
-pub record IsPicture (plan : Plan) (mark : ℕ → Bool) (refused : Option ℕ) (clocks : Result ClockMap ClockFault) (text : List ℕ) : Type 0 where
+pub record IsPicture (plan : Plan) (mark : ℕ
+    → Bool) (refused : Option ℕ) (clocks : Result ClockMap ClockFault) (text : List ℕ) : Type 0 where
   pub group : ℕ → ℕ
   pub grouping : IsGrouping plan.nodes group
   pub is : text ≡ picture plan mark refused clocks group

@@ -1,7 +1,7 @@
 -- Predicates as a script writes them.
 use Rattle.std.specs.Prelude.{ℕ, zero, suc, Bool, true, false, Option, Some, None, List, [], ◌++◌, codes, decimal}
 use Rattle.fixed_text.specs.declared.time_mark.TimeMark.{TimeMark}
-use Rattle.time_pred.specs.Predicates.{PredicateTree, One, Many, Always, Never, At, Between, Not, All, Any, none, more}
+use Rattle.time_pred.specs.Predicates.{PredicateTree, OnePredicate, PredicateParts, Always, Never, At, Between, Negated, All, Any, no_parts, first_part}
 
 abbrev pub part_text : Option ℕ → (unit : List ℕ) → List ℕ
 part_text (Some n) unit = decimal n ++ unit
@@ -9,7 +9,8 @@ part_text None unit = []
 
 -- a time mark: its parts with their units
 abbrev pub mark_text : TimeMark → List ℕ
-mark_text mark = (part_text mark.day (codes "w") ++ part_text mark.hour (codes "h")) ++ (part_text mark.minute (codes "m") ++ part_text mark.second (codes "s"))
+mark_text mark = (part_text mark.day (codes "w") ++ part_text mark.hour (codes "h"))
+    ++ (part_text mark.minute (codes "m") ++ part_text mark.second (codes "s"))
 
 abbrev pub interval_text : TimeMark → TimeMark → List ℕ
 interval_text from to = mark_text from ++ (codes "-" ++ mark_text to)
@@ -29,16 +30,16 @@ before_part word (suc n) = word
 
 -- a predicate, in brackets where it has parts and stands within another
 abbrev mutual
-  pub pred_text : (within : Bool) → PredicateTree One → List ℕ
+  pub pred_text : (within : Bool) → PredicateTree OnePredicate → List ℕ
   pred_text within Always = codes "true"
   pred_text within Never = codes "false"
   pred_text within (At mark) = mark_text mark
   pred_text within (Between from to) = interval_text from to
-  pred_text within (Not p) = codes "not " ++ pred_text true p
+  pred_text within (Negated p) = codes "not " ++ pred_text true p
   pred_text within (All ps) = opening within ++ (joined (codes " and ") 0 ps ++ closing within)
   pred_text within (Any ps) = opening within ++ (joined (codes " or ") 0 ps ++ closing within)
 
   -- parts, of which the first has this number
-  pub joined : (word : List ℕ) → ℕ → PredicateTree Many → List ℕ
-  joined word n none = []
-  joined word n (more p ps) = (before_part word n ++ pred_text true p) ++ joined word (suc n) ps
+  pub joined : (word : List ℕ) → ℕ → PredicateTree PredicateParts → List ℕ
+  joined word n no_parts = []
+  joined word n (first_part p ps) = (before_part word n ++ pred_text true p) ++ joined word (suc n) ps

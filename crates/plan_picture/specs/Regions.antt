@@ -15,12 +15,13 @@ use Rattle.plan_blames.specs.Faults.{fault_text}
 abbrev pub clock_of : List NodeClock → (node : ℕ) → NodeClock
 clock_of of node = slice_index_or of node (Main 0)
 
--- the beginning of what stands in the region of a clock: the regions of the clocks above it are opened first, at most so many. A region
--- that is opened again is the same one
+-- the beginning of what stands in the region of a clock: the regions of the clocks above it are opened first, at most
+-- so many. A region that is opened again is the same one
 abbrev pub opening : List NodeClock → (levels : ℕ) → NodeClock → List ℕ
 opening of levels (Main m) = codes "subgraph cluster_main" ++ decimal m ++ codes " { "
 opening of zero (Sub k) = []
-opening of (suc levels) (Sub k) = opening of levels (clock_of of k) ++ (codes "subgraph cluster_sub" ++ decimal k ++ codes " { ")
+opening of (suc levels) (Sub k) = opening of levels (clock_of of k)
+    ++ (codes "subgraph cluster_sub" ++ decimal k ++ codes " { ")
 
 abbrev pub closing : List NodeClock → (levels : ℕ) → NodeClock → List ℕ
 closing of levels (Main m) = codes " }"
@@ -33,7 +34,8 @@ within of clock statement = opening of (length of) clock ++ (statement ++ (closi
 
 -- each main clock has a tint, in turn
 abbrev pub tint_of : ℕ → List ℕ
-tint_of n = if nat_eq n 0 then codes "#e3eef9" else if nat_eq n 1 then codes "#fdf0d8" else if nat_eq n 2 then codes "#e4f3ea"
+tint_of n = if nat_eq n 0 then codes "#e3eef9" else if nat_eq n 1 then codes "#fdf0d8" else if nat_eq n 2
+    then codes "#e4f3ea"
     else if nat_eq n 3 then codes "#f6e6f1" else codes "#ececec"
 
 abbrev pub tint : (clock : ℕ) → List ℕ
@@ -44,7 +46,8 @@ idle_words true = []
 idle_words false = codes " (no output: never runs)"
 
 abbrev pub main_style : (clock : ℕ) → List ℕ
-main_style clock = codes "\"; style=\"filled,rounded\"; color=\"#8a949e\"; fontsize=11; fillcolor=\"" ++ (tint clock ++ codes "\"; }\n")
+main_style clock = codes "\"; style=\"filled,rounded\"; color=\"#8a949e\"; fontsize=11; fillcolor=\""
+    ++ (tint clock ++ codes "\"; }\n")
 
 abbrev pub main_rest : (running clock : ℕ) → (name : List ℕ) → List ℕ
 main_rest running clock name = escaped name ++ (idle_words (nat_lt clock running) ++ main_style clock)
@@ -61,7 +64,8 @@ abbrev pub named_regions : (running : ℕ) → (names : List (List ℕ)) → Lis
 named_regions running names = numbered (main_region running) 0 names
 
 unfoldable pub sub_label : (k : ℕ) → List ℕ
-sub_label k = codes "label=\"own clock of crossfade " ++ decimal k ++ codes "\"; style=\"filled,rounded\"; color=\"#8a949e\"; fontsize=11; fillcolor=\"#ffffff80\";"
+sub_label k = codes "label=\"own clock of crossfade " ++ decimal k
+    ++ codes "\"; style=\"filled,rounded\"; color=\"#8a949e\"; fontsize=11; fillcolor=\"#ffffff80\";"
 
 -- the region of a crossfade's own clock
 abbrev pub sub_region : List NodeClock → (is_crossfade : Bool) → (k : ℕ) → List ℕ
@@ -84,7 +88,8 @@ abbrev pub output_members : List NodeClock → List SinkPlan → List ℕ
 output_members of sinks = numbered (output_member of) 0 sinks
 
 abbrev pub regions_by : Plan → ClockMap → List ℕ
-regions_by plan clocks = named_regions clocks.running clocks.names ++ (sub_regions clocks.of plan.nodes ++ (members clocks.of ++ output_members clocks.of plan.sinks))
+regions_by plan clocks = named_regions clocks.running clocks.names
+    ++ (sub_regions clocks.of plan.nodes ++ (members clocks.of ++ output_members clocks.of plan.sinks))
 
 -- the regions of a plan; where there are none, why
 abbrev pub regions_of : Plan → (silent : Bool) → Result ClockMap ClockFault → (group : ℕ → ℕ) → List ℕ

@@ -24,7 +24,8 @@ pub fn push_nodes(
     clocks: &Result<ClockMap, ClockFault>,
 ) -> Result<(), Memory>
     requires { 0 < plan.now.rate }
-    ensures { OnOk result (into.new.items ≡ into.old.items ++ node_boxes plan.now nodes.now (mark_at marks.now) silent reds.now clocks.now) }
+    ensures { OnOk result (into.new.items ≡ into.old.items
+        ++ node_boxes plan.now nodes.now (mark_at marks.now) silent reds.now clocks.now) }
 {
     for (k, node) in nodes.iter().enumerate() {
         let red = is_red(alloc, silent, reds, clocks, k, &node.op)?;
@@ -55,7 +56,8 @@ fn push_node(
     red: bool,
 ) -> Result<(), Memory>
     requires { 0 < plan.now.rate }
-    ensures { OnOk result (into.new.items ≡ into.old.items ++ node_box plan.now silent clocks.now k node.now infallible red) }
+    ensures { OnOk result (into.new.items ≡ into.old.items
+        ++ node_box plan.now silent clocks.now k node.now infallible red) }
 {
     push_front(into, k)?;
     push_label(alloc, into, plan, silent, clocks, k, node, red)?;
@@ -169,7 +171,8 @@ fn push_output_label(
     fallible: bool,
     red: bool,
 ) -> Result<(), Memory>
-    ensures { OnOk result (into.new.items ≡ into.old.items ++ (codes ", label=\"" ++ (output_label name.now fallible red ++ codes "\"];\n"))) }
+    ensures { OnOk result (into.new.items ≡ into.old.items
+        ++ (codes ", label=\"" ++ (output_label name.now fallible red ++ codes "\"];\n"))) }
 {
     push_plain(into, b", label=\"")?;
     push_output_words(into, name, fallible, red)?;

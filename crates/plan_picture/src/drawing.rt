@@ -16,9 +16,10 @@ use plan_blames::{push_plain, reds, refused_node};
 use plan_core::Plan;
 use std::alloc::Global;
 
-/// The text from which graphviz draws a plan: a box for each source and output, an edge wherever one plays another, and a
-/// region for each clock. A source that may offer nothing has a dashed box. In red stands why the plan is refused: the sink
-/// of the number `refused` may fall silent, or there are no clocks; then a region lies round the sources that would share one.
+/// The text from which graphviz draws a plan: a box for each source and output, an edge wherever one plays another, and
+/// a region for each clock. A source that may offer nothing has a dashed box. In red stands why the plan is refused:
+/// the sink of the number `refused` may fall silent, or there are no clocks; then a region lies round the sources that
+/// would share one.
 pub fn picture(
     alloc: Global,
     plan: &Plan,
@@ -67,7 +68,9 @@ fn push_picture(
     red: &[bool],
 ) -> Result<(), Memory>
     requires { IsWellFormed plan.now }
-    ensures { OnOk result (into.new.items ≡ into.old.items ++ picture_with plan.now (mark_at marks.now) refused clocks.now (λ k. slice_index groups.now k) (is_some refused) red.now) }
+    ensures { OnOk result (into.new.items ≡ into.old.items
+        ++ picture_with plan.now (mark_at marks.now) refused clocks.now (λ k. slice_index groups.now k)
+        (is_some refused) red.now) }
 {
     let silent = refused.is_some();
     push_beginning(into)?;
@@ -95,7 +98,9 @@ fn push_rest(
     groups: &[u32],
 ) -> Result<(), Memory>
     requires { IsWellFormed plan.now }
-    ensures { OnOk result (into.new.items ≡ into.old.items ++ (sink_texts plan.now plan.now.sinks (mark_at marks.now) refused ++ (regions_of plan.now silent clocks.now (λ k. slice_index groups.now k) ++ codes "}\n"))) }
+    ensures { OnOk result (into.new.items ≡ into.old.items
+        ++ (sink_texts plan.now plan.now.sinks (mark_at marks.now) refused
+        ++ (regions_of plan.now silent clocks.now (λ k. slice_index groups.now k) ++ codes "}\n"))) }
 {
     push_sinks(into, plan, plan.sinks.as_slice(), marks, refused)?;
     push_regions(into, plan, silent, clocks, groups)?;

@@ -30,7 +30,8 @@ pub fn push_pred(into: &mut Vec<u8>, pred: &Pred, within: bool) -> Result<(), Me
 
 #[cycle(pred)]
 fn push_group(into: &mut Vec<u8>, word: &[u8], parts: &[Pred], within: bool) -> Result<(), Memory>
-    ensures { OnOk result (into.new.items ≡ into.old.items ++ (opening within ++ (joined word.now 0 (parts_of (map view_pred parts.now)) ++ closing within))) }
+    ensures { OnOk result (into.new.items ≡ into.old.items
+        ++ (opening within ++ (joined word.now 0 (parts_of (map view_pred parts.now)) ++ closing within))) }
 {
     push_opening(into, within)?;
     push_parts(into, word, parts)?;
@@ -100,7 +101,8 @@ fn push_two(
     other: Option<u8>,
     other_unit: &[u8],
 ) -> Result<(), Memory>
-    ensures { OnOk result (into.new.items ≡ into.old.items ++ (part_text one unit.now ++ part_text other other_unit.now)) }
+    ensures { OnOk result (into.new.items ≡ into.old.items
+        ++ (part_text one unit.now ++ part_text other other_unit.now)) }
 {
     push_part(into, one, unit)?;
     push_part(into, other, other_unit)

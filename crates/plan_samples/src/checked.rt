@@ -12,8 +12,8 @@ use plan_core::{BufferPlan, Draft, Items, Node, Op, Plan};
 use std::alloc::Global;
 use std::marker::Model;
 
-/// A plan of stereo nodes that is being made. Each node is looked at before it is added, so that callers owe nothing for
-/// it. Contracts see the plan. It has no output before its end.
+/// A plan of stereo nodes that is being made. Each node is looked at before it is added, so that callers owe nothing
+/// for it. Contracts see the plan. It has no output before its end.
 #[derive(Debug, Drop)]
 pub struct CheckedDraft {
     draft: Draft,
@@ -69,9 +69,9 @@ impl CheckedDraft {
         push_fitting(&mut self.draft, node)
     }
 
-    /// Adds a buffer, its feed from the node `source`, and its reader, and answers the reader's number. `None` comes where
-    /// the node is not there, where a plan has no such buffer, where 4096 nodes are there, or where memory is refused; then
-    /// the plan is as it was.
+    /// Adds a buffer, its feed from the node `source`, and its reader, and answers the reader's number. `None` comes
+    /// where the node is not there, where a plan has no such buffer, where 4096 nodes are there, or where memory is
+    /// refused; then the plan is as it was.
     pub fn push_buffer(&mut self, alloc: Global, source: u32, buffer: BufferPlan) -> Option<u32>
         ensures number { IfSome result (λ number. number ≡ length self.old.nodes) }
         ensures added { OnSome result (self.new ≡ with_buffer self.old source Kind.Stereo buffer) }

@@ -113,7 +113,8 @@ fn write_back(alloc: Global, draft: &mut Draft, count: u32) -> Result<(), Memory
     Ok(())
 }
 
-// Adds a blank, a crossfade of it, and the sum of that crossfade and of this node, which nobody uses. Answers the blank.
+// Adds a blank, a crossfade of it, and the sum of that crossfade and of this node, which nobody uses. Answers the
+// blank.
 fn push_nested(alloc: Global, draft: &mut Draft, outer: u32) -> Result<u32, PlanFault>
     requires stereo { IsStereo draft.old }
     requires outer { outer < length draft.old.nodes }

@@ -1,4 +1,5 @@
-// What no clause says: that the definitions mean what the language's types mean, that calls succeed, and that no depth is too deep.
+// What no clause says: that the definitions mean what the language's types mean, that calls succeed, and that no depth
+// is too deep.
 use liq_base::{Kind, Memory};
 use std::alloc::Global;
 use std::fmt::Write;

@@ -1,5 +1,5 @@
-// Cue files: when they are created, and what is left where one fails. Expected lines are worked out by hand from the rules in
-// `docs/`.
+// Cue files: when they are created, and what is left where one fails. Expected lines are worked out by hand from the
+// rules in `docs/`.
 use crate::threads_tests::{call, sink};
 use liq_base::{FreeGate, MemShelf};
 use std::alloc::{AllocError, Global};

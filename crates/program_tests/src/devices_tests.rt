@@ -1,5 +1,5 @@
-// Devices that fail: each call of a rendering of two ticks in turn, and each piece after every number of its bytes. What is
-// left is worked out by hand from the rules in `docs/outside.md` and `docs/formats.md`.
+// Devices that fail: each call of a rendering of two ticks in turn, and each piece after every number of its bytes.
+// What is left is worked out by hand from the rules in `docs/outside.md` and `docs/formats.md`.
 use crate::threads_tests::{sink, words_of};
 use liq_base::{FreeGate, MemShelf, MemSink};
 use liq_cli::liq;
@@ -59,8 +59,8 @@ enum Failing {
     Report(u64),
 }
 
-/// What is left under the name of an output: what stood there before; or the front of the output, with a number of bytes
-/// that may lie between these two.
+/// What is left under the name of an output: what stood there before; or the front of the output, with a number of
+/// bytes that may lie between these two.
 #[derive(Clone, Copy)]
 enum Left {
     Before,
@@ -285,7 +285,8 @@ fn each_call_of_one_output_fails(rt: HostRuntime) -> Result<(), Fail> {
     Ok(())
 }
 
-// A piece of one of two outputs breaks off at each byte: so many bytes of it stand before. What is left of the other one.
+// A piece of one of two outputs breaks off at each byte: so many bytes of it stand before. What is left of the other
+// one.
 fn check_piece_of_two<R: Abort + Threads + Wait + Sync>(
     rt: &R,
     alloc: Global,
@@ -309,8 +310,8 @@ fn check_piece_of_two<R: Abort + Threads + Wait + Sync>(
     Ok(())
 }
 
-// Two outputs: each call but those for ticks. An output whose turn has not come is not created; each that was created is
-// closed.
+// Two outputs: each call but those for ticks. An output whose turn has not come is not created; each that was created
+// is closed.
 fn check_two<R: Abort + Threads + Wait + Sync>(
     rt: &R,
     alloc: Global,
@@ -359,8 +360,8 @@ fn each_call_of_two_outputs_fails(rt: HostRuntime) -> Result<(), Fail> {
     Ok(())
 }
 
-// Each tick of two outputs in two clocks: what is left of the other output where a piece of the first one breaks off in its
-// tick 0 and in its tick 1, and where one of the second does.
+// Each tick of two outputs in two clocks: what is left of the other output where a piece of the first one breaks off in
+// its tick 0 and in its tick 1, and where one of the second does.
 fn check_apart_ticks<R: Abort + Threads + Wait + Sync>(
     rt: &R,
     alloc: Global,

@@ -1,4 +1,5 @@
-// Calls by threads, and those that take none. Expected bytes and lines are worked out by hand from the rules in `docs/`.
+// Calls by threads, and those that take none. Expected bytes and lines are worked out by hand from the rules in
+// `docs/`.
 use liq_base::{FreeGate, Gate, MemShelf, MemSink};
 use liq_cli::{liq, liq_alone};
 use std::alloc::{AllocError, Global};
@@ -51,8 +52,8 @@ pub fn sink(alloc: Global) -> Result<MemSink, Fail> {
 /// So many turns a clock waits at most.
 const TURNS: u64 = 200_000_000;
 
-/// Lets two clocks go on in turn: clock 0 begins a tick once clock 1 has come to the same one; and clock 1 begins a tick
-/// below 3 once clock 0 has come to the next one.
+/// Lets two clocks go on in turn: clock 0 begins a tick once clock 1 has come to the same one; and clock 1 begins a
+/// tick below 3 once clock 0 has come to the next one.
 #[derive(Drop)]
 struct Turns {
     /// How many ticks each clock has come to.

@@ -8,7 +8,8 @@ use std::sync::Wait;
 use std::test::Fail;
 use std::thread::Threads;
 
-/// A source in the clock `main`, and a buffer that carries it to the clock `b` and waits for two chunks. A tick has 8 samples.
+/// A source in the clock `main`, and a buffer that carries it to the clock `b` and waits for two chunks. A tick has 8
+/// samples.
 const CARRIED: &str =
     "set(\"frame.audio.samplerate\", 8000)\nset(\"frame.duration\", 0.001)\ns = single(\"B\")\noutput.file(%wav, \"A\", s)\noutput.file(%wav, \"C\", clock(id=\"b\", mksafe(buffer(buffer=0.002, max=0.01, s))))\n";
 

@@ -1,4 +1,5 @@
-// Audio of 24 bits, written to devices that fail. Expected bytes are worked out by hand from the rules in `docs/formats.md`.
+// Audio of 24 bits, written to devices that fail. Expected bytes are worked out by hand from the rules in
+// `docs/formats.md`.
 use crate::threads_tests::{call, sink};
 use liq_base::{FreeGate, MemShelf};
 use std::alloc::{AllocError, Global};

@@ -4,7 +4,8 @@ use std::process::Abort;
 use std::test::Fail;
 use workload_gen::make;
 
-/// Of the first three audio files of seed 1, and of seed 7, how many bytes there are and the sum of those behind the header.
+/// Of the first three audio files of seed 1, and of seed 7, how many bytes there are and the sum of those behind the
+/// header.
 const DRAWN_BY_1: &[(usize, u64)] = &[(3194, 398707), (4054, 506560), (3488, 434615)];
 
 const DRAWN_BY_7: &[(usize, u64)] = &[(6720, 854165), (7702, 981546), (2138, 260423)];

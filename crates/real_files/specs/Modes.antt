@@ -1,4 +1,5 @@
--- Who may do what with a file that takes the place of an old one: the three bits of its group and of all others, by the old file's mode.
+-- Who may do what with a file that takes the place of an old one: the three bits of its group and of all others, by the
+-- old file's mode.
 use Rattle.std.specs.Prelude.{ℕ, ◌/◌, ◌%◌, Bool, true, false}
 use Rattle.std.specs.Int.Bits.{bit_and}
 

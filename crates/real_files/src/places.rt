@@ -90,8 +90,8 @@ impl Places {
         }
     }
 
-    /// Opens the file of an output of this name, which is to get so many bytes. It fails where an output of this run has
-    /// this real file already, under whatever name, and where the report goes into it.
+    /// Opens the file of an output of this name, which is to get so many bytes. It fails where an output of this run
+    /// has this real file already, under whatever name, and where the report goes into it.
     pub fn create<R: Files<File = File> + Alloc<A = Global>>(
         &mut self,
         rt: &R,
@@ -109,8 +109,9 @@ impl Places {
         }
     }
 
-    /// Closes an output: a file beside its name takes its place if it is whole and the system has made its bytes certain,
-    /// and is removed else. `Ok` says that no piece failed, and that it got exactly the bytes that its creation was told.
+    /// Closes an output: a file beside its name takes its place if it is whole and the system has made its bytes
+    /// certain, and is removed else. `Ok` says that no piece failed, and that it got exactly the bytes that its
+    /// creation was told.
     pub fn close<R: Files<File = File>>(&self, rt: &R, out: FileSink<File>) -> Result<(), Failed>
         ensures faults { OnOk result (faults_of out ≡ 0) }
         ensures length { OnOk result (taken_of out ≡ room_of out) }
@@ -124,8 +125,8 @@ impl Places {
         }
     }
 
-    // Puts the temporary file of an output in its place, and has the system make certain that it stays there. One that is
-    // no longer there, or is not the file that was made, is left alone.
+    // Puts the temporary file of an output in its place, and has the system make certain that it stays there. One that
+    // is no longer there, or is not the file that was made, is left alone.
     fn put<R: Files<File = File>>(&self, rt: &R, certain: Certain<File>) -> Result<(), Failed> {
         let Place::Beside(at) = certain.place() else {
             return Ok(());
@@ -145,8 +146,8 @@ impl Places {
         }
     }
 
-    // Renames the temporary file of an output, all of whose bytes are certain. No file takes the place of another output
-    // of this run. The handle is given back before the folder is opened, so that a closing needs no handle more.
+    // Renames the temporary file of an output, all of whose bytes are certain. No file takes the place of another
+    // output of this run. The handle is given back before the folder is opened, so that a closing needs no handle more.
     fn replace<R: Files<File = File>>(
         &self,
         rt: &R,
@@ -189,8 +190,8 @@ impl Places {
             && split_path(output.path.as_str()).1 == last)
     }
 
-    // Moves a temporary file of this run away, where it has the name of an output. An output that was closed has none, and
-    // stands in its place.
+    // Moves a temporary file of this run away, where it has the name of an output. An output that was closed has none,
+    // and stands in its place.
     fn give_way<R: Files<File = File> + Alloc<A = Global>>(
         &mut self,
         rt: &R,
@@ -302,8 +303,8 @@ impl Places {
         }
     }
 
-    // What becomes of the old file at this path, beside which a file was made. Where the system does not tell, neither is
-    // known, and the creation fails.
+    // What becomes of the old file at this path, beside which a file was made. Where the system does not tell, neither
+    // is known, and the creation fails.
     fn standing<R: Files<File = File> + Alloc<A = Global>>(
         &self,
         rt: &R,
@@ -321,9 +322,9 @@ impl Places {
         Ok(Standing::Replaced)
     }
 
-    // Whether a file is mounted at this path, so that no other can take its place: the system makes no link to it beside
-    // it, since they are on two devices. A link that is refused for another cause tells of no mount. If there is one after
-    // all, the closing fails, and the old file is whole.
+    // Whether a file is mounted at this path, so that no other can take its place: the system makes no link to it
+    // beside it, since they are on two devices. A link that is refused for another cause tells of no mount. If there is
+    // one after all, the closing fails, and the old file is whole.
     fn is_mounted<R: Files<File = File> + Alloc<A = Global>>(
         &self,
         rt: &R,
@@ -514,8 +515,8 @@ fn identify<R: Files<File = File> + Alloc<A = Global>>(
     }
 }
 
-// Finds out how a file is written to which a link leads: beside it, and in place where no path of ours names it, as one that
-// is too long or no UTF-8.
+// Finds out how a file is written to which a link leads: beside it, and in place where no path of ours names it, as one
+// that is too long or no UTF-8.
 fn follow<R: Files<File = File> + Alloc<A = Global>>(
     rt: &R,
     name: &str,

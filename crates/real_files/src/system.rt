@@ -89,9 +89,9 @@ pub(crate) fn may_replace(folder: &Metadata, old: &Metadata, ours: &Metadata) ->
     folder.mode() & STICKY == 0 || us == 0 || us == old.uid() || us == folder.uid()
 }
 
-/// The mode of a new file in place of one of this mode: what it says of who may do what, without the bits of other owners'
-/// programs and of sticky folders. Where the new file has another group than the old one, its group and all others may do
-/// what both the old group and all others might before, so that nobody gains.
+/// The mode of a new file in place of one of this mode: what it says of who may do what, without the bits of other
+/// owners' programs and of sticky folders. Where the new file has another group than the old one, its group and all
+/// others may do what both the old group and all others might before, so that nobody gains.
 pub(crate) fn new_mode(old: u32, has_group: bool) -> u32
     ensures owner { result / 64 ≡ old / 64 % 8 }
     ensures group { result / 8 % 8 ≡ group_access has_group old }

@@ -11,12 +11,14 @@ of_name text name = text ++ codes " " ++ name ++ codes "\n"
 
 -- what is wrong with a statement, counted from 1
 abbrev pub at_statement : List ℕ → ℕ → List ℕ → List ℕ
-at_statement number statement text = number ++ codes " statement " ++ decimal statement ++ codes ": " ++ text ++ codes "\n"
+at_statement number statement text = number ++ codes " statement " ++ decimal statement ++ codes ": " ++ text
+    ++ codes "\n"
 
 -- what is wrong at a token of a statement
 abbrev pub at_token : List ℕ → ℕ → List ℕ → ℕ → List ℕ
 at_token number statement text token =
-    number ++ codes " statement " ++ decimal statement ++ codes ": " ++ text ++ codes " at token " ++ decimal token ++ codes "\n"
+    number ++ codes " statement " ++ decimal statement ++ codes ": " ++ text ++ codes " at token " ++ decimal token
+    ++ codes "\n"
 
 -- a file and the number of what is wrong with it
 abbrev pub of_audio : List ℕ → List ℕ → ℕ → List ℕ

@@ -91,14 +91,15 @@ file_line (ReadFault name) = []
 file_line load_memory = []
 
 -- a clock in which a node must lie
-abbrev pub clock_name : ClockName → List ℕ
-clock_name (Named id) = id
-clock_name (Sub node) = codes "crossfade " ++ decimal node
-clock_name AnyMain = codes "an output"
+abbrev pub clock_in_words : ClockName → List ℕ
+clock_in_words (Named id) = id
+clock_in_words (Sub node) = codes "crossfade " ++ decimal node
+clock_in_words AnyMain = codes "an output"
 
 -- the clocks
 abbrev pub clock_line : ClockFault → List ℕ
-clock_line (TwoClocks node first second) = of_clocks (codes "E26 source") node (clock_name first) (clock_name second)
+clock_line (TwoClocks node first second) = of_clocks (codes "E26 source") node (clock_in_words first)
+    (clock_in_words second)
 clock_line (Nested node) = codes "E27 crossfade " ++ decimal node ++ codes " lies in its own clock\n"
 clock_line TooManyClocks = codes "E28 too many clocks\n"
 clock_line clock_memory = []

@@ -1,7 +1,7 @@
 // The lines of scripts whose sources have no clocks.
 ghost use Rattle.std.specs.Prelude.{◌≡◌, ◌++◌, IfOk, codes, decimal, string_bytes};
 ghost use Rattle.refusal_lines.specs.Forms.{of_clocks as form};
-ghost use Rattle.refusal_lines.specs.Lines.{clock_line, clock_name};
+ghost use Rattle.refusal_lines.specs.Lines.{clock_line, clock_in_words};
 
 use crate::forms::{of_clocks, plain};
 use clock_infer::{ClockFault, ClockName};
@@ -31,7 +31,8 @@ fn two_clocks(
     first: &ClockName,
     second: &ClockName,
 ) -> Result<String, Memory>
-    ensures { IfOk result (λ line. string_bytes line ≡ form (codes "E26 source") node (clock_name first.now) (clock_name second.now)) }
+    ensures { IfOk result (λ line. string_bytes line
+        ≡ form (codes "E26 source") node (clock_in_words first.now) (clock_in_words second.now)) }
 {
     let first = clock_name(alloc, first)?;
     let second = clock_name(alloc, second)?;
@@ -40,7 +41,7 @@ fn two_clocks(
 
 // The name of a clock in which a source must lie.
 fn clock_name(alloc: Global, clock: &ClockName) -> Result<String, Memory>
-    ensures { IfOk result (λ name. string_bytes name ≡ clock_name clock.now) }
+    ensures { IfOk result (λ name. string_bytes name ≡ clock_in_words clock.now) }
 {
     match clock {
         ClockName::Named(id) => Ok(String::from_str(alloc, id.as_str())?),
@@ -58,7 +59,8 @@ fn sub_clock(alloc: Global, node: u32) -> Result<String, Memory>
 
 // The line of a crossfade that lies in its own clock.
 fn nested(alloc: Global, node: u32) -> Result<String, Memory>
-    ensures { IfOk result (λ line. string_bytes line ≡ codes "E27 crossfade " ++ decimal node ++ codes " lies in its own clock\n") }
+    ensures { IfOk result (λ line. string_bytes line
+        ≡ codes "E27 crossfade " ++ decimal node ++ codes " lies in its own clock\n") }
 {
     Ok(format!(in alloc; "E27 crossfade {node} lies in its own clock\n")?)
 }

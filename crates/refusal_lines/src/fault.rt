@@ -34,8 +34,8 @@ pub enum Fault {
 }
 
 impl Fault {
-    /// The line that is written to `err`, with its line end. What is no refusal has none: want of memory, and a read that
-    /// failed.
+    /// The line that is written to `err`, with its line end. What is no refusal has none: want of memory, and a read
+    /// that failed.
     pub fn line(&self, alloc: Global) -> Result<String, Memory>
         ensures { IfOk result (λ line. string_bytes line ≡ line_of self.now) }
     {

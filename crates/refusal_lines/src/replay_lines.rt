@@ -6,8 +6,8 @@ use crate::forms::{at_line, of_name, plain};
 use liq_base::{Memory, Text};
 use std::alloc::Global;
 
-/// Why a trace is not rendered again, in the order in which the faults are looked for: each comes only where the script is accepted,
-/// and the trace has none of those before it. The line of each stands in `docs/faults.md`.
+/// Why a trace is not rendered again, in the order in which the faults are looked for: each comes only where the script
+/// is accepted, and the trace has none of those before it. The line of each stands in `docs/faults.md`.
 #[derive(Debug, Drop)]
 pub enum ReplayFault {
     /// The file of this name is not there.
@@ -19,8 +19,8 @@ pub enum ReplayFault {
     /// The line of this number, from 0, is the first that is outside the form of a trace.
     NotATrace(u64),
 
-    /// It has the form, and is not that of a lawful record of the script whose ticks can be ordered, over these ticks, this start and
-    /// these files.
+    /// It has the form, and is not that of a lawful record of the script whose ticks can be ordered, over these ticks,
+    /// this start and these files.
     DoesNotFit,
 }
 

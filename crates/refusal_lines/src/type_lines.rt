@@ -32,7 +32,8 @@ pub fn type_line(alloc: Global, fault: &TypeFault) -> Result<String, Memory>
 
 // The line of an argument that is not given.
 fn missing(alloc: Global, statement: u32, token: u32, label: &str) -> Result<String, Memory>
-    ensures { IfOk result (λ line. string_bytes line ≡ token_form (codes "E09") statement (codes "missing argument " ++ label.now) token) }
+    ensures { IfOk result (λ line. string_bytes line
+        ≡ token_form (codes "E09") statement (codes "missing argument " ++ label.now) token) }
 {
     let text = format!(in alloc; "missing argument {label}")?;
     at_token(alloc, "E09", statement, &text, token)

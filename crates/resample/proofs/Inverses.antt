@@ -5,7 +5,7 @@ use Rattle.std.proofs.lemmas.Int.{ints, to_z-of_z}
 use Rattle.std.proofs.lemmas.Nat.{div_below}
 use borrow.Author.Differences.{up, down}
 use Rattle.resample.specs.Reciprocals.{inverse_of, signed_as}
-use Rattle.resample.specs.Resampled.{between}
+use Rattle.resample.specs.Resampled.{interpolated}
 use Rattle.resample.proofs.Quotients.{between_fits, product_fits, sum_bounds, sum_fits}
 
 -- the product of a number with the inverse, between 2^48 times the quotient and that of the quotient after it
@@ -91,10 +91,10 @@ sized n whole some short small =
 
 -- what the code computes
 pub quotient_between : (q s a b : ℤ) (part whole : ℕ) → q ≡ int_div (to_z w64 (of_z w64 s)) (pos whole) → s ≡ sum_of a b part whole →
-    FitsSigned w16 a → FitsSigned w16 b → part < whole → whole ≤ 92681 → to_z w32 (of_z w32 q) ≡ between a b part whole
+    FitsSigned w16 a → FitsSigned w16 b → part < whole → whole ≤ 92681 → to_z w32 (of_z w32 q) ≡ interpolated a b part whole
 quotient_between q s a b part whole is_q is_s fit_a fit_b less short =
     let fits = between_fits a b part whole fit_a fit_b less in
-    let wide : FitsSigned w32 (between a b part whole) = omega (arith, ints, fits) in
-    let q_is : q ≡ between a b part whole =
+    let wide : FitsSigned w32 (interpolated a b part whole) = omega (arith, ints, fits) in
+    let q_is : q ≡ interpolated a b part whole =
     is_q ∙ ap (λ z. int_div (to_z w64 (of_z w64 z)) (pos whole)) is_s ∙ ap (λ z. int_div z (pos whole)) (to_z-of_z w64 (sum_of a b part whole) (added_fits a b part whole fit_a fit_b less short)) in
-    ap (λ z. to_z w32 (of_z w32 z)) q_is ∙ to_z-of_z w32 (between a b part whole) wide
+    ap (λ z. to_z w32 (of_z w32 z)) q_is ∙ to_z-of_z w32 (interpolated a b part whole) wide

@@ -2,7 +2,7 @@
 use Rattle.std.proofs.Common.{◌≡◌, ◌<◌, ◌≤◌, ◌+◌, ◌*◌, ◌/◌, ◌%◌, ◌-◌, ◌∙◌, ℕ, zero, suc, arith, ap, sym}
 use Rattle.std.proofs.lemmas.Nat.{div-mul-add, mod-mul-add}
 use Rattle.std.proofs.Math.Nat.{add-mul, mul-le-mul_right, mul-lt-mul_of_pos_right, lt_of_mul-lt-mul_right, div-mul-le_self, mul-div_left, mul-mod_left}
-use Rattle.resample.specs.Resampled.{block_before, length_at, parts_behind}
+use Rattle.resample.specs.Resampled.{block_before, output_length, parts_behind}
 
 -- the place of sample j
 pub at_block : (from to j block part : ℕ) → part < to → block * to + part ≡ j * from → block ≡ block_before from to j
@@ -12,7 +12,7 @@ pub at_part : (from to j block part : ℕ) → part < to → block * to + part �
 at_part from to j block part less is = sym (mod-mul-add block to part less) ∙ ap (λ n. n % to) is
 
 -- each place lies before the end of the file
-before_end : (count from to j : ℕ) → 1 ≤ count → 0 < from → 0 < to → j < length_at count from to → j * from < count * to
+before_end : (count from to j : ℕ) → 1 ≤ count → 0 < from → 0 < to → j < output_length count from to → j * from < count * to
 before_end count from to zero some_count some some_to less =
     let one = mul-le-mul_right to some_count in omega (arith, one, some_to)
 before_end count from to (suc j) some_count some some_to less =
@@ -23,7 +23,7 @@ before_end count from to (suc j) some_count some some_to less =
     let whole = div-mul-le_self (count * to) from in
     omega (arith, product, strict, whole)
 
-pub within : (count from to j block part : ℕ) → 1 ≤ count → 0 < from → 0 < to → j < length_at count from to → block * to + part ≡ j * from → block < count
+pub within : (count from to j block part : ℕ) → 1 ≤ count → 0 < from → 0 < to → j < output_length count from to → block * to + part ≡ j * from → block < count
 within count from to j block part some_count some some_to less is =
     let below = before_end count from to j some_count some some_to less in
     lt_of_mul-lt-mul_right to (omega (arith, below, is))
@@ -41,7 +41,7 @@ pub next_place : (from to j reached step : ℕ) → reached ≡ j * from → ste
 next_place from to j reached step is is_step = let product = add-mul j 1 from in omega (arith, product, is, is_step)
 
 -- equal rates
-pub same_length : (count rate : ℕ) → 1 ≤ count → 0 < rate → length_at count rate rate ≡ count
+pub same_length : (count rate : ℕ) → 1 ≤ count → 0 < rate → output_length count rate rate ≡ count
 same_length count rate some some_rate = let is = mul-div_left count some_rate in omega (arith, is, some)
 
 pub same_block : (rate j : ℕ) → 0 < rate → block_before rate rate j ≡ j

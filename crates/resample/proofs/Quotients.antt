@@ -4,7 +4,7 @@ use Rattle.std.specs.Prelude.{int_div, ◌≤ℤ◌, unsigned_abs}
 use Rattle.std.proofs.lemmas.Int.{to_z-of_z, quot_is, quot_fits, fits_signed_mul, ints, clamps}
 use Rattle.std.proofs.lemmas.Nat.{le-div}
 use Rattle.std.proofs.Math.Nat.{mul-add, mul-le-mul_right, mul_comm, div-le_of_le-mul}
-use Rattle.resample.specs.Resampled.{LiesBetween, between}
+use Rattle.resample.specs.Resampled.{LiesBetween, interpolated}
 use borrow.Author.Differences.{up, down, fits_out}
 use mir.Val.{to_z, of_z}
 use lib.Signed.{◌<ℤ◌}
@@ -75,28 +75,28 @@ quotient_high (negsuc m) (negsuc n) w some le =
     let out = neg_parts (suc n / w) in
     omega (arith, ints, q, out.0, out.1)
 
-sum_low : (m a b : ℤ) (part whole : ℕ) → part < whole → m ≤ℤ a → m ≤ℤ b → m ≤ℤ between a b part whole
+sum_low : (m a b : ℤ) (part whole : ℕ) → part < whole → m ≤ℤ a → m ≤ℤ b → m ≤ℤ interpolated a b part whole
 sum_low m a b part whole less le_a le_b =
     let first = times_le m a (whole - part) le_a in
     let second = times_le m b part le_b in
     let all = times_parts m (whole - part) part whole (omega (arith, less)) in
     quotient_low m ((a *ℤ pos (whole - part)) +ℤ (b *ℤ pos part)) whole (omega (arith, less)) (omega (arith, ints, first, second, all))
 
-sum_high : (m a b : ℤ) (part whole : ℕ) → part < whole → a ≤ℤ m → b ≤ℤ m → between a b part whole ≤ℤ m
+sum_high : (m a b : ℤ) (part whole : ℕ) → part < whole → a ≤ℤ m → b ≤ℤ m → interpolated a b part whole ≤ℤ m
 sum_high m a b part whole less le_a le_b =
     let first = times_le a m (whole - part) le_a in
     let second = times_le b m part le_b in
     let all = times_parts m (whole - part) part whole (omega (arith, less)) in
     quotient_high m ((a *ℤ pos (whole - part)) +ℤ (b *ℤ pos part)) whole (omega (arith, less)) (omega (arith, ints, first, second, all))
 
-pub lies_between : (a b : ℤ) (part whole : ℕ) → part < whole → LiesBetween a b (between a b part whole)
+pub lies_between : (a b : ℤ) (part whole : ℕ) → part < whole → LiesBetween a b (interpolated a b part whole)
 lies_between a b part whole less = record {
   low = sum_low _ a b part whole less (omega (arith, ints, clamps)) (omega (arith, ints, clamps));
   high = sum_high _ a b part whole less (omega (arith, ints, clamps)) (omega (arith, ints, clamps));
 }
 
 -- what lies between two samples is a sample
-pub between_fits : (a b : ℤ) (part whole : ℕ) → FitsSigned w16 a → FitsSigned w16 b → part < whole → FitsSigned w16 (between a b part whole)
+pub between_fits : (a b : ℤ) (part whole : ℕ) → FitsSigned w16 a → FitsSigned w16 b → part < whole → FitsSigned w16 (interpolated a b part whole)
 between_fits a b part whole fit_a fit_b less =
     let lies = lies_between a b part whole less in
     let low = lies.low in
@@ -104,7 +104,7 @@ between_fits a b part whole fit_a fit_b less =
     omega (arith, ints, clamps, low, high, fit_a, fit_b)
 
 -- no part of the way from a number is that number
-pub at_first : (a b : ℤ) (whole : ℕ) → 0 < whole → between a b 0 whole ≡ a
+pub at_first : (a b : ℤ) (whole : ℕ) → 0 < whole → interpolated a b 0 whole ≡ a
 at_first a b whole some =
     let none = times_none b in
     let none_less : whole - 0 ≡ whole = omega arith in
@@ -142,7 +142,7 @@ sum_fits a b part whole fit_a fit_b less small =
 -- what the code computes
 pub computed : (x y d a b : ℤ) (part whole : ℕ) → x ≡ to_z w16 (of_z w16 a) *ℤ pos (whole - part) → y ≡ to_z w16 (of_z w16 b) *ℤ pos part → d ≡ pos whole →
     FitsSigned w16 a → FitsSigned w16 b → part < whole → whole < 2 ^ 32 →
-    to_z w64 (of_z w64 (int_div (to_z w64 (of_z w64 (to_z w64 (of_z w64 x) +ℤ to_z w64 (of_z w64 y)))) (to_z w64 (of_z w64 d)))) ≡ between a b part whole
+    to_z w64 (of_z w64 (int_div (to_z w64 (of_z w64 (to_z w64 (of_z w64 x) +ℤ to_z w64 (of_z w64 y)))) (to_z w64 (of_z w64 d)))) ≡ interpolated a b part whole
 computed x y d a b part whole is_x is_y is_d fit_a fit_b less small =
     let from = product_fits a (whole - part) fit_a (omega (arith, small)) in
     let to = product_fits b part fit_b (omega (arith, less, small)) in

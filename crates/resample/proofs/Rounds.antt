@@ -8,7 +8,7 @@ use Rattle.std.proofs.Math.Nat.{mul-div_left, mul-le-mul_right, mul_comm}
 use Rattle.liq_base.specs.Kinds.{channels_of}
 use Rattle.liq_base.specs.declared.memory.Kind.{Kind}
 use Rattle.liq_base.specs.declared.memory.Kind.TheVariants.{Mono, Stereo}
-use Rattle.resample.specs.Resampled.{AreRates, IsFile, between, block_before, blocks_of, length_at, parts_behind, resampled, sample_before, sample_behind, side_at}
+use Rattle.resample.specs.Resampled.{AreRates, IsFile, interpolated, block_before, blocks_of, output_length, parts_behind, resampled, sample_before, sample_behind, side_at}
 use Rattle.resample.proofs.Laws.{number_at, numbered, some_channels}
 use Rattle.resample.proofs.Moves.{within}
 
@@ -18,15 +18,15 @@ few_channels Stereo = omega arith
 
 -- as many rounds as the length says
 pub rounds : (from to : ℕ) (kind : Kind) (samples start : List ℤ) (channels : ℕ) → channels ≡ channels_of kind →
-    length start ≡ length_at (blocks_of kind samples) from to * channels_of kind → length start / channels ≡ length_at (blocks_of kind samples) from to
+    length start ≡ output_length (blocks_of kind samples) from to * channels_of kind → length start / channels ≡ output_length (blocks_of kind samples) from to
 rounds from to kind samples start channels is room =
     ap (λ n. length start / n) is
     ∙ ap (λ n. n / channels_of kind) room
-    ∙ mul-div_left (length_at (blocks_of kind samples) from to) (some_channels kind)
+    ∙ mul-div_left (output_length (blocks_of kind samples) from to) (some_channels kind)
 
 -- in each the place lies within the file
 pub block_within : (from to : ℕ) (kind : Kind) (samples start : List ℤ) (channels j block part : ℕ) → AreRates from to → IsFile kind samples → channels ≡ channels_of kind →
-    length start ≡ length_at (blocks_of kind samples) from to * channels_of kind → j < length start / channels → block * to + part ≡ j * from → block < blocks_of kind samples
+    length start ≡ output_length (blocks_of kind samples) from to * channels_of kind → j < length start / channels → block * to + part ≡ j * from → block < blocks_of kind samples
 block_within from to kind samples start channels j block part rates file is room less whole =
     let all = rounds from to kind samples start channels is room in
     let least = rates.least in
@@ -46,24 +46,24 @@ sample_there kind samples channels block side is file below less =
 
 -- and a sample that is written has its place
 pub room_there : (from to : ℕ) (kind : Kind) (samples start : List ℤ) (channels j side : ℕ) → channels ≡ channels_of kind →
-    length start ≡ length_at (blocks_of kind samples) from to * channels_of kind → j < length start / channels → side < channels →
+    length start ≡ output_length (blocks_of kind samples) from to * channels_of kind → j < length start / channels → side < channels →
     j * channels_of kind + side < length start
 room_there from to kind samples start channels j side is room less below =
     let all = rounds from to kind samples start channels is room in
-    let inside = mul-add-lt j (channels_of kind) side (length_at (blocks_of kind samples) from to) (omega (arith, less, all)) (omega (arith, is, below)) in
-    let turned = mul_comm (channels_of kind) (length_at (blocks_of kind samples) from to) in
+    let inside = mul-add-lt j (channels_of kind) side (output_length (blocks_of kind samples) from to) (omega (arith, less, all)) (omega (arith, is, below)) in
+    let turned = mul_comm (channels_of kind) (output_length (blocks_of kind samples) from to) in
     omega (arith, inside, turned, room)
 
 -- what is written is the sample at its place
 pub sample_is : (from to : ℕ) (kind : Kind) (samples : List ℤ) (j side block part next : ℕ) (x y z : ℤ) → side < channels_of kind →
     block ≡ block_before from to j → part ≡ parts_behind from to j → next ≡ min (block + 1) (blocks_of kind samples - 1) →
-    x ≡ side_at kind samples block side → y ≡ side_at kind samples next side → z ≡ between x y part to →
+    x ≡ side_at kind samples block side → y ≡ side_at kind samples next side → z ≡ interpolated x y part to →
     z ≡ numbered from to kind samples (j * channels_of kind + side)
 sample_is from to kind samples j side block part next x y z less is_block is_part is_next is_x is_y is_z =
     is_z
-    ∙ ap (λ a. between a y part to) (is_x ∙ ap (λ n. side_at kind samples n side) is_block)
-    ∙ ap (λ b. between (sample_before from to kind samples j side) b part to) (is_y ∙ ap (λ n. side_at kind samples n side) (is_next ∙ ap (λ n. min (n + 1) (blocks_of kind samples - 1)) is_block))
-    ∙ ap (λ n. between (sample_before from to kind samples j side) (sample_behind from to kind samples j side) n to) is_part
+    ∙ ap (λ a. interpolated a y part to) (is_x ∙ ap (λ n. side_at kind samples n side) is_block)
+    ∙ ap (λ b. interpolated (sample_before from to kind samples j side) b part to) (is_y ∙ ap (λ n. side_at kind samples n side) (is_next ∙ ap (λ n. min (n + 1) (blocks_of kind samples - 1)) is_block))
+    ∙ ap (λ n. interpolated (sample_before from to kind samples j side) (sample_behind from to kind samples j side) n to) is_part
     ∙ sym (number_at from to kind samples j side less)
 
 -- one sample more is written
@@ -76,11 +76,11 @@ one_more f into i j z same less is before k below =
 
 -- the end
 pub all_written : (from to : ℕ) (kind : Kind) (samples start into : List ℤ) (channels block : ℕ) → channels ≡ channels_of kind →
-    length start ≡ length_at (blocks_of kind samples) from to * channels_of kind → length into ≡ length start → length start / channels ≤ block →
+    length start ≡ output_length (blocks_of kind samples) from to * channels_of kind → length into ≡ length start → length start / channels ≤ block →
     ((k : ℕ) → k < block * channels_of kind → get_or into k (pos 0) ≡ numbered from to kind samples k) → into ≡ resampled from to kind samples
 all_written from to kind samples start into channels block is room long end done =
     let all = rounds from to kind samples start channels is room in
-    let count : length_at (blocks_of kind samples) from to ≤ block = omega (arith, all, end) in
+    let count : output_length (blocks_of kind samples) from to ≤ block = omega (arith, all, end) in
     let whole = mul-le-mul_right (channels_of kind) count in
-    fill_by_all (numbered from to kind samples) into (length_at (blocks_of kind samples) from to * channels_of kind) (pos 0) (long ∙ room)
+    fill_by_all (numbered from to kind samples) into (output_length (blocks_of kind samples) from to * channels_of kind) (pos 0) (long ∙ room)
     (λ k below. done k (omega (arith, below, whole)))

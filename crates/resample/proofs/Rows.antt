@@ -2,7 +2,7 @@
 use Rattle.std.proofs.Common.{◌≡◌, [], ◌∷◌, refl}
 use Rattle.std.specs.Prelude.{pos, negsuc}
 use Rattle.liq_base.specs.declared.memory.Kind.TheVariants.{Mono, Stereo}
-use Rattle.resample.specs.Resampled.{length_at, resampled}
+use Rattle.resample.specs.Resampled.{output_length, resampled}
 
 -- from 4000 to 8000 samples a second: behind the last sample there is the last one
 doubled : resampled 4000 8000 Mono (pos 0 ∷ pos 100 ∷ []) ≡ pos 0 ∷ pos 50 ∷ pos 100 ∷ pos 100 ∷ []
@@ -26,5 +26,5 @@ both_sides : resampled 4000 8000 Stereo (pos 0 ∷ pos 10 ∷ pos 100 ∷ negsuc
 both_sides = refl
 
 -- a second
-second : length_at 44100 44100 48000 ≡ 48000
+second : output_length 44100 44100 48000 ≡ 48000
 second = refl

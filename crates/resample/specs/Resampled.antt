@@ -23,16 +23,16 @@ pub record IsFile (kind : Kind) (samples : List ℤ) : Type 0 where
   pub most : blocks_of kind samples ≤ 134217728
 
 -- how many samples each channel has at the other rate, of so many: never none
-abbrev pub length_at : (count from to : ℕ) → ℕ
-length_at count from to = max 1 (count * to / from)
+abbrev pub output_length : (count from to : ℕ) → ℕ
+output_length count from to = max 1 (count * to / from)
 
 -- the sample of a block, on a side that is counted from 0
 abbrev pub side_at : Kind → List ℤ → (block side : ℕ) → ℤ
 side_at kind samples block side = slice_index_or samples (block * channels_of kind + side) (pos 0)
 
 -- the number that lies so many parts of a whole behind one sample on the way to another, rounded toward zero
-abbrev pub between : (before behind : ℤ) (part whole : ℕ) → ℤ
-between before behind part whole = int_div ((before *ℤ pos (whole - part)) +ℤ (behind *ℤ pos part)) (pos whole)
+abbrev pub interpolated : (before behind : ℤ) (part whole : ℕ) → ℤ
+interpolated before behind part whole = int_div ((before *ℤ pos (whole - part)) +ℤ (behind *ℤ pos part)) (pos whole)
 
 -- sample j stands at place `j * from / to` of the file: behind so many blocks, and so many parts of `to` further
 abbrev pub block_before : (from to j : ℕ) → ℕ
@@ -46,18 +46,20 @@ abbrev pub sample_before : (from to : ℕ) → Kind → List ℤ → (j side : �
 sample_before from to kind samples j side = side_at kind samples (block_before from to j) side
 
 abbrev pub sample_behind : (from to : ℕ) → Kind → List ℤ → (j side : ℕ) → ℤ
-sample_behind from to kind samples j side = side_at kind samples (min (block_before from to j + 1) (blocks_of kind samples - 1)) side
+sample_behind from to kind samples j side = side_at kind samples
+    (min (block_before from to j + 1) (blocks_of kind samples - 1)) side
 
 -- sample j of a side, at the other rate
-abbrev pub sample_of : (from to : ℕ) → Kind → List ℤ → (j side : ℕ) → ℤ
-sample_of from to kind samples j side =
-    between (sample_before from to kind samples j side) (sample_behind from to kind samples j side) (parts_behind from to j) to
+abbrev pub resampled_sample : (from to : ℕ) → Kind → List ℤ → (j side : ℕ) → ℤ
+resampled_sample from to kind samples j side =
+    interpolated (sample_before from to kind samples j side) (sample_behind from to kind samples j side)
+    (parts_behind from to j) to
 
 -- the samples at the other rate, in the order in which they stand
 abbrev pub resampled : (from to : ℕ) → Kind → List ℤ → List ℤ
 resampled from to kind samples =
-    map (λ k. sample_of from to kind samples (k / channels_of kind) (k % channels_of kind))
-    (range_with_len 0 (length_at (blocks_of kind samples) from to * channels_of kind))
+    map (λ k. resampled_sample from to kind samples (k / channels_of kind) (k % channels_of kind))
+    (range_with_len 0 (output_length (blocks_of kind samples) from to * channels_of kind))
 
 -- between two numbers, both included
 pub record LiesBetween (a b number : ℤ) : Type 0 where

@@ -1,7 +1,7 @@
 // Numbers between two samples.
 ghost use Rattle.std.specs.Prelude.{◌≡◌, ◌<◌, ◌≤◌, ◌*◌, ◌*ℤ◌, pos, int_div, unsigned_abs};
 ghost use Rattle.resample.specs.Reciprocals.{inverse_of, signed_as};
-ghost use Rattle.resample.specs.Resampled.{between};
+ghost use Rattle.resample.specs.Resampled.{interpolated};
 
 // Up to so many parts a product takes the place of the division.
 const MOST: u32 = 92_681;
@@ -11,7 +11,7 @@ const MOST: u32 = 92_681;
 pub fn number_between(inverse: u64, before: i16, behind: i16, part: u32, whole: u32) -> i16
     requires within { part < whole }
     requires inverse { inverse ≡ inverse_of whole }
-    ensures { result ≡ between before behind part whole }
+    ensures { result ≡ interpolated before behind part whole }
 {
     if whole <= MOST {
         between_by(inverse, before, behind, part, whole)
@@ -33,7 +33,7 @@ fn between_by(inverse: u64, before: i16, behind: i16, part: u32, whole: u32) -> 
     requires within { part < whole }
     requires short { whole ≤ 92681 }
     requires inverse { inverse ≡ inverse_of whole }
-    ensures { result ≡ between before behind part whole }
+    ensures { result ≡ interpolated before behind part whole }
 {
     let sum = weighted(before, whole - part) + weighted(behind, part);
     quotient(sum, inverse, whole) as i16
@@ -42,7 +42,7 @@ fn between_by(inverse: u64, before: i16, behind: i16, part: u32, whole: u32) -> 
 // By a division.
 fn between(before: i16, behind: i16, part: u32, whole: u32) -> i16
     requires { part < whole }
-    ensures { result ≡ between before behind part whole }
+    ensures { result ≡ interpolated before behind part whole }
 {
     let parts = i64::from(whole);
     let sum = weighted(before, whole - part) + weighted(behind, part);

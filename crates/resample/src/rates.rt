@@ -2,7 +2,7 @@
 ghost use Rattle.std.specs.Prelude.{◌≡◌, ◌<◌, ◌≤◌, ◌*◌, ℕ, length};
 ghost use Rattle.liq_base.specs.Kinds.{channels_of};
 ghost use Rattle.liq_base.specs.declared.memory.Kind.TheVariants.{Mono, Stereo};
-ghost use Rattle.resample.specs.Resampled.{AreRates, IsFile, LiesBetween, blocks_of, length_at, resampled, sample_before, sample_behind, side_at};
+ghost use Rattle.resample.specs.Resampled.{AreRates, IsFile, LiesBetween, blocks_of, output_length, resampled, sample_before, sample_behind, side_at};
 
 use crate::midway::{inverse_of, number_between};
 use crate::place::{Place, moved, step_of};
@@ -14,7 +14,7 @@ pub fn length(count: u64, from: u32, to: u32) -> u64
     requires some { 1 ≤ count }
     requires most { count ≤ 134217728 }
     requires rates { AreRates from to }
-    ensures length { result ≡ length_at count from to }
+    ensures length { result ≡ output_length count from to }
     ensures some { 1 ≤ result }
     ensures unchanged { from ≡ to → result ≡ count }
 {
@@ -27,10 +27,11 @@ pub fn length(count: u64, from: u32, to: u32) -> u64
 pub fn fill(from: u32, to: u32, kind: Kind, samples: &[i16], into: &mut [i16])
     requires rates { AreRates from to }
     requires file { IsFile kind samples.now }
-    requires room { length into.old ≡ length_at (blocks_of kind samples.now) from to * channels_of kind }
+    requires room { length into.old ≡ output_length (blocks_of kind samples.now) from to * channels_of kind }
     ensures filled { into.new ≡ resampled from to kind samples.now }
-    ensures between { (j side : ℕ) → j < length_at (blocks_of kind samples.now) from to → side < channels_of kind →
-        LiesBetween (sample_before from to kind samples.now j side) (sample_behind from to kind samples.now j side) (side_at kind into.new j side) }
+    ensures between { (j side : ℕ) → j < output_length (blocks_of kind samples.now) from to → side < channels_of kind →
+        LiesBetween (sample_before from to kind samples.now j side) (sample_behind from to kind samples.now j side)
+        (side_at kind into.new j side) }
     ensures unchanged { from ≡ to → into.new ≡ samples.now }
 {
     match kind {
@@ -43,7 +44,7 @@ pub fn fill(from: u32, to: u32, kind: Kind, samples: &[i16], into: &mut [i16])
 fn fill_mono(from: u32, to: u32, samples: &[i16], into: &mut [i16])
     requires rates { AreRates from to }
     requires file { IsFile Mono samples.now }
-    requires room { length into.old ≡ length_at (blocks_of Mono samples.now) from to * channels_of Mono }
+    requires room { length into.old ≡ output_length (blocks_of Mono samples.now) from to * channels_of Mono }
     ensures { into.new ≡ resampled from to Mono samples.now }
 {
     let last = samples.len() - 1;
@@ -62,7 +63,7 @@ fn fill_mono(from: u32, to: u32, samples: &[i16], into: &mut [i16])
 fn fill_stereo(from: u32, to: u32, samples: &[i16], into: &mut [i16])
     requires rates { AreRates from to }
     requires file { IsFile Stereo samples.now }
-    requires room { length into.old ≡ length_at (blocks_of Stereo samples.now) from to * channels_of Stereo }
+    requires room { length into.old ≡ output_length (blocks_of Stereo samples.now) from to * channels_of Stereo }
     ensures { into.new ≡ resampled from to Stereo samples.now }
 {
     let last = samples.len() / 2 - 1;

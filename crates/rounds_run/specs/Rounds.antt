@@ -19,10 +19,11 @@ use Rattle.buffer_ends.specs.declared.run_end.End.TheVariants.{Write, Memory as 
 abbrev pub world : Setting → List Call → (rest : ℕ → List Answer) → Setting
 world setting calls rest = with_rest setting (λ buffer. answers_in buffer calls) rest
 
--- the calls of so many turns of so many clocks: turn j is tick j / clocks of clock j % clocks. `accepted j b` is what buffer b answers
--- to the give of turn j
+-- the calls of so many turns of so many clocks: turn j is tick j / clocks of clock j % clocks. `accepted j b` is what
+-- buffer b answers to the give of turn j
 abbrev pub calls_of_turns : Setting → (accepted : ℕ → ℕ → Bool) → (clocks turns : ℕ) → List Call
-calls_of_turns setting accepted clocks turns = joined_upto (λ j. calls_of_tick setting (accepted j) (j % clocks) (j / clocks)) turns
+calls_of_turns setting accepted clocks turns = joined_upto
+    (λ j. calls_of_tick setting (accepted j) (j % clocks) (j / clocks)) turns
 
 -- these are the calls of so many turns, given the answers that they got, whatever answers follow
 pub record AreTurns (setting : Setting) (clocks turns : ℕ) (calls : List Call) : Type 0 where
@@ -34,11 +35,13 @@ pub record AreTurnsBegun (setting : Setting) (clocks turns : ℕ) (calls : List 
   pub accepted : ℕ → ℕ → Bool
   pub begun : (rest : ℕ → List Answer) → IsBegin calls (calls_of_turns (world setting calls rest) accepted clocks turns)
 
--- these are the calls of so many turns and a beginning of those of the next one, given the answers that they got, whatever answers follow
+-- these are the calls of so many turns and a beginning of those of the next one, given the answers that they got,
+-- whatever answers follow
 pub record AreTurnsUpto (setting : Setting) (clocks turns : ℕ) (calls : List Call) : Type 0 where
   pub accepted : ℕ → ℕ → Bool
   pub whole : (rest : ℕ → List Answer) → IsBegin (calls_of_turns (world setting calls rest) accepted clocks turns) calls
-  pub begun : (rest : ℕ → List Answer) → IsBegin calls (calls_of_turns (world setting calls rest) accepted clocks (suc turns))
+  pub begun : (rest : ℕ → List Answer)
+      → IsBegin calls (calls_of_turns (world setting calls rest) accepted clocks (suc turns))
 
 -- no answers
 abbrev pub nothing : ℕ → List Answer
@@ -50,48 +53,60 @@ pub record MayRun {S : Type 0} (told : S → SinkTold) (ticks : ℕ) (engine : C
   pub rooms : HaveTicksRoom told engine.parts engine.outs ticks
 
 -- the engines of a run, one per clock, in clock order, over one plan with its files, clocks and start
-pub record AreEngines {S : Type 0} (told : S → SinkTold) (ticks : ℕ) (setting : Setting) (engines : List (ClockEngine S)) : Type 0 where
+pub record AreEngines {S : Type 0} (told : S
+    → SinkTold) (ticks : ℕ) (setting : Setting) (engines : List (ClockEngine S)) : Type 0 where
   pub each : (k : ℕ) (engine : ClockEngine S) → slice_get engines k ≡ Some engine → MayRun told ticks engine
   pub in_order : (k : ℕ) (engine : ClockEngine S) → slice_get engines k ≡ Some engine → engine.parts.clock ≡ k
   pub over : (k : ℕ) (engine : ClockEngine S) → slice_get engines k ≡ Some engine → setting_of engine.parts ≡ setting
 
--- an engine has gone from `old` to `new` by so many ticks, none of them with a fault, in a run that made these calls: it has taken the
--- answers of the buffers that it reads; each output holds its bytes of these ticks more, and its sink got a piece for each of them; and it
--- keeps its marks if it did
-pub record HasRunTurns {S : Type 0} (told : S → SinkTold) (calls : List Call) (ticks : ℕ) (old new : ClockEngine S) : Type 0 where
+-- an engine has gone from `old` to `new` by so many ticks, none of them with a fault, in a run that made these calls:
+-- it has taken the answers of the buffers that it reads; each output holds its bytes of these ticks more, and its sink
+-- got a piece for each of them; and it keeps its marks if it did
+pub record HasRunTurns {S : Type 0} (told : S
+    → SinkTold) (calls : List Call) (ticks : ℕ) (old new : ClockEngine S) : Type 0 where
   pub setting : setting_of new.parts ≡ setting_of old.parts
   pub clock : new.parts.clock ≡ old.parts.clock
   pub keeping : new.parts.cues.keeping ≡ old.parts.cues.keeping
   pub answers : ℕ → List Answer
-  pub own : (buffer : ℕ) → (answers buffer ≡ answers_in buffer calls) ⊎ IsUnread (setting_of old.parts) (Main old.parts.clock) buffer
+  pub own : (buffer : ℕ) → (answers buffer ≡ answers_in buffer calls)
+      ⊎ IsUnread (setting_of old.parts) (Main old.parts.clock) buffer
   pub stands : EngineStands new.parts ticks answers
   pub grew : HoldTicks (setting_of old.parts) old.parts.clock ticks answers (held_of told old) (held_of told new)
   pub pieces : GotPieces told ticks old.outs new.outs
   pub outs : length new.outs ≡ length old.outs
 
--- an engine has gone from `old` to `new` by at least and at most so many ticks: each output holds its bytes of the first more, and
--- then a front of those of the others, whatever answers follow those that were got, and its sink got a piece for each of the first and
--- at most one for each of the others
-pub record HasRunPart {S : Type 0} (told : S → SinkTold) (world : (ℕ → List Answer) → Setting) (least most : ℕ) (old new : ClockEngine S) : Type 0 where
+-- an engine has gone from `old` to `new` by at least and at most so many ticks: each output holds its bytes of the
+-- first more, and then a front of those of the others, whatever answers follow those that were got, and its sink got a
+-- piece for each of the first and at most one for each of the others
+pub record HasRunPart {S : Type 0} (told : S → SinkTold) (world : (ℕ → List Answer)
+    → Setting) (least most : ℕ) (old new : ClockEngine S) : Type 0 where
   pub setting : setting_of new.parts ≡ setting_of old.parts
   pub clock : new.parts.clock ≡ old.parts.clock
-  pub part : (rest : ℕ → List Answer) (sink node : ℕ) (output : IsOutput (setting_of old.parts) old.parts.clock sink node)
-      → (bytes : List ℕ) × IsPrefix (ticks_bytes (world rest) output.wide node least) bytes × IsPrefix bytes (ticks_bytes (world rest) output.wide node most) × (held_of told new sink ≡ grown bytes (held_of told old sink))
+  pub part : (rest : ℕ → List Answer) (sink node : ℕ)
+      (output : IsOutput (setting_of old.parts) old.parts.clock sink node)
+      → (bytes : List ℕ) × IsPrefix (ticks_bytes (world rest) output.wide node least) bytes
+      × IsPrefix bytes (ticks_bytes (world rest) output.wide node most)
+      × (held_of told new sink ≡ grown bytes (held_of told old sink))
   pub pieces : GotBetween told least most old.outs new.outs
   pub outs : length new.outs ≡ length old.outs
 
 -- each engine has run so many ticks
-pub record HaveRun {S : Type 0} (told : S → SinkTold) (calls : List Call) (ticks : ℕ → ℕ) (old new : List (ClockEngine S)) : Type 0 where
+pub record HaveRun {S : Type 0} (told : S → SinkTold) (calls : List Call) (ticks : ℕ
+    → ℕ) (old new : List (ClockEngine S)) : Type 0 where
   pub size : length new ≡ length old
-  pub each : (k : ℕ) (before after : ClockEngine S) → slice_get old k ≡ Some before → slice_get new k ≡ Some after → HasRunTurns told calls (ticks k) before after
+  pub each : (k : ℕ) (before after : ClockEngine S) → slice_get old k ≡ Some before → slice_get new k ≡ Some after
+      → HasRunTurns told calls (ticks k) before after
 
 -- clock k has made at least and at most so many ticks
-pub record HaveRunPart {S : Type 0} (told : S → SinkTold) (world : (ℕ → List Answer) → Setting) (least most : ℕ → ℕ) (old new : List (ClockEngine S)) : Type 0 where
+pub record HaveRunPart {S : Type 0} (told : S → SinkTold) (world : (ℕ → List Answer) → Setting) (least most : ℕ
+    → ℕ) (old new : List (ClockEngine S)) : Type 0 where
   pub size : length new ≡ length old
-  pub each : (k : ℕ) (before after : ClockEngine S) → slice_get old k ≡ Some before → slice_get new k ≡ Some after → HasRunPart told world (least k) (most k) before after
+  pub each : (k : ℕ) (before after : ClockEngine S) → slice_get old k ≡ Some before → slice_get new k ≡ Some after
+      → HasRunPart told world (least k) (most k) before after
 
 -- the end names an output of this clock, whose sink's count of faults rose
-pub record IsWriteEnd {S : Type 0} (told : S → SinkTold) (clock : ℕ) (old new : List (ClockEngine S)) (end : End) : Type 0 where
+pub record IsWriteEnd {S : Type 0} (told : S
+    → SinkTold) (clock : ℕ) (old new : List (ClockEngine S)) (end : End) : Type 0 where
   pub before : ClockEngine S
   pub after : ClockEngine S
   pub was : slice_get old clock ≡ Some before
@@ -103,14 +118,16 @@ pub record IsWriteEnd {S : Type 0} (told : S → SinkTold) (clock : ℕ) (old ne
   pub end_is : end ≡ Write clock sink
   pub rose : RoseAt told place before.outs after.outs
 
--- between two ticks of a run: the calls so far, what each engine has run, and the room that is left for the ticks that are not made
+-- between two ticks of a run: the calls so far, what each engine has run, and the room that is left for the ticks that
+-- are not made
 pub record AreGoing {S T : Type 0} (told : S → SinkTold) (stands : T → List Call → Type 0) (setting : Setting)
     (total : ℕ) (made : ℕ → ℕ) (turns : ℕ) (first now : List (ClockEngine S)) (taps_first taps_now : T) : Type 0 where
   pub calls : List Call
   pub taps : Adds stands taps_first taps_now calls
   pub turned : AreTurns setting (length first) turns calls
   pub run : HaveRun told calls made first now
-  pub rooms : (k left : ℕ) (engine : ClockEngine S) → slice_get now k ≡ Some engine → made k + left ≡ total → HaveTicksRoom told engine.parts engine.outs left
+  pub rooms : (k left : ℕ) (engine : ClockEngine S) → slice_get now k ≡ Some engine → made k + left ≡ total
+      → HaveTicksRoom told engine.parts engine.outs left
 
 -- all rounds were made, by these calls
 pub record RoundsMade {S T : Type 0} (told : S → SinkTold) (stands : T → List Call → Type 0) (setting : Setting)
@@ -120,8 +137,8 @@ pub record RoundsMade {S T : Type 0} (told : S → SinkTold) (stands : T → Lis
   pub turned : AreTurns setting (length first) turns calls
   pub run : HaveRun told calls (λ clock. ticks) first now
 
--- A fault ended the rounds, after these calls, in the turn of clock `clock` in round `round`: the clocks below it have made their tick
--- of this round, those above it have not, and it has made at most a part of it.
+-- A fault ended the rounds, after these calls, in the turn of clock `clock` in round `round`: the clocks below it have
+-- made their tick of this round, those above it have not, and it has made at most a part of it.
 pub record RoundsStopped {S T : Type 0} (told : S → SinkTold) (stands : T → List Call → Type 0) (setting : Setting)
     (ticks turns : ℕ) (first now : List (ClockEngine S)) (taps_first taps_now : T) (end : End) : Type 0 where
   pub calls : List Call
@@ -131,7 +148,8 @@ pub record RoundsStopped {S T : Type 0} (told : S → SinkTold) (stands : T → 
   pub clock : ℕ
   pub below : clock < length first
   pub turn : AreTurnsUpto setting (length first) (round * length first + clock) calls
-  pub part : HaveRunPart told (world setting calls) (ticks_by ticks round clock) (ticks_by ticks round (clock + 1)) first now
+  pub part : HaveRunPart told (world setting calls) (ticks_by ticks round clock) (ticks_by ticks round (clock + 1))
+      first now
   pub cause : (end ≡ NoMemory) ⊎ IsWriteEnd told clock first now end
 
 -- no engine keeps its marks
@@ -140,4 +158,5 @@ pub record KeepNone {S : Type 0} (engines : List (ClockEngine S)) : Type 0 where
 
 -- there are as many buffers as each engine's plan has
 pub record HaveBuffers {S : Type 0} (buffers : ℕ) (engines : List (ClockEngine S)) : Type 0 where
-  pub each : (k : ℕ) (engine : ClockEngine S) → slice_get engines k ≡ Some engine → buffers ≡ length engine.parts.shape.plan.now.buffers
+  pub each : (k : ℕ) (engine : ClockEngine S) → slice_get engines k ≡ Some engine
+      → buffers ≡ length engine.parts.shape.plan.now.buffers

@@ -19,15 +19,17 @@ use Rattle.buffer_sides.specs.Logs.{told as told_of}
 use Rattle.rounds_run.specs.Rounds.{AreEngines, HaveRunPart, IsWriteEnd, ticks_by}
 
 -- the engines of a run, one per clock, in clock order, over this plan with its files, clocks and start
-pub record AreOver {S : Type 0} (told : S → SinkTold) (plan : Plan) (ticks : ℕ) (setting : Setting) (engines : List (ClockEngine S)) : Type 0 where
+pub record AreOver {S : Type 0} (told : S
+    → SinkTold) (plan : Plan) (ticks : ℕ) (setting : Setting) (engines : List (ClockEngine S)) : Type 0 where
   pub plan_is : setting.plan ≡ plan
   pub well : IsWellFormed plan
   pub are : AreEngines told ticks setting engines
 
--- an engine has gone from `old` to `new` by so many ticks, none of them with a fault, in this setting: it has taken the answers of the
--- buffers that it reads; each output holds its bytes of these ticks more, and its sink got a piece for each of them; and it keeps its marks
--- if it did
-pub record HasRunTicks {S : Type 0} (told : S → SinkTold) (setting : Setting) (ticks : ℕ) (old new : ClockEngine S) : Type 0 where
+-- an engine has gone from `old` to `new` by so many ticks, none of them with a fault, in this setting: it has taken the
+-- answers of the buffers that it reads; each output holds its bytes of these ticks more, and its sink got a piece for
+-- each of them; and it keeps its marks if it did
+pub record HasRunTicks {S : Type 0} (told : S
+    → SinkTold) (setting : Setting) (ticks : ℕ) (old new : ClockEngine S) : Type 0 where
   pub over : setting_of new.parts ≡ setting_of old.parts
   pub clock : new.parts.clock ≡ old.parts.clock
   pub keeping : new.parts.cues.keeping ≡ old.parts.cues.keeping
@@ -35,17 +37,20 @@ pub record HasRunTicks {S : Type 0} (told : S → SinkTold) (setting : Setting) 
   pub rest : ℕ → List Answer
   pub given : with_rest (setting_of old.parts) answers rest ≡ setting
   pub stands : EngineStands new.parts ticks answers
-  pub grew : (sink node : ℕ) (output : IsOutput (setting_of old.parts) old.parts.clock sink node) → held_of told new sink ≡ grown (ticks_bytes setting output.wide node ticks) (held_of told old sink)
+  pub grew : (sink node : ℕ) (output : IsOutput (setting_of old.parts) old.parts.clock sink node)
+      → held_of told new sink ≡ grown (ticks_bytes setting output.wide node ticks) (held_of told old sink)
   pub pieces : GotPieces told ticks old.outs new.outs
   pub outs : length new.outs ≡ length old.outs
 
 -- each engine has run so many ticks in this setting
-pub record HaveRunTicks {S : Type 0} (told : S → SinkTold) (setting : Setting) (ticks : ℕ) (old new : List (ClockEngine S)) : Type 0 where
+pub record HaveRunTicks {S : Type 0} (told : S
+    → SinkTold) (setting : Setting) (ticks : ℕ) (old new : List (ClockEngine S)) : Type 0 where
   pub size : length new ≡ length old
-  pub each : (k : ℕ) (before after : ClockEngine S) → slice_get old k ≡ Some before → slice_get new k ≡ Some after → HasRunTicks told setting ticks before after
+  pub each : (k : ℕ) (before after : ClockEngine S) → slice_get old k ≡ Some before → slice_get new k ≡ Some after
+      → HasRunTicks told setting ticks before after
 
--- how many puts of these windows were accepted and how many found the buffer full, and how many takes got a chunk and how many found
--- it empty
+-- how many puts of these windows were accepted and how many found the buffer full, and how many takes got a chunk and
+-- how many found it empty
 abbrev pub counts_of_windows : List Window → Counts
 counts_of_windows windows = record {
   accepted = count_by is_some (flat_map (λ (window : Window). window.0) windows);
@@ -61,8 +66,8 @@ counts_of_run run = map counts_of_windows run.buffers
 abbrev pub logs_of_run : Run → List (List Answers)
 logs_of_run run = map (λ windows. map told_of windows) run.buffers
 
--- All rounds were made, and this is their record: each engine has run all its ticks, given what the record's takes got, and the counts
--- and logs are the record's.
+-- All rounds were made, and this is their record: each engine has run all its ticks, given what the record's takes got,
+-- and the counts and logs are the record's.
 pub record HasRunAll {S : Type 0} (told : S → SinkTold) (setting : Setting) (ticks : ℕ)
     (first now : List (ClockEngine S)) (counts : List Counts) (logs : List (List Answers)) : Type 0 where
   pub run : Run
@@ -71,11 +76,13 @@ pub record HasRunAll {S : Type 0} (told : S → SinkTold) (setting : Setting) (t
   pub counts_are : counts ≡ counts_of_run run
   pub logs_are : logs ≡ logs_of_run run
 
--- The rounds came so far, and this is their record: in the turn that it names, of a clock in a round, where the clocks below it have made
--- their tick of this round, those above it have not, and it has made at most a part of it. A write that ended the run is one of this
--- clock.
-pub record HasRunSome {S : Type 0} (told : S → SinkTold) (setting : Setting) (ticks : ℕ) (first now : List (ClockEngine S)) (end : End) : Type 0 where
+-- The rounds came so far, and this is their record: in the turn that it names, of a clock in a round, where the clocks
+-- below it have made their tick of this round, those above it have not, and it has made at most a part of it. A write
+-- that ended the run is one of this clock.
+pub record HasRunSome {S : Type 0} (told : S
+    → SinkTold) (setting : Setting) (ticks : ℕ) (first now : List (ClockEngine S)) (end : End) : Type 0 where
   pub run : Run
   pub begun : AreRoundsBegun setting (length first) ticks run
-  pub part : HaveRunPart told (setting_then setting run) (ticks_by ticks begun.round begun.clock) (ticks_by ticks begun.round (begun.clock + 1)) first now
+  pub part : HaveRunPart told (setting_then setting run) (ticks_by ticks begun.round begun.clock)
+      (ticks_by ticks begun.round (begun.clock + 1)) first now
   pub write : (failed sink : ℕ) → end ≡ Write failed sink → IsWriteEnd told begun.clock first now end

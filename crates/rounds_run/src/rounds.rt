@@ -22,8 +22,8 @@ fn end_of(clock: u32, fault: TickFault) -> End
     }
 }
 
-/// Makes so many rounds, at most 1000000000, over any taps: in each, every engine makes a tick, in their order. The first
-/// fault ends it.
+/// Makes so many rounds, at most 1000000000, over any taps: in each, every engine makes a tick, in their order. The
+/// first fault ends it.
 pub fn make_rounds<O: Sink, T: Taps>(
     alloc: Global,
     engines: &mut [ClockEngine<'_, O>],
@@ -34,9 +34,11 @@ pub fn make_rounds<O: Sink, T: Taps>(
     requires few { ticks ≤ 1000000000 }
     requires buffers { HaveBuffers (T.buffers taps.old) engines.old }
     ensures done { OnOk result ((setting : Setting) → AreEngines O.told ticks setting engines.old
-        → RoundsMade O.told T.stands setting ticks (ticks * length engines.old) engines.old engines.new taps.old taps.new) }
+        → RoundsMade O.told T.stands setting ticks (ticks * length engines.old) engines.old engines.new taps.old
+        taps.new) }
     ensures stopped { IfErr result (λ end. (setting : Setting) → AreEngines O.told ticks setting engines.old
-        → RoundsStopped O.told T.stands setting ticks (ticks * length engines.old) engines.old engines.new taps.old taps.new end) }
+        → RoundsStopped O.told T.stands setting ticks (ticks * length engines.old) engines.old engines.new taps.old
+        taps.new end) }
     ensures memory { KeepNone engines.old → IfErr result (λ end. end ≡ NoMemory → 0 < T.buffers taps.old) }
     ensures buffers { T.buffers taps.new ≡ T.buffers taps.old }
     ensures same { T.same taps.old taps.new }

@@ -13,9 +13,9 @@ use liq_base::{Memory, Sink};
 use plan_core::Plan;
 use std::alloc::Global;
 
-/// Renders so many ticks, at most 1000000000, of each clock, on one thread: tick r of clock 0, of clock 1 and so on, then
-/// tick r + 1. The engines stand in clock order, made no tick, and are over this plan. Buffers are lists. The first fault
-/// ends the run: no engine goes on after it.
+/// Renders so many ticks, at most 1000000000, of each clock, on one thread: tick r of clock 0, of clock 1 and so on,
+/// then tick r + 1. The engines stand in clock order, made no tick, and are over this plan. Buffers are lists. The
+/// first fault ends the run: no engine goes on after it.
 pub fn run_rounds<O: Sink>(
     alloc: Global,
     plan: &Plan,

@@ -6,7 +6,7 @@ use Rattle.std.proofs.lemmas.Bool.Decides.{nat_tests}
 use Rattle.frame_core.specs.declared.cell.Cell.{Cell}
 use Rattle.plan_core.specs.declared.node.Node.{Node}
 use Rattle.clock_infer.specs.declared.clock_map.NodeClock.TheVariants.{Main}
-use Rattle.op_leaf.specs.Readers.{Reader, after_cell, read_by, reader_slot, takes_of}
+use Rattle.op_leaf.specs.Readers.{Reader, after_cell, read_by, reader_slot, reader_takes}
 use Rattle.stream_meaning.specs.declared.part.Part.{Part}
 use Rattle.stream_meaning.specs.Instants.{Setting, Moment, Reading, clock_of, gives, offer, first_instants, moment_after, part_by, parts_upto, slots_at, demanded, sub_of, next_answers, started, reading_at, read_on, reading_after}
 use Rattle.stream_meaning.proofs.Unfailing.{own_part}
@@ -112,4 +112,4 @@ module _ (setting : Setting) (b m i : ℕ) (node : Node) (is : IsDrawn setting b
 
   pub next_untaken : (t : ℕ) → next_answers (setting.answers b) (At (suc t)) ≡ untaken (next_answers (setting.answers b) (At t)) (At t).reader
   next_untaken t = ap (λ (r : Reading). drop r.taken (setting.answers b)) (whole t)
-      ∙ sym (drop-drop (length (takes_of (next_answers (setting.answers b) (At t)) (At t).reader)) (At t).taken (setting.answers b))
+      ∙ sym (drop-drop (length (reader_takes (next_answers (setting.answers b) (At t)) (At t).reader)) (At t).taken (setting.answers b))

@@ -80,7 +80,7 @@ module _ (b : ℕ) where
       where
         by : (t : Bool) → nat_eq b buffer ≡ t → takes_of b (takes_by setting past k (Reads buffer)) ≡ []
         by true e = (let same : buffer ≡ b = grind (arith, nat_tests) in absurd (off (ap Reads same)))
-        by false e = other_taken buffer (R.takes_of (next_answers (setting.answers buffer) (reading_after setting k buffer past)) (reading_after setting k buffer past).reader) e
+        by false e = other_taken buffer (R.reader_takes (next_answers (setting.answers buffer) (reading_after setting k buffer past)) (reading_after setting k buffer past).reader) e
 
     not_in : (past : List Moment) (k : ℕ) (inside : Bool) → (inside ≡ true → k ≡ i → ⊥) → (found : Option Node) → slice_get setting.plan.nodes k ≡ found
         → takes_of b (takes_in setting inside past k found) ≡ []
@@ -140,17 +140,17 @@ module _ (b : ℕ) where
     inside = (let same : nat_eq m m ≡ true = grind (arith, nat_tests) in ap (λ clock. same_clock clock (Main m)) is.lies ∙ same)
 
     read : List Moment → List Answer
-    read past = R.takes_of (next_answers (setting.answers b) (reading_after setting i b past)) (reading_after setting i b past).reader
+    read past = R.reader_takes (next_answers (setting.answers b) (reading_after setting i b past)) (reading_after setting i b past).reader
 
-    mine : (past : List Moment) → takes_of b (takes_in setting (lies_in setting (Main m) i) past i (slice_get setting.plan.nodes i)) ≡ R.takes_of (next_answers (setting.answers b) (reading_after setting i b past)) (reading_after setting i b past).reader
+    mine : (past : List Moment) → takes_of b (takes_in setting (lies_in setting (Main m) i) past i (slice_get setting.plan.nodes i)) ≡ R.reader_takes (next_answers (setting.answers b) (reading_after setting i b past)) (reading_after setting i b past).reader
     mine past =
         ap (λ (t : Bool). takes_of b (takes_in setting t past i (slice_get setting.plan.nodes i))) inside
         ∙ ap (λ (found : Option Node). takes_of b (takes_in setting true past i found)) is.found
         ∙ ap (λ (work : Work). takes_of b (takes_by setting past i work)) is.does
-        ∙ own_taken (R.takes_of (next_answers (setting.answers b) (reading_after setting i b past)) (reading_after setting i b past).reader)
+        ∙ own_taken (R.reader_takes (next_answers (setting.answers b) (reading_after setting i b past)) (reading_after setting i b past).reader)
 
     main_first : (past : List Moment) → nat_eq (length past % setting.plan.frame) 0 ≡ true
-        → takes_of b (takes_at setting (Main m) past) ≡ R.takes_of (next_answers (setting.answers b) (reading_after setting i b past)) (reading_after setting i b past).reader
+        → takes_of b (takes_at setting (Main m) past) ≡ R.reader_takes (next_answers (setting.answers b) (reading_after setting i b past)) (reading_after setting i b past).reader
     main_first past e =
         let all : ℕ → List Call = λ k. takes_in setting (lies_in setting (Main m) k) past k (slice_get setting.plan.nodes k) in
         ap (λ (t : Bool). takes_of b (if t then joined_upto all (length setting.plan.nodes) else [])) e
@@ -163,7 +163,7 @@ module _ (b : ℕ) where
 
     -- the takes of a tick
     pub tick_takes : (accepted : ℕ → Bool) (t : ℕ) → takes_of b (calls_of_tick setting accepted m t)
-        ≡ R.takes_of (next_answers (setting.answers b) (At setting b m i node is some t)) (At setting b m i node is some t).reader
+        ≡ R.reader_takes (next_answers (setting.answers b) (At setting b m i node is some t)) (At setting b m i node is some t).reader
     tick_takes accepted t =
         let sub = sub_of setting in
         let first = t * setting.plan.frame in

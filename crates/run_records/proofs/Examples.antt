@@ -17,7 +17,7 @@ use Rattle.run_records.proofs.Sunk.{sink_is_drawn}
 use Rattle.run_records.specs.Buffers.{feeder, reader}
 use Rattle.run_records.specs.Records.{AreWindowsBegun, Run, AreWindows, IsRounds, rounds_of, Window, Follows, windows_of, setting_in, capacity_of, on, start, calls_in, windows_in}
 use Rattle.run_records.specs.Parting.{ArePart}
-use Rattle.run_records.specs.Ordered.{HasSameText, told, made, got_by, kept_by, IsOrdered}
+use Rattle.run_records.specs.Ordered.{HasSameText, text_of_window, made, got_by, kept_by, IsOrdered}
 
 one_alone : (P : ℕ → Type 0) → P 0 → (b : ℕ) → b < 1 → P b
 one_alone P p zero less = p
@@ -209,7 +209,7 @@ turns_other : AreWindows ring 2 1 1 (turning other)
 turns_other = turns other (two_alone (λ b. windows_of (turning other) b ≡ windows_in (setting_in ring (turning other)) 2 first_only b 1 1 1) refl refl)
 
 same_text : HasSameText ring (turning one) (turning other)
-same_text = two_alone (λ b. map told (windows_of (turning one) b) ≡ map told (windows_of (turning other) b)) refl refl
+same_text = two_alone (λ b. map text_of_window (windows_of (turning one) b) ≡ map text_of_window (windows_of (turning other) b)) refl refl
 
 -- whether the first chunk begins with a sample of 1
 abbrev begins_one : List (List Window) → Bool

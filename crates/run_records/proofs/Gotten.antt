@@ -9,7 +9,7 @@ use Rattle.clock_infer.specs.declared.clock_map.NodeClock.TheVariants.{Main, Sub
 use Rattle.frame_core.specs.Slots.{Slot}
 use Rattle.frame_core.specs.Calls.{Call, Answer}
 use Rattle.op_cross.specs.Runs.{run_of}
-use Rattle.op_leaf.specs.Readers.{Reader, takes_of, wants}
+use Rattle.op_leaf.specs.Readers.{Reader, reader_takes, wants}
 use Rattle.stream_meaning.specs.Operators.{Work, Plays, Picks, Mixes, Fades, Reads}
 use Rattle.stream_meaning.specs.Instants.{Setting, Moment, Reading, clock_of, first_instants, gives, lies_in, moment_after, next_answers, offer, position, reading_after, reading_at, read_on, same_clock, started, work_at}
 use Rattle.stream_meaning.specs.Calls.{IsBelow, IsUnread, answers_in, calls_at, fades_by, fades_in, joined_between, joined_upto, ran_by, takes_at, takes_by, takes_in}
@@ -48,7 +48,7 @@ same_clock-refl (Sub k) = eq-eqb k k refl
 abbrev one_empty : List Answer
 one_empty = None ∷ []
 
-takes_first : (answers : List Answer) (reader : Reader) → takes_of answers reader ≡ first_of (length (takes_of answers reader)) answers
+takes_first : (answers : List Answer) (reader : Reader) → reader_takes answers reader ≡ first_of (length (reader_takes answers reader)) answers
 takes_first [] reader = by (wants reader)
   where
     by : (b : Bool) → cond b one_empty [] ≡ first_of (length (cond b one_empty [])) []
@@ -59,7 +59,7 @@ takes_first (None ∷ answers) reader = by (wants reader)
     by : (b : Bool) → cond b one_empty [] ≡ first_of (length (cond b one_empty [])) (None ∷ answers)
     by true = refl
     by false = refl
-takes_first (Some chunk ∷ answers) reader = by (takes_of answers (record reader { cells = reader.cells ++ chunk })) (takes_first answers (record reader { cells = reader.cells ++ chunk })) (wants reader)
+takes_first (Some chunk ∷ answers) reader = by (reader_takes answers (record reader { cells = reader.cells ++ chunk })) (takes_first answers (record reader { cells = reader.cells ++ chunk })) (wants reader)
   where
     by : (more : List Answer) → more ≡ first_of (length more) answers → (b : Bool) → cond b (Some chunk ∷ more) [] ≡ first_of (length (cond b (Some chunk ∷ more) [])) (Some chunk ∷ answers)
     by more e true = ap (λ (l : List Answer). Some chunk ∷ l) e
@@ -76,7 +76,7 @@ no_taken setting past i buffer (Picks choice eligible) other = refl
 no_taken setting past i buffer (Mixes mixing) other = refl
 no_taken setting past i buffer (Fades overlap) other = refl
 no_taken setting past i buffer (Reads read) other =
-    answers_in-other buffer read (takes_of (next_answers (setting.answers read) (reading_after setting i read past)) (reading_after setting i read past).reader) (λ same. other (ap Reads same))
+    answers_in-other buffer read (reader_takes (next_answers (setting.answers read) (reading_after setting i read past)) (reading_after setting i read past).reader) (λ same. other (ap Reads same))
 
 no_faded : (sub : ℕ → ℕ → List Slot) (below : ℕ → ℕ → List Call) (past : List Moment) (k buffer : ℕ) (work : Work) → ((m : ℕ) → answers_in buffer (below k m) ≡ []) → answers_in buffer (fades_by sub below past k work) ≡ []
 no_faded sub below past k buffer (Plays leaf) none = refl
@@ -134,7 +134,7 @@ module _ (setting : Setting) (sub : ℕ → ℕ → List Slot) (b i : ℕ) (node
     reading n = reading_after setting i b (instants clock n)
 
     abbrev got_at : Bool → ℕ → List Answer
-    got_at starts n = cond starts (takes_of (next_answers (setting.answers b) (reading n)) (reading n).reader) []
+    got_at starts n = cond starts (reader_takes (next_answers (setting.answers b) (reading n)) (reading n).reader) []
 
     takes_own : (n : ℕ) → answers_in b (takes_at setting clock (instants clock n)) ≡ got_at (nat_eq (length (instants clock n) % setting.plan.frame) 0) n
     takes_own n = by (nat_eq (length (instants clock n) % setting.plan.frame) 0)
@@ -142,9 +142,9 @@ module _ (setting : Setting) (sub : ℕ → ℕ → List Slot) (b i : ℕ) (node
         calls : ℕ → List Call
         calls j = takes_in setting (lies_in setting clock j) (instants clock n) j (slice_get setting.plan.nodes j)
 
-        mine : answers_in b (calls i) ≡ takes_of (next_answers (setting.answers b) (reading n)) (reading n).reader
+        mine : answers_in b (calls i) ≡ reader_takes (next_answers (setting.answers b) (reading n)) (reading n).reader
         mine = (λ k. answers_in b (takes_in setting (inside k) (instants clock n) i (there k))) ∙ ap (λ work. answers_in b (takes_by setting (instants clock n) i work)) reads
-            ∙ answers_in-own b (takes_of (next_answers (setting.answers b) (reading n)) (reading n).reader)
+            ∙ answers_in-own b (reader_takes (next_answers (setting.answers b) (reading n)) (reading n).reader)
 
         by : (t : Bool) → answers_in b (cond t (joined_upto calls (length setting.plan.nodes)) []) ≡ got_at t n
         by true = (round_told (answers_in b) refl (answers_in-append b) i calls (length setting.plan.nodes)

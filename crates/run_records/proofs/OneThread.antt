@@ -62,7 +62,7 @@ module _ (P : Call → Type 0) (took : (b : ℕ) (answer : Answer) → P (Took b
   took_by setting past i (Mixes mixing) = All-nil P
   took_by setting past i (Fades overlap) = All-nil P
   took_by setting past i (Reads buffer) =
-      took_each buffer (readers.takes_of (next_answers (setting.answers buffer) (reading_after setting i buffer past)) (reading_after setting i buffer past).reader)
+      took_each buffer (readers.reader_takes (next_answers (setting.answers buffer) (reading_after setting i buffer past)) (reading_after setting i buffer past).reader)
 
   took_in : (setting : Setting) (inside : Bool) (past : List Moment) (i : ℕ) (found : Option Node) → All P (takes_in setting inside past i found)
   took_in setting inside past i None = All-nil P

@@ -5,7 +5,7 @@ use Rattle.std.proofs.lemmas.Bool.Decides.{nat_tests}
 use Rattle.std.proofs.lemmas.List.{length-drop}
 use Rattle.frame_core.specs.declared.cell.Cell.{Cell}
 use Rattle.frame_core.specs.Calls.{Answer}
-use Rattle.op_leaf.specs.Readers.{Reader, wants, wanted, takes_of, after_takes, begun, at_start, after_cell, read_by, holds_some, flag_front}
+use Rattle.op_leaf.specs.Readers.{Reader, wants, wanted, reader_takes, after_takes, begun, at_start, after_cell, read_by, holds_some, flag_front}
 use Rattle.run_records.specs.Records.{Window}
 use Rattle.run_records.specs.Pace.{has_none, Owes, KeepsPace, KeepPace, AreSmall, AreTicks, ticked, untaken, takes_in, reader_after, answers_after}
 
@@ -22,16 +22,16 @@ le_not : (a b : ℕ) → b < a → nat_le a b ≡ false
 le_not a b h = grind (arith, nat_tests)
 
 -- the takes of a tick that wants a chunk
-none_takes : (answers : List Answer) (reader : Reader) → wants reader ≡ true → takes_of (None ∷ answers) reader ≡ None ∷ []
+none_takes : (answers : List Answer) (reader : Reader) → wants reader ≡ true → reader_takes (None ∷ answers) reader ≡ None ∷ []
 none_takes answers reader e = rw e refl
 
-no_takes : (reader : Reader) → wants reader ≡ true → takes_of [] reader ≡ None ∷ []
+no_takes : (reader : Reader) → wants reader ≡ true → reader_takes [] reader ≡ None ∷ []
 no_takes reader e = rw e refl
 
 abbrev with_chunk : (chunk : List Cell) → Reader → Reader
 with_chunk chunk reader = record reader { cells = reader.cells ++ chunk }
 
-some_takes : (chunk : List Cell) (answers : List Answer) (reader : Reader) → wants reader ≡ true → takes_of (Some chunk ∷ answers) reader ≡ Some chunk ∷ takes_of answers (with_chunk chunk reader)
+some_takes : (chunk : List Cell) (answers : List Answer) (reader : Reader) → wants reader ≡ true → reader_takes (Some chunk ∷ answers) reader ≡ Some chunk ∷ reader_takes answers (with_chunk chunk reader)
 some_takes chunk answers reader e = rw e refl
 
 some_after : (chunk : List Cell) (answers : List Answer) (reader : Reader) → wants reader ≡ true → after_takes (Some chunk ∷ answers) reader ≡ after_takes answers (with_chunk chunk reader)
@@ -45,9 +45,9 @@ still_after (Some chunk ∷ answers) reader e = rw e refl
 -- a take got nothing, and the reader still wants; or it wanted nothing; or it took, up to what it wanted and less than a frame more
 abbrev Ran : List Answer → Reader → Type 0
 Ran answers reader =
-    ((has_none (takes_of answers reader) ≡ true) × (length (after_takes answers reader).cells < wanted reader))
+    ((has_none (reader_takes answers reader) ≡ true) × (length (after_takes answers reader).cells < wanted reader))
     ⊎ (((wanted reader ≤ length reader.cells) × (after_takes answers reader ≡ reader))
-    ⊎ ((1 ≤ length (takes_of answers reader)) × (wanted reader ≤ length (after_takes answers reader).cells) × (length (after_takes answers reader).cells < wanted reader + reader.frame)))
+    ⊎ ((1 ≤ length (reader_takes answers reader)) × (wanted reader ≤ length (after_takes answers reader).cells) × (length (after_takes answers reader).cells < wanted reader + reader.frame)))
 
 ran_still : (answers : List Answer) (reader : Reader) → wants reader ≡ false → Ran answers reader
 ran_still answers reader e = inr (inl (lt_no (length reader.cells) (wanted reader) e, still_after answers reader e))
@@ -224,7 +224,7 @@ module _ (D : ℕ) (answers : List Answer) (reader : Reader) (some : 1 ≤ reade
   after = read_by reader.frame (at_start answers reader)
 
   abbrev Tick : (owed : ℕ) → Type 0
-  Tick owed = KeepsPace D 1 reader after (takes_of answers reader) owed
+  Tick owed = KeepsPace D 1 reader after (reader_takes answers reader) owed
 
   wanted_on : reader.playing ≡ true → wanted reader ≡ reader.frame
   wanted_on e = rw e refl
@@ -356,12 +356,12 @@ module _ (D : ℕ) where
   ticks_keep_pace zero answers reader can owed owes = record { left = owed; owes = owes; takes_enough = inr (omega arith); prefill = refl; frame = refl }
   ticks_keep_pace (suc n) answers reader can owed owes =
       let one = tick_keeps_pace D answers reader can.some can.held can.low can.small owed owes in
-      let next = can_still reader (ticked answers reader) answers (untaken answers reader) can one.prefill one.frame (small_after (length (takes_of answers reader)) reader.frame answers can.small) in
+      let next = can_still reader (ticked answers reader) answers (untaken answers reader) can one.prefill one.frame (small_after (length (reader_takes answers reader)) reader.frame answers can.small) in
       let rest = ticks_keep_pace n (untaken answers reader) (ticked answers reader) next one.left one.owes in
       record {
         left = rest.left;
         owes = rest.owes;
-        takes_enough = enough n owed one.left rest.left (takes_of answers reader) (takes_in n (untaken answers reader) (ticked answers reader)) one.takes_enough rest.takes_enough;
+        takes_enough = enough n owed one.left rest.left (reader_takes answers reader) (takes_in n (untaken answers reader) (ticked answers reader)) one.takes_enough rest.takes_enough;
         prefill = rest.prefill ∙ one.prefill;
         frame = rest.frame ∙ one.frame;
       }
@@ -372,7 +372,7 @@ module _ (D : ℕ) where
       let frame = (ticked_sized answers reader).frame in
       subst (λ (f : ℕ). AreSmall f (answers_after n (untaken answers reader) (ticked answers reader))) frame
       (untaken_small n (untaken answers reader) (ticked answers reader)
-      (subst (λ (f : ℕ). AreSmall f (untaken answers reader)) (sym frame) (small_after (length (takes_of answers reader)) reader.frame answers small)))
+      (subst (λ (f : ℕ). AreSmall f (untaken answers reader)) (sym frame) (small_after (length (reader_takes answers reader)) reader.frame answers small)))
 
   -- the windows of a reader's ticks keep pace
   pub windows_keep_pace : (W : ℕ) (windows : List Window) (answers : List Answer) (reader : Reader) → CanKeep reader answers → (owed : ℕ) → Owes D reader owed

@@ -17,7 +17,7 @@ use Rattle.frame_core.specs.declared.cell.Cell.{Cell}
 use Rattle.frame_core.specs.Slots.{Slot}
 use Rattle.frame_core.specs.Calls.{Call, Took, Given, Answer}
 use Rattle.op_cross.specs.Runs.{run_of}
-use Rattle.op_leaf.specs.Readers.{takes_of}
+use Rattle.op_leaf.specs.Readers.{reader_takes}
 use Rattle.stream_meaning.specs.Operators.{Work, Plays, Picks, Mixes, Fades, Reads}
 use Rattle.stream_meaning.specs.Instants.{Setting, Moment, answered, clock_of, lies_in, work_at, position, next_answers, first_instants, reading_after, sub_of}
 use Rattle.stream_meaning.specs.Sinks.{feed_cells}
@@ -142,7 +142,7 @@ module _ (base : Setting) (clocks : ClockMap) (is : IsSetting base clocks) (rank
     own_work clock past i own node inside there (Fades overlap) does = All-nil (IsOwn base m)
     own_work clock past i own node inside there (Reads buffer) does =
         own_took buffer (own buffer (record { inside = inside; node = node; found = there; does = does }))
-        (takes_of (next_answers (answers buffer) (reading_after (answered base answers) i buffer past)) (reading_after (answered base answers) i buffer past).reader)
+        (reader_takes (next_answers (answers buffer) (reading_after (answered base answers) i buffer past)) (reading_after (answered base answers) i buffer past).reader)
 
     own_node : (clock : NodeClock) (past : List Moment) (i : ℕ) → ((buffer : ℕ) → IsAt base clock i (Reads buffer) → reader base buffer ≡ m) → (inside : Bool) → lies_in base clock i ≡ inside → (found : Option Node) → slice_get base.plan.nodes i ≡ found
         → All (IsOwn base m) (takes_in (answered base answers) inside past i found)

@@ -2,7 +2,7 @@
 use Rattle.std.proofs.Common.{◌≡◌, ◌≤◌, ◌⊎◌, ◌+◌, ℕ, Bool, true, false, Option, Some, None, List, [], ◌∷◌, ◌++◌, length, flat_map, inl, inr, refl, ap, sym, arith, length-append, true≢false}
 use Rattle.frame_core.specs.declared.cell.Cell.{Cell}
 use Rattle.frame_core.specs.Legal.{Legal, IsHistory}
-use Rattle.frame_core.specs.Legal.Legal.{ended, accepted, full, got, empty}
+use Rattle.frame_core.specs.Legal.Legal.{all_done, accepted, put_refused, got, empty}
 use Rattle.run_records.specs.Records.{Window}
 use Rattle.run_records.specs.Pace.{has_none, KeepPace}
 
@@ -11,33 +11,33 @@ Answers = List (Option (List Cell))
 
 -- a window leaves no more than it found, less its takes, with its puts, where each take got one
 taken : {C : ℕ} {r q : List (List Cell)} {puts takes : Answers} → has_none takes ≡ false → Legal C r q puts takes → length r + length takes ≤ length q + length puts
-taken n ended = omega arith
+taken n all_done = omega arith
 taken n (accepted {queue = q} {x = x} {puts = puts} {takes = takes} less rest) = omega (arith, taken n rest, length-append q (x ∷ []))
-taken n (full is rest) = omega (arith, taken n rest)
+taken n (put_refused is rest) = omega (arith, taken n rest)
 taken n (got rest) = omega (arith, taken n rest)
 taken n (empty rest) = absurd (true≢false n)
 
 -- it leaves no more than it found, and its puts
 most : {C : ℕ} {r q : List (List Cell)} {puts takes : Answers} → Legal C r q puts takes → length r ≤ length q + length puts
-most ended = omega arith
+most all_done = omega arith
 most (accepted {queue = q} {x = x} less rest) = omega (arith, most rest, length-append q (x ∷ []))
-most (full is rest) = omega (arith, most rest)
+most (put_refused is rest) = omega (arith, most rest)
 most (got rest) = omega (arith, most rest)
 most (empty rest) = most rest
 
 -- and where a take got nothing, no more than its puts
 emptied : {C : ℕ} {r q : List (List Cell)} {puts takes : Answers} → has_none takes ≡ true → Legal C r q puts takes → length r ≤ length puts
-emptied n ended = absurd (true≢false (sym n))
+emptied n all_done = absurd (true≢false (sym n))
 emptied n (accepted less rest) = omega (arith, emptied n rest)
-emptied n (full is rest) = omega (arith, emptied n rest)
+emptied n (put_refused is rest) = omega (arith, emptied n rest)
 emptied n (got rest) = emptied n rest
 emptied n (empty rest) = omega (arith, most rest)
 
 -- no put is refused where there is room for all of them
 pub room : {C : ℕ} {r q : List (List Cell)} {puts takes : Answers} → length q + length puts ≤ C → Legal C r q puts takes → has_none puts ≡ false
-room h ended = refl
+room h all_done = refl
 room h (accepted {queue = q} {x = x} less rest) = room (omega (arith, h, length-append q (x ∷ []))) rest
-room h (full is rest) = absurd (omega (arith, h, is))
+room h (put_refused is rest) = absurd (omega (arith, h, is))
 room h (got rest) = room (omega (arith, h)) rest
 room h (empty rest) = room h rest
 

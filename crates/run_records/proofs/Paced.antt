@@ -44,7 +44,7 @@ module _ (setting : Setting) (clocks : ℕ) (accepted : ℕ → ℕ → ℕ → 
   abbrev Now : ℕ → Reader
   Now t = (At setting b m i node is some t).reader
 
-  tick_in : (t : ℕ) → takes_of b (calls_in setting clocks accepted m t) ≡ R.takes_of (Left t) (Now t)
+  tick_in : (t : ℕ) → takes_of b (calls_in setting clocks accepted m t) ≡ R.reader_takes (Left t) (Now t)
   tick_in t = ap (takes_of b) (runs_in setting clocks accepted m t runs) ∙ tick_takes b setting m i node is some only (accepted m t) t
 
   span : (n s : ℕ) (calls : ℕ → List Call) → ((j : ℕ) → calls j ≡ calls_in setting clocks accepted m (s + j)) → takes_of b (joined_upto calls n) ≡ takes_in n (Left s) (Now s)
@@ -54,11 +54,11 @@ module _ (setting : Setting) (clocks : ℕ) (accepted : ℕ → ℕ → ℕ → 
       let none : s + 0 ≡ s = omega arith in
       let rest : takes_of b (joined_upto (λ j. calls (1 + j)) n) ≡ takes_in n (Left (suc s)) (Now (suc s)) =
       span n (suc s) (λ j. calls (1 + j)) (λ j. let up : s + (1 + j) ≡ suc s + j = omega arith in same (1 + j) ∙ ap (calls_in setting clocks accepted m) up) in
-      let first : takes_of b (calls 0) ≡ R.takes_of (Left s) (Now s) = ap (takes_of b) (same 0 ∙ ap (calls_in setting clocks accepted m) none) ∙ tick_in s in
+      let first : takes_of b (calls 0) ≡ R.reader_takes (Left s) (Now s) = ap (takes_of b) (same 0 ∙ ap (calls_in setting clocks accepted m) none) ∙ tick_in s in
       ap (λ (k : ℕ). takes_of b (joined_upto calls k)) one ∙ ap (takes_of b) (joined_split calls 1 n)
       ∙ takes-append b (calls 0) (joined_upto (λ j. calls (1 + j)) n)
       ∙ (λ x. first x ++ rest x)
-      ∙ (λ x. R.takes_of (Left s) (Now s) ++ takes_in n (next_untaken setting b m i node is some s x) (next_reader setting b m i node is some s x))
+      ∙ (λ x. R.reader_takes (Left s) (Now s) ++ takes_in n (next_untaken setting b m i node is some s x) (next_reader setting b m i node is some s x))
 
   left_at : (n s : ℕ) → answers_after n (Left s) (Now s) ≡ Left (s + n)
   left_at zero s = let none : s ≡ s + 0 = omega arith in ap Left none

@@ -9,7 +9,7 @@ use Rattle.plan_core.specs.declared.sink.SinkPlan.{SinkPlan}
 use Rattle.plan_core.specs.declared.sink.SinkPlan.TheVariants.{Output, Feed}
 use Rattle.clock_infer.specs.declared.clock_map.NodeClock.{NodeClock}
 use Rattle.clock_infer.specs.declared.clock_map.NodeClock.TheVariants.{Main, Sub}
-use Rattle.op_leaf.specs.Readers.{takes_of}
+use Rattle.op_leaf.specs.Readers.{reader_takes}
 use Rattle.op_cross.specs.Runs.{run_of}
 use Rattle.stream_meaning.specs.Operators.{Work, Plays, Picks, Mixes, Fades, Reads}
 use Rattle.stream_meaning.specs.Instants.{Setting, Moment, lies_in, next_answers, reading_after, work_at, first_instants, position, sub_of}
@@ -34,7 +34,7 @@ module _ (b : ℕ) where
     none_by past i (Mixes mixing) = refl
     none_by past i (Fades overlap) = refl
     none_by past i (Reads buffer) =
-        none_taken buffer (takes_of (next_answers (setting.answers buffer) (reading_after setting i buffer past)) (reading_after setting i buffer past).reader)
+        none_taken buffer (reader_takes (next_answers (setting.answers buffer) (reading_after setting i buffer past)) (reading_after setting i buffer past).reader)
 
     none_in : (inside : Bool) (past : List Moment) (i : ℕ) (node : Option Node) → puts_to b (takes_in setting inside past i node) ≡ []
     none_in inside past i None = refl

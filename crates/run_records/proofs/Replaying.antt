@@ -17,7 +17,7 @@ use Rattle.run_records.proofs.Running.{runs_in, rests_in, own_in}
 use Rattle.run_records.proofs.Alone.{feeder_runs}
 use Rattle.run_records.specs.Parting.{Differ, Goes}
 use Rattle.run_records.specs.Alike.{IsTickAlike}
-use Rattle.run_records.specs.Ordered.{told, HasSameText, made, got_by, IsOrdered}
+use Rattle.run_records.specs.Ordered.{text_of_window, HasSameText, made, got_by, IsOrdered}
 use Rattle.run_records.proofs.Parting.{joined_first}
 use Rattle.run_records.proofs.Ticking.{tick_goes, tick_first}
 use Rattle.std.specs.Prelude.{All}
@@ -59,11 +59,11 @@ front_same [] ys zs (y ∷ front) more others a b e o low = head_same a y ys (fr
 front_same (x ∷ xs) ys zs (y ∷ front) more others a b e o low =
     front_same xs ys zs front more others a b (tail_same x y (xs ++ a ∷ ys) (front ++ more) e) (tail_same x y (xs ++ b ∷ zs) (front ++ others) o) (omega (arith, low))
 
-told_puts : (windows : List Window) → map is_some (flat_map (λ (w : Window). w.0) windows) ≡ flat_map (λ (p : List Bool × List Bool). p.0) (map told windows)
+told_puts : (windows : List Window) → map is_some (flat_map (λ (w : Window). w.0) windows) ≡ flat_map (λ (p : List Bool × List Bool). p.0) (map text_of_window windows)
 told_puts [] = refl
 told_puts (w ∷ windows) = map_append is_some w.0 (flat_map (λ (w : Window). w.0) windows) ∙ ap (λ l. map is_some w.0 ++ l) (told_puts windows)
 
-told_takes : (windows : List Window) → map is_some (flat_map (λ (w : Window). w.1) windows) ≡ flat_map (λ (p : List Bool × List Bool). p.1) (map told windows)
+told_takes : (windows : List Window) → map is_some (flat_map (λ (w : Window). w.1) windows) ≡ flat_map (λ (p : List Bool × List Bool). p.1) (map text_of_window windows)
 told_takes [] = refl
 told_takes (w ∷ windows) = map_append is_some w.1 (flat_map (λ (w : Window). w.1) windows) ∙ ap (λ l. map is_some w.1 ++ l) (told_takes windows)
 
@@ -170,7 +170,7 @@ windows_long setting clocks accepted b W N (suc count) =
     let size = length-append (windows_in setting clocks accepted b W N count) ((puts_to b (joined_between f (start W N count) (start W N (suc count))), takes_of b (joined_between g (start W N count) (start W N (suc count)))) ∷ []) in
     let before = windows_long setting clocks accepted b W N count in omega (arith, size, before)
 
-told_long : (windows : List Window) → length (map told windows) ≡ length windows
+told_long : (windows : List Window) → length (map text_of_window windows) ≡ length windows
 told_long [] = refl
 told_long (w ∷ windows) = ap suc (told_long windows)
 

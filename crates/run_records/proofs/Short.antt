@@ -5,7 +5,7 @@ use Rattle.std.proofs.lemmas.List.FromFn.{length-range_with_len}
 use Rattle.frame_core.specs.declared.cell.Cell.{Cell}
 use Rattle.frame_core.specs.Slots.{Slot}
 use Rattle.frame_core.specs.Legal.{Legal, IsHistory}
-use Rattle.frame_core.specs.Legal.Legal.{ended, accepted, full, got, empty}
+use Rattle.frame_core.specs.Legal.Legal.{all_done, accepted, put_refused, got, empty}
 use Rattle.frame_core.specs.Calls.{Call, puts_to, put_of, Answer}
 use Rattle.plan_core.specs.declared.sink.SinkPlan.{SinkPlan}
 use Rattle.plan_core.specs.declared.sink.SinkPlan.TheVariants.{Output, Feed}
@@ -45,9 +45,9 @@ module _ (frame : ℕ) where
   small_right (Some c ∷ xs) ys a = small_right xs ys a.1
 
   got_small : {C : ℕ} {r q : List (List Cell)} {puts takes : List Answer} → AreShort frame q → AreSmall frame puts → Legal C r q puts takes → AreSmall frame takes × AreShort frame r
-  got_small all puts ended = (tt, all)
+  got_small all puts all_done = (tt, all)
   got_small all puts (accepted {queue = q} {x = x} less rest) = got_small (short_last q x all puts.0) puts.1 rest
-  got_small all puts (full is rest) = got_small all puts rest
+  got_small all puts (put_refused is rest) = got_small all puts rest
   got_small all puts (got rest) = let more = got_small all.1 puts rest in ((all.0, more.0), more.1)
   got_small all puts (empty rest) = got_small all puts rest
 

@@ -5,7 +5,7 @@ use Rattle.plan_core.specs.declared.node.Node.{Node}
 use Rattle.clock_infer.specs.declared.clock_map.NodeClock.{NodeClock}
 use Rattle.clock_infer.proofs.Exact.{some_inj}
 use Rattle.frame_core.specs.Calls.{Call, Took, Answer}
-use Rattle.op_leaf.specs.Readers.{takes_of}
+use Rattle.op_leaf.specs.Readers.{reader_takes}
 use Rattle.stream_meaning.specs.Operators.{Work, Plays, Picks, Mixes, Fades, Reads}
 use Rattle.stream_meaning.specs.Instants.{Setting, Moment, Reading, answered, lies_in, work_at, next_answers, started, reading_at, reading_after}
 use Rattle.stream_meaning.specs.Calls.{joined_upto, takes_by, takes_in, takes_at}
@@ -43,8 +43,8 @@ module _ (base : Setting) (one other : ℕ → List Answer)
       let at : IsAt base clock i (Reads buffer) = record { inside = inside; node = node; found = found; does = does } in
       let first : Reading = reading_after (answered base one) i buffer past in
       let same : first ≡ reading_after (answered base other) i buffer past = readings i buffer at in
-      subst (λ (r : Reading). Goes (length base.plan.buffers) (map (Took buffer) (takes_of (next_answers (one buffer) first) first.reader)) (map (Took buffer) (takes_of (next_answers (other buffer) r) r.reader)) (Begins i)) same
-      (goes_by (length base.plan.buffers) (map (Took buffer) (takes_of (next_answers (one buffer) first) first.reader)) (map (Took buffer) (takes_of (next_answers (other buffer) first) first.reader))
+      subst (λ (r : Reading). Goes (length base.plan.buffers) (map (Took buffer) (reader_takes (next_answers (one buffer) first) first.reader)) (map (Took buffer) (reader_takes (next_answers (other buffer) r) r.reader)) (Begins i)) same
+      (goes_by (length base.plan.buffers) (map (Took buffer) (reader_takes (next_answers (one buffer) first) first.reader)) (map (Took buffer) (reader_takes (next_answers (other buffer) first) first.reader))
       (λ alike b at'. begins b at' first same alike)
       (reads (length base.plan.buffers) buffer (known clock i buffer at) (next_answers (one buffer) first) (next_answers (other buffer) first) first.reader))
     where

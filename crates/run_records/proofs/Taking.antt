@@ -2,18 +2,18 @@
 use Rattle.std.proofs.Common.{◌≡◌, ◌<◌, ◌⊎◌, ◌∙◌, ◌+◌, ◌++◌, ℕ, Bool, true, false, Some, None, List, [], ◌∷◌, length, map, inl, inr, refl, ap, sym, subst}
 use Rattle.frame_core.specs.declared.cell.Cell.{Cell}
 use Rattle.frame_core.specs.Calls.{Call, Took, Answer}
-use Rattle.op_leaf.specs.Readers.{Reader, wants, takes_of, after_takes, begun}
+use Rattle.op_leaf.specs.Readers.{Reader, wants, reader_takes, after_takes, begun}
 use Rattle.stream_meaning.specs.Instants.{Reading, next_answers, started}
 use Rattle.run_records.specs.Parting.{ArePart, Goes}
 use Rattle.run_records.proofs.Deciding.{same_cells}
 
 -- a reader takes the same answers of both, and is then the same
 pub record TakesAlike (xs ys : List Answer) (reader : Reader) : Type 0 where
-  pub takes : takes_of xs reader ≡ takes_of ys reader
+  pub takes : reader_takes xs reader ≡ reader_takes ys reader
   pub leaves : after_takes xs reader ≡ after_takes ys reader
 
 -- with what follows its takes are those of an empty answer
-empty_takes : (reader : Reader) → wants reader ≡ true → (takes_of [] reader ≡ None ∷ [])
+empty_takes : (reader : Reader) → wants reader ≡ true → (reader_takes [] reader ≡ None ∷ [])
 empty_takes reader e = rw e refl
 
 module _ (buffers buffer : ℕ) (known : buffer < buffers) where
@@ -30,18 +30,18 @@ module _ (buffers buffer : ℕ) (known : buffer < buffers) where
   }
 
   abbrev pub Reads : List Answer → List Answer → Reader → Type 0
-  Reads xs ys reader = Goes buffers (map (Took buffer) (takes_of xs reader)) (map (Took buffer) (takes_of ys reader)) (TakesAlike xs ys reader)
+  Reads xs ys reader = Goes buffers (map (Took buffer) (reader_takes xs reader)) (map (Took buffer) (reader_takes ys reader)) (TakesAlike xs ys reader)
 
-  alike : (xs ys : List Answer) (reader : Reader) → takes_of xs reader ≡ takes_of ys reader → after_takes xs reader ≡ after_takes ys reader → Reads xs ys reader
+  alike : (xs ys : List Answer) (reader : Reader) → reader_takes xs reader ≡ reader_takes ys reader → after_takes xs reader ≡ after_takes ys reader → Reads xs ys reader
   alike xs ys reader takes leaves = inr (record { same = ap (map (Took buffer)) takes; now = record { takes = takes; leaves = leaves } })
 
-  apart : (xs ys : List Answer) (reader : Reader) (one other : Answer) (more others : List Answer) → takes_of xs reader ≡ one ∷ more → takes_of ys reader ≡ other ∷ others → (one ≡ other → ⊥) → Reads xs ys reader
+  apart : (xs ys : List Answer) (reader : Reader) (one other : Answer) (more others : List Answer) → reader_takes xs reader ≡ one ∷ more → reader_takes ys reader ≡ other ∷ others → (one ≡ other → ⊥) → Reads xs ys reader
   apart xs ys reader one other more others first second differ =
-      inl (subst (λ (l : List Answer). ArePart buffers (map (Took buffer) l) (map (Took buffer) (takes_of ys reader))) (sym first)
+      inl (subst (λ (l : List Answer). ArePart buffers (map (Took buffer) l) (map (Took buffer) (reader_takes ys reader))) (sym first)
       (subst (λ (l : List Answer). ArePart buffers (map (Took buffer) (one ∷ more)) (map (Took buffer) l)) (sym second) (parted one other more others differ)))
 
   -- a reader that wants nothing
-  still_takes : (xs : List Answer) (reader : Reader) → wants reader ≡ false → takes_of xs reader ≡ []
+  still_takes : (xs : List Answer) (reader : Reader) → wants reader ≡ false → reader_takes xs reader ≡ []
   still_takes [] reader e = rw e refl
   still_takes (None ∷ xs) reader e = rw e refl
   still_takes (Some chunk ∷ xs) reader e = rw e refl
@@ -51,10 +51,10 @@ module _ (buffers buffer : ℕ) (known : buffer < buffers) where
   still_after (None ∷ xs) reader e = refl
   still_after (Some chunk ∷ xs) reader e = rw e refl
 
-  none_takes : (xs : List Answer) (reader : Reader) → wants reader ≡ true → takes_of (None ∷ xs) reader ≡ None ∷ []
+  none_takes : (xs : List Answer) (reader : Reader) → wants reader ≡ true → reader_takes (None ∷ xs) reader ≡ None ∷ []
   none_takes xs reader e = rw e refl
 
-  some_takes : (chunk : List Cell) (xs : List Answer) (reader : Reader) → wants reader ≡ true → takes_of (Some chunk ∷ xs) reader ≡ Some chunk ∷ takes_of xs (record reader { cells = reader.cells ++ chunk })
+  some_takes : (chunk : List Cell) (xs : List Answer) (reader : Reader) → wants reader ≡ true → reader_takes (Some chunk ∷ xs) reader ≡ Some chunk ∷ reader_takes xs (record reader { cells = reader.cells ++ chunk })
   some_takes chunk xs reader e = rw e refl
 
   some_after : (chunk : List Cell) (xs : List Answer) (reader : Reader) → wants reader ≡ true → after_takes (Some chunk ∷ xs) reader ≡ after_takes xs (record reader { cells = reader.cells ++ chunk })
@@ -65,12 +65,12 @@ module _ (buffers buffer : ℕ) (known : buffer < buffers) where
       → ((chunk : List Cell) (more others : List Answer) (after : Reader) → xs ≡ Some chunk ∷ more → Reads more others after) → Reads xs ys reader
   wanting [] [] reader e more = alike [] [] reader refl refl
   wanting [] (None ∷ ys) reader e more = alike [] (None ∷ ys) reader refl refl
-  wanting [] (Some chunk ∷ ys) reader e more = apart [] (Some chunk ∷ ys) reader None (Some chunk) [] (takes_of ys (record reader { cells = reader.cells ++ chunk })) (empty_takes reader e) (some_takes chunk ys reader e) (λ (is : ◌≡◌ {A = Answer} None (Some chunk)). absurd cc)
+  wanting [] (Some chunk ∷ ys) reader e more = apart [] (Some chunk ∷ ys) reader None (Some chunk) [] (reader_takes ys (record reader { cells = reader.cells ++ chunk })) (empty_takes reader e) (some_takes chunk ys reader e) (λ (is : ◌≡◌ {A = Answer} None (Some chunk)). absurd cc)
   wanting (None ∷ xs) [] reader e more = alike (None ∷ xs) [] reader refl refl
   wanting (None ∷ xs) (None ∷ ys) reader e more = alike (None ∷ xs) (None ∷ ys) reader refl refl
-  wanting (None ∷ xs) (Some chunk ∷ ys) reader e more = apart (None ∷ xs) (Some chunk ∷ ys) reader None (Some chunk) [] (takes_of ys (record reader { cells = reader.cells ++ chunk })) (none_takes xs reader e) (some_takes chunk ys reader e) (λ (is : ◌≡◌ {A = Answer} None (Some chunk)). absurd cc)
-  wanting (Some chunk ∷ xs) [] reader e more = apart (Some chunk ∷ xs) [] reader (Some chunk) None (takes_of xs (record reader { cells = reader.cells ++ chunk })) [] (some_takes chunk xs reader e) (empty_takes reader e) (λ (is : ◌≡◌ {A = Answer} (Some chunk) None). absurd cc)
-  wanting (Some chunk ∷ xs) (None ∷ ys) reader e more = apart (Some chunk ∷ xs) (None ∷ ys) reader (Some chunk) None (takes_of xs (record reader { cells = reader.cells ++ chunk })) [] (some_takes chunk xs reader e) (none_takes ys reader e) (λ (is : ◌≡◌ {A = Answer} (Some chunk) None). absurd cc)
+  wanting (None ∷ xs) (Some chunk ∷ ys) reader e more = apart (None ∷ xs) (Some chunk ∷ ys) reader None (Some chunk) [] (reader_takes ys (record reader { cells = reader.cells ++ chunk })) (none_takes xs reader e) (some_takes chunk ys reader e) (λ (is : ◌≡◌ {A = Answer} None (Some chunk)). absurd cc)
+  wanting (Some chunk ∷ xs) [] reader e more = apart (Some chunk ∷ xs) [] reader (Some chunk) None (reader_takes xs (record reader { cells = reader.cells ++ chunk })) [] (some_takes chunk xs reader e) (empty_takes reader e) (λ (is : ◌≡◌ {A = Answer} (Some chunk) None). absurd cc)
+  wanting (Some chunk ∷ xs) (None ∷ ys) reader e more = apart (Some chunk ∷ xs) (None ∷ ys) reader (Some chunk) None (reader_takes xs (record reader { cells = reader.cells ++ chunk })) [] (some_takes chunk xs reader e) (none_takes ys reader e) (λ (is : ◌≡◌ {A = Answer} (Some chunk) None). absurd cc)
   wanting (Some chunk ∷ xs) (Some other ∷ ys) reader e more = by (same_cells chunk other)
     where
       after : Reader
@@ -84,16 +84,16 @@ module _ (buffers buffer : ℕ) (known : buffer < buffers) where
         behind = part.behind;
         others = part.others;
         first = ap (map (Took buffer)) (some_takes chunk xs reader e) ∙ ap (λ (l : List Call). Took buffer (Some chunk) ∷ l) part.first;
-        second = ap (λ (c : List Cell). map (Took buffer) (takes_of (Some c ∷ ys) reader)) (sym same) ∙ ap (map (Took buffer)) (some_takes chunk ys reader e) ∙ ap (λ (l : List Call). Took buffer (Some chunk) ∷ l) part.second;
+        second = ap (λ (c : List Cell). map (Took buffer) (reader_takes (Some c ∷ ys) reader)) (sym same) ∙ ap (map (Took buffer)) (some_takes chunk ys reader e) ∙ ap (λ (l : List Call). Took buffer (Some chunk) ∷ l) part.second;
         differ = part.differ;
       })
       go other same (inr one) = alike (Some chunk ∷ xs) (Some other ∷ ys) reader
-          (some_takes chunk xs reader e ∙ ap (λ (l : List Answer). Some chunk ∷ l) one.now.takes ∙ sym (some_takes chunk ys reader e) ∙ ap (λ (c : List Cell). takes_of (Some c ∷ ys) reader) same)
+          (some_takes chunk xs reader e ∙ ap (λ (l : List Answer). Some chunk ∷ l) one.now.takes ∙ sym (some_takes chunk ys reader e) ∙ ap (λ (c : List Cell). reader_takes (Some c ∷ ys) reader) same)
           (some_after chunk xs reader e ∙ one.now.leaves ∙ sym (some_after chunk ys reader e) ∙ ap (λ (c : List Cell). after_takes (Some c ∷ ys) reader) same)
 
       by : (chunk ≡ other) ⊎ (chunk ≡ other → ⊥) → Reads (Some chunk ∷ xs) (Some other ∷ ys) reader
       by (inl same) = go other same (more chunk xs ys after refl)
-      by (inr differ) = apart (Some chunk ∷ xs) (Some other ∷ ys) reader (Some chunk) (Some other) (takes_of xs after) (takes_of ys (record reader { cells = reader.cells ++ other }))
+      by (inr differ) = apart (Some chunk ∷ xs) (Some other ∷ ys) reader (Some chunk) (Some other) (reader_takes xs after) (reader_takes ys (record reader { cells = reader.cells ++ other }))
           (some_takes chunk xs reader e) (some_takes other ys reader e) (λ (is : ◌≡◌ {A = Answer} (Some chunk) (Some other)). differ cc)
 
   reads_by : (xs ys : List Answer) (reader : Reader) → ((chunk : List Cell) (more others : List Answer) (after : Reader) → xs ≡ Some chunk ∷ more → Reads more others after) → Reads xs ys reader

@@ -22,21 +22,25 @@ held_by buffer calls = held_after [] (on buffer calls)
 abbrev pub has_place : Setting → List Call → (buffer : ℕ) → Bool
 has_place setting calls buffer = nat_lt (length (held_by buffer calls)) (capacity_of setting buffer)
 
--- the answers that were got by these calls, and behind them those that the takes of one more tick get: what is held, and then nothing
+-- the answers that were got by these calls, and behind them those that the takes of one more tick get: what is held,
+-- and then nothing
 abbrev pub answers_after : List Call → (buffer : ℕ) → List Answer
 answers_after calls buffer = answers_in buffer calls ++ map Some (held_by buffer calls)
 
 -- tick t of clock m behind these calls: it takes, and then it gives
 abbrev pub accepted_after : Setting → List Call → (m t buffer : ℕ) → Bool
-accepted_after setting calls m t = has_place setting (calls ++ takes_of_tick (answered setting (answers_after calls)) m t)
+accepted_after setting calls m t = has_place setting (calls
+    ++ takes_of_tick (answered setting (answers_after calls)) m t)
 
 abbrev pub tick_after : Setting → List Call → (m t : ℕ) → List Call
-tick_after setting calls m t = calls_of_tick (answered setting (answers_after calls)) (accepted_after setting calls m t) m t
+tick_after setting calls m t = calls_of_tick (answered setting (answers_after calls)) (accepted_after setting calls m t)
+    m t
 
 -- these calls, and behind them tick t of the first clocks, in their order
 abbrev pub round_after : Setting → List Call → (t clocks : ℕ) → List Call
 round_after setting calls t zero = calls
-round_after setting calls t (suc m) = round_after setting calls t m ++ tick_after setting (round_after setting calls t m) m t
+round_after setting calls t (suc m) = round_after setting calls t m
+    ++ tick_after setting (round_after setting calls t m) m t
 
 -- the calls of N rounds
 abbrev pub calls_in_rounds : Setting → (clocks N : ℕ) → List Call
@@ -46,8 +50,10 @@ calls_in_rounds setting clocks (suc t) = round_after setting (calls_in_rounds se
 -- the calls of so many buffers from this one on, one window each
 abbrev pub windows_from : List Call → (buffer count : ℕ) → List (List Window)
 windows_from calls buffer zero = []
-windows_from calls buffer (suc count) = ((puts_to buffer calls, takes_of buffer calls) ∷ []) ∷ windows_from calls (suc buffer) count
+windows_from calls buffer (suc count) = ((puts_to buffer calls, takes_of buffer calls) ∷ [])
+    ∷ windows_from calls (suc buffer) count
 
 -- the record of N rounds
 abbrev pub rounds_record : Setting → (clocks N : ℕ) → Run
-rounds_record setting clocks N = record { buffers = windows_from (calls_in_rounds setting clocks N) 0 (length setting.plan.buffers) }
+rounds_record setting clocks N = record
+    { buffers = windows_from (calls_in_rounds setting clocks N) 0 (length setting.plan.buffers) }

@@ -12,5 +12,6 @@ first_calls setting accepted m ticks = joined_upto (λ t. calls_of_tick setting 
 
 -- two settings of one plan have the same bytes and the same gaps at each node of clock m
 pub record HasSameOutputs (one other : Setting) (m ticks : ℕ) : Type 0 where
-  pub same_bytes : (wide : Bool) (i : ℕ) → clock_of one i ≡ Main m → ticks_bytes one wide i ticks ≡ ticks_bytes other wide i ticks
+  pub same_bytes : (wide : Bool) (i : ℕ) → clock_of one i ≡ Main m
+      → ticks_bytes one wide i ticks ≡ ticks_bytes other wide i ticks
   pub same_gaps : (i : ℕ) → clock_of one i ≡ Main m → gaps one i ticks ≡ gaps other i ticks

@@ -15,7 +15,8 @@ use Rattle.run_records.specs.Buffers.{feeder, reader}
 abbrev pub Window : Type 0
 Window = List (Option (List Cell)) × List (Option (List Cell))
 
--- What the buffers of a plan answered in a run, which no script determines: for each buffer its windows, one after another.
+-- What the buffers of a plan answered in a run, which no script determines: for each buffer its windows, one after
+-- another.
 pub record Run : Type 0 where
   pub buffers : List (List Window)
 
@@ -43,17 +44,22 @@ capacity_of setting buffer = option_map_or (λ plan. plan.capacity) (slice_get s
 -- the calls on one buffer
 abbrev pub on : (buffer : ℕ) → List Call → List Call
 on buffer [] = []
-on buffer (Took other answer ∷ calls) = if nat_eq buffer other then Took other answer ∷ on buffer calls else on buffer calls
-on buffer (Given other chunk accepted ∷ calls) = if nat_eq buffer other then Given other chunk accepted ∷ on buffer calls else on buffer calls
+on buffer (Took other answer ∷ calls) = if nat_eq buffer other then Took other answer ∷ on buffer calls
+    else on buffer calls
+on buffer (Given other chunk accepted ∷ calls) = if nat_eq buffer other
+    then Given other chunk accepted ∷ on buffer calls else on buffer calls
 
--- These calls on a list of at most so many chunks, in this order, lead from `queue` to `rest`: a take gets the front, and nothing
--- only where there is none; a put goes to the back, and is refused only where the list is full.
+-- These calls on a list of at most so many chunks, in this order, lead from `queue` to `rest`: a take gets the front,
+-- and nothing only where there is none; a put goes to the back, and is refused only where the list is full.
 abbrev pub Follows : (capacity : ℕ) → List (List Cell) → List Call → List (List Cell) → Type 0
 Follows capacity queue [] rest = queue ≡ rest
 Follows capacity queue (Took buffer None ∷ calls) rest = (queue ≡ []) × Follows capacity queue calls rest
-Follows capacity queue (Took buffer (Some chunk) ∷ calls) rest = (behind : List (List Cell)) × (queue ≡ chunk ∷ behind) × Follows capacity behind calls rest
-Follows capacity queue (Given buffer chunk true ∷ calls) rest = (length queue < capacity) × Follows capacity (queue ++ chunk ∷ []) calls rest
-Follows capacity queue (Given buffer chunk false ∷ calls) rest = (length queue ≡ capacity) × Follows capacity queue calls rest
+Follows capacity queue (Took buffer (Some chunk) ∷ calls) rest = (behind : List (List Cell)) × (queue ≡ chunk ∷ behind)
+    × Follows capacity behind calls rest
+Follows capacity queue (Given buffer chunk true ∷ calls) rest = (length queue < capacity)
+    × Follows capacity (queue ++ chunk ∷ []) calls rest
+Follows capacity queue (Given buffer chunk false ∷ calls) rest = (length queue ≡ capacity)
+    × Follows capacity queue calls rest
 
 -- the tick with which window j begins, where windows have W ticks and the last one ends with the run, after N ticks
 abbrev pub start : (W N j : ℕ) → ℕ
@@ -73,23 +79,29 @@ windows_in setting clocks accepted buffer W N zero = []
 windows_in setting clocks accepted buffer W N (suc j) =
     windows_in setting clocks accepted buffer W N j
     ++ (
-      puts_to buffer (joined_between (calls_in setting clocks accepted (feeder setting buffer)) (start W N j) (start W N (suc j))),
-      takes_of buffer (joined_between (calls_in setting clocks accepted (reader setting buffer)) (start W N j) (start W N (suc j))),
+      puts_to buffer (joined_between (calls_in setting clocks accepted (feeder setting buffer)) (start W N j)
+          (start W N (suc j))),
+      takes_of buffer (joined_between (calls_in setting clocks accepted (reader setting buffer)) (start W N j)
+          (start W N (suc j))),
     ) ∷ []
 
--- A lawful record of N ticks of each running clock in windows of W ticks: each buffer's windows hold the puts and the takes of
--- these ticks and are one history of a bounded queue; those of a buffer with both ends in one clock stand in the order in which
--- this clock calls.
+-- A lawful record of N ticks of each running clock in windows of W ticks: each buffer's windows hold the puts and the
+-- takes of these ticks and are one history of a bounded queue; those of a buffer with both ends in one clock stand in
+-- the order in which this clock calls.
 pub record AreWindows (setting : Setting) (clocks W N : ℕ) (run : Run) : Type 0 where
   pub buffers : length run.buffers ≡ length setting.plan.buffers
   pub accepted : (m t buffer : ℕ) → Bool
   pub count : ℕ
   pub whole : start W N count ≡ N
   pub tight : (j : ℕ) → j < count → start W N j < N
-  pub are : (buffer : ℕ) → buffer < length setting.plan.buffers → windows_of run buffer ≡ windows_in (setting_in setting run) clocks accepted buffer W N count
-  pub legal : (buffer : ℕ) → buffer < length setting.plan.buffers → (rest : List (List Cell)) × IsHistory (capacity_of setting buffer) [] (windows_of run buffer) rest
+  pub are : (buffer : ℕ) → buffer < length setting.plan.buffers
+      → windows_of run buffer ≡ windows_in (setting_in setting run) clocks accepted buffer W N count
+  pub legal : (buffer : ℕ) → buffer < length setting.plan.buffers
+      → (rest : List (List Cell)) × IsHistory (capacity_of setting buffer) [] (windows_of run buffer) rest
   pub in_order : (buffer : ℕ) → buffer < length setting.plan.buffers → feeder setting buffer ≡ reader setting buffer
-      → (rest : List (List Cell)) × Follows (capacity_of setting buffer) [] (on buffer (joined_upto (calls_in (setting_in setting run) clocks accepted (feeder setting buffer)) N)) rest
+      → (rest : List (List Cell))
+      × Follows (capacity_of setting buffer) []
+      (on buffer (joined_upto (calls_in (setting_in setting run) clocks accepted (feeder setting buffer)) N)) rest
 
 -- the calls of N rounds: tick t of clock 0, of clock 1 and so on, and then tick t + 1
 abbrev pub rounds_of : Setting → (accepted : ℕ → ℕ → ℕ → Bool) → (clocks N : ℕ) → List Call
@@ -100,15 +112,22 @@ pub record IsRounds (setting : Setting) (clocks N : ℕ) (run : Run) : Type 0 wh
   pub buffers : length run.buffers ≡ length setting.plan.buffers
   pub accepted : (m t buffer : ℕ) → Bool
   pub are : (buffer : ℕ) → buffer < length setting.plan.buffers
-      → windows_of run buffer ≡ (puts_to buffer (rounds_of (setting_in setting run) accepted clocks N), takes_of buffer (rounds_of (setting_in setting run) accepted clocks N)) ∷ []
+      → windows_of run buffer ≡ (
+        puts_to buffer (rounds_of (setting_in setting run) accepted clocks N),
+        takes_of buffer
+            (rounds_of (setting_in setting run) accepted clocks N),
+      ) ∷ []
   pub in_order : (buffer : ℕ) → buffer < length setting.plan.buffers
-      → (rest : List (List Cell)) × Follows (capacity_of setting buffer) [] (on buffer (rounds_of (setting_in setting run) accepted clocks N)) rest
+      → (rest : List (List Cell))
+      × Follows (capacity_of setting buffer) [] (on buffer (rounds_of (setting_in setting run) accepted clocks N)) rest
 
 -- the calls of the rounds before this one, and in it those of the clocks below this one
 abbrev pub rounds_to : Setting → (accepted : ℕ → ℕ → ℕ → Bool) → (clocks round clock : ℕ) → List Call
-rounds_to setting accepted clocks round clock = rounds_of setting accepted clocks round ++ joined_upto (λ m. ticks_of setting accepted m round) clock
+rounds_to setting accepted clocks round clock = rounds_of setting accepted clocks round
+    ++ joined_upto (λ m. ticks_of setting accepted m round) clock
 
--- how many ticks clock m has made, where so many rounds are whole, and in the next one the clocks below `clock` have made theirs
+-- how many ticks clock m has made, where so many rounds are whole, and in the next one the clocks below `clock` have
+-- made theirs
 abbrev pub made_by : (rounds clock m : ℕ) → ℕ
 made_by rounds clock m = if nat_lt m clock then suc rounds else rounds
 
@@ -116,32 +135,38 @@ made_by rounds clock m = if nat_lt m clock then suc rounds else rounds
 abbrev pub ticks_by : (total round clock m : ℕ) → ℕ
 ticks_by total round clock m = min total (made_by round clock m)
 
--- the record of rounds that were broken off, maybe in the middle of a tick, in the turn of this clock in this round: its calls begin those
--- of N rounds, whatever answers follow; and they are those of the turns before, and a beginning of those of this one
+-- the record of rounds that were broken off, maybe in the middle of a tick, in the turn of this clock in this round:
+-- its calls begin those of N rounds, whatever answers follow; and they are those of the turns before, and a beginning
+-- of those of this one
 pub record AreRoundsBegun (setting : Setting) (clocks N : ℕ) (run : Run) : Type 0 where
   pub buffers : length run.buffers ≡ length setting.plan.buffers
   pub calls : List Call
   pub round : ℕ
   pub clock : ℕ
-  pub begun : (rest : ℕ → List Answer) → (accepted : ℕ → ℕ → ℕ → Bool) × IsBegin calls (rounds_of (setting_then setting run rest) accepted clocks N)
+  pub begun : (rest : ℕ → List Answer) → (accepted : ℕ → ℕ → ℕ → Bool)
+      × IsBegin calls (rounds_of (setting_then setting run rest) accepted clocks N)
   pub turn : (rest : ℕ → List Answer) → (accepted : ℕ → ℕ → ℕ → Bool)
       × IsBegin (rounds_to (setting_then setting run rest) accepted clocks round clock) calls
       × IsBegin calls (rounds_to (setting_then setting run rest) accepted clocks round (suc clock))
-  pub are : (buffer : ℕ) → buffer < length setting.plan.buffers → windows_of run buffer ≡ (puts_to buffer calls, takes_of buffer calls) ∷ []
-  pub in_order : (buffer : ℕ) → buffer < length setting.plan.buffers → (rest : List (List Cell)) × Follows (capacity_of setting buffer) [] (on buffer calls) rest
+  pub are : (buffer : ℕ) → buffer < length setting.plan.buffers
+      → windows_of run buffer ≡ (puts_to buffer calls, takes_of buffer calls) ∷ []
+  pub in_order : (buffer : ℕ) → buffer < length setting.plan.buffers
+      → (rest : List (List Cell)) × Follows (capacity_of setting buffer) [] (on buffer calls) rest
 
--- Of the ticks from s to e a clock made those before `made` and tried those before `tried`: no more, or the one in which it stopped.
+-- Of the ticks from s to e a clock made those before `made` and tried those before `tried`: no more, or the one in
+-- which it stopped.
 pub record IsWithin (s e made tried : ℕ) : Type 0 where
   pub least : s ≤ made
   pub most : tried ≤ e
   pub no_fewer : made ≤ tried
   pub one_more : tried ≤ suc made
 
--- The record of a run in windows that was broken off: so many windows were closed, and each clock made so many ticks, tried at most one
--- more, in which it stopped, and is not past the next window; those that did not stop made as many, and where one stopped, they ended this
--- window; where none stopped, each stands at its border. Since the last closing it made these calls: those of the ticks that it made, and a
--- beginning of those of the one in which it stopped, whatever answers follow. All windows of a buffer, the open one too, are one history;
--- and the calls on a buffer with both ends in one clock stand in the order in which this clock makes them.
+-- The record of a run in windows that was broken off: so many windows were closed, and each clock made so many ticks,
+-- tried at most one more, in which it stopped, and is not past the next window; those that did not stop made as many,
+-- and where one stopped, they ended this window; where none stopped, each stands at its border. Since the last closing
+-- it made these calls: those of the ticks that it made, and a beginning of those of the one in which it stopped,
+-- whatever answers follow. All windows of a buffer, the open one too, are one history; and the calls on a buffer with
+-- both ends in one clock stand in the order in which this clock makes them.
 pub record AreWindowsBegun (setting : Setting) (clocks W N : ℕ) (run : Run) : Type 0 where
   pub buffers : length run.buffers ≡ length setting.plan.buffers
   pub accepted : (m t buffer : ℕ) → Bool
@@ -152,15 +177,23 @@ pub record AreWindowsBegun (setting : Setting) (clocks W N : ℕ) (run : Run) : 
   pub within : (m : ℕ) → IsWithin (start W N closed) (start W N (suc closed)) (made m) (tried m)
   pub level : (m n : ℕ) → m < clocks → n < clocks → tried m ≡ made m → tried n ≡ made n → made m ≡ made n
   pub ended : (m n : ℕ) → m < clocks → tried n ≡ suc (made n) → tried m ≡ made m → made m ≡ start W N (suc closed)
-  pub border : ((m : ℕ) → m < clocks → tried m ≡ made m) → (m : ℕ) → m < clocks → (made m ≡ start W N closed) ⊎ (made m ≡ start W N (suc closed))
+  pub border : ((m : ℕ) → m < clocks → tried m ≡ made m) → (m : ℕ) → m < clocks
+      → (made m ≡ start W N closed) ⊎ (made m ≡ start W N (suc closed))
   pub whole : (rest : ℕ → List Answer) (m : ℕ)
-      → IsBegin (joined_between (calls_in (setting_then setting run rest) clocks accepted m) (start W N closed) (made m)) (since m)
+      → IsBegin (joined_between (calls_in (setting_then setting run rest) clocks accepted m) (start W N closed)
+      (made m)) (since m)
   pub begun : (rest : ℕ → List Answer) (m : ℕ)
-      → IsBegin (since m) (joined_between (calls_in (setting_then setting run rest) clocks accepted m) (start W N closed) (tried m))
+      → IsBegin (since m) (joined_between (calls_in (setting_then setting run rest) clocks accepted m)
+      (start W N closed) (tried m))
   pub are : (rest : ℕ → List Answer) (buffer : ℕ) → buffer < length setting.plan.buffers
       → windows_of run buffer
-      ≡ windows_in (setting_then setting run rest) clocks accepted buffer W N closed ++ (puts_to buffer (since (feeder setting buffer)), takes_of buffer (since (reader setting buffer))) ∷ []
-  pub legal : (buffer : ℕ) → buffer < length setting.plan.buffers → (chunks : List (List Cell)) × IsHistory (capacity_of setting buffer) [] (windows_of run buffer) chunks
-  pub in_order : (rest : ℕ → List Answer) (buffer : ℕ) → buffer < length setting.plan.buffers → feeder setting buffer ≡ reader setting buffer
+      ≡ windows_in (setting_then setting run rest) clocks accepted buffer W N closed
+      ++ (puts_to buffer (since (feeder setting buffer)), takes_of buffer (since (reader setting buffer))) ∷ []
+  pub legal : (buffer : ℕ) → buffer < length setting.plan.buffers
+      → (chunks : List (List Cell)) × IsHistory (capacity_of setting buffer) [] (windows_of run buffer) chunks
+  pub in_order : (rest : ℕ → List Answer) (buffer : ℕ) → buffer < length setting.plan.buffers
+      → feeder setting buffer ≡ reader setting buffer
       → (chunks : List (List Cell))
-      × Follows (capacity_of setting buffer) [] (on buffer (joined_upto (calls_in (setting_then setting run rest) clocks accepted (feeder setting buffer)) (start W N closed) ++ since (feeder setting buffer))) chunks
+      × Follows (capacity_of setting buffer) []
+      (on buffer (joined_upto (calls_in (setting_then setting run rest) clocks accepted (feeder setting buffer))
+      (start W N closed) ++ since (feeder setting buffer))) chunks

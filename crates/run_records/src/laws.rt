@@ -1,4 +1,5 @@
-// Laws of settings that differ in their answers alone, and of records. Each is a contract of a function that does nothing.
+// Laws of settings that differ in their answers alone, and of records. Each is a contract of a function that does
+// nothing.
 ghost use Rattle.std.specs.Prelude.{◌≡◌, ℕ, Bool, List, length, slice_get, take, ◌*◌, ◌+◌, ◌<◌, ◌≤◌, [], All, false, max, suc, is_none};
 ghost use Rattle.clock_infer.specs.declared.clock_map.ClockMap.{ClockMap as Map};
 ghost use Rattle.frame_core.specs.Calls.{Answer};
@@ -21,37 +22,45 @@ ghost use Rattle.run_records.specs.Pace.{IsDrawn, KeepPace, has_none};
 ghost use Rattle.run_records.specs.Records.{AreRoundsBegun, AreWindows, AreWindowsBegun, IsRounds, Run, Window, capacity_of, puts_of, setting_in};
 ghost use Rattle.run_records.specs.Rounds.{BeginsRounds, HasNoJoin, IsAsOnOneThread, merged};
 
-/// The calls of a clock's first ticks are the same whatever the buffers answer, up to a call that got another answer: they
-/// part there, or they never do, and then the clock's outputs have the same bytes and gaps.
+/// The calls of a clock's first ticks are the same whatever the buffers answer, up to a call that got another answer:
+/// they part there, or they never do, and then the clock's outputs have the same bytes and gaps.
 pub fn calls_part_at_answers()
-    ensures { (setting : Setting) (clocks : Map) → IsSetting setting clocks → (one other : ℕ → List Answer) (accepted kept : ℕ → ℕ → Bool) (m ticks : ℕ)
-        → Goes (length setting.plan.buffers) (first_calls (answered setting one) accepted m ticks) (first_calls (answered setting other) kept m ticks)
+    ensures { (setting : Setting) (clocks : Map) → IsSetting setting clocks
+        → (one other : ℕ → List Answer) (accepted kept : ℕ → ℕ → Bool) (m ticks : ℕ)
+        → Goes (length setting.plan.buffers) (first_calls (answered setting one) accepted m ticks)
+        (first_calls (answered setting other) kept m ticks)
         (HasSameOutputs (answered setting one) (answered setting other) m ticks) }
 {}
 
 /// Where the first n calls are the same, the next one is, but for its answer, or neither clock makes one.
 pub fn next_calls_are_alike()
-    ensures { (setting : Setting) (clocks : Map) → IsSetting setting clocks → (one other : ℕ → List Answer) (accepted kept : ℕ → ℕ → Bool) (m ticks n : ℕ)
-        → take n (first_calls (answered setting one) accepted m ticks) ≡ take n (first_calls (answered setting other) kept m ticks)
-        → AreSameCalls (slice_get (first_calls (answered setting one) accepted m ticks) n) (slice_get (first_calls (answered setting other) kept m ticks) n) }
+    ensures { (setting : Setting) (clocks : Map) → IsSetting setting clocks
+        → (one other : ℕ → List Answer) (accepted kept : ℕ → ℕ → Bool) (m ticks n : ℕ)
+        → take n (first_calls (answered setting one) accepted m ticks)
+        ≡ take n (first_calls (answered setting other) kept m ticks)
+        → AreSameCalls (slice_get (first_calls (answered setting one) accepted m ticks) n)
+        (slice_get (first_calls (answered setting other) kept m ticks) n) }
 {}
 
 /// Where all calls of the first ticks are the same, so are the bytes and the gaps of the clock's outputs.
 pub fn same_calls_make_same_outputs()
-    ensures { (setting : Setting) (clocks : Map) → IsSetting setting clocks → (one other : ℕ → List Answer) (accepted kept : ℕ → ℕ → Bool) (m ticks : ℕ)
+    ensures { (setting : Setting) (clocks : Map) → IsSetting setting clocks
+        → (one other : ℕ → List Answer) (accepted kept : ℕ → ℕ → Bool) (m ticks : ℕ)
         → first_calls (answered setting one) accepted m ticks ≡ first_calls (answered setting other) kept m ticks
         → HasSameOutputs (answered setting one) (answered setting other) m ticks }
 {}
 
 /// A tick of a clock takes only of buffers that this clock reads, and gives only to those that it feeds.
 pub fn ticks_call_their_own()
-    ensures { (setting : Setting) (clocks : Map) → IsSetting setting clocks → (answers : ℕ → List Answer) (accepted : ℕ → Bool) (m t : ℕ)
+    ensures { (setting : Setting) (clocks : Map) → IsSetting setting clocks
+        → (answers : ℕ → List Answer) (accepted : ℕ → Bool) (m t : ℕ)
         → All (IsOwn setting m) (calls_of_tick (answered setting answers) accepted m t) }
 {}
 
 /// The clock that feeds a buffer runs. The one that reads it may not.
 pub fn feeders_run()
-    ensures { (setting : Setting) (clocks : Map) → IsSetting setting clocks → (buffer : ℕ) → buffer < length setting.plan.buffers
+    ensures { (setting : Setting) (clocks : Map) → IsSetting setting clocks → (buffer : ℕ)
+        → buffer < length setting.plan.buffers
         → feeder setting buffer < clocks.running }
 {}
 
@@ -69,34 +78,42 @@ pub fn rounds_have_a_record()
 
 /// Where no buffer joins two clocks, a lawful record is that of rounds, whatever the length of its windows.
 pub fn lawful_records_are_rounds()
-    ensures { (setting : Setting) (clocks : Map) → IsSetting setting clocks → (W N : ℕ) (run : Run) → HasNoJoin setting clocks.running
+    ensures { (setting : Setting) (clocks : Map) → IsSetting setting clocks → (W N : ℕ) (run : Run)
+        → HasNoJoin setting clocks.running
         → AreWindows setting clocks.running W N run → IsRounds setting clocks.running N (merged run) }
 {}
 
-/// Rounds on one thread are one window: their record is also that of clocks in windows of as many ticks as they make, at least one.
+/// Rounds on one thread are one window: their record is also that of clocks in windows of as many ticks as they make,
+/// at least one.
 pub fn rounds_are_lawful()
     ensures { (setting : Setting) (clocks : Map) → IsSetting setting clocks → (N : ℕ) (run : Run) → 0 < N
         → IsRounds setting clocks.running N run → AreWindows setting clocks.running N N run }
 {}
 
-/// Where no buffer joins two clocks, threads answer, write and miss what rounds on one thread do, and begin tracks where they do.
+/// Where no buffer joins two clocks, threads answer, write and miss what rounds on one thread do, and begin tracks
+/// where they do.
 pub fn as_on_one_thread()
-    ensures { (setting : Setting) (clocks : Map) → IsSetting setting clocks → (W N : ℕ) (run other : Run) → HasNoJoin setting clocks.running
-        → AreWindows setting clocks.running W N run → IsRounds setting clocks.running N other → IsAsOnOneThread setting run other }
+    ensures { (setting : Setting) (clocks : Map) → IsSetting setting clocks → (W N : ℕ) (run other : Run)
+        → HasNoJoin setting clocks.running
+        → AreWindows setting clocks.running W N run → IsRounds setting clocks.running N other
+        → IsAsOnOneThread setting run other }
 {}
 
 /// A text tells a whole record: two lawful records with the same text, of which one can be ordered, are the same.
 pub fn text_is_whole()
     ensures { (setting : Setting) (clocks : Map) → IsSetting setting clocks → (W N : ℕ) (run other : Run)
-        → (one : AreWindows setting clocks.running W N run) → AreWindows setting clocks.running W N other → HasSameText setting run other
+        → (one : AreWindows setting clocks.running W N run) → AreWindows setting clocks.running W N other
+        → HasSameText setting run other
         → IsOrdered (setting_in setting run) clocks.running one.accepted N → run ≡ other }
 {}
 
-/// Where no buffer joins two clocks, a run by threads that was broken off begins what rounds on one thread do: with some answers behind
-/// its own, it has those of the rounds.
+/// Where no buffer joins two clocks, a run by threads that was broken off begins what rounds on one thread do: with
+/// some answers behind its own, it has those of the rounds.
 pub fn broken_windows_begin_rounds()
-    ensures { (setting : Setting) (clocks : Map) → IsSetting setting clocks → (W N : ℕ) (run rounds : Run) → HasNoJoin setting clocks.running
-        → AreWindowsBegun setting clocks.running W N run → IsRounds setting clocks.running N rounds → BeginsRounds setting run rounds }
+    ensures { (setting : Setting) (clocks : Map) → IsSetting setting clocks → (W N : ℕ) (run rounds : Run)
+        → HasNoJoin setting clocks.running
+        → AreWindowsBegun setting clocks.running W N run → IsRounds setting clocks.running N rounds
+        → BeginsRounds setting run rounds }
 {}
 
 /// And so do rounds that were broken off, whatever buffers join.
@@ -105,40 +122,48 @@ pub fn broken_rounds_begin_rounds()
         → AreRoundsBegun setting running N run → IsRounds setting running N rounds → BeginsRounds setting run rounds }
 {}
 
-/// Windows of at most W puts that keep pace: where the buffer has room for two windows and for what may be owed, no put is
-/// refused, whatever the order within a window.
+/// Windows of at most W puts that keep pace: where the buffer has room for two windows and for what may be owed, no put
+/// is refused, whatever the order within a window.
 pub fn paced_windows_refuse_nothing()
-    ensures { (capacity W D : ℕ) (windows : List Window) (rest : List (List Sample)) → W + W + D ≤ capacity → KeepPace W D D windows
+    ensures { (capacity W D : ℕ) (windows : List Window) (rest : List (List Sample)) → W + W + D ≤ capacity
+        → KeepPace W D D windows
         → IsHistory capacity [] windows rest → has_none (flat_map (λ (window : Window). window.0) windows) ≡ false }
 {}
 
-/// A lawful record refuses no put to a buffer that has room for two windows and for D chunks more, where its prefill is at most
-/// D + 1 frames and its reader lies in a main clock that runs and is demanded at each instant.
+/// A lawful record refuses no put to a buffer that has room for two windows and for D chunks more, where its prefill is
+/// at most D + 1 frames and its reader lies in a main clock that runs and is demanded at each instant.
 pub fn roomy_buffers_refuse_nothing()
-    ensures { (setting : Setting) (clocks : Map) → IsSetting setting clocks → (W N D buffer m i : ℕ) (node : PlanNode) (run : Run)
-        → AreWindows setting clocks.running W N run → buffer < length setting.plan.buffers → IsDrawn (setting_in setting run) buffer m i node
-        → m < clocks.running → max 1 (prefill setting buffer) ≤ suc D * setting.plan.frame → W + W + D ≤ capacity_of setting buffer
+    ensures { (setting : Setting) (clocks : Map) → IsSetting setting clocks
+        → (W N D buffer m i : ℕ) (node : PlanNode) (run : Run)
+        → AreWindows setting clocks.running W N run → buffer < length setting.plan.buffers
+        → IsDrawn (setting_in setting run) buffer m i node
+        → m < clocks.running → max 1 (prefill setting buffer) ≤ suc D * setting.plan.frame
+        → W + W + D ≤ capacity_of setting buffer
         → has_none (puts_of run buffer) ≡ false }
 {}
 
-/// A lawful record refuses no put to a buffer whose reader is always heard, and which has room for two windows and its prefill:
-/// so a report tells of none that found it full.
+/// A lawful record refuses no put to a buffer whose reader is always heard, and which has room for two windows and its
+/// prefill: so a report tells of none that found it full.
 pub fn heard_buffers_refuse_nothing()
-    ensures { (setting : Setting) (clocks : Map) → IsSetting setting clocks → (W N buffer m : ℕ) (above : List ℕ) (i : ℕ) (run : Run)
+    ensures { (setting : Setting) (clocks : Map) → IsSetting setting clocks
+        → (W N buffer m : ℕ) (above : List ℕ) (i : ℕ) (run : Run)
         → ReadsBuffer setting.plan buffer i → IsHeard setting m above i → HasRoom setting W buffer
         → AreWindows setting clocks.running W N run → count_by is_none (puts_of run buffer) ≡ 0 }
 {}
 
 /// And neither does the record of a run in windows that was broken off.
 pub fn broken_windows_refuse_nothing()
-    ensures { (setting : Setting) (clocks : Map) → IsSetting setting clocks → (W N buffer m : ℕ) (above : List ℕ) (i : ℕ) (run : Run)
+    ensures { (setting : Setting) (clocks : Map) → IsSetting setting clocks
+        → (W N buffer m : ℕ) (above : List ℕ) (i : ℕ) (run : Run)
         → ReadsBuffer setting.plan buffer i → IsHeard setting m above i → HasRoom setting W buffer
         → AreWindowsBegun setting clocks.running W N run → count_by is_none (puts_of run buffer) ≡ 0 }
 {}
 
-/// A buffer that gathers whole ticks before it plays has room for windows of W ticks where it holds at least 2W - 1 ticks more.
+/// A buffer that gathers whole ticks before it plays has room for windows of W ticks where it holds at least 2W - 1
+/// ticks more.
 pub fn whole_ticks_have_room()
     ensures { (setting : Setting) (W buffer gathers holds : ℕ) → 1 ≤ setting.plan.frame → 1 ≤ gathers
-        → prefill setting buffer ≡ gathers * setting.plan.frame → capacity_of setting buffer ≡ holds → W + W + gathers ≤ suc holds
+        → prefill setting buffer ≡ gathers * setting.plan.frame → capacity_of setting buffer ≡ holds
+        → W + W + gathers ≤ suc holds
         → HasRoom setting W buffer }
 {}

@@ -9,7 +9,7 @@ use Rattle.std.proofs.lemmas.List.{length-take, take-append-drop}
 use Rattle.std.proofs.lemmas.List.Concat.{flat_map-append}
 use Rattle.std.proofs.lemmas.List.Folds.{concat-append}
 use Rattle.liq_base.specs.declared.memory.Kind.TheVariants.{Stereo}
-use Rattle.frame_core.specs.Bytes.{samples_in, sample_bytes}
+use Rattle.frame_core.specs.Bytes.{samples_from, sample_bytes}
 use Rattle.sample_bytes.specs.Wide.{wide_bytes, wide_block_of, encoded_wide, wide_samples_in}
 use Rattle.sample_kernels.proofs.Lanes.{zip2-append}
 use Rattle.sample_bytes.proofs.Woven.{by_items, woven, woven-append, length-woven, decoded_lanes}
@@ -28,8 +28,8 @@ laid_wide = by_items 8 (λ xs. front_bytes (flat_map sample_bytes xs) ++ back_by
 abbrev pub picked_bytes : List ℕ → List ℕ → List ℕ
 picked_bytes front back = pick_l 0 (front ++ back) (1 ∷ 2 ∷ 4 ∷ 5 ∷ 7 ∷ 8 ∷ 10 ∷ 11 ∷ 13 ∷ 14 ∷ 24 ∷ 25 ∷ 27 ∷ 28 ∷ 30 ∷ 31 ∷ [])
 
-pub picked_samples : (bs : List ℕ) → length bs ≡ 24 → samples_in (picked_bytes (take 16 bs) (drop 8 bs)) ≡ wide_samples_in bs
-picked_samples = by_items 24 (λ bs. samples_in (picked_bytes (take 16 bs) (drop 8 bs)) ≡ wide_samples_in bs)
+pub picked_samples : (bs : List ℕ) → length bs ≡ 24 → samples_from (picked_bytes (take 16 bs) (drop 8 bs)) ≡ wide_samples_in bs
+picked_samples = by_items 24 (λ bs. samples_from (picked_bytes (take 16 bs) (drop 8 bs)) ≡ wide_samples_in bs)
     (λ b0 b1 b2 b3 b4 b5 b6 b7 b8 b9 b10 b11 b12 b13 b14 b15 b16 b17 b18 b19 b20 b21 b22 b23. refl)
 
 picked_fit : (bs : List ℕ) → length bs ≡ 24 → Each1 (Fits w8) bs → Each1 (Fits w8) (picked_bytes (take 16 bs) (drop 8 bs))

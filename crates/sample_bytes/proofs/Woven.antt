@@ -11,7 +11,7 @@ use Rattle.std.specs.List.{concat}
 use Rattle.std.proofs.lemmas.Simd.{Each1-chunk}
 use Rattle.std.proofs.lemmas.Int.{ints}
 use Rattle.liq_base.specs.declared.memory.Kind.TheVariants.{Stereo}
-use Rattle.frame_core.specs.Bytes.{sample_in, samples_in, sample_bytes}
+use Rattle.frame_core.specs.Bytes.{sample_in, samples_from, sample_bytes}
 use Rattle.sample_bytes.specs.Encoded.{block_of, encoded}
 use Rattle.sample_kernels.proofs.Lanes.{back, zip2-append}
 
@@ -40,7 +40,7 @@ encoded_lanes (suc n) (x ∷ xs) long fit =
     ∙ ap (λ l. b % 256 ∷ b / 256 % 256 ∷ l) (encoded_lanes n xs (omega (arith, long)) fit.1)
 
 -- ---- the samples of bytes
-pub decoded_lanes : (n : ℕ) (bs : List ℕ) → length bs ≡ twice n → Each1 (Fits w8) bs → map (to_z w16) (digits_l 65536 n (number_l 256 bs)) ≡ samples_in bs
+pub decoded_lanes : (n : ℕ) (bs : List ℕ) → length bs ≡ twice n → Each1 (Fits w8) bs → map (to_z w16) (digits_l 65536 n (number_l 256 bs)) ≡ samples_from bs
 decoded_lanes zero [] long fit = refl
 decoded_lanes zero (b ∷ bs) long fit = absurd (omega (arith, long))
 decoded_lanes (suc n) [] long fit = absurd (omega (arith, long))
@@ -55,13 +55,13 @@ decoded_lanes (suc n) (l ∷ h ∷ bs) long fit =
     ∙ ap (λ k. sample_in l h ∷ map (to_z w16) (digits_l 65536 n k)) rest
     ∙ ap (λ s. sample_in l h ∷ s) (decoded_lanes n bs (omega (arith, long)) fit.1.1)
 
-pub samples-append : (n : ℕ) (xs ys : List ℕ) → length xs ≡ 2 * n → samples_in (xs ++ ys) ≡ samples_in xs ++ samples_in ys
+pub samples-append : (n : ℕ) (xs ys : List ℕ) → length xs ≡ 2 * n → samples_from (xs ++ ys) ≡ samples_from xs ++ samples_from ys
 samples-append n [] ys even = refl
 samples-append n (x ∷ []) ys even = absurd (omega (arith, even))
 samples-append zero (x ∷ y ∷ xs) ys even = absurd (omega (arith, even))
 samples-append (suc n) (x ∷ y ∷ xs) ys even = ap (λ l. sample_in x y ∷ l) (samples-append n xs ys (omega (arith, even)))
 
-pub length-samples : (n : ℕ) (xs : List ℕ) → length xs ≡ 2 * n → length (samples_in xs) ≡ n
+pub length-samples : (n : ℕ) (xs : List ℕ) → length xs ≡ 2 * n → length (samples_from xs) ≡ n
 length-samples zero [] even = refl
 length-samples (suc n) [] even = absurd (omega (arith, even))
 length-samples n (x ∷ []) even = absurd (omega (arith, even))

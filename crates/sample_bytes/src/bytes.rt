@@ -5,7 +5,7 @@ ghost use Rattle.std.specs.List.{flat_map};
 ghost use Rattle.std.specs.Simd.Lanes.{chunk, put_chunk, Each1};
 ghost use Rattle.liq_base.specs.Kinds.{channels_of};
 ghost use Rattle.liq_base.specs.declared.memory.Kind.TheVariants.{Stereo};
-ghost use Rattle.frame_core.specs.Bytes.{sample_bytes, samples_in};
+ghost use Rattle.frame_core.specs.Bytes.{sample_bytes, samples_from};
 ghost use Rattle.sample_bytes.specs.Encoded.{encoded};
 
 use liq_base::Kind;
@@ -28,7 +28,7 @@ pub fn encode(left: &[i16], right: &[i16], kind: Kind, into: &mut [u8])
 /// Reads samples that stand as signed numbers of two bytes, the lower first.
 pub fn decode(bytes: &[u8], into: &mut [i16])
     requires room { length bytes.now ≡ 2 * length into.old }
-    ensures { into.new ≡ samples_in bytes.now }
+    ensures { into.new ≡ samples_from bytes.now }
 {
     let mut done = 0;
     while into.len() - done >= 8 {
@@ -75,7 +75,8 @@ fn encode_stereo(left: &[i16], right: &[i16], into: &mut [u8])
 
 // Writes the bytes of eight instants.
 fn encode_eight(left: &[i16], right: &[i16], at: usize, into: &mut [u8])
-    requires within { (at + 8 ≤ length left.now) × (length right.now ≡ length left.now) × (length into.old ≡ 4 * length left.now) }
+    requires within { (at + 8 ≤ length left.now) × (length right.now ≡ length left.now)
+        × (length into.old ≡ 4 * length left.now) }
     ensures { into.new ≡ put_chunk (4 * at) into.old (encoded Stereo (chunk at 8 left.now) (chunk at 8 right.now)) }
 {
     let lefts = load_samples(left, at);
@@ -108,7 +109,7 @@ fn lay_sample(sample: i16, at: usize, into: &mut [u8])
 // Reads eight samples.
 fn decode_eight(bytes: &[u8], into: &mut [i16], at: usize)
     requires within { (at + 8 ≤ length into.old) × (length bytes.now ≡ 2 * length into.old) }
-    ensures { into.new ≡ put_chunk at into.old (samples_in (chunk (2 * at) 16 bytes.now)) }
+    ensures { into.new ≡ put_chunk at into.old (samples_from (chunk (2 * at) 16 bytes.now)) }
 {
     i16x8::from_le_bytes(u8x16::from_slice(&bytes[2 * at..])).copy_to_slice(&mut into[at..]);
 }

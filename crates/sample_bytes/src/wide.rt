@@ -74,8 +74,10 @@ fn encode_wide_stereo(left: &[i16], right: &[i16], into: &mut [u8])
 
 // Writes the bytes of eight instants.
 fn encode_wide_eight(left: &[i16], right: &[i16], at: usize, into: &mut [u8])
-    requires within { (at + 8 ≤ length left.now) × (length right.now ≡ length left.now) × (length into.old ≡ 6 * length left.now) }
-    ensures { into.new ≡ put_chunk (6 * at) into.old (encoded_wide Stereo (chunk at 8 left.now) (chunk at 8 right.now)) }
+    requires within { (at + 8 ≤ length left.now) × (length right.now ≡ length left.now)
+        × (length into.old ≡ 6 * length left.now) }
+    ensures { into.new ≡ put_chunk (6 * at) into.old
+        (encoded_wide Stereo (chunk at 8 left.now) (chunk at 8 right.now)) }
 {
     let lefts = load_samples(left, at);
     let rights = load_samples(right, at);

@@ -138,7 +138,8 @@ fn scaled(sample: i16, millionths: i64) -> i16
 
 // Half the sum of eight left and right samples.
 fn halve_eight(left: &[i16], right: &[i16], into: &mut [i16], at: usize)
-    requires within { (at + 8 ≤ length into.old) × (length right.now ≡ length left.now) × (length into.old ≡ length left.now) }
+    requires within { (at + 8 ≤ length into.old) × (length right.now ≡ length left.now)
+        × (length into.old ≡ length left.now) }
     ensures { into.new ≡ put_chunk at into.old (zip2 half_of (chunk at 8 left.now) (chunk at 8 right.now)) }
 {
     let lefts = load_samples(left, at).cast::<i32>();

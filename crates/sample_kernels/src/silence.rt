@@ -1,5 +1,5 @@
-// Whether all numbers of a slice are 0. The first one is looked at by itself, so that a lane that sounds is known by it;
-// then the bits of all are taken together, in a loop without a branch.
+// Whether all numbers of a slice are 0. The first one is looked at by itself, so that a lane that sounds is known by
+// it; then the bits of all are taken together, in a loop without a branch.
 ghost use Rattle.std.specs.Prelude.{◌≡◌, true, pos, length, replicate};
 
 /// Whether all samples are 0.

@@ -75,7 +75,8 @@ fn add_eight(sum: &mut [i32], part: &[i16], at: usize)
 
 // Divides eight sums.
 fn divide_eight(sum: &[i32], by: &[u16], into: &mut [i16], at: usize)
-    requires within { (at + 8 ≤ length into.old) × (length by.now ≡ length sum.now) × (length into.old ≡ length sum.now) }
+    requires within { (at + 8 ≤ length into.old) × (length by.now ≡ length sum.now)
+        × (length into.old ≡ length sum.now) }
     requires some { Each1 (λ parts. 0 < parts) (chunk at 8 by.now) }
     requires sums { Each2 IsSumOf (chunk at 8 by.now) (chunk at 8 sum.now) }
     ensures { into.new ≡ put_chunk at into.old (zip2 mean_of (chunk at 8 sum.now) (chunk at 8 by.now)) }

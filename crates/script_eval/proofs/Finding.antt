@@ -14,7 +14,7 @@ use Rattle.script_values.specs.declared.machine.Machine.{Machine}
 use Rattle.script_values.specs.Slots.{SlotValue}
 use Rattle.script_values.specs.declared.fault.EvalFault.TheVariants as told
 use Rattle.script_values.specs.Machines.{first_machine}
-use Rattle.eval_meaning.specs.Scripts.{Answers, Ending, Ends, and_then, closed, ended, evaluation, plan_of, statements, tick_of, turned}
+use Rattle.eval_meaning.specs.Scripts.{Answers, Ending, Ends, and_then, closed, settings_ended, evaluation, plan_of, statements, tick_of, turned}
 use Rattle.script_eval.specs.Makers.{maker, maker_among, or_later}
 use Rattle.script_eval.proofs.Statements.{ends_same, ends_then}
 
@@ -87,11 +87,11 @@ settled_by : (o : Option ℕ) (m n : Machine) → closed m o ≡ Ok n → length
 settled_by (Some frame) m n is = sym (ap (λ (r : Result Machine Ending). nodes_of m r) is)
 settled_by None m n is = absurd cc
 
-ended_nodes : (m n : Machine) → ended m ≡ Ok n → length n.plan.nodes ≡ length m.plan.nodes
-unfolding ended
+ended_nodes : (m n : Machine) → settings_ended m ≡ Ok n → length n.plan.nodes ≡ length m.plan.nodes
+unfolding settings_ended
 ended_nodes m n is = settled_by (tick_of m.settings.duration.millionths m.plan.rate) m n is
 
-last_by : (b : Bool) (m n : Machine) → ◌≡◌ {A = Result Machine Ending} (elim b [ true ↦ ended m | false ↦ Ok m ]) (Ok n) → length n.plan.nodes ≡ length m.plan.nodes
+last_by : (b : Bool) (m n : Machine) → ◌≡◌ {A = Result Machine Ending} (elim b [ true ↦ settings_ended m | false ↦ Ok m ]) (Ok n) → length n.plan.nodes ≡ length m.plan.nodes
 last_by true m n is = ended_nodes m n is
 last_by false m n is = sym (ap (λ (r : Result Machine Ending). nodes_of m r) is)
 

@@ -15,17 +15,17 @@ use Rattle.script_values.specs.Faults.{fault_in}
 use Rattle.script_values.specs.Gives.{Fails}
 use Rattle.script_values.specs.Slots.{SlotValue}
 use Rattle.eval_meaning.specs.Safety.{IsNotStuck}
-use Rattle.eval_meaning.specs.Scripts.{Ending, Ends, and_then, in_statement, settled, statements, turned}
+use Rattle.eval_meaning.specs.Scripts.{Ending, Ends, and_then, ending_in, settings_settled, statements, turned}
 
 -- a fault of a statement is told with its number
-pub ends_in : {A : Type 0} (n : ℕ) (e : Fault) (r : Result A Fault) → Fails e r → Ends (unwrap_or (fault_in n e) told.Memory) (in_statement n r)
+pub ends_in : {A : Type 0} (n : ℕ) (e : Fault) (r : Result A Fault) → Fails e r → Ends (unwrap_or (fault_in n e) told.Memory) (ending_in n r)
 ends_in n faults.Memory r is = tt
-ends_in n faults.BadSetting r is = ap (λ (x : Result _ Fault). in_statement n x) is
-ends_in n (faults.BadValue at) r is = ap (λ (x : Result _ Fault). in_statement n x) is
-ends_in n faults.TooMuchWork r is = ap (λ (x : Result _ Fault). in_statement n x) is
-ends_in n faults.TooManySources r is = ap (λ (x : Result _ Fault). in_statement n x) is
-ends_in n (faults.SameOutput name) r is = ap (λ (x : Result _ Fault). in_statement n x) is
-ends_in n (faults.TooLarge limit) r is = ap (λ (x : Result _ Fault). in_statement n x) is
+ends_in n faults.BadSetting r is = ap (λ (x : Result _ Fault). ending_in n x) is
+ends_in n (faults.BadValue at) r is = ap (λ (x : Result _ Fault). ending_in n x) is
+ends_in n faults.TooMuchWork r is = ap (λ (x : Result _ Fault). ending_in n x) is
+ends_in n faults.TooManySources r is = ap (λ (x : Result _ Fault). ending_in n x) is
+ends_in n (faults.SameOutput name) r is = ap (λ (x : Result _ Fault). ending_in n x) is
+ends_in n (faults.TooLarge limit) r is = ap (λ (x : Result _ Fault). ending_in n x) is
 ends_in n faults.Stuck r is = tt
 
 -- a fault ends the script
@@ -67,7 +67,7 @@ stmt_stop script uses stmts i s n k slots m whole e so lt is next fault =
     (ends_then e (turned script uses (view_part s.part) k slots m) (λ x. statements script uses (listed (map view_stmt (drop (i + 1) stmts))) k x.0 x.1) fault)
 
 pub stmt_end : (script : Script) (uses : List Use) (stmts : List Stmt) (i n : ℕ) (slots : List SlotValue) (m : Machine) (whole : Result Machine Ending)
-    → statements script uses (listed (map view_stmt (drop i stmts))) n slots m ≡ whole → length stmts ≤ i → whole ≡ settled false m
+    → statements script uses (listed (map view_stmt (drop i stmts))) n slots m ≡ whole → length stmts ≤ i → whole ≡ settings_settled false m
 unfolding statements
 stmt_end script uses stmts i n slots m whole so over = sym so ∙ at_drop_all (λ (l : List Stmt). statements script uses (listed (map view_stmt l)) n slots m) stmts i over
 
@@ -86,10 +86,10 @@ turn_not_stuck script uses stmts i s n k slots m whole so lt is next safe =
     (subst (λ (r : Result Machine Ending). IsNotStuck r) (sym so ∙ front script uses stmts i s n k slots m lt is next) safe)
 
 -- a fault that evaluation has is told
-pub fault_is_told : {A : Type 0} (n : ℕ) (fault : Fault) (meant : Result A Fault) → Fails fault meant → IsNotStuck (in_statement n meant) → fault ≢ faults.Stuck
+pub fault_is_told : {A : Type 0} (n : ℕ) (fault : Fault) (meant : Result A Fault) → Fails fault meant → IsNotStuck (ending_in n meant) → fault ≢ faults.Stuck
 fault_is_told n fault meant fails safe is =
     let stuck : meant ≡ Err faults.Stuck = subst (λ (e : Fault). Fails e meant) is fails in
-    subst (λ (r : Result _ Fault). IsNotStuck (in_statement n r)) stuck safe
+    subst (λ (r : Result _ Fault). IsNotStuck (ending_in n r)) stuck safe
 
 pub is_told : (n : ℕ) (fault : Fault) → fault ≢ faults.Stuck → None ≡ fault_in n fault → ⊥
 is_told n faults.Memory other is = absurd cc

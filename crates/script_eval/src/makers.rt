@@ -16,9 +16,9 @@ use script_values::{EvalFault, Machine};
 use std::alloc::Global;
 use typing_rules::Use;
 
-/// The number of the statement, from 1, that makes the source of this number, from 0, in a typed script whose names stand for
-/// what `uses` says; or the first fault of the statements up to it. Nothing where no statement makes it. Want of memory may
-/// come at any place.
+/// The number of the statement, from 1, that makes the source of this number, from 0, in a typed script whose names
+/// stand for what `uses` says; or the first fault of the statements up to it. Nothing where no statement makes it. Want
+/// of memory may come at any place.
 #[tactic(auto, using(crate::proofs::Answered::is_not_stuck, crate::proofs::Finding::maker_faults, crate::proofs::Finding::makers_none))]
 pub fn maker(
     alloc: Global,
@@ -29,7 +29,8 @@ pub fn maker(
     requires placed { IsPlaced 0 (view_script script.now) }
     requires typed { IsTypedScript (view_script script.now) uses.now }
     ensures exact { Answers (λ number. number) result (maker (view_script script.now) uses.now source) }
-    ensures none { IfOk result (λ number. number ≡ None → (p : Plan) → evaluation (view_script script.now) uses.now ≡ Ok p → length p.nodes ≤ source) }
+    ensures none { IfOk result (λ number. number ≡ None → (p : Plan)
+        → evaluation (view_script script.now) uses.now ≡ Ok p → length p.nodes ≤ source) }
     ensures fault { IfErr result (λ e. Ends e (evaluation (view_script script.now) uses.now)) }
 {
     found(alloc, script, uses, source)
@@ -84,8 +85,11 @@ fn first_maker(
     source: u64,
     machine: &mut Machine,
 ) -> Result<Option<u32>, EvalFault>
-    requires { IsNotStuck (statements (view_script defs.now.script.now) uses.now.all.now (listed (map view_stmt stmts.now)) 0 [] machine.old) }
-    ensures { Answers (λ number. number) result (maker_among (view_script defs.now.script.now) uses.now.all.now source (listed (map view_stmt stmts.now)) 0 [] machine.old) }
+    requires { IsNotStuck (statements (view_script defs.now.script.now) uses.now.all.now
+        (listed (map view_stmt stmts.now)) 0 [] machine.old) }
+    ensures { Answers (λ number. number) result
+        (maker_among (view_script defs.now.script.now) uses.now.all.now source (listed (map view_stmt stmts.now)) 0 []
+        machine.old) }
 {
     let mut globals = Globals::new(alloc);
     let mut number: u32 = 0;

@@ -2,7 +2,7 @@
 ghost use Rattle.std.specs.Prelude.{◌≡◌, ◌≢◌, ℕ, Option, Some, None, [], IfOk, map, unwrap_or};
 ghost use Rattle.std.specs.List.{list_any};
 ghost use Rattle.eval_meaning.specs.Meaning.{call, choice, full};
-ghost use Rattle.eval_meaning.specs.Scripts.{Answers, ended, evaluation, settled, statement, statements, tick_of, top_scope, turned};
+ghost use Rattle.eval_meaning.specs.Scripts.{Answers, settings_ended, evaluation, settings_settled, statement, statements, tick_of, top_scope, turned};
 ghost use Rattle.eval_meaning.specs.Safety.{IsNotStuck};
 ghost use Rattle.plan_core.specs.Plans.{IsWellFormed, is_output};
 ghost use Rattle.script_grammar.specs.Placed.{IsPlaced};
@@ -29,8 +29,8 @@ use typing_rules::Use;
 // How deep evaluation may nest: 200 levels of each of 17 bodies, and more.
 const LEVELS: usize = 4096;
 
-/// The plan of a typed script whose names stand for what `uses` says, or its first fault. Want of memory may come at any
-/// place; it is also the answer where a script nests deeper than any that parsing answers.
+/// The plan of a typed script whose names stand for what `uses` says, or its first fault. Want of memory may come at
+/// any place; it is also the answer where a script nests deeper than any that parsing answers.
 #[tactic(auto, using(crate::proofs::Answered::made_well, crate::proofs::Answered::is_not_stuck))]
 pub fn eval(alloc: Global, script: &Script, uses: &[Use]) -> Result<Plan, EvalFault>
     requires placed { IsPlaced 0 (view_script script.now) }
@@ -82,8 +82,11 @@ fn run(
     stmts: &[Stmt],
     machine: &mut Machine,
 ) -> Result<(), EvalFault>
-    requires { IsNotStuck (statements (view_script defs.now.script.now) uses.now.all.now (listed (map view_stmt stmts.now)) 0 [] machine.old) }
-    ensures { Answers (λ _. machine.new) result (statements (view_script defs.now.script.now) uses.now.all.now (listed (map view_stmt stmts.now)) 0 [] machine.old) }
+    requires { IsNotStuck (statements (view_script defs.now.script.now) uses.now.all.now
+        (listed (map view_stmt stmts.now)) 0 [] machine.old) }
+    ensures { Answers (λ _. machine.new) result
+        (statements (view_script defs.now.script.now) uses.now.all.now (listed (map view_stmt stmts.now)) 0 []
+        machine.old) }
 {
     let mut globals = Globals::new(alloc);
     let mut number: u32 = 0;
@@ -108,8 +111,11 @@ pub(crate) fn turn(
     globals: &mut Globals,
     machine: &mut Machine,
 ) -> Result<(), EvalFault>
-    requires { IsNotStuck (turned (view_script defs.now.script.now) uses.now.all.now (view_part part.now) number (map view_slot globals.old.all.items) machine.old) }
-    ensures { Answers (λ _. (map view_slot globals.new.all.items, machine.new)) result (turned (view_script defs.now.script.now) uses.now.all.now (view_part part.now) number (map view_slot globals.old.all.items) machine.old) }
+    requires { IsNotStuck (turned (view_script defs.now.script.now) uses.now.all.now (view_part part.now) number
+        (map view_slot globals.old.all.items) machine.old) }
+    ensures { Answers (λ _. (map view_slot globals.new.all.items, machine.new)) result
+        (turned (view_script defs.now.script.now) uses.now.all.now (view_part part.now) number
+        (map view_slot globals.old.all.items) machine.old) }
 {
     settle(machine, is_setting(uses, part))?;
     machine.settings.statement = number;
@@ -133,7 +139,7 @@ fn told(stmt: u32, fault: Fault) -> EvalFault
 
 // The settings end before the first statement that is none.
 fn settle(machine: &mut Machine, setting: bool) -> Result<(), EvalFault>
-    ensures { Answers (λ _. machine.new) result (settled setting machine.old) }
+    ensures { Answers (λ _. machine.new) result (settings_settled setting machine.old) }
 {
     if setting {
         return Ok(());
@@ -145,9 +151,9 @@ fn settle(machine: &mut Machine, setting: bool) -> Result<(), EvalFault>
     }
 }
 
-#[tactic(auto, unfolding(eval_meaning::specs::Scripts::ended))]
+#[tactic(auto, unfolding(eval_meaning::specs::Scripts::settings_ended))]
 fn end_settings(machine: &mut Machine) -> Result<(), EvalFault>
-    ensures { Answers (λ _. machine.new) result (ended machine.old) }
+    ensures { Answers (λ _. machine.new) result (settings_ended machine.old) }
 {
     let rate = machine.plan.plan().rate;
     match tick(machine.settings.duration, rate) {
@@ -189,7 +195,9 @@ fn statement(
     globals: &mut Globals,
     machine: &mut Machine,
 ) -> Result<(), Fault>
-    ensures { Gives (λ _. (map view_slot globals.new.all.items, machine.new)) result (statement (top_scope (view_script defs.now.script.now) uses.now.all.now (map view_slot globals.old.all.items)) (view_part part.now) (map view_slot globals.old.all.items) machine.old) }
+    ensures { Gives (λ _. (map view_slot globals.new.all.items, machine.new)) result
+        (statement (top_scope (view_script defs.now.script.now) uses.now.all.now (map view_slot globals.old.all.items))
+        (view_part part.now) (map view_slot globals.old.all.items) machine.old) }
 {
     match part {
         StmtPart::Bind(bind) => binding(alloc, defs, uses, bind, globals, machine),
@@ -214,7 +222,9 @@ fn binding(
     globals: &mut Globals,
     machine: &mut Machine,
 ) -> Result<(), Fault>
-    ensures { Gives (λ _. (map view_slot globals.new.all.items, machine.new)) result (statement (top_scope (view_script defs.now.script.now) uses.now.all.now (map view_slot globals.old.all.items)) (a_binding (view_bind bind.now)) (map view_slot globals.old.all.items) machine.old) }
+    ensures { Gives (λ _. (map view_slot globals.new.all.items, machine.new)) result
+        (statement (top_scope (view_script defs.now.script.now) uses.now.all.now (map view_slot globals.old.all.items))
+        (a_binding (view_bind bind.now)) (map view_slot globals.old.all.items) machine.old) }
 {
     let value = top_full(alloc, defs, uses, globals, machine, &bind.value)?;
     globals.push(Slot { at: bind.at, value })?;
@@ -229,7 +239,9 @@ fn top_full(
     machine: &mut Machine,
     node: &Full,
 ) -> Result<Value, Fault>
-    ensures { Gives (λ v. (view_value v, machine.new)) result (full (top_scope (view_script defs.now.script.now) uses.now.all.now (map view_slot globals.now.all.items)) (view_full node.now) machine.old) }
+    ensures { Gives (λ v. (view_value v, machine.new)) result
+        (full (top_scope (view_script defs.now.script.now) uses.now.all.now (map view_slot globals.now.all.items))
+        (view_full node.now) machine.old) }
 {
     let scope = Scope {
         defs,
@@ -250,7 +262,9 @@ fn top_call(
     machine: &mut Machine,
     node: &Call,
 ) -> Result<Value, Fault>
-    ensures { Gives (λ v. (view_value v, machine.new)) result (call (top_scope (view_script defs.now.script.now) uses.now.all.now (map view_slot globals.now.all.items)) (view_call node.now) machine.old) }
+    ensures { Gives (λ v. (view_value v, machine.new)) result
+        (call (top_scope (view_script defs.now.script.now) uses.now.all.now (map view_slot globals.now.all.items))
+        (view_call node.now) machine.old) }
 {
     let scope = Scope {
         defs,
@@ -271,7 +285,9 @@ fn top_choice(
     machine: &mut Machine,
     node: &If,
 ) -> Result<Value, Fault>
-    ensures { Gives (λ v. (view_value v, machine.new)) result (choice (top_scope (view_script defs.now.script.now) uses.now.all.now (map view_slot globals.now.all.items)) (view_if node.now) machine.old) }
+    ensures { Gives (λ v. (view_value v, machine.new)) result
+        (choice (top_scope (view_script defs.now.script.now) uses.now.all.now (map view_slot globals.now.all.items))
+        (view_if node.now) machine.old) }
 {
     let scope = Scope {
         defs,

@@ -7,8 +7,8 @@ use Rattle.script_lex.specs.declared.token.Symbol.TheVariants as sign
 use Rattle.script_grammar.specs.declared.tree.Literal.TheVariants as literal
 use Rattle.script_grammar.specs.declared.tree.CompareOp.{CompareOp}
 use Rattle.script_grammar.specs.declared.tree.CompareOp.TheVariants as op
-use Rattle.script_grammar.specs.Tree.{Tree, Many, none, more, AFull, AnExpr, AnAnd, ANot, ACompare, ASum, AnAdded, AProduct, AMultiplied, AnOperand, Negative, Plain, Expr, And, Not, Alone, Compared, Sum, Added, Product, Multiplied, Constant, Quoted, Truth, Named, Called, Chosen, Nothing, Paren, Tuple, Listed, Braces, Format, Call, If}
-use Rattle.script_grammar.specs.Spelling.{spell, behind, op_token, literal_token}
+use Rattle.script_grammar.specs.Tree.{Tree, Many, none, more, AFull, AnExpr, AnAnd, ANot, ACompare, ASum, AnAdded, AProduct, AMultiplied, AnOperand, Negative, Plain, Expr, And, Not, Alone, Compared, Sum, Added, Product, Multiplied, Constant, Quoted, Truth, Named, Called, Chosen, Nothing, Paren, Tuple, Listed, Braces, Format, NamedCall, If}
+use Rattle.script_grammar.specs.Spelling.{spell, each_after, op_token, literal_token}
 use Rattle.script_grammar.specs.Read.{next}
 use Rattle.script_grammar.specs.Kinds.{is_or, is_and, is_not, is_assign, is_semicolon, is_open_round, is_close_round, is_close_square, is_added, is_multiplied, is_minus}
 use Rattle.script_grammar.specs.ReadValue.{binds, opens_name, optional, takes_option, next_op}
@@ -33,11 +33,11 @@ op_no op.AtMost = refl
 op_no op.Greater = refl
 op_no op.AtLeast = refl
 
-ands_no : (ts : Tree (Many AnAnd)) (u : List TokenKind) → next is_assign u ≡ false → next is_assign (behind (Keyword word.Or) ts ++ u) ≡ false
+ands_no : (ts : Tree (Many AnAnd)) (u : List TokenKind) → next is_assign u ≡ false → next is_assign (each_after (Keyword word.Or) ts ++ u) ≡ false
 ands_no none u e = e
 ands_no (more t ts) u e = refl
 
-nots_no : (ts : Tree (Many ANot)) (u : List TokenKind) → next is_assign u ≡ false → next is_assign (behind (Keyword word.And) ts ++ u) ≡ false
+nots_no : (ts : Tree (Many ANot)) (u : List TokenKind) → next is_assign u ≡ false → next is_assign (each_after (Keyword word.And) ts ++ u) ≡ false
 nots_no none u e = e
 nots_no (more t ts) u e = refl
 
@@ -60,10 +60,10 @@ module _ (Q : List TokenKind → Type 0) (operands : (p : Tree AnOperand) (v : L
     not_first (Not false c) u e = compare_first c u e
 
     and_first : (t : Tree AnAnd) (u : List TokenKind) → next is_assign u ≡ false → Q (spell t ++ u)
-    and_first (And n rest) u e = subst Q (sym (append_assoc (spell n) (behind (Keyword word.And) rest) u)) (not_first n (behind (Keyword word.And) rest ++ u) (nots_no rest u e))
+    and_first (And n rest) u e = subst Q (sym (append_assoc (spell n) (each_after (Keyword word.And) rest) u)) (not_first n (each_after (Keyword word.And) rest ++ u) (nots_no rest u e))
 
     pub expr_first : (t : Tree AnExpr) (u : List TokenKind) → next is_assign u ≡ false → Q (spell t ++ u)
-    expr_first (Expr n rest) u e = subst Q (sym (append_assoc (spell n) (behind (Keyword word.Or) rest) u)) (and_first n (behind (Keyword word.Or) rest ++ u) (ands_no rest u e))
+    expr_first (Expr n rest) u e = subst Q (sym (append_assoc (spell n) (each_after (Keyword word.Or) rest) u)) (and_first n (each_after (Keyword word.Or) rest ++ u) (ands_no rest u e))
 
     pub full_first : ((v : List TokenKind) → Q (Symbol sign.Minus ∷ v)) → (t : Tree AFull) (u : List TokenKind) → next is_assign u ≡ false → Q (spell t ++ u)
     full_first minus (Negative at x) u e = minus (literal_token x ∷ u)
@@ -78,7 +78,7 @@ operand_binds (Quoted at x) v e = refl
 operand_binds (Truth at true) v e = refl
 operand_binds (Truth at false) v e = refl
 operand_binds (Named at x) v e = e
-operand_binds (Called (Call at x ts)) v e = refl
+operand_binds (Called (NamedCall at x ts)) v e = refl
 operand_binds (Chosen (If at c t f)) v e = refl
 operand_binds (Nothing at) v e = refl
 operand_binds (Paren f) v e = refl
@@ -119,7 +119,7 @@ operand_begins (Quoted at x) v e = refl
 operand_begins (Truth at true) v e = refl
 operand_begins (Truth at false) v e = refl
 operand_begins (Named at x) v e = refl
-operand_begins (Called (Call at x ts)) v e = refl
+operand_begins (Called (NamedCall at x ts)) v e = refl
 operand_begins (Chosen (If at c t f)) v e = refl
 operand_begins (Nothing at) v e = refl
 operand_begins (Paren f) v e = refl
@@ -296,12 +296,12 @@ operand_optional (Quoted at x) v e = refl
 operand_optional (Truth at true) v e = refl
 operand_optional (Truth at false) v e = refl
 operand_optional (Named at x) v e = refl
-operand_optional (Called (Call at x ts)) v e = refl
+operand_optional (Called (NamedCall at x ts)) v e = refl
 operand_optional (Chosen (If at c t f)) v e = refl
 operand_optional (Nothing at) v e = refl
 operand_optional (Paren f) v e = by_name ((spell f ++ (Symbol sign.CloseRound ∷ [])) ++ v) (subst (λ (w : List TokenKind). binds w ≡ false) (sym (append_assoc (spell f) (Symbol sign.CloseRound ∷ []) v)) (full_binds f (Symbol sign.CloseRound ∷ v) refl))
 operand_optional (Tuple at f g rest) v e =
-    let more_parts = spell g ++ (behind (Symbol sign.Comma) rest ++ (Symbol sign.CloseRound ∷ [])) in
+    let more_parts = spell g ++ (each_after (Symbol sign.Comma) rest ++ (Symbol sign.CloseRound ∷ [])) in
     by_name ((spell f ++ (Symbol sign.Comma ∷ more_parts)) ++ v) (subst (λ (w : List TokenKind). binds w ≡ false) (sym (append_assoc (spell f) (Symbol sign.Comma ∷ more_parts) v)) (full_binds f (Symbol sign.Comma ∷ (more_parts ++ v)) refl))
 operand_optional (Listed at ts) v e = refl
 operand_optional (Braces at p) v e = refl

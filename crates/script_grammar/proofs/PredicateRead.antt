@@ -5,7 +5,7 @@ use Rattle.script_lex.specs.declared.token.TokenKind.TheVariants.{Keyword, Symbo
 use Rattle.script_lex.specs.declared.token.Keyword.TheVariants as word
 use Rattle.script_lex.specs.declared.token.Symbol.TheVariants as sign
 use Rattle.fixed_text.specs.declared.time_mark.TimeMark.{TimeMark}
-use Rattle.script_grammar.specs.Tree.{Tree, APOr, APAnd, APNot, APAtom, POr, PAnd, PNot, Always, Never, Mark, Between, Grouped}
+use Rattle.script_grammar.specs.Tree.{Tree, APOr, APAnd, APNot, APAtom, POr, PAnd, PNot, TrueAtom, FalseAtom, Mark, IntervalAtom, Grouped}
 use Rattle.script_grammar.specs.Spelling.{spell, token_if}
 use Rattle.script_grammar.specs.Bare.{bare}
 use Rattle.script_grammar.specs.Read.{Reader, both, next, expect, perhaps}
@@ -25,10 +25,10 @@ mark_again a (Symbol sign.Minus ∷ u) e = absurd cc
 mark_again a (k ∷ u) e = refl
 
 atom_no_not : (t : Tree APAtom) (u : List TokenKind) → next is_not (spell t ++ u) ≡ false
-atom_no_not Always u = refl
-atom_no_not Never u = refl
+atom_no_not TrueAtom u = refl
+atom_no_not FalseAtom u = refl
 atom_no_not (Mark a) u = refl
-atom_no_not (Between a b) u = refl
+atom_no_not (IntervalAtom a b) u = refl
 atom_no_not (Grouped p) u = refl
 
 module _ (por : Reader (Tree APOr)) (n : ℕ) (lp : Reads por spell bare (Below 1) n) where
@@ -37,10 +37,10 @@ module _ (por : Reader (Tree APOr)) (n : ℕ) (lp : Reads por spell bare (Below 
 
   patom_again : (t : Tree APAtom) (u : List TokenKind) → Below 4 u → length (spell t ++ u) < suc n → patom por (spell t ++ u) ≡ Ok (bare t, u)
   unfolding patom interval
-  patom_again Always u e short = refl
-  patom_again Never u e short = refl
+  patom_again TrueAtom u e short = refl
+  patom_again FalseAtom u e short = refl
   patom_again (Mark a) u e short = mark_again a u (stop_minus u e)
-  patom_again (Between a b) u e short = refl
+  patom_again (IntervalAtom a b) u e short = refl
   patom_again (Grouped p) u e short = lift (grouped_reads.again (p, tt) u tt (omega arith)) (λ x. Grouped x.0)
 
   patom_reads : Reads (patom por) spell bare (Below 4) (suc n)

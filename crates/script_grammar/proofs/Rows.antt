@@ -2,7 +2,7 @@
 use Rattle.std.proofs.Common.{◌≡◌, ◌<◌, ℕ, length, arith, List, [], ◌∷◌, Option, Some, None, refl, sym, ap, ◌∙◌}
 use Rattle.std.specs.Prelude.{map}
 use Rattle.std.specs.Global.{Vec}
-use Rattle.script_grammar.specs.Tree.{more, Expr, And, Not, Alone, Compared as a_comparison, Sum, Added, Product, Call, Listed, POr, PAnd}
+use Rattle.script_grammar.specs.Tree.{more, Expr, And, Not, Alone, Compared as a_comparison, Sum, Added, Product, NamedCall, Listed, POr, PAnd}
 use Rattle.script_grammar.specs.ReadValue.{round_of}
 use Rattle.script_grammar.specs.View.{listed, por_of, pand_of, tuple_of, view_por, view_pands, view_pand, view_pnots, view_pnot, view_expr, view_ands, view_and, view_nots, view_not, view_compare, view_sum, view_addends, view_added, view_product, view_factors, view_multiplied, view_operand, view_fulls, view_full, view_call, view_args, view_arg}
 use Rattle.script_grammar.specs.declared.tree.Full.{Full}
@@ -98,8 +98,8 @@ sum_seen e = ap view_sum (sym (sum.roll-out-Sum e) ∙ sum.rolls-Sum' (sum.out-S
 pub product_seen : (e : product.Product) → view_product e ≡ Product (view_operand (product.out-Product e).first) (listed (map view_multiplied (product.out-Product e).rest.items))
 product_seen e = ap view_product (sym (product.roll-out-Product e) ∙ product.rolls-Product' (product.out-Product e)) ∙ ap (Product (view_operand (product.out-Product e).first)) (factors_listed (product.out-Product e).rest)
 
-pub call_seen : (e : call.Call) → view_call e ≡ Call (call.out-Call e).at (call.out-Call e).name (listed (map view_arg (call.out-Call e).args.items))
-call_seen e = ap view_call (sym (call.roll-out-Call e) ∙ call.rolls-Call' (call.out-Call e)) ∙ ap (Call (call.out-Call e).at (call.out-Call e).name) (args_listed (call.out-Call e).args)
+pub call_seen : (e : call.Call) → view_call e ≡ NamedCall (call.out-Call e).at (call.out-Call e).name (listed (map view_arg (call.out-Call e).args.items))
+call_seen e = ap view_call (sym (call.roll-out-Call e) ∙ call.rolls-Call' (call.out-Call e)) ∙ ap (NamedCall (call.out-Call e).at (call.out-Call e).name) (args_listed (call.out-Call e).args)
 
 pub compare_seen : (e : compare.Compare) (r : compared.Compared) → (compare.out-Compare e).right ≡ Some r → view_compare e ≡ a_comparison (view_sum (compare.out-Compare e).left) (compared.out-Compared r).at (compared.out-Compared r).op (view_sum (compared.out-Compared r).sum)
 compare_seen e r is =
@@ -132,8 +132,8 @@ sum_made f v = ap view_sum (sum.rolls-Sum' (record { first = f; rest = v })) ∙
 pub product_made : (f : operand.Operand) (v : Vec multiplied.Multiplied) → view_product (product.roll-Product (record { first = f; rest = v })) ≡ Product (view_operand f) (listed (map view_multiplied v.items))
 product_made f v = ap view_product (product.rolls-Product' (record { first = f; rest = v })) ∙ ap (Product (view_operand f)) (factors_listed v)
 
-pub call_made : (at : ℕ) (name : List ℕ) (v : Vec arg.Arg) → view_call (call.roll-Call (record { at = at; name = name; args = v })) ≡ Call at name (listed (map view_arg v.items))
-call_made at name v = ap view_call (call.rolls-Call' (record { at = at; name = name; args = v })) ∙ ap (Call at name) (args_listed v)
+pub call_made : (at : ℕ) (name : List ℕ) (v : Vec arg.Arg) → view_call (call.roll-Call (record { at = at; name = name; args = v })) ≡ NamedCall at name (listed (map view_arg v.items))
+call_made at name v = ap view_call (call.rolls-Call' (record { at = at; name = name; args = v })) ∙ ap (NamedCall at name) (args_listed v)
 
 pub list_made : (at : ℕ) (v : Vec Full) → view_operand (operand.List at v) ≡ Listed at (listed (map view_full v.items))
 list_made at v = ap (Listed at) (fulls_listed v)

@@ -5,7 +5,7 @@ use Rattle.script_lex.specs.declared.token.TokenKind.{TokenKind}
 use Rattle.script_lex.specs.declared.token.TokenKind.TheVariants.{Symbol}
 use Rattle.script_lex.specs.declared.token.Symbol.TheVariants as sign
 use Rattle.script_grammar.specs.Tree.{Sort, Tree, Many, none, more}
-use Rattle.script_grammar.specs.Spelling.{spell, behind as behind_spelled, with_commas, token_if}
+use Rattle.script_grammar.specs.Spelling.{spell, each_after as behind_spelled, with_commas, token_if}
 use Rattle.script_grammar.specs.Bare.{bare}
 use Rattle.script_grammar.specs.Read.{Read, Reader, ◌>>=◌, made, both, next, expect, perhaps, repeat, many, behind, chain, closed}
 use Rattle.script_grammar.specs.Kinds.{is_comma, is_assign}

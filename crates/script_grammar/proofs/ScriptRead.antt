@@ -5,7 +5,7 @@ use Rattle.script_lex.specs.declared.token.TokenKind.{TokenKind}
 use Rattle.script_lex.specs.declared.token.TokenKind.TheVariants.{Name, NameOpen, Keyword, Symbol}
 use Rattle.script_lex.specs.declared.token.Keyword.TheVariants as word
 use Rattle.script_lex.specs.declared.token.Symbol.TheVariants as sign
-use Rattle.script_grammar.specs.Tree.{Tree, Many, none, more, AStmt, APart, ABind, ADef, AnInner, AParam, AnExpr, Stmt, BindPart, DefPart, CallPart, IfPart, Bind, Def, Inner, Param, Labelled, Optional, Call, If, Script}
+use Rattle.script_grammar.specs.Tree.{Tree, Many, none, more, AStmt, APart, ABind, ADef, AnInner, AParam, AnExpr, Stmt, BindPart, DefPart, CallPart, IfPart, Bind, Def, Inner, Param, Labelled, Optional, NamedCall, If, Script}
 use Rattle.script_grammar.specs.Spelling.{spell, with_commas, token_if, spelling}
 use Rattle.script_grammar.specs.Bare.{bare}
 use Rattle.script_grammar.specs.Read.{Read, both, next, expect, perhaps, many, closed}
@@ -144,9 +144,9 @@ part_again : (n : ℕ) (t : Tree APart) (u : List TokenKind) → Ends false 1 u 
 unfolding part
 part_again n (BindPart (Bind at x v)) u e short = lift (bind_again false (suc n) (Bind at x v) u e short) BindPart
 part_again n (DefPart (Def at x ps eq is v)) u e short = lift (def_again n (Def at x ps eq is v) u tt short) DefPart
-part_again n (CallPart (Call at x ts)) u e short =
+part_again n (CallPart (NamedCall at x ts)) u e short =
     let m = suc (length ((with_commas ts ++ (Symbol sign.CloseRound ∷ [])) ++ u)) in
-    lift ((call_reads (full_by m no_place) m (by_reads m)).again (Call at x ts) u tt (omega arith)) CallPart
+    lift ((call_reads (full_by m no_place) m (by_reads m)).again (NamedCall at x ts) u tt (omega arith)) CallPart
 part_again n (IfPart (If at c t f)) u e short =
     let m = suc (length ((spell c ++ (Keyword word.Then ∷ (spell t ++ (Keyword word.Else ∷ (spell f ++ (Keyword word.End ∷ [])))))) ++ u)) in
     lift ((choice_reads (full_by m no_place) m (by_reads m)).again (If at c t f) u tt (omega arith)) IfPart
@@ -161,19 +161,19 @@ stmt_again n (Stmt p semicolon) u e short = lift ((both_reads (part_reads n) (ma
 stmt_any : (t : Tree AStmt) (u : List TokenKind) → next is_any (spell t ++ u) ≡ true
 stmt_any (Stmt (BindPart (Bind at x v)) b) u = refl
 stmt_any (Stmt (DefPart (Def at x ps eq is v)) b) u = refl
-stmt_any (Stmt (CallPart (Call at x ts)) b) u = refl
+stmt_any (Stmt (CallPart (NamedCall at x ts)) b) u = refl
 stmt_any (Stmt (IfPart (If at c t f)) b) u = refl
 
 stmt_follows : (t : Tree AStmt) (u : List TokenKind) → Behind false (spell t ++ u)
 stmt_follows (Stmt (BindPart (Bind at x v)) b) u = ((omega arith, refl), refl)
 stmt_follows (Stmt (DefPart (Def at x ps eq is v)) b) u = ((omega arith, refl), refl)
-stmt_follows (Stmt (CallPart (Call at x ts)) b) u = ((omega arith, refl), refl)
+stmt_follows (Stmt (CallPart (NamedCall at x ts)) b) u = ((omega arith, refl), refl)
 stmt_follows (Stmt (IfPart (If at c t f)) b) u = ((omega arith, refl), refl)
 
 stmt_long : (t : Tree AStmt) → 0 < length (spell t)
 stmt_long (Stmt (BindPart (Bind at x v)) b) = omega arith
 stmt_long (Stmt (DefPart (Def at x ps eq is v)) b) = omega arith
-stmt_long (Stmt (CallPart (Call at x ts)) b) = omega arith
+stmt_long (Stmt (CallPart (NamedCall at x ts)) b) = omega arith
 stmt_long (Stmt (IfPart (If at c t f)) b) = omega arith
 
 stmts_reads : (n : ℕ) → Reads (many (next is_any) (stmt no_place)) (λ (ts : Script). spell ts) bare (λ u. Behind false u × (next is_any u ≡ false)) (suc n)

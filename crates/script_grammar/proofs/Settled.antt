@@ -4,8 +4,8 @@ use Rattle.script_lex.specs.declared.token.TokenKind.{TokenKind}
 use Rattle.script_lex.specs.declared.token.TokenKind.TheVariants.{Keyword, Symbol}
 use Rattle.script_lex.specs.declared.token.Keyword.TheVariants as word
 use Rattle.script_lex.specs.declared.token.Symbol.TheVariants as sign
-use Rattle.script_grammar.specs.Tree.{Sort, APOr, APAnd, APNot, APAtom, AFull, Tree, Many, none, more, Stmt, BindPart, DefPart, CallPart, IfPart, Bind, Def, Inner, Param, Labelled, Optional, Negative, Plain, Expr, And, Not, Alone, Compared, Sum, Added, Product, Multiplied, Constant, Quoted, Truth, Named, Called, Chosen, Nothing, Paren, Tuple, Listed, Braces, Format, Call, Arg, If, POr, PAnd, PNot, Always, Never, Mark, Between, Grouped, Script}
-use Rattle.script_grammar.specs.Spelling.{spell, behind, with_commas, token_if, label, spelling}
+use Rattle.script_grammar.specs.Tree.{Sort, APOr, APAnd, APNot, APAtom, AFull, Tree, Many, none, more, Stmt, BindPart, DefPart, CallPart, IfPart, Bind, Def, Inner, Param, Labelled, Optional, Negative, Plain, Expr, And, Not, Alone, Compared, Sum, Added, Product, Multiplied, Constant, Quoted, Truth, Named, Called, Chosen, Nothing, Paren, Tuple, Listed, Braces, Format, NamedCall, Arg, If, POr, PAnd, PNot, TrueAtom, FalseAtom, Mark, IntervalAtom, Grouped, Script}
+use Rattle.script_grammar.specs.Spelling.{spell, each_after, with_commas, token_if, label, spelling}
 use Rattle.script_grammar.specs.Bare.{bare}
 use Rattle.script_grammar.specs.Placed.{IsPlaced, IsBehind, IsApart}
 use Rattle.script_grammar.proofs.ScriptRead.{one_script}
@@ -50,19 +50,19 @@ mutual
   spell_bare (Listed at parts) = rw (commas_bare parts) refl
   spell_bare (Braces at pred) = rw (spell_bare pred) refl
   spell_bare (Format at size) = refl
-  spell_bare (Call at name args) = rw (commas_bare args) refl
+  spell_bare (NamedCall at name args) = rw (commas_bare args) refl
   spell_bare (Arg at name value) = rw (spell_bare value) refl
   spell_bare (If at c t e) = rw (spell_bare c, spell_bare t, spell_bare e) refl
   spell_bare (POr first rest) = rw (spell_bare first, behind_bare (Keyword word.Or) rest) refl
   spell_bare (PAnd first rest) = rw (spell_bare first, behind_bare (Keyword word.And) rest) refl
   spell_bare (PNot negated atom) = rw (spell_bare atom) refl
-  spell_bare Always = refl
-  spell_bare Never = refl
+  spell_bare TrueAtom = refl
+  spell_bare FalseAtom = refl
   spell_bare (Mark a) = refl
-  spell_bare (Between a b) = refl
+  spell_bare (IntervalAtom a b) = refl
   spell_bare (Grouped p) = rw (spell_bare p) refl
 
-  behind_bare : {s : Sort} (k : TokenKind) (ts : Tree (Many s)) → behind k (bare ts) ≡ behind k ts
+  behind_bare : {s : Sort} (k : TokenKind) (ts : Tree (Many s)) → each_after k (bare ts) ≡ each_after k ts
   behind_bare k none = refl
   behind_bare k (more x xs) = rw (spell_bare x, behind_bare k xs) refl
 
@@ -86,10 +86,10 @@ predicate_bare (more x xs) h = rw (predicate_bare x h, predicate_bare xs h) refl
 predicate_bare (POr first rest) h = rw (predicate_bare first h, predicate_bare rest h) refl
 predicate_bare (PAnd first rest) h = rw (predicate_bare first h, predicate_bare rest h) refl
 predicate_bare (PNot negated atom) h = rw (predicate_bare atom h) refl
-predicate_bare Always h = refl
-predicate_bare Never h = refl
+predicate_bare TrueAtom h = refl
+predicate_bare FalseAtom h = refl
 predicate_bare (Mark a) h = refl
-predicate_bare (Between a b) h = refl
+predicate_bare (IntervalAtom a b) h = refl
 predicate_bare (Grouped p) h = rw (predicate_bare p h) refl
 predicate_bare t h = absurd h
 
@@ -137,7 +137,7 @@ abbrev mutual
   settle i (Listed at parts) = Listed i (settle_apart (i + 1) parts)
   settle i (Braces at pred) = Braces i pred
   settle i (Format at size) = Format i size
-  settle i (Call at name args) = Call i name (settle_apart (i + 1) args)
+  settle i (NamedCall at name args) = NamedCall i name (settle_apart (i + 1) args)
   settle i (Arg at name value) = Arg i name (settle (i + length (label name)) value)
   settle i (If at c t e) = If i (settle (i + 1) c) (settle (i + 2 + length (spell c)) t) (settle (i + 3 + length (spell c) + length (spell t)) e)
   settle i t = t
@@ -208,17 +208,17 @@ mutual
   settles i (Listed at parts) p = rw (p.0, settles_apart (i + 1) parts p.1) refl
   settles i (Braces at pred) p = rw (p, predicate_bare pred tt) refl
   settles i (Format at size) p = rw p refl
-  settles i (Call at name args) p = rw (p.0, settles_apart (i + 1) args p.1) refl
+  settles i (NamedCall at name args) p = rw (p.0, settles_apart (i + 1) args p.1) refl
   settles i (Arg at name value) p = rw (p.0, settles (i + length (label name)) value p.1) refl
   settles i (If at c t e) p =
       rw (p.0, spell_bare c, spell_bare t, settles (i + 1) c p.1, settles (i + 2 + length (spell c)) t p.2, settles (i + 3 + length (spell c) + length (spell t)) e p.3) refl
   settles i (POr first rest) p = predicate_bare (POr first rest) tt
   settles i (PAnd first rest) p = predicate_bare (PAnd first rest) tt
   settles i (PNot negated atom) p = predicate_bare (PNot negated atom) tt
-  settles i Always p = refl
-  settles i Never p = refl
+  settles i TrueAtom p = refl
+  settles i FalseAtom p = refl
   settles i (Mark a) p = refl
-  settles i (Between a b) p = refl
+  settles i (IntervalAtom a b) p = refl
   settles i (Grouped q) p = predicate_bare (Grouped q) tt
 
   settles_behind : {s : Sort} (i : ℕ) (ts : Tree (Many s)) → IsBehind i ts → settle_behind i (bare ts) ≡ ts

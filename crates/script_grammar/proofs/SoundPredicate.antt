@@ -5,7 +5,7 @@ use Rattle.script_lex.specs.declared.token.TokenKind.TheVariants.{Time, Keyword,
 use Rattle.script_lex.specs.declared.token.Keyword.TheVariants as word
 use Rattle.script_lex.specs.declared.token.Symbol.TheVariants as sign
 use Rattle.fixed_text.specs.declared.time_mark.TimeMark.{TimeMark}
-use Rattle.script_grammar.specs.Tree.{Tree, none, APOr, APAnd, APNot, POr, PAnd, PNot, Always, Never, Mark, Between, Grouped}
+use Rattle.script_grammar.specs.Tree.{Tree, none, APOr, APAnd, APNot, POr, PAnd, PNot, TrueAtom, FalseAtom, Mark, IntervalAtom, Grouped}
 use Rattle.script_grammar.specs.Spelling.{spell}
 use Rattle.script_grammar.specs.Placed.{IsPlaced}
 use Rattle.script_grammar.specs.Read.{Reader}
@@ -31,7 +31,7 @@ only_close_round k e = absurd cc
 
 -- one predicate of each level
 some_pnot : Tree APNot
-some_pnot = PNot false Always
+some_pnot = PNot false TrueAtom
 
 some_pand : Tree APAnd
 some_pand = PAnd some_pnot none
@@ -42,25 +42,25 @@ some_por = POr some_pand none
 module _ {stamp : ℕ → ℕ} {total : ℕ} where
   interval_out : (a : TimeMark) (r : List TokenKind) → Outcome stamp total spell IsPlaced (Time a ∷ r) (interval a r)
   unfolding interval
-  interval_out a (Symbol sign.Minus ∷ Time b ∷ r) = found (Between a b) r refl (λ i h. tt)
-  interval_out a (Symbol sign.Minus ∷ r) = stop (Time a ∷ Symbol sign.Minus ∷ []) r (Between a a) (Time a ∷ []) refl refl
+  interval_out a (Symbol sign.Minus ∷ Time b ∷ r) = found (IntervalAtom a b) r refl (λ i h. tt)
+  interval_out a (Symbol sign.Minus ∷ r) = stop (Time a ∷ Symbol sign.Minus ∷ []) r (IntervalAtom a a) (Time a ∷ []) refl refl
   interval_out a w = found (Mark a) w refl (λ i h. tt)
 
   module _ {por : Reader (Tree APOr)} (lp : Sound stamp total por spell IsPlaced) where
     patom_out : (w : List TokenKind) → Outcome stamp total spell IsPlaced w (patom por w)
     unfolding patom
-    patom_out (Keyword word.True ∷ r) = found Always r refl (λ i h. tt)
-    patom_out (Keyword word.False ∷ r) = found Never r refl (λ i h. tt)
+    patom_out (Keyword word.True ∷ r) = found TrueAtom r refl (λ i h. tt)
+    patom_out (Keyword word.False ∷ r) = found FalseAtom r refl (λ i h. tt)
     patom_out (Time a ∷ r) = interval_out a r
     patom_out (Symbol sign.OpenRound ∷ r) = behind_front (λ x. Grouped x.0) (Symbol sign.OpenRound ∷ []) refl (λ x. refl) (λ i x h p. tt) ((both_sound tt lp (expect_sound is_close_round (Symbol sign.CloseRound) only_close_round)).outcome r)
-    patom_out w = refused w Always
+    patom_out w = refused w TrueAtom
 
     patom_sound : Sound stamp total (patom por) spell IsPlaced
     patom_sound = record { outcome = patom_out }
 
     pnot_sound : Sound stamp total (pnot por) spell IsPlaced
     unfolding pnot
-    pnot_sound = record { outcome = λ w. made_of (λ x. PNot x.0 x.1) (λ x. refl) (λ i x h p. tt) ((both_sound Always (perhaps_sound is_not (Keyword word.Not) only_not) patom_sound).outcome w) }
+    pnot_sound = record { outcome = λ w. made_of (λ x. PNot x.0 x.1) (λ x. refl) (λ i x h p. tt) ((both_sound TrueAtom (perhaps_sound is_not (Keyword word.Not) only_not) patom_sound).outcome w) }
 
     pand_sound : Sound stamp total (pand por) spell IsPlaced
     unfolding pand

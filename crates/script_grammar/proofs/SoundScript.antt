@@ -5,7 +5,7 @@ use Rattle.script_lex.specs.declared.token.TokenKind.{TokenKind}
 use Rattle.script_lex.specs.declared.token.TokenKind.TheVariants.{Name, NameOpen, Keyword, Symbol}
 use Rattle.script_lex.specs.declared.token.Keyword.TheVariants as word
 use Rattle.script_lex.specs.declared.token.Symbol.TheVariants as sign
-use Rattle.script_grammar.specs.Tree.{Tree, Many, none, more, AStmt, APart, ABind, ADef, AnInner, AParam, AnExpr, Stmt, BindPart, DefPart, CallPart, IfPart, Bind, Def, Inner, Param, Labelled, Optional, Call, If, Script}
+use Rattle.script_grammar.specs.Tree.{Tree, Many, none, more, AStmt, APart, ABind, ADef, AnInner, AParam, AnExpr, Stmt, BindPart, DefPart, CallPart, IfPart, Bind, Def, Inner, Param, Labelled, Optional, NamedCall, If, Script}
 use Rattle.script_grammar.specs.Spelling.{spell, with_commas, token_if, spelling}
 use Rattle.script_grammar.specs.Placed.{IsPlaced}
 use Rattle.script_grammar.specs.Read.{Read, Reader, ◌>>=◌, made, both, next, expect, perhaps, repeat, many, closed}
@@ -126,7 +126,7 @@ module _ {stamp : ℕ → ℕ} {total : ℕ} where
 stmt_long : (t : Tree AStmt) → 0 < length (spell t)
 stmt_long (Stmt (BindPart (Bind at x v)) b) = omega arith
 stmt_long (Stmt (DefPart (Def at x ps eq is v)) b) = omega arith
-stmt_long (Stmt (CallPart (Call at x ts)) b) = omega arith
+stmt_long (Stmt (CallPart (NamedCall at x ts)) b) = omega arith
 stmt_long (Stmt (IfPart (If at c t f)) b) = omega arith
 
 abbrev Ends : Read Script → Type 0

@@ -11,8 +11,8 @@ use Rattle.script_grammar.specs.declared.tree.Literal.{Literal}
 use Rattle.script_grammar.specs.declared.tree.Literal.TheVariants as literal
 use Rattle.script_grammar.specs.declared.tree.CompareOp.{CompareOp}
 use Rattle.script_grammar.specs.declared.tree.CompareOp.TheVariants as op
-use Rattle.script_grammar.specs.Tree.{Tree, Many, none, more, AFull, AnExpr, AnAnd, ANot, ACompare, ASum, AProduct, AnOperand, AnArg, Negative, Plain, Expr, And, Not, Alone, Compared, Sum, Added, Product, Multiplied, Constant, Quoted, Truth, Named, Called, Chosen, Listed, Braces, Format, Call, Arg, If}
-use Rattle.script_grammar.specs.Spelling.{spell, behind, with_commas, literal_token, op_token, option_name, token_if, wav_tokens}
+use Rattle.script_grammar.specs.Tree.{Tree, Many, none, more, AFull, AnExpr, AnAnd, ANot, ACompare, ASum, AProduct, AnOperand, AnArg, Negative, Plain, Expr, And, Not, Alone, Compared, Sum, Added, Product, Multiplied, Constant, Quoted, Truth, Named, Called, Chosen, Listed, Braces, Format, NamedCall, Arg, If}
+use Rattle.script_grammar.specs.Spelling.{spell, each_after, with_commas, literal_token, op_token, option_name, token_if, wav_tokens}
 use Rattle.script_grammar.specs.Placed.{IsPlaced, IsApart}
 use Rattle.script_grammar.specs.Read.{Read, Reader, ◌>>=◌, made, both, next, expect}
 use Rattle.script_grammar.specs.Kinds.{is_or, is_and, is_not, is_assign, is_open_round, is_close_round, is_close_square, is_close_curly, is_then, is_else, is_end, is_added, is_multiplied, op_of}
@@ -104,7 +104,7 @@ round_spelled : (at : ℕ) (ts : Tree (Many AFull)) → spell (round_or_unit at 
 round_spelled at none = refl
 round_spelled at (more f none) = ap (λ (z : List TokenKind). Symbol sign.OpenRound ∷ (z ++ (Symbol sign.CloseRound ∷ []))) (sym (append-nil (spell f)))
 round_spelled at (more f (more g rest)) =
-    let b = behind (Symbol sign.Comma) rest in
+    let b = each_after (Symbol sign.Comma) rest in
     let k = Symbol sign.CloseRound ∷ [] in
     ap (λ (z : List TokenKind). Symbol sign.OpenRound ∷ z) (sym (append_assoc (spell f) (Symbol sign.Comma ∷ (spell g ++ b)) k ∙ ap (λ (z : List TokenKind). spell f ++ (Symbol sign.Comma ∷ z)) (append_assoc (spell g) b k)))
 
@@ -165,8 +165,8 @@ module _ {stamp : ℕ → ℕ} {total : ℕ} where
 
     call_out : (w : List TokenKind) → Outcome stamp total spell IsPlaced w (call stamp full w)
     unfolding call
-    call_out (NameOpen n ∷ r) = behind_front (Call (stamp (suc (length r))) n) (NameOpen n ∷ []) refl (λ a. refl) (λ i a h p. (first h, p (i + 1) (omega arith))) (args_sound.outcome r)
-    call_out w = refused w (Call 0 [] none)
+    call_out (NameOpen n ∷ r) = behind_front (NamedCall (stamp (suc (length r))) n) (NameOpen n ∷ []) refl (λ a. refl) (λ i a h p. (first h, p (i + 1) (omega arith))) (args_sound.outcome r)
+    call_out w = refused w (NamedCall 0 [] none)
 
     pub call_sound : Sound stamp total (call stamp full) spell IsPlaced
     call_sound = record { outcome = call_out }
@@ -204,7 +204,7 @@ module _ {stamp : ℕ → ℕ} {total : ℕ} where
       operand_out (Keyword word.True ∷ r) = found (Truth (stamp (suc (length r))) true) r refl (λ i h. first h)
       operand_out (Keyword word.False ∷ r) = found (Truth (stamp (suc (length r))) false) r refl (λ i h. first h)
       operand_out (Name x ∷ r) = found (Named (stamp (suc (length r))) x) r refl (λ i h. first h)
-      operand_out (NameOpen x ∷ r) = behind_front (λ y. Called (Call (stamp (suc (length r))) x y)) (NameOpen x ∷ []) refl (λ a. refl) (λ i a h p. (first h, p (i + 1) (omega arith))) (args_sound.outcome r)
+      operand_out (NameOpen x ∷ r) = behind_front (λ y. Called (NamedCall (stamp (suc (length r))) x y)) (NameOpen x ∷ []) refl (λ a. refl) (λ i a h p. (first h, p (i + 1) (omega arith))) (args_sound.outcome r)
       operand_out (Keyword word.If ∷ r) = made_of Chosen (λ a. refl) (λ i a h p. p) (choice_out (Keyword word.If ∷ r))
       operand_out (Symbol sign.OpenRound ∷ r) =
           behind_front (round_or_unit (stamp (suc (length r)))) (Symbol sign.OpenRound ∷ []) refl (λ ts. round_spelled (stamp (suc (length r))) ts) (λ i ts h p. round_placed i (stamp (suc (length r))) ts (first h) (p (i + 1) (omega arith)))

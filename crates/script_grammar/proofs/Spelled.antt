@@ -8,7 +8,7 @@ use Rattle.script_lex.specs.declared.token.TokenKind.TheVariants.{NameOpen, Keyw
 use Rattle.script_lex.specs.declared.token.Keyword.TheVariants as word
 use Rattle.script_lex.specs.declared.token.Symbol.TheVariants as sign
 use Rattle.script_grammar.specs.Tree.{Sort, Tree, Many, APAnd, APNot, AFull}
-use Rattle.script_grammar.specs.Spelling.{spell, behind, with_commas}
+use Rattle.script_grammar.specs.Spelling.{spell, each_after, with_commas}
 use Rattle.script_grammar.specs.Pieces.{each, each_behind, between_commas, in_brackets, por_parts, pand_parts}
 use Rattle.script_grammar.specs.View.{listed, por_of, pand_of, tuple_of, view_por, view_pand, view_pnot, view_expr, view_and, view_not, view_sum, view_added, view_product, view_multiplied, view_operand, view_full, view_call, view_arg}
 use Rattle.script_grammar.specs.declared.tree.Full.{Full}
@@ -33,7 +33,7 @@ pub each_listed : {s : Sort} (ts : List (Tree s)) → spell (listed ts) ≡ each
 each_listed [] = refl
 each_listed (t ∷ ts) = ap (λ (z : List TokenKind). spell t ++ z) (each_listed ts)
 
-pub behind_listed : {s : Sort} (k : TokenKind) (ts : List (Tree s)) → behind k (listed ts) ≡ each_behind k ts
+pub behind_listed : {s : Sort} (k : TokenKind) (ts : List (Tree s)) → each_after k (listed ts) ≡ each_behind k ts
 behind_listed k [] = refl
 behind_listed k (t ∷ ts) = ap (λ (z : List TokenKind). k ∷ (spell t ++ z)) (behind_listed k ts)
 

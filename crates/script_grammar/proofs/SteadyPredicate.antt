@@ -5,7 +5,7 @@ use Rattle.script_lex.specs.declared.token.TokenKind.TheVariants.{Time, Keyword,
 use Rattle.script_lex.specs.declared.token.Keyword.TheVariants as word
 use Rattle.script_lex.specs.declared.token.Symbol.TheVariants as sign
 use Rattle.fixed_text.specs.declared.time_mark.TimeMark.{TimeMark}
-use Rattle.script_grammar.specs.Tree.{Tree, Many, APOr, APAnd, APNot, APAtom, POr, PAnd, PNot, Always, Never, Mark, Between, Grouped}
+use Rattle.script_grammar.specs.Tree.{Tree, Many, APOr, APAnd, APNot, APAtom, POr, PAnd, PNot, TrueAtom, FalseAtom, Mark, IntervalAtom, Grouped}
 use Rattle.script_grammar.specs.Bare.{bare}
 use Rattle.script_grammar.specs.Read.{Reader}
 use Rattle.script_grammar.specs.Kinds.{is_or, is_and, is_not, is_close_round}
@@ -23,7 +23,7 @@ loud_and k e = absurd cc
 
 second_arm : (n n' : ℕ) (a : TimeMark) (k : TokenKind) → Arm bare false n n' (λ u. interval a (Symbol sign.Minus ∷ u)) (λ u. interval a (Symbol sign.Minus ∷ u)) k
 unfolding interval
-second_arm n n' a (Time b) = reads (given (λ l. Between a b) (Between a b) (λ l. refl))
+second_arm n n' a (Time b) = reads (given (λ l. IntervalAtom a b) (IntervalAtom a b) (λ l. refl))
 second_arm n n' a k = fault (λ u. refl) (λ u. refl)
 
 interval_arm : (n n' : ℕ) (a : TimeMark) (k : TokenKind) → Arm bare false (suc n) (suc n') (interval a) (interval a) k
@@ -38,8 +38,8 @@ interval_steady n n' a = cut n n' (omega arith) (omega arith) (by_first (gives (
 module _ (por por' : Reader (Tree APOr)) (n n' : ℕ) (lp : Steady bare false n n' por por') where
   patom_arm : (k : TokenKind) → Arm bare false n n' (patom por) (patom por') k
   unfolding patom
-  patom_arm (Keyword word.True) = reads (given (λ l. Always) Always (λ l. refl))
-  patom_arm (Keyword word.False) = reads (given (λ l. Never) Never (λ l. refl))
+  patom_arm (Keyword word.True) = reads (given (λ l. TrueAtom) TrueAtom (λ l. refl))
+  patom_arm (Keyword word.False) = reads (given (λ l. FalseAtom) FalseAtom (λ l. refl))
   patom_arm (Time a) = reads (interval_steady n n' a)
   patom_arm (Symbol sign.OpenRound) = reads (made_at (λ l (x : Tree APOr × Unit {0}). Grouped x.0) (λ (x : Tree APOr × Unit {0}). Grouped x.0) (λ l x. refl) (both_near lp (expect_steady is_close_round)))
   patom_arm k = fault (λ u. refl) (λ u. refl)

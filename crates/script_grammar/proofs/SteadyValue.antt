@@ -7,7 +7,7 @@ use Rattle.script_lex.specs.declared.token.Keyword.TheVariants as word
 use Rattle.script_lex.specs.declared.token.Symbol.TheVariants as sign
 use Rattle.script_grammar.specs.declared.tree.Literal.TheVariants as literal
 use Rattle.script_grammar.specs.declared.tree.CompareOp.{CompareOp}
-use Rattle.script_grammar.specs.Tree.{Tree, Many, none, more, AFull, AnAnd, ANot, ACompare, ASum, AnAdded, AProduct, AMultiplied, AnOperand, APOr, Negative, Plain, Expr, And, Not, Alone, Compared, Sum, Added, Product, Multiplied, Constant, Quoted, Truth, Named, Called, Chosen, Listed, Braces, Format, Call, Arg, If}
+use Rattle.script_grammar.specs.Tree.{Tree, Many, none, more, AFull, AnAnd, ANot, ACompare, ASum, AnAdded, AProduct, AMultiplied, AnOperand, APOr, Negative, Plain, Expr, And, Not, Alone, Compared, Sum, Added, Product, Multiplied, Constant, Quoted, Truth, Named, Called, Chosen, Listed, Braces, Format, NamedCall, Arg, If}
 use Rattle.script_grammar.specs.Spelling.{option_name}
 use Rattle.script_grammar.specs.Bare.{bare}
 use Rattle.script_grammar.specs.Read.{Read, Reader, ◌>>=◌, made, both, next, expect, perhaps, many, behind, chain, closed}
@@ -287,7 +287,7 @@ module _ (stamp : ℕ → ℕ) (full full' : Reader (Tree AFull)) (n n' : ℕ) (
 
   pub call_reads : {loose : Bool} (x : List ℕ) → Steady bare loose n n' (λ u. call stamp full (NameOpen x ∷ u)) (λ u. call no_place full' (NameOpen x ∷ u))
   unfolding call
-  call_reads x = made_at (λ l. Call (stamp (suc l)) x) (Call 0 x) (λ l a. refl) args_steady
+  call_reads x = made_at (λ l. NamedCall (stamp (suc l)) x) (NamedCall 0 x) (λ l a. refl) args_steady
 
   abbrev IfParts : Type 0
   IfParts = Tree AFull × (Unit {0} × (Tree AFull × (Unit {0} × (Tree AFull × Unit {0}))))
@@ -308,7 +308,7 @@ module _ (stamp : ℕ → ℕ) (full full' : Reader (Tree AFull)) (n n' : ℕ) (
     operand_arm (Keyword word.True) = reads (given (λ l. Truth (stamp (suc l)) true) (Truth 0 true) (λ l. refl))
     operand_arm (Keyword word.False) = reads (given (λ l. Truth (stamp (suc l)) false) (Truth 0 false) (λ l. refl))
     operand_arm (Name x) = reads (given (λ l. Named (stamp (suc l)) x) (Named 0 x) (λ l. refl))
-    operand_arm (NameOpen x) = reads (made_at (λ l y. Called (Call (stamp (suc l)) x y)) (λ y. Called (Call 0 x y)) (λ l a. refl) args_steady)
+    operand_arm (NameOpen x) = reads (made_at (λ l y. Called (NamedCall (stamp (suc l)) x y)) (λ y. Called (NamedCall 0 x y)) (λ l a. refl) args_steady)
     operand_arm (Keyword word.If) = reads (made_at (λ l. Chosen) Chosen (λ l a. refl) choice_reads)
     operand_arm (Symbol sign.OpenRound) = reads (made_at (λ l. round_or_unit (stamp (suc l))) (round_or_unit 0) (λ l a. round_bare (stamp (suc l)) a) (closed_steady is_comma is_close_round loud_comma lf))
     operand_arm (Symbol sign.OpenSquare) = reads (made_at (λ l. Listed (stamp (suc l))) (Listed 0) (λ l a. refl) (closed_steady is_comma is_close_square loud_comma lf))

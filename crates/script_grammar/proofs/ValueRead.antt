@@ -8,8 +8,8 @@ use Rattle.script_lex.specs.declared.token.Symbol.TheVariants as sign
 use Rattle.script_grammar.specs.declared.tree.Literal.TheVariants as literal
 use Rattle.script_grammar.specs.declared.tree.CompareOp.{CompareOp}
 use Rattle.script_grammar.specs.declared.tree.CompareOp.TheVariants as op
-use Rattle.script_grammar.specs.Tree.{Tree, Many, none, more, AFull, AnExpr, AnAnd, ANot, ACompare, ASum, AnAdded, AProduct, AMultiplied, AnOperand, ACall, AnArg, AnIf, Negative, Plain, Expr, And, Not, Alone, Compared, Sum, Added, Product, Multiplied, Constant, Quoted, Truth, Named, Called, Chosen, Nothing, Paren, Tuple, Listed, Braces, Format, Call, Arg, If}
-use Rattle.script_grammar.specs.Spelling.{spell, behind, with_commas, op_token, option_name}
+use Rattle.script_grammar.specs.Tree.{Tree, Many, none, more, AFull, AnExpr, AnAnd, ANot, ACompare, ASum, AnAdded, AProduct, AMultiplied, AnOperand, ACall, AnArg, AnIf, Negative, Plain, Expr, And, Not, Alone, Compared, Sum, Added, Product, Multiplied, Constant, Quoted, Truth, Named, Called, Chosen, Nothing, Paren, Tuple, Listed, Braces, Format, NamedCall, Arg, If}
+use Rattle.script_grammar.specs.Spelling.{spell, each_after, with_commas, op_token, option_name}
 use Rattle.script_grammar.specs.Bare.{bare}
 use Rattle.script_grammar.specs.Read.{Read, Reader, ◌>>=◌, made, both, next, expect, many, closed}
 use Rattle.script_grammar.specs.Kinds.{is_or, is_and, is_not, is_minus, is_assign, is_comma, is_close_round, is_close_square, is_close_curly, is_then, is_else, is_end, is_added, is_multiplied, op_of}
@@ -108,7 +108,7 @@ module _ (full : Reader (Tree AFull)) (n : ℕ) (lf : Reads full spell bare (End
 
   call_again : (t : Tree ACall) (u : List TokenKind) → Anything u → length (spell t ++ u) < suc n → call no_place full (spell t ++ u) ≡ Ok (bare t, u)
   unfolding call args
-  call_again (Call at x ts) u e short = lift (args_reads.again ts u tt (omega arith)) (Call 0 x)
+  call_again (NamedCall at x ts) u e short = lift (args_reads.again ts u tt (omega arith)) (NamedCall 0 x)
 
   pub call_reads : Reads (call no_place full) spell bare Anything (suc n)
   call_reads = record { again = call_again }
@@ -151,12 +151,12 @@ module _ (full : Reader (Tree AFull)) (n : ℕ) (lf : Reads full spell bare (End
     operand_again (Truth at true) u e short = refl
     operand_again (Truth at false) u e short = refl
     operand_again (Named at x) u e short = refl
-    operand_again (Called (Call at x ts)) u e short = lift (args_reads.again ts u tt (omega arith)) (λ y. Called (Call 0 x y))
+    operand_again (Called (NamedCall at x ts)) u e short = lift (args_reads.again ts u tt (omega arith)) (λ y. Called (NamedCall 0 x y))
     operand_again (Chosen (If at c t f)) u e short = lift (choice_again (If at c t f) u tt short) Chosen
     operand_again (Nothing at) u e short = round_again none (Symbol sign.CloseRound ∷ []) u refl (omega arith)
     operand_again (Paren f) u e short = round_again (more f none) (spell f ++ (Symbol sign.CloseRound ∷ [])) u (ap (λ (z : List TokenKind). z ++ (Symbol sign.CloseRound ∷ [])) (sym (append-nil (spell f)))) (omega arith)
     operand_again (Tuple at f g rest) u e short =
-        let b = behind (Symbol sign.Comma) rest in
+        let b = each_after (Symbol sign.Comma) rest in
         let k = Symbol sign.CloseRound ∷ [] in
         round_again (more f (more g rest)) (spell f ++ (Symbol sign.Comma ∷ (spell g ++ (b ++ k)))) u (sym (append_assoc (spell f) (Symbol sign.Comma ∷ (spell g ++ b)) k ∙ ap (λ (z : List TokenKind). spell f ++ (Symbol sign.Comma ∷ z)) (append_assoc (spell g) b k))) (omega arith)
     operand_again (Listed at ts) u e short = lift (squares_reads.again ts u tt (omega arith)) (Listed 0)

@@ -6,15 +6,15 @@ use Rattle.script_lex.specs.declared.token.TokenKind.{TokenKind}
 use Rattle.script_lex.specs.declared.token.TokenKind.TheVariants.{Name, NameOpen, Keyword, Symbol}
 use Rattle.script_lex.specs.declared.token.Keyword.TheVariants as word
 use Rattle.script_lex.specs.declared.token.Symbol.TheVariants as sign
-use Rattle.script_grammar.specs.Tree.{Sort, Tree, Many, AStmt, AnOperand, ASum, ACompare, AnAnd, AFull, none, more, Stmt, BindPart, DefPart, CallPart, IfPart, Bind, Def, Inner, Param, Labelled, Optional, Negative, Plain, Expr, And, Not, Alone, Compared, Sum, Added, Product, Multiplied, Constant, Quoted, Truth, Named, Called, Chosen, Nothing, Paren, Tuple, Listed, Braces, Format, Call, Arg, If, POr, PAnd, PNot, Always, Never, Mark, Between, Grouped}
-use Rattle.script_grammar.specs.Spelling.{spell, behind, with_commas, token_if, label, literal_token, truth_token, op_token, wav_tokens, added_token, multiplied_token}
+use Rattle.script_grammar.specs.Tree.{Sort, Tree, Many, AStmt, AnOperand, ASum, ACompare, AnAnd, AFull, none, more, Stmt, BindPart, DefPart, CallPart, IfPart, Bind, Def, Inner, Param, Labelled, Optional, Negative, Plain, Expr, And, Not, Alone, Compared, Sum, Added, Product, Multiplied, Constant, Quoted, Truth, Named, Called, Chosen, Nothing, Paren, Tuple, Listed, Braces, Format, NamedCall, Arg, If, POr, PAnd, PNot, TrueAtom, FalseAtom, Mark, IntervalAtom, Grouped}
+use Rattle.script_grammar.specs.Spelling.{spell, each_after, with_commas, token_if, label, literal_token, truth_token, op_token, wav_tokens, added_token, multiplied_token}
 use Rattle.script_grammar.specs.Placed.{IsPlaced, IsBehind, IsApart}
 use Rattle.script_grammar.specs.Ats.{ats}
 
 pub some_token : (t : Tree AStmt) → 0 < length (spell t)
 some_token (Stmt (BindPart (Bind at name value)) semicolon) = omega arith
 some_token (Stmt (DefPart (Def at name params equals inner result)) semicolon) = omega arith
-some_token (Stmt (CallPart (Call at name args)) semicolon) = omega arith
+some_token (Stmt (CallPart (NamedCall at name args)) semicolon) = omega arith
 some_token (Stmt (IfPart (If at c t e)) semicolon) = omega arith
 
 -- so has each expression
@@ -23,7 +23,7 @@ operand_some (Constant at value) = omega arith
 operand_some (Quoted at text) = omega arith
 operand_some (Truth at value) = omega arith
 operand_some (Named at name) = omega arith
-operand_some (Called (Call at name args)) = omega arith
+operand_some (Called (NamedCall at name args)) = omega arith
 operand_some (Chosen (If at c t e)) = omega arith
 operand_some (Nothing at) = omega arith
 operand_some (Paren f) = omega arith
@@ -48,12 +48,12 @@ and_some : (t : Tree AnAnd) → 0 < length (spell t)
 and_some (And (Not negated inner) rest) =
     let a = compare_some inner in
     let n = length-append (token_if (Keyword word.Not) negated) (spell inner) in
-    let m = length-append (token_if (Keyword word.Not) negated ++ spell inner) (behind (Keyword word.And) rest) in
+    let m = length-append (token_if (Keyword word.Not) negated ++ spell inner) (each_after (Keyword word.And) rest) in
     omega (arith, a, n, m)
 
 full_some : (t : Tree AFull) → 0 < length (spell t)
 full_some (Negative at number) = omega arith
-full_some (Plain (Expr head rest)) = let a = and_some head in let n = length-append (spell head) (behind (Keyword word.Or) rest) in omega (arith, a, n)
+full_some (Plain (Expr head rest)) = let a = and_some head in let n = length-append (spell head) (each_after (Keyword word.Or) rest) in omega (arith, a, n)
 
 wav_some : (size : Option ℤ) → 0 < length (wav_tokens size)
 wav_some None = omega arith
@@ -115,11 +115,11 @@ mutual
       alone i (length (spell (Negative at number))) at (omega (arith, p)) (omega (arith, p))
   within i (Plain e) p = within i e p
   within i (Expr head rest) p =
-      let n0 = length-append (spell head) (behind (Keyword word.Or) rest) in
-      both i (length (spell (Expr head rest))) (ats head) (ats rest) (wider (i) (length (spell head)) i (length (spell (Expr head rest))) (ats head) (omega (arith, n0)) (omega (arith, n0)) (within (i) head p.0)) (wider (i + length (spell head)) (length (behind (Keyword word.Or) rest)) i (length (spell (Expr head rest))) (ats rest) (omega (arith, n0)) (omega (arith, n0)) (within_behind (Keyword word.Or) (i + length (spell head)) rest p.1))
+      let n0 = length-append (spell head) (each_after (Keyword word.Or) rest) in
+      both i (length (spell (Expr head rest))) (ats head) (ats rest) (wider (i) (length (spell head)) i (length (spell (Expr head rest))) (ats head) (omega (arith, n0)) (omega (arith, n0)) (within (i) head p.0)) (wider (i + length (spell head)) (length (each_after (Keyword word.Or) rest)) i (length (spell (Expr head rest))) (ats rest) (omega (arith, n0)) (omega (arith, n0)) (within_behind (Keyword word.Or) (i + length (spell head)) rest p.1))
   within i (And head rest) p =
-      let n0 = length-append (spell head) (behind (Keyword word.And) rest) in
-      both i (length (spell (And head rest))) (ats head) (ats rest) (wider (i) (length (spell head)) i (length (spell (And head rest))) (ats head) (omega (arith, n0)) (omega (arith, n0)) (within (i) head p.0)) (wider (i + length (spell head)) (length (behind (Keyword word.And) rest)) i (length (spell (And head rest))) (ats rest) (omega (arith, n0)) (omega (arith, n0)) (within_behind (Keyword word.And) (i + length (spell head)) rest p.1))
+      let n0 = length-append (spell head) (each_after (Keyword word.And) rest) in
+      both i (length (spell (And head rest))) (ats head) (ats rest) (wider (i) (length (spell head)) i (length (spell (And head rest))) (ats head) (omega (arith, n0)) (omega (arith, n0)) (within (i) head p.0)) (wider (i + length (spell head)) (length (each_after (Keyword word.And) rest)) i (length (spell (And head rest))) (ats rest) (omega (arith, n0)) (omega (arith, n0)) (within_behind (Keyword word.And) (i + length (spell head)) rest p.1))
   within i (Not negated inner) p =
       let n0 = length-append (token_if (Keyword word.Not) negated) (spell inner) in
       wider (i + length (token_if (Keyword word.Not) negated)) (length (spell inner)) i (length (spell (Not negated inner))) (ats inner) (omega (arith, n0)) (omega (arith, n0)) (within (i + length (token_if (Keyword word.Not) negated)) inner p)
@@ -155,19 +155,19 @@ mutual
       let n0 = length-append (spell f) (Symbol sign.CloseRound ∷ []) in
       wider (i + 1) (length (spell f)) i (length (spell (Paren f))) (ats f) (omega (arith, n0)) (omega (arith, n0)) (within (i + 1) f p)
   within i (Tuple at f g rest) p =
-      let n0 = length-append (spell f) (Symbol sign.Comma ∷ (spell g ++ (behind (Symbol sign.Comma) rest ++ (Symbol sign.CloseRound ∷ [])))) in
-      let n1 = length-append (spell g) (behind (Symbol sign.Comma) rest ++ (Symbol sign.CloseRound ∷ [])) in
-      let n2 = length-append (behind (Symbol sign.Comma) rest) (Symbol sign.CloseRound ∷ []) in
-      first i (length (spell (Tuple at f g rest))) at (ats f ++ (ats g ++ (ats rest))) (omega (arith, p.0)) (omega (arith, p.0, n0, n1, n2)) (both i (length (spell (Tuple at f g rest))) (ats f) (ats g ++ (ats rest)) (wider (i + 1) (length (spell f)) i (length (spell (Tuple at f g rest))) (ats f) (omega (arith, n0, n1, n2)) (omega (arith, n0, n1, n2)) (within (i + 1) f p.1)) (both i (length (spell (Tuple at f g rest))) (ats g) (ats rest) (wider (i + 1 + length (spell f) + 1) (length (spell g)) i (length (spell (Tuple at f g rest))) (ats g) (omega (arith, n0, n1, n2)) (omega (arith, n0, n1, n2)) (within (i + 1 + length (spell f) + 1) g p.2)) (wider (i + 1 + length (spell f) + 1 + length (spell g)) (length (behind (Symbol sign.Comma) rest)) i (length (spell (Tuple at f g rest))) (ats rest) (omega (arith, n0, n1, n2)) (omega (arith, n0, n1, n2)) (within_behind (Symbol sign.Comma) (i + 1 + length (spell f) + 1 + length (spell g)) rest p.3))))
+      let n0 = length-append (spell f) (Symbol sign.Comma ∷ (spell g ++ (each_after (Symbol sign.Comma) rest ++ (Symbol sign.CloseRound ∷ [])))) in
+      let n1 = length-append (spell g) (each_after (Symbol sign.Comma) rest ++ (Symbol sign.CloseRound ∷ [])) in
+      let n2 = length-append (each_after (Symbol sign.Comma) rest) (Symbol sign.CloseRound ∷ []) in
+      first i (length (spell (Tuple at f g rest))) at (ats f ++ (ats g ++ (ats rest))) (omega (arith, p.0)) (omega (arith, p.0, n0, n1, n2)) (both i (length (spell (Tuple at f g rest))) (ats f) (ats g ++ (ats rest)) (wider (i + 1) (length (spell f)) i (length (spell (Tuple at f g rest))) (ats f) (omega (arith, n0, n1, n2)) (omega (arith, n0, n1, n2)) (within (i + 1) f p.1)) (both i (length (spell (Tuple at f g rest))) (ats g) (ats rest) (wider (i + 1 + length (spell f) + 1) (length (spell g)) i (length (spell (Tuple at f g rest))) (ats g) (omega (arith, n0, n1, n2)) (omega (arith, n0, n1, n2)) (within (i + 1 + length (spell f) + 1) g p.2)) (wider (i + 1 + length (spell f) + 1 + length (spell g)) (length (each_after (Symbol sign.Comma) rest)) i (length (spell (Tuple at f g rest))) (ats rest) (omega (arith, n0, n1, n2)) (omega (arith, n0, n1, n2)) (within_behind (Symbol sign.Comma) (i + 1 + length (spell f) + 1 + length (spell g)) rest p.3))))
   within i (Listed at parts) p =
       let n0 = length-append (with_commas parts) (Symbol sign.CloseSquare ∷ []) in
       first i (length (spell (Listed at parts))) at (ats parts) (omega (arith, p.0)) (omega (arith, p.0, n0)) (wider (i + 1) (length (with_commas parts)) i (length (spell (Listed at parts))) (ats parts) (omega (arith, n0)) (omega (arith, n0)) (within_apart (i + 1) parts p.1))
   within i (Format at size) p =
       let some = wav_some size in
       alone i (length (wav_tokens size)) at (omega (arith, p)) (omega (arith, p, some))
-  within i (Call at name args) p =
+  within i (NamedCall at name args) p =
       let n0 = length-append (with_commas args) (Symbol sign.CloseRound ∷ []) in
-      first i (length (spell (Call at name args))) at (ats args) (omega (arith, p.0)) (omega (arith, p.0, n0)) (wider (i + 1) (length (with_commas args)) i (length (spell (Call at name args))) (ats args) (omega (arith, n0)) (omega (arith, n0)) (within_apart (i + 1) args p.1))
+      first i (length (spell (NamedCall at name args))) at (ats args) (omega (arith, p.0)) (omega (arith, p.0, n0)) (wider (i + 1) (length (with_commas args)) i (length (spell (NamedCall at name args))) (ats args) (omega (arith, n0)) (omega (arith, n0)) (within_apart (i + 1) args p.1))
   within i (Arg at name value) p =
       let n0 = length-append (label name) (spell value) in
       let some = full_some value in
@@ -180,24 +180,24 @@ mutual
   within i (POr head rest) p = no_one i (length (spell (POr head rest)))
   within i (PAnd head rest) p = no_one i (length (spell (PAnd head rest)))
   within i (PNot negated atom) p = no_one i (length (spell (PNot negated atom)))
-  within i Always p = no_one i 1
-  within i Never p = no_one i 1
+  within i TrueAtom p = no_one i 1
+  within i FalseAtom p = no_one i 1
   within i (Mark a) p = no_one i (length (spell (Mark a)))
-  within i (Between a b) p = no_one i (length (spell (Between a b)))
+  within i (IntervalAtom a b) p = no_one i (length (spell (IntervalAtom a b)))
   within i (Grouped g) p = no_one i (length (spell (Grouped g)))
 
-  within_behind : {s : Sort} (k : TokenKind) (i : ℕ) (ts : Tree (Many s)) → IsBehind i ts → Lie i (length (behind k ts)) (ats ts)
+  within_behind : {s : Sort} (k : TokenKind) (i : ℕ) (ts : Tree (Many s)) → IsBehind i ts → Lie i (length (each_after k ts)) (ats ts)
   within_behind k i none p = no_one i 0
   within_behind k i (more x xs) p =
-      let n = length-append (spell x) (behind k xs) in
-      both i (length (behind k (more x xs))) (ats x) (ats xs)
-      (wider (i + 1) (length (spell x)) i (length (behind k (more x xs))) (ats x) (omega arith) (omega arith) (within (i + 1) x p.0))
-      (wider (i + 1 + length (spell x)) (length (behind k xs)) i (length (behind k (more x xs))) (ats xs) (omega arith) (omega arith) (within_behind k (i + 1 + length (spell x)) xs p.1))
+      let n = length-append (spell x) (each_after k xs) in
+      both i (length (each_after k (more x xs))) (ats x) (ats xs)
+      (wider (i + 1) (length (spell x)) i (length (each_after k (more x xs))) (ats x) (omega arith) (omega arith) (within (i + 1) x p.0))
+      (wider (i + 1 + length (spell x)) (length (each_after k xs)) i (length (each_after k (more x xs))) (ats xs) (omega arith) (omega arith) (within_behind k (i + 1 + length (spell x)) xs p.1))
 
   within_apart : {s : Sort} (i : ℕ) (ts : Tree (Many s)) → IsApart i ts → Lie i (length (with_commas ts)) (ats ts)
   within_apart i none p = no_one i 0
   within_apart i (more x xs) p =
-      let n = length-append (spell x) (behind (Symbol sign.Comma) xs) in
+      let n = length-append (spell x) (each_after (Symbol sign.Comma) xs) in
       both i (length (with_commas (more x xs))) (ats x) (ats xs)
       (wider i (length (spell x)) i (length (with_commas (more x xs))) (ats x) (omega arith) (omega arith) (within i x p.0))
-      (wider (i + length (spell x)) (length (behind (Symbol sign.Comma) xs)) i (length (with_commas (more x xs))) (ats xs) (omega arith) (omega arith) (within_behind (Symbol sign.Comma) (i + length (spell x)) xs p.1))
+      (wider (i + length (spell x)) (length (each_after (Symbol sign.Comma) xs)) i (length (with_commas (more x xs))) (ats xs) (omega arith) (omega arith) (within_behind (Symbol sign.Comma) (i + length (spell x)) xs p.1))

@@ -1,6 +1,6 @@
 -- The fields at of a tree, each before those of the trees below it, and these from left to right.
 use Rattle.std.specs.Prelude.{ℕ, List, [], ◌∷◌, ◌++◌}
-use Rattle.script_grammar.specs.Tree.{Sort, Tree, none, more, Stmt, BindPart, DefPart, CallPart, IfPart, Bind, Def, Inner, Param, Labelled, Optional, Negative, Plain, Expr, And, Not, Alone, Compared, Sum, Added, Product, Multiplied, Constant, Quoted, Truth, Named, Called, Chosen, Nothing, Paren, Tuple, Listed, Braces, Format, Call, Arg, If, POr, PAnd, PNot, Always, Never, Mark, Between, Grouped}
+use Rattle.script_grammar.specs.Tree.{Sort, Tree, none, more, Stmt, BindPart, DefPart, CallPart, IfPart, Bind, Def, Inner, Param, Labelled, Optional, Negative, Plain, Expr, And, Not, Alone, Compared, Sum, Added, Product, Multiplied, Constant, Quoted, Truth, Named, Called, Chosen, Nothing, Paren, Tuple, Listed, Braces, Format, NamedCall, Arg, If, POr, PAnd, PNot, TrueAtom, FalseAtom, Mark, IntervalAtom, Grouped}
 
 abbrev pub ats : {s : Sort} → Tree s → List ℕ
 ats none = []
@@ -39,15 +39,15 @@ ats (Tuple at f g rest) = at ∷ (ats f ++ (ats g ++ ats rest))
 ats (Listed at parts) = at ∷ ats parts
 ats (Braces at pred) = at ∷ []
 ats (Format at size) = at ∷ []
-ats (Call at name args) = at ∷ ats args
+ats (NamedCall at name args) = at ∷ ats args
 ats (Arg at name value) = at ∷ ats value
 ats (If at c t e) = at ∷ (ats c ++ (ats t ++ ats e))
 -- a predicate has no such field
 ats (POr first rest) = []
 ats (PAnd first rest) = []
 ats (PNot negated atom) = []
-ats Always = []
-ats Never = []
+ats TrueAtom = []
+ats FalseAtom = []
 ats (Mark a) = []
-ats (Between a b) = []
+ats (IntervalAtom a b) = []
 ats (Grouped p) = []

@@ -1,4 +1,5 @@
--- Reading a list of tokens from left to right: a value and the tokens behind it, or how many tokens are left at the fault.
+-- Reading a list of tokens from left to right: a value and the tokens behind it, or how many tokens are left at the
+-- fault.
 use Rattle.std.specs.Prelude.{ℕ, zero, suc, List, [], ◌∷◌, length, Bool, true, false, Result, Ok, Err}
 use Rattle.script_lex.specs.declared.token.TokenKind.{TokenKind}
 use Rattle.script_grammar.specs.Tree.{Sort, Tree, Many, none, more}

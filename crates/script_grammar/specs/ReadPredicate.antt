@@ -4,19 +4,19 @@ use Rattle.script_lex.specs.declared.token.TokenKind.TheVariants.{Time, Keyword,
 use Rattle.script_lex.specs.declared.token.Keyword.TheVariants as word
 use Rattle.script_lex.specs.declared.token.Symbol.TheVariants as sign
 use Rattle.fixed_text.specs.declared.time_mark.TimeMark.{TimeMark}
-use Rattle.script_grammar.specs.Tree.{Tree, APOr, APAnd, APNot, APAtom, POr, PAnd, PNot, Always, Never, Mark, Between, Grouped}
+use Rattle.script_grammar.specs.Tree.{Tree, APOr, APAnd, APNot, APAtom, POr, PAnd, PNot, TrueAtom, FalseAtom, Mark, IntervalAtom, Grouped}
 use Rattle.script_grammar.specs.Read.{Reader, ◌>>=◌, made, both, expect, perhaps, chain}
 use Rattle.script_grammar.specs.Kinds.{is_or, is_and, is_not, is_close_round}
 
 -- a time mark, or one with another behind "-"
 unfoldable pub interval : TimeMark → Reader (Tree APAtom)
-interval a (Symbol sign.Minus ∷ Time b ∷ r) = Ok (Between a b, r)
+interval a (Symbol sign.Minus ∷ Time b ∷ r) = Ok (IntervalAtom a b, r)
 interval a (Symbol sign.Minus ∷ r) = Err (length r)
 interval a w = Ok (Mark a, w)
 
 unfoldable pub patom : Reader (Tree APOr) → Reader (Tree APAtom)
-patom por (Keyword word.True ∷ r) = Ok (Always, r)
-patom por (Keyword word.False ∷ r) = Ok (Never, r)
+patom por (Keyword word.True ∷ r) = Ok (TrueAtom, r)
+patom por (Keyword word.False ∷ r) = Ok (FalseAtom, r)
 patom por (Time a ∷ r) = interval a r
 patom por (Symbol sign.OpenRound ∷ r) = both por (expect is_close_round) r >>= made (λ x. Grouped x.0)
 patom por w = Err (length w)

@@ -21,7 +21,8 @@ unfoldable pub result : (ℕ → ℕ) → Reader (Tree AnExpr)
 result stamp w = expr false stamp (full_by (length w) stamp) w
 
 unfoldable pub bind : Bool → (ℕ → ℕ) → Reader (Tree ABind)
-bind loose stamp (Name n ∷ r) = both (expect is_assign) (value loose stamp) r >>= made (λ x. Bind (stamp (suc (length r))) n x.1)
+bind loose stamp (Name n
+    ∷ r) = both (expect is_assign) (value loose stamp) r >>= made (λ x. Bind (stamp (suc (length r))) n x.1)
 bind loose stamp w = Err (length w)
 
 unfoldable pub inner : (ℕ → ℕ) → Reader (Tree AnInner)
@@ -29,13 +30,17 @@ inner stamp w = both (bind true stamp) (perhaps is_semicolon) w >>= made (λ x. 
 
 unfoldable pub param : (ℕ → ℕ) → Reader (Tree AParam)
 param stamp (Name n ∷ r) = Ok (Param (stamp (suc (length r))) n, r)
-param stamp (Symbol sign.Tilde ∷ Name n ∷ Symbol sign.Assign ∷ r) = value false stamp r >>= made (Optional (stamp (suc (suc (length r)))) n)
+param stamp (Symbol sign.Tilde ∷ Name n ∷ Symbol sign.Assign
+    ∷ r) = value false stamp r >>= made (Optional (stamp (suc (suc (length r)))) n)
 param stamp (Symbol sign.Tilde ∷ Name n ∷ r) = Ok (Labelled (stamp (suc (length r))) n, r)
 param stamp (Symbol sign.Tilde ∷ r) = Err (length r)
 param stamp w = Err (length w)
 
 unfoldable pub def : (ℕ → ℕ) → Reader (Tree ADef)
-def stamp (Keyword word.Def ∷ NameOpen n ∷ r) = both (closed is_comma is_close_round (param stamp)) (both (perhaps is_assign) (both (many binds (inner stamp)) (both (result stamp) (expect is_end)))) r >>= made (λ x. Def (stamp (suc (length r))) n x.0 x.1.0 x.1.1.0 x.1.1.1.0)
+def stamp (Keyword word.Def ∷ NameOpen n
+    ∷ r) = both (closed is_comma is_close_round (param stamp))
+    (both (perhaps is_assign) (both (many binds (inner stamp)) (both (result stamp) (expect is_end)))) r >>= made
+    (λ x. Def (stamp (suc (length r))) n x.0 x.1.0 x.1.1.0 x.1.1.1.0)
 def stamp (Keyword word.Def ∷ r) = Err (length r)
 def stamp w = Err (length w)
 

@@ -1,5 +1,6 @@
--- How a value is read. A reader of Full stands for the recursion, and stamp makes a field at of the number of tokens that are left.
--- Where a value is loose, a `(` may stand behind it: then `%wav` takes its option only if all of `(samplesize =` stands there.
+-- How a value is read. A reader of Full stands for the recursion, and stamp makes a field at of the number of tokens
+-- that are left. Where a value is loose, a `(` may stand behind it: then `%wav` takes its option only if all of
+-- `(samplesize =` stands there.
 use Rattle.std.specs.Prelude.{ℕ, ℤ, zero, suc, List, [], ◌∷◌, length, Bool, true, false, Option, Some, None, Ok, Err, bytes_eq}
 use Rattle.script_lex.specs.declared.token.TokenKind.TheVariants.{Name, NameOpen, Int, Number, Str, Keyword, Wav, Symbol}
 use Rattle.script_lex.specs.declared.token.TokenKind.{TokenKind}
@@ -8,7 +9,7 @@ use Rattle.script_lex.specs.declared.token.Symbol.TheVariants as sign
 use Rattle.script_grammar.specs.declared.tree.Literal.{Literal}
 use Rattle.script_grammar.specs.declared.tree.Literal.TheVariants as literal
 use Rattle.script_grammar.specs.declared.tree.CompareOp.{CompareOp}
-use Rattle.script_grammar.specs.Tree.{Tree, Many, none, more, AFull, AnExpr, AnAnd, ANot, ACompare, ASum, AnAdded, AProduct, AMultiplied, AnOperand, ACall, AnArg, AnIf, Negative, Plain, Expr, And, Not, Alone, Compared, Sum, Added, Product, Multiplied, Constant, Quoted, Truth, Named, Called, Chosen, Nothing, Paren, Tuple, Listed, Braces, Format, Call, Arg, If}
+use Rattle.script_grammar.specs.Tree.{Tree, Many, none, more, AFull, AnExpr, AnAnd, ANot, ACompare, ASum, AnAdded, AProduct, AMultiplied, AnOperand, ACall, AnArg, AnIf, Negative, Plain, Expr, And, Not, Alone, Compared, Sum, Added, Product, Multiplied, Constant, Quoted, Truth, Named, Called, Chosen, Nothing, Paren, Tuple, Listed, Braces, Format, NamedCall, Arg, If}
 use Rattle.script_grammar.specs.Spelling.{option_name}
 use Rattle.script_grammar.specs.Read.{Reader, ◌>>=◌, made, both, next, expect, perhaps, many, chain, closed}
 use Rattle.script_grammar.specs.Kinds.{is_or, is_and, is_not, is_assign, is_comma, is_close_round, is_close_square, is_close_curly, is_open_round, is_then, is_else, is_end, is_added, is_multiplied, op_of}
@@ -55,7 +56,8 @@ the_name (Name x ∷ r) =
 the_name w = Err (length w)
 
 unfoldable pub size : Reader ℤ
-size w = both (expect is_open_round) (both the_name (both (expect is_assign) (both whole_number (expect is_close_round)))) w >>= made (λ x. x.1.1.1.0)
+size w = both (expect is_open_round)
+    (both the_name (both (expect is_assign) (both whole_number (expect is_close_round)))) w >>= made (λ x. x.1.1.1.0)
 
 unfoldable pub wav : Bool → Reader (Option ℤ)
 wav loose w =
@@ -81,11 +83,13 @@ round_or_unit at none = Nothing at
 round_or_unit at (more f rest) = round_of at f rest
 
 unfoldable pub choice : (ℕ → ℕ) → Reader (Tree AFull) → Reader (Tree AnIf)
-choice stamp full (Keyword word.If ∷ r) = both full (both (expect is_then) (both full (both (expect is_else) (both full (expect is_end))))) r >>= made (λ x. If (stamp (suc (length r))) x.0 x.1.1.0 x.1.1.1.1.0)
+choice stamp full (Keyword word.If
+    ∷ r) = both full (both (expect is_then) (both full (both (expect is_else) (both full (expect is_end))))) r >>= made
+    (λ x. If (stamp (suc (length r))) x.0 x.1.1.0 x.1.1.1.1.0)
 choice stamp full w = Err (length w)
 
 unfoldable pub call : (ℕ → ℕ) → Reader (Tree AFull) → Reader (Tree ACall)
-call stamp full (NameOpen n ∷ r) = args stamp full r >>= made (Call (stamp (suc (length r))) n)
+call stamp full (NameOpen n ∷ r) = args stamp full r >>= made (NamedCall (stamp (suc (length r))) n)
 call stamp full w = Err (length w)
 
 unfoldable pub operand : Bool → (ℕ → ℕ) → Reader (Tree AFull) → Reader (Tree AnOperand)
@@ -95,29 +99,39 @@ operand loose stamp full (Str x ∷ r) = Ok (Quoted (stamp (suc (length r))) x, 
 operand loose stamp full (Keyword word.True ∷ r) = Ok (Truth (stamp (suc (length r))) true, r)
 operand loose stamp full (Keyword word.False ∷ r) = Ok (Truth (stamp (suc (length r))) false, r)
 operand loose stamp full (Name x ∷ r) = Ok (Named (stamp (suc (length r))) x, r)
-operand loose stamp full (NameOpen x ∷ r) = args stamp full r >>= made (λ y. Called (Call (stamp (suc (length r))) x y))
+operand loose stamp full (NameOpen x
+    ∷ r) = args stamp full r >>= made (λ y. Called (NamedCall (stamp (suc (length r))) x y))
 operand loose stamp full (Keyword word.If ∷ r) = choice stamp full (Keyword word.If ∷ r) >>= made Chosen
-operand loose stamp full (Symbol sign.OpenRound ∷ r) = closed is_comma is_close_round full r >>= made (round_or_unit (stamp (suc (length r))))
-operand loose stamp full (Symbol sign.OpenSquare ∷ r) = closed is_comma is_close_square full r >>= made (Listed (stamp (suc (length r))))
-operand loose stamp full (Symbol sign.OpenCurly ∷ r) = both por (expect is_close_curly) r >>= made (λ x. Braces (stamp (suc (length r))) x.0)
+operand loose stamp full (Symbol sign.OpenRound
+    ∷ r) = closed is_comma is_close_round full r >>= made (round_or_unit (stamp (suc (length r))))
+operand loose stamp full (Symbol sign.OpenSquare
+    ∷ r) = closed is_comma is_close_square full r >>= made (Listed (stamp (suc (length r))))
+operand loose stamp full (Symbol sign.OpenCurly
+    ∷ r) = both por (expect is_close_curly) r >>= made (λ x. Braces (stamp (suc (length r))) x.0)
 operand loose stamp full (Wav ∷ r) = wav loose r >>= made (Format (stamp (suc (length r))))
 operand loose stamp full w = Err (length w)
 
 unfoldable pub multiplied : Bool → (ℕ → ℕ) → Reader (Tree AFull) → Reader (Tree AMultiplied)
-multiplied loose stamp full (Symbol sign.Star ∷ r) = operand loose stamp full r >>= made (Multiplied (stamp (suc (length r))) false)
-multiplied loose stamp full (Symbol sign.Slash ∷ r) = operand loose stamp full r >>= made (Multiplied (stamp (suc (length r))) true)
+multiplied loose stamp full (Symbol sign.Star
+    ∷ r) = operand loose stamp full r >>= made (Multiplied (stamp (suc (length r))) false)
+multiplied loose stamp full (Symbol sign.Slash
+    ∷ r) = operand loose stamp full r >>= made (Multiplied (stamp (suc (length r))) true)
 multiplied loose stamp full w = Err (length w)
 
 unfoldable pub product : Bool → (ℕ → ℕ) → Reader (Tree AFull) → Reader (Tree AProduct)
-product loose stamp full w = both (operand loose stamp full) (many (next is_multiplied) (multiplied loose stamp full)) w >>= made (λ x. Product x.0 x.1)
+product loose stamp full w = both (operand loose stamp full) (many (next is_multiplied) (multiplied loose stamp full)) w
+    >>= made (λ x. Product x.0 x.1)
 
 unfoldable pub added : Bool → (ℕ → ℕ) → Reader (Tree AFull) → Reader (Tree AnAdded)
-added loose stamp full (Symbol sign.Plus ∷ r) = product loose stamp full r >>= made (Added (stamp (suc (length r))) false)
-added loose stamp full (Symbol sign.Minus ∷ r) = product loose stamp full r >>= made (Added (stamp (suc (length r))) true)
+added loose stamp full (Symbol sign.Plus
+    ∷ r) = product loose stamp full r >>= made (Added (stamp (suc (length r))) false)
+added loose stamp full (Symbol sign.Minus
+    ∷ r) = product loose stamp full r >>= made (Added (stamp (suc (length r))) true)
 added loose stamp full w = Err (length w)
 
 unfoldable pub sum : Bool → (ℕ → ℕ) → Reader (Tree AFull) → Reader (Tree ASum)
-sum loose stamp full w = both (product loose stamp full) (many (next is_added) (added loose stamp full)) w >>= made (λ x. Sum x.0 x.1)
+sum loose stamp full w = both (product loose stamp full) (many (next is_added) (added loose stamp full)) w >>= made
+    (λ x. Sum x.0 x.1)
 
 -- the operator that stands next
 abbrev pub next_op : List TokenKind → Option CompareOp
@@ -127,7 +141,8 @@ next_op (k ∷ r) = op_of k
 abbrev pub behind_op : Bool → (ℕ → ℕ) → Reader (Tree AFull) → Tree ASum → Option CompareOp → Reader (Tree ACompare)
 behind_op loose stamp full left None w = Ok (Alone left, w)
 behind_op loose stamp full left (Some op) [] = Err 0
-behind_op loose stamp full left (Some op) (k ∷ r) = sum loose stamp full r >>= made (Compared left (stamp (suc (length r))) op)
+behind_op loose stamp full left (Some op) (k
+    ∷ r) = sum loose stamp full r >>= made (Compared left (stamp (suc (length r))) op)
 
 unfoldable pub compare : Bool → (ℕ → ℕ) → Reader (Tree AFull) → Reader (Tree ACompare)
 compare loose stamp full w = sum loose stamp full w >>= λ x. behind_op loose stamp full x.0 (next_op x.1) x.1

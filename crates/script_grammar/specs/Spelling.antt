@@ -8,7 +8,7 @@ use Rattle.script_grammar.specs.declared.tree.Literal.{Literal}
 use Rattle.script_grammar.specs.declared.tree.Literal.TheVariants as literal
 use Rattle.script_grammar.specs.declared.tree.CompareOp.{CompareOp}
 use Rattle.script_grammar.specs.declared.tree.CompareOp.TheVariants as op
-use Rattle.script_grammar.specs.Tree.{Sort, Tree, Many, none, more, Stmt, BindPart, DefPart, CallPart, IfPart, Bind, Def, Inner, Param, Labelled, Optional, Negative, Plain, Expr, And, Not, Alone, Compared, Sum, Added, Product, Multiplied, Constant, Quoted, Truth, Named, Called, Chosen, Nothing, Paren, Tuple, Listed, Braces, Format, Call, Arg, If, POr, PAnd, PNot, Always, Never, Mark, Between, Grouped, Script}
+use Rattle.script_grammar.specs.Tree.{Sort, Tree, Many, none, more, Stmt, BindPart, DefPart, CallPart, IfPart, Bind, Def, Inner, Param, Labelled, Optional, Negative, Plain, Expr, And, Not, Alone, Compared, Sum, Added, Product, Multiplied, Constant, Quoted, Truth, Named, Called, Chosen, Nothing, Paren, Tuple, Listed, Braces, Format, NamedCall, Arg, If, POr, PAnd, PNot, TrueAtom, FalseAtom, Mark, IntervalAtom, Grouped, Script}
 
 abbrev pub literal_token : Literal → TokenKind
 literal_token (literal.Int n) = Int n
@@ -49,7 +49,8 @@ option_name = 115 ∷ 97 ∷ 109 ∷ 112 ∷ 108 ∷ 101 ∷ 115 ∷ 105 ∷ 122
 
 abbrev pub wav_tokens : Option ℤ → List TokenKind
 wav_tokens None = Wav ∷ []
-wav_tokens (Some size) = Wav ∷ Symbol sign.OpenRound ∷ Name option_name ∷ Symbol sign.Assign ∷ Int size ∷ Symbol sign.CloseRound ∷ []
+wav_tokens (Some size) = Wav ∷ Symbol sign.OpenRound ∷ Name option_name ∷ Symbol sign.Assign ∷ Int size
+    ∷ Symbol sign.CloseRound ∷ []
 
 -- the spelling of a tree; of a list, one after another; of a list, each behind a token; and with commas between
 abbrev mutual
@@ -62,15 +63,17 @@ abbrev mutual
   spell (CallPart c) = spell c
   spell (IfPart i) = spell i
   spell (Bind at name value) = Name name ∷ Symbol sign.Assign ∷ spell value
-  spell (Def at name params equals inner result) = Keyword word.Def ∷ NameOpen name ∷ (with_commas params ++ (Symbol sign.CloseRound ∷ (token_if (Symbol sign.Assign) equals ++ (spell inner ++ (spell result ++ (Keyword word.End ∷ []))))))
+  spell (Def at name params equals inner result) = Keyword word.Def ∷ NameOpen name
+      ∷ (with_commas params ++ (Symbol sign.CloseRound
+      ∷ (token_if (Symbol sign.Assign) equals ++ (spell inner ++ (spell result ++ (Keyword word.End ∷ []))))))
   spell (Inner bind semicolon) = spell bind ++ token_if (Symbol sign.Semicolon) semicolon
   spell (Param at name) = Name name ∷ []
   spell (Labelled at name) = Symbol sign.Tilde ∷ Name name ∷ []
   spell (Optional at name value) = Symbol sign.Tilde ∷ Name name ∷ Symbol sign.Assign ∷ spell value
   spell (Negative at number) = Symbol sign.Minus ∷ literal_token number ∷ []
   spell (Plain e) = spell e
-  spell (Expr first rest) = spell first ++ behind (Keyword word.Or) rest
-  spell (And first rest) = spell first ++ behind (Keyword word.And) rest
+  spell (Expr first rest) = spell first ++ each_after (Keyword word.Or) rest
+  spell (And first rest) = spell first ++ each_after (Keyword word.And) rest
   spell (Not negated inner) = token_if (Keyword word.Not) negated ++ spell inner
   spell (Alone left) = spell left
   spell (Compared left at o right) = spell left ++ (op_token o ∷ spell right)
@@ -86,29 +89,32 @@ abbrev mutual
   spell (Chosen i) = spell i
   spell (Nothing at) = Symbol sign.OpenRound ∷ Symbol sign.CloseRound ∷ []
   spell (Paren f) = Symbol sign.OpenRound ∷ (spell f ++ (Symbol sign.CloseRound ∷ []))
-  spell (Tuple at f g rest) = Symbol sign.OpenRound ∷ (spell f ++ (Symbol sign.Comma ∷ (spell g ++ (behind (Symbol sign.Comma) rest ++ (Symbol sign.CloseRound ∷ [])))))
+  spell (Tuple at f g rest) = Symbol sign.OpenRound
+      ∷ (spell f ++ (Symbol sign.Comma ∷ (spell g ++ (each_after (Symbol sign.Comma) rest
+      ++ (Symbol sign.CloseRound ∷ [])))))
   spell (Listed at parts) = Symbol sign.OpenSquare ∷ (with_commas parts ++ (Symbol sign.CloseSquare ∷ []))
   spell (Braces at pred) = Symbol sign.OpenCurly ∷ (spell pred ++ (Symbol sign.CloseCurly ∷ []))
   spell (Format at size) = wav_tokens size
-  spell (Call at name args) = NameOpen name ∷ (with_commas args ++ (Symbol sign.CloseRound ∷ []))
+  spell (NamedCall at name args) = NameOpen name ∷ (with_commas args ++ (Symbol sign.CloseRound ∷ []))
   spell (Arg at name value) = label name ++ spell value
-  spell (If at c t e) = Keyword word.If ∷ (spell c ++ (Keyword word.Then ∷ (spell t ++ (Keyword word.Else ∷ (spell e ++ (Keyword word.End ∷ []))))))
-  spell (POr first rest) = spell first ++ behind (Keyword word.Or) rest
-  spell (PAnd first rest) = spell first ++ behind (Keyword word.And) rest
+  spell (If at c t e) = Keyword word.If ∷ (spell c ++ (Keyword word.Then
+      ∷ (spell t ++ (Keyword word.Else ∷ (spell e ++ (Keyword word.End ∷ []))))))
+  spell (POr first rest) = spell first ++ each_after (Keyword word.Or) rest
+  spell (PAnd first rest) = spell first ++ each_after (Keyword word.And) rest
   spell (PNot negated atom) = token_if (Keyword word.Not) negated ++ spell atom
-  spell Always = Keyword word.True ∷ []
-  spell Never = Keyword word.False ∷ []
+  spell TrueAtom = Keyword word.True ∷ []
+  spell FalseAtom = Keyword word.False ∷ []
   spell (Mark a) = Time a ∷ []
-  spell (Between a b) = Time a ∷ Symbol sign.Minus ∷ Time b ∷ []
+  spell (IntervalAtom a b) = Time a ∷ Symbol sign.Minus ∷ Time b ∷ []
   spell (Grouped p) = Symbol sign.OpenRound ∷ (spell p ++ (Symbol sign.CloseRound ∷ []))
 
-  pub behind : {s : Sort} → TokenKind → Tree (Many s) → List TokenKind
-  behind k none = []
-  behind k (more x xs) = k ∷ (spell x ++ behind k xs)
+  pub each_after : {s : Sort} → TokenKind → Tree (Many s) → List TokenKind
+  each_after k none = []
+  each_after k (more x xs) = k ∷ (spell x ++ each_after k xs)
 
   pub with_commas : {s : Sort} → Tree (Many s) → List TokenKind
   with_commas none = []
-  with_commas (more x xs) = spell x ++ behind (Symbol sign.Comma) xs
+  with_commas (more x xs) = spell x ++ each_after (Symbol sign.Comma) xs
 
 -- the tokens of a script
 abbrev pub spelling : Script → List TokenKind

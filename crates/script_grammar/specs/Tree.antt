@@ -31,7 +31,8 @@ pub data Sort : Type 0 where
   APAtom : Sort
   Many : Sort → Sort
 
--- A tree. A number at is the index of a token. What a tree must satisfy is kept by its form: a predicate's parts are a first one and others, a tuple has two parts and others.
+-- A tree. A number at is the index of a token. What a tree must satisfy is kept by its form: a predicate's parts are a
+-- first one and others, a tuple has two parts and others.
 pub data Tree : Sort → Type 0 where
   none : {s : Sort} → Tree (Many s)
   more : {s : Sort} → Tree s → Tree (Many s) → Tree (Many s)
@@ -44,7 +45,8 @@ pub data Tree : Sort → Type 0 where
   -- Bind = Name "=" Full
   Bind : (at : ℕ) → (name : List ℕ) → Tree AFull → Tree ABind
   -- Def = "def" NameOpen (Param ("," Param)*)? ")" ("=")? Inner* Expr "end"
-  Def : (at : ℕ) → (name : List ℕ) → Tree (Many AParam) → (equals : Bool) → Tree (Many AnInner) → Tree AnExpr → Tree ADef
+  Def : (at : ℕ) → (name : List ℕ) → Tree (Many AParam) → (equals : Bool) → Tree (Many AnInner) → Tree AnExpr
+      → Tree ADef
   -- Inner = Bind (";")?
   Inner : Tree ABind → (semicolon : Bool) → Tree AnInner
   -- Param = Name | "~" Name | "~" Name "=" Full
@@ -85,7 +87,7 @@ pub data Tree : Sort → Type 0 where
   Braces : (at : ℕ) → Tree APOr → Tree AnOperand
   Format : (at : ℕ) → (size : Option ℤ) → Tree AnOperand
   -- Call = NameOpen (Arg ("," Arg)*)? ")"
-  Call : (at : ℕ) → (name : List ℕ) → Tree (Many AnArg) → Tree ACall
+  NamedCall : (at : ℕ) → (name : List ℕ) → Tree (Many AnArg) → Tree ACall
   -- Arg = Full | Name "=" Full
   Arg : (at : ℕ) → (label : Option (List ℕ)) → Tree AFull → Tree AnArg
   -- If = "if" Full "then" Full "else" Full "end"
@@ -97,10 +99,10 @@ pub data Tree : Sort → Type 0 where
   -- PNot = ("not")? PAtom
   PNot : (negated : Bool) → Tree APAtom → Tree APNot
   -- PAtom = "true" | "false" | Time | Time "-" Time | "(" POr ")"
-  Always : Tree APAtom
-  Never : Tree APAtom
+  TrueAtom : Tree APAtom
+  FalseAtom : Tree APAtom
   Mark : TimeMark → Tree APAtom
-  Between : TimeMark → TimeMark → Tree APAtom
+  IntervalAtom : TimeMark → TimeMark → Tree APAtom
   Grouped : Tree APOr → Tree APAtom
 
 -- Script = Stmt*

@@ -1,6 +1,6 @@
 -- The tree that a program's tree stands for.
 use Rattle.std.specs.Prelude.{ℕ, map, List, [], ◌∷◌, false}
-use Rattle.script_grammar.specs.Tree.{Sort, Tree, AStmt, APart, ABind, ADef, AnInner, AParam, AFull, AnExpr, AnAnd, ANot, ACompare, ASum, AnAdded, AProduct, AMultiplied, AnOperand, ACall, AnArg, AnIf, APOr, APAnd, APNot, APAtom, Many, none, more, Stmt, BindPart, DefPart, CallPart, IfPart, Bind, Def, Inner, Param, Labelled, Optional, Negative, Plain, Expr, And, Not, Alone, Compared, Sum, Added, Product, Multiplied, Constant, Quoted, Truth, Named, Called, Chosen, Nothing, Paren, Tuple, Listed, Braces, Format, Call, Arg, If, POr, PAnd, PNot, Always, Never, Mark, Between, Grouped, Script}
+use Rattle.script_grammar.specs.Tree.{Sort, Tree, AStmt, APart, ABind, ADef, AnInner, AParam, AFull, AnExpr, AnAnd, ANot, ACompare, ASum, AnAdded, AProduct, AMultiplied, AnOperand, ACall, AnArg, AnIf, APOr, APAnd, APNot, APAtom, Many, none, more, Stmt, BindPart, DefPart, CallPart, IfPart, Bind, Def, Inner, Param, Labelled, Optional, Negative, Plain, Expr, And, Not, Alone, Compared, Sum, Added, Product, Multiplied, Constant, Quoted, Truth, Named, Called, Chosen, Nothing, Paren, Tuple, Listed, Braces, Format, NamedCall, Arg, If, POr, PAnd, PNot, TrueAtom, FalseAtom, Mark, IntervalAtom, Grouped, Script}
 use Rattle.script_grammar.specs.declared.tree.Full.{Full}
 use Rattle.script_grammar.specs.declared.tree.Full.TheVariants as full
 use Rattle.script_grammar.specs.declared.tree.Expr as expr
@@ -36,16 +36,18 @@ abbrev pub listed : {s : Sort} → List (Tree s) → Tree (Many s)
 listed [] = none
 listed (t ∷ ts) = more t (listed ts)
 
--- A predicate's parts. No part at all, which no tree of the grammar has, stands for what it means: `false` as a sum of none, `true` as a product of none.
+-- A predicate's parts. No part at all, which no tree of the grammar has, stands for what it means: `false` as a sum of
+-- none, `true` as a product of none.
 abbrev pub pand_of : Tree (Many APNot) → Tree APAnd
-pand_of none = PAnd (PNot false Always) none
+pand_of none = PAnd (PNot false TrueAtom) none
 pand_of (more p rest) = PAnd p rest
 
 abbrev pub por_of : Tree (Many APAnd) → Tree APOr
-por_of none = POr (PAnd (PNot false Never) none) none
+por_of none = POr (PAnd (PNot false FalseAtom) none) none
 por_of (more p rest) = POr p rest
 
--- The parts in parentheses. A tuple of one part or none, which no tree of the grammar has, stands for what it looks like.
+-- The parts in parentheses. A tuple of one part or none, which no tree of the grammar has, stands for what it looks
+-- like.
 abbrev pub tuple_of : ℕ → Tree (Many AFull) → Tree AnOperand
 tuple_of at none = Nothing at
 tuple_of at (more f none) = Paren f
@@ -67,10 +69,10 @@ abbrev mutual
   view_pnots (pand.more_of-PNot negated atom rest) = more (PNot negated (view_patom atom)) (view_pnots rest)
 
   pub view_patom : patom.PAtom → Tree APAtom
-  view_patom patom.True = Always
-  view_patom patom.False = Never
+  view_patom patom.True = TrueAtom
+  view_patom patom.False = FalseAtom
   view_patom (patom.At t) = Mark t
-  view_patom (patom.Between a b) = Between a b
+  view_patom (patom.Between a b) = IntervalAtom a b
   view_patom (patom.Paren' p inside) = Grouped (view_por inside)
 
 abbrev pub view_pnot : pnot.PNot → Tree APNot
@@ -100,7 +102,8 @@ abbrev mutual
 
   pub view_compare : compare.Compare → Tree ACompare
   view_compare (compare.Compare' left compare.None') = Alone (view_sum left)
-  view_compare (compare.Compare' left (compare.Some' (compared.Compared' at o right))) = Compared (view_sum left) at o (view_sum right)
+  view_compare (compare.Compare' left (compare.Some' (compared.Compared' at o right))) = Compared (view_sum left) at o
+      (view_sum right)
 
   pub view_sum : sum.Sum → Tree ASum
   view_sum (sum.Sum' first shape rest) = Sum (view_product first) (view_addends rest)
@@ -117,7 +120,8 @@ abbrev mutual
 
   pub view_factors : {m : _} → product.Row_of-Multiplied m → Tree (Many AMultiplied)
   view_factors product.end_of-Multiplied = none
-  view_factors (product.more_of-Multiplied at divide p rest) = more (Multiplied at divide (view_operand p)) (view_factors rest)
+  view_factors (product.more_of-Multiplied at divide p rest) = more (Multiplied at divide (view_operand p))
+      (view_factors rest)
 
   pub view_operand : operand.Operand → Tree AnOperand
   view_operand (operand.Literal at value) = Constant at value
@@ -125,7 +129,8 @@ abbrev mutual
   view_operand (operand.Bool at value) = Truth at value
   view_operand (operand.Name at name) = Named at name
   view_operand (operand.Call c) = Called (view_call c)
-  view_operand (operand.If' at p condition q then_part r else_part) = Chosen (If at (view_full condition) (view_full then_part) (view_full else_part))
+  view_operand (operand.If' at p condition q then_part r else_part) = Chosen
+      (If at (view_full condition) (view_full then_part) (view_full else_part))
   view_operand (operand.Unit at) = Nothing at
   view_operand (operand.Paren' p f) = Paren (view_full f)
   view_operand (operand.Tuple' at shape parts) = tuple_of at (view_fulls parts)
@@ -138,7 +143,7 @@ abbrev mutual
   view_fulls (operand.more_of-Full f rest) = more (view_full f) (view_fulls rest)
 
   pub view_call : call.Call → Tree ACall
-  view_call (call.Call' at name shape args) = Call at name (view_args args)
+  view_call (call.Call' at name shape args) = NamedCall at name (view_args args)
 
   pub view_args : {m : _} → call.Row_of-Arg m → Tree (Many AnArg)
   view_args call.end_of-Arg = none
@@ -168,7 +173,8 @@ abbrev pub view_param : param.Param → Tree AParam
 view_param p = param_of p.at p.name p.form
 
 abbrev pub view_def : def.Def → Tree ADef
-view_def d = Def d.at d.name (listed (map view_param d.params.items)) d.equals (listed (map view_inner d.inner.items)) (view_expr d.result)
+view_def d = Def d.at d.name (listed (map view_param d.params.items)) d.equals (listed (map view_inner d.inner.items))
+    (view_expr d.result)
 
 abbrev pub view_part : StmtPart → Tree APart
 view_part (part.Bind b) = BindPart (view_bind b)

@@ -87,7 +87,8 @@ abbrev mutual
 
   pub IsWholeCompare : compare.Compare → Type 0
   IsWholeCompare (compare.Compare' left compare.None') = IsWholeSum left
-  IsWholeCompare (compare.Compare' left (compare.Some' (compared.Compared' at o right))) = IsWholeSum left × IsWholeSum right
+  IsWholeCompare (compare.Compare' left (compare.Some' (compared.Compared' at o right))) = IsWholeSum left
+      × IsWholeSum right
 
   pub IsWholeSum : sum.Sum → Type 0
   IsWholeSum (sum.Sum' first shape rest) = IsWholeProduct first × AreWholeAddends rest
@@ -108,7 +109,8 @@ abbrev mutual
 
   pub IsWholeOperand : operand.Operand → Type 0
   IsWholeOperand (operand.Call c) = IsWholeCall c
-  IsWholeOperand (operand.If' at p condition q then_part r else_part) = IsWholeFull condition × IsWholeFull then_part × IsWholeFull else_part
+  IsWholeOperand (operand.If' at p condition q then_part r else_part) = IsWholeFull condition × IsWholeFull then_part
+      × IsWholeFull else_part
   IsWholeOperand (operand.Paren' p f) = IsWholeFull f
   IsWholeOperand (operand.Tuple' at shape parts) = HasTwo (view_fulls parts) × AreWholeFulls parts
   IsWholeOperand (operand.List' at shape parts) = AreWholeFulls parts

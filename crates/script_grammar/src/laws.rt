@@ -1,5 +1,5 @@
-// What the grammar promises of all scripts and of all lists of tokens. A caller that needs a law calls its function, which
-// does nothing.
+// What the grammar promises of all scripts and of all lists of tokens. A caller that needs a law calls its function,
+// which does nothing.
 ghost use Rattle.std.specs.Prelude.{◌≡◌, ℕ, ◌+◌, ◌-◌, ◌<◌, ◌≤◌, ◌++◌, List, [], length, All, Ok, Err};
 ghost use Rattle.script_lex.specs.declared.token.TokenKind.{TokenKind};
 ghost use Rattle.script_grammar.specs.Tree.{Sort, Tree, AStmt, Script};
@@ -40,12 +40,16 @@ pub fn ats_are_within()
 /// A script that is read has all the tokens for its spelling, and each field `at` is the index of its token.
 /// Where reading stops, the tokens before begin the spelling of a script.
 pub fn reads_spellings()
-    ensures found { (total : ℕ) (w : List TokenKind) (s : Script) (r : List TokenKind) → script (λ left. total - left) w ≡ Ok (s, r) → (r ≡ []) × (spelling s ≡ w) × ((i : ℕ) → i + length w ≡ total → IsPlaced i s) }
+    ensures found { (total : ℕ) (w : List TokenKind) (s : Script) (r : List TokenKind)
+        → script (λ left. total - left) w ≡ Ok (s, r)
+        → (r ≡ []) × (spelling s ≡ w) × ((i : ℕ) → i + length w ≡ total → IsPlaced i s) }
     ensures begun { (stamp : ℕ → ℕ) (w : List TokenKind) (k : ℕ) → script stamp w ≡ Err k → Begun spelling w k }
 {}
 
 /// Where reading fails at a token, it fails there whatever stands behind that token, and whatever the fields `at` are
 /// made of.
 pub fn faults_are_steady()
-    ensures steady { (stamp : ℕ → ℕ) (before after v : List TokenKind) → script stamp (before ++ after) ≡ Err (length after) → peek v ≡ peek after → script no_place (before ++ v) ≡ Err (length v) }
+    ensures steady { (stamp : ℕ → ℕ) (before after v : List TokenKind)
+        → script stamp (before ++ after) ≡ Err (length after) → peek v ≡ peek after
+        → script no_place (before ++ v) ≡ Err (length v) }
 {}

@@ -1,5 +1,5 @@
-//! The grammar: the tree of a script, the one list of tokens that spells it, and what reading a list of tokens has to do
-//! with spelling: what is read is a spelling, and a fault stands at the first token that none goes on with.
+//! The grammar: the tree of a script, the one list of tokens that spells it, and what reading a list of tokens has to
+//! do with spelling: what is read is a spelling, and a fault stands at the first token that none goes on with.
 #![tactic(auto)]
 
 pub mod laws;

@@ -1,5 +1,5 @@
-// An expression that is one operand. Typing and evaluation go straight to it, without a look at the levels between, of which none
-// has anything to join; and so nested evaluation stays short on the stack.
+// An expression that is one operand. Typing and evaluation go straight to it, without a look at the levels between, of
+// which none has anything to join; and so nested evaluation stays short on the stack.
 ghost use Rattle.std.specs.Prelude.{IfSome};
 ghost use Rattle.script_grammar.specs.Lone.{IsLone};
 

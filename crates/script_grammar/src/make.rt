@@ -1,6 +1,6 @@
 // Nodes that hold a list, made of their parts.
 ghost use Rattle.std.specs.Prelude.{◌≡◌, IfOk, map};
-ghost use Rattle.script_grammar.specs.Tree.{Expr as an_expr, And as an_and, Sum as a_sum, Product as a_product, Call as a_call, POr as a_por, PAnd as a_pand, Listed as a_list};
+ghost use Rattle.script_grammar.specs.Tree.{Expr as an_expr, And as an_and, Sum as a_sum, Product as a_product, NamedCall as a_call, POr as a_por, PAnd as a_pand, Listed as a_list};
 ghost use Rattle.script_grammar.specs.View.{listed, view_expr, view_and, view_not, view_sum, view_product, view_added, view_operand, view_multiplied, view_full, view_call, view_arg, view_por, view_pand, view_pnot};
 ghost use Rattle.script_grammar.specs.ReadValue.{round_of};
 ghost use Rattle.script_grammar.specs.Whole.{IsWholeExpr, IsWholeAnd, IsWholeNot, IsWholeSum, IsWholeAdded, IsWholeProduct, IsWholeMultiplied, IsWholeOperand, IsWholeFull, IsWholeCall, IsWholeArg, IsWholePOr, IsWholePAnd, IsWholePNot};
@@ -61,7 +61,8 @@ pub fn list(at: u32, parts: Vec<Full>) -> tree::Operand
 
 /// Values in parentheses: a first one alone, or a tuple of it and the others.
 pub fn round(alloc: Global, at: u32, first: Full, rest: Vec<Full>) -> Result<tree::Operand, Memory>
-    ensures made { IfOk result (λ p. view_operand p ≡ round_of at (view_full first) (listed (map view_full rest.items))) }
+    ensures made { IfOk result (λ p. view_operand p
+        ≡ round_of at (view_full first) (listed (map view_full rest.items))) }
     ensures whole { IfOk result (λ p. IsWholeFull first → All IsWholeFull rest.items → IsWholeOperand p) }
 {
     if rest.is_empty() {

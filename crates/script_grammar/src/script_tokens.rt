@@ -102,7 +102,8 @@ fn put_body(
     inners: &[Inner],
     value: &Expr,
 ) -> Result<(), Memory>
-    ensures { OnOk result (out.new.items ≡ out.old.items ++ def_body (map view_inner inners.now) (view_expr value.now)) }
+    ensures { OnOk result (out.new.items ≡ out.old.items
+        ++ def_body (map view_inner inners.now) (view_expr value.now)) }
 {
     put_inners(alloc, out, inners)?;
     put_expr(alloc, out, value)?;

@@ -3,7 +3,7 @@ ghost use Rattle.std.specs.Prelude.{◌≡◌, ◌++◌, ◌∷◌, [], OnOk, If
 ghost use Rattle.script_lex.specs.declared.token.TokenKind.TheVariants.{Keyword as a_keyword, Symbol as a_symbol};
 ghost use Rattle.script_lex.specs.declared.token.Keyword.TheVariants as word;
 ghost use Rattle.script_lex.specs.declared.token.Symbol.TheVariants as sign;
-ghost use Rattle.script_grammar.specs.Spelling.{spell, behind, literal_token, truth_token, op_token, added_token, multiplied_token, label, wav_tokens, option_name};
+ghost use Rattle.script_grammar.specs.Spelling.{spell, each_after, literal_token, truth_token, op_token, added_token, multiplied_token, label, wav_tokens, option_name};
 ghost use Rattle.script_grammar.specs.Pieces.{each, each_behind, between_commas, in_brackets};
 ghost use Rattle.script_grammar.specs.View.{listed, tuple_of, view_full, view_expr, view_and, view_not, view_compare, view_sum, view_added, view_product, view_multiplied, view_operand, view_call, view_arg, view_if};
 
@@ -282,7 +282,8 @@ fn put_wav(alloc: Global, out: &mut Vec<TokenKind>, size: Option<i64>) -> Result
 
 #[cycle(value)]
 fn put_tuple(alloc: Global, out: &mut Vec<TokenKind>, parts: &[Full]) -> Result<(), Memory>
-    ensures { OnOk result (out.new.items ≡ out.old.items ++ in_brackets sign.OpenRound (map view_full parts.now) sign.CloseRound) }
+    ensures { OnOk result (out.new.items ≡ out.old.items
+        ++ in_brackets sign.OpenRound (map view_full parts.now) sign.CloseRound) }
 {
     put(out, TokenKind::Symbol(Symbol::OpenRound))?;
     put_fulls(alloc, out, parts)?;
@@ -291,7 +292,8 @@ fn put_tuple(alloc: Global, out: &mut Vec<TokenKind>, parts: &[Full]) -> Result<
 
 #[cycle(value)]
 fn put_list(alloc: Global, out: &mut Vec<TokenKind>, parts: &[Full]) -> Result<(), Memory>
-    ensures { OnOk result (out.new.items ≡ out.old.items ++ in_brackets sign.OpenSquare (map view_full parts.now) sign.CloseSquare) }
+    ensures { OnOk result (out.new.items ≡ out.old.items
+        ++ in_brackets sign.OpenSquare (map view_full parts.now) sign.CloseSquare) }
 {
     put(out, TokenKind::Symbol(Symbol::OpenSquare))?;
     put_fulls(alloc, out, parts)?;

@@ -4,7 +4,7 @@ use Rattle.std.proofs.lemmas.Bool.{ltb-true, ltb-false}
 use Rattle.std.proofs.lemmas.Str.{IsUtf8-append, IsUtf8-encode, encode_ascii, len_utf8_bounds, length-encode}
 use Rattle.std.proofs.Math.Utf8.{encode, encodes, low_scalar}
 use Rattle.script_lex.specs.Reading.{body_end}
-use Rattle.script_lex.specs.Spelling.{IsBadInText, IsQuote, written, TextPiece, Plain, Escaped, IsPiece}
+use Rattle.script_lex.specs.Spelling.{IsBadInText, IsQuote, written, TextPiece, PlainPiece, Escaped, IsPiece}
 use Rattle.script_lex.proofs.Fronts.{choose}
 use Rattle.script_lex.proofs.Pieces.{Stop, quote_low, stop_le, piece_eaten, pieces_eaten}
 use Rattle.script_lex.proofs.Closed.{Written, pieces_of, high_not_escapable}
@@ -55,14 +55,14 @@ front_written q a rest x xs p =
     let size : length (body_end q (encodes u.0 ++ ((x ∷ xs) ++ rest))).1 ≡ length rest = ap S whole ∙ p.stop in
     subst (Written q) u.1.1 (pieces_of q p.quote u.0 u.1.0 ((x ∷ xs) ++ rest) (omega arith, λ y rs is esc. absurd (differ (sym esc ∙ high_not_escapable y (let same = head_is x y (xs ++ rest) rs is in omega arith)))))
 
-plain_none : (q : ℕ) (a rest : List ℕ) (x : ℕ) (xs : List ℕ) (p : Parted q a (x ∷ xs) rest) (c : ℕ) (r : List ℕ) → IsPiece q (Plain c) → (x ∷ xs) ++ rest ≡ encode c ++ r → ⊥
+plain_none : (q : ℕ) (a rest : List ℕ) (x : ℕ) (xs : List ℕ) (p : Parted q a (x ∷ xs) rest) (c : ℕ) (r : List ℕ) → IsPiece q (PlainPiece c) → (x ∷ xs) ++ rest ≡ encode c ++ r → ⊥
 plain_none q a rest x xs p c r piece is =
     let high = first_high q a rest x xs p in
     let w = front_written q a rest x xs p in
     let S : List ℕ → ℕ = λ l. length (body_end q l).1 in
     let T : Stop → ℕ = λ s. length s.1 in
     let over : body_end q ((a ++ (x ∷ xs)) ++ rest) ≡ body_end q r =
-    ap (body_end q) (append_assoc a (x ∷ xs) rest) ∙ ap (λ l. body_end q (l ++ ((x ∷ xs) ++ rest))) w.spelled ∙ pieces_eaten q p.quote w.pieces w.allowed ((x ∷ xs) ++ rest) ∙ ap (body_end q) is ∙ piece_eaten q p.quote (Plain c) piece r in
+    ap (body_end q) (append_assoc a (x ∷ xs) rest) ∙ ap (λ l. body_end q (l ++ ((x ∷ xs) ++ rest))) w.spelled ∙ pieces_eaten q p.quote w.pieces w.allowed ((x ∷ xs) ++ rest) ∙ ap (body_end q) is ∙ piece_eaten q p.quote (PlainPiece c) piece r in
     let size = ap T over in
     let stop = p.stop in
     let le = stop_le q p.quote r in
@@ -93,5 +93,5 @@ not_utf8_bad q a rest x xs p =
     }
   where
     none : (pc : TextPiece) (r : List ℕ) → IsPiece q pc → (x ∷ xs) ++ rest ≡ written pc ++ r → ⊥
-    none (Plain c) r piece is = plain_none q a rest x xs p c r piece is
+    none (PlainPiece c) r piece is = plain_none q a rest x xs p c r piece is
     none (Escaped c) r piece is = let same = head_is x 92 (xs ++ rest) (c ∷ r) is in let high = first_high q a rest x xs p in omega arith

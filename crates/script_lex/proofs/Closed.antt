@@ -6,7 +6,7 @@ use Rattle.std.proofs.Math.Utf8.{encode, encodes, scalar, scalars}
 use Rattle.std.specs.List.{flat_map}
 use Rattle.script_lex.specs.Bytes.{is_inner, is_escapable}
 use Rattle.script_lex.specs.Reading.{body_end, unescaped}
-use Rattle.script_lex.specs.Spelling.{TextPiece, Plain, Escaped, written, meant, IsPiece, ArePieces, IsQuote}
+use Rattle.script_lex.specs.Spelling.{TextPiece, PlainPiece, Escaped, written, meant_bytes, IsPiece, ArePieces, IsQuote}
 use Rattle.script_lex.specs.declared.body.BodyEnd.TheVariants as ends
 use Rattle.script_lex.proofs.Fronts.{choose}
 use Rattle.script_lex.proofs.Pieces.{Stop, quote_low, at_quote, at_inner, at_bad, at_escape, escape_good, escape_bad, stop_le, AllHigh, encode_high, high_eaten}
@@ -16,7 +16,7 @@ pub record Written (q : ℕ) (body : List ℕ) : Type 0 where
   pub pieces : List TextPiece
   pub allowed : ArePieces q pieces
   pub spelled : body ≡ flat_map written pieces
-  pub means : unescaped body ≡ flat_map meant pieces
+  pub means : unescaped body ≡ flat_map meant_bytes pieces
 
 -- the stop is not before the rest; and where a character behind a backslash begins the rest, not behind it
 abbrev pub Fits : List ℕ → Stop → Type 0
@@ -36,9 +36,9 @@ unescaped_plain c r e =
     (λ high. unescaped_high (encode c) r (encode_high c (ltb-false c 128 high)))
 
 -- a plain character before written ones
-plain_more : (q c : ℕ) (x : List ℕ) → IsPiece q (Plain c) → eqb c 92 ≡ false → Written q x → Written q (encode c ++ x)
+plain_more : (q c : ℕ) (x : List ℕ) → IsPiece q (PlainPiece c) → eqb c 92 ≡ false → Written q x → Written q (encode c ++ x)
 plain_more q c x piece e w = record {
-  pieces = Plain c ∷ w.pieces;
+  pieces = PlainPiece c ∷ w.pieces;
   allowed = (piece, w.allowed);
   spelled = ap (λ (l : List ℕ). encode c ++ l) w.spelled;
   means = unescaped_plain c x e ∙ ap (λ (l : List ℕ). encode c ++ l) w.means;

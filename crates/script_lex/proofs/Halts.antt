@@ -3,7 +3,7 @@ use Rattle.std.proofs.Common.{◌≡◌, ℕ, ◌<◌, List, [], ◌∷◌, ◌+
 use Rattle.std.proofs.lemmas.Str.{encode_same, char_from_byte, len_utf8_bounds, length-encode}
 use Rattle.std.proofs.Math.Utf8.{encode}
 use Rattle.std.specs.List.{flat_map}
-use Rattle.script_lex.specs.Spelling.{TextPiece, Plain, Escaped, written, IsPiece, ArePieces, IsQuote, IsQuotedText, IsUnclosed, IsBadInText}
+use Rattle.script_lex.specs.Spelling.{TextPiece, PlainPiece, Escaped, written, IsPiece, ArePieces, IsQuote, IsQuotedText, IsUnclosed, IsBadInText}
 use Rattle.script_lex.proofs.Pieces.{quote_low}
 use Rattle.script_lex.proofs.Apart.{cons_head, cons_tail}
 
@@ -16,10 +16,10 @@ low_first : (b c : ℕ) (bs rest : List ℕ) → b < 128 → b ∷ bs ≡ encode
 low_first b c bs rest low is = char_from_byte (b ∷ bs) rest c is low (omega arith)
 
 piece_same : (q : ℕ) (p r : TextPiece) (x y : List ℕ) → IsPiece q p → IsPiece q r → written p ++ x ≡ written r ++ y → (p ≡ r) × (x ≡ y)
-piece_same q (Plain c) (Plain d) x y h k is = let e = encode_same c d x y is in (ap Plain e.0, e.1)
+piece_same q (PlainPiece c) (PlainPiece d) x y h k is = let e = encode_same c d x y is in (ap PlainPiece e.0, e.1)
 piece_same q (Escaped c) (Escaped d) x y h k is = let e : c ≡ d = cc in (ap Escaped e, cc)
-piece_same q (Plain c) (Escaped d) x y h k is = absurd (h.3 (low_first 92 c (d ∷ y) x (omega arith) (sym is)))
-piece_same q (Escaped c) (Plain d) x y h k is = absurd (k.3 (low_first 92 d (c ∷ x) y (omega arith) is))
+piece_same q (PlainPiece c) (Escaped d) x y h k is = absurd (h.3 (low_first 92 c (d ∷ y) x (omega arith) (sym is)))
+piece_same q (Escaped c) (PlainPiece d) x y h k is = absurd (k.3 (low_first 92 d (c ∷ x) y (omega arith) is))
 
 pieces_same : (q : ℕ) (ps rs : List TextPiece) (x y : List ℕ) → ArePieces q ps → ArePieces q rs → Stuck q x → Stuck q y → flat_map written ps ++ x ≡ flat_map written rs ++ y → (ps ≡ rs) × (x ≡ y)
 pieces_same q [] [] x y h k a b is = (refl, is)
@@ -55,21 +55,21 @@ pub stuck_quote : (q : ℕ) → IsQuote q → (r : List ℕ) → Stuck q (q ∷ 
 stuck_quote q quote r = λ p rest piece is. by_piece q quote r p rest piece is
   where
     by_piece : (q : ℕ) → IsQuote q → (r : List ℕ) (p : TextPiece) (rest : List ℕ) → IsPiece q p → q ∷ r ≡ written p ++ rest → ⊥
-    by_piece q quote r (Plain c) rest piece is = let low = (quote_low q quote).0 in piece.4 (low_first q c r rest (omega arith) is)
+    by_piece q quote r (PlainPiece c) rest piece is = let low = (quote_low q quote).0 in piece.4 (low_first q c r rest (omega arith) is)
     by_piece q quote r (Escaped c) rest piece is = let low = (quote_low q quote).0 in let same = cons_head q 92 r (c ∷ rest) is in omega arith
 
 pub stuck_empty : (q : ℕ) → Stuck q []
 stuck_empty q = λ p rest piece is. by_piece q p rest piece is
   where
     by_piece : (q : ℕ) (p : TextPiece) (rest : List ℕ) → IsPiece q p → [] ≡ written p ++ rest → ⊥
-    by_piece q (Plain c) rest piece is = let size = ap length is in let sum = length-append (encode c) rest in let n = len_utf8_bounds c in let l = length-encode c in omega arith
+    by_piece q (PlainPiece c) rest piece is = let size = ap length is in let sum = length-append (encode c) rest in let n = len_utf8_bounds c in let l = length-encode c in omega arith
     by_piece q (Escaped c) rest piece is = cc
 
 pub stuck_slash : (q : ℕ) → Stuck q (92 ∷ [])
 stuck_slash q = λ p rest piece is. by_piece q p rest piece is
   where
     by_piece : (q : ℕ) (p : TextPiece) (rest : List ℕ) → IsPiece q p → 92 ∷ [] ≡ written p ++ rest → ⊥
-    by_piece q (Plain c) rest piece is = piece.3 (low_first 92 c [] rest (omega arith) is)
+    by_piece q (PlainPiece c) rest piece is = piece.3 (low_first 92 c [] rest (omega arith) is)
     by_piece q (Escaped c) rest piece is = let size = ap length is in omega arith
 
 -- a text that closes, one that is cut, and one with a bad byte

@@ -1,7 +1,7 @@
 -- What is placed_fault of a text.
 use Rattle.std.proofs.Common.{◌≡◌, ◌≢◌, ℕ, ◌≤◌, List, length, refl, sym, ap, ◌∙◌, arith, Option, Some, None, ◌⊎◌, inl, inr}
 use Rattle.liq_base.specs.declared.limits.TheConstants.{MAX_SCRIPT_BYTES}
-use Rattle.script_lex.specs.Spelling.{Fault, Bad, Open, Large}
+use Rattle.script_lex.specs.Spelling.{Fault, Bad, OpenText, Large}
 use Rattle.script_lex.specs.Tokens.{Runs, AreTokens, HasFault, StandsIn, placed_fault}
 use Rattle.script_lex.specs.Gives.{IfFault, RunsInto, told_as}
 use Rattle.script_lex.specs.declared.token.Token.{Token}
@@ -38,14 +38,14 @@ no_tokens text f ts fault run = none_some f (runs_one text ts fault.0 None (Some
 pub told_fault : (text : List ℕ) (e : Refusal) → length text ≤ MAX_SCRIPT_BYTES → IfFault e (RunsInto text) → told_as (length text) e ≢ faults.Memory → HasFault text (told_as (length text) e)
 told_fault text refusals.Memory short h some = absurd (some refl)
 told_fault text (refusals.BadByte n) short h some = (short, (h.0, Bad n, h.1, refl))
-told_fault text (refusals.UnclosedString n) short h some = (short, (h.0, Open n, h.1, refl))
+told_fault text (refusals.UnclosedString n) short h some = (short, (h.0, OpenText n, h.1, refl))
 told_fault text (refusals.NumberTooLarge n) short h some = (short, (h.0, Large n, h.1, refl))
 
 -- where the text has tokens, only want of memory is placed_fault
 pub told_memory : (text : List ℕ) (e : Refusal) (ts : List Token) → IfFault e (RunsInto text) → AreTokens text ts → told_as (length text) e ≡ faults.Memory
 told_memory text refusals.Memory ts h are = refl
 told_memory text (refusals.BadByte n) ts h are = absurd (no_tokens text (Bad n) ts h are.1)
-told_memory text (refusals.UnclosedString n) ts h are = absurd (no_tokens text (Open n) ts h are.1)
+told_memory text (refusals.UnclosedString n) ts h are = absurd (no_tokens text (OpenText n) ts h are.1)
 told_memory text (refusals.NumberTooLarge n) ts h are = absurd (no_tokens text (Large n) ts h are.1)
 
 one_told : (text : List ℕ) (x : Fault) (f : LexFault) → length text ≤ MAX_SCRIPT_BYTES → RunsInto text x → HasFault text f → placed_fault (length text) x ≡ f
@@ -65,5 +65,5 @@ one_told text x f short run fault = by_fault f fault
 pub told_only : (text : List ℕ) (e : Refusal) (f : LexFault) → length text ≤ MAX_SCRIPT_BYTES → IfFault e (RunsInto text) → HasFault text f → (told_as (length text) e ≡ f) ⊎ (told_as (length text) e ≡ faults.Memory)
 told_only text refusals.Memory f short h fault = inr refl
 told_only text (refusals.BadByte n) f short h fault = inl (one_told text (Bad n) f short h fault)
-told_only text (refusals.UnclosedString n) f short h fault = inl (one_told text (Open n) f short h fault)
+told_only text (refusals.UnclosedString n) f short h fault = inl (one_told text (OpenText n) f short h fault)
 told_only text (refusals.NumberTooLarge n) f short h fault = inl (one_told text (Large n) f short h fault)

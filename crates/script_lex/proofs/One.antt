@@ -1,7 +1,7 @@
 -- At one place stands one token, or one fault.
 use Rattle.std.proofs.Common.{◌≡◌, ◌≢◌, ℕ, List, [], ◌∷◌, ◌++◌, length, refl, sym, ap, ◌∙◌, subst, arith, Ok, Err, ⊎_elim}
 use Rattle.std.specs.List.{flat_map}
-use Rattle.script_lex.specs.Spelling.{Shape, ANumber, AText, SpellsShape, IsLongest, IsToken, Means, is_within, Fault, Bad, Open, Large, FaultAt, IsUnclosed, IsBadInText, BeginsNothing, IsQuote, meant}
+use Rattle.script_lex.specs.Spelling.{Shape, ANumber, AText, SpellsShape, IsLongest, IsToken, Means, is_within, Fault, Bad, OpenText, Large, FaultAt, IsUnclosed, IsBadInText, BeginsNothing, IsQuote, meant_bytes}
 use Rattle.script_lex.specs.Reading.{Found, Read, shape_at}
 use Rattle.script_lex.specs.declared.token.TokenKind.{TokenKind}
 use Rattle.script_lex.specs.declared.token.TokenKind.TheVariants as kinds
@@ -48,7 +48,7 @@ by_reading x y text a b p q =
 one_shape : (x y : Shape) (text : List ℕ) → SpellsShape x text → SpellsShape y text → x ≡ y
 one_shape (AText v) (AText w) text a b =
     let h = halts_one text (closed_halt v text [] text a (sym (append_nil text))) (closed_halt w text [] text b (sym (append_nil text))) in
-    ap AText (a.means ∙ ap (flat_map meant) h.0 ∙ sym b.means)
+    ap AText (a.means ∙ ap (flat_map meant_bytes) h.0 ∙ sym b.means)
 one_shape (AText v) y text a b = let k : Quote ≡ class y = same_class (AText v) y text a b in absurd cc
 one_shape x (AText w) text a b = let k : class x ≡ Quote = same_class x (AText w) text a b in absurd cc
 one_shape x y text a b = by_reading x y text a b (λ k. cc) (λ k. cc)
@@ -94,7 +94,7 @@ stops_never bs f a (Bad left) stop =
     (λ n. n.0.no_shape f.0 a.text f.1 a.split a.spelled)
     (λ t. let q = text_halts bs f.0 f.1 a (bad_halt bs left t) in t.no_piece.no_quote q.0 q.1)
     stop
-stops_never bs f a (Open left) stop =
+stops_never bs f a (OpenText left) stop =
     let t = stop.0 in
     let q = text_halts bs f.0 f.1 a (cut_halt bs t) in
     ⊎_elim (no_cut t.quote q.0 t.last t.is_quote q.1) (no_slash t.quote q.0 t.last t.is_quote q.1) t.cut
@@ -114,9 +114,9 @@ one_stop bs (Bad m) (Bad n) a b =
     (λ x. ⊎_elim (λ y. ap Bad (x.1 ∙ sym y.1)) (λ y. absurd (nothing_text bs x.0 (bad_halt bs n y))) b)
     (λ x. ⊎_elim (λ y. absurd (nothing_text bs y.0 (bad_halt bs m x))) (λ y. ap Bad (x.place ∙ ap length (halts_one bs (bad_halt bs m x) (bad_halt bs n y)).1 ∙ sym y.place)) b)
     a
-one_stop bs (Bad m) (Open n) a b = ⊎_elim (λ x. absurd (nothing_text bs x.0 (cut_halt bs b.0))) (λ x. absurd (bad_open bs m x b.0)) a
-one_stop bs (Open m) (Bad n) a b = ⊎_elim (λ x. absurd (nothing_text bs x.0 (cut_halt bs a.0))) (λ x. absurd (bad_open bs n x a.0)) b
-one_stop bs (Open m) (Open n) a b = ap Open (a.1 ∙ sym b.1)
+one_stop bs (Bad m) (OpenText n) a b = ⊎_elim (λ x. absurd (nothing_text bs x.0 (cut_halt bs b.0))) (λ x. absurd (bad_open bs m x b.0)) a
+one_stop bs (OpenText m) (Bad n) a b = ⊎_elim (λ x. absurd (nothing_text bs x.0 (cut_halt bs a.0))) (λ x. absurd (bad_open bs n x a.0)) b
+one_stop bs (OpenText m) (OpenText n) a b = ap OpenText (a.1 ∙ sym b.1)
 one_stop bs (Large m) g a b = absurd a
 one_stop bs e (Large n) a b = absurd b
 
@@ -143,7 +143,7 @@ token_one bs k l r s a b =
 
 pub token_never : (bs : List ℕ) (k : TokenKind) (r : List ℕ) (e : Fault) → IsToken bs k r → FaultAt e bs → ⊥
 token_never bs k r (Bad n) a stop = stops_never bs (a.shape, r) a.longest (Bad n) stop
-token_never bs k r (Open n) a stop = stops_never bs (a.shape, r) a.longest (Open n) stop
+token_never bs k r (OpenText n) a stop = stops_never bs (a.shape, r) a.longest (OpenText n) stop
 token_never bs k r (Large n) a stop =
     let t = stop.0 in
     let first : Found → Shape = λ f. f.0 in
@@ -156,18 +156,18 @@ token_some bs k r a = some_front bs (a.shape, r) a.longest
 pub fault_one : (bs : List ℕ) (e g : Fault) → FaultAt e bs → FaultAt g bs → e ≡ g
 fault_one bs (Large m) (Large n) a b = ap Large (a.1 ∙ sym b.1)
 fault_one bs (Large m) (Bad n) a b = absurd (stops_never bs (a.0.shape, a.0.rest) a.0.longest (Bad n) b)
-fault_one bs (Large m) (Open n) a b = absurd (stops_never bs (a.0.shape, a.0.rest) a.0.longest (Open n) b)
+fault_one bs (Large m) (OpenText n) a b = absurd (stops_never bs (a.0.shape, a.0.rest) a.0.longest (OpenText n) b)
 fault_one bs (Bad m) (Large n) a b = absurd (stops_never bs (b.0.shape, b.0.rest) b.0.longest (Bad m) a)
-fault_one bs (Open m) (Large n) a b = absurd (stops_never bs (b.0.shape, b.0.rest) b.0.longest (Open m) a)
+fault_one bs (OpenText m) (Large n) a b = absurd (stops_never bs (b.0.shape, b.0.rest) b.0.longest (OpenText m) a)
 fault_one bs (Bad m) (Bad n) a b = one_stop bs (Bad m) (Bad n) a b
-fault_one bs (Bad m) (Open n) a b = one_stop bs (Bad m) (Open n) a b
-fault_one bs (Open m) (Bad n) a b = one_stop bs (Open m) (Bad n) a b
-fault_one bs (Open m) (Open n) a b = one_stop bs (Open m) (Open n) a b
+fault_one bs (Bad m) (OpenText n) a b = one_stop bs (Bad m) (OpenText n) a b
+fault_one bs (OpenText m) (Bad n) a b = one_stop bs (OpenText m) (Bad n) a b
+fault_one bs (OpenText m) (OpenText n) a b = one_stop bs (OpenText m) (OpenText n) a b
 
 pub fault_some : (bs : List ℕ) (e : Fault) → FaultAt e bs → bs ≢ []
 fault_some bs (Bad n) a = ⊎_elim (λ x. x.0.some) (λ x. λ empty. halt_some bs (bad_halt bs n x) empty) a
   where
     halt_some : (bs : List ℕ) → Halt bs → bs ≢ []
     halt_some bs h = λ empty. let size = ap length (sym empty ∙ h.spelled) in omega arith
-fault_some bs (Open n) a = λ empty. let h = cut_halt bs a.0 in let size = ap length (sym empty ∙ h.spelled) in omega arith
+fault_some bs (OpenText n) a = λ empty. let h = cut_halt bs a.0 in let size = ap length (sym empty ∙ h.spelled) in omega arith
 fault_some bs (Large n) a = some_front bs (a.0.shape, a.0.rest) a.0.longest

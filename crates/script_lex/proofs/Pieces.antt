@@ -6,7 +6,7 @@ use Rattle.std.proofs.Math.Utf8.{encode}
 use Rattle.std.specs.List.{flat_map}
 use Rattle.script_lex.specs.Bytes.{is_inner, is_escapable}
 use Rattle.script_lex.specs.Reading.{body_end, escape_end}
-use Rattle.script_lex.specs.Spelling.{TextPiece, Plain, Escaped, written, IsPiece, ArePieces, IsQuote}
+use Rattle.script_lex.specs.Spelling.{TextPiece, PlainPiece, Escaped, written, IsPiece, ArePieces, IsQuote}
 use Rattle.script_lex.specs.declared.body.BodyEnd.{BodyEnd}
 use Rattle.script_lex.specs.declared.body.BodyEnd.TheVariants as ends
 use Rattle.script_lex.proofs.Fronts.{choose}
@@ -104,7 +104,7 @@ plain_eaten q c quote low not_del not_slash not_quote r =
     (λ e. high_eaten q quote (encode c) r (encode_high c (ltb-false c 128 e)))
 
 pub piece_eaten : (q : ℕ) → IsQuote q → (p : TextPiece) → IsPiece q p → (r : List ℕ) → body_end q (written p ++ r) ≡ body_end q r
-piece_eaten q quote (Plain c) h r = plain_eaten q c quote h.1 h.2 h.3 h.4 r
+piece_eaten q quote (PlainPiece c) h r = plain_eaten q c quote h.1 h.2 h.3 h.4 r
 piece_eaten q quote (Escaped c) h r = at_escape q (c ∷ r) (quote_low q quote).1 ∙ escape_good q c r h
 
 pub pieces_eaten : (q : ℕ) → IsQuote q → (ps : List TextPiece) → ArePieces q ps → (r : List ℕ) → body_end q (flat_map written ps ++ r) ≡ body_end q r

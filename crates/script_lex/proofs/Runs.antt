@@ -1,6 +1,6 @@
 -- The runs of tokens, and how they end.
 use Rattle.std.proofs.Common.{◌≡◌, ◌≢◌, ℕ, ◌-◌, ◌<◌, List, [], ◌∷◌, ◌++◌, length, refl, sym, ap, ◌∙◌, subst, arith, length-append, Ok, Err, Option, Some, None, false}
-use Rattle.script_lex.specs.Spelling.{IsToken, IsLongest, Fault, Bad, Open, Large, FaultAt}
+use Rattle.script_lex.specs.Spelling.{IsToken, IsLongest, Fault, Bad, OpenText, Large, FaultAt}
 use Rattle.script_lex.specs.Tokens.{between, Leads, EndsBy, Runs}
 use Rattle.script_lex.specs.Reading.{Read, shape_at}
 use Rattle.script_lex.specs.Gives.{Gives, Refuses, IfFault, RunsInto}
@@ -65,7 +65,7 @@ fault_run text before rest ts e leads behind some refuses = by_fault e (refused_
     by_fault : (e : Refusal) → IfFault e (λ f. FaultAt f rest) → IfFault e (RunsInto text)
     by_fault refusals.Memory h = tt
     by_fault (refusals.BadByte n) h = run (Bad n) h
-    by_fault (refusals.UnclosedString n) h = run (Open n) h
+    by_fault (refusals.UnclosedString n) h = run (OpenText n) h
     by_fault (refusals.NumberTooLarge n) h = run (Large n) h
 
 -- how a run ends is told by what is left

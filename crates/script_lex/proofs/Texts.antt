@@ -8,7 +8,7 @@ use Rattle.std.specs.Str.Lossy.{utf8_valid_len}
 use Rattle.std.specs.List.{flat_map}
 use Rattle.script_lex.specs.Bytes.{is_escapable}
 use Rattle.script_lex.specs.Reading.{Found, body_end, unescaped, tail, text_at, text_from, front}
-use Rattle.script_lex.specs.Spelling.{Shape, AText, SpellsShape, IsUnclosed, IsBadInText, Fault, Bad, Open, BeginsNoPiece, IsQuote, written, meant, TextPiece, Plain, Escaped, IsPiece, ArePieces}
+use Rattle.script_lex.specs.Spelling.{Shape, AText, SpellsShape, IsUnclosed, IsBadInText, Fault, Bad, OpenText, BeginsNoPiece, IsQuote, written, meant_bytes, TextPiece, PlainPiece, Escaped, IsPiece, ArePieces}
 use Rattle.script_lex.specs.declared.body.BodyEnd.{BodyEnd}
 use Rattle.script_lex.specs.declared.body.BodyEnd.TheVariants as ends
 use Rattle.script_lex.proofs.Fronts.{choose, front_is}
@@ -77,7 +77,7 @@ broken_here q quote bs stop some = record {
 }
   where
     piece_some : (p : TextPiece) → 1 ≤ length (written p)
-    piece_some (Plain c) = let n = len_utf8_bounds c in let l = length-encode c in omega arith
+    piece_some (PlainPiece c) = let n = len_utf8_bounds c in let l = length-encode c in omega arith
     piece_some (Escaped c) = omega arith
 
     closed_broken : (x y : Stop) → x ≡ y → x.0 ≡ ends.Closed → y.0 ≡ ends.Broken → ⊥
@@ -113,7 +113,7 @@ fault_valid q quote t rest ends.Broken utf8 stop left size f is =
     let P : Fault → Type 0 = λ x. StopsAt x (q ∷ (t ++ rest)) in
     subst P same (inr (broken_bad q quote t rest utf8 stop))
 fault_valid q quote t rest ends.Cut utf8 stop left size f is =
-    let same : Open left ≡ f = cc in
+    let same : OpenText left ≡ f = cc in
     let P : Fault → Type 0 = λ x. StopsAt x (q ∷ (t ++ rest)) in
     subst P same (cut_unclosed q quote t rest utf8 stop, size)
 
@@ -134,8 +134,8 @@ text_found q quote bs f is =
     (λ u. let is' = subst P u is in cc)
 
 -- the characters of a text are UTF-8
-meant_utf8 : (q : ℕ) (p : TextPiece) → IsPiece q p → IsUtf8 (meant p)
-meant_utf8 q (Plain c) h = IsUtf8-encode c h.0
+meant_utf8 : (q : ℕ) (p : TextPiece) → IsPiece q p → IsUtf8 (meant_bytes p)
+meant_utf8 q (PlainPiece c) h = IsUtf8-encode c h.0
 meant_utf8 q (Escaped c) h = let low = escapable_low c h in subst IsUtf8 (encode_ascii c low) (IsUtf8-encode c (low_scalar c (omega arith)))
   where
     escapable_low : (c : ℕ) → is_escapable c ≡ true → c < 128
@@ -144,9 +144,9 @@ meant_utf8 q (Escaped c) h = let low = escapable_low c h in subst IsUtf8 (encode
         (λ e. ⊎_elim (λ x. let is = eqb-true c 39 x in omega arith) (λ x. let is = eqb-true c 92 x in omega arith) (or_cases (eqb c 39) (eqb c 92) e))
         (or_cases (eqb c 34) _ h)
 
-all_meant_utf8 : (q : ℕ) (ps : List TextPiece) → ArePieces q ps → IsUtf8 (flat_map meant ps)
+all_meant_utf8 : (q : ℕ) (ps : List TextPiece) → ArePieces q ps → IsUtf8 (flat_map meant_bytes ps)
 all_meant_utf8 q [] h = IsUtf8-nil
-all_meant_utf8 q (p ∷ ps) h = IsUtf8-append (meant p) (flat_map meant ps) (meant_utf8 q p h.0) (all_meant_utf8 q ps h.1)
+all_meant_utf8 q (p ∷ ps) h = IsUtf8-append (meant_bytes p) (flat_map meant_bytes ps) (meant_utf8 q p h.0) (all_meant_utf8 q ps h.1)
 
 pub closed_utf8 : (q : ℕ) → IsQuote q → (bytes : List ℕ) (e : BodyEnd) (rest : List ℕ) → (e, rest) ≡ body_end q bytes → e ≡ ends.Closed → IsUtf8 (front bytes rest) → IsUtf8 (unescaped (front bytes rest))
 closed_utf8 q quote bytes e rest stop closed utf8 =

@@ -1,6 +1,6 @@
 -- What a function returned, against the shape that is read.
 use Rattle.std.specs.Prelude.{◌≡◌, ℕ, true, false, Result, Ok, Err, List, Some}
-use Rattle.script_lex.specs.Spelling.{Fault, Bad, Open, Large, Means, is_within}
+use Rattle.script_lex.specs.Spelling.{Fault, Bad, OpenText, Large, Means, is_within}
 use Rattle.script_lex.specs.Reading.{Read}
 use Rattle.script_lex.specs.Tokens.{Runs, placed_fault}
 use Rattle.script_lex.specs.declared.token.Token.{Token}
@@ -10,14 +10,15 @@ use Rattle.script_lex.specs.declared.token.LexFault.TheVariants as faults
 use Rattle.script_lex.specs.declared.refusal.Refusal.{Refusal}
 use Rattle.script_lex.specs.declared.refusal.Refusal.TheVariants as refusals
 
--- want of memory is free; a number is too large exactly where its shape passes a bound; another fault is the one of reading
+-- want of memory is free; a number is too large exactly where its shape passes a bound; another fault is the one of
+-- reading
 abbrev pub Refuses : Read → ℕ → Refusal → Type 0
 Refuses read left refusals.Memory = Unit {0}
 Refuses (Ok found) left (refusals.NumberTooLarge n) = (is_within found.0 ≡ false) × (n ≡ left)
 Refuses (Ok found) left (refusals.BadByte n) = ⊥
 Refuses (Ok found) left (refusals.UnclosedString n) = ⊥
 Refuses (Err fault) left (refusals.BadByte n) = fault ≡ Bad n
-Refuses (Err fault) left (refusals.UnclosedString n) = fault ≡ Open n
+Refuses (Err fault) left (refusals.UnclosedString n) = fault ≡ OpenText n
 Refuses (Err fault) left (refusals.NumberTooLarge n) = ⊥
 
 abbrev pub Gives : {X : Type 0} → (X → TokenKind) → (X → List ℕ) → Read → ℕ → Result X Refusal → Type 0
@@ -36,14 +37,14 @@ left_of (refusals.NumberTooLarge n) = n
 abbrev pub IfFault : Refusal → (Fault → Type 0) → Type 0
 IfFault refusals.Memory P = Unit {0}
 IfFault (refusals.BadByte n) P = P (Bad n)
-IfFault (refusals.UnclosedString n) P = P (Open n)
+IfFault (refusals.UnclosedString n) P = P (OpenText n)
 IfFault (refusals.NumberTooLarge n) P = P (Large n)
 
 -- what a refusal is placed_fault as
 abbrev pub told_as : ℕ → Refusal → LexFault
 told_as total refusals.Memory = faults.Memory
 told_as total (refusals.BadByte n) = placed_fault total (Bad n)
-told_as total (refusals.UnclosedString n) = placed_fault total (Open n)
+told_as total (refusals.UnclosedString n) = placed_fault total (OpenText n)
 told_as total (refusals.NumberTooLarge n) = placed_fault total (Large n)
 
 -- the fault of a text, behind some tokens

@@ -16,7 +16,8 @@ AreDigits (Some digits) = AllDigits 10 digits
 
 -- each part that is there is digits
 abbrev pub HasDigits : Parts → Type 0
-HasDigits parts = AreDigits (digits_in parts.day) × AreDigits (digits_in parts.hour) × AreDigits (digits_in parts.minute) × AreDigits (digits_in parts.second)
+HasDigits parts = AreDigits (digits_in parts.day) × AreDigits (digits_in parts.hour)
+    × AreDigits (digits_in parts.minute) × AreDigits (digits_in parts.second)
 
 abbrev pub time_of : Parts → Shape
 time_of parts = ATime (digits_in parts.day) (digits_in parts.hour) (digits_in parts.minute) (digits_in parts.second)

@@ -6,7 +6,7 @@ use Rattle.std.specs.Str.Lossy.{utf8_valid_len}
 use Rattle.std.specs.Char.{is_ascii_digit}
 use Rattle.script_lex.specs.Bytes.{is_letter, is_word, is_quote, is_unit, is_escapable, is_inner, starts_part, starts_digit}
 use Rattle.script_lex.specs.Words.{keyword_of, symbol_of, symbol_with_equals}
-use Rattle.script_lex.specs.Spelling.{Shape, AWord, AnOpen, AnInt, ANumber, ATime, AText, AWav, ASymbol, Fault, Bad, Open}
+use Rattle.script_lex.specs.Spelling.{Shape, AWord, AnOpen, AnInt, ANumber, ATime, AText, AWav, ASymbol, Fault, Bad, OpenText}
 use Rattle.script_lex.specs.declared.token.Keyword.{Keyword}
 use Rattle.script_lex.specs.declared.token.Symbol.{Symbol}
 use Rattle.script_lex.specs.declared.body.BodyEnd.{BodyEnd}
@@ -52,14 +52,17 @@ word_at bytes =
 -- the part of a time with this unit, if it stands at the front
 abbrev pub part_before : ℕ → List ℕ → List ℕ → Option (List ℕ) × List ℕ
 part_before unit bytes [] = (None, bytes)
-part_before unit bytes (b ∷ bs) = if starts_digit bytes && (b == unit) then (Some (front bytes (b ∷ bs)), bs) else (None, bytes)
+part_before unit bytes (b ∷ bs) = if starts_digit bytes && (b == unit) then (Some (front bytes (b ∷ bs)), bs)
+    else (None, bytes)
 
 unfoldable pub part_at : ℕ → List ℕ → Option (List ℕ) × List ℕ
 part_at unit bytes = part_before unit bytes (after_digits bytes)
 
 -- the minutes without a unit behind an hour
 abbrev pub minutes_after : (day hour minute second : Option (List ℕ)) → List ℕ → Found
-minutes_after day (Some hour) None None bytes = if starts_digit bytes then (ATime day (Some hour) (Some (front bytes (after_digits bytes))) None, after_digits bytes) else (ATime day (Some hour) None None, bytes)
+minutes_after day (Some hour) None None bytes = if starts_digit bytes
+    then (ATime day (Some hour) (Some (front bytes (after_digits bytes))) None, after_digits bytes)
+    else (ATime day (Some hour) None None, bytes)
 minutes_after day hour minute second bytes = (ATime day hour minute second, bytes)
 
 unfoldable pub time_at : List ℕ → Found
@@ -105,14 +108,15 @@ abbrev mutual
 abbrev pub text_from : List ℕ → List ℕ → BodyEnd → ℕ → Read
 text_from body rest ends.Closed left = Ok (AText (unescaped body), tail rest)
 text_from body rest ends.Broken left = Err (Bad (length rest))
-text_from body rest ends.Cut left = Err (Open left)
+text_from body rest ends.Cut left = Err (OpenText left)
 
 -- the text whose opening quote stands before these bytes
 unfoldable pub text_at : ℕ → List ℕ → Read
 text_at quote bytes =
     let stop = body_end quote bytes in
     let body = front bytes stop.1 in
-    if is_utf8 body then text_from body stop.1 stop.0 (length bytes + 1) else Err (Bad (length bytes - utf8_valid_len body))
+    if is_utf8 body then text_from body stop.1 stop.0 (length bytes + 1)
+    else Err (Bad (length bytes - utf8_valid_len body))
 
 abbrev pub symbol_before : Option Symbol → List ℕ → Option Found
 symbol_before None rest = None

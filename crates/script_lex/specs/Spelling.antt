@@ -45,7 +45,8 @@ behind_points (p ∷ ps) = 46 ∷ p ++ behind_points ps
 
 -- parts joined by points
 abbrev pub IsDotted : List ℕ → Type 0
-IsDotted text = (part : List ℕ) × (parts : List (List ℕ)) × IsPart part × AreParts parts × (text ≡ part ++ behind_points parts)
+IsDotted text = (part : List ℕ) × (parts : List (List ℕ)) × IsPart part × AreParts parts
+    × (text ≡ part ++ behind_points parts)
 
 -- a part of a time: its digits and its unit, or nothing
 abbrev pub part_text : Option (List ℕ) → ℕ → List ℕ
@@ -58,7 +59,8 @@ IsDigits (Some digits) = IsNumeral 10 digits
 
 -- the parts in the order w, h, m, s
 abbrev pub time_text : (day hour minute second : Option (List ℕ)) → List ℕ
-time_text day hour minute second = part_text day 119 ++ (part_text hour 104 ++ (part_text minute 109 ++ part_text second 115))
+time_text day hour minute second = part_text day 119
+    ++ (part_text hour 104 ++ (part_text minute 109 ++ part_text second 115))
 
 -- minutes without a unit, directly behind the hour and at the end
 abbrev pub IsShortTime : (day hour minute second : Option (List ℕ)) → List ℕ → Type 0
@@ -75,20 +77,21 @@ pub record IsTimeText (day hour minute second : Option (List ℕ)) (text : List 
 
 -- a character of a text: itself, or behind a backslash
 pub data TextPiece : Type 0 where
-  Plain : ℕ → TextPiece
+  PlainPiece : ℕ → TextPiece
   Escaped : ℕ → TextPiece
 
 abbrev pub written : TextPiece → List ℕ
-written (Plain c) = encode_utf8 c
+written (PlainPiece c) = encode_utf8 c
 written (Escaped c) = 92 ∷ c ∷ []
 
-abbrev pub meant : TextPiece → List ℕ
-meant (Plain c) = encode_utf8 c
-meant (Escaped c) = c ∷ []
+abbrev pub meant_bytes : TextPiece → List ℕ
+meant_bytes (PlainPiece c) = encode_utf8 c
+meant_bytes (Escaped c) = c ∷ []
 
--- U+0020 to U+007E other than the backslash and the quote, or a character from U+0080 on; or one of the three behind a backslash
+-- U+0020 to U+007E other than the backslash and the quote, or a character from U+0080 on; or one of the three behind a
+-- backslash
 abbrev pub IsPiece : ℕ → TextPiece → Type 0
-IsPiece quote (Plain c) = IsScalar c × (32 ≤ c) × (c ≢ 127) × (c ≢ 92) × (c ≢ quote)
+IsPiece quote (PlainPiece c) = IsScalar c × (32 ≤ c) × (c ≢ 127) × (c ≢ 92) × (c ≢ quote)
 IsPiece quote (Escaped c) = is_escapable c ≡ true
 
 abbrev pub ArePieces : ℕ → List TextPiece → Type 0
@@ -105,7 +108,7 @@ pub record IsQuotedText (value text : List ℕ) : Type 0 where
   pub is_quote : IsQuote quote
   pub allowed : ArePieces quote pieces
   pub spelled : text ≡ quote ∷ flat_map written pieces ++ quote ∷ []
-  pub means : value ≡ flat_map meant pieces
+  pub means : value ≡ flat_map meant_bytes pieces
 
 -- The spellings of each shape.
 abbrev pub SpellsShape : Shape → List ℕ → Type 0
@@ -127,7 +130,8 @@ is_up_to most (Some digits) = nat_le (digits_value 10 digits) most
 abbrev pub is_within : Shape → Bool
 is_within (AnInt digits) = nat_le (digits_value 10 digits) 9223372036854775807
 is_within (ANumber whole fraction) = nat_le (length fraction) 6 && nat_le (millionths whole fraction) 1000000000000000
-is_within (ATime day hour minute second) = is_up_to 7 day && (is_up_to 24 hour && (is_up_to 60 minute && is_up_to 60 second))
+is_within (ATime day hour minute second) = is_up_to 7 day
+    && (is_up_to 24 hour && (is_up_to 60 minute && is_up_to 60 second))
 is_within shape = true
 
 -- a word is a keyword or a name
@@ -139,14 +143,20 @@ abbrev pub values : Option (List ℕ) → Option ℕ
 values = option_map (λ digits. digits_value 10 digits)
 
 abbrev pub mark_of : (day hour minute second : Option (List ℕ)) → TimeMark
-mark_of day hour minute second = record { day = values day; hour = values hour; minute = values minute; second = values second }
+mark_of day hour minute second = record {
+  day = values day;
+  hour = values hour;
+  minute = values minute;
+  second = values second;
+}
 
 -- what a shape stands for
 abbrev pub Means : Shape → TokenKind → Type 0
 Means (AWord word) kind = kind ≡ kind_of_word word (keyword_of word)
 Means (AnOpen name) kind = kind ≡ kinds.NameOpen name
 Means (AnInt digits) kind = kind ≡ kinds.Int (pos (digits_value 10 digits))
-Means (ANumber whole fraction) kind = (decimal : Decimal) × (kind ≡ kinds.Number decimal) × (decimal.millionths ≡ pos (millionths whole fraction))
+Means (ANumber whole fraction) kind = (decimal : Decimal) × (kind ≡ kinds.Number decimal)
+    × (decimal.millionths ≡ pos (millionths whole fraction))
 Means (ATime day hour minute second) kind = kind ≡ kinds.Time (mark_of day hour minute second)
 Means (AText value) kind = kind ≡ kinds.Str value
 Means AWav kind = kind ≡ kinds.Wav
@@ -157,7 +167,8 @@ pub record IsLongest (shape : Shape) (bytes rest : List ℕ) : Type 0 where
   pub text : List ℕ
   pub split : bytes ≡ text ++ rest
   pub spelled : SpellsShape shape text
-  pub longest : (other : Shape) (more behind : List ℕ) → bytes ≡ more ++ behind → SpellsShape other more → length more ≤ length text
+  pub longest : (other : Shape) (more behind : List ℕ) → bytes ≡ more ++ behind → SpellsShape other more
+      → length more ≤ length text
 
 -- a token of this kind stands at the front of bytes, and rest is behind it
 pub record IsToken (bytes : List ℕ) (kind : TokenKind) (rest : List ℕ) : Type 0 where
@@ -169,7 +180,7 @@ pub record IsToken (bytes : List ℕ) (kind : TokenKind) (rest : List ℕ) : Typ
 -- where a fault stands, as the number of bytes from there on
 pub data Fault : Type 0 where
   Bad : (left : ℕ) → Fault
-  Open : (left : ℕ) → Fault
+  OpenText : (left : ℕ) → Fault
   Large : (left : ℕ) → Fault
 
 -- a number that passes its bound stands at the front of bytes
@@ -215,5 +226,5 @@ pub record BeginsNothing (bytes : List ℕ) : Type 0 where
 -- the fault that stands at the front of bytes
 abbrev pub FaultAt : Fault → List ℕ → Type 0
 FaultAt (Bad left) bytes = (BeginsNothing bytes × (left ≡ length bytes)) ⊎ IsBadInText bytes left
-FaultAt (Open left) bytes = IsUnclosed bytes × (left ≡ length bytes)
+FaultAt (OpenText left) bytes = IsUnclosed bytes × (left ≡ length bytes)
 FaultAt (Large left) bytes = IsTooLarge bytes × (left ≡ length bytes)

@@ -2,7 +2,7 @@
 use Rattle.std.specs.Prelude.{◌≡◌, ℕ, ◌-◌, ◌<◌, ◌≤◌, Bool, true, false, ◌==◌, List, [], ◌∷◌, length, Option, Some, None, if◌then◌else◌}
 use Rattle.liq_base.specs.declared.limits.TheConstants.{MAX_SCRIPT_BYTES}
 use Rattle.script_lex.specs.Bytes.{is_blank}
-use Rattle.script_lex.specs.Spelling.{IsToken, Fault, Bad, Open, Large, FaultAt}
+use Rattle.script_lex.specs.Spelling.{IsToken, Fault, Bad, OpenText, Large, FaultAt}
 use Rattle.script_lex.specs.declared.token.Token.{Token}
 use Rattle.script_lex.specs.declared.token.LexFault.{LexFault}
 use Rattle.script_lex.specs.declared.token.LexFault.TheVariants as faults
@@ -31,12 +31,13 @@ Runs text ts end = (rest : List ℕ) × Leads (length text) text ts rest × Ends
 -- the fault, with its place from the text's start
 abbrev pub placed_fault : ℕ → Fault → LexFault
 placed_fault total (Bad left) = faults.BadByte (total - left)
-placed_fault total (Open left) = faults.UnclosedString (total - left)
+placed_fault total (OpenText left) = faults.UnclosedString (total - left)
 placed_fault total (Large left) = faults.NumberTooLarge (total - left)
 
 -- a fault stands behind some tokens, at its place
 abbrev pub StandsIn : List ℕ → LexFault → Type 0
-StandsIn text fault = (length text ≤ MAX_SCRIPT_BYTES) × ((ts : List Token) × (stop : Fault) × Runs text ts (Some stop) × (fault ≡ placed_fault (length text) stop))
+StandsIn text fault = (length text ≤ MAX_SCRIPT_BYTES)
+    × ((ts : List Token) × (stop : Fault) × Runs text ts (Some stop) × (fault ≡ placed_fault (length text) stop))
 
 -- the tokens of a text
 abbrev pub AreTokens : List ℕ → List Token → Type 0

@@ -23,7 +23,8 @@ const BYTES_A_TOKEN: usize = 3;
 /// only want of memory may come in place of either.
 pub fn lex(alloc: Global, text: &[u8]) -> Result<Vec<Token>, LexFault>
     ensures tokens { IfOk result (λ v. AreTokens text.now v.items) }
-    ensures only { (ts : List Token) → AreTokens text.now ts → IsOkUnless result faults.Memory × IfOk result (λ v. v.items ≡ ts) }
+    ensures only { (ts : List Token) → AreTokens text.now ts
+        → IsOkUnless result faults.Memory × IfOk result (λ v. v.items ≡ ts) }
     ensures fault { IfErr result (λ e. e ≢ faults.Memory → HasFault text.now e) }
     ensures only_fault { (e : LexFault) → HasFault text.now e → (result ≡ Err e) ⊎ (result ≡ Err faults.Memory) }
 {

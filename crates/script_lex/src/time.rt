@@ -64,7 +64,8 @@ fn part_at(unit: u8, bytes: &[u8]) -> (Option<&[u8]>, &[u8])
 // A part of a time, if it passes no more than the bound.
 fn within(digits: Option<&[u8]>, most: u8) -> Option<Option<u8>>
     requires { AreDigits (digits_in digits) }
-    ensures { result ≡ (if is_up_to most (digits_in digits.entry) then Some (values (digits_in digits.entry)) else None) }
+    ensures { result ≡ (if is_up_to most (digits_in digits.entry) then Some (values (digits_in digits.entry))
+        else None) }
 {
     match digits {
         Some(digits) => {

@@ -108,7 +108,8 @@ pub enum Symbol {
     Tilde,
 }
 
-/// Why a script has no tokens. The first three carry the place of a byte, from 0. The faults are numbered as they stand.
+/// Why a script has no tokens. The first three carry the place of a byte, from 0. The faults are numbered as they
+/// stand.
 #[derive(Clone, Copy, Debug, Error, PartialEq, Eq)]
 pub enum LexFault {
     /// Fault 1: no token begins at this byte, or it may not stand in its text.

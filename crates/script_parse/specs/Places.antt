@@ -12,7 +12,8 @@ use Rattle.script_grammar.specs.Spelling.{spelling}
 abbrev pub Begins : List TokenKind → Type 0
 Begins front = (s : Script) × (others : List TokenKind) × (spelling s ≡ front ++ others)
 
--- The least place: some script's spelling begins with the tokens before k, and none with those up to k. Where k is the end of the tokens, more of them are missing.
+-- The least place: some script's spelling begins with the tokens before k, and none with those up to k. Where k is the
+-- end of the tokens, more of them are missing.
 pub record IsSyntaxPlace (tokens : List TokenKind) (k : ℕ) : Type 0 where
   pub within : k ≤ length tokens
   pub begun : Begins (take k tokens)

@@ -1,8 +1,8 @@
 // Why tokens are no script.
 use thiserror::Error;
 
-/// Why tokens are no script. The numbers are indexes of tokens, from 0. `docs/grammar.md`, "The place of a fault", has the
-/// rule.
+/// Why tokens are no script. The numbers are indexes of tokens, from 0. `docs/grammar.md`, "The place of a fault", has
+/// the rule.
 #[derive(Clone, Copy, Debug, PartialEq, Eq, Error)]
 pub enum ParseFault {
     /// The least token up to which no script begins; or the number of tokens, where only more tokens are missing.

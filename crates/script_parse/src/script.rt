@@ -26,9 +26,10 @@ use std::alloc::Global;
 ///
 /// # Errors
 ///
-/// `Syntax`: the least token such that no script begins with the tokens up to it, or the number of tokens where only more
-/// of them are missing. `TooDeep`: the first token at which more brackets are open. The lesser place decides, and at equal
-/// places it is `Syntax`. `Memory`: memory was refused, or there are 2^32 tokens and more, whose places have no number.
+/// `Syntax`: the least token such that no script begins with the tokens up to it, or the number of tokens where only
+/// more of them are missing. `TooDeep`: the first token at which more brackets are open. The lesser place decides, and
+/// at equal places it is `Syntax`. `Memory`: memory was refused, or there are 2^32 tokens and more, whose places have
+/// no number.
 pub fn parse(alloc: Global, _text: &[u8], tokens: &[Token]) -> Result<Script, ParseFault>
     ensures spelled { IfOk result (λ s. spelling (view_script s) ≡ kinds tokens.now) }
     ensures placed { IfOk result (λ s. IsPlaced 0 (view_script s)) }

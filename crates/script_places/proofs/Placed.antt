@@ -3,7 +3,7 @@ use Rattle.std.proofs.Common.{◌≡◌, ℕ, zero, suc, ◌+◌, ◌<◌, ◌�
 use Rattle.std.specs.Prelude.{get_or, option_map, unwrap_or}
 use Rattle.std.proofs.lemmas.List.{length-append}
 use Rattle.script_lex.specs.declared.token.Token.{Token}
-use Rattle.script_grammar.specs.Tree.{Tree, APart, AStmt, more, Script, BindPart, DefPart, CallPart, IfPart, Bind, Def, Call, If}
+use Rattle.script_grammar.specs.Tree.{Tree, APart, AStmt, more, Script, BindPart, DefPart, CallPart, IfPart, Bind, Def, NamedCall, If}
 use Rattle.script_grammar.specs.Spelling.{spell, spelling}
 use Rattle.script_grammar.specs.Placed.{IsPlaced}
 use Rattle.script_grammar.specs.View.{listed, view_stmt, view_part}
@@ -13,7 +13,7 @@ use Rattle.script_places.specs.Starts.{start, before, first_token, first_at}
 first_placed : (i : ℕ) (p : Tree APart) → IsPlaced i p → first_at p ≡ i
 first_placed i (BindPart (Bind at name value)) h = h.0
 first_placed i (DefPart (Def at name params equals inner result)) h = let at_name : at ≡ i + 1 = h.0 in omega arith
-first_placed i (CallPart (Call at name args)) h = h.0
+first_placed i (CallPart (NamedCall at name args)) h = h.0
 first_placed i (IfPart (If at c t e)) h = h.0
 
 some_is : {a b : ℕ} → Some a ≡ Some b → a ≡ b

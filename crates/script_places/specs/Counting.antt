@@ -19,7 +19,8 @@ are_utf8 n bytes = nat_le n (length bytes) && is_utf8 (take n bytes)
 
 -- how many bytes the first character has: the shortest front that is UTF-8; where none is, the byte counts as one
 unfoldable pub width : List ℕ → ℕ
-width bytes = if are_utf8 1 bytes then 1 else (if are_utf8 2 bytes then 2 else (if are_utf8 3 bytes then 3 else (if are_utf8 4 bytes then 4 else 1)))
+width bytes = if are_utf8 1 bytes then 1 else (if are_utf8 2 bytes then 2
+    else (if are_utf8 3 bytes then 3 else (if are_utf8 4 bytes then 4 else 1)))
 
 -- the first byte of each character that begins in bytes, where so many at the front belong to one that has begun
 unfoldable pub begun : ℕ → List ℕ → List ℕ

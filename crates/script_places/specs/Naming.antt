@@ -20,7 +20,8 @@ begins_token line =
 abbrev pub begins_statement : List ℕ → Bool
 begins_statement line = begins line (codes "E13 statement ") || begins line (codes "E15 statement ")
 
--- how a line names a place, by the words that it begins with: of a number the words before it, of a text also what stands behind it
+-- how a line names a place, by the words that it begins with: of a number the words before it, of a text also what
+-- stands behind it
 abbrev pub text_form : List ℕ → Form
 text_form line =
     if begins line (codes "E18 two outputs ") then form.Text 16 0

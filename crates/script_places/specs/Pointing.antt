@@ -1,4 +1,5 @@
--- The two lines that show a place: FILE:LINE:COLUMN, the line's text without its leading blanks, and a caret below the place, with a word where it is a byte order mark.
+-- The two lines that show a place: FILE:LINE:COLUMN, the line's text without its leading blanks, and a caret below the
+-- place, with a word where it is a byte order mark.
 use Rattle.std.specs.Prelude.{ℕ, ◌-◌, Bool, ◌&&◌, ◌||◌, ◌==◌, List, [], ◌∷◌, ◌++◌, length, map, take, drop, codes, decimal, if◌then◌else◌}
 use Rattle.std.specs.List.{prefix_len}
 use Rattle.std.specs.Str.{bytes_eq}
@@ -38,7 +39,8 @@ front text at = shown (trimmed (in_line (take at text)))
 
 -- a byte order mark is told in words
 abbrev pub caret : List ℕ → ℕ → List ℕ
-caret text at = if (at == 0) && is_marked text then codes "^ a byte order mark: save the script without it\n" else codes "^\n"
+caret text at = if (at == 0) && is_marked text then codes "^ a byte order mark: save the script without it\n"
+    else codes "^\n"
 
 abbrev pub pointer : List ℕ → List ℕ → ℕ → List ℕ
 pointer file text at =

@@ -1,4 +1,5 @@
--- How a text is shown at a terminal: the bytes of a character that would drive it, or that nobody would see, by their numbers.
+-- How a text is shown at a terminal: the bytes of a character that would drive it, or that nobody would see, by their
+-- numbers.
 use Rattle.std.specs.Prelude.{ℕ, zero, suc, ◌+◌, ◌-◌, ◌/◌, ◌%◌, Bool, true, false, not, ◌&&◌, ◌||◌, ◌==◌, nat_le, nat_lt, List, [], ◌∷◌, ◌++◌, take, if◌then◌else◌}
 use Rattle.std.specs.Str.{bytes_eq}
 use Rattle.script_places.specs.Counting.{width}
@@ -17,7 +18,8 @@ has_control_next (b ∷ c ∷ bs) = is_control c
 abbrev pub is_marked : List ℕ → Bool
 is_marked bytes = bytes_eq (take 3 bytes) (0xEF ∷ 0xBB ∷ 0xBF ∷ [])
 
--- whether bytes begin with a character that is not shown as it is: a control byte, the byte order mark, or a control character from U+0080 on, whose first byte is 194
+-- whether bytes begin with a character that is not shown as it is: a control byte, the byte order mark, or a control
+-- character from U+0080 on, whose first byte is 194
 unfoldable pub is_hidden : List ℕ → Bool
 is_hidden [] = false
 is_hidden (b ∷ bs) = is_control b || (b == 194 && has_control_next (b ∷ bs)) || is_marked (b ∷ bs)
@@ -42,7 +44,8 @@ character_shown hidden (b ∷ bs) = byte_shown hidden b ++ character_shown hidde
 -- where so many bytes at the front belong to a character that has begun, which is hidden or not
 unfoldable pub shown_within : ℕ → Bool → List ℕ → List ℕ
 shown_within inside hidden [] = []
-shown_within zero hidden (b ∷ bs) = byte_shown (is_hidden (b ∷ bs)) b ++ shown_within (width (b ∷ bs) - 1) (is_hidden (b ∷ bs)) bs
+shown_within zero hidden (b ∷ bs) = byte_shown (is_hidden (b ∷ bs)) b
+    ++ shown_within (width (b ∷ bs) - 1) (is_hidden (b ∷ bs)) bs
 shown_within (suc n) hidden (b ∷ bs) = byte_shown hidden b ++ shown_within n hidden bs
 
 -- a text as it is shown

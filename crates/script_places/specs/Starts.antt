@@ -1,7 +1,7 @@
 -- Where tokens and statements begin.
 use Rattle.std.specs.Prelude.{ℕ, zero, suc, ◌-◌, List, [], ◌∷◌, length, Option, Some, None, option_map}
 use Rattle.script_lex.specs.declared.token.Token.{Token}
-use Rattle.script_grammar.specs.Tree.{Tree, APart, none, more, Script, BindPart, DefPart, CallPart, IfPart, Bind, Def, Call, If}
+use Rattle.script_grammar.specs.Tree.{Tree, APart, none, more, Script, BindPart, DefPart, CallPart, IfPart, Bind, Def, NamedCall, If}
 use Rattle.script_grammar.specs.Spelling.{spelling}
 
 -- the place of the first byte of a token, counted from 0; a token past the end is the end of the script
@@ -25,5 +25,5 @@ first_token script (suc k) = option_map (λ s. length (spelling s)) (before scri
 abbrev pub first_at : Tree APart → ℕ
 first_at (BindPart (Bind at name value)) = at
 first_at (DefPart (Def at name params equals inner result)) = at - 1
-first_at (CallPart (Call at name args)) = at
+first_at (CallPart (NamedCall at name args)) = at
 first_at (IfPart (If at c t e)) = at

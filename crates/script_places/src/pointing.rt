@@ -9,9 +9,9 @@ use crate::showing::{is_marked, push_shown};
 use liq_base::Memory;
 use std::alloc::Global;
 
-/// The lines that show the byte of this number, counted from 0, or the end of the text past it: `FILE:LINE:COLUMN: ` and
-/// the text of the line without its leading blanks, and below it a caret. Bytes of control characters are shown by their
-/// numbers, and a byte order mark that stands at the place is told in words.
+/// The lines that show the byte of this number, counted from 0, or the end of the text past it: `FILE:LINE:COLUMN: `
+/// and the text of the line without its leading blanks, and below it a caret. Bytes of control characters are shown by
+/// their numbers, and a byte order mark that stands at the place is told in words.
 pub fn pointer(alloc: Global, file: &str, text: &[u8], at: usize) -> Result<Vec<u8>, Memory>
     ensures { IfOk result (λ lines. lines.items ≡ pointer file.now text.now at) }
 {
@@ -47,7 +47,8 @@ fn push_line(lines: &mut Vec<u8>, head: &[u8], front: &[u8], rest: &[u8]) -> Res
 
 // Adds a line with a caret below what stands behind two parts.
 fn push_caret(lines: &mut Vec<u8>, head: &[u8], front: &[u8], caret: &[u8]) -> Result<(), Memory>
-    ensures { OnOk result (lines.new.items ≡ lines.old.items ++ blanks_for head.now ++ blanks_for front.now ++ caret.now) }
+    ensures { OnOk result (lines.new.items ≡ lines.old.items ++ blanks_for head.now ++ blanks_for front.now
+        ++ caret.now) }
 {
     push_blanks(lines, head)?;
     push_blanks(lines, front)?;

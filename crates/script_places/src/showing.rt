@@ -99,8 +99,8 @@ fn push_first<'a>(out: &mut Vec<u8>, bytes: &'a [u8]) -> Result<&'a [u8], Memory
     Ok(behind)
 }
 
-/// Adds a text as it is shown: the bytes of a control character but for a TAB, and of the byte order mark, as `\x` and two
-/// digits each.
+/// Adds a text as it is shown: the bytes of a control character but for a TAB, and of the byte order mark, as `\x` and
+/// two digits each.
 pub fn push_shown(out: &mut Vec<u8>, bytes: &[u8]) -> Result<(), Memory>
     ensures { OnOk result (out.new.items ≡ out.old.items ++ shown bytes.now) }
 {

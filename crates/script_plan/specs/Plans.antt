@@ -58,7 +58,8 @@ pub record IsEvaluationFault (text : List ℕ) (f : EvalFault) : Type 0 where
   pub typed : Types text script uses
   pub told : evaluation script uses ≡ Err (Some f)
 
--- The fault of a text. Each stage but the first stands on what the stages before it answer, so an earlier one's fault comes first.
+-- The fault of a text. Each stage but the first stands on what the stages before it answer, so an earlier one's fault
+-- comes first.
 abbrev pub IsPlanFault : List ℕ → ScriptFault → Type 0
 IsPlanFault text (fault.Lex f) = HasFault text f
 IsPlanFault text (fault.Parse f) = IsSyntaxFault text f

@@ -1,4 +1,5 @@
--- What each stage tells: its fault in the place of the text's, and a script's plan and fault behind parsing. These are for the functions of `src/plan.rt` alone.
+-- What each stage tells: its fault in the place of the text's, and a script's plan and fault behind parsing. These are
+-- for the functions of `src/plan.rt` alone.
 use Rattle.std.specs.Prelude.{◌≡◌, ◌≢◌, List, Some, Ok, Err, ⊤}
 use Rattle.plan_core.specs.declared.plan.Plan.{Plan}
 use Rattle.script_lex.specs.declared.token.LexFault.{LexFault}

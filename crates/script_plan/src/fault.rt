@@ -6,8 +6,8 @@ use script_parse::ParseFault;
 use script_values::EvalFault;
 use typing_rules::TypeFault;
 
-/// The fault of a text, of the stage that tells it. A later stage is asked only where the earlier ones have no fault, so
-/// a text has one fault at most. Want of memory is `Memory`, never the variant of that name within another fault.
+/// The fault of a text, of the stage that tells it. A later stage is asked only where the earlier ones have no fault,
+/// so a text has one fault at most. Want of memory is `Memory`, never the variant of that name within another fault.
 #[derive(Debug, Drop)]
 pub enum ScriptFault {
     /// The text is too long, or has no tokens.

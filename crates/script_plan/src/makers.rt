@@ -19,9 +19,9 @@ use script_grammar::tree::Script;
 use std::alloc::Global;
 use typing_rules::Use;
 
-/// The number of the statement, from 1, that makes the source of this number, from 0, in the script that these bytes spell;
-/// nothing where none makes it, and then a plan of the script has no such source. Or the first fault of the bytes, where that
-/// comes before the source is made. Want of memory may come in place of either.
+/// The number of the statement, from 1, that makes the source of this number, from 0, in the script that these bytes
+/// spell; nothing where none makes it, and then a plan of the script has no such source. Or the first fault of the
+/// bytes, where that comes before the source is made. Want of memory may come in place of either.
 pub fn maker_of(alloc: Global, text: &[u8], source: u64) -> Result<Option<u32>, ScriptFault>
     ensures maker { IfOk result (λ number. IsMaker text.now source number) }
     ensures none { IfOk result (λ number. number ≡ None → (p : Plan) → IsPlan text.now p → length p.nodes ≤ source) }
@@ -35,7 +35,8 @@ pub fn maker_of(alloc: Global, text: &[u8], source: u64) -> Result<Option<u32>, 
 fn maker_in_script(alloc: Global, script: &Script, source: u64) -> Result<Option<u32>, ScriptFault>
     requires { IsPlaced 0 (view_script script.now) }
     ensures maker { IfOk result (λ number. HasMaker (view_script script.now) source number) }
-    ensures none { IfOk result (λ number. number ≡ None → (p : Plan) → HasPlan (view_script script.now) p → length p.nodes ≤ source) }
+    ensures none { IfOk result (λ number. number ≡ None → (p : Plan) → HasPlan (view_script script.now) p
+        → length p.nodes ≤ source) }
     ensures fault { IfErr result (IsOfScript (view_script script.now)) }
 {
     laws::one_plan();
@@ -53,7 +54,8 @@ fn found(
     requires placed { IsPlaced 0 (view_script script.now) }
     requires typed { IsTyped (view_script script.now) uses.now }
     ensures maker { IfOk result (λ number. maker (view_script script.now) uses.now source ≡ Ok number) }
-    ensures none { IfOk result (λ number. number ≡ None → (p : Plan) → evaluation (view_script script.now) uses.now ≡ Ok p → length p.nodes ≤ source) }
+    ensures none { IfOk result (λ number. number ≡ None → (p : Plan)
+        → evaluation (view_script script.now) uses.now ≡ Ok p → length p.nodes ≤ source) }
     ensures fault { IfErr result (IsOfEvaluation (view_script script.now) uses.now) }
 {
     let number = maker(alloc, script, uses, source)?;

@@ -22,8 +22,8 @@ use typing_rules::Use;
 /// The plan of the script that these bytes spell, or the first fault of the bytes. Want of memory may come in place of
 /// either.
 ///
-/// The stages are asked in order: tokens, the tree, types, evaluation. What a stage needed is freed before the next large
-/// one begins.
+/// The stages are asked in order: tokens, the tree, types, evaluation. What a stage needed is freed before the next
+/// large one begins.
 pub fn plan_of(alloc: Global, text: &[u8]) -> Result<Plan, ScriptFault>
     ensures plan { IfOk result (λ p. IsPlan text.now p) }
     ensures well_formed { IfOk result (λ p. IsWellFormed p) }

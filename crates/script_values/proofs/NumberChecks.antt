@@ -2,9 +2,9 @@
 use Rattle.std.proofs.Common.{◌≡◌, pos, negsuc, true, false, [], ◌∷◌, Ok, Err, refl}
 use Rattle.script_grammar.specs.declared.tree.CompareOp.TheVariants as op
 use Rattle.script_values.specs.declared.fault.Fault.TheVariants.{BadValue, TooMuchWork, Stuck}
-use Rattle.script_values.specs.Values.{many, size, Int, Number, Text, Truth, Nothing, Listed, Tuple}
+use Rattle.script_values.specs.Values.{many, size, Int, Number, Text, TruthValue, UnitValue, ListValue, TupleValue}
 use Rattle.script_values.specs.Numbers.{int_at, of_millionths, quotient, added, multiplied, compared}
-use Rattle.script_values.specs.Machines.{some_millionths, first_machine, count}
+use Rattle.script_values.specs.Machines.{some_millionths, first_machine, count_work}
 
 -- `1 / 0` at the token 3
 zero_divisor : multiplied true 3 (Int (pos 1)) (Int (pos 0)) ≡ Err (BadValue 3)
@@ -42,14 +42,14 @@ unfolding compared
 two_types = refl
 
 -- the size of `[(1, "a"), ((), true)]`
-list_of_pairs : size (Listed (many (Tuple (many (Int (pos 1) ∷ Text (97 ∷ []) ∷ [])) ∷ Tuple (many (Nothing ∷ Truth true ∷ [])) ∷ []))) ≡ 7
+list_of_pairs : size (ListValue (many (TupleValue (many (Int (pos 1) ∷ Text (97 ∷ []) ∷ [])) ∷ TupleValue (many (UnitValue ∷ TruthValue true ∷ [])) ∷ []))) ≡ 7
 list_of_pairs = refl
 
 -- 999999 is not too much, and one more is
-all_work : count 999999 first_machine ≡ Ok (record first_machine { work = 999999 })
-unfolding count
+all_work : count_work 999999 first_machine ≡ Ok (record first_machine { work = 999999 })
+unfolding count_work
 all_work = refl
 
-too_much_work : count 1000000 first_machine ≡ Err TooMuchWork
-unfolding count
+too_much_work : count_work 1000000 first_machine ≡ Err TooMuchWork
+unfolding count_work
 too_much_work = refl

@@ -18,8 +18,8 @@ first_machine = record {
   settings = record { duration = some_millionths 40000 tt; last = 0; statement = 0; allowed = true };
 }
 
-unfoldable pub count : ℕ → Machine → Result Machine Fault
-count steps m =
+unfoldable pub count_work : ℕ → Machine → Result Machine Fault
+count_work steps m =
     elim (nat_le (m.work + steps) MAX_WORK) [
       | true ↦ Ok (record m { work = m.work + steps })
       | false ↦ Err TooMuchWork

@@ -7,7 +7,7 @@ use Rattle.script_grammar.specs.declared.tree.CompareOp.{CompareOp}
 use Rattle.script_grammar.specs.declared.tree.CompareOp.TheVariants as op
 use Rattle.script_values.specs.declared.fault.Fault.{Fault}
 use Rattle.script_values.specs.declared.fault.Fault.TheVariants.{BadValue, Stuck}
-use Rattle.script_values.specs.Values.{Value, Int, Number, Truth}
+use Rattle.script_values.specs.Values.{Value, Int, Number, TruthValue}
 
 -- an int that a script may have
 unfoldable pub int_at : ℕ → ℤ → Result Value Fault
@@ -18,13 +18,15 @@ int_at at n =
     ]
 
 -- a decimal of so many millionths, if there is one
-abbrev pub decimal_by : (m : ℤ) (low high : Bool) → (T low → negsuc 999999999999999 ≤ℤ m) → (T high → m ≤ℤ pos 1000000000000000) → Option Decimal
+abbrev pub decimal_by : (m : ℤ) (low high : Bool) → (T low → negsuc 999999999999999 ≤ℤ m)
+    → (T high → m ≤ℤ pos 1000000000000000) → Option Decimal
 decimal_by m true true above below = Some (record { millionths = m; low = above tt; high = below tt })
 decimal_by m true false above below = None
 decimal_by m false high above below = None
 
 unfoldable pub of_millionths : ℤ → Option Decimal
-of_millionths m = decimal_by m (int_le (negsuc 999999999999999) m) (int_le m (pos 1000000000000000)) (λ t. record { le = t }) (λ t. record { le = t })
+of_millionths m = decimal_by m (int_le (negsuc 999999999999999) m) (int_le m (pos 1000000000000000))
+    (λ t. record { le = t }) (λ t. record { le = t })
 
 abbrev pub or_bad_value : ℕ → Option Decimal → Result Value Fault
 or_bad_value at (Some d) = Ok (Number d)
@@ -66,35 +68,36 @@ unfoldable pub multiplied : Bool → ℕ → Value → Value → Result Value Fa
 multiplied false at (Int a) (Int b) = int_at at (a *ℤ b)
 multiplied true at (Int a) (Int b) = quotient_at at (int_at at) (quotient a b)
 multiplied false at (Number a) (Number b) = decimal_at at (int_div (a.millionths *ℤ b.millionths) (pos 1000000))
-multiplied true at (Number a) (Number b) = quotient_at at (decimal_at at) (quotient (a.millionths *ℤ pos 1000000) b.millionths)
+multiplied true at (Number a) (Number b) = quotient_at at (decimal_at at)
+    (quotient (a.millionths *ℤ pos 1000000) b.millionths)
 multiplied divide at v w = Err Stuck
 
-abbrev pub holds : CompareOp → ℤ → ℤ → Bool
-holds op.Equal a b = int_le a b && int_le b a
-holds op.Differs a b = int_lt a b || int_lt b a
-holds op.Less a b = int_lt a b
-holds op.AtMost a b = int_le a b
-holds op.Greater a b = int_lt b a
-holds op.AtLeast a b = int_le b a
+abbrev pub is_so : CompareOp → ℤ → ℤ → Bool
+is_so op.Equal a b = int_le a b && int_le b a
+is_so op.Differs a b = int_lt a b || int_lt b a
+is_so op.Less a b = int_lt a b
+is_so op.AtMost a b = int_le a b
+is_so op.Greater a b = int_lt b a
+is_so op.AtLeast a b = int_le b a
 
 unfoldable pub compared : CompareOp → Value → Value → Result Value Fault
-compared o (Int a) (Int b) = Ok (Truth (holds o a b))
-compared o (Number a) (Number b) = Ok (Truth (holds o a.millionths b.millionths))
+compared o (Int a) (Int b) = Ok (TruthValue (is_so o a b))
+compared o (Number a) (Number b) = Ok (TruthValue (is_so o a.millionths b.millionths))
 compared o v w = Err Stuck
 
 unfoldable pub either : Value → Value → Result Value Fault
-either (Truth a) (Truth b) = Ok (Truth (a || b))
+either (TruthValue a) (TruthValue b) = Ok (TruthValue (a || b))
 either v w = Err Stuck
 
 unfoldable pub both : Value → Value → Result Value Fault
-both (Truth a) (Truth b) = Ok (Truth (a && b))
+both (TruthValue a) (TruthValue b) = Ok (TruthValue (a && b))
 both v w = Err Stuck
 
 unfoldable pub opposite : Value → Result Value Fault
-opposite (Truth a) = Ok (Truth (not a))
+opposite (TruthValue a) = Ok (TruthValue (not a))
 opposite v = Err Stuck
 
 -- the truth of a condition
 unfoldable pub truth_of : Value → Result Bool Fault
-truth_of (Truth a) = Ok a
+truth_of (TruthValue a) = Ok a
 truth_of v = Err Stuck

@@ -8,4 +8,5 @@ use Rattle.typing_rules.specs.Arguments.{argument}
 -- whatever stands there is what the search takes, and the others are what it leaves
 pub record IsPlace (label : Option (List ℕ)) (given : List program.Given) (i : ℕ) : Type 0 where
   pub within : i < length given
-  pub taken : (g : program.Given) (left : List program.Given) → g ≡ slice_index_or given i g → left ≡ remove given i → Some (view_value g.value, map view_given left) ≡ argument label (map view_given given)
+  pub taken : (g : program.Given) (left : List program.Given) → g ≡ slice_index_or given i g → left ≡ remove given i
+      → Some (view_value g.value, map view_given left) ≡ argument label (map view_given given)

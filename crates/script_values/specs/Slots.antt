@@ -7,10 +7,10 @@ abbrev pub SlotValue : Type 0
 SlotValue = ℕ × Value
 
 -- the value of the binding at this token
-abbrev pub slot_at : ℕ → List SlotValue → Option Value
-slot_at at [] = None
-slot_at at (s ∷ ss) = cond (nat_eq s.0 at) (Some s.1) (slot_at at ss)
+abbrev pub value_at_token : ℕ → List SlotValue → Option Value
+value_at_token at [] = None
+value_at_token at (s ∷ ss) = cond (nat_eq s.0 at) (Some s.1) (value_at_token at ss)
 
 -- an argument by its value
 abbrev pub Argument : Type 0
-Argument = arguments.Given Value
+Argument = arguments.GivenArgument Value

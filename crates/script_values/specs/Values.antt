@@ -4,48 +4,48 @@ use Rattle.fixed_text.specs.declared.decimal.Decimal.{Decimal}
 use Rattle.time_pred.specs.Predicates.{Predicate}
 
 pub data ValueSort : Type 0 where
-  One : ValueSort
-  Many : ValueSort
+  OneValue : ValueSort
+  ManyValues : ValueSort
 
 pub data ValueTree : ValueSort → Type 0 where
-  none : ValueTree Many
-  more : ValueTree One → ValueTree Many → ValueTree Many
-  Int : ℤ → ValueTree One
-  Number : Decimal → ValueTree One
-  Text : List ℕ → ValueTree One
-  Truth : Bool → ValueTree One
-  Nothing : ValueTree One
+  no_values : ValueTree ManyValues
+  more_values : ValueTree OneValue → ValueTree ManyValues → ValueTree ManyValues
+  Int : ℤ → ValueTree OneValue
+  Number : Decimal → ValueTree OneValue
+  Text : List ℕ → ValueTree OneValue
+  TruthValue : Bool → ValueTree OneValue
+  UnitValue : ValueTree OneValue
   -- a format of samples of 24 bits, or of 16
-  Format : (wide : Bool) → ValueTree One
-  Pred : Predicate → ValueTree One
+  FormatValue : (wide : Bool) → ValueTree OneValue
+  Pred : Predicate → ValueTree OneValue
   -- a source is the number of its node
-  Source : ℕ → ValueTree One
-  Listed : ValueTree Many → ValueTree One
-  Tuple : ValueTree Many → ValueTree One
+  Source : ℕ → ValueTree OneValue
+  ListValue : ValueTree ManyValues → ValueTree OneValue
+  TupleValue : ValueTree ManyValues → ValueTree OneValue
 
 abbrev pub Value : Type 0
-Value = ValueTree One
+Value = ValueTree OneValue
 
 -- a list of values as one tree, and back
-abbrev pub many : List Value → ValueTree Many
-many [] = none
-many (v ∷ vs) = more v (many vs)
+abbrev pub many : List Value → ValueTree ManyValues
+many [] = no_values
+many (v ∷ vs) = more_values v (many vs)
 
-abbrev pub items : ValueTree Many → List Value
-items none = []
-items (more v vs) = v ∷ items vs
+abbrev pub items : ValueTree ManyValues → List Value
+items no_values = []
+items (more_values v vs) = v ∷ items vs
 
 -- the size of a list or tuple is 1 and the sizes of its parts, of any other value 1
 abbrev pub size : {s : ValueSort} → ValueTree s → ℕ
-size none = 0
-size (more v vs) = size v + size vs
+size no_values = 0
+size (more_values v vs) = size v + size vs
 size (Int n) = 1
 size (Number d) = 1
 size (Text t) = 1
-size (Truth b) = 1
-size Nothing = 1
-size (Format wide) = 1
+size (TruthValue b) = 1
+size UnitValue = 1
+size (FormatValue wide) = 1
 size (Pred p) = 1
 size (Source n) = 1
-size (Listed vs) = size vs + 1
-size (Tuple vs) = size vs + 1
+size (ListValue vs) = size vs + 1
+size (TupleValue vs) = size vs + 1

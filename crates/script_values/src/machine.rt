@@ -1,7 +1,7 @@
 // What evaluation changes: the plan so far, the work, and the settings.
 ghost use Rattle.std.specs.Prelude.{◌≡◌};
 ghost use Rattle.script_values.specs.Gives.{Gives};
-ghost use Rattle.script_values.specs.Machines.{count, first_machine};
+ghost use Rattle.script_values.specs.Machines.{count_work, first_machine};
 ghost use Rattle.script_values.specs.Values.{size};
 ghost use Rattle.script_values.specs.View.{view_value};
 
@@ -59,7 +59,7 @@ impl Machine {
 
 /// Counts so much work, or refuses it where the work passes 999999.
 pub fn count(machine: &mut Machine, steps: u64) -> Result<(), Fault>
-    ensures { Gives (λ _. machine.new) result (count steps machine.old) }
+    ensures { Gives (λ _. machine.new) result (count_work steps machine.old) }
 {
     let work = machine.work.saturating_add(steps);
     if work > u64::from(MAX_WORK) {
@@ -71,7 +71,7 @@ pub fn count(machine: &mut Machine, steps: u64) -> Result<(), Fault>
 
 /// Counts the size of a value.
 pub fn count_value(machine: &mut Machine, value: &Value) -> Result<(), Fault>
-    ensures { Gives (λ _. machine.new) result (count (size (view_value value.now)) machine.old) }
+    ensures { Gives (λ _. machine.new) result (count_work (size (view_value value.now)) machine.old) }
 {
     count(machine, size(value))
 }

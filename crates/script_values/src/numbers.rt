@@ -1,7 +1,7 @@
 // The arithmetic of a script.
 ghost use Rattle.std.specs.Prelude.{◌≡◌, ◌*ℤ◌, ◌+ℤ◌, ◌-ℤ◌, ◌≤ℤ◌, pos, negsuc, neg_ℤ, int_div};
 ghost use Rattle.script_values.specs.Gives.{Gives};
-ghost use Rattle.script_values.specs.Numbers.{added, both, compared, decimal_at, either, holds, int_at, literal_value, multiplied, negative, opposite, plus_or_minus, quotient, quotient_at, truth_of};
+ghost use Rattle.script_values.specs.Numbers.{added, both, compared, decimal_at, either, is_so, int_at, literal_value, multiplied, negative, opposite, plus_or_minus, quotient, quotient_at, truth_of};
 ghost use Rattle.script_values.specs.View.{view_value};
 
 use crate::{Fault, Value};
@@ -196,7 +196,8 @@ fn int_quotient(at: u32, a: i64, b: i64) -> Result<Value, Fault>
 }
 
 fn decimal_quotient(at: u32, a: Decimal, b: Decimal) -> Result<Value, Fault>
-    ensures { Gives (λ v. view_value v) result (quotient_at at (decimal_at at) (quotient (a.millionths *ℤ pos 1000000) b.millionths)) }
+    ensures { Gives (λ v. view_value v) result
+        (quotient_at at (decimal_at at) (quotient (a.millionths *ℤ pos 1000000) b.millionths)) }
 {
     match divided(i128::from(a.millionths) * 1_000_000, b.millionths) {
         None => Err(Fault::BadValue(at)),
@@ -229,7 +230,7 @@ fn decimal_product(at: u32, a: Decimal, b: Decimal) -> Result<Value, Fault>
 }
 
 fn holds(op: CompareOp, a: i64, b: i64) -> bool
-    ensures { result ≡ holds op a b }
+    ensures { result ≡ is_so op a b }
 {
     match op {
         CompareOp::Equal => a == b,

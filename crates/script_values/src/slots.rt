@@ -2,7 +2,7 @@
 ghost use Rattle.std.specs.Prelude.{◌≡◌, Option, option_map, map, Some, None, IsNone, IfNone, IfOk, IfSome};
 ghost use Rattle.typing_rules.specs.Arguments.{argument, is_label};
 ghost use Rattle.script_values.specs.Places.{IsPlace};
-ghost use Rattle.script_values.specs.Slots.{slot_at};
+ghost use Rattle.script_values.specs.Slots.{value_at_token};
 ghost use Rattle.script_values.specs.Views.{view_given, view_slot};
 ghost use Rattle.script_values.specs.View.{view_value};
 
@@ -26,7 +26,7 @@ pub struct Given {
 
 /// The value of the binding at this token.
 pub fn slot_at(slots: &[Slot], at: u32) -> Option<&Value>
-    ensures { option_map (λ v. view_value v.now) result ≡ slot_at at (map view_slot slots.now) }
+    ensures { option_map (λ v. view_value v.now) result ≡ value_at_token at (map view_slot slots.now) }
 {
     for slot in slots {
         if slot.at == at {
@@ -38,7 +38,8 @@ pub fn slot_at(slots: &[Slot], at: u32) -> Option<&Value>
 
 /// Takes the first argument with this label, or the first without one.
 pub fn argument(given: &mut Vec<Given>, label: Option<&str>) -> Option<Value>
-    ensures taken { option_map (λ v. (view_value v, map view_given given.new.items)) result ≡ argument (option_map (λ t. t.now) label.entry) (map view_given given.old.items) }
+    ensures taken { option_map (λ v. (view_value v, map view_given given.new.items)) result
+        ≡ argument (option_map (λ t. t.now) label.entry) (map view_given given.old.items) }
     ensures unchanged { IsNone result → given.new ≡ given.old }
 {
     match place_of(given, label) {

@@ -1,6 +1,6 @@
 // Values: what an expression means.
 ghost use Rattle.std.specs.Prelude.{◌≡◌, ℕ, ◌+◌, ◌<◌, ◌^◌, IfOk, map, min};
-ghost use Rattle.script_values.specs.Values.{Listed as a_list, Tuple as a_tuple, many, size};
+ghost use Rattle.script_values.specs.Values.{ListValue as a_list, TupleValue as a_tuple, many, size};
 ghost use Rattle.script_values.specs.View.{view_value};
 
 use fixed_text::Decimal;

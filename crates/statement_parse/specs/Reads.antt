@@ -46,7 +46,9 @@ ended stamp w = both (result stamp) (expect is_end) w
 
 -- a def behind its name
 abbrev pub def_of : (ℕ → ℕ) → ℕ → List ℕ → Reader (Tree ADef)
-def_of stamp at name w = both (closed is_comma is_close_round (param stamp)) (both (perhaps is_assign) (both (many binds (inner stamp)) (ended stamp))) w >>= made (λ x. Def at name x.0 x.1.0 x.1.1.0 x.1.1.1.0)
+def_of stamp at name w = both (closed is_comma is_close_round (param stamp))
+    (both (perhaps is_assign) (both (many binds (inner stamp)) (ended stamp))) w >>= made
+    (λ x. Def at name x.0 x.1.0 x.1.1.0 x.1.1.1.0)
 
 -- the parts of statements, of what was read
 abbrev pub as_bind : ℕ → List ℕ → Read (Tree AFull) → Read (Tree APart)

@@ -28,7 +28,8 @@ pub fn inners(
     requires within { length tokens.now ≤ total }
     requires small { total < 2 ^ 32 }
     ensures shorter { IfOk result (λ x. length x.1.now ≤ length tokens.now) }
-    ensures gives { Gives (λ x. (listed (map view_inner x.0.items), kinds x.1.now)) result (many binds (inner (places total)) (kinds tokens.now)) }
+    ensures gives { Gives (λ x. (listed (map view_inner x.0.items), kinds x.1.now)) result
+        (many binds (inner (places total)) (kinds tokens.now)) }
     ensures whole { IfOk result (λ x. All IsWholeInner x.0.items) }
 {
     let mut items = Vec::new(alloc);
@@ -80,7 +81,8 @@ fn bind_of<'a>(
     requires within { length tokens.now ≤ total }
     requires small { total < 2 ^ 32 }
     ensures shorter { IfOk result (λ x. length x.1.now < length tokens.now) }
-    ensures gives { Gives (λ x. (view_bind x.0, kinds x.1.now)) result (bind_of true (places total) at name.now (kinds tokens.now)) }
+    ensures gives { Gives (λ x. (view_bind x.0, kinds x.1.now)) result
+        (bind_of true (places total) at name.now (kinds tokens.now)) }
     ensures whole { IfOk result (λ x. IsWholeBind x.0) }
 {
     let name = name.copy(alloc)?;

@@ -45,7 +45,8 @@ fn def_of<'a>(
     requires within { length tokens.now ≤ total }
     requires small { total < 2 ^ 32 }
     ensures shorter { IfOk result (λ x. length x.1.now < length tokens.now) }
-    ensures gives { Gives (λ x. (view_def x.0, kinds x.1.now)) result (def_of (places total) at name.now (kinds tokens.now)) }
+    ensures gives { Gives (λ x. (view_def x.0, kinds x.1.now)) result
+        (def_of (places total) at name.now (kinds tokens.now)) }
     ensures whole { IfOk result (λ x. IsWholeDef x.0) }
 {
     let name = name.copy(alloc)?;

@@ -27,7 +27,8 @@ pub fn params(
     requires within { length tokens.now ≤ total }
     requires small { total < 2 ^ 32 }
     ensures shorter { IfOk result (λ x. length x.1.now < length tokens.now) }
-    ensures gives { Gives (λ x. (listed (map view_param x.0.items), kinds x.1.now)) result (closed is_comma is_close_round (param (places total)) (kinds tokens.now)) }
+    ensures gives { Gives (λ x. (listed (map view_param x.0.items), kinds x.1.now)) result
+        (closed is_comma is_close_round (param (places total)) (kinds tokens.now)) }
     ensures whole { IfOk result (λ x. All IsWholeParam x.0.items) }
 {
     let mut items = Vec::new(alloc);
@@ -47,7 +48,8 @@ fn push_params<'a>(
     requires small { total < 2 ^ 32 }
     requires none { items.old.items ≡ [] }
     ensures shorter { IfOk result (λ rest. length rest.now < length tokens.now) }
-    ensures gives { Gives (λ rest. (listed (map view_param items.new.items), kinds rest.now)) result (closed is_comma is_close_round (param (places total)) (kinds tokens.now)) }
+    ensures gives { Gives (λ rest. (listed (map view_param items.new.items), kinds rest.now)) result
+        (closed is_comma is_close_round (param (places total)) (kinds tokens.now)) }
     ensures whole { IfOk result (λ rest. All IsWholeParam items.new.items) }
 {
     if token::next_is(tokens, Class::CloseRound) {
@@ -70,7 +72,8 @@ fn some_params<'a>(
     requires small { total < 2 ^ 32 }
     requires none { items.old.items ≡ [] }
     ensures shorter { IfOk result (λ rest. length rest.now < length tokens.now) }
-    ensures gives { Gives (λ rest. (listed (map view_param items.new.items), kinds rest.now)) result (some_params (places total) (kinds tokens.now)) }
+    ensures gives { Gives (λ rest. (listed (map view_param items.new.items), kinds rest.now)) result
+        (some_params (places total) (kinds tokens.now)) }
     ensures whole { IfOk result (λ rest. All IsWholeParam items.new.items) }
 {
     let (first, rest) = param(alloc, total, tokens)?;
@@ -93,7 +96,8 @@ fn more_params<'a>(
     requires whole_first { All IsWholeParam items.old.items }
     ensures shorter { IfOk result (λ rest. length rest.now ≤ length tokens.now) }
     ensures kept { IfOk result (λ rest. take 1 items.new.items ≡ items.old.items) }
-    ensures gives { Gives (λ rest. (listed (map view_param (drop 1 items.new.items)), kinds rest.now)) result (many (next is_comma) (behind is_comma (param (places total))) (kinds tokens.now)) }
+    ensures gives { Gives (λ rest. (listed (map view_param (drop 1 items.new.items)), kinds rest.now)) result
+        (many (next is_comma) (behind is_comma (param (places total))) (kinds tokens.now)) }
     ensures whole { IfOk result (λ rest. All IsWholeParam items.new.items) }
 {
     let mut rest = tokens;
@@ -111,7 +115,8 @@ fn comma_param(alloc: Global, total: usize, tokens: &[Token]) -> Result<(Param, 
     requires within { length tokens.now ≤ total }
     requires small { total < 2 ^ 32 }
     ensures shorter { IfOk result (λ x. length x.1.now < length tokens.now) }
-    ensures gives { Gives (λ x. (view_param x.0, kinds x.1.now)) result (behind is_comma (param (places total)) (kinds tokens.now)) }
+    ensures gives { Gives (λ x. (view_param x.0, kinds x.1.now)) result
+        (behind is_comma (param (places total)) (kinds tokens.now)) }
     ensures whole { IfOk result (λ x. IsWholeParam x.0) }
 {
     let (_comma, after) = token::expect(tokens, Class::Comma)?;
@@ -157,7 +162,8 @@ fn labelled(alloc: Global, total: usize, tokens: &[Token]) -> Result<(Param, &[T
     requires within { length tokens.now ≤ total }
     requires small { total < 2 ^ 32 }
     ensures shorter { IfOk result (λ x. length x.1.now < length tokens.now) }
-    ensures gives { Gives (λ x. (view_param x.0, kinds x.1.now)) result (behind_tilde (places total) (kinds tokens.now)) }
+    ensures gives { Gives (λ x. (view_param x.0, kinds x.1.now)) result
+        (behind_tilde (places total) (kinds tokens.now)) }
     ensures whole { IfOk result (λ x. IsWholeParam x.0) }
 {
     let at = place(total, tokens);
@@ -177,7 +183,8 @@ fn label_of<'a>(
     requires within { length tokens.now ≤ total }
     requires small { total < 2 ^ 32 }
     ensures shorter { IfOk result (λ x. length x.1.now ≤ length tokens.now) }
-    ensures gives { Gives (λ x. (view_param x.0, kinds x.1.now)) result (label_of (places total) at name.now (kinds tokens.now)) }
+    ensures gives { Gives (λ x. (view_param x.0, kinds x.1.now)) result
+        (label_of (places total) at name.now (kinds tokens.now)) }
     ensures whole { IfOk result (λ x. IsWholeParam x.0) }
 {
     let (assign, rest) = token::perhaps(tokens, Class::Assign);
@@ -201,7 +208,8 @@ fn default_of<'a>(
     requires within { length tokens.now ≤ total }
     requires small { total < 2 ^ 32 }
     ensures shorter { IfOk result (λ x. length x.1.now < length tokens.now) }
-    ensures gives { Gives (λ x. (view_param x.0, kinds x.1.now)) result (default_of (places total) at name.now (kinds tokens.now)) }
+    ensures gives { Gives (λ x. (view_param x.0, kinds x.1.now)) result
+        (default_of (places total) at name.now (kinds tokens.now)) }
     ensures whole { IfOk result (λ x. IsWholeParam x.0) }
 {
     let name = name.copy(alloc)?;

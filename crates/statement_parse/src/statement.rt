@@ -20,8 +20,8 @@ use script_lex::Token;
 use std::alloc::Global;
 use value_parse::{call, choice, value};
 
-/// At first room is made for a statement to each so many tokens: only a call without arguments has fewer. Room that is not
-/// used is never touched, and a list that does not suffice grows as it is filled.
+/// At first room is made for a statement to each so many tokens: only a call without arguments has fewer. Room that is
+/// not used is never touched, and a list that does not suffice grows as it is filled.
 const TOKENS_A_STATEMENT: usize = 3;
 
 /// statement*, up to the end of the tokens.
@@ -32,7 +32,8 @@ pub fn statements(
 ) -> Result<(Vec<Stmt>, &[Token]), Fault>
     requires within { length tokens.now ≤ total }
     requires small { total < 2 ^ 32 }
-    ensures gives { Gives (λ x. (listed (map view_stmt x.0.items), kinds x.1.now)) result (many (next is_any) (stmt (places total)) (kinds tokens.now)) }
+    ensures gives { Gives (λ x. (listed (map view_stmt x.0.items), kinds x.1.now)) result
+        (many (next is_any) (stmt (places total)) (kinds tokens.now)) }
     ensures whole { IfOk result (λ x. All IsWholeStmt x.0.items) }
 {
     let mut items = Vec::with_capacity(alloc, tokens.len() / TOKENS_A_STATEMENT)?;
@@ -53,7 +54,8 @@ fn statement<'a>(
     requires within { length tokens.now ≤ total }
     requires small { total < 2 ^ 32 }
     ensures shorter { IfOk result (λ rest. length rest.now < length tokens.now) }
-    ensures gives { Gives (λ rest. (map view_stmt items.new.items, kinds rest.now)) result (pushed (map view_stmt items.old.items) (stmt (places total) (kinds tokens.now))) }
+    ensures gives { Gives (λ rest. (map view_stmt items.new.items, kinds rest.now)) result
+        (pushed (map view_stmt items.old.items) (stmt (places total) (kinds tokens.now))) }
     ensures whole { All IsWholeStmt items.old.items → IfOk result (λ _. All IsWholeStmt items.new.items) }
 {
     items.reserve(1)?;
@@ -82,7 +84,8 @@ fn bind_stmt<'a>(
     requires small { total < 2 ^ 32 }
     requires room { vec_len items.old < vec_capacity items.old }
     ensures shorter { IfOk result (λ rest. length rest.now < length tokens.now) }
-    ensures gives { Gives (λ rest. (map view_stmt items.new.items, kinds rest.now)) result (pushed (map view_stmt items.old.items) (bind_stmt (places total) (kinds tokens.now))) }
+    ensures gives { Gives (λ rest. (map view_stmt items.new.items, kinds rest.now)) result
+        (pushed (map view_stmt items.old.items) (bind_stmt (places total) (kinds tokens.now))) }
     ensures whole { All IsWholeStmt items.old.items → IfOk result (λ _. All IsWholeStmt items.new.items) }
 {
     let at = place(total, tokens);
@@ -103,7 +106,8 @@ fn bind_stmt_of<'a>(
     requires small { total < 2 ^ 32 }
     requires room { vec_len items.old < vec_capacity items.old }
     ensures shorter { IfOk result (λ rest. length rest.now < length tokens.now) }
-    ensures gives { Gives (λ rest. (map view_stmt items.new.items, kinds rest.now)) result (pushed (map view_stmt items.old.items) (bind_stmt_of (places total) at name.now (kinds tokens.now))) }
+    ensures gives { Gives (λ rest. (map view_stmt items.new.items, kinds rest.now)) result
+        (pushed (map view_stmt items.old.items) (bind_stmt_of (places total) at name.now (kinds tokens.now))) }
     ensures whole { All IsWholeStmt items.old.items → IfOk result (λ _. All IsWholeStmt items.new.items) }
 {
     let (_assign, rest) = token::expect(tokens, Class::Assign)?;
@@ -120,8 +124,11 @@ fn keep_bind<'a>(
 ) -> Result<&'a [Token], Fault>
     requires room { vec_len items.old < vec_capacity items.old }
     ensures shorter { (n : ℕ) → IfOk read.entry (λ x. length x.1.now < n) → IfOk result (λ rest. length rest.now < n) }
-    ensures gives { (r : Read (Tree AFull)) → Gives (λ x. (view_full x.0, kinds x.1.now)) read.entry r → Gives (λ rest. (map view_stmt items.new.items, kinds rest.now)) result (pushed (map view_stmt items.old.items) (as_stmt (as_bind at name r))) }
-    ensures whole { All IsWholeStmt items.old.items → IfOk read.entry (λ x. IsWholeFull x.0) → IfOk result (λ _. All IsWholeStmt items.new.items) }
+    ensures gives { (r : Read (Tree AFull)) → Gives (λ x. (view_full x.0, kinds x.1.now)) read.entry r
+        → Gives (λ rest. (map view_stmt items.new.items, kinds rest.now)) result
+        (pushed (map view_stmt items.old.items) (as_stmt (as_bind at name r))) }
+    ensures whole { All IsWholeStmt items.old.items → IfOk read.entry (λ x. IsWholeFull x.0)
+        → IfOk result (λ _. All IsWholeStmt items.new.items) }
 {
     let (value, rest) = read?;
     Ok(keep(items, StmtPart::Bind(Bind { at, name, value }), rest))
@@ -134,8 +141,11 @@ fn keep_def<'a>(
 ) -> Result<&'a [Token], Fault>
     requires room { vec_len items.old < vec_capacity items.old }
     ensures shorter { (n : ℕ) → IfOk read.entry (λ x. length x.1.now < n) → IfOk result (λ rest. length rest.now < n) }
-    ensures gives { (r : Read (Tree ADef)) → Gives (λ x. (view_def x.0, kinds x.1.now)) read.entry r → Gives (λ rest. (map view_stmt items.new.items, kinds rest.now)) result (pushed (map view_stmt items.old.items) (as_stmt (as_def r))) }
-    ensures whole { All IsWholeStmt items.old.items → IfOk read.entry (λ x. IsWholeDef x.0) → IfOk result (λ _. All IsWholeStmt items.new.items) }
+    ensures gives { (r : Read (Tree ADef)) → Gives (λ x. (view_def x.0, kinds x.1.now)) read.entry r
+        → Gives (λ rest. (map view_stmt items.new.items, kinds rest.now)) result
+        (pushed (map view_stmt items.old.items) (as_stmt (as_def r))) }
+    ensures whole { All IsWholeStmt items.old.items → IfOk read.entry (λ x. IsWholeDef x.0)
+        → IfOk result (λ _. All IsWholeStmt items.new.items) }
 {
     let (def, rest) = read?;
     Ok(keep(items, StmtPart::Def(def), rest))
@@ -148,8 +158,11 @@ fn keep_call<'a>(
 ) -> Result<&'a [Token], Fault>
     requires room { vec_len items.old < vec_capacity items.old }
     ensures shorter { (n : ℕ) → IfOk read.entry (λ x. length x.1.now < n) → IfOk result (λ rest. length rest.now < n) }
-    ensures gives { (r : Read (Tree ACall)) → Gives (λ x. (view_call x.0, kinds x.1.now)) read.entry r → Gives (λ rest. (map view_stmt items.new.items, kinds rest.now)) result (pushed (map view_stmt items.old.items) (as_stmt (as_call r))) }
-    ensures whole { All IsWholeStmt items.old.items → IfOk read.entry (λ x. IsWholeCall x.0) → IfOk result (λ _. All IsWholeStmt items.new.items) }
+    ensures gives { (r : Read (Tree ACall)) → Gives (λ x. (view_call x.0, kinds x.1.now)) read.entry r
+        → Gives (λ rest. (map view_stmt items.new.items, kinds rest.now)) result
+        (pushed (map view_stmt items.old.items) (as_stmt (as_call r))) }
+    ensures whole { All IsWholeStmt items.old.items → IfOk read.entry (λ x. IsWholeCall x.0)
+        → IfOk result (λ _. All IsWholeStmt items.new.items) }
 {
     let (call, rest) = read?;
     Ok(keep(items, StmtPart::Call(call), rest))
@@ -162,8 +175,11 @@ fn keep_if<'a>(
 ) -> Result<&'a [Token], Fault>
     requires room { vec_len items.old < vec_capacity items.old }
     ensures shorter { (n : ℕ) → IfOk read.entry (λ x. length x.1.now < n) → IfOk result (λ rest. length rest.now < n) }
-    ensures gives { (r : Read (Tree AnIf)) → Gives (λ x. (view_if x.0, kinds x.1.now)) read.entry r → Gives (λ rest. (map view_stmt items.new.items, kinds rest.now)) result (pushed (map view_stmt items.old.items) (as_stmt (as_if r))) }
-    ensures whole { All IsWholeStmt items.old.items → IfOk read.entry (λ x. IsWholeIf x.0) → IfOk result (λ _. All IsWholeStmt items.new.items) }
+    ensures gives { (r : Read (Tree AnIf)) → Gives (λ x. (view_if x.0, kinds x.1.now)) read.entry r
+        → Gives (λ rest. (map view_stmt items.new.items, kinds rest.now)) result
+        (pushed (map view_stmt items.old.items) (as_stmt (as_if r))) }
+    ensures whole { All IsWholeStmt items.old.items → IfOk read.entry (λ x. IsWholeIf x.0)
+        → IfOk result (λ _. All IsWholeStmt items.new.items) }
 {
     let (choice, rest) = read?;
     Ok(keep(items, StmtPart::If(choice), rest))
@@ -173,7 +189,8 @@ fn keep_if<'a>(
 fn keep<'a>(items: &mut Vec<Stmt>, part: StmtPart, tokens: &'a [Token]) -> &'a [Token]
     requires room { vec_len items.old < vec_capacity items.old }
     ensures shorter { length result.now ≤ length tokens.now }
-    ensures gives { pushed (map view_stmt items.old.items) (as_stmt (Ok (view_part part, kinds tokens.now))) ≡ Ok (map view_stmt items.new.items, kinds result.now) }
+    ensures gives { pushed (map view_stmt items.old.items) (as_stmt (Ok (view_part part, kinds tokens.now)))
+        ≡ Ok (map view_stmt items.new.items, kinds result.now) }
     ensures whole { All IsWholeStmt items.old.items → IsWholePart part → All IsWholeStmt items.new.items }
 {
     let (semicolon, rest) = token::perhaps(tokens, Class::Semicolon);

@@ -77,6 +77,7 @@ LengthHalts plan ticks Memory = ⊤
 
 -- the fault of a plan whose audio files are there
 abbrev pub RestHalts : Plan → (ticks : ℕ) → Halt → Type 0
-RestHalts plan ticks (Refused fault) = (files : Files) (library : Sounds) → IsLoaded files plan library → IsFound files plan ticks (Fails fault)
+RestHalts plan ticks (Refused fault) = (files : Files) (library : Sounds) → IsLoaded files plan library
+    → IsFound files plan ticks (Fails fault)
 RestHalts plan ticks Read = ⊥
 RestHalts plan ticks Memory = ⊤

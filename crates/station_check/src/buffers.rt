@@ -59,7 +59,8 @@ fn push_lines(
 
 // The name of the main clock in which a node lies, through its sub-clocks.
 fn clock_name<'a>(plan: &Plan, clocks: &'a ClockMap, node: u32) -> &'a str
-    ensures { (station : Station) → IsOf plan.now clocks.now station → result.now ≡ slice_index_or clocks.now.names (main_of (bare station) node) [] }
+    ensures { (station : Station) → IsOf plan.now clocks.now station
+        → result.now ≡ slice_index_or clocks.now.names (main_of (bare station) node) [] }
 {
     main_name(clocks, NodeClock::Main(main_of(plan, clocks, node)))
 }
@@ -72,7 +73,8 @@ fn push_line(
     to: &str,
     plan: &BufferPlan,
 ) -> Result<(), Memory>
-    ensures { OnOk result (string_bytes text.new ≡ string_bytes text.old ++ joining_line number from.now to.now plan.now) }
+    ensures { OnOk result (string_bytes text.new ≡ string_bytes text.old
+        ++ joining_line number from.now to.now plan.now) }
 {
     write!(text, "buffer {number} from {from} to {to}")?;
     write!(text, " pre {} capacity {}\n", plan.pre, plan.capacity)?;

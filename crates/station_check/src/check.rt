@@ -32,10 +32,15 @@ pub fn check_plan<S: Shelf>(
     requires plan { IsWellFormed plan.now }
     requires few { ticks ≤ 1000000000 }
     // What is answered is what is found of the plan, and nothing else is.
-    ensures found { IfOk result (λ ready. ForSome (S.told shelf.old).files (λ files. IsFound files plan.now ticks (Fits ready.library ready.clocks))) }
-    // What is refused is refused for the fault that is found, and nothing else is; `Read` comes only where a read failed.
-    ensures fault { IfErr result (HaltsFor (S.told shelf.old) (S.told shelf.new) (λ files fault. IsFound files plan.now ticks (Fails fault))) }
-    // Whatever the shelf tells, what is answered can be rendered, and no output that needs an infallible source lacks one.
+    ensures found { IfOk result
+        (λ ready. ForSome (S.told shelf.old).files
+        (λ files. IsFound files plan.now ticks (Fits ready.library ready.clocks))) }
+    // What is refused is refused for the fault that is found, and nothing else is; `Read` comes only where a read
+    // failed.
+    ensures fault { IfErr result
+        (HaltsFor (S.told shelf.old) (S.told shelf.new) (λ files fault. IsFound files plan.now ticks (Fails fault))) }
+    // Whatever the shelf tells, what is answered can be rendered, and no output that needs an infallible source lacks
+    // one.
     ensures fit { IfOk result (λ ready. IsFit plan.now ready.library ready.clocks ticks) }
     ensures safe { OnOk result (IsUngapped plan.now) }
     ensures shelf { OnlyRead (S.told shelf.old) (S.told shelf.new) }
@@ -46,8 +51,8 @@ pub fn check_plan<S: Shelf>(
     Ok(Ready { library, clocks })
 }
 
-/// The clocks of a plan, as `check_plan` answers them for so many ticks, or the fault that it answers. The audio files are
-/// read, each once, and given back: no memory is taken for samples.
+/// The clocks of a plan, as `check_plan` answers them for so many ticks, or the fault that it answers. The audio files
+/// are read, each once, and given back: no memory is taken for samples.
 pub fn check_clocks<S: Shelf>(
     alloc: Global,
     plan: &Plan,
@@ -57,12 +62,15 @@ pub fn check_clocks<S: Shelf>(
     requires plan { IsWellFormed plan.now }
     requires few { ticks ≤ 1000000000 }
     // The plan is found to be one with some audio files and these clocks, and nothing else is found.
-    ensures found { IfOk result (λ clocks. ForSome (S.told shelf.old).files (λ files. FitsBy files plan.now ticks clocks)) }
-    // Whatever the shelf tells, they are the clocks of the plan, which has no others, and the plan has no other fault than one of files.
+    ensures found { IfOk result
+        (λ clocks. ForSome (S.told shelf.old).files (λ files. FitsBy files plan.now ticks clocks)) }
+    // Whatever the shelf tells, they are the clocks of the plan, which has no others, and the plan has no other fault
+    // than one of files.
     ensures map { IfOk result (λ clocks. OnlyClocks plan.now clocks) }
     ensures safe { OnOk result (IsUngapped plan.now) }
     ensures short { OnOk result (first_name (is_too_long plan.now ticks) plan.now.sinks ≡ None) }
-    ensures fault { IfErr result (HaltsFor (S.told shelf.old) (S.told shelf.new) (λ files fault. IsFound files plan.now ticks (Fails fault))) }
+    ensures fault { IfErr result
+        (HaltsFor (S.told shelf.old) (S.told shelf.new) (λ files fault. IsFound files plan.now ticks (Fails fault))) }
     ensures shelf { OnlyRead (S.told shelf.old) (S.told shelf.new) }
 {
     let files = read_files(alloc, plan, shelf)?;
@@ -74,7 +82,8 @@ pub fn check_clocks<S: Shelf>(
 fn check_rest(alloc: Global, plan: &Plan, ticks: u64) -> Result<ClockMap, Halt>
     requires plan { IsWellFormed plan.now }
     requires few { ticks ≤ 1000000000 }
-    ensures found { IfOk result (λ clocks. (files : Files) (library : Sounds) → IsLoaded files plan.now library → IsLibrary library → IsFound files plan.now ticks (Fits library clocks)) }
+    ensures found { IfOk result (λ clocks. (files : Files) (library : Sounds) → IsLoaded files plan.now library
+        → IsLibrary library → IsFound files plan.now ticks (Fits library clocks)) }
     ensures map { IfOk result (λ clocks. OnlyClocks plan.now clocks) }
     ensures safe { OnOk result (IsUngapped plan.now) }
     ensures short { OnOk result (first_name (is_too_long plan.now ticks) plan.now.sinks ≡ None) }

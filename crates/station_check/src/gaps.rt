@@ -1,7 +1,7 @@
 // Outputs that need an infallible source.
 ghost use Rattle.std.specs.Prelude.{◌≡◌, IfOk, IfErr, OnOk};
 ghost use Rattle.plan_core.specs.Plans.{IsWellFormed};
-ghost use Rattle.stations.specs.Findings.{name_of};
+ghost use Rattle.stations.specs.Findings.{sink_name};
 ghost use Rattle.station_check.specs.Steps.{IsUngapped};
 ghost use Rattle.station_check.specs.Halts.{GapHalts};
 
@@ -14,7 +14,7 @@ use std::alloc::Global;
 
 /// A copy of the name of an output.
 pub fn output_name(alloc: Global, sink: &SinkPlan) -> Result<Text, Memory>
-    ensures { IfOk result (λ name. name ≡ name_of sink.now) }
+    ensures { IfOk result (λ name. name ≡ sink_name sink.now) }
 {
     match sink {
         SinkPlan::Output { name, .. } => name.copy(alloc),

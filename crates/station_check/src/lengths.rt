@@ -1,7 +1,7 @@
 // Outputs that are too long for the header of their files.
 ghost use Rattle.std.specs.Prelude.{◌≡◌, ◌≤◌, IfErr, None, OnOk, is_none};
 ghost use Rattle.plan_core.specs.Plans.{IsWellFormed};
-ghost use Rattle.stations.specs.Findings.{first_name, is_too_long, kind_at};
+ghost use Rattle.stations.specs.Findings.{first_name, is_too_long, node_kind};
 ghost use Rattle.wav_io.specs.Header.{header_at};
 ghost use Rattle.station_check.specs.Halts.{LengthHalts};
 
@@ -32,7 +32,7 @@ pub fn check_lengths(alloc: Global, plan: &Plan, ticks: u64) -> Result<(), Halt>
 
 // The kind of a node.
 fn kind_at(plan: &Plan, node: u32) -> Kind
-    ensures { result ≡ kind_at plan.now node }
+    ensures { result ≡ node_kind plan.now node }
 {
     match plan.nodes.as_slice().get(node as usize) {
         Some(node) => node.kind,

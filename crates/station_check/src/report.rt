@@ -13,13 +13,14 @@ use liq_base::Memory;
 use plan_core::{Plan, SinkPlan};
 use std::alloc::Global;
 
-/// The report of a check: a line for each output, with its clock and whether its source is infallible; and then a line for
-/// each buffer, with the main clocks in which its feed and its reader lie, the samples that it gathers before it plays, and
-/// the chunks that it may hold.
+/// The report of a check: a line for each output, with its clock and whether its source is infallible; and then a line
+/// for each buffer, with the main clocks in which its feed and its reader lie, the samples that it gathers before it
+/// plays, and the chunks that it may hold.
 pub fn check_report(alloc: Global, plan: &Plan, clocks: &ClockMap) -> Result<String, Memory>
     requires { IsWellFormed plan.now }
     ensures { IfOk result (λ text. (mark : ℕ → Bool) × IsMarking plan.now.nodes mark
-        × ((station : Station) → station.plan ≡ plan.now → station.clocks ≡ clocks.now → string_bytes text ≡ check_report_of station mark)) }
+        × ((station : Station) → station.plan ≡ plan.now → station.clocks ≡ clocks.now
+        → string_bytes text ≡ check_report_of station mark)) }
 {
     let marks = infallible(alloc, plan)?;
     let mut text = String::new(alloc);
@@ -38,7 +39,8 @@ fn push_sink(
     marks: &[bool],
     sink: &SinkPlan,
 ) -> Result<(), Memory>
-    ensures { OnOk result (string_bytes text.new ≡ string_bytes text.old ++ sink_line clocks.now (mark_at marks.now) sink.now) }
+    ensures { OnOk result (string_bytes text.new ≡ string_bytes text.old
+        ++ sink_line clocks.now (mark_at marks.now) sink.now) }
 {
     if let SinkPlan::Output { name, node, .. } = sink {
         let infallible = marks.get(*node as usize).copied().unwrap_or(false);
@@ -51,7 +53,8 @@ fn push_sink(
 // The line of an output.
 fn output_line(alloc: Global, name: &str, clock: &str, infallible: bool) -> Result<String, Memory>
     ensures { IfOk result (λ line. string_bytes line
-        ≡ codes "output " ++ name.now ++ codes " clock " ++ clock.now ++ codes " " ++ fallible_word infallible ++ codes "\n") }
+        ≡ codes "output " ++ name.now ++ codes " clock " ++ clock.now ++ codes " " ++ fallible_word infallible
+        ++ codes "\n") }
 {
     let word = fallible_word(infallible);
     Ok(format!(in alloc; "output {name} clock {clock} {word}\n")?)

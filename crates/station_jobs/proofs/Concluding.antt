@@ -14,7 +14,7 @@ use Rattle.station_render.specs.declared.fault.RenderFault.{RenderFault}
 use Rattle.station_render.specs.declared.job.Job.{Job}
 use Rattle.station_render.specs.declared.rendered.Rendered.{Rendered}
 use Rattle.station_jobs.specs.Prepared.{Ended, IsAskedOf, IsOneRuling, granted, halt_of_render, station_for}
-use Rattle.station_jobs.specs.Words.{Asked, start_of, ticks_of}
+use Rattle.station_jobs.specs.Words.{Asked, start_of, asked_ticks}
 use Rattle.station_jobs.specs.declared.halt.Halt.{Halt}
 use Rattle.station_jobs.specs.declared.halt.Halt.TheVariants.{Memory as no_memory}
 use Rattle.station_jobs.proofs.Leavings.{RunLaws, broke_off, ended_rendered}
@@ -36,7 +36,7 @@ module _ (laws : RunLaws) (asked : Asked) (job : Job) (way : Way) (first old new
     cues = is.cues_are i;
   }
 
-  fits : IsFit job.plan.now job.ready.now.library job.ready.now.clocks (ticks_of asked)
+  fits : IsFit job.plan.now job.ready.now.library job.ready.now.clocks (asked_ticks asked)
   fits = subst (λ n. IsFit job.plan.now job.ready.now.library job.ready.now.clocks n) (sym is.ticks_are) fit
 
   begins : start_of asked < 604800

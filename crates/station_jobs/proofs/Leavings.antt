@@ -38,7 +38,7 @@ use Rattle.station_jobs.specs.declared.halt.Halt.{Halt}
 use Rattle.station_jobs.specs.declared.halt.Halt.TheVariants.{Read, Write, Memory as no_memory, Refused as refused_for}
 use Rattle.refusal_lines.specs.declared.fault.Fault.{Fault}
 use Rattle.refusal_lines.specs.declared.fault.Fault.TheVariants.{Replay as Untold}
-use Rattle.station_jobs.specs.Words.{Asked, Check, Replay, cues_of, file_of, start_of, ticks_of, trace_name}
+use Rattle.station_jobs.specs.Words.{Asked, Check, Replay, cues_of, asked_file, start_of, asked_ticks, trace_name}
 use Rattle.station_jobs.specs.Verdicts.{Verdict, Usage, Refused, Accepted, IsVerdictOn, files_for}
 use Rattle.station_jobs.specs.Jobs.{BrokeOff, IsBroken, IsDone, IsStarved}
 use Rattle.station_jobs.specs.Prepared.{Denied, Ended, EndsFor, ForOneOf, Found, Granted, IsChecked, IsOneOutcome, IsOneRuling, Lost, TraceEnds, verdict_of, halt_of_render, station_for}
@@ -56,11 +56,11 @@ ended_starved asked old new kept = λ files t verdict is. kept_starved asked fil
 
 -- a job over the files of the shelf ends as the steps before the rendering do
 pub ended_early : {T : Type 0} (asked : Asked) → ((files : Files) → files_for asked files ≡ files) → (old new : ShelfTold) (e : Halt)
-    → EndsFor {T = T} (file_of asked) (trace_name asked) (cues_of asked) (ticks_of asked) old new (Err e) → OnlyRead old new → Ended asked old new (Err e)
+    → EndsFor {T = T} (asked_file asked) (trace_name asked) (cues_of asked) (asked_ticks asked) old new (Err e) → OnlyRead old new → Ended asked old new (Err e)
 ended_early asked own old new (refused_for fault) ends kept = (
   λ files t. for_one asked files (Denied fault) (λ v. v ≡ Refused fault)
       (lost_ruled asked files fault
-      (subst (λ fs. IsOneOutcome fs (file_of asked) (trace_name asked) (cues_of asked) (ticks_of asked) (Lost fault)) (sym (own files)) (ends.fault fault refl files t))) refl,
+      (subst (λ fs. IsOneOutcome fs (asked_file asked) (trace_name asked) (cues_of asked) (asked_ticks asked) (Lost fault)) (sym (own files)) (ends.fault fault refl files t))) refl,
   kept,
 )
 ended_early asked own old new Read ends kept = (ends.read (cc), kept)
@@ -131,7 +131,7 @@ rose_from low count first le (inr (inr b)) = inr (inr b)
 -- what is asked for is a rendering, and this is its station; the shelf was only read before it
 module _ (asked : Asked) (first old new : ShelfTold) (plan : Plan) (library : Sounds) (clocks : ClockMap) (way : Way)
     (is_accepted : verdict_of asked (Granted plan library clocks way) ≡ Accepted (station_for asked plan library clocks way))
-    (one : ForSome first.files (λ files. IsOneRuling asked files (Granted plan library clocks way))) (laws : RunLaws) (fit : IsFit plan library clocks (ticks_of asked)) (early : start_of asked < 604800)
+    (one : ForSome first.files (λ files. IsOneRuling asked files (Granted plan library clocks way))) (laws : RunLaws) (fit : IsFit plan library clocks (asked_ticks asked)) (early : start_of asked < 604800)
     (read : OnlyRead first old) where
   abbrev station : Station
   station = station_for asked plan library clocks way
@@ -229,7 +229,7 @@ module _ (asked : Asked) (first old new : ShelfTold) (plan : Plan) (library : So
           report_is = report_is is.run is.told;
           no_gaps = laws.gapless own station is.run fit.plan_is renderable early;
           one = laws.one own station is.run fit.plan_is renderable early is.lawful;
-          ordered = λ window lawful listing lead. laws.ordered (bare station) clocks (fit_setting station fit early) window (ticks_of asked) is.run lawful listing lead;
+          ordered = λ window lawful listing lead. laws.ordered (bare station) clocks (fit_setting station fit early) window (asked_ticks asked) is.run lawful listing lead;
           as_one_thread = laws.renders own station is.run fit.plan_is renderable early is.lawful;
         },
       )))

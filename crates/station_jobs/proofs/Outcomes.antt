@@ -9,8 +9,8 @@ use Rattle.stations.specs.Stations.{Again, InRounds, InWindows, Station, Way}
 use Rattle.trace_replay.specs.Turns.{base_of}
 use Rattle.refusal_lines.specs.declared.fault.Fault.{Fault}
 use Rattle.refusal_lines.specs.declared.fault.Fault.TheVariants.{Replay as Untold}
-use Rattle.station_jobs.specs.Words.{Asked, Check, Make, Render, Replay, cues_of, file_of, start_of, ticks_of, trace_name}
-use Rattle.station_jobs.specs.Verdicts.{Verdict, Usage, Refused, IsVerdictOn, IsPrepared, IsStation, IsTraceFault, IsWay, files_for, verdict_for, way_in}
+use Rattle.station_jobs.specs.Words.{Asked, Check, Make, Render, Replay, cues_of, asked_file, start_of, asked_ticks, trace_name}
+use Rattle.station_jobs.specs.Verdicts.{Verdict, Usage, Refused, IsVerdictOn, IsPrepared, IsStation, IsTraceFault, IsWayFor, files_for, verdict_for, way_in}
 use Rattle.station_jobs.specs.Prepared.{Denied, ForEach, ForOne, Found, Granted, IsGranted, IsOneOutcome, IsOneRuling, IsRuling, Lost, Outcome, Ruling, verdict_of, station_for}
 use Rattle.station_jobs.proofs.Judging.{IsOneTold, IsTold, Tells, Told, Untells}
 
@@ -41,7 +41,7 @@ record Comes (asked : Asked) (files : Files) (verdict : Verdict) : Type 0 where
 
 -- a station is that of what was granted
 its_own : (asked : Asked) (files : Files) (station : Station) → IsStation asked files station → station ≡ station_for asked station.plan station.library station.clocks station.way
-its_own asked files station is = same_station station (start_of asked) (ticks_of asked) (trace_name asked) (cues_of asked) is.start_is is.ticks_are is.trace_is is.cues_are
+its_own asked files station is = same_station station (start_of asked) (asked_ticks asked) (trace_name asked) (cues_of asked) is.start_is is.ticks_are is.trace_is is.cues_are
 
 comes : (asked : Asked) (files : Files) (verdict : Verdict) → IsVerdictOn asked files verdict → Comes asked files verdict
 comes asked files verdict (inl is) = record { ruling = Denied is.0; is = is.2; same = is.1 }
@@ -82,8 +82,8 @@ for_each asked files ruling P one p verdict is =
 
 -- An outcome of the script is the ruling where the way rests on the words alone.
 pub record IsPlain (asked : Asked) (way : Way) : Type 0 where
-  is : (files : Files) (plan : Plan) (library : Sounds) (clocks : ClockMap) → IsWay asked files plan library clocks way
-  only : (files : Files) (plan : Plan) (library : Sounds) (clocks : ClockMap) (other : Way) → IsWay asked files plan library clocks other → other ≡ way
+  is : (files : Files) (plan : Plan) (library : Sounds) (clocks : ClockMap) → IsWayFor asked files plan library clocks way
+  only : (files : Files) (plan : Plan) (library : Sounds) (clocks : ClockMap) (other : Way) → IsWayFor asked files plan library clocks other → other ≡ way
   told : (files : Files) (fault : Fault) → IsTraceFault asked files fault → ⊥
 
 pub check_plain : (file : List ℕ) → IsPlain (Check file) InRounds
@@ -98,7 +98,7 @@ make_plain seed size = record { is = λ files plan library clocks. refl; only = 
 
 -- the outcome of the script of what is asked for
 abbrev pub IsOneFor : Asked → Files → Outcome → Type 0
-IsOneFor asked files outcome = IsOneOutcome (files_for asked files) (file_of asked) (trace_name asked) (cues_of asked) (ticks_of asked) outcome
+IsOneFor asked files outcome = IsOneOutcome (files_for asked files) (asked_file asked) (trace_name asked) (cues_of asked) (asked_ticks asked) outcome
 
 abbrev ruling_by : Way → Outcome → Ruling
 ruling_by way (Found plan library clocks) = Granted plan library clocks way
@@ -109,7 +109,7 @@ record IsLookedAt (asked : Asked) (files : Files) : Type 0 where
   plan : Plan
   library : Sounds
   clocks : ClockMap
-  prepared : IsPrepared (files_for asked files) (file_of asked) (trace_name asked) (cues_of asked) (ticks_of asked) plan library clocks
+  prepared : IsPrepared (files_for asked files) (asked_file asked) (trace_name asked) (cues_of asked) (asked_ticks asked) plan library clocks
 
 looked_at : (asked : Asked) (files : Files) (fault : Fault) → IsTraceFault asked files fault → IsLookedAt asked files
 looked_at (Check file) files fault is = absurd is

@@ -17,16 +17,19 @@ use Rattle.stations.specs.Reports.{report_of, check_report_of}
 use Rattle.station_jobs.specs.Summary.{SumsAsOneThread, summary_of}
 use Rattle.station_jobs.specs.Verdicts.{Verdict, Usage, Checked, Accepted, Made}
 
--- where the main clocks can be listed so that each buffer that joins two of them leads to a later one, the ticks of a run by threads can
--- be put in one order in which each chunk is accepted in an earlier tick than the one that gets it
+-- where the main clocks can be listed so that each buffer that joins two of them leads to a later one, the ticks of a
+-- run by threads can be put in one order in which each chunk is accepted in an earlier tick than the one that gets it
 abbrev pub IsOrderedOnward : Station → Run → Type 0
-IsOrderedOnward station run = (window : ℕ) (lawful : AreWindows (bare station) station.clocks.running window station.ticks run) (listing : List ℕ)
-    → LeadOnward (bare station) station.clocks.running listing → IsOrdered (setting_of_run station run) station.clocks.running lawful.accepted station.ticks
+IsOrderedOnward station run = (window : ℕ)
+    (lawful : AreWindows (bare station) station.clocks.running window station.ticks run) (listing : List ℕ)
+    → LeadOnward (bare station) station.clocks.running listing
+    → IsOrdered (setting_of_run station run) station.clocks.running lawful.accepted station.ticks
 
--- A run wrote all outputs, then their cue files, where these are wanted, and then its trace, if one is wanted; the shelf made and closed
--- these files in this order, and no other, each with room for just its bytes; and this is the report. A replay's run is the record of its
--- trace. On one thread and in a replay there is no other run, so it always writes and tells the same. Where no buffer joins two clocks, one
--- thread writes the same outputs and cue files and tells the same.
+-- A run wrote all outputs, then their cue files, where these are wanted, and then its trace, if one is wanted; the
+-- shelf made and closed these files in this order, and no other, each with room for just its bytes; and this is the
+-- report. A replay's run is the record of its trace. On one thread and in a replay there is no other run, so it always
+-- writes and tells the same. Where no buffer joins two clocks, one thread writes the same outputs and cue files and
+-- tells the same.
 pub record Wrote (station : Station) (files : Files) (old new : ShelfTold) (report : List ℕ) : Type 0 where
   pub run : Run
   pub lawful : IsLawful station run
@@ -46,8 +49,8 @@ pub record Told (station : Station) (old new : ShelfTold) (report : List ℕ) : 
   pub marking : IsMarking station.plan.nodes mark
   pub report_is : report ≡ check_report_of station mark
 
--- The shelf is as it was, and this is the summary of a run over the files of a workload. It is that of the one record that rounds on one
--- thread have, so it rests on the station and its files alone.
+-- The shelf is as it was, and this is the summary of a run over the files of a workload. It is that of the one record
+-- that rounds on one thread have, so it rests on the station and its files alone.
 pub record Summed (made : Files) (station : Station) (old new : ShelfTold) (report : List ℕ) : Type 0 where
   pub kept : OnlyRead old new
   pub run : Run
@@ -56,25 +59,29 @@ pub record Summed (made : Files) (station : Station) (old new : ShelfTold) (repo
   pub no_gaps : HasNoGaps station run
   pub as_one_thread : SumsAsOneThread made station report
 
--- what was done for a verdict that is no refusal, and its report: a station was rendered, checked, or that of a workload was told
+-- what was done for a verdict that is no refusal, and its report: a station was rendered, checked, or that of a
+-- workload was told
 abbrev pub IsDone : Verdict → Files → (old new : ShelfTold) → (report : List ℕ) → Type 0
 IsDone verdict files old new report =
     ((station : Station) × (verdict ≡ Accepted station) × Wrote station files old new report)
     ⊎ ((station : Station) × (verdict ≡ Checked station) × Told station old new report)
     ⊎ ((made : Files) × (station : Station) × (verdict ≡ Made made station) × Summed made station old new report)
 
--- A rendering broke off: in its ticks or before them, where its run begins that of one thread, on one thread and where no buffer joins two
--- clocks; or behind them, where on one thread there is no other run, and where no buffer joins two clocks, it is one that renders what one
--- thread does. Its first files were made and closed, in their order, and no other. `device` says that a device failed, and not memory.
+-- A rendering broke off: in its ticks or before them, where its run begins that of one thread, on one thread and where
+-- no buffer joins two clocks; or behind them, where on one thread there is no other run, and where no buffer joins two
+-- clocks, it is one that renders what one thread does. Its first files were made and closed, in their order, and no
+-- other. `device` says that a device failed, and not memory.
 pub record BrokeOff (station : Station) (device : Bool) (files : Files) (old new : ShelfTold) : Type 0 where
-  pub left : ((stopped : StoppedInTicks station device files old new) × (IsDetermined station → BeginsAsOneThread station stopped.run))
+  pub left : ((stopped : StoppedInTicks station device files old new)
+      × (IsDetermined station → BeginsAsOneThread station stopped.run))
       ⊎ ((stopped : StoppedBehindTicks station files old new) × HasOneRecord station stopped.run
       × (HasNoJoin (bare station) station.clocks.running → RendersAsOneThread station stopped.run))
   pub front : CreatedFront (names_of station) old new
 
 -- that of a verdict did
 abbrev pub IsBroken : Verdict → (device : Bool) → Files → (old new : ShelfTold) → Type 0
-IsBroken verdict device files old new = (station : Station) × (verdict ≡ Accepted station) × BrokeOff station device files old new
+IsBroken verdict device files old new = (station : Station) × (verdict ≡ Accepted station)
+    × BrokeOff station device files old new
 
 -- memory was refused: the shelf was only read, or a rendering broke off
 abbrev pub IsStarved : Verdict → Files → (old new : ShelfTold) → Type 0

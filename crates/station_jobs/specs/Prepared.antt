@@ -21,8 +21,8 @@ use Rattle.station_render.specs.declared.job.Job.{Job}
 use Rattle.refusal_lines.specs.declared.fault.Fault.{Fault}
 use Rattle.refusal_lines.specs.declared.fault.Fault.TheVariants.{SameFile, Script, Station as Unfit, Replay as Untold}
 use Rattle.refusal_lines.specs.declared.replay_lines.ReplayFault.{ReplayFault}
-use Rattle.station_jobs.specs.Words.{Asked, cues_of, file_of, start_of, ticks_of, trace_name}
-use Rattle.station_jobs.specs.Verdicts.{Verdict, Refused, Accepted, IsScriptFault, IsVerdictOn, IsPrepared, IsRefusal, IsWay, files_for, verdict_for}
+use Rattle.station_jobs.specs.Words.{Asked, cues_of, asked_file, start_of, asked_ticks, trace_name}
+use Rattle.station_jobs.specs.Verdicts.{Verdict, Refused, Accepted, IsScriptFault, IsVerdictOn, IsPrepared, IsRefusal, IsWayFor, files_for, verdict_for}
 use Rattle.station_jobs.specs.Replays.{IsReplayFault}
 use Rattle.station_jobs.specs.Jobs.{IsBroken, IsDone, IsStarved}
 use Rattle.station_jobs.specs.declared.halt.Halt.{Halt}
@@ -35,7 +35,8 @@ pub data Outcome : Type 0 where
   Lost : Fault → Outcome
 
 abbrev pub IsOutcome : Files → (file : List ℕ) (trace : Option (List ℕ)) (cues : Bool) (ticks : ℕ) → Outcome → Type 0
-IsOutcome files file trace cues ticks (Found plan library clocks) = IsPrepared files file trace cues ticks plan library clocks
+IsOutcome files file trace cues ticks (Found plan library clocks) = IsPrepared files file trace cues ticks plan library
+    clocks
 IsOutcome files file trace cues ticks (Lost fault) = IsScriptFault files file trace cues ticks fault
 
 -- the station of a plan with its audio files and clocks, which is rendered in this way
@@ -45,20 +46,23 @@ station_for asked plan library clocks way = record {
   library = library;
   clocks = clocks;
   start = start_of asked;
-  ticks = ticks_of asked;
+  ticks = asked_ticks asked;
   way = way;
   trace = trace_name asked;
   cues = cues_of asked;
 }
 
--- what is asked for is granted, with a plan, its audio files and clocks, and the way in which it is rendered; or it is denied for a fault
+-- what is asked for is granted, with a plan, its audio files and clocks, and the way in which it is rendered; or it is
+-- denied for a fault
 pub data Ruling : Type 0 where
   Granted : Plan → Sounds → ClockMap → Way → Ruling
   Denied : Fault → Ruling
 
-pub record IsGranted (asked : Asked) (files : Files) (plan : Plan) (library : Sounds) (clocks : ClockMap) (way : Way) : Type 0 where
-  pub prepared : IsPrepared files (file_of asked) (trace_name asked) (cues_of asked) (ticks_of asked) plan library clocks
-  pub is_way : IsWay asked files plan library clocks way
+pub record IsGranted (asked : Asked) (files : Files) (plan : Plan) (library : Sounds) (clocks : ClockMap)
+    (way : Way) : Type 0 where
+  pub prepared : IsPrepared files (asked_file asked) (trace_name asked) (cues_of asked) (asked_ticks asked) plan library
+      clocks
+  pub is_way : IsWayFor asked files plan library clocks way
 
 abbrev pub IsRuling : Asked → Files → Ruling → Type 0
 IsRuling asked files (Granted plan library clocks way) = IsGranted asked (files_for asked files) plan library clocks way
@@ -75,7 +79,8 @@ verdict_of asked (Denied fault) = Refused fault
 verdict_of asked (Granted plan library clocks way) = verdict_for asked (station_for asked plan library clocks way)
 
 -- this is the outcome, and there is no other
-pub record IsOneOutcome (files : Files) (file : List ℕ) (trace : Option (List ℕ)) (cues : Bool) (ticks : ℕ) (outcome : Outcome) : Type 0 where
+pub record IsOneOutcome (files : Files) (file : List ℕ) (trace : Option (List ℕ)) (cues : Bool) (ticks : ℕ)
+    (outcome : Outcome) : Type 0 where
   pub holds : IsOutcome files file trace cues ticks outcome
   pub only : (other : Outcome) → IsOutcome files file trace cues ticks other → other ≡ outcome
 
@@ -88,8 +93,10 @@ pub record IsChecked (files : Files) (file : List ℕ) (plan : Plan) (clocks : C
   pub one : IsOneOutcome files file None false 0 (Found plan library clocks)
 
 -- why a step that reads ended: a fault only where it is the outcome, and a read fault only where a read failed
-pub record EndsFor {T : Type 0} (file : List ℕ) (trace : Option (List ℕ)) (cues : Bool) (ticks : ℕ) (old new : ShelfTold) (result : Result T Halt) : Type 0 where
-  pub fault : (fault : Fault) → result ≡ Err (refused_for fault) → ForSome old.files (λ files. IsOneOutcome files file trace cues ticks (Lost fault))
+pub record EndsFor {T : Type 0} (file : List ℕ) (trace : Option (List ℕ)) (cues : Bool) (ticks : ℕ)
+    (old new : ShelfTold) (result : Result T Halt) : Type 0 where
+  pub fault : (fault : Fault) → result ≡ Err (refused_for fault)
+      → ForSome old.files (λ files. IsOneOutcome files file trace cues ticks (Lost fault))
   pub read : IsErrOf result Read → Rose old.reads new.reads
   pub no_write : IsErrOf result Write → ⊥
 
@@ -100,8 +107,10 @@ pub record HasFaultOf (files : Files) (name : List ℕ) (base : Setting) (clocks
   pub is_fault : IsReplayFault files name base clocks N untold
 
 -- why the reading of a trace ended: a fault only where it is the trace's, and a read fault only where a read failed
-pub record TraceEnds {T : Type 0} (name : List ℕ) (base : Setting) (clocks N : ℕ) (old new : ShelfTold) (result : Result T Halt) : Type 0 where
-  pub fault : (fault : Fault) → result ≡ Err (refused_for fault) → ForSome old.files (λ files. HasFaultOf files name base clocks N fault)
+pub record TraceEnds {T : Type 0} (name : List ℕ) (base : Setting) (clocks N : ℕ) (old new : ShelfTold)
+    (result : Result T Halt) : Type 0 where
+  pub fault : (fault : Fault) → result ≡ Err (refused_for fault)
+      → ForSome old.files (λ files. HasFaultOf files name base clocks N fault)
   pub read : IsErrOf result Read → Rose old.reads new.reads
   pub no_write : IsErrOf result Write → ⊥
 
@@ -111,7 +120,8 @@ IsUntold fault halt = (halt ≡ refused_for (Untold fault)) ⊎ (halt ≡ Memory
 
 -- why a test of the names of files ended: this is the name of two
 pub record ClashEnds {T : Type 0} (clash : Option (List ℕ)) (result : Result T Halt) : Type 0 where
-  pub fault : (fault : Fault) → result ≡ Err (refused_for fault) → (name : List ℕ) × (fault ≡ SameFile name) × (clash ≡ Some name)
+  pub fault : (fault : Fault) → result ≡ Err (refused_for fault)
+      → (name : List ℕ) × (fault ≡ SameFile name) × (clash ≡ Some name)
   pub no_read : IsErrOf result Read → ⊥
   pub no_write : IsErrOf result Write → ⊥
 
@@ -130,20 +140,26 @@ ForEach asked files P = (verdict : Verdict) → IsVerdictOn asked files verdict 
 abbrev pub ForOneOf : Asked → ShelfTold → (Files → Verdict → Type 0) → Type 0
 ForOneOf asked shelf P = ForSome shelf.files (λ files. ForOne asked files (P files))
 
--- A job ended so, over what is told of the shelf before and after it: with the report of what was done; for the fault that is the verdict,
--- or since a read failed, where the shelf was only read; since a write failed; or since memory was refused.
+-- A job ended so, over what is told of the shelf before and after it: with the report of what was done; for the fault
+-- that is the verdict, or since a read failed, where the shelf was only read; since a write failed; or since memory was
+-- refused.
 abbrev pub Ended : (asked : Asked) (old new : ShelfTold) → Result (String Global) Halt → Type 0
-Ended asked old new (Ok report) = ForOneOf asked old (λ files verdict. IsDone verdict files old new (string_bytes report))
-Ended asked old new (Err (refused_for fault)) = ForOneOf asked old (λ files verdict. verdict ≡ Refused fault) × OnlyRead old new
+Ended asked old new (Ok report) = ForOneOf asked old
+    (λ files verdict. IsDone verdict files old new (string_bytes report))
+Ended asked old new (Err (refused_for fault)) = ForOneOf asked old (λ files verdict. verdict ≡ Refused fault)
+    × OnlyRead old new
 Ended asked old new (Err Read) = Rose old.reads new.reads × OnlyRead old new
-Ended asked old new (Err Write) = Rose old.writes new.writes × ForOneOf asked old (λ files verdict. IsBroken verdict true files old new)
-Ended asked old new (Err Memory) = ForSome old.files (λ files. ForEach asked files (λ verdict. IsStarved verdict files old new))
+Ended asked old new (Err Write) = Rose old.writes new.writes
+    × ForOneOf asked old (λ files verdict. IsBroken verdict true files old new)
+Ended asked old new (Err Memory) = ForSome old.files
+    (λ files. ForEach asked files (λ verdict. IsStarved verdict files old new))
 
 -- a job is to be rendered as this is asked for
 pub record IsAskedOf (asked : Asked) (job : Job) : Type 0 where
-  pub is_rendering : (plan : Plan) (library : Sounds) (clocks : ClockMap) (way : Way) → verdict_of asked (Granted plan library clocks way) ≡ Accepted (station_for asked plan library clocks way)
+  pub is_rendering : (plan : Plan) (library : Sounds) (clocks : ClockMap) (way : Way)
+      → verdict_of asked (Granted plan library clocks way) ≡ Accepted (station_for asked plan library clocks way)
   pub start_is : start_of asked ≡ job.start.second
-  pub ticks_are : ticks_of asked ≡ job.ticks
+  pub ticks_are : asked_ticks asked ≡ job.ticks
   pub trace_is : trace_name asked ≡ name_in job
   pub cues_are : cues_of asked ≡ job.cues
 

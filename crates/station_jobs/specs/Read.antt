@@ -25,7 +25,8 @@ options_of options = record {
 -- what a form asks for
 abbrev pub asked_to_render : Rendering → Asked
 asked_to_render rendering =
-    Render rendering.file.now rendering.start.second rendering.ticks.count (Some rendering.window.ticks) (named rendering.trace) rendering.cues
+    Render rendering.file.now rendering.start.second rendering.ticks.count (Some rendering.window.ticks)
+    (named rendering.trace) rendering.cues
 
 abbrev pub asked_by_threads : Threaded → Asked
 asked_by_threads (renders rendering) = asked_to_render rendering

@@ -39,9 +39,10 @@ pub record HasNoTrace (files : Files) (name : List ℕ) (line : ℕ) : Type 0 wh
   pub stops : StopsAt text line
 
 -- it is a trace that fits: that of a lawful record of N ticks of these clocks whose ticks can be ordered
-pub record HasFitting (files : Files) (name : List ℕ) (base : Setting) (clocks N : ℕ) (trace : TraceValue) : Type 0 where
-  pub has : HasTrace files name trace
-  pub fits : IsAccepted base clocks N trace
+pub record HasFitting (files : Files) (name : List ℕ) (base : Setting) (clocks N : ℕ) (trace : TraceValue) : Type 0
+  where
+    pub has : HasTrace files name trace
+    pub fits : IsAccepted base clocks N trace
 
 -- it is a trace that does not
 pub record HasUnfitting (files : Files) (name : List ℕ) (base : Setting) (clocks N : ℕ) : Type 0 where

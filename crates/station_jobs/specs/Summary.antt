@@ -2,7 +2,7 @@
 use Rattle.std.specs.Prelude.{◌≡◌, ℕ, ℤ, pos, ◌+ℤ◌, ◌*◌, List, [], ◌∷◌, ◌++◌, codes, decimal, drop, fold, unwrap_or}
 use Rattle.std.specs.Fmt.{signed_decimal}
 use Rattle.liq_base.specs.Files.{Files, file_at}
-use Rattle.frame_core.specs.Bytes.{samples_in}
+use Rattle.frame_core.specs.Bytes.{samples_from}
 use Rattle.plan_core.specs.declared.sink.SinkPlan.{SinkPlan}
 use Rattle.plan_core.specs.declared.sink.SinkPlan.TheVariants.{Output, Feed}
 use Rattle.run_records.specs.Records.{IsRounds, Run}
@@ -12,7 +12,7 @@ use Rattle.stations.specs.Streams.{gaps_of, output_files}
 
 -- the sum of the samples behind the header of a WAV file of 16 bits, as each output of a workload is, of both sides
 abbrev pub sum_of : List ℕ → ℤ
-sum_of bytes = fold ◌+ℤ◌ (pos 0) (samples_in (drop 44 bytes))
+sum_of bytes = fold ◌+ℤ◌ (pos 0) (samples_from (drop 44 bytes))
 
 -- the sum of the samples in the file of this name
 abbrev pub sum_at : Files → (name : List ℕ) → ℤ
@@ -20,7 +20,8 @@ sum_at files name = sum_of (unwrap_or (file_at files name) [])
 
 -- the line of an output that was rendered, but for its end, and the sum of its samples behind it
 abbrev pub counted_part : (name : List ℕ) (samples gaps : ℕ) → List ℕ
-counted_part name samples gaps = codes "output " ++ name ++ codes " samples " ++ decimal samples ++ codes " gaps " ++ decimal gaps
+counted_part name samples gaps = codes "output " ++ name ++ codes " samples " ++ decimal samples ++ codes " gaps "
+    ++ decimal gaps
 
 abbrev pub sum_part : (sum : ℤ) → List ℕ
 sum_part sum = codes " sum " ++ signed_decimal sum ++ codes "\n"
@@ -32,12 +33,14 @@ summed_line name samples gaps sum = counted_part name samples gaps ++ sum_part s
 abbrev pub summed_lines : Station → Run → Files → List SinkPlan → List ℕ
 summed_lines station run files [] = []
 summed_lines station run files (Output name node fallible wide ∷ sinks) =
-    summed_line name (station.ticks * station.plan.frame) (gaps_of station run node) (sum_at files name) ++ summed_lines station run files sinks
+    summed_line name (station.ticks * station.plan.frame) (gaps_of station run node) (sum_at files name)
+    ++ summed_lines station run files sinks
 summed_lines station run files (Feed buffer node ∷ sinks) = summed_lines station run files sinks
 
 -- the summary of a run that wrote its outputs beside these files
 abbrev pub summary_of : Files → Station → Run → List ℕ
-summary_of files station run = summed_lines station run (with_outputs files (output_files station run)) station.plan.sinks
+summary_of files station run = summed_lines station run (with_outputs files (output_files station run))
+    station.plan.sinks
 
 -- the summary is that of rounds on one thread, which have one record
 pub record SumsAsOneThread (files : Files) (station : Station) (summary : List ℕ) : Type 0 where

@@ -22,9 +22,10 @@ use Rattle.refusal_lines.specs.declared.fault.Fault.TheVariants.{NoScript, Scrip
 use Rattle.refusal_lines.specs.declared.replay_lines.ReplayFault.{ReplayFault}
 use Rattle.workload_gen.specs.Files.{workload}
 use Rattle.station_jobs.specs.Replays.{IsReplayFault, IsWayOf}
-use Rattle.station_jobs.specs.Words.{Asked, Check, Make, Render, Replay, IsAsked, HasNoForm, cues_of, file_of, start_of, ticks_of, trace_name}
+use Rattle.station_jobs.specs.Words.{Asked, Check, Make, Render, Replay, IsAsked, HasNoForm, cues_of, asked_file, start_of, asked_ticks, trace_name}
 
--- the usage line, the first fault of the script, a station that is checked, one that is rendered, or that of a workload, with its files
+-- the usage line, the first fault of the script, a station that is checked, one that is rendered, or that of a
+-- workload, with its files
 pub data Verdict : Type 0 where
   Usage : Verdict
   Refused : Fault → Verdict
@@ -54,7 +55,8 @@ has_name name (Feed buffer node) = false
 
 -- the name of the cue file of an output, if one of all outputs has it
 abbrev pub cue_clash_at : (all : List SinkPlan) → SinkPlan → Option (List ℕ)
-cue_clash_at all (Output name node fallible wide) = if list_any (has_name (cue_name name)) all then Some (cue_name name) else None
+cue_clash_at all (Output name node fallible wide) = if list_any (has_name (cue_name name)) all then Some (cue_name name)
+    else None
 cue_clash_at all (Feed buffer node) = None
 
 -- the first such name among these outputs
@@ -77,25 +79,28 @@ abbrev pub trace_clash : Plan → (trace : Option (List ℕ)) (cues : Bool) → 
 trace_clash plan None cues = None
 trace_clash plan (Some name) cues = if list_any (writes_to name cues) plan.sinks then Some name else None
 
--- the first name that two files of a rendering would have: that of a cue file and an output, in sink order; then that of the trace and an
--- output or a cue file
+-- the first name that two files of a rendering would have: that of a cue file and an output, in sink order; then that
+-- of the trace and an output or a cue file
 abbrev pub clash_of : Plan → (trace : Option (List ℕ)) (cues : Bool) → Option (List ℕ)
 clash_of plan trace cues = option_or (cue_clash plan cues) (trace_clash plan trace cues)
 
 -- the script has a plan, and this is the first name that two files of its rendering would have
-pub record HasClash (files : Files) (file : List ℕ) (trace : Option (List ℕ)) (cues : Bool) (name : List ℕ) : Type 0 where
-  pub plan : Plan
-  pub has_plan : HasPlan files file plan
-  pub clash : clash_of plan trace cues ≡ Some name
+pub record HasClash (files : Files) (file : List ℕ) (trace : Option (List ℕ)) (cues : Bool) (name : List ℕ) : Type 0
+  where
+    pub plan : Plan
+    pub has_plan : HasPlan files file plan
+    pub clash : clash_of plan trace cues ≡ Some name
 
 -- the script has a plan, whose rendering writes no name twice, and which for so many ticks has this fault
-pub record HasUnfitPlan (files : Files) (file : List ℕ) (trace : Option (List ℕ)) (cues : Bool) (ticks : ℕ) (fault : StationFault) : Type 0 where
+pub record HasUnfitPlan (files : Files) (file : List ℕ) (trace : Option (List ℕ)) (cues : Bool) (ticks : ℕ)
+    (fault : StationFault) : Type 0 where
   pub plan : Plan
   pub has_plan : HasPlan files file plan
   pub apart : clash_of plan trace cues ≡ None
   pub is_fault : IsStationFault files plan ticks fault
 
--- the first fault of a script, for so many ticks, a trace of this name that is to be written, and cue files where they are wanted
+-- the first fault of a script, for so many ticks, a trace of this name that is to be written, and cue files where they
+-- are wanted
 abbrev pub IsScriptFault : Files → (file : List ℕ) (trace : Option (List ℕ)) (cues : Bool) (ticks : ℕ) → Fault → Type 0
 IsScriptFault files file trace cues ticks NoScript = file_at files file ≡ None
 IsScriptFault files file trace cues ticks (Script fault) = HasPlanFault files file fault
@@ -104,7 +109,8 @@ IsScriptFault files file trace cues ticks (Unfit fault) = HasUnfitPlan files fil
 IsScriptFault files file trace cues ticks (Untold fault) = ⊥
 
 -- the script is accepted, and these are its plan, with its audio files and clocks
-pub record IsPrepared (files : Files) (file : List ℕ) (trace : Option (List ℕ)) (cues : Bool) (ticks : ℕ) (plan : Plan) (library : Sounds) (clocks : ClockMap) : Type 0 where
+pub record IsPrepared (files : Files) (file : List ℕ) (trace : Option (List ℕ)) (cues : Bool) (ticks : ℕ) (plan : Plan)
+    (library : Sounds) (clocks : ClockMap) : Type 0 where
   pub has_plan : HasPlan files file plan
   pub apart : clash_of plan trace cues ≡ None
   pub renderable : IsRenderable files plan ticks library clocks
@@ -131,20 +137,23 @@ abbrev pub way_in : (window : Option ℕ) → Way
 way_in None = InRounds
 way_in (Some window) = InWindows window
 
--- an accepted script is rendered in this way: a check, of no tick, in rounds; a workload by threads in windows of 16 ticks; a replay as
--- its trace tells
-abbrev pub IsWay : Asked → Files → Plan → Sounds → ClockMap → Way → Type 0
-IsWay (Check file) files plan library clocks way = way ≡ InRounds
-IsWay (Render file start ticks window trace cues) files plan library clocks way = way ≡ way_in window
-IsWay (Make seed size) files plan library clocks way = way ≡ InWindows 16
-IsWay (Replay file start ticks trace) files plan library clocks way = IsWayOf files trace (base_of plan library clocks start) clocks.running ticks way
+-- an accepted script is rendered in this way: a check, of no tick, in rounds; a workload by threads in windows of 16
+-- ticks; a replay as its trace tells
+abbrev pub IsWayFor : Asked → Files → Plan → Sounds → ClockMap → Way → Type 0
+IsWayFor (Check file) files plan library clocks way = way ≡ InRounds
+IsWayFor (Render file start ticks window trace cues) files plan library clocks way = way ≡ way_in window
+IsWayFor (Make seed size) files plan library clocks way = way ≡ InWindows 16
+IsWayFor (Replay file start ticks trace) files plan library clocks way = IsWayOf files trace
+    (base_of plan library clocks start) clocks.running ticks way
 
--- the script is accepted, and this is its station: its plan, with its audio files and clocks, its way, and what else is asked for
+-- the script is accepted, and this is its station: its plan, with its audio files and clocks, its way, and what else is
+-- asked for
 pub record IsStation (asked : Asked) (files : Files) (station : Station) : Type 0 where
-  pub prepared : IsPrepared files (file_of asked) (trace_name asked) (cues_of asked) (ticks_of asked) station.plan station.library station.clocks
-  pub is_way : IsWay asked files station.plan station.library station.clocks station.way
+  pub prepared : IsPrepared files (asked_file asked) (trace_name asked) (cues_of asked) (asked_ticks asked) station.plan
+      station.library station.clocks
+  pub is_way : IsWayFor asked files station.plan station.library station.clocks station.way
   pub start_is : station.start ≡ start_of asked
-  pub ticks_are : station.ticks ≡ ticks_of asked
+  pub ticks_are : station.ticks ≡ asked_ticks asked
   pub trace_is : station.trace ≡ trace_name asked
   pub cues_are : station.cues ≡ cues_of asked
 
@@ -169,7 +178,8 @@ verdict_for (Replay file start ticks trace) station = Accepted station
 -- this is its first fault: of its script, or else, of a replay, of its trace
 abbrev pub IsRefusal : Asked → Files → Fault → Type 0
 IsRefusal asked files fault =
-    IsScriptFault (files_for asked files) (file_of asked) (trace_name asked) (cues_of asked) (ticks_of asked) fault ⊎ IsTraceFault asked files fault
+    IsScriptFault (files_for asked files) (asked_file asked) (trace_name asked) (cues_of asked) (asked_ticks asked)
+    fault ⊎ IsTraceFault asked files fault
 
 -- this is the verdict on what is asked for: its first fault, or its station
 abbrev pub IsVerdictOn : Asked → Files → Verdict → Type 0

@@ -3,11 +3,11 @@ use Rattle.std.specs.Prelude.{◌≡◌, ◌≢◌, ◌≤◌, ◌<◌, ◌⊎�
 use Rattle.std.specs.declared.alloc.Global.{Global}
 use Rattle.fixed_text.specs.Texts.{IsStartText}
 
--- What the words of a form ask for: that the script in a file is checked; that it is rendered, from a second of the week on and for so
--- many ticks: by threads in windows of so many, or, where no window is there, on one thread; the trace of its buffers goes to the file
--- of this name, if one is there; and cue files are written, or not; that the workload of a seed and of so many audio files is rendered
--- and told; or that the script in a file is rendered again, on one thread, from a second of the week on and for so many ticks, as the trace
--- in the file of this name tells.
+-- What the words of a form ask for: that the script in a file is checked; that it is rendered, from a second of the
+-- week on and for so many ticks: by threads in windows of so many, or, where no window is there, on one thread; the
+-- trace of its buffers goes to the file of this name, if one is there; and cue files are written, or not; that the
+-- workload of a seed and of so many audio files is rendered and told; or that the script in a file is rendered again,
+-- on one thread, from a second of the week on and for so many ticks, as the trace in the file of this name tells.
 pub data Asked : Type 0 where
   Check : (file : List ℕ) → Asked
   Render : (file : List ℕ) (start ticks : ℕ) (window : Option ℕ) (trace : Option (List ℕ)) (cues : Bool) → Asked
@@ -19,25 +19,25 @@ unfoldable pub made_script : List ℕ
 made_script = codes "make.liq"
 
 -- the file of the script
-abbrev pub file_of : Asked → List ℕ
-file_of (Check file) = file
-file_of (Render file start ticks window trace cues) = file
-file_of (Make seed size) = made_script
-file_of (Replay file start ticks trace) = file
+abbrev pub asked_file : Asked → List ℕ
+asked_file (Check file) = file
+asked_file (Render file start ticks window trace cues) = file
+asked_file (Make seed size) = made_script
+asked_file (Replay file start ticks trace) = file
 
--- the first second, the ticks, the name of the trace that is to be written, and whether cue files are wanted: a check renders no tick; a
--- workload is rendered for 500 ticks; neither of them and no replay writes a trace or cue files
+-- the first second, the ticks, the name of the trace that is to be written, and whether cue files are wanted: a check
+-- renders no tick; a workload is rendered for 500 ticks; neither of them and no replay writes a trace or cue files
 abbrev pub start_of : Asked → ℕ
 start_of (Check file) = 0
 start_of (Render file start ticks window trace cues) = start
 start_of (Make seed size) = 0
 start_of (Replay file start ticks trace) = start
 
-abbrev pub ticks_of : Asked → ℕ
-ticks_of (Check file) = 0
-ticks_of (Render file start ticks window trace cues) = ticks
-ticks_of (Make seed size) = 500
-ticks_of (Replay file start ticks trace) = ticks
+abbrev pub asked_ticks : Asked → ℕ
+asked_ticks (Check file) = 0
+asked_ticks (Render file start ticks window trace cues) = ticks
+asked_ticks (Make seed size) = 500
+asked_ticks (Replay file start ticks trace) = ticks
 
 abbrev pub trace_name : Asked → Option (List ℕ)
 trace_name (Check file) = None
@@ -54,8 +54,8 @@ cues_of (Replay file start ticks trace) = false
 abbrev pub texts : List (String Global) → List (List ℕ)
 texts words = map string_bytes words
 
--- the options of a rendering: whether it runs on one thread; how many ticks a window has, the second of the week at which it begins, and
--- the name of its trace, where these are said; and whether cue files are wanted
+-- the options of a rendering: whether it runs on one thread; how many ticks a window has, the second of the week at
+-- which it begins, and the name of its trace, where these are said; and whether cue files are wanted
 pub record Options : Type 0 where
   pub one_thread : Bool
   pub window : Option ℕ
@@ -128,7 +128,8 @@ pub record SaysCues (word : List ℕ) (before after : Options) : Type 0 where
 
 abbrev pub IsOption : (word : List ℕ) (before after : Options) → Type 0
 IsOption word before after =
-    SaysOneThread word before after ⊎ SaysWindow word before after ⊎ SaysStart word before after ⊎ SaysTrace word before after ⊎ SaysCues word before after
+    SaysOneThread word before after ⊎ SaysWindow word before after ⊎ SaysStart word before after
+    ⊎ SaysTrace word before after ⊎ SaysCues word before after
 
 -- with these words, in any order and each option at most once, the options `before` become `all`
 abbrev pub AreOptions : (before : Options) → List (List ℕ) → (all : Options) → Type 0
@@ -205,7 +206,8 @@ IsReplayAsked (file ∷ number ∷ trace ∷ words) asked = IsReplaying file num
 abbrev pub IsAsked : List (List ℕ) → Asked → Type 0
 IsAsked [] asked = ⊥
 IsAsked (verb ∷ words) asked =
-    (verb ≡ codes "check") × IsCheck words asked ⊎ (verb ≡ codes "render") × IsRender words asked ⊎ (verb ≡ codes "make") × IsMake words asked
+    (verb ≡ codes "check") × IsCheck words asked ⊎ (verb ≡ codes "render") × IsRender words asked
+    ⊎ (verb ≡ codes "make") × IsMake words asked
     ⊎ (verb ≡ codes "replay") × IsReplayAsked words asked
 
 -- the words have no form

@@ -13,8 +13,8 @@ use plan_core::{Plan, SinkPlan};
 use refusal_lines::Fault;
 use std::alloc::Global;
 
-/// Refuses two files of one name: where cue files are wanted, one that has the name of an output; then a trace that has the name
-/// of an output or of a cue file.
+/// Refuses two files of one name: where cue files are wanted, one that has the name of an output; then a trace that has
+/// the name of an output or of a cue file.
 pub fn keep_apart(alloc: Global, plan: &Plan, trace: Option<&str>, cues: bool) -> Result<(), Halt>
     ensures apart { OnOk result (clash_of plan.now (named trace.entry) cues ≡ None) }
     ensures ends { ClashEnds (clash_of plan.now (named trace.entry) cues) result }

@@ -39,7 +39,8 @@ pub fn alone_job<S: Shelf>(
     cues: bool,
     shelf: &mut S,
 ) -> Result<String, Halt>
-    ensures { Ended (Render file.now start.second ticks.count None None cues) (S.told shelf.old) (S.told shelf.new) result }
+    ensures { Ended (Render file.now start.second ticks.count None None cues) (S.told shelf.old) (S.told shelf.new)
+        result }
 {
     let work = prepare(alloc, file, None, cues, ticks.count, shelf)?;
     let job = Job {
@@ -54,7 +55,8 @@ pub fn alone_job<S: Shelf>(
     conclude(alloc, &job, ended)
 }
 
-/// The report of a rendering by threads, whose outputs, then their cue files and then its trace, if these are wanted, are written.
+/// The report of a rendering by threads, whose outputs, then their cue files and then its trace, if these are wanted,
+/// are written.
 pub fn threads_job<S: Shelf, G: Gate + Sync, R: Threads + Wait + Sync>(
     rt: &R,
     alloc: Global,
@@ -85,8 +87,10 @@ pub(crate) fn conclude(
     ended: Result<Rendered, RenderFault>,
 ) -> Result<String, Halt>
     requires fit { IsFitting job.now }
-    requires rendering { (way : Way) × (old : ShelfTold) × (new : ShelfTold) × Renders (station_in job.now way) old new ended }
-    ensures { (asked : Asked) (way : Way) (first old new : ShelfTold) → IsAskedOf asked job.now → ForSome first.files (λ files. IsOneRuling asked files (granted job.now way))
+    requires rendering { (way : Way) × (old : ShelfTold) × (new : ShelfTold)
+        × Renders (station_in job.now way) old new ended }
+    ensures { (asked : Asked) (way : Way) (first old new : ShelfTold) → IsAskedOf asked job.now
+        → ForSome first.files (λ files. IsOneRuling asked files (granted job.now way))
         → OnlyRead first old → Renders (station_in job.now way) old new ended → Ended asked first new result }
 {
     stations::laws::infallible_outputs_have_no_gaps();
@@ -98,7 +102,8 @@ pub(crate) fn conclude(
     report_or_halt(report(alloc, job.plan, job.ticks, &rendered))
 }
 
-/// The report, or that memory was refused for it. Where a plan is alive, a `?` would be one more place at which it ends.
+/// The report, or that memory was refused for it. Where a plan is alive, a `?` would be one more place at which it
+/// ends.
 pub(crate) fn report_or_halt(report: Result<String, Memory>) -> Result<String, Halt>
     ensures told { IfOk result (λ text. report ≡ Ok text) }
     ensures starved { IfErr result (λ halt. halt ≡ no_memory) }

@@ -7,9 +7,11 @@ ghost use Rattle.stations.specs.Findings.{IsFit};
 ghost use Rattle.stations.specs.Stations.{IsLawful, Station, bare};
 ghost use Rattle.station_jobs.specs.Summary.{SumsAsOneThread, summary_of};
 
-/// Where no buffer joins two clocks, the summary of a lawful run is that of rounds on one thread, whatever the length of its windows.
+/// Where no buffer joins two clocks, the summary of a lawful run is that of rounds on one thread, whatever the length
+/// of its windows.
 pub fn sums_are_as_on_one_thread()
-    ensures { (made : Files) (station : Station) (run : Run) → IsFit station.plan station.library station.clocks station.ticks
+    ensures { (made : Files) (station : Station) (run : Run)
+        → IsFit station.plan station.library station.clocks station.ticks
         → station.start < 604800 → IsLawful station run → HasNoJoin (bare station) station.clocks.running
         → SumsAsOneThread made station (summary_of made station run) }
 {

@@ -1,5 +1,5 @@
-//! What words ask for: they are read, and each job of them is done, to its report or to why there is none. `liq_cli` calls these and
-//! writes the one text of a call.
+//! What words ask for: they are read, and each job of them is done, to its report or to why there is none. `liq_cli`
+//! calls these and writes the one text of a call.
 #![tactic(auto)]
 
 mod clash;

@@ -53,8 +53,8 @@ fn sum_workload<G: Gate + Sync, R: Threads + Wait + Sync>(
     ensures { (told : ShelfTold) → Ended (Make seed size.files) told told result }
 {
     let work = prepare(alloc, script_name(), None, false, TICKS, shelf)?;
-    // The script of a workload has no buffer. Through one its clocks could meet in one way or another, and what is told rests on the
-    // two numbers alone: so were there one, nothing would be told.
+    // The script of a workload has no buffer. Through one its clocks could meet in one way or another, and what is told
+    // rests on the two numbers alone: so were there one, nothing would be told.
     if !is_unbuffered(&work.plan) {
         return Err(Halt::Memory);
     }

@@ -6,8 +6,8 @@ ghost use Rattle.station_jobs.specs.Words.{AreOptions, IsOption, IsStart, IsTrac
 use crate::window::{Window, read_window_option};
 use fixed_text::{WeekSecond, read_start};
 
-/// The options of a rendering: whether it runs on one thread; how many ticks a window has, the second of the week at which it
-/// begins, and the name of the trace's file, if these are said; and whether cue files are wanted.
+/// The options of a rendering: whether it runs on one thread; how many ticks a window has, the second of the week at
+/// which it begins, and the name of the trace's file, if these are said; and whether cue files are wanted.
 #[derive(Clone, Copy)]
 pub struct Options<'a> {
     pub one_thread: bool,
@@ -20,7 +20,8 @@ pub struct Options<'a> {
 /// The options that words are, in any order and each at most once.
 pub fn read_options(words: &[String]) -> Option<Options<'_>>
     ensures found { IfSome result (λ options. AreOptions no_options (texts words.now) (options_of options)) }
-    ensures only { (all : AllOptions) → AreOptions no_options (texts words.now) all → option_map options_of result ≡ Some all }
+    ensures only { (all : AllOptions) → AreOptions no_options (texts words.now) all
+        → option_map options_of result ≡ Some all }
 {
     let mut options = Options {
         one_thread: false,
@@ -38,7 +39,8 @@ pub fn read_options(words: &[String]) -> Option<Options<'_>>
 // The options with the one that a word is; nothing where it is none, or was there before.
 fn read_option<'a>(word: &'a str, before: Options<'a>) -> Option<Options<'a>>
     ensures found { IfSome result (λ after. IsOption word.now (options_of before.entry) (options_of after)) }
-    ensures only { (after : AllOptions) → IsOption word.now (options_of before.entry) after → option_map options_of result ≡ Some after }
+    ensures only { (after : AllOptions) → IsOption word.now (options_of before.entry) after
+        → option_map options_of result ≡ Some after }
 {
     if word == "--one-thread" {
         return with_one_thread(before);
@@ -58,7 +60,8 @@ fn read_option<'a>(word: &'a str, before: Options<'a>) -> Option<Options<'a>>
 
 // The options with `--one-thread`, where it was not there before.
 fn with_one_thread<'a>(before: Options<'a>) -> Option<Options<'a>>
-    ensures { option_map options_of result ≡ (if before.entry.one_thread then None else Some (record (options_of before.entry) { one_thread = true })) }
+    ensures { option_map options_of result ≡ (if before.entry.one_thread then None
+        else Some (record (options_of before.entry) { one_thread = true })) }
 {
     if before.one_thread {
         return None;
@@ -71,7 +74,8 @@ fn with_one_thread<'a>(before: Options<'a>) -> Option<Options<'a>>
 
 // The options with `--cues`, where it was not there before.
 fn with_cues<'a>(before: Options<'a>) -> Option<Options<'a>>
-    ensures { option_map options_of result ≡ (if before.entry.cues then None else Some (record (options_of before.entry) { cues = true })) }
+    ensures { option_map options_of result ≡ (if before.entry.cues then None
+        else Some (record (options_of before.entry) { cues = true })) }
 {
     if before.cues {
         return None;
@@ -84,7 +88,8 @@ fn with_cues<'a>(before: Options<'a>) -> Option<Options<'a>>
 
 // The options with a window, where none was there before.
 fn with_window<'a>(window: Window, before: Options<'a>) -> Option<Options<'a>>
-    ensures { option_map options_of result ≡ (if is_some before.entry.window then None else Some (record (options_of before.entry) { window = Some window.ticks })) }
+    ensures { option_map options_of result ≡ (if is_some before.entry.window then None
+        else Some (record (options_of before.entry) { window = Some window.ticks })) }
 {
     if before.window.is_some() {
         return None;
@@ -97,7 +102,8 @@ fn with_window<'a>(window: Window, before: Options<'a>) -> Option<Options<'a>>
 
 // The options with a start, where none was there before.
 fn with_start<'a>(start: WeekSecond, before: Options<'a>) -> Option<Options<'a>>
-    ensures { option_map options_of result ≡ (if is_some before.entry.start then None else Some (record (options_of before.entry) { start = Some start.second })) }
+    ensures { option_map options_of result ≡ (if is_some before.entry.start then None
+        else Some (record (options_of before.entry) { start = Some start.second })) }
 {
     if before.start.is_some() {
         return None;
@@ -110,7 +116,8 @@ fn with_start<'a>(start: WeekSecond, before: Options<'a>) -> Option<Options<'a>>
 
 // The options with a trace, where none was there before.
 fn with_trace<'a>(trace: &'a str, before: Options<'a>) -> Option<Options<'a>>
-    ensures { option_map options_of result ≡ (if is_some before.entry.trace then None else Some (record (options_of before.entry) { trace = Some trace.now })) }
+    ensures { option_map options_of result ≡ (if is_some before.entry.trace then None
+        else Some (record (options_of before.entry) { trace = Some trace.now })) }
 {
     if before.trace.is_some() {
         return None;

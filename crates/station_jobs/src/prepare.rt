@@ -36,8 +36,9 @@ pub struct CheckedPlan {
     pub clocks: ClockMap,
 }
 
-/// What the script of this name asks for, for so many ticks: the script is read, and then its audio files are. Its outputs, its
-/// cue files where they are wanted, and the trace of this name where one is wanted, all have names of their own.
+/// What the script of this name asks for, for so many ticks: the script is read, and then its audio files are. Its
+/// outputs, its cue files where they are wanted, and the trace of this name where one is wanted, all have names of
+/// their own.
 pub fn prepare<S: Shelf>(
     alloc: Global,
     file: &str,
@@ -47,7 +48,9 @@ pub fn prepare<S: Shelf>(
     shelf: &mut S,
 ) -> Result<Work, Halt>
     requires { ticks ≤ 10 ^ 9 }
-    ensures found { IfOk result (λ work. ForSome (S.told shelf.old).files (λ files. IsOneOutcome files file.now (named trace.entry) cues ticks (outcome_of work))) }
+    ensures found { IfOk result
+        (λ work. ForSome (S.told shelf.old).files
+        (λ files. IsOneOutcome files file.now (named trace.entry) cues ticks (outcome_of work))) }
     ensures fit { IfOk result (λ work. IsFit work.plan work.ready.library work.ready.clocks ticks) }
     ensures ends { EndsFor file.now (named trace.entry) cues ticks (S.told shelf.old) (S.told shelf.new) result }
     ensures shelf { OnlyRead (S.told shelf.old) (S.told shelf.new) }
@@ -58,14 +61,15 @@ pub fn prepare<S: Shelf>(
     Ok(Work { plan, ready })
 }
 
-/// The plan and the clocks of the script of this name, as `prepare` finds them for no tick. Its audio files are read and given
-/// back, and none is decoded.
+/// The plan and the clocks of the script of this name, as `prepare` finds them for no tick. Its audio files are read
+/// and given back, and none is decoded.
 pub fn prepare_check<S: Shelf>(
     alloc: Global,
     file: &str,
     shelf: &mut S,
 ) -> Result<CheckedPlan, Halt>
-    ensures found { IfOk result (λ work. ForSome (S.told shelf.old).files (λ files. IsChecked files file.now work.plan work.clocks)) }
+    ensures found { IfOk result
+        (λ work. ForSome (S.told shelf.old).files (λ files. IsChecked files file.now work.plan work.clocks)) }
     ensures plan { IfOk result (λ work. IsWellFormed work.plan) }
     ensures ends { EndsFor file.now None false 0 (S.told shelf.old) (S.told shelf.new) result }
     ensures shelf { OnlyRead (S.told shelf.old) (S.told shelf.new) }
@@ -87,7 +91,8 @@ fn read_plan<S: Shelf>(
     ensures plan { IfOk result (λ plan. ForSome (S.told shelf.old).files (λ files. HasPlan files file.now plan)) }
     ensures apart { IfOk result (λ plan. clash_of plan (named trace.entry) cues ≡ None) }
     ensures formed { IfOk result (λ plan. IsWellFormed plan) }
-    ensures ends { (ticks : ℕ) → EndsFor file.now (named trace.entry) cues ticks (S.told shelf.old) (S.told shelf.new) result }
+    ensures ends { (ticks : ℕ)
+        → EndsFor file.now (named trace.entry) cues ticks (S.told shelf.old) (S.told shelf.new) result }
     ensures shelf { OnlyRead (S.told shelf.old) (S.told shelf.new) }
 {
     let script = read_script(alloc, file, shelf)?;
@@ -99,8 +104,10 @@ fn read_plan<S: Shelf>(
 
 // The bytes of the script.
 fn read_script<S: Shelf>(alloc: Global, file: &str, shelf: &mut S) -> Result<Vec<u8>, Halt>
-    ensures script { IfOk result (λ script. ForSome (S.told shelf.old).files (λ files. file_at files file.now ≡ Some script.items)) }
-    ensures ends { (trace : Option (List ℕ)) (cues : Bool) (ticks : ℕ) → EndsFor file.now trace cues ticks (S.told shelf.old) (S.told shelf.new) result }
+    ensures script { IfOk result (λ script. ForSome (S.told shelf.old).files (λ files. file_at files file.now
+        ≡ Some script.items)) }
+    ensures ends { (trace : Option (List ℕ)) (cues : Bool) (ticks : ℕ)
+        → EndsFor file.now trace cues ticks (S.told shelf.old) (S.told shelf.new) result }
     ensures shelf { OnlyRead (S.told shelf.old) (S.told shelf.new) }
 {
     let mut script = Vec::new(alloc);

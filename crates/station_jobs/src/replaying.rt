@@ -12,8 +12,8 @@ use liq_base::Shelf;
 use station_render::{Job, render_again};
 use std::alloc::Global;
 
-/// The report of a replay on one thread, whose outputs are written: those of the record that the trace tells. The trace is read behind
-/// the script and its audio files, and before an output is created, so an output may have its name.
+/// The report of a replay on one thread, whose outputs are written: those of the record that the trace tells. The trace
+/// is read behind the script and its audio files, and before an output is created, so an output may have its name.
 pub fn replay_job<S: Shelf>(
     alloc: Global,
     file: &str,

@@ -11,8 +11,8 @@ use liq_base::{Memory, SureShelf};
 use plan_core::{Plan, SinkPlan};
 use std::alloc::{AllocError, Global};
 
-/// The summary of a rendering of so many ticks, at most 1000000000, that wrote its outputs into this shelf: a line for each output,
-/// in sink order, with its gaps and the sum of its samples.
+/// The summary of a rendering of so many ticks, at most 1000000000, that wrote its outputs into this shelf: a line for
+/// each output, in sink order, with its gaps and the sum of its samples.
 pub fn summary(
     alloc: Global,
     plan: &Plan,
@@ -22,7 +22,8 @@ pub fn summary(
 ) -> Result<String, Memory>
     requires few { ticks ≤ 1000000000 }
     requires many { length gaps.now ≡ length (written plan.now.sinks) }
-    ensures { IfOk result (λ text. (station : Station) → (run : Run) → station.plan ≡ plan.now → station.ticks ≡ ticks → gaps.now ≡ gaps_in_order station run
+    ensures { IfOk result (λ text. (station : Station) → (run : Run) → station.plan ≡ plan.now → station.ticks ≡ ticks
+        → gaps.now ≡ gaps_in_order station run
         → string_bytes text ≡ summed_lines station run shelf.now plan.now.sinks) }
 {
     let samples = ticks * u64::from(plan.frame);

@@ -32,9 +32,9 @@ pub struct FoundTrace {
     pub chunks: RecordChunks,
 }
 
-/// The trace in the file of this name, with all the chunks of its record, where it is that of a lawful record of so many ticks of the plan
-/// from this second of the week on, whose ticks can be ordered. `docs/faults.md` has the faults, which are looked for in this order: no
-/// file, too many bytes, another form, no such record.
+/// The trace in the file of this name, with all the chunks of its record, where it is that of a lawful record of so
+/// many ticks of the plan from this second of the week on, whose ticks can be ordered. `docs/faults.md` has the faults,
+/// which are looked for in this order: no file, too many bytes, another form, no such record.
 pub fn find_trace<S: Shelf>(
     alloc: Global,
     plan: &Plan,
@@ -46,10 +46,16 @@ pub fn find_trace<S: Shelf>(
 ) -> Result<FoundTrace, Halt>
     requires { IsFit plan.now ready.now.library ready.now.clocks ticks }
     ensures form { IfOk result (λ found. IsTrace found.trace) }
-    ensures found { IfOk result (λ found. ForSome (S.told shelf.old).files (λ files. HasTrace files name.now found.trace)) }
-    ensures fits { IfOk result (λ found. IsAccepted (base_of plan.now ready.now.library ready.now.clocks start.second) ready.now.clocks.running ticks found.trace) }
-    ensures chunks { IfOk result (λ found. AreAllChunks (base_of plan.now ready.now.library ready.now.clocks start.second) ready.now.clocks found.trace found.chunks) }
-    ensures ends { TraceEnds name.now (base_of plan.now ready.now.library ready.now.clocks start.second) ready.now.clocks.running ticks
+    ensures found { IfOk result
+        (λ found. ForSome (S.told shelf.old).files (λ files. HasTrace files name.now found.trace)) }
+    ensures fits { IfOk result
+        (λ found. IsAccepted (base_of plan.now ready.now.library ready.now.clocks start.second) ready.now.clocks.running
+        ticks found.trace) }
+    ensures chunks { IfOk result
+        (λ found. AreAllChunks (base_of plan.now ready.now.library ready.now.clocks start.second) ready.now.clocks
+        found.trace found.chunks) }
+    ensures ends { TraceEnds name.now (base_of plan.now ready.now.library ready.now.clocks start.second)
+        ready.now.clocks.running ticks
         (S.told shelf.old) (S.told shelf.new) result }
     ensures shelf { OnlyRead (S.told shelf.old) (S.told shelf.new) }
 {
@@ -73,7 +79,8 @@ pub fn find_trace<S: Shelf>(
 fn read_trace<S: Shelf>(alloc: Global, name: &str, shelf: &mut S) -> Result<Trace, Halt>
     ensures form { IfOk result (λ trace. IsTrace trace) }
     ensures found { IfOk result (λ trace. ForSome (S.told shelf.old).files (λ files. HasTrace files name.now trace)) }
-    ensures ends { (base : Setting) (clocks ticks : ℕ) → TraceEnds name.now base clocks ticks (S.told shelf.old) (S.told shelf.new) result }
+    ensures ends { (base : Setting) (clocks ticks : ℕ)
+        → TraceEnds name.now base clocks ticks (S.told shelf.old) (S.told shelf.new) result }
     ensures shelf { OnlyRead (S.told shelf.old) (S.told shelf.new) }
 {
     let text = read_text(alloc, name, shelf)?;
@@ -88,8 +95,10 @@ fn read_trace<S: Shelf>(alloc: Global, name: &str, shelf: &mut S) -> Result<Trac
 
 // The bytes of the file of this name.
 fn read_text<S: Shelf>(alloc: Global, name: &str, shelf: &mut S) -> Result<Vec<u8>, Halt>
-    ensures found { IfOk result (λ text. ForSome (S.told shelf.old).files (λ files. HasText files name.now text.items)) }
-    ensures ends { (base : Setting) (clocks ticks : ℕ) → TraceEnds name.now base clocks ticks (S.told shelf.old) (S.told shelf.new) result }
+    ensures found { IfOk result
+        (λ text. ForSome (S.told shelf.old).files (λ files. HasText files name.now text.items)) }
+    ensures ends { (base : Setting) (clocks ticks : ℕ)
+        → TraceEnds name.now base clocks ticks (S.told shelf.old) (S.told shelf.new) result }
     ensures shelf { OnlyRead (S.told shelf.old) (S.told shelf.new) }
 {
     let mut text = Vec::new(alloc);

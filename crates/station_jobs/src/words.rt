@@ -101,7 +101,8 @@ fn read_replay(words: &[String]) -> Option<Form<'_>>
 // The start that options give which have nothing else.
 fn read_only_start(options: &[String]) -> Option<WeekSecond>
     ensures found { IfSome result (λ start. IsOnlyStart (texts options.now) start.second) }
-    ensures only { (start : ℕ) → IsOnlyStart (texts options.now) start → IsSomeAnd result (λ found. found.second ≡ start) }
+    ensures only { (start : ℕ) → IsOnlyStart (texts options.now) start
+        → IsSomeAnd result (λ found. found.second ≡ start) }
 {
     match options {
         [] => Some(WeekSecond { second: 0 }),
@@ -113,7 +114,8 @@ fn read_only_start(options: &[String]) -> Option<WeekSecond>
 // The rendering of so many ticks that options ask for; nothing where a window or a trace stands beside `--one-thread`.
 fn form_of<'a>(file: &'a str, ticks: Ticks, options: Options<'a>) -> Option<Form<'a>>
     ensures found { IfSome result (λ form. asked_of form
-        ≡ AsksToRender file.now (start_in (options_of options.entry)) ticks.count (window_in (options_of options.entry)) (options_of options.entry).trace (options_of options.entry).cues) }
+        ≡ AsksToRender file.now (start_in (options_of options.entry)) ticks.count (window_in (options_of options.entry))
+        (options_of options.entry).trace (options_of options.entry).cues) }
     ensures apart { OnSome result (AreApart (options_of options.entry)) }
     ensures only { AreApart (options_of options.entry) → IsSome result }
 {

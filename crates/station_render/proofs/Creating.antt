@@ -5,8 +5,8 @@ use Rattle.std.specs.Option.{ForSome}
 use Rattle.std.specs.List.{AllZip}
 use Rattle.std.proofs.Math.Nat.{mod-lt}
 use Rattle.std.proofs.lemmas.List.{map-append, append-nil}
-use Rattle.liq_base.specs.Counts.{counted}
-use Rattle.liq_base.specs.Pieces.{HasRoom, SinkTold, Took, TookPart, grown, narrowed}
+use Rattle.liq_base.specs.Counts.{one_more_append}
+use Rattle.liq_base.specs.Pieces.{HasRoom, SinkTold, TookPiece, TookPart, grown, narrowed}
 use Rattle.liq_base.specs.Shelves.{IsFresh, ShelfTold, noted}
 use Rattle.plan_core.specs.declared.sink.SinkPlan.{SinkPlan}
 use Rattle.plan_core.specs.declared.sink.SinkPlan.TheVariants.{Output, Feed}
@@ -155,7 +155,7 @@ module _ (first now : ShelfTold) (same : OnlyCreates first now) where
 module _ {O : Type 0} (told : O → SinkTold) where
   -- a new sink that took its header whole, or a part of it
   pub is_opened : (shelf : ShelfTold) (name bytes : List ℕ) (body : ℕ) → length bytes ≡ 44 → (first : SinkTold) (sink : OutputSink O) → sink.odd ≡ nat_eq (body % 2) 1
-      → IsFresh name (44 + body + body % 2) shelf first → Took bytes first (told sink.sink) → IsOpened told shelf name bytes body sink
+      → IsFresh name (44 + body + body % 2) shelf first → TookPiece bytes first (told sink.sink) → IsOpened told shelf name bytes body sink
   is_opened shelf name bytes body long first sink odd fresh took =
       let fell : (told sink.sink).room ≡ narrowed 44 first.room = took.room_fell ∙ ap (λ n. narrowed n first.room) long in
       record {
@@ -167,7 +167,7 @@ module _ {O : Type 0} (told : O → SinkTold) where
             let is = fresh_measured name (44 + body + body % 2) shelf first fresh before at in
             record {
               size_is = took_size bytes first (told sink.sink) (λ left there. let low : left ≡ 44 + body + body % 2 = fresh.roomy left there in omega (arith, low, long)) took ∙ is.size_is;
-              pieces_are = took.once ∙ ap counted is.pieces_are;
+              pieces_are = took.once ∙ ap one_more_append is.pieces_are;
             };
         room = room_left 44 body sink.odd odd first.room (told sink.sink).room fresh.roomy fell;
         owes = owed_left 44 body sink.odd odd first.room (told sink.sink).room fresh.roomy fell;

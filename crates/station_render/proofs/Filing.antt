@@ -3,7 +3,7 @@ use Rattle.std.proofs.Common.{◌≡◌, ◌≤◌, ◌∙◌, ◌++◌, ℕ, Li
 use Rattle.std.specs.Prelude.{Option, Some, Result, Ok, Err, OnOk, OnErr, IsSomeAnd, is_some}
 use Rattle.liq_base.specs.Files.{Closed, ClosedPart, Files, HoldsPart}
 use Rattle.liq_base.specs.Kept.{some_and}
-use Rattle.liq_base.specs.Pieces.{IsPrefix, SinkTold, Took, TookPart, grown}
+use Rattle.liq_base.specs.Pieces.{IsPrefix, SinkTold, TookPiece, TookPart, grown}
 use Rattle.liq_base.specs.Shelves.{IsFresh, OnlyClosed, OnlyMade, OnlyRead, ShelfTold}
 use Rattle.stations.specs.Creations.{HaveClosed, after_making}
 use Rattle.stations.specs.Outputs.{OutputFile}

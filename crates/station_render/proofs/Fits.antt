@@ -10,7 +10,7 @@ use Rattle.clock_infer.specs.declared.clock_map.NodeClock.TheVariants.{Main}
 use Rattle.clock_infer.proofs.MapLaws as map_law
 use Rattle.frame_core.specs.Library.{Sounds}
 use Rattle.wav_io.specs.Header.{header_at}
-use Rattle.stations.specs.Findings.{IsFit, first_name, is_too_long, kind_at, name_of}
+use Rattle.stations.specs.Findings.{IsFit, first_name, is_too_long, node_kind, sink_name}
 use Rattle.station_render.specs.Renders.{AreMain}
 use Rattle.station_render.proofs.Lists.{within, got_is}
 
@@ -23,7 +23,7 @@ none_such such [] k sink none at = absurd (cc)
 none_such such (x ∷ sinks) k sink none at = by_test (such x) refl k at none (λ j found rest. none_such such sinks j sink rest found)
   where
     by_test : (b : Bool) → such x ≡ b → (k : ℕ) → slice_get (x ∷ sinks) k ≡ Some sink
-        → (if b then Some (name_of x) else first_name such sinks) ≡ None → ((j : ℕ) → slice_get sinks j ≡ Some sink → first_name such sinks ≡ None → such sink ≡ false) → such sink ≡ false
+        → (if b then Some (sink_name x) else first_name such sinks) ≡ None → ((j : ℕ) → slice_get sinks j ≡ Some sink → first_name such sinks ≡ None → such sink ≡ false) → such sink ≡ false
     by_test true is k at none later = absurd (cc)
     by_test false is zero at none later = (let same : x ≡ sink = (cc) in ap such (sym same) ∙ is)
     by_test false is (suc k) at none later = later k at none
@@ -39,7 +39,7 @@ module _ (plan : Plan) (library : Sounds) (clocks : ClockMap) (ticks : ℕ) (fit
       (fit.plan_is.sinks k (Output name node fallible wide) (within plan.sinks k (Output name node fallible wide) at))
 
   pub header_fits : (k : ℕ) (name : List ℕ) (node : ℕ) (fallible wide : Bool) → slice_get plan.sinks k ≡ Some (Output name node fallible wide)
-      → is_none (header_at wide (kind_at plan node) plan.rate (ticks * plan.frame)) ≡ false
+      → is_none (header_at wide (node_kind plan node) plan.rate (ticks * plan.frame)) ≡ false
   header_fits k name node fallible wide at = none_such (is_too_long plan ticks) plan.sinks k (Output name node fallible wide) fit.none at
 
   -- the clock of an output is one of those that run

@@ -5,8 +5,8 @@ use Rattle.std.specs.Option.{ForSome}
 use Rattle.std.proofs.Math.Nat.{mod-lt}
 use Rattle.std.proofs.lemmas.Bool.{true≢false}
 use Rattle.std.proofs.lemmas.List.{length-replicate}
-use Rattle.liq_base.specs.Counts.{counted}
-use Rattle.liq_base.specs.Pieces.{HasRoom, SinkTold, Took, grown}
+use Rattle.liq_base.specs.Counts.{one_more_append}
+use Rattle.liq_base.specs.Pieces.{HasRoom, SinkTold, TookPiece, grown}
 use Rattle.liq_base.specs.Shelves.{Closing, IsFresh, Lists, ShelfTold, closing_of as closing_told, noted}
 use Rattle.plan_core.specs.declared.sink.SinkPlan.{SinkPlan}
 use Rattle.plan_core.specs.declared.sink.SinkPlan.TheVariants.{Output, Feed}
@@ -204,7 +204,7 @@ module _ (world : Setting) (ticks : ℕ) (few : ticks + 2 < 2 ^ 64) (output : Wr
         held = body ++ 0 ∷ [];
         holds = took.held_grew ∙ ap (grown (0 ∷ [])) held.holds;
         long = omega (arith, long, more, rest);
-        pieces_are = took.once ∙ ap counted is.pieces_are ∙ ap (λ n. Some n) count;
+        pieces_are = took.once ∙ ap one_more_append is.pieces_are ∙ ap (λ n. Some n) count;
       }
 
 -- after a run that made all ticks, the closings will list these
@@ -237,7 +237,7 @@ module _ (name : List ℕ) (bytes : List ℕ) (shelf : ShelfTold) (first : SinkT
         held = whole;
         holds = took.held_grew ∙ ap (grown whole) (fresh_empty name (length bytes) shelf first fresh tells);
         long = refl;
-        pieces_are = took.once ∙ ap counted measured.pieces_are ∙ refl;
+        pieces_are = took.once ∙ ap one_more_append measured.pieces_are ∙ refl;
       }
 
   pub listed_at_once : (last : SinkTold) → TookAtOnce bytes first last → (before after : Option (List Closing)) → before ≡ shelf.closed → Lists last before after

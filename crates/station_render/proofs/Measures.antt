@@ -3,9 +3,9 @@ use Rattle.std.proofs.Common.{◌≡◌, ◌<◌, ◌≤◌, ◌+◌, ◌-◌, �
 use Rattle.std.specs.Prelude.{Option, Some, None, IsSome, is_some, min}
 use Rattle.std.specs.Fn.{iterate}
 use Rattle.std.specs.Option.{ForSome}
-use Rattle.liq_base.specs.Counts.{counted}
+use Rattle.liq_base.specs.Counts.{one_more_append}
 use Rattle.liq_base.specs.Created.{is_told}
-use Rattle.liq_base.specs.Pieces.{HasRoom, SinkTold, Took, grown, narrowed}
+use Rattle.liq_base.specs.Pieces.{HasRoom, SinkTold, TookPiece, grown, narrowed}
 use Rattle.liq_base.specs.Shelves.{IsFresh, ShelfTold}
 use Rattle.station_render.specs.Listed.{AreTold, IsMeasured, TellsSinks}
 use Rattle.station_render.specs.OutputSinks.{MayHaveTaken, owed_by, output_told, size_by, size_of, told_name, told_number}
@@ -21,7 +21,7 @@ size_kept taken (Some held) (Some left) fits =
     let same : length (held ++ taken) + (left - length taken) ≡ length held + left = omega (arith, long, low) in
     ap Some same
 
-pub took_size : (taken : List ℕ) (old new : SinkTold) → HasRoom old.room (length taken) → Took taken old new → size_of new ≡ size_of old
+pub took_size : (taken : List ℕ) (old new : SinkTold) → HasRoom old.room (length taken) → TookPiece taken old new → size_of new ≡ size_of old
 took_size taken old new fits took = (λ i. size_by (took.held_grew i) (took.room_fell i)) ∙ size_kept taken old.held old.room fits
 
 -- the size is told where it was
@@ -30,11 +30,11 @@ size_any taken None left = refl
 size_any taken (Some held) None = refl
 size_any taken (Some held) (Some left) = refl
 
-pub took_told : (taken : List ℕ) (old new : SinkTold) → Took taken old new → (least : ℕ) → AreTold least old → AreTold 1 new
+pub took_told : (taken : List ℕ) (old new : SinkTold) → TookPiece taken old new → (least : ℕ) → AreTold least old → AreTold 1 new
 took_told taken old new took least tells = record {
   size_told = (λ i. is_some (size_by (took.held_grew i) (took.room_fell i))) ∙ size_any taken old.held old.room ∙ tells.size_told;
   pieces = min (tells.pieces + 1) (2 ^ 64 - 1);
-  pieces_are = took.once ∙ ap counted tells.pieces_are;
+  pieces_are = took.once ∙ ap one_more_append tells.pieces_are;
   enough = omega arith;
 }
 
@@ -105,15 +105,15 @@ known_alike told one other e =
     }
 
 -- so many pieces more, as far as a count goes
-pub count_many : (n p : ℕ) → p + n < 2 ^ 64 → iterate counted n (Some p) ≡ Some (p + n)
+pub count_many : (n p : ℕ) → p + n < 2 ^ 64 → iterate one_more_append n (Some p) ≡ Some (p + n)
 count_many zero p low = let same : p ≡ p + 0 = omega arith in ap Some same
 count_many (suc n) p low =
     let next : min (p + 1) (2 ^ 64 - 1) ≡ suc p = omega (arith, low) in
     let same : suc p + n ≡ p + suc n = omega arith in
-    ap (λ q. iterate counted n (Some q)) next ∙ count_many n (suc p) (omega (arith, low)) ∙ ap Some same
+    ap (λ q. iterate one_more_append n (Some q)) next ∙ count_many n (suc p) (omega (arith, low)) ∙ ap Some same
 
 -- more pieces are some still
-pub some_still : (more pieces : ℕ) → 1 ≤ pieces → (now : ℕ) × (iterate counted more (Some pieces) ≡ Some now) × (1 ≤ now)
+pub some_still : (more pieces : ℕ) → 1 ≤ pieces → (now : ℕ) × (iterate one_more_append more (Some pieces) ≡ Some now) × (1 ≤ now)
 some_still zero pieces some = (pieces, refl, some)
 some_still (suc more) pieces some = some_still more (min (pieces + 1) (2 ^ 64 - 1)) (omega (arith, some))
 

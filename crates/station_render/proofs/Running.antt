@@ -2,7 +2,7 @@
 use Rattle.std.proofs.Common.{◌≡◌, ◌≤◌, ◌<◌, ◌+◌, ◌*◌, ◌^◌, ◌∙◌, ◌++◌, ℕ, zero, suc, Bool, true, false, List, [], ◌∷◌, length, map, slice_get, get_or, nat_eq, arith, refl, ap, sym, subst, append_assoc, inl, if◌then◌else◌}
 use Rattle.std.specs.Prelude.{Some, is_some}
 use Rattle.std.specs.Fn.{iterate}
-use Rattle.liq_base.specs.Counts.{counted}
+use Rattle.liq_base.specs.Counts.{one_more_append}
 use Rattle.std.specs.List.{AllZip}
 use Rattle.std.specs.Option.{option_map_or}
 use Rattle.std.proofs.lemmas.Bool.{eq-eqb, false_from_ne_true, eqb-true}
@@ -195,7 +195,7 @@ module _ {S : Type 0} (told : S → SinkTold) (ticks : ℕ) (old new : ClockEngi
       let part = run.part rest both.0 output.node both.1 in
       let got = run.pieces.each j before after was is in (
         got.3.name_kept,
-        (λ pieces are some. let now = some_still got.0 pieces some in (now.0, got.3.appends_are ∙ ap (iterate counted got.0) are ∙ now.1, now.2)),
+        (λ pieces are some. let now = some_still got.0 pieces some in (now.0, got.3.appends_are ∙ ap (iterate one_more_append got.0) are ∙ now.1, now.2)),
         (
           part.0,
           subst (λ w. IsPrefix (ticks_bytes (worlds rest) w output.node least) part.0) both.2 part.1,
@@ -308,7 +308,7 @@ module _ {O : Type 0} (told : O → SinkTold) (shelf : ShelfTold) (setting : Set
           };
           measured = λ closings here.
               let measured = was.measured closings here in
-              record { size_is = same.sized ∙ measured.size_is; pieces_are = did.0.appends_are ∙ ap (iterate counted ticks) measured.pieces_are ∙ count_many ticks 1 (omega (arith, few)) };
+              record { size_is = same.sized ∙ measured.size_is; pieces_are = did.0.appends_are ∙ ap (iterate one_more_append ticks) measured.pieces_are ∙ count_many ticks 1 (omega (arith, few)) };
           owes = same.owes ∙ was.owes;
         }));
   }

@@ -14,7 +14,7 @@ use Rattle.buffer_ends.specs.Local.{Answers}
 use Rattle.buffer_sides.specs.Logs.{told}
 use Rattle.clock_threads.proofs.Meeting.{low_or_high}
 use Rattle.clock_threads.proofs.Starts.{start_zero}
-use Rattle.trace_log.specs.Texts.{IsTrace, windows_of}
+use Rattle.trace_log.specs.Texts.{IsTrace, window_count}
 use Rattle.stations.specs.Stations.{Again, InRounds, InWindows, IsLawfulIn, Way}
 use Rattle.station_render.specs.Runs.{window_of}
 use Rattle.station_render.proofs.Lists.{many_mapped, within}
@@ -78,7 +78,7 @@ few_buffers plan well =
     omega (arith, fit, most)
 
 -- so many windows there are
-windows_counted : (W N count : ℕ) → 0 < W → start W N count ≡ N → ((j : ℕ) → j < count → start W N j < N) → count ≡ windows_of N W
+windows_counted : (W N count : ℕ) → 0 < W → start W N count ≡ N → ((j : ℕ) → j < count → start W N j < N) → count ≡ window_count N W
 windows_counted W N zero some whole tight =
     let z : 0 * W ≡ 0 = grind arith in
     sym (ap (λ n. (n + (W - 1)) / W) (sym whole ∙ start_zero W N ∙ sym z) ∙ div-mul-add 0 W (W - 1) (omega (arith, some)))

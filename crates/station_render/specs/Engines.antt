@@ -45,4 +45,5 @@ pub record ArePast {S : Type 0} (setting world : Setting) (ticks : ℕ) (engines
 
 -- the engines keep their marks exactly where these are wanted
 abbrev pub AreKeeping : {S : Type 0} → (wanted : Bool) → List (ClockEngine S) → Type 0
-AreKeeping wanted engines = (m : ℕ) (engine : ClockEngine _) → slice_get engines m ≡ Some engine → engine.parts.cues.keeping ≡ wanted
+AreKeeping wanted engines = (m : ℕ) (engine : ClockEngine _) → slice_get engines m ≡ Some engine
+    → engine.parts.cues.keeping ≡ wanted

@@ -24,9 +24,12 @@ pub record AreTold (least : ℕ) (sink : SinkTold) : Type 0 where
   pub pieces_are : sink.appends ≡ Some pieces
   pub enough : least ≤ pieces
 
--- where a shelf tells of its closings, a sink tells what that of its own will list, and that is of this name and of a piece at least
-abbrev pub WillClose : {O : Type 0} → (told : O → SinkTold) → (closed : Option (List Closing)) → List ℕ → OutputSink O → Type 0
-WillClose told closed name output = ForSome closed (λ before. ((told output.sink).name ≡ Some name) × AreTold 1 (told output.sink))
+-- where a shelf tells of its closings, a sink tells what that of its own will list, and that is of this name and of a
+-- piece at least
+abbrev pub WillClose : {O : Type 0} → (told : O → SinkTold) → (closed : Option (List Closing)) → List ℕ → OutputSink O
+    → Type 0
+WillClose told closed name output = ForSome closed (λ before. ((told output.sink).name ≡ Some name)
+    × AreTold 1 (told output.sink))
 
 -- once a sink got the byte that it owes, its closing lists this
 pub record EndsAs (closing : Closing) (last : SinkTold) : Type 0 where
@@ -38,5 +41,7 @@ pub record EndsAs (closing : Closing) (last : SinkTold) : Type 0 where
   pub pieces_are : last.appends ≡ Some closing.pieces
 
 -- so it will be of an output
-abbrev pub WillList : {O : Type 0} → (told : O → SinkTold) → (closed : Option (List Closing)) → Closing → OutputSink O → Type 0
-WillList told closed closing output = ForSome closed (λ before. (last : SinkTold) → HasEnded output.odd (told output.sink) last → EndsAs closing last)
+abbrev pub WillList : {O : Type 0} → (told : O → SinkTold) → (closed : Option (List Closing)) → Closing → OutputSink O
+    → Type 0
+WillList told closed closing output = ForSome closed (λ before. (last : SinkTold)
+    → HasEnded output.odd (told output.sink) last → EndsAs closing last)

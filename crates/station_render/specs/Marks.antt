@@ -26,7 +26,8 @@ cue_file library name cues = record { name = cue_name name; bytes = cue_text lib
 abbrev pub cue_files_with : Sounds → List SinkPlan → List (List Cue) → List OutputFile
 cue_files_with library [] marks = []
 cue_files_with library (Output name node fallible wide ∷ sinks) [] = []
-cue_files_with library (Output name node fallible wide ∷ sinks) (cues ∷ marks) = cue_file library name cues ∷ cue_files_with library sinks marks
+cue_files_with library (Output name node fallible wide ∷ sinks) (cues ∷ marks) = cue_file library name cues
+    ∷ cue_files_with library sinks marks
 cue_files_with library (Feed buffer node ∷ sinks) marks = cue_files_with library sinks marks
 
 -- the same for a job, where they are wanted

@@ -1,6 +1,6 @@
 -- The sinks of outputs, each of which may owe a last zero byte. Of a sink within, what it tells is said.
 use Rattle.std.specs.Prelude.{◌≡◌, ◌⊎◌, ℕ, zero, suc, ◌+◌, ◌-◌, Bool, true, false, Option, Some, None, List, [], ◌∷◌, ◌++◌, length, slice_get, if◌then◌else◌}
-use Rattle.liq_base.specs.Pieces.{HasRoom, SinkTold, Took}
+use Rattle.liq_base.specs.Pieces.{HasRoom, SinkTold, TookPiece}
 use Rattle.stations.specs.Outputs.{OutputPart}
 use Rattle.station_render.specs.Sinks.{HoldsFront}
 use Rattle.station_render.specs.declared.output_sink.OutputSink.{OutputSink}
@@ -49,7 +49,13 @@ known odd sink = owed_by odd sink.room ∷ told_number (size_of sink) ∷ told_n
 
 -- what it tells while ticks are written: a byte that it owes is kept back, and its name is what it is known by
 abbrev pub told_by : (odd : Bool) → SinkTold → SinkTold
-told_by odd sink = record { held = sink.held; name = Some (known odd sink); room = but_one_if odd sink.room; appends = sink.appends; faults = sink.faults }
+told_by odd sink = record {
+  held = sink.held;
+  name = Some (known odd sink);
+  room = but_one_if odd sink.room;
+  appends = sink.appends;
+  faults = sink.faults;
+}
 
 abbrev pub output_told : {O : Type 0} → (told : O → SinkTold) → OutputSink O → SinkTold
 output_told told output = told_by output.odd (told output.sink)
@@ -62,11 +68,12 @@ last_byte true = 0 ∷ []
 -- a sink got the byte that it owed, in one piece, or it owed none and is as it was
 abbrev pub HasEnded : (odd : Bool) → (old new : SinkTold) → Type 0
 HasEnded false old new = new ≡ old
-HasEnded true old new = Took (0 ∷ []) old new
+HasEnded true old new = TookPiece (0 ∷ []) old new
 
 -- each sink that owes a byte has room for it
 abbrev pub HaveRooms : {O : Type 0} → (told : O → SinkTold) → List (List (OutputSink O)) → Type 0
-HaveRooms told groups = (m k : ℕ) (group : List (OutputSink _)) (output : OutputSink _) → slice_get groups m ≡ Some group → slice_get group k ≡ Some output → output.odd ≡ true
+HaveRooms told groups = (m k : ℕ) (group : List (OutputSink _)) (output : OutputSink _)
+    → slice_get groups m ≡ Some group → slice_get group k ≡ Some output → output.odd ≡ true
     → HasRoom (told output.sink).room 1
 
 -- a sink holds all bytes of an output but for the last ones, which are the byte that it owes
@@ -81,7 +88,7 @@ inner told output = told output.sink
 
 -- a sink is as it was, or took these bytes in one piece
 abbrev pub MayHaveTaken : (old new : SinkTold) → Type 0
-MayHaveTaken old new = (new ≡ old) ⊎ ((taken : List ℕ) × Took taken old new)
+MayHaveTaken old new = (new ≡ old) ⊎ ((taken : List ℕ) × TookPiece taken old new)
 
 -- a sink holds so much of an output
 abbrev pub HoldsSoMuch : {O : Type 0} → (told : O → SinkTold) → OutputPart → OutputSink O → Type 0

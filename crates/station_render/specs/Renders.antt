@@ -66,7 +66,13 @@ front_file setting ticks made tried output = record {
 
 -- a plan with its files, its clocks and its start second, before its buffers have answered
 abbrev pub setting_for : Plan → Sounds → ClockMap → (start : ℕ) → Setting
-setting_for plan library clocks start = record { plan = plan; library = library; clocks = clocks.of; start = start; answers = λ buffer. [] }
+setting_for plan library clocks start = record {
+  plan = plan;
+  library = library;
+  clocks = clocks.of;
+  start = start;
+  answers = λ buffer. [];
+}
 
 -- what an output owes, where so many bytes stand behind its header: as `OutputSinks` counts it
 abbrev pub debt_of : (size : ℕ) → ℕ
@@ -85,51 +91,68 @@ closing_of setting ticks output = record {
 abbrev pub whole_size : (body : ℕ) → ℕ
 whole_size body = 44 + body + body % 2
 
--- A sink was created for an output, by a shelf that told this: it holds the header, its one piece, and it was created for just the bytes of
--- the file; so it has room for the samples, and for the byte that it owes.
-pub record IsReady {O : Type 0} (told : O → SinkTold) (shelf : ShelfTold) (setting : Setting) (ticks : ℕ) (output : Written) (sink : OutputSink O) : Type 0 where
-  pub holds : TellsSinks shelf → HoldsWhole (record { name = output.name; bytes = header_for setting output.wide ticks output.node }) (told sink.sink)
-  pub measured : ForSome shelf.closed (λ before. IsMeasured (whole_size (body_size setting output.wide ticks output.node)) 1 (told sink.sink))
-  pub room : HasRoom (but_one_if sink.odd (told sink.sink).room) (body_size setting output.wide ticks output.node)
-  pub owes : owed_by sink.odd (told sink.sink).room ≡ debt_of (body_size setting output.wide ticks output.node)
+-- A sink was created for an output, by a shelf that told this: it holds the header, its one piece, and it was created
+-- for just the bytes of the file; so it has room for the samples, and for the byte that it owes.
+pub record IsReady {O : Type 0} (told : O
+    → SinkTold) (shelf : ShelfTold) (setting : Setting) (ticks : ℕ) (output : Written) (sink : OutputSink O) : Type 0
+  where
+    pub holds : TellsSinks shelf → HoldsWhole (record {
+      name = output.name;
+      bytes = header_for setting output.wide ticks output.node;
+    }) (told sink.sink)
+    pub measured : ForSome shelf.closed
+        (λ before. IsMeasured (whole_size (body_size setting output.wide ticks output.node)) 1 (told sink.sink))
+    pub room : HasRoom (but_one_if sink.odd (told sink.sink).room) (body_size setting output.wide ticks output.node)
+    pub owes : owed_by sink.odd (told sink.sink).room ≡ debt_of (body_size setting output.wide ticks output.node)
 
 -- it holds the bytes of an output but for the byte that it owes, and got a piece for each tick behind the header
-pub record IsWhole {O : Type 0} (told : O → SinkTold) (shelf : ShelfTold) (setting : Setting) (ticks : ℕ) (output : Written) (sink : OutputSink O) : Type 0 where
-  pub holds : TellsSinks shelf → HoldsWhole (body_of setting ticks output) (told sink.sink)
-  pub measured : ForSome shelf.closed (λ before. IsMeasured (whole_size (body_size setting output.wide ticks output.node)) (1 + ticks) (told sink.sink))
-  pub owes : owed_by sink.odd (told sink.sink).room ≡ debt_of (body_size setting output.wide ticks output.node)
+pub record IsWhole {O : Type 0} (told : O
+    → SinkTold) (shelf : ShelfTold) (setting : Setting) (ticks : ℕ) (output : Written) (sink : OutputSink O) : Type 0
+  where
+    pub holds : TellsSinks shelf → HoldsWhole (body_of setting ticks output) (told sink.sink)
+    pub measured : ForSome shelf.closed
+        (λ before. IsMeasured (whole_size (body_size setting output.wide ticks output.node)) (1 + ticks)
+        (told sink.sink))
+    pub owes : owed_by sink.odd (told sink.sink).room ≡ debt_of (body_size setting output.wide ticks output.node)
 
 -- or those of the ticks that its clock made, and a front of those of the ones that it tried
-pub record IsPart {O : Type 0} (told : O → SinkTold) (shelf : ShelfTold) (setting : Setting) (ticks : ℕ) (made tried : ℕ → ℕ) (output : Written) (sink : OutputSink O) : Type 0 where
+pub record IsPart {O : Type 0} (told : O → SinkTold) (shelf : ShelfTold) (setting : Setting) (ticks : ℕ) (made tried : ℕ
+    → ℕ) (output : Written) (sink : OutputSink O) : Type 0 where
   pub holds : TellsSinks shelf → HoldsFront (front_file setting ticks made tried output) (told sink.sink)
   pub measured : ForSome shelf.closed (λ before. AreTold 1 (told sink.sink))
 
--- the first outputs of a plan were created, and each sink holds its bytes of the ticks that its clock made in a run, and a front of those of
--- the ones that it tried, whatever answers follow: `answers` are then all those of the run; or it failed. The shelf tells of these sinks
--- that it made them
-pub record AreBegun {O : Type 0} (told : O → SinkTold) (shelf : ShelfTold) (setting : Setting) (answers : (ℕ → List Answer) → ℕ → List Answer) (ticks : ℕ) (made tried : ℕ → ℕ)
+-- the first outputs of a plan were created, and each sink holds its bytes of the ticks that its clock made in a run,
+-- and a front of those of the ones that it tried, whatever answers follow: `answers` are then all those of the run; or
+-- it failed. The shelf tells of these sinks that it made them
+pub record AreBegun {O : Type 0} (told : O → SinkTold) (shelf : ShelfTold) (setting : Setting) (answers : (ℕ
+    → List Answer) → ℕ → List Answer) (ticks : ℕ) (made tried : ℕ → ℕ)
     (order : List ℕ) (groups : List (List (OutputSink O))) (created_now : Option (List (List ℕ))) : Type 0 where
   pub created : List Written
   pub others : List Written
   pub all : written setting.plan.sinks ≡ created ++ others
   pub made_are : created_now ≡ after_making (map (λ output. output.name) created) shelf.created
-  pub parts : (rest : ℕ → List Answer) → AreCreated (IsPart told shelf (answered setting (answers rest)) ticks made tried) created order groups
+  pub parts : (rest : ℕ → List Answer)
+      → AreCreated (IsPart told shelf (answered setting (answers rest)) ticks made tried) created order groups
 
--- a sink of this clock was created, and holds these bytes, its one piece; it has room for so many more, and for the byte that it owes then
-pub record IsOpened {O : Type 0} (told : O → SinkTold) (shelf : ShelfTold) (name bytes : List ℕ) (body : ℕ) (sink : OutputSink O) : Type 0 where
+-- a sink of this clock was created, and holds these bytes, its one piece; it has room for so many more, and for the
+-- byte that it owes then
+pub record IsOpened {O : Type 0} (told : O
+    → SinkTold) (shelf : ShelfTold) (name bytes : List ℕ) (body : ℕ) (sink : OutputSink O) : Type 0 where
   pub holds : TellsSinks shelf → HoldsWhole (record { name = name; bytes = bytes }) (told sink.sink)
   pub measured : ForSome shelf.closed (λ before. IsMeasured (whole_size body) 1 (told sink.sink))
   pub room : HasRoom (but_one_if sink.odd (told sink.sink).room) body
   pub owes : owed_by sink.odd (told sink.sink).room ≡ debt_of body
 
 -- or a first part of these bytes alone, and it failed
-pub record IsCutShort {O : Type 0} (told : O → SinkTold) (shelf : ShelfTold) (name bytes : List ℕ) (sink : OutputSink O) : Type 0 where
+pub record IsCutShort {O : Type 0} (told : O
+    → SinkTold) (shelf : ShelfTold) (name bytes : List ℕ) (sink : OutputSink O) : Type 0 where
   pub holds : TellsSinks shelf → HoldsPart (record { name = name; bytes = bytes }) (told sink.sink)
   pub measured : ForSome shelf.closed (λ before. AreTold 1 (told sink.sink))
   pub failed : 0 < (told sink.sink).faults
 
 -- such a sink of this clock and name was created
-pub record WasCreated {O : Type 0} (Is : OutputSink O → Type 0) (clock : ℕ) (name : List ℕ) (before after : Option (List (List ℕ))) (order_old order_new : List ℕ)
+pub record WasCreated {O : Type 0} (Is : OutputSink O
+    → Type 0) (clock : ℕ) (name : List ℕ) (before after : Option (List (List ℕ))) (order_old order_new : List ℕ)
     (old new : List (List (OutputSink O))) : Type 0 where
   pub sink : OutputSink O
   pub order_is : order_new ≡ order_old ++ clock ∷ []
@@ -138,12 +161,14 @@ pub record WasCreated {O : Type 0} (Is : OutputSink O → Type 0) (clock : ℕ) 
   pub is : Is sink
 
 -- or none was
-pub record NoneCreated {O : Type 0} (before after : Option (List (List ℕ))) (order_old order_new : List ℕ) (old new : List (List (OutputSink O))) : Type 0 where
+pub record NoneCreated {O : Type 0} (before after : Option (List (List ℕ))) (order_old order_new : List ℕ)
+    (old new : List (List (OutputSink O))) : Type 0 where
   pub order_is : order_new ≡ order_old
   pub same : new ≡ old
   pub made_none : after ≡ before
 
 -- the node of each output lies in a main clock that runs
 abbrev pub AreMain : Plan → ClockMap → Type 0
-AreMain plan clocks = (k : ℕ) (name : List ℕ) (node : ℕ) (fallible wide : Bool) → slice_get plan.sinks k ≡ Some (Output name node fallible wide)
+AreMain plan clocks = (k : ℕ) (name : List ℕ) (node : ℕ) (fallible wide : Bool)
+    → slice_get plan.sinks k ≡ Some (Output name node fallible wide)
     → (m : ℕ) × (m < clocks.running) × (slice_get clocks.of node ≡ Some (Main m))

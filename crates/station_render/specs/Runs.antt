@@ -70,8 +70,8 @@ HasRecord setting clocks ticks InRounds = ⊤
 HasRecord setting clocks ticks (InWindows window) = ⊤
 HasRecord setting clocks ticks (Again trace) = IsAccepted setting clocks ticks trace
 
--- this is told of a run: the gaps of each output, in sink order; of each buffer its counts and which answers each window had; and the
--- marks of each output, where cue files are wanted
+-- this is told of a run: the gaps of each output, in sink order; of each buffer its counts and which answers each
+-- window had; and the marks of each output, where cue files are wanted
 pub record IsTold (station : Station) (run : Run) (rendered : Rendered) : Type 0 where
   pub gaps_are : rendered.gaps.items ≡ gaps_in_order station run
   pub counts_are : rendered.counts.items ≡ counts_of station run
@@ -84,7 +84,8 @@ pub record WroteOutputs (station : Station) (old new : ShelfTold) (rendered : Re
   pub lawful : IsLawful station run
   pub told : IsTold station run rendered
   pub outputs_written : ForSome old.files (λ files. new.files ≡ Some (with_outputs files (output_files station run)))
-  pub listed : HaveListed (closings_in (setting_of_run station run) station.ticks station.plan.sinks) old.closed new.closed
+  pub listed : HaveListed (closings_in (setting_of_run station run) station.ticks station.plan.sinks) old.closed
+      new.closed
 
 -- a run of the station wrote all its files, which the shelf made and closed, and no other, and this is told of it
 pub record IsRendered (station : Station) (old new : ShelfTold) (rendered : Rendered) : Type 0 where
@@ -95,21 +96,28 @@ pub record IsRendered (station : Station) (old new : ShelfTold) (rendered : Rend
   pub made : new.created ≡ after_making (names_of station) old.created
   pub closed : HaveListed (closings_of station run) old.closed new.closed
 
--- a run of the station wrote all bytes of its outputs into their sinks, but for the ones that they owe, and this is told of it
-pub record RanWhole {O : Type 0} (told : O → SinkTold) (shelf : ShelfTold) (station : Station) (order : List ℕ) (groups : List (List (OutputSink O))) (rendered : Rendered) : Type 0 where
+-- a run of the station wrote all bytes of its outputs into their sinks, but for the ones that they owe, and this is
+-- told of it
+pub record RanWhole {O : Type 0} (told : O
+    → SinkTold) (shelf : ShelfTold) (station : Station) (order : List ℕ) (groups : List (List (OutputSink O)))
+    (rendered : Rendered) : Type 0 where
   pub run : Run
   pub lawful : IsLawful station run
   pub tells : IsTold station run rendered
-  pub whole : AreCreated (IsWhole told shelf (setting_of_run station run) station.ticks) (written station.plan.sinks) order groups
+  pub whole : AreCreated (IsWhole told shelf (setting_of_run station run) station.ticks) (written station.plan.sinks)
+      order groups
 
 -- a run of the station came so far, and each sink holds as much of its bytes
-pub record RanPart {O : Type 0} (told : O → SinkTold) (shelf : ShelfTold) (station : Station) (order : List ℕ) (groups : List (List (OutputSink O)))
+pub record RanPart {O : Type 0} (told : O
+    → SinkTold) (shelf : ShelfTold) (station : Station) (order : List ℕ) (groups : List (List (OutputSink O)))
     (created_now : Option (List (List ℕ))) : Type 0 where
   pub run : Run
   pub begun : IsBegun station run
-  pub parts : AreBegun told shelf (bare station) (answers_with station.way run) station.ticks begun.made begun.tried order groups created_now
+  pub parts : AreBegun told shelf (bare station) (answers_with station.way run) station.ticks begun.made begun.tried
+      order groups created_now
 
 -- the lines of these counts, of which the first is that of this buffer
 abbrev pub counted_lines : (buffer : ℕ) → List Counts → List ℕ
 counted_lines buffer [] = []
-counted_lines buffer (counts ∷ others) = answers_line buffer counts.accepted counts.full counts.got counts.empty ++ counted_lines (suc buffer) others
+counted_lines buffer (counts ∷ others) = answers_line buffer counts.accepted counts.full counts.got counts.empty
+    ++ counted_lines (suc buffer) others

@@ -1,7 +1,7 @@
 -- What a call does on a shelf, by what it tells before and after.
 use Rattle.std.specs.Prelude.{◌≡◌, ◌≤◌, List, [], ◌∷◌, ℕ, Some, IsSomeAnd, map}
 use Rattle.std.specs.Option.{ForSome}
-use Rattle.liq_base.specs.Pieces.{SinkTold, Took}
+use Rattle.liq_base.specs.Pieces.{SinkTold, TookPiece}
 use Rattle.liq_base.specs.Shelves.{ShelfTold}
 use Rattle.stations.specs.Creations.{CreatedFront, HaveClosed, HaveListed, after_making, closing_at_once}
 use Rattle.stations.specs.Outputs.{HoldsUpto, OutputFile, with_outputs}
@@ -9,7 +9,7 @@ use Rattle.stations.specs.Outputs.{HoldsUpto, OutputFile, with_outputs}
 -- a sink took these bytes in one piece, or, where there are none, is as it was
 abbrev pub TookAtOnce : List ℕ → (old new : SinkTold) → Type 0
 TookAtOnce [] old new = new ≡ old
-TookAtOnce (byte ∷ bytes) old new = Took (byte ∷ bytes) old new
+TookAtOnce (byte ∷ bytes) old new = TookPiece (byte ∷ bytes) old new
 
 -- one file alone
 abbrev pub one_file : (name bytes : List ℕ) → List OutputFile

@@ -25,7 +25,8 @@ abbrev pub AreBelow : (clocks : ℕ) → List ℕ → Type 0
 AreBelow clocks order = (k clock : ℕ) → slice_get order k ≡ Some clock → clock < clocks
 
 -- for these items, one for each of these clocks, there are sinks: to those of a clock, in order, its sinks stand so
-pub record AreCreated {Y S : Type 0} (So : Y → S → Type 0) (ys : List Y) (order : List ℕ) (groups : List (List S)) : Type 0 where
+pub record AreCreated {Y S : Type 0} (So : Y → S
+    → Type 0) (ys : List Y) (order : List ℕ) (groups : List (List S)) : Type 0 where
   pub size : length ys ≡ length order
   pub below : AreBelow (length groups) order
   pub each : (m : ℕ) (group : List S) → slice_get groups m ≡ Some group → AllZip So (of_clock m order ys) group

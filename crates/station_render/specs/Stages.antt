@@ -1,4 +1,5 @@
--- What stands between the three parts of a rendering: the outputs are opened, the clocks make their ticks, the outputs are closed.
+-- What stands between the three parts of a rendering: the outputs are opened, the clocks make their ticks, the outputs
+-- are closed.
 use Rattle.std.specs.Prelude.{◌≡◌, ◌≤◌, ℕ, List, length}
 use Rattle.liq_base.specs.Pieces.{SinkTold}
 use Rattle.liq_base.specs.Shelves.{ShelfTold}
@@ -15,19 +16,22 @@ use Rattle.station_render.specs.Runs.{setting_by}
 use Rattle.station_render.specs.declared.job.Job.{Job}
 use Rattle.station_render.specs.declared.output_sink.OutputSink.{OutputSink}
 
--- the engines of a job may begin: there is one of each clock, before its first tick, and its sinks have room for all that it writes
+-- the engines of a job may begin: there is one of each clock, before its first tick, and its sinks have room for all
+-- that it writes
 pub record AreReady {S : Type 0} (told : S → SinkTold) (job : Job) (engines : List (ClockEngine S)) : Type 0 where
   pub all : length engines ≡ job.ready.now.clocks.running
   pub at : AreAt (setting_by job) engines
   pub over : AreOver told job.plan.now job.ticks (setting_by job) engines
 
 -- They made their ticks in this way: all of them, where the run is done, and else as many as they came to.
-pub record HaveTicked {S : Type 0} (told : S → SinkTold) (job : Job) (way : Way) (old new : List (ClockEngine S)) (run : RunEnd) : Type 0 where
-  pub all : run.end ≡ Done → RanAll told (setting_by job) job.ready.now.clocks.running job.ticks way old new run.counts.items run.logs.items
+pub record HaveTicked {S : Type 0} (told : S
+    → SinkTold) (job : Job) (way : Way) (old new : List (ClockEngine S)) (run : RunEnd) : Type 0 where
+  pub all : run.end ≡ Done
+      → RanAll told (setting_by job) job.ready.now.clocks.running job.ticks way old new run.counts.items run.logs.items
   pub some : RanSome told (setting_by job) job.ready.now.clocks.running job.ticks way old new run.end
 
--- The outputs of a job were opened by a shelf that told this: the engines hold the sinks, each of which got its header as its one piece, and
--- may begin; they keep their marks exactly where these are wanted.
+-- The outputs of a job were opened by a shelf that told this: the engines hold the sinks, each of which got its header
+-- as its one piece, and may begin; they keep their marks exactly where these are wanted.
 pub record HaveOpened {O : Type 0} (told : O → SinkTold) (shelf : ShelfTold) (job : Job)
     (order : List ℕ) (groups : List (List (OutputSink O))) (engines : List (ClockEngine (OutputSink O))) : Type 0 where
   pub opened : AreOpened told shelf (setting_by job) job.ready.now.clocks job.ticks order engines groups
@@ -44,7 +48,8 @@ pub record OnlyOpened (job : Job) (old new : ShelfTold) : Type 0 where
 
 -- they were opened by a shelf that told this, and then the engines made their ticks in this way
 pub record MayClose {O : Type 0} (told : O → SinkTold) (shelf : ShelfTold) (job : Job) (way : Way)
-    (order : List ℕ) (groups : List (List (OutputSink O))) (engines : List (ClockEngine (OutputSink O))) (run : RunEnd) : Type 0 where
+    (order : List ℕ) (groups : List (List (OutputSink O))) (engines : List (ClockEngine (OutputSink O)))
+    (run : RunEnd) : Type 0 where
   pub fresh : List (ClockEngine (OutputSink O))
   pub opened : HaveOpened told shelf job order groups fresh
   pub ticked : HaveTicked (output_told told) job way fresh engines run

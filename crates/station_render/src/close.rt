@@ -27,16 +27,22 @@ pub(crate) fn close_all<S: Shelf>(
 ) -> Result<Rendered, RenderFault>
     requires sizes { HaveSizes order.now (lists_of groups.items) }
     requires rooms { OnOk wrote (HaveRooms S.Out.told (lists_of groups.items)) }
-    ensures done { (station : Station) (first : ShelfTold) → OnlyCreates first (S.told shelf.old) → station.ticks + 2 < 2 ^ 64
-        → IfOk wrote (RanWhole S.Out.told first station order.now (lists_of groups.items)) → IfOk result (WroteOutputs station first (S.told shelf.new)) }
+    ensures done { (station : Station) (first : ShelfTold) → OnlyCreates first (S.told shelf.old)
+        → station.ticks + 2 < 2 ^ 64
+        → IfOk wrote (RanWhole S.Out.told first station order.now (lists_of groups.items))
+        → IfOk result (WroteOutputs station first (S.told shelf.new)) }
     ensures part { IfErr result (λ fault. (station : Station) (first : ShelfTold) → OnlyCreates first (S.told shelf.old)
-        → (ran : RanPart S.Out.told first station order.now (lists_of groups.items) (S.told shelf.old).created) → ran.parts.others ≡ []
+        → (ran : RanPart S.Out.told first station order.now (lists_of groups.items) (S.told shelf.old).created)
+        → ran.parts.others ≡ []
         → IfOk wrote (RanWhole S.Out.told first station order.now (lists_of groups.items))
         → ForSome first.files (λ files. WrotePart station (is_device fault) files first (S.told shelf.new))) }
-    ensures cause { IsErrOf result RenderFault.Write → IsErrOf wrote RenderFault.Write ⊎ Rose (S.told shelf.old).writes (S.told shelf.new).writes }
-    ensures failed { HasFailed (inner S.Out.told) (lists_of groups.items) → Rose (S.told shelf.old).writes (S.told shelf.new).writes }
+    ensures cause { IsErrOf result RenderFault.Write
+        → IsErrOf wrote RenderFault.Write ⊎ Rose (S.told shelf.old).writes (S.told shelf.new).writes }
+    ensures failed { HasFailed (inner S.Out.told) (lists_of groups.items)
+        → Rose (S.told shelf.old).writes (S.told shelf.new).writes }
     ensures well { OnOk result (is_ok wrote ≡ true) }
-    ensures closed { (names : List (List ℕ)) → AreCreated (WillClose S.Out.told (S.told shelf.old).closed) names order.now (lists_of groups.items)
+    ensures closed { (names : List (List ℕ))
+        → AreCreated (WillClose S.Out.told (S.told shelf.old).closed) names order.now (lists_of groups.items)
         → HaveClosed 1 names (S.told shelf.old).closed (S.told shelf.new).closed }
     ensures shelf { OnlyCloses (S.told shelf.old) (S.told shelf.new) }
 {
@@ -57,10 +63,13 @@ pub(crate) fn close_broken<S: Shelf>(
     ensures same { result ≡ fault }
     ensures part { (station : Station) (first : ShelfTold) → OnlyCreates first (S.told shelf.old)
         → RanPart S.Out.told first station order.now (lists_of groups.items) (S.told shelf.old).created
-        → (is_device fault ≡ true → Rose first.writes (S.told shelf.old).writes ⊎ HasFailed (inner S.Out.told) (lists_of groups.items))
+        → (is_device fault ≡ true → Rose first.writes (S.told shelf.old).writes
+        ⊎ HasFailed (inner S.Out.told) (lists_of groups.items))
         → ForSome first.files (λ files. WrotePart station (is_device fault) files first (S.told shelf.new)) }
-    ensures failed { HasFailed (inner S.Out.told) (lists_of groups.items) → Rose (S.told shelf.old).writes (S.told shelf.new).writes }
-    ensures closed { (names : List (List ℕ)) → AreCreated (WillClose S.Out.told (S.told shelf.old).closed) names order.now (lists_of groups.items)
+    ensures failed { HasFailed (inner S.Out.told) (lists_of groups.items)
+        → Rose (S.told shelf.old).writes (S.told shelf.new).writes }
+    ensures closed { (names : List (List ℕ))
+        → AreCreated (WillClose S.Out.told (S.told shelf.old).closed) names order.now (lists_of groups.items)
         → HaveClosed 1 names (S.told shelf.old).closed (S.told shelf.new).closed }
     ensures shelf { OnlyCloses (S.told shelf.old) (S.told shelf.new) }
 {
@@ -68,8 +77,8 @@ pub(crate) fn close_broken<S: Shelf>(
     fault
 }
 
-// Closes the sinks in sink order, also those behind one whose closing failed. As long as all went well, each gets the byte
-// that it owes before.
+// Closes the sinks in sink order, also those behind one whose closing failed. As long as all went well, each gets the
+// byte that it owes before.
 fn close_each<S: Shelf>(
     shelf: &mut S,
     order: &[u32],
@@ -79,18 +88,24 @@ fn close_each<S: Shelf>(
     requires sizes { HaveSizes order.now (lists_of groups.items) }
     requires rooms { well ≡ true → HaveRooms S.Out.told (lists_of groups.items) }
     ensures whole { OnOk result (well ≡ true → ForSome (S.told shelf.old).files (λ files. (outputs : List OutputPart)
-        → AreCreated (HoldsBody S.Out.told) outputs order.now (lists_of groups.items) → (S.told shelf.new).files ≡ Some (with_outputs files (map whole_of outputs)))) }
+        → AreCreated (HoldsBody S.Out.told) outputs order.now (lists_of groups.items)
+        → (S.told shelf.new).files ≡ Some (with_outputs files (map whole_of outputs)))) }
     ensures ends { OnErr result (well ≡ true → ForSome (S.told shelf.old).files (λ files. (outputs : List OutputPart)
         → AreCreated (HoldsBody S.Out.told) outputs order.now (lists_of groups.items)
-        → IsSomeAnd (S.told shelf.new).files (λ now. HoldsEnds (S.told shelf.old).writes files outputs now (S.told shelf.new).writes))) }
+        → IsSomeAnd (S.told shelf.new).files
+        (λ now. HoldsEnds (S.told shelf.old).writes files outputs now (S.told shelf.new).writes))) }
     ensures part { well ≡ false → ForSome (S.told shelf.old).files (λ files. (outputs : List OutputPart)
         → AreCreated (HoldsSoMuch S.Out.told) outputs order.now (lists_of groups.items)
-        → IsSomeAnd (S.told shelf.new).files (λ now. HoldsParts (S.told shelf.old).writes files outputs now (S.told shelf.new).writes)) }
+        → IsSomeAnd (S.told shelf.new).files
+        (λ now. HoldsParts (S.told shelf.old).writes files outputs now (S.told shelf.new).writes)) }
     ensures cause { OnErr result (Rose (S.told shelf.old).writes (S.told shelf.new).writes) }
-    ensures failed { HasFailed (inner S.Out.told) (lists_of groups.items) → Rose (S.told shelf.old).writes (S.told shelf.new).writes }
-    ensures closed { (names : List (List ℕ)) → AreCreated (WillClose S.Out.told (S.told shelf.old).closed) names order.now (lists_of groups.items)
+    ensures failed { HasFailed (inner S.Out.told) (lists_of groups.items)
+        → Rose (S.told shelf.old).writes (S.told shelf.new).writes }
+    ensures closed { (names : List (List ℕ))
+        → AreCreated (WillClose S.Out.told (S.told shelf.old).closed) names order.now (lists_of groups.items)
         → HaveClosed 1 names (S.told shelf.old).closed (S.told shelf.new).closed }
-    ensures listed { OnOk result (well ≡ true → (closings : List Closing) → AreCreated (WillList S.Out.told (S.told shelf.old).closed) closings order.now (lists_of groups.items)
+    ensures listed { OnOk result (well ≡ true → (closings : List Closing)
+        → AreCreated (WillList S.Out.told (S.told shelf.old).closed) closings order.now (lists_of groups.items)
         → HaveListed closings (S.told shelf.old).closed (S.told shelf.new).closed) }
     ensures shelf { OnlyCloses (S.told shelf.old) (S.told shelf.new) }
 {

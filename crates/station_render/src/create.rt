@@ -33,15 +33,22 @@ pub(crate) fn create_each<S: Shelf>(
     requires fit { (library : Sounds) × IsFit plan.now library clocks.now ticks }
     requires none { order.old.items ≡ [] }
     requires empty { AreEmpty clocks.now.running (lists_of groups.old.items) }
-    ensures ready { OnOk result ((library : Sounds) → (start : ℕ) → AreCreated (IsReady S.Out.told (S.told shelf.old) (setting_for plan.now library clocks.now start) ticks)
+    ensures ready { OnOk result ((library : Sounds) → (start : ℕ)
+        → AreCreated (IsReady S.Out.told (S.told shelf.old) (setting_for plan.now library clocks.now start) ticks)
         (written plan.now.sinks) order.new.items (lists_of groups.new.items)) }
-    ensures order { OnOk result ((library : Sounds) → (start : ℕ) → order.new.items ≡ order_of (setting_for plan.now library clocks.now start) (written plan.now.sinks)) }
-    ensures begun { (library : Sounds) → (start : ℕ) → (answers : (ℕ → List Answer) → ℕ → List Answer) → (made tried : ℕ → ℕ) → ((k : ℕ) → made k ≡ 0)
-        → AreBegun S.Out.told (S.told shelf.old) (setting_for plan.now library clocks.now start) answers ticks made tried order.new.items (lists_of groups.new.items)
+    ensures order { OnOk result ((library : Sounds) → (start : ℕ)
+        → order.new.items ≡ order_of (setting_for plan.now library clocks.now start) (written plan.now.sinks)) }
+    ensures begun { (library : Sounds) → (start : ℕ) → (answers : (ℕ → List Answer) → ℕ → List Answer)
+        → (made tried : ℕ → ℕ) → ((k : ℕ) → made k ≡ 0)
+        → AreBegun S.Out.told (S.told shelf.old) (setting_for plan.now library clocks.now start) answers ticks made
+        tried order.new.items (lists_of groups.new.items)
         (S.told shelf.new).created }
     ensures size { length (lists_of groups.new.items) ≡ clocks.now.running }
-    ensures cause { IsErrOf result RenderFault.Write → Rose (S.told shelf.old).writes (S.told shelf.new).writes ⊎ HasFailed (inner S.Out.told) (lists_of groups.new.items) }
-    ensures made { OnOk result ((S.told shelf.new).created ≡ after_making (names_in plan.now.sinks) (S.told shelf.old).created) }
+    ensures cause { IsErrOf result RenderFault.Write
+        → Rose (S.told shelf.old).writes (S.told shelf.new).writes
+        ⊎ HasFailed (inner S.Out.told) (lists_of groups.new.items) }
+    ensures made { OnOk result ((S.told shelf.new).created
+        ≡ after_making (names_in plan.now.sinks) (S.told shelf.old).created) }
     ensures shelf { OnlyCreates (S.told shelf.old) (S.told shelf.new) }
 {
     for sink in plan.sinks.as_slice() {
@@ -60,8 +67,8 @@ pub(crate) fn create_each<S: Shelf>(
     Ok(())
 }
 
-// Creates an output of this name, with its header as one piece. Its room is for exactly its bytes, with a last zero byte behind an
-// odd number of them.
+// Creates an output of this name, with its header as one piece. Its room is for exactly its bytes, with a last zero
+// byte behind an odd number of them.
 fn create_one<S: Shelf>(
     shelf: &mut S,
     name: &str,
@@ -71,12 +78,20 @@ fn create_one<S: Shelf>(
 ) -> Result<(), RenderFault>
     requires below { opening.now.clock < length (lists_of groups.old.items) }
     requires short { opening.now.body ≤ 1000000000000000 }
-    ensures created { OnOk result (WasCreated (IsOpened S.Out.told (S.told shelf.old) name.now opening.now.header opening.now.body) opening.now.clock name.now
-        (S.told shelf.old).created (S.told shelf.new).created order.old.items order.new.items (lists_of groups.old.items) (lists_of groups.new.items)) }
-    ensures broken { OnErr result (NoneCreated (S.told shelf.old).created (S.told shelf.new).created order.old.items order.new.items (lists_of groups.old.items) (lists_of groups.new.items)
+    ensures created { OnOk result
+        (WasCreated (IsOpened S.Out.told (S.told shelf.old) name.now opening.now.header opening.now.body)
+        opening.now.clock name.now
+        (S.told shelf.old).created (S.told shelf.new).created order.old.items order.new.items
+        (lists_of groups.old.items) (lists_of groups.new.items)) }
+    ensures broken { OnErr result
+        (NoneCreated (S.told shelf.old).created (S.told shelf.new).created order.old.items order.new.items
+        (lists_of groups.old.items) (lists_of groups.new.items)
         ⊎ WasCreated (IsCutShort S.Out.told (S.told shelf.old) name.now opening.now.header) opening.now.clock name.now
-        (S.told shelf.old).created (S.told shelf.new).created order.old.items order.new.items (lists_of groups.old.items) (lists_of groups.new.items)) }
-    ensures cause { IsErrOf result RenderFault.Write → Rose (S.told shelf.old).writes (S.told shelf.new).writes ⊎ HasFailed (inner S.Out.told) (lists_of groups.new.items) }
+        (S.told shelf.old).created (S.told shelf.new).created order.old.items order.new.items
+        (lists_of groups.old.items) (lists_of groups.new.items)) }
+    ensures cause { IsErrOf result RenderFault.Write
+        → Rose (S.told shelf.old).writes (S.told shelf.new).writes
+        ⊎ HasFailed (inner S.Out.told) (lists_of groups.new.items) }
     ensures shelf { OnlyCreates (S.told shelf.old) (S.told shelf.new) }
 {
     order.reserve(1)?;

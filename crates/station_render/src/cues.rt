@@ -1,6 +1,6 @@
 // The cue files of a rendering.
 ghost use Rattle.std.specs.Prelude.{◌≡◌, ◌++◌, ◌∷◌, [], true, IfOk, IsErrOf, OnOk, length, map, string_bytes};
-ghost use Rattle.frame_core.specs.Library.{name_of};
+ghost use Rattle.frame_core.specs.Library.{title_name};
 ghost use Rattle.liq_base.specs.Counts.{Rose};
 ghost use Rattle.stations.specs.Cues.{cue_line, cue_name, cue_names_if, cue_names_in, cue_text, spaced};
 ghost use Rattle.station_render.specs.Shelves.{WroteFiles, WroteUpto};
@@ -15,8 +15,8 @@ use liq_base::Shelf;
 use plan_core::{Plan, SinkPlan};
 use std::alloc::{AllocError, Global};
 
-/// Leaves the cue file of each output, in sink order, where these are wanted: the instants at which its tracks begin, and
-/// their titles. `marks` has those of each output.
+/// Leaves the cue file of each output, in sink order, where these are wanted: the instants at which its tracks begin,
+/// and their titles. `marks` has those of each output.
 pub(crate) fn leave_wanted<S: Shelf>(
     alloc: Global,
     job: &Job<'_>,
@@ -24,8 +24,11 @@ pub(crate) fn leave_wanted<S: Shelf>(
     shelf: &mut S,
 ) -> Result<(), RenderFault>
     requires many { job.now.cues ≡ true → length marks.now ≡ length (written job.now.plan.now.sinks) }
-    ensures all { OnOk result (WroteFiles (S.told shelf.old) (S.told shelf.new) (cue_names_if job.now.cues job.now.plan.now.sinks) (cue_files_by job.now (cues_of marks.now))) }
-    ensures some { WroteUpto (S.told shelf.old) (S.told shelf.new) (cue_names_if job.now.cues job.now.plan.now.sinks) (cue_files_by job.now (cues_of marks.now)) }
+    ensures all { OnOk result
+        (WroteFiles (S.told shelf.old) (S.told shelf.new) (cue_names_if job.now.cues job.now.plan.now.sinks)
+        (cue_files_by job.now (cues_of marks.now))) }
+    ensures some { WroteUpto (S.told shelf.old) (S.told shelf.new) (cue_names_if job.now.cues job.now.plan.now.sinks)
+        (cue_files_by job.now (cues_of marks.now)) }
     ensures cause { IsErrOf result RenderFault.Write → Rose (S.told shelf.old).writes (S.told shelf.new).writes }
 {
     if !job.cues {
@@ -43,8 +46,11 @@ fn leave_cues<S: Shelf>(
     shelf: &mut S,
 ) -> Result<(), RenderFault>
     requires many { length marks.now ≡ length (written plan.now.sinks) }
-    ensures all { OnOk result (WroteFiles (S.told shelf.old) (S.told shelf.new) (cue_names_in plan.now.sinks) (cue_files_with library.now plan.now.sinks (cues_of marks.now))) }
-    ensures some { WroteUpto (S.told shelf.old) (S.told shelf.new) (cue_names_in plan.now.sinks) (cue_files_with library.now plan.now.sinks (cues_of marks.now)) }
+    ensures all { OnOk result
+        (WroteFiles (S.told shelf.old) (S.told shelf.new) (cue_names_in plan.now.sinks)
+        (cue_files_with library.now plan.now.sinks (cues_of marks.now))) }
+    ensures some { WroteUpto (S.told shelf.old) (S.told shelf.new) (cue_names_in plan.now.sinks)
+        (cue_files_with library.now plan.now.sinks (cues_of marks.now)) }
     ensures cause { IsErrOf result RenderFault.Write → Rose (S.told shelf.old).writes (S.told shelf.new).writes }
 {
     let mut place = 0;
@@ -66,8 +72,10 @@ fn leave_one<S: Shelf>(
     marks: &[CueMark],
     shelf: &mut S,
 ) -> Result<(), RenderFault>
-    ensures all { OnOk result (WroteFiles (S.told shelf.old) (S.told shelf.new) (cue_name name.now ∷ []) (cue_file library.now name.now (map cue_of marks.now) ∷ [])) }
-    ensures some { WroteUpto (S.told shelf.old) (S.told shelf.new) (cue_name name.now ∷ []) (cue_file library.now name.now (map cue_of marks.now) ∷ []) }
+    ensures all { OnOk result (WroteFiles (S.told shelf.old) (S.told shelf.new) (cue_name name.now
+        ∷ []) (cue_file library.now name.now (map cue_of marks.now) ∷ [])) }
+    ensures some { WroteUpto (S.told shelf.old) (S.told shelf.new) (cue_name name.now
+        ∷ []) (cue_file library.now name.now (map cue_of marks.now) ∷ []) }
     ensures cause { IsErrOf result RenderFault.Write → Rose (S.told shelf.old).writes (S.told shelf.new).writes }
 {
     let file = cue_file_name(alloc, name)?;
@@ -111,7 +119,7 @@ fn push_line(
 
 // The name that a title stands for, behind a space.
 fn push_title(text: &mut String, library: &Library, title: u32) -> Result<(), AllocError>
-    ensures { OnOk result (string_bytes text.new ≡ string_bytes text.old ++ spaced (name_of library.now title)) }
+    ensures { OnOk result (string_bytes text.new ≡ string_bytes text.old ++ spaced (title_name library.now title)) }
 {
     if title == 0 {
         return Ok(());

@@ -147,8 +147,10 @@ fn gaps_of<O: Sink>(
     requires main { AreMain plan.now clocks.now }
     requires size { length engines.now ≡ clocks.now.running }
     requires few { length plan.now.sinks < 2 ^ 32 }
-    requires stand { (setting : Setting) × (world : Setting) × (ticks : ℕ) × (setting.plan ≡ plan.now) × (setting.clocks ≡ clocks.now.of) × ArePast setting world ticks engines.now }
-    ensures { IfOk result (λ gaps. (setting world : Setting) (ticks : ℕ) → setting.plan ≡ plan.now → setting.clocks ≡ clocks.now.of → ArePast setting world ticks engines.now
+    requires stand { (setting : Setting) × (world : Setting) × (ticks : ℕ) × (setting.plan ≡ plan.now)
+        × (setting.clocks ≡ clocks.now.of) × ArePast setting world ticks engines.now }
+    ensures { IfOk result (λ gaps. (setting world : Setting) (ticks : ℕ) → setting.plan ≡ plan.now
+        → setting.clocks ≡ clocks.now.of → ArePast setting world ticks engines.now
         → gaps.items ≡ counts_in world ticks plan.now.sinks) }
 {
     let sinks = plan.sinks.as_slice();
@@ -174,8 +176,10 @@ fn marks_of<O: Sink>(
     requires size { length engines.now ≡ clocks.now.running }
     requires few { length plan.now.sinks < 2 ^ 32 }
     requires keeping { AreKeeping true engines.now }
-    requires stand { (setting : Setting) × (world : Setting) × (ticks : ℕ) × (setting.plan ≡ plan.now) × (setting.clocks ≡ clocks.now.of) × ArePast setting world ticks engines.now }
-    ensures { IfOk result (λ marks. (setting world : Setting) (ticks : ℕ) → setting.plan ≡ plan.now → setting.clocks ≡ clocks.now.of → ArePast setting world ticks engines.now
+    requires stand { (setting : Setting) × (world : Setting) × (ticks : ℕ) × (setting.plan ≡ plan.now)
+        × (setting.clocks ≡ clocks.now.of) × ArePast setting world ticks engines.now }
+    ensures { IfOk result (λ marks. (setting world : Setting) (ticks : ℕ) → setting.plan ≡ plan.now
+        → setting.clocks ≡ clocks.now.of → ArePast setting world ticks engines.now
         → cues_of marks.items ≡ marks_in world ticks plan.now.sinks) }
 {
     let sinks = plan.sinks.as_slice();
@@ -210,7 +214,8 @@ fn marks_if<O: Sink>(
     requires few { length job.now.plan.now.sinks < 2 ^ 32 }
     requires keeping { AreKeeping job.now.cues engines.now }
     requires stand { HaveEnded job.now engines.now }
-    ensures { IfOk result (λ marks. (setting world : Setting) (ticks : ℕ) → setting.plan ≡ job.now.plan.now → setting.clocks ≡ job.now.ready.now.clocks.of → ArePast setting world ticks engines.now
+    ensures { IfOk result (λ marks. (setting world : Setting) (ticks : ℕ) → setting.plan ≡ job.now.plan.now
+        → setting.clocks ≡ job.now.ready.now.clocks.of → ArePast setting world ticks engines.now
         → cues_of marks.items ≡ marks_wanted job.now.cues world ticks job.now.plan.now.sinks) }
 {
     if !job.cues {
@@ -232,9 +237,11 @@ fn tell<O: Sink>(
     requires keeping { run.end ≡ Done → AreKeeping job.now.cues engines.now }
     requires stand { run.end ≡ Done → HaveEnded job.now engines.now }
     ensures done { OnOk result (run.end ≡ Done) }
-    ensures gaps { IfOk result (λ rendered. (setting world : Setting) (ticks : ℕ) → setting.plan ≡ job.now.plan.now → setting.clocks ≡ job.now.ready.now.clocks.of → ArePast setting world ticks engines.now
+    ensures gaps { IfOk result (λ rendered. (setting world : Setting) (ticks : ℕ) → setting.plan ≡ job.now.plan.now
+        → setting.clocks ≡ job.now.ready.now.clocks.of → ArePast setting world ticks engines.now
         → rendered.gaps.items ≡ counts_in world ticks job.now.plan.now.sinks) }
-    ensures cues { IfOk result (λ rendered. (setting world : Setting) (ticks : ℕ) → setting.plan ≡ job.now.plan.now → setting.clocks ≡ job.now.ready.now.clocks.of → ArePast setting world ticks engines.now
+    ensures cues { IfOk result (λ rendered. (setting world : Setting) (ticks : ℕ) → setting.plan ≡ job.now.plan.now
+        → setting.clocks ≡ job.now.ready.now.clocks.of → ArePast setting world ticks engines.now
         → cues_of rendered.cues.items ≡ marks_wanted job.now.cues world ticks job.now.plan.now.sinks) }
     ensures counts { IfOk result (λ rendered. rendered.counts.items ≡ run.counts.items) }
     ensures logs { IfOk result (λ rendered. rendered.logs.items ≡ run.logs.items) }
@@ -274,9 +281,11 @@ pub(crate) fn take_back<O: Sink>(
     requires empty { AreEmptyBelow (length engines.items) (lists_of groups.old.items) }
     ensures back { lists_of groups.new.items ≡ outs_of engines.entry.items }
     ensures done { OnOk result (run.end ≡ Done) }
-    ensures gaps { IfOk result (λ rendered. (setting world : Setting) (ticks : ℕ) → setting.plan ≡ job.now.plan.now → setting.clocks ≡ job.now.ready.now.clocks.of → ArePast setting world ticks engines.entry.items
+    ensures gaps { IfOk result (λ rendered. (setting world : Setting) (ticks : ℕ) → setting.plan ≡ job.now.plan.now
+        → setting.clocks ≡ job.now.ready.now.clocks.of → ArePast setting world ticks engines.entry.items
         → rendered.gaps.items ≡ counts_in world ticks job.now.plan.now.sinks) }
-    ensures cues { IfOk result (λ rendered. (setting world : Setting) (ticks : ℕ) → setting.plan ≡ job.now.plan.now → setting.clocks ≡ job.now.ready.now.clocks.of → ArePast setting world ticks engines.entry.items
+    ensures cues { IfOk result (λ rendered. (setting world : Setting) (ticks : ℕ) → setting.plan ≡ job.now.plan.now
+        → setting.clocks ≡ job.now.ready.now.clocks.of → ArePast setting world ticks engines.entry.items
         → cues_of rendered.cues.items ≡ marks_wanted job.now.cues world ticks job.now.plan.now.sinks) }
     ensures counts { IfOk result (λ rendered. rendered.counts.items ≡ run.counts.items) }
     ensures logs { IfOk result (λ rendered. rendered.logs.items ≡ run.logs.items) }

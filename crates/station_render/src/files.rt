@@ -7,14 +7,15 @@ ghost use Rattle.station_render.specs.Shelves.{TookAtOnce, WroteFiles, WroteUpto
 use crate::RenderFault;
 use liq_base::{Failed, Shelf, Sink};
 
-/// Creates a file of this name with room for exactly these bytes, hands them over as one piece if there are any, and closes it,
-/// whatever the piece came to.
+/// Creates a file of this name with room for exactly these bytes, hands them over as one piece if there are any, and
+/// closes it, whatever the piece came to.
 pub(crate) fn write_file<S: Shelf>(
     shelf: &mut S,
     name: &str,
     text: &[u8],
 ) -> Result<(), RenderFault>
-    ensures all { OnOk result (WroteFiles (S.told shelf.old) (S.told shelf.new) (name.now ∷ []) (one_file name.now text.now)) }
+    ensures all { OnOk result (WroteFiles (S.told shelf.old) (S.told shelf.new) (name.now
+        ∷ []) (one_file name.now text.now)) }
     ensures some { WroteUpto (S.told shelf.old) (S.told shelf.new) (name.now ∷ []) (one_file name.now text.now) }
     ensures cause { IsErrOf result RenderFault.Write → Rose (S.told shelf.old).writes (S.told shelf.new).writes }
 {

@@ -5,7 +5,7 @@ ghost use Rattle.clock_infer.specs.declared.clock_map.NodeClock.TheVariants.{Mai
 ghost use Rattle.stream_meaning.specs.Sinks.{block_length};
 ghost use Rattle.wav_io.specs.Header.{header_at};
 ghost use Rattle.stations.specs.Streams.{header_bytes_at};
-ghost use Rattle.stations.specs.Findings.{kind_at, is_too_long};
+ghost use Rattle.stations.specs.Findings.{node_kind, is_too_long};
 
 use clock_infer::{ClockMap, NodeClock};
 use liq_base::Kind;
@@ -48,10 +48,11 @@ pub(crate) fn opening_of(
     requires within { node < length plan.now.nodes }
     requires few { ticks ≤ 1000000000 }
     requires clock { (m : ℕ) × (slice_get clocks.now.of node ≡ Some (InMain m)) }
-    requires fits { is_none (header_at wide (kind_at plan.now node) plan.now.rate (ticks * plan.now.frame)) ≡ false }
+    requires fits { is_none (header_at wide (node_kind plan.now node) plan.now.rate (ticks * plan.now.frame)) ≡ false }
     ensures clock { slice_get clocks.now.of node ≡ Some (InMain result.clock) }
-    ensures header { result.header ≡ header_bytes_at wide (kind_at plan.now node) plan.now.rate (ticks * plan.now.frame) }
-    ensures body { result.body ≡ ticks * (plan.now.frame * block_length wide (kind_at plan.now node)) }
+    ensures header { result.header
+        ≡ header_bytes_at wide (node_kind plan.now node) plan.now.rate (ticks * plan.now.frame) }
+    ensures body { result.body ≡ ticks * (plan.now.frame * block_length wide (node_kind plan.now node)) }
     ensures short { result.body ≤ 1000000000000000 }
 {
     let kind = kind_of(plan, node);
@@ -66,7 +67,7 @@ pub(crate) fn opening_of(
 // The kind of a node.
 fn kind_of(plan: &Plan, node: u32) -> Kind
     requires { node < length plan.now.nodes }
-    ensures { result ≡ kind_at plan.now node }
+    ensures { result ≡ node_kind plan.now node }
 {
     plan.nodes.as_slice()[node as usize].kind
 }

@@ -1,6 +1,6 @@
 //! A station is rendered into its files: outputs are created in sink order, the clocks' ticks are made by threads in
-//! windows, or on one thread, in rounds or again as a trace tells, and all outputs are closed, also after a fault; then cue files and
-//! a trace are left, where they are wanted.
+//! windows, or on one thread, in rounds or again as a trace tells, and all outputs are closed, also after a fault; then
+//! cue files and a trace are left, where they are wanted.
 #![tactic(auto)]
 
 mod close;

@@ -24,15 +24,15 @@ use clock_ticks::ClockEngine;
 use liq_base::Shelf;
 use std::alloc::Global;
 
-/// The places of the sinks: the clock of each, in sink order, and for each clock a list, into which its engine gives its sinks
-/// back.
+/// The places of the sinks: the clock of each, in sink order, and for each clock a list, into which its engine gives
+/// its sinks back.
 pub(crate) struct Places<O> {
     pub order: Vec<u32>,
     pub groups: Vec<Vec<O>>,
 }
 
-/// The first part of a rendering: creates the outputs in sink order, and makes the engines of all clocks, which take the sinks.
-/// After a fault it closes what it created.
+/// The first part of a rendering: creates the outputs in sink order, and makes the engines of all clocks, which take
+/// the sinks. After a fault it closes what it created.
 pub(crate) fn open_outputs<'a, S: Shelf>(
     alloc: Global,
     job: &Job<'a>,
@@ -45,12 +45,17 @@ pub(crate) fn open_outputs<'a, S: Shelf>(
     RenderFault,
 >
     requires fit { IsFitting job.now }
-    ensures opened { IfOk result (λ opened. HaveOpened S.Out.told (S.told shelf.old) job.now opened.0.order.items (lists_of opened.0.groups.items) opened.1.items) }
-    ensures part { IfErr result (λ fault. (way : Way) → HasRecord (setting_by job.now) job.now.ready.now.clocks.running job.now.ticks way
-        → ForSome (S.told shelf.old).files (λ files. WrotePart (station_in job.now way) (is_device fault) files (S.told shelf.old) (S.told shelf.new))) }
+    ensures opened { IfOk result
+        (λ opened. HaveOpened S.Out.told (S.told shelf.old) job.now opened.0.order.items
+        (lists_of opened.0.groups.items) opened.1.items) }
+    ensures part { IfErr result (λ fault. (way : Way)
+        → HasRecord (setting_by job.now) job.now.ready.now.clocks.running job.now.ticks way
+        → ForSome (S.told shelf.old).files
+        (λ files. WrotePart (station_in job.now way) (is_device fault) files (S.told shelf.old) (S.told shelf.new))) }
     ensures cause { IsErrOf result RenderFault.Write → Rose (S.told shelf.old).writes (S.told shelf.new).writes }
     ensures shelf { OnOk result (OnlyOpened job.now (S.told shelf.old) (S.told shelf.new)) }
-    ensures front { OnErr result (CreatedFront (names_in job.now.plan.now.sinks) (S.told shelf.old) (S.told shelf.new)) }
+    ensures front { OnErr result
+        (CreatedFront (names_in job.now.plan.now.sinks) (S.told shelf.old) (S.told shelf.new)) }
     ensures reads { (S.told shelf.old).reads ≤ (S.told shelf.new).reads }
     ensures writes { (S.told shelf.old).writes ≤ (S.told shelf.new).writes }
 {
@@ -62,8 +67,8 @@ pub(crate) fn open_outputs<'a, S: Shelf>(
     }
 }
 
-// Creates the outputs, and makes the engines. `order` gets the clock of each sink that is created; `groups` gets the sinks of each
-// clock, where engines are not made.
+// Creates the outputs, and makes the engines. `order` gets the clock of each sink that is created; `groups` gets the
+// sinks of each clock, where engines are not made.
 fn open_all<'a, S: Shelf>(
     alloc: Global,
     job: &Job<'a>,
@@ -74,13 +79,19 @@ fn open_all<'a, S: Shelf>(
     requires fit { IsFitting job.now }
     requires none { order.old.items ≡ [] }
     requires empty { AreEmpty job.now.ready.now.clocks.running (lists_of groups.old.items) }
-    ensures opened { IfOk result (λ engines. AreOpened S.Out.told (S.told shelf.old) (setting_by job.now) job.now.ready.now.clocks job.now.ticks
+    ensures opened { IfOk result
+        (λ engines. AreOpened S.Out.told (S.told shelf.old) (setting_by job.now) job.now.ready.now.clocks job.now.ticks
         order.new.items engines.items (lists_of groups.new.items)) }
     ensures keeping { IfOk result (λ engines. AreKeeping job.now.cues engines.items) }
-    ensures part { OnErr result ((way : Way) → HasRecord (setting_by job.now) job.now.ready.now.clocks.running job.now.ticks way
-        → RanPart S.Out.told (S.told shelf.old) (station_in job.now way) order.new.items (lists_of groups.new.items) (S.told shelf.new).created) }
-    ensures cause { IsErrOf result RenderFault.Write → Rose (S.told shelf.old).writes (S.told shelf.new).writes ⊎ HasFailed (inner S.Out.told) (lists_of groups.new.items) }
-    ensures made { OnOk result ((S.told shelf.new).created ≡ after_making (names_in job.now.plan.now.sinks) (S.told shelf.old).created) }
+    ensures part { OnErr result ((way : Way)
+        → HasRecord (setting_by job.now) job.now.ready.now.clocks.running job.now.ticks way
+        → RanPart S.Out.told (S.told shelf.old) (station_in job.now way) order.new.items (lists_of groups.new.items)
+        (S.told shelf.new).created) }
+    ensures cause { IsErrOf result RenderFault.Write
+        → Rose (S.told shelf.old).writes (S.told shelf.new).writes
+        ⊎ HasFailed (inner S.Out.told) (lists_of groups.new.items) }
+    ensures made { OnOk result ((S.told shelf.new).created
+        ≡ after_making (names_in job.now.plan.now.sinks) (S.told shelf.old).created) }
     ensures shelf { OnlyCreates (S.told shelf.old) (S.told shelf.new) }
 {
     create_each(job.plan, &job.ready.clocks, job.ticks, shelf, order, groups)?;

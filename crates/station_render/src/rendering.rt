@@ -33,13 +33,13 @@ use std::thread::Threads;
 use trace_log::Trace;
 use trace_replay::RecordChunks;
 
-/// Renders a job into the files of its outputs, and answers what is told of it. The outputs are created in sink order, each
-/// with room for exactly its bytes and with its header as one piece; then each clock makes its ticks on a thread of its own,
-/// in windows of so many, and enters the gate before each; then all outputs are closed in sink order, whatever happened. After a run
-/// that ended well, and once all outputs are closed, their cue files, where these are wanted, are written in sink order, and
-/// then the trace, where one is wanted: each is created with room for exactly its text, gets it as one piece, if it is not
-/// empty, and is closed, whatever the piece came to. The rules stand in `docs/streams.md`, `docs/buffers.md`,
-/// `docs/formats.md` and `docs/outside.md`.
+/// Renders a job into the files of its outputs, and answers what is told of it. The outputs are created in sink order,
+/// each with room for exactly its bytes and with its header as one piece; then each clock makes its ticks on a thread
+/// of its own, in windows of so many, and enters the gate before each; then all outputs are closed in sink order,
+/// whatever happened. After a run that ended well, and once all outputs are closed, their cue files, where these are
+/// wanted, are written in sink order, and then the trace, where one is wanted: each is created with room for exactly
+/// its text, gets it as one piece, if it is not empty, and is closed, whatever the piece came to. The rules stand in
+/// `docs/streams.md`, `docs/buffers.md`, `docs/formats.md` and `docs/outside.md`.
 pub fn render<S: Shelf, G: Gate + Sync, R: Threads + Wait + Sync>(
     rt: &R,
     alloc: Global,
@@ -58,7 +58,8 @@ pub fn render<S: Shelf, G: Gate + Sync, R: Threads + Wait + Sync>(
     finish(alloc, job, Some(window), shelf, places, engines, run)
 }
 
-/// The same on one thread: between the creations and the closings every clock makes its ticks, in rounds. It leaves no trace.
+/// The same on one thread: between the creations and the closings every clock makes its ticks, in rounds. It leaves no
+/// trace.
 pub fn render_alone<S: Shelf>(
     alloc: Global,
     job: &Job<'_>,
@@ -72,9 +73,9 @@ pub fn render_alone<S: Shelf>(
     finish(alloc, job, None, shelf, places, engines, run)
 }
 
-/// The same again, as an accepted trace of this job tells, on one thread: between the creations and the closings the clocks make all their
-/// ticks, in turns, and their buffers answer as they did in the run that left the trace. The chunks are all those of the trace's record.
-/// It leaves no trace. The rules stand in `docs/buffers.md`.
+/// The same again, as an accepted trace of this job tells, on one thread: between the creations and the closings the
+/// clocks make all their ticks, in turns, and their buffers answer as they did in the run that left the trace. The
+/// chunks are all those of the trace's record. It leaves no trace. The rules stand in `docs/buffers.md`.
 pub fn render_again<S: Shelf>(
     alloc: Global,
     job: &Job<'_>,
@@ -93,8 +94,8 @@ pub fn render_again<S: Shelf>(
     finish(alloc, job, None, shelf, places, engines, run)
 }
 
-// What is left of a rendering once the ticks are made, in windows of so many or in none: closes the outputs, and leaves the cue files and
-// the trace, where these are wanted.
+// What is left of a rendering once the ticks are made, in windows of so many or in none: closes the outputs, and leaves
+// the cue files and the trace, where these are wanted.
 fn finish<S: Shelf>(
     alloc: Global,
     job: &Job<'_>,
@@ -106,10 +107,12 @@ fn finish<S: Shelf>(
 ) -> Result<Rendered, RenderFault>
     requires fit { IsFitting job.now }
     requires bounds { IfSome window (λ window. (0 < window) × (window ≤ 1000000)) }
-    requires may { (way : Way) × (window ≡ window_of way) × (first : ShelfTold) × OnlyOpened job.now first (S.told shelf.old)
+    requires may { (way : Way) × (window ≡ window_of way) × (first : ShelfTold)
+        × OnlyOpened job.now first (S.told shelf.old)
         × MayClose S.Out.told first job.now way places.order.items (lists_of places.groups.items) engines.items run }
     ensures { (way : Way) (first : ShelfTold) → window ≡ window_of way → OnlyOpened job.now first (S.told shelf.old)
-        → MayClose S.Out.told first job.now way places.order.items (lists_of places.groups.items) engines.entry.items run
+        → MayClose S.Out.told first job.now way places.order.items (lists_of places.groups.items) engines.entry.items
+        run
         → Renders (station_in job.now way) first (S.told shelf.new) result }
 {
     let rendered = close_outputs(alloc, job, shelf, places, engines, run)?;
@@ -117,8 +120,8 @@ fn finish<S: Shelf>(
     leave_trace(alloc, job, window, shelf, rendered)
 }
 
-// The last part of a rendering's outputs: takes the sinks of the engines back into their places, closes all in sink order, whatever the
-// run came to, and answers what is told of it.
+// The last part of a rendering's outputs: takes the sinks of the engines back into their places, closes all in sink
+// order, whatever the run came to, and answers what is told of it.
 fn close_outputs<S: Shelf>(
     alloc: Global,
     job: &Job<'_>,
@@ -128,16 +131,21 @@ fn close_outputs<S: Shelf>(
     run: RunEnd,
 ) -> Result<Rendered, RenderFault>
     requires fit { IsFitting job.now }
-    requires may { (way : Way) × (first : ShelfTold) × MayClose S.Out.told first job.now way places.order.items (lists_of places.groups.items) engines.items run }
+    requires may { (way : Way) × (first : ShelfTold)
+        × MayClose S.Out.told first job.now way places.order.items (lists_of places.groups.items) engines.items run }
     ensures done { (way : Way) (first : ShelfTold) → OnlyOpened job.now first (S.told shelf.old)
-        → MayClose S.Out.told first job.now way places.order.items (lists_of places.groups.items) engines.entry.items run
+        → MayClose S.Out.told first job.now way places.order.items (lists_of places.groups.items) engines.entry.items
+        run
         → IfOk result (WroteOutputs (station_in job.now way) first (S.told shelf.new)) }
     ensures part { IfErr result (λ fault. (way : Way) (first : ShelfTold) → OnlyOpened job.now first (S.told shelf.old)
-        → MayClose S.Out.told first job.now way places.order.items (lists_of places.groups.items) engines.entry.items run
-        → ForSome first.files (λ files. WrotePart (station_in job.now way) (is_device fault) files first (S.told shelf.new))) }
+        → MayClose S.Out.told first job.now way places.order.items (lists_of places.groups.items) engines.entry.items
+        run
+        → ForSome first.files (λ files. WrotePart (station_in job.now way) (is_device fault) files first
+        (S.told shelf.new))) }
     ensures cause { IsErrOf result RenderFault.Write → Rose (S.told shelf.old).writes (S.told shelf.new).writes }
     ensures closed { (way : Way) (first : ShelfTold) → OnlyOpened job.now first (S.told shelf.old)
-        → MayClose S.Out.told first job.now way places.order.items (lists_of places.groups.items) engines.entry.items run
+        → MayClose S.Out.told first job.now way places.order.items (lists_of places.groups.items) engines.entry.items
+        run
         → HaveClosed 0 (names_in job.now.plan.now.sinks) first.closed (S.told shelf.new).closed }
     ensures shelf { OnlyCloses (S.told shelf.old) (S.told shelf.new) }
 {

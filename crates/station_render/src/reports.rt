@@ -13,12 +13,13 @@ use liq_base::Memory;
 use plan_core::{Plan, SinkPlan};
 use std::alloc::{AllocError, Global};
 
-/// The report of a rendering of so many ticks, at most 1000000000: a line for each output, in sink order, with its gaps, and
-/// a line for each buffer, with its counts.
+/// The report of a rendering of so many ticks, at most 1000000000: a line for each output, in sink order, with its
+/// gaps, and a line for each buffer, with its counts.
 pub fn report(alloc: Global, plan: &Plan, ticks: u64, rendered: &Rendered) -> Result<String, Memory>
     requires few { ticks ≤ 1000000000 }
     requires many { length rendered.now.gaps.items ≡ length (written plan.now.sinks) }
-    ensures { IfOk result (λ text. (station : Station) → (run : Run) → station.plan ≡ plan.now → station.ticks ≡ ticks → IsTold station run rendered.now
+    ensures { IfOk result (λ text. (station : Station) → (run : Run) → station.plan ≡ plan.now → station.ticks ≡ ticks
+        → IsTold station run rendered.now
         → string_bytes text ≡ report_of station run) }
 {
     let mut text = output_lines(alloc, plan, ticks, &rendered.gaps)?;
@@ -30,7 +31,8 @@ pub fn report(alloc: Global, plan: &Plan, ticks: u64, rendered: &Rendered) -> Re
 fn output_lines(alloc: Global, plan: &Plan, ticks: u64, gaps: &[u64]) -> Result<String, Memory>
     requires few { ticks ≤ 1000000000 }
     requires many { length gaps.now ≡ length (written plan.now.sinks) }
-    ensures { IfOk result (λ text. (station : Station) → (run : Run) → station.plan ≡ plan.now → station.ticks ≡ ticks → gaps.now ≡ gaps_in_order station run
+    ensures { IfOk result (λ text. (station : Station) → (run : Run) → station.plan ≡ plan.now → station.ticks ≡ ticks
+        → gaps.now ≡ gaps_in_order station run
         → string_bytes text ≡ rendered_lines station run plan.now.sinks) }
 {
     let samples = ticks * u64::from(plan.frame);
@@ -85,7 +87,8 @@ fn push_puts(
     counts: &Counts,
 ) -> Result<(), AllocError>
     ensures { OnOk result (string_bytes text.new ≡ string_bytes text.old
-        ++ (codes "buffer " ++ decimal buffer ++ codes " accepted " ++ decimal counts.now.accepted ++ codes " full " ++ decimal counts.now.full)) }
+        ++ (codes "buffer " ++ decimal buffer ++ codes " accepted " ++ decimal counts.now.accepted ++ codes " full "
+        ++ decimal counts.now.full)) }
 {
     text.push_str("buffer ")?;
     text.push_str(&buffer.to_string(alloc)?)?;

@@ -13,8 +13,8 @@ use liq_base::Shelf;
 use std::alloc::Global;
 use trace_log::{Trace, print};
 
-/// Leaves the trace of a run of this job, where one is wanted and the ticks were made in windows of so many, and hands on what is told of
-/// the run.
+/// Leaves the trace of a run of this job, where one is wanted and the ticks were made in windows of so many, and hands
+/// on what is told of the run.
 pub(crate) fn leave_trace<S: Shelf>(
     alloc: Global,
     job: &Job<'_>,
@@ -22,7 +22,11 @@ pub(crate) fn leave_trace<S: Shelf>(
     shelf: &mut S,
     rendered: Rendered,
 ) -> Result<Rendered, RenderFault>
-    requires trace { IfSome window (λ window. IsTrace (record { ticks = job.now.ticks; window = window; buffers = rendered.logs.items })) }
+    requires trace { IfSome window (λ window. IsTrace (record {
+      ticks = job.now.ticks;
+      window = window;
+      buffers = rendered.logs.items;
+    })) }
     ensures gaps { IfOk result (λ told. told.gaps.items ≡ rendered.gaps.items) }
     ensures counts { IfOk result (λ told. told.counts.items ≡ rendered.counts.items) }
     ensures logs { IfOk result (λ told. told.logs.items ≡ rendered.logs.items) }
@@ -70,8 +74,10 @@ fn write_trace<S: Shelf>(
     trace: &Trace,
 ) -> Result<(), RenderFault>
     requires { IsTrace trace.now }
-    ensures all { OnOk result (WroteFiles (S.told shelf.old) (S.told shelf.new) (name.now ∷ []) (one_file name.now (trace_text trace.now))) }
-    ensures some { WroteUpto (S.told shelf.old) (S.told shelf.new) (name.now ∷ []) (one_file name.now (trace_text trace.now)) }
+    ensures all { OnOk result (WroteFiles (S.told shelf.old) (S.told shelf.new) (name.now
+        ∷ []) (one_file name.now (trace_text trace.now))) }
+    ensures some { WroteUpto (S.told shelf.old) (S.told shelf.new) (name.now
+        ∷ []) (one_file name.now (trace_text trace.now)) }
     ensures cause { IsErrOf result RenderFault.Write → Rose (S.told shelf.old).writes (S.told shelf.new).writes }
 {
     let mut text = Vec::new(alloc);

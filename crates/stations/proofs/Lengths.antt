@@ -8,7 +8,7 @@ use Rattle.std.specs.List.{flat_map, range_with_len}
 use Rattle.liq_base.specs.declared.memory.Kind.{Kind}
 use Rattle.liq_base.specs.declared.memory.Kind.TheVariants.{Mono, Stereo}
 use Rattle.frame_core.specs.Slots.{Slot}
-use Rattle.wav_io.specs.Header.{block_of, padded, wide_header_bytes}
+use Rattle.wav_io.specs.Header.{block_align, padded, wide_header_bytes}
 use Rattle.wav_io.proofs.Headers.{length_header}
 use Rattle.run_records.specs.Records.{Run}
 use Rattle.stations.specs.Stations.{Station, setting_of_run}
@@ -57,7 +57,7 @@ pub header_long : (setting : Setting) (wide : Bool) (ticks node : ℕ) → lengt
 header_long setting false ticks node = length_header (kind_of setting node) setting.plan.rate (ticks * setting.plan.frame)
 header_long setting true ticks node = length_wide (kind_of setting node) setting.plan.rate (ticks * setting.plan.frame)
 
-same_block : (wide : Bool) (kind : Kind) → block_length wide kind ≡ block_of wide kind
+same_block : (wide : Bool) (kind : Kind) → block_length wide kind ≡ block_align wide kind
 same_block false kind = refl
 same_block true kind = refl
 
@@ -73,11 +73,11 @@ file_long setting wide ticks node =
     omega (arith, whole, both, front, back, last)
 
 pub output_long : (station : Station) (run : Run) (wide : Bool) (node : ℕ) → length (bytes_of station run wide node)
-    ≡ 44 + padded (station.ticks * station.plan.frame * block_of wide (kind_of (setting_of_run station run) node))
+    ≡ 44 + padded (station.ticks * station.plan.frame * block_align wide (kind_of (setting_of_run station run) node))
 output_long station run wide node =
     let setting = setting_of_run station run in
     let size = body_size setting wide station.ticks node in
-    let block = block_of wide (kind_of setting node) in
+    let block = block_align wide (kind_of setting node) in
     let whole = length-append (output_bytes setting wide station.ticks node) (zeros_after size) in
     let both = length-append (header_for setting wide station.ticks node) (ticks_bytes setting wide node station.ticks) in
     let front = header_long setting wide station.ticks node in

@@ -9,7 +9,7 @@ use Rattle.plan_core.specs.declared.node.Op.TheVariants.{Single}
 use Rattle.track_library.specs.declared.fault.LoadFault.{LoadFault}
 use Rattle.track_library.specs.declared.fault.Unusable.{Unusable}
 use Rattle.track_library.specs.declared.rules.Rules.{Rules}
-use Rattle.track_library.specs.Walk.{Heard, Walked, load_of, leaf_of, leaf_added, nodes_walked, single_leaf, sounds_of, with_lists, use_audio, nothing_met}
+use Rattle.track_library.specs.Walk.{Heard, Walked, load_of, leaf_of, leaf_added, nodes_walked, single_leaf, sounds_or_fault, with_lists, use_audio, nothing_met}
 
 -- the leaf of a `single` has one file
 abbrev pub HasOne : Op → List ℕ → Type 0
@@ -100,7 +100,7 @@ one_at (first ∷ nodes) (leaf ∷ leaves) are zero node file at single =
     let e : first ≡ node = (cc) in are.0 file (ap (λ n. n.op) e ∙ single)
 one_at (first ∷ nodes) (leaf ∷ leaves) are (suc i) node file at single = one_at nodes leaves are.1 i node file at single
 
-loaded : (walked : Result (Walked × List (List ℕ)) LoadFault) (library : Sounds) → sounds_of walked ≡ Ok library
+loaded : (walked : Result (Walked × List (List ℕ)) LoadFault) (library : Sounds) → sounds_or_fault walked ≡ Ok library
     → (after : Walked) × (walked ≡ Ok (after, library.leaves))
 loaded (Err fault) library is = absurd (cc)
 loaded (Ok (after, leaves)) library is =

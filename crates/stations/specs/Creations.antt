@@ -32,14 +32,15 @@ trace_names_in (Again trace) name = []
 
 -- the names of all files of a rendering: of the outputs in sink order, then of their cue files, and then of the trace
 abbrev pub names_of : Station → List (List ℕ)
-names_of station = names_in station.plan.sinks ++ (cue_names_if station.cues station.plan.sinks ++ trace_names_in station.way station.trace)
+names_of station = names_in station.plan.sinks
+    ++ (cue_names_if station.cues station.plan.sinks ++ trace_names_in station.way station.trace)
 
 -- they are the names of the files that each run writes, in their order
 abbrev pub AreNamesOfFiles : Station → Run → Type 0
 AreNamesOfFiles station run = map (λ file. file.name) (files_of station run) ≡ names_of station
 
--- The first of these names were made, one after another, and no other, and each of them was closed, in the same order, and no other: maybe
--- none, and maybe all.
+-- The first of these names were made, one after another, and no other, and each of them was closed, in the same order,
+-- and no other: maybe none, and maybe all.
 pub record CreatedFront (names : List (List ℕ)) (old new : ShelfTold) : Type 0 where
   pub made : List (List ℕ)
   pub others : List (List ℕ)
@@ -47,9 +48,9 @@ pub record CreatedFront (names : List (List ℕ)) (old new : ShelfTold) : Type 0
   pub told : new.created ≡ after_making made old.created
   pub closed : HaveClosed 0 made old.closed new.closed
 
--- what a shelf lists of the outputs among these sinks, of which all ticks were made, once they are closed: the name of each; that it was
--- created for just the bytes of its file, and holds as many; and its pieces, which are its header, one for each tick, and its last zero
--- byte, if it has one
+-- what a shelf lists of the outputs among these sinks, of which all ticks were made, once they are closed: the name of
+-- each; that it was created for just the bytes of its file, and holds as many; and its pieces, which are its header,
+-- one for each tick, and its last zero byte, if it has one
 abbrev pub closings_in : Setting → (ticks : ℕ) → List SinkPlan → List Closing
 closings_in setting ticks [] = []
 closings_in setting ticks (Output name node fallible wide ∷ sinks) =
@@ -68,12 +69,19 @@ pieces_of (byte ∷ bytes) = 1
 
 -- what a shelf lists of a file that was written at once, for whose bytes alone it was created
 abbrev pub closing_at_once : OutputFile → Closing
-closing_at_once file = record { name = file.name; room = length file.bytes; bytes = length file.bytes; pieces = pieces_of file.bytes }
+closing_at_once file = record {
+  name = file.name;
+  room = length file.bytes;
+  bytes = length file.bytes;
+  pieces = pieces_of file.bytes;
+}
 
--- what a shelf lists of all files of a run, once they are closed: of its outputs, then of its cue files, and then of its trace
+-- what a shelf lists of all files of a run, once they are closed: of its outputs, then of its cue files, and then of
+-- its trace
 abbrev pub closings_of : Station → Run → List Closing
 closings_of station run =
-    closings_in (setting_of_run station run) station.ticks station.plan.sinks ++ map closing_at_once (later_files station run)
+    closings_in (setting_of_run station run) station.ticks station.plan.sinks
+    ++ map closing_at_once (later_files station run)
 
 -- where a shelf tells of its closings, these came, one after another, and no other
 abbrev pub HaveListed : List Closing → (before after : Option (List Closing)) → Type 0

@@ -1,7 +1,7 @@
 -- The cue files of a station: where the tracks of each output begin, and their names.
 use Rattle.std.specs.Prelude.{ℕ, Bool, true, false, List, [], ◌∷◌, ◌++◌, Option, Some, None, codes, decimal}
 use Rattle.std.specs.List.{flat_map}
-use Rattle.frame_core.specs.Library.{Sounds, name_of}
+use Rattle.frame_core.specs.Library.{Sounds, title_name}
 use Rattle.plan_core.specs.declared.sink.SinkPlan.{SinkPlan}
 use Rattle.plan_core.specs.declared.sink.SinkPlan.TheVariants.{Output, Feed}
 use Rattle.stream_meaning.specs.Instants.{Setting}
@@ -17,7 +17,7 @@ spaced (Some name) = codes " " ++ name
 
 -- the line of a mark
 abbrev pub cue_line : Sounds → Cue → List ℕ
-cue_line library cue = decimal cue.at ++ spaced (name_of library cue.title) ++ codes "\n"
+cue_line library cue = decimal cue.at ++ spaced (title_name library cue.title) ++ codes "\n"
 
 -- one line for each mark
 abbrev pub cue_text : Sounds → List Cue → List ℕ
@@ -46,7 +46,10 @@ cue_name name = name ++ codes ".cue"
 abbrev pub cues_in : Setting → (ticks : ℕ) → List SinkPlan → List OutputFile
 cues_in setting ticks [] = []
 cues_in setting ticks (Output name node fallible wide ∷ sinks) =
-    record { name = cue_name name; bytes = cue_text setting.library (cues setting node ticks) } ∷ cues_in setting ticks sinks
+    record {
+      name = cue_name name;
+      bytes = cue_text setting.library (cues setting node ticks);
+    } ∷ cues_in setting ticks sinks
 cues_in setting ticks (Feed buffer node ∷ sinks) = cues_in setting ticks sinks
 
 -- the same where they are wanted

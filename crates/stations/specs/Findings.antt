@@ -1,5 +1,5 @@
--- Whether a plan is rendered: its audio files and clocks, or why not. The faults are looked for in the order in which they
--- stand here, and each comes only where the plan has none of those before it.
+-- Whether a plan is rendered: its audio files and clocks, or why not. The faults are looked for in the order in which
+-- they stand here, and each comes only where the plan has none of those before it.
 use Rattle.std.specs.Prelude.{◌≡◌, ◌≢◌, ◌≤◌, ℕ, ◌*◌, ◌^◌, Bool, false, List, [], ◌∷◌, Option, Some, None, Ok, Err, is_none, length, slice_get, if◌then◌else◌}
 use Rattle.std.specs.Option.{option_map_or}
 use Rattle.liq_base.specs.Files.{Files}
@@ -29,21 +29,22 @@ abbrev pub rules_of : Plan → Rules
 rules_of plan = record { rate = plan.rate; file = 2 ^ 28; all = 2 ^ 32 }
 
 -- the name of an output; a feed has none
-abbrev pub name_of : SinkPlan → List ℕ
-name_of (Output name node fallible wide) = name
-name_of (Feed buffer node) = []
+abbrev pub sink_name : SinkPlan → List ℕ
+sink_name (Output name node fallible wide) = name
+sink_name (Feed buffer node) = []
 
 -- the name of the first sink that is such
 abbrev pub first_name : (such : SinkPlan → Bool) → List SinkPlan → Option (List ℕ)
 first_name such [] = None
-first_name such (sink ∷ sinks) = if such sink then Some (name_of sink) else first_name such sinks
+first_name such (sink ∷ sinks) = if such sink then Some (sink_name sink) else first_name such sinks
 
-abbrev pub kind_at : Plan → (node : ℕ) → Kind
-kind_at plan node = option_map_or (λ node. node.kind) (slice_get plan.nodes node) Stereo
+abbrev pub node_kind : Plan → (node : ℕ) → Kind
+node_kind plan node = option_map_or (λ node. node.kind) (slice_get plan.nodes node) Stereo
 
 -- after so many ticks an output is too long for the header of its file
 abbrev pub is_too_long : Plan → (ticks : ℕ) → SinkPlan → Bool
-is_too_long plan ticks (Output name node fallible wide) = is_none (header_at wide (kind_at plan node) plan.rate (ticks * plan.frame))
+is_too_long plan ticks (Output name node fallible wide) = is_none
+    (header_at wide (node_kind plan node) plan.rate (ticks * plan.frame))
 is_too_long plan ticks (Feed buffer node) = false
 
 -- these are the audio files of the plan

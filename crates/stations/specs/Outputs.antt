@@ -22,25 +22,30 @@ pub record OutputPart : Type 0 where
   pub least : List ℕ
   pub most : List ℕ
 
--- the name holds at least and at most these bytes; or, where its closing failed, a prefix of them or what it held; nothing else changed
+-- the name holds at least and at most these bytes; or, where its closing failed, a prefix of them or what it held;
+-- nothing else changed
 abbrev pub HoldsBetween : (failed : Type 0) → Files → OutputPart → Files → Type 0
 HoldsBetween failed files output after =
-    ((part : List ℕ) × IsPrefix output.least part × IsPrefix part output.most × (after ≡ with_file files output.name part)) ⊎ (failed × HoldsPart files output.name output.most after)
+    ((part : List ℕ) × IsPrefix output.least part × IsPrefix part output.most
+    × (after ≡ with_file files output.name part)) ⊎ (failed × HoldsPart files output.name output.most after)
 
--- So does each name in turn, while a count of failed writes rises from `count` to `last`: where one closing failed, it rose.
+-- So does each name in turn, while a count of failed writes rises from `count` to `last`: where one closing failed, it
+-- rose.
 abbrev pub HoldsParts : (count : ℕ) → Files → List OutputPart → Files → (last : ℕ) → Type 0
 HoldsParts count files [] after last = (after ≡ files) × (count ≤ last)
 HoldsParts count files (output ∷ outputs) after last =
-    (midway : Files) × (next : ℕ) × (count ≤ next) × HoldsBetween (Rose count next) files output midway × HoldsParts next midway outputs after last
+    (midway : Files) × (next : ℕ) × (count ≤ next) × HoldsBetween (Rose count next) files output midway
+    × HoldsParts next midway outputs after last
 
 -- what a shelf tells of the sinks that it made, or of those that were closed, after these, one after another
 abbrev pub after_making : {A : Type 0} → List A → Option (List A) → Option (List A)
 after_making more None = None
 after_making more (Some before) = Some (before ++ more)
 
--- Sinks of these names were closed, one after another, and no other, each of which had got so many pieces at least. `before` and `after` is
--- what the shelf tells of its closings.
-pub record AreClosed (least : ℕ) (names : List (List ℕ)) (before : List Closing) (after : Option (List Closing)) : Type 0 where
+-- Sinks of these names were closed, one after another, and no other, each of which had got so many pieces at least.
+-- `before` and `after` is what the shelf tells of its closings.
+pub record AreClosed (least : ℕ) (names : List (List ℕ)) (before : List Closing) (after : Option (List Closing)) : Type
+    0 where
   pub closings : List Closing
   pub names_are : map (λ closing. closing.name) closings ≡ names
   pub pieces_are : All (λ closing. least ≤ closing.pieces) closings
@@ -50,11 +55,13 @@ pub record AreClosed (least : ℕ) (names : List (List ℕ)) (before : List Clos
 abbrev pub HaveClosed : (least : ℕ) → List (List ℕ) → (before after : Option (List Closing)) → Type 0
 HaveClosed least names before after = ForSome before (λ closings. AreClosed least names closings after)
 
--- So it is for the first of the outputs, which were created, as the shelf tells of the sinks that it made; the others were not. Files do
--- not tell which were created. Each of them had got a piece when it was closed, its header or a front of it, also where the creation of the
--- next one failed. `first` is where the count stood when their closings began. Where a device failed and not all were created, the count
--- rose before that, as a creation failed, which then excuses no file; or it rose at a closing, as a header broke off.
-pub record HoldsSome (device : Bool) (files : Files) (outputs : List OutputPart) (after : Files) (old new : ShelfTold) : Type 0 where
+-- So it is for the first of the outputs, which were created, as the shelf tells of the sinks that it made; the others
+-- were not. Files do not tell which were created. Each of them had got a piece when it was closed, its header or a
+-- front of it, also where the creation of the next one failed. `first` is where the count stood when their closings
+-- began. Where a device failed and not all were created, the count rose before that, as a creation failed, which then
+-- excuses no file; or it rose at a closing, as a header broke off.
+pub record HoldsSome (device : Bool) (files : Files) (outputs : List OutputPart) (after : Files)
+    (old new : ShelfTold) : Type 0 where
   pub created : List OutputPart
   pub others : List OutputPart
   pub outputs_are : outputs ≡ created ++ others
@@ -72,9 +79,10 @@ whole_of output = record { name = output.name; bytes = output.most }
 abbrev pub unended : OutputPart → OutputPart
 unended output = record { name = output.name; least = output.least; most = output.least }
 
--- Outputs that lack nothing but their last bytes were ended and closed, one after another, and a fault came, while a count of failed writes
--- rose from `count` to `last`: those before the fault hold all their bytes; the one at which it came holds a prefix of them, or what it held;
--- those behind it hold theirs without the last ones, or, where the count rose at their closing, a prefix of these or what they held.
+-- Outputs that lack nothing but their last bytes were ended and closed, one after another, and a fault came, while a
+-- count of failed writes rose from `count` to `last`: those before the fault hold all their bytes; the one at which it
+-- came holds a prefix of them, or what it held; those behind it hold theirs without the last ones, or, where the count
+-- rose at their closing, a prefix of these or what they held.
 pub record HoldsEnds (count : ℕ) (files : Files) (outputs : List OutputPart) (after : Files) (last : ℕ) : Type 0 where
   pub whole : List OutputPart
   pub broken : OutputPart
@@ -86,7 +94,8 @@ pub record HoldsEnds (count : ℕ) (files : Files) (outputs : List OutputPart) (
   pub part : HoldsPart (with_outputs files (map whole_of whole)) broken.name broken.most midway
   pub behind : HoldsParts next midway (map unended others) after last
 
--- the name of the first of these files, if there is one, holds a prefix of its bytes, or what it held; nothing else changed
+-- the name of the first of these files, if there is one, holds a prefix of its bytes, or what it held; nothing else
+-- changed
 abbrev pub HoldsNext : Files → List OutputFile → Files → Type 0
 HoldsNext files [] after = after ≡ files
 HoldsNext files (output ∷ outputs) after = HoldsPart files output.name output.bytes after

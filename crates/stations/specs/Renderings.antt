@@ -13,17 +13,18 @@ use Rattle.stations.specs.Stations.{Station, Way, InRounds, InWindows, Again, Is
 use Rattle.stations.specs.Streams.{ends_of, output_files, parts_with}
 use Rattle.stations.specs.Traces.{later_files}
 
--- A run stopped in its ticks, or before them: whatever answers had followed those that it got, each output that was created holds its
--- bytes of the ticks that its clock made, and then a front of those of the tick in which it stopped; or, where the count of failed writes
--- rose at its closing, a prefix of them or what it held. `device` says that a device failed, and not memory. `old` and `new` is what the shelf
--- tells before and after, which held these files.
+-- A run stopped in its ticks, or before them: whatever answers had followed those that it got, each output that was
+-- created holds its bytes of the ticks that its clock made, and then a front of those of the tick in which it stopped;
+-- or, where the count of failed writes rose at its closing, a prefix of them or what it held. `device` says that a
+-- device failed, and not memory. `old` and `new` is what the shelf tells before and after, which held these files.
 pub record StoppedInTicks (station : Station) (device : Bool) (files : Files) (old new : ShelfTold) : Type 0 where
   pub run : Run
   pub begun : IsBegun station run
-  pub parts : (rest : ℕ → List Answer) → IsSomeAnd new.files (λ now. HoldsSome device files (parts_with station run begun rest) now old new)
+  pub parts : (rest : ℕ → List Answer)
+      → IsSomeAnd new.files (λ now. HoldsSome device files (parts_with station run begun rest) now old new)
 
--- A run made all its ticks, and what came behind them broke off: a last zero byte or a closing of the outputs; or, once all outputs were
--- written, a file among the cue files and the trace.
+-- A run made all its ticks, and what came behind them broke off: a last zero byte or a closing of the outputs; or, once
+-- all outputs were written, a file among the cue files and the trace.
 pub record StoppedBehindTicks (station : Station) (files : Files) (old new : ShelfTold) : Type 0 where
   pub run : Run
   pub lawful : IsLawful station run
@@ -32,7 +33,8 @@ pub record StoppedBehindTicks (station : Station) (files : Files) (old new : She
 
 -- what a rendering leaves, whatever it ended with
 abbrev pub WrotePart : Station → (device : Bool) → Files → (old new : ShelfTold) → Type 0
-WrotePart station device files old new = StoppedInTicks station device files old new ⊎ StoppedBehindTicks station files old new
+WrotePart station device files old new = StoppedInTicks station device files old new
+    ⊎ StoppedBehindTicks station files old new
 
 -- A run renders what one thread renders: rounds of the station have one record, and the outputs, the cue files
 -- and the report are those of it.
@@ -44,15 +46,15 @@ pub record RendersAsOneThread (station : Station) (run : Run) : Type 0 where
   pub cues_are : cue_files station run ≡ cue_files station alone
   pub report_is : report_of station run ≡ report_of station alone
 
--- A run that was broken off begins these rounds: with some answers behind its own it has theirs. A replay has the answers of its whole
--- record, and these are theirs.
+-- A run that was broken off begins these rounds: with some answers behind its own it has theirs. A replay has the
+-- answers of its whole record, and these are theirs.
 abbrev pub BeginsRoundsIn : Way → Setting → (run rounds : Run) → Type 0
 BeginsRoundsIn InRounds setting run rounds = BeginsRounds setting run rounds
 BeginsRoundsIn (InWindows window) setting run rounds = BeginsRounds setting run rounds
 BeginsRoundsIn (Again trace) setting run rounds = setting_in setting run ≡ setting_in setting rounds
 
--- A run of the station that was broken off begins what one thread renders: rounds of the station have one record, and with some answers
--- behind its own it has those of that record.
+-- A run of the station that was broken off begins what one thread renders: rounds of the station have one record, and
+-- with some answers behind its own it has those of that record.
 pub record BeginsAsOneThread (station : Station) (run : Run) : Type 0 where
   pub alone : Run
   pub rounds : IsRounds (bare station) station.clocks.running station.ticks alone

@@ -19,11 +19,12 @@ rendered_line name samples gaps =
 abbrev pub rendered_lines : Station → Run → List SinkPlan → List ℕ
 rendered_lines station run [] = []
 rendered_lines station run (Output name node fallible wide ∷ sinks) =
-    rendered_line name (station.ticks * station.plan.frame) (gaps_of station run node) ++ rendered_lines station run sinks
+    rendered_line name (station.ticks * station.plan.frame) (gaps_of station run node)
+    ++ rendered_lines station run sinks
 rendered_lines station run (Feed buffer node ∷ sinks) = rendered_lines station run sinks
 
--- the line of a buffer after a run: how many of its puts were accepted and how many found it full, how many of its takes got a
--- chunk and how many found it empty
+-- the line of a buffer after a run: how many of its puts were accepted and how many found it full, how many of its
+-- takes got a chunk and how many found it empty
 abbrev pub answers_line : (buffer accepted full got empty : ℕ) → List ℕ
 answers_line buffer accepted full got empty =
     codes "buffer " ++ decimal buffer ++ codes " accepted " ++ decimal accepted ++ codes " full " ++ decimal full
@@ -58,7 +59,8 @@ fallible_word infallible = if infallible then codes "infallible" else codes "fal
 -- the line of an output that was checked, where `mark` says whether its node is infallible
 abbrev pub checked_line : ClockMap → (mark : ℕ → Bool) → (name : List ℕ) (node : ℕ) → List ℕ
 checked_line clocks mark name node =
-    codes "output " ++ name ++ codes " clock " ++ clock_name clocks node ++ codes " " ++ fallible_word (mark node) ++ codes "\n"
+    codes "output " ++ name ++ codes " clock " ++ clock_name clocks node ++ codes " " ++ fallible_word (mark node)
+    ++ codes "\n"
 
 abbrev pub checked_lines : ClockMap → (mark : ℕ → Bool) → List SinkPlan → List ℕ
 checked_lines clocks mark [] = []
@@ -66,8 +68,8 @@ checked_lines clocks mark (Output name node fallible wide ∷ sinks) =
     checked_line clocks mark name node ++ checked_lines clocks mark sinks
 checked_lines clocks mark (Feed buffer node ∷ sinks) = checked_lines clocks mark sinks
 
--- the line of a buffer that was checked: the main clocks in which its feed and its reader lie, through sub-clocks, the samples that
--- it gathers before it plays, and the chunks that it may hold
+-- the line of a buffer that was checked: the main clocks in which its feed and its reader lie, through sub-clocks, the
+-- samples that it gathers before it plays, and the chunks that it may hold
 abbrev pub joining_line : (buffer : ℕ) (from to : List ℕ) → BufferPlan → List ℕ
 joining_line buffer from to plan =
     codes "buffer " ++ decimal buffer ++ codes " from " ++ from ++ codes " to " ++ to
@@ -75,7 +77,8 @@ joining_line buffer from to plan =
 
 abbrev pub buffer_line : Station → (buffer : ℕ) → BufferPlan → List ℕ
 buffer_line station buffer plan =
-    joining_line buffer (slice_index_or station.clocks.names (feeder (bare station) buffer) []) (slice_index_or station.clocks.names (reader (bare station) buffer) []) plan
+    joining_line buffer (slice_index_or station.clocks.names (feeder (bare station) buffer) [])
+    (slice_index_or station.clocks.names (reader (bare station) buffer) []) plan
 
 abbrev pub buffer_lines : Station → (buffer : ℕ) → List BufferPlan → List ℕ
 buffer_lines station buffer [] = []
@@ -83,4 +86,5 @@ buffer_lines station buffer (plan ∷ plans) = buffer_line station buffer plan +
 
 -- the report of a check: its outputs, and then its buffers
 abbrev pub check_report_of : Station → (mark : ℕ → Bool) → List ℕ
-check_report_of station mark = checked_lines station.clocks mark station.plan.sinks ++ buffer_lines station 0 station.plan.buffers
+check_report_of station mark = checked_lines station.clocks mark station.plan.sinks
+    ++ buffer_lines station 0 station.plan.buffers

@@ -10,15 +10,16 @@ use Rattle.trace_log.specs.Values.{TraceValue}
 use Rattle.trace_replay.specs.Replays.{IsRecordOf}
 use Rattle.stations.specs.declared.ready.Ready.{Ready}
 
--- how a station is rendered: on one thread, in rounds; by threads, in windows of so many ticks; or again, on one thread, as a trace tells
+-- how a station is rendered: on one thread, in rounds; by threads, in windows of so many ticks; or again, on one
+-- thread, as a trace tells
 pub data Way : Type 0 where
   InRounds : Way
   InWindows : (window : ℕ) → Way
   Again : (trace : TraceValue) → Way
 
--- a plan with its audio files and its clocks, the second of the week at which it begins, how many ticks are rendered, and in which way;
--- the name of the file that gets the trace, if one is wanted, which threads alone leave; and whether cue files are wanted. A `check` is
--- that of no tick from second 0 on, in rounds, without a trace
+-- a plan with its audio files and its clocks, the second of the week at which it begins, how many ticks are rendered,
+-- and in which way; the name of the file that gets the trace, if one is wanted, which threads alone leave; and whether
+-- cue files are wanted. A `check` is that of no tick from second 0 on, in rounds, without a trace
 pub record Station : Type 0 where
   pub plan : Plan
   pub library : Sounds
@@ -61,7 +62,8 @@ pub record IsReplay (setting : Setting) (clocks ticks : ℕ) (trace : TraceValue
   pub ticks_are : trace.ticks ≡ ticks
   pub of : IsRecordOf setting clocks trace run
 
--- so many clocks made all their ticks: in rounds on one thread, by threads in windows of so many ticks, or as a trace tells
+-- so many clocks made all their ticks: in rounds on one thread, by threads in windows of so many ticks, or as a trace
+-- tells
 abbrev pub IsLawfulIn : Setting → (clocks ticks : ℕ) → Way → Run → Type 0
 IsLawfulIn setting clocks ticks InRounds run = IsRounds setting clocks ticks run
 IsLawfulIn setting clocks ticks (InWindows window) run = AreWindows setting clocks window ticks run
@@ -79,7 +81,8 @@ pub record AreWindowsAt (setting : Setting) (clocks ticks window : ℕ) (run : R
   pub made_are : (m : ℕ) → made m ≡ windows.made m
   pub tried_are : (m : ℕ) → tried m ≡ windows.tried m
 
--- the record of a run in which each clock made and tried so many ticks; that of a replay is whole, in whatever order its clocks make theirs
+-- the record of a run in which each clock made and tried so many ticks; that of a replay is whole, in whatever order
+-- its clocks make theirs
 abbrev pub CameTo : Setting → (clocks ticks : ℕ) → Way → Run → (made tried : ℕ → ℕ) → Type 0
 CameTo setting clocks ticks InRounds run made tried = AreRoundsAt setting clocks ticks run made tried
 CameTo setting clocks ticks (InWindows window) run made tried = AreWindowsAt setting clocks ticks window run made tried

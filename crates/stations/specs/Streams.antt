@@ -20,7 +20,8 @@ header_bytes_at true kind rate samples = wide_header_bytes kind rate samples
 
 -- the header of an output of a node, for so many ticks
 abbrev pub header_for : Setting → (wide : Bool) → (ticks node : ℕ) → List ℕ
-header_for setting wide ticks node = header_bytes_at wide (kind_of setting node) setting.plan.rate (ticks * setting.plan.frame)
+header_for setting wide ticks node = header_bytes_at wide (kind_of setting node) setting.plan.rate
+    (ticks * setting.plan.frame)
 
 -- its header, and tick by tick what the node offers
 abbrev pub output_bytes : Setting → (wide : Bool) → (ticks node : ℕ) → List ℕ
@@ -40,7 +41,8 @@ zeros_after size = replicate (size % 2) 0
 
 -- all bytes of the file of an output
 abbrev pub file_bytes : Setting → (wide : Bool) → (ticks node : ℕ) → List ℕ
-file_bytes setting wide ticks node = output_bytes setting wide ticks node ++ zeros_after (body_size setting wide ticks node)
+file_bytes setting wide ticks node = output_bytes setting wide ticks node
+    ++ zeros_after (body_size setting wide ticks node)
 
 -- the files of the outputs among these sinks, in their order
 abbrev pub outputs_in : Setting → (ticks : ℕ) → List SinkPlan → List OutputFile
@@ -53,7 +55,11 @@ outputs_in setting ticks (Feed buffer node ∷ sinks) = outputs_in setting ticks
 abbrev pub parts_in : Setting → (ticks : ℕ) → (made tried : ℕ → ℕ) → List SinkPlan → List OutputPart
 parts_in setting ticks made tried [] = []
 parts_in setting ticks made tried (Output name node fallible wide ∷ sinks) =
-    record { name = name; least = front_bytes setting wide ticks (made (main_of setting node)) node; most = front_bytes setting wide ticks (tried (main_of setting node)) node }
+    record {
+      name = name;
+      least = front_bytes setting wide ticks (made (main_of setting node)) node;
+      most = front_bytes setting wide ticks (tried (main_of setting node)) node;
+    }
     ∷ parts_in setting ticks made tried sinks
 parts_in setting ticks made tried (Feed buffer node ∷ sinks) = parts_in setting ticks made tried sinks
 
@@ -61,13 +67,18 @@ parts_in setting ticks made tried (Feed buffer node ∷ sinks) = parts_in settin
 abbrev pub ends_in : Setting → (ticks : ℕ) → List SinkPlan → List OutputPart
 ends_in setting ticks [] = []
 ends_in setting ticks (Output name node fallible wide ∷ sinks) =
-    record { name = name; least = output_bytes setting wide ticks node; most = file_bytes setting wide ticks node } ∷ ends_in setting ticks sinks
+    record {
+      name = name;
+      least = output_bytes setting wide ticks node;
+      most = file_bytes setting wide ticks node;
+    } ∷ ends_in setting ticks sinks
 ends_in setting ticks (Feed buffer node ∷ sinks) = ends_in setting ticks sinks
 
 -- the gaps of the outputs among these sinks, in their order
 abbrev pub counts_in : Setting → (ticks : ℕ) → List SinkPlan → List ℕ
 counts_in setting ticks [] = []
-counts_in setting ticks (Output name node fallible wide ∷ sinks) = gaps setting node ticks ∷ counts_in setting ticks sinks
+counts_in setting ticks (Output name node fallible wide ∷ sinks) = gaps setting node ticks
+    ∷ counts_in setting ticks sinks
 counts_in setting ticks (Feed buffer node ∷ sinks) = counts_in setting ticks sinks
 
 -- all bytes of an output of a node in a run of the station
@@ -83,8 +94,10 @@ abbrev pub output_files : Station → Run → List OutputFile
 output_files station run = outputs_in (setting_of_run station run) station.ticks station.plan.sinks
 
 -- what a run which was broken off has written of its outputs, if these answers had followed
-abbrev pub parts_with : (station : Station) (run : Run) → IsBegun station run → (rest : ℕ → List Answer) → List OutputPart
-parts_with station run begun rest = parts_in (setting_with station run rest) station.ticks begun.made begun.tried station.plan.sinks
+abbrev pub parts_with : (station : Station) (run : Run) → IsBegun station run → (rest : ℕ → List Answer)
+    → List OutputPart
+parts_with station run begun rest = parts_in (setting_with station run rest) station.ticks begun.made begun.tried
+    station.plan.sinks
 
 -- what the outputs hold of a run that ended well, before they are closed
 abbrev pub ends_of : Station → Run → List OutputPart
@@ -95,5 +108,6 @@ gaps_in_order station run = counts_in (setting_of_run station run) station.ticks
 
 -- an output of an infallible node has no gap
 abbrev pub HasNoGaps : Station → Run → Type 0
-HasNoGaps station run = (mark : ℕ → Bool) (name : List ℕ) (node : ℕ) (fallible wide : Bool) → IsMarking station.plan.nodes mark
+HasNoGaps station run = (mark : ℕ → Bool) (name : List ℕ) (node : ℕ) (fallible wide : Bool)
+    → IsMarking station.plan.nodes mark
     → Contains station.plan.sinks (Output name node fallible wide) → mark node ≡ true → gaps_of station run node ≡ 0

@@ -13,7 +13,7 @@ ghost use Rattle.stations.specs.Renderings.{BeginsAsOneThread, HasOneRecord, IsD
 ghost use Rattle.stations.specs.Stations.{IsBegun, IsLawful, Station, bare, setting_of_run};
 ghost use Rattle.stations.specs.Streams.{HasNoGaps, body_size, bytes_of, header_for, zeros_after};
 ghost use Rattle.stream_meaning.specs.Sinks.{kind_of, ticks_bytes};
-ghost use Rattle.wav_io.specs.Header.{block_of, padded};
+ghost use Rattle.wav_io.specs.Header.{block_align, padded};
 
 /// Whatever buffers answer, an output of an infallible node has no gap.
 pub fn infallible_outputs_have_no_gaps()
@@ -24,7 +24,8 @@ pub fn infallible_outputs_have_no_gaps()
     stream_meaning::laws::infallible_nodes_offer();
 }
 
-/// Where no buffer joins two clocks, a lawful run renders what one thread renders, whatever the length of its windows: also a replay.
+/// Where no buffer joins two clocks, a lawful run renders what one thread renders, whatever the length of its windows:
+/// also a replay.
 pub fn threads_render_as_one_thread()
     ensures { (files : Files) (station : Station) (run : Run) → IsWellFormed station.plan
         → IsRenderable files station.plan station.ticks station.library station.clocks → station.start < 604800
@@ -44,8 +45,8 @@ pub fn one_thread_has_one_record()
     trace_replay::laws::replays_are_of_the_run();
 }
 
-/// A rendering that was broken off begins what one thread renders in rounds, where that is determined: in rounds, or where no buffer joins
-/// two clocks.
+/// A rendering that was broken off begins what one thread renders in rounds, where that is determined: in rounds, or
+/// where no buffer joins two clocks.
 pub fn broken_renderings_begin_those_of_one_thread()
     ensures { (files : Files) (station : Station) (run : Run) → IsWellFormed station.plan
         → IsRenderable files station.plan station.ticks station.library station.clocks → station.start < 604800
@@ -58,13 +59,16 @@ pub fn broken_renderings_begin_those_of_one_thread()
     run_records::laws::rounds_have_a_record();
 }
 
-/// The bytes of an output are its header, then those of all ticks, as many as its samples take, and then one zero byte, where these are odd.
+/// The bytes of an output are its header, then those of all ticks, as many as its samples take, and then one zero byte,
+/// where these are odd.
 pub fn outputs_are_whole()
     ensures bytes { (station : Station) (run : Run) (wide : Bool) (node : ℕ) → bytes_of station run wide node
-        ≡ header_for (setting_of_run station run) wide station.ticks node ++ ticks_bytes (setting_of_run station run) wide node station.ticks
+        ≡ header_for (setting_of_run station run) wide station.ticks node
+        ++ ticks_bytes (setting_of_run station run) wide node station.ticks
         ++ zeros_after (body_size (setting_of_run station run) wide station.ticks node) }
     ensures long { (station : Station) (run : Run) (wide : Bool) (node : ℕ) → length (bytes_of station run wide node)
-        ≡ 44 + padded (station.ticks * station.plan.frame * block_of wide (kind_of (setting_of_run station run) node)) }
+        ≡ 44 + padded (station.ticks * station.plan.frame * block_align wide
+        (kind_of (setting_of_run station run) node)) }
 {}
 
 /// The names under which a rendering creates its files are those of the files that each run writes, in their order.

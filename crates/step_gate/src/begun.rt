@@ -122,7 +122,8 @@ impl Begun {
         }
     }
 
-    // Waits for so many ticks of the clocks near this one; whether they came, within so many sleeps of so many milliseconds.
+    // Waits for so many ticks of the clocks near this one; whether they came, within so many sleeps of so many
+    // milliseconds.
     pub(crate) fn wait<R: Wait>(
         &self,
         rt: &R,

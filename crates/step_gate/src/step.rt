@@ -1,4 +1,5 @@
-// Clocks in threads of their own each go at their own pace. Here those that a buffer joins wait for each other, but not for long.
+// Clocks in threads of their own each go at their own pace. Here those that a buffer joins wait for each other, but not
+// for long.
 ghost use Rattle.std.specs.Prelude.{◌<◌, ◌≤◌};
 
 use crate::begun::Begun;
@@ -31,11 +32,12 @@ fn sleeps_after(vain: u64) -> u64
 
 /// A gate at which no clock begins a tick before each one that a buffer joins to it has begun its tick of this number.
 ///
-/// A clock that waited in vain gives those up for which it waited, until they begin a tick, and the next wait is half as long.
-/// After seven waits in vain there is a last sleep at the 8th, the 16th and so on. Waits are long again once all clocks have begun
-/// twice as many ticks as when the last wait was in vain, and 2048 at least. So a clock that stopped holds the others for a second,
-/// and clocks that run one behind another hold each other for two, once or twice in all. A clock that no buffer joins to another
-/// waits for nobody, and nor does one whose number is [`MAX_CLOCKS`] or more.
+/// A clock that waited in vain gives those up for which it waited, until they begin a tick, and the next wait is half
+/// as long. After seven waits in vain there is a last sleep at the 8th, the 16th and so on. Waits are long again once
+/// all clocks have begun twice as many ticks as when the last wait was in vain, and 2048 at least. So a clock that
+/// stopped holds the others for a second, and clocks that run one behind another hold each other for two, once or twice
+/// in all. A clock that no buffer joins to another waits for nobody, and nor does one whose number is [`MAX_CLOCKS`] or
+/// more.
 #[derive(Drop)]
 pub struct StepGate<'a, R> {
     rt: &'a R,
@@ -63,8 +65,8 @@ impl<'a, R> StepGate<'a, R> {
         self.count_from(vain, vain.saturating_add(1));
     }
 
-    // Whether all has gone well for long, where a wait for so many ticks was not in vain. That it was not says little: where some
-    // clocks run behind others, the last of each window find that all have come.
+    // Whether all has gone well for long, where a wait for so many ticks was not in vain. That it was not says little:
+    // where some clocks run behind others, the last of each window find that all have come.
     fn is_calm(&self, ticks: u64) -> bool {
         ticks / 2 >= self.vain_ticks.load(Ordering::SeqCst).max(CALM) && self.begun.have_all(ticks)
     }

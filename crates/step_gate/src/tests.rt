@@ -53,7 +53,8 @@ fn two_clocks_come_to_their_ends(rt: HostRuntime) {
     assert_eq!(rt; second, 1000);
 }
 
-// Of four clocks in a chain the first thread runs 0 and then 1, the other one 3 and then 2. So 0 and 3 wait in vain, and 1 and 2 do not.
+// Of four clocks in a chain the first thread runs 0 and then 1, the other one 3 and then 2. So 0 and 3 wait in vain,
+// and 1 and 2 do not.
 fn behind_others<R: Threads + Wait + Sync>(rt: &R) -> u64 {
     let gate = StepGate::new(rt);
     gate.join(0, 1);

@@ -9,7 +9,7 @@ use Rattle.frame_core.specs.declared.cell.Cell.{Cell}
 use Rattle.frame_core.specs.Slots.{Slot}
 use Rattle.frame_core.specs.Calls.{Call, Answer}
 use Rattle.op_cross.specs.Runs.{run_of}
-use Rattle.op_leaf.specs.Readers.{takes_of}
+use Rattle.op_leaf.specs.Readers.{reader_takes}
 use Rattle.stream_meaning.specs.Operators.{Work, Plays, Picks, Mixes, Fades, Reads}
 use Rattle.stream_meaning.specs.Instants.{Setting, Moment, clock_of, lies_in, position, next_answers, reading_after, work_at, first_instants, sub_of}
 use Rattle.stream_meaning.specs.Sinks.{feed_cells}
@@ -37,7 +37,7 @@ no_taken_by setting past i buffer (Picks choice eligible) other = refl
 no_taken_by setting past i buffer (Mixes mixing) other = refl
 no_taken_by setting past i buffer (Fades overlap) other = refl
 no_taken_by setting past i buffer (Reads read) other =
-    answers_in-other buffer read (takes_of (next_answers (setting.answers read) (reading_after setting i read past)) (reading_after setting i read past).reader) (λ same. other (ap Reads same))
+    answers_in-other buffer read (reader_takes (next_answers (setting.answers read) (reading_after setting i read past)) (reading_after setting i read past).reader) (λ same. other (ap Reads same))
 
 no_taken_in : (setting : Setting) (clock : NodeClock) (past : List Moment) (buffer : ℕ) → IsUnread setting clock buffer → (i : ℕ) (inside : Bool) (found : Option Node) → lies_in setting clock i ≡ inside → slice_get setting.plan.nodes i ≡ found
     → answers_in buffer (takes_in setting inside past i found) ≡ []

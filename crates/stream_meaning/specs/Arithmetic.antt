@@ -10,9 +10,9 @@ cells_of [] = []
 cells_of (None ∷ slots) = cells_of slots
 cells_of (Some cell ∷ slots) = cell ∷ cells_of slots
 
-abbrev pub sum_of : (Cell → ℤ) → List Cell → ℤ
-sum_of sample [] = pos 0
-sum_of sample (cell ∷ cells) = sample cell +ℤ sum_of sample cells
+abbrev pub total_by : (Cell → ℤ) → List Cell → ℤ
+total_by sample [] = pos 0
+total_by sample (cell ∷ cells) = sample cell +ℤ total_by sample cells
 
 -- the sum of so many samples: their mean, or the sum cut to the range of a sample
 abbrev pub levelled : Bool → ℕ → ℤ → ℤ
@@ -22,8 +22,8 @@ levelled normalize parts sum = if normalize then mean_of sum parts else clamped 
 abbrev pub summed_slot : Bool → List Cell → Slot
 summed_slot normalize [] = None
 summed_slot normalize (cell ∷ cells) = Some (record {
-  left = levelled normalize (length (cell ∷ cells)) (sum_of (λ c. c.left) (cell ∷ cells));
-  right = levelled normalize (length (cell ∷ cells)) (sum_of (λ c. c.right) (cell ∷ cells));
+  left = levelled normalize (length (cell ∷ cells)) (total_by (λ c. c.left) (cell ∷ cells));
+  right = levelled normalize (length (cell ∷ cells)) (total_by (λ c. c.right) (cell ∷ cells));
   first = cell.first;
   title = cell.title;
 })
@@ -31,7 +31,12 @@ summed_slot normalize (cell ∷ cells) = Some (record {
 -- each sample times so many millionths
 abbrev pub amplified : ℤ → Cell → Cell
 amplified millionths cell =
-    record { left = scaled millionths cell.left; right = scaled millionths cell.right; first = cell.first; title = cell.title }
+    record {
+      left = scaled millionths cell.left;
+      right = scaled millionths cell.right;
+      first = cell.first;
+      title = cell.title;
+    }
 
 -- half the sum of both sides, in mono
 abbrev pub halved : Cell → Cell

@@ -10,7 +10,7 @@ use Rattle.clock_infer.specs.declared.clock_map.NodeClock.TheVariants.{Main, Sub
 use Rattle.frame_core.specs.Slots.{Slot}
 use Rattle.frame_core.specs.Calls.{Call, Took, Given, Answer}
 use Rattle.op_cross.specs.Runs.{run_of}
-use Rattle.op_leaf.specs.Readers.{takes_of}
+use Rattle.op_leaf.specs.Readers.{reader_takes}
 use Rattle.stream_meaning.specs.Operators.{Work, Plays, Picks, Mixes, Fades, Reads}
 use Rattle.stream_meaning.specs.Instants.{Setting, Moment, clock_of, lies_in, position, next_answers, reading_after, work_at, first_instants, sub_of}
 use Rattle.stream_meaning.specs.Sinks.{feed_cells}
@@ -32,7 +32,7 @@ takes_by setting past i (Mixes mixing) = []
 takes_by setting past i (Fades overlap) = []
 takes_by setting past i (Reads buffer) =
     let reading = reading_after setting i buffer past in
-    map (Took buffer) (takes_of (next_answers (setting.answers buffer) reading) reading.reader)
+    map (Took buffer) (reader_takes (next_answers (setting.answers buffer) reading) reading.reader)
 
 abbrev pub takes_in : Setting → Bool → List Moment → ℕ → Option Node → List Call
 takes_in setting inside past i None = []
@@ -43,7 +43,8 @@ takes_in setting true past i (Some node) = takes_by setting past i (work_at sett
 abbrev pub takes_at : Setting → NodeClock → List Moment → List Call
 takes_at setting clock past =
     if nat_eq (length past % setting.plan.frame) 0
-    then joined_upto (λ i. takes_in setting (lies_in setting clock i) past i (slice_get setting.plan.nodes i)) (length setting.plan.nodes)
+    then joined_upto (λ i. takes_in setting (lies_in setting clock i) past i (slice_get setting.plan.nodes i))
+    (length setting.plan.nodes)
     else []
 
 -- how many instants the sub-clock of crossfade k has made by the end of these instants of its clock
@@ -51,26 +52,30 @@ abbrev pub ran_by : (sub : ℕ → ℕ → List Slot) → (k overlap : ℕ) → 
 ran_by sub k overlap [] = 0
 ran_by sub k overlap (moment ∷ past) = run_of overlap (sub k) (position past k)
 
--- the calls of the instants that a crossfade's sub-clock makes at the instant after these; `below k m` are those of its instant m
+-- the calls of the instants that a crossfade's sub-clock makes at the instant after these; `below k m` are those of its
+-- instant m
 abbrev pub fades_by : (sub : ℕ → ℕ → List Slot) → (below : ℕ → ℕ → List Call) → List Moment → ℕ → Work → List Call
 fades_by sub below past k (Plays leaf) = []
 fades_by sub below past k (Picks choice eligible) = []
 fades_by sub below past k (Mixes mixing) = []
-fades_by sub below past k (Fades overlap) = joined_between (below k) (ran_by sub k overlap past) (run_of overlap (sub k) (position past k))
+fades_by sub below past k (Fades overlap) = joined_between (below k) (ran_by sub k overlap past)
+    (run_of overlap (sub k) (position past k))
 fades_by sub below past k (Reads buffer) = []
 
-abbrev pub fades_in : Setting → (sub : ℕ → ℕ → List Slot) → (below : ℕ → ℕ → List Call) → Bool → List Moment → ℕ → Option Node → List Call
+abbrev pub fades_in : Setting → (sub : ℕ → ℕ → List Slot) → (below : ℕ → ℕ → List Call) → Bool → List Moment → ℕ
+    → Option Node → List Call
 fades_in setting sub below inside past k None = []
 fades_in setting sub below false past k (Some node) = []
 fades_in setting sub below true past k (Some node) = fades_by sub below past k (work_at setting k node)
 
--- the calls of the instant of a clock after these: the takes of its readers, and then for each of its crossfades in node order
--- those of the instants of its sub-clock, where sub-clocks nest less deep than this
+-- the calls of the instant of a clock after these: the takes of its readers, and then for each of its crossfades in
+-- node order those of the instants of its sub-clock, where sub-clocks nest less deep than this
 abbrev pub calls_at : Setting → (sub : ℕ → ℕ → List Slot) → (depth : ℕ) → NodeClock → List Moment → List Call
 calls_at setting sub zero clock past = []
 calls_at setting sub (suc depth) clock past =
     takes_at setting clock past
-    ++ joined_upto (λ k. fades_in setting sub (λ j m. calls_at setting sub depth (Sub j) (first_instants setting sub (Sub j) m))
+    ++ joined_upto (λ k. fades_in setting sub
+    (λ j m. calls_at setting sub depth (Sub j) (first_instants setting sub (Sub j) m))
     (lies_in setting clock k) past k (slice_get setting.plan.nodes k)) (length setting.plan.nodes)
 
 -- the calls of the instant of a clock after these: sub-clocks nest no deeper than there are nodes
@@ -92,7 +97,8 @@ gives_of_tick setting accepted m t = flat_map (give_by setting accepted m t) set
 
 abbrev pub takes_of_tick : Setting → (m t : ℕ) → List Call
 takes_of_tick setting m t = joined_upto
-    (λ j. calls_of setting (sub_of setting) (Main m) (first_instants setting (sub_of setting) (Main m) (t * setting.plan.frame + j)))
+    (λ j. calls_of setting (sub_of setting) (Main m)
+    (first_instants setting (sub_of setting) (Main m) (t * setting.plan.frame + j)))
     setting.plan.frame
 
 -- the calls of tick t of main clock m
@@ -102,7 +108,8 @@ calls_of_tick setting accepted m t = takes_of_tick setting m t ++ gives_of_tick 
 -- the answers that were got for a buffer in these calls
 abbrev pub answers_in : ℕ → List Call → List Answer
 answers_in buffer [] = []
-answers_in buffer (Took other answer ∷ calls) = if nat_eq other buffer then answer ∷ answers_in buffer calls else answers_in buffer calls
+answers_in buffer (Took other answer ∷ calls) = if nat_eq other buffer then answer ∷ answers_in buffer calls
+    else answers_in buffer calls
 answers_in buffer (Given other cells accepted ∷ calls) = answers_in buffer calls
 
 -- answers, and behind them those of these calls
@@ -122,7 +129,9 @@ pub record IsBegin (made calls : List Call) : Type 0 where
 -- the calls of each instant of each clock go by those of the sub-clocks' instants
 pub record GoDown (setting : Setting) (sub : ℕ → ℕ → List Slot) : Type 0 where
   pub each : (clock : NodeClock) (past : List Moment) → calls_of setting sub clock past
-      ≡ takes_at setting clock past ++ joined_upto (λ k. fades_in setting sub (λ j m. calls_of setting sub (Sub j) (first_instants setting sub (Sub j) m))
+      ≡ takes_at setting clock past
+      ++ joined_upto (λ k. fades_in setting sub
+      (λ j m. calls_of setting sub (Sub j) (first_instants setting sub (Sub j) m))
       (lies_in setting clock k) past k (slice_get setting.plan.nodes k)) (length setting.plan.nodes)
 
 -- node i lies in a clock, or in a sub-clock so many ranks below it
@@ -132,4 +141,5 @@ IsBelow setting clock (suc rank) i = (k : ℕ) × (clock_of setting i ≡ Sub k)
 
 -- no node in a clock or below it reads this buffer
 pub record IsUnread (setting : Setting) (clock : NodeClock) (buffer : ℕ) : Type 0 where
-  pub none : (rank i : ℕ) (node : Node) → slice_get setting.plan.nodes i ≡ Some node → work_at setting i node ≡ Reads buffer → IsBelow setting clock rank i → ⊥
+  pub none : (rank i : ℕ) (node : Node) → slice_get setting.plan.nodes i ≡ Some node
+      → work_at setting i node ≡ Reads buffer → IsBelow setting clock rank i → ⊥

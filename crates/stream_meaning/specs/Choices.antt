@@ -7,7 +7,8 @@ use Rattle.stream_meaning.specs.Instants.{Moment, choices, gives, last_pick, slo
 -- what these children offered at those of these instants at which node i gave, the latest first
 abbrev pub gave_over : List Moment → (i : ℕ) → (children : List ℕ) → List (List Slot)
 gave_over [] i children = []
-gave_over (moment ∷ past) i children = if gives moment i then slots_at moment.parts children ∷ gave_over past i children else gave_over past i children
+gave_over (moment ∷ past) i children = if gives moment i then slots_at moment.parts children ∷ gave_over past i children
+    else gave_over past i children
 
 -- what node i goes by behind these instants
 abbrev pub turned : List Moment → ℕ → Past

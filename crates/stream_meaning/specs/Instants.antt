@@ -1,5 +1,5 @@
--- The instants of a clock: what each of its nodes offers and uses, which nodes are demanded, which give. An instant is made
--- from those before it, the latest first, and from the slots of the sub-clocks of its crossfades.
+-- The instants of a clock: what each of its nodes offers and uses, which nodes are demanded, which give. An instant is
+-- made from those before it, the latest first, and from the slots of the sub-clocks of its crossfades.
 use Rattle.std.specs.Prelude.{◌≡◌, Bool, true, false, not, ◌&&◌, ◌||◌, Option, Some, None, List, [], ◌∷◌, ◌++◌, ℕ, zero, suc, ◌+◌, ◌/◌, ◌%◌, length, map, max, drop, nat_eq, is_some, if◌then◌else◌, slice_get, slice_index_or}
 use Rattle.std.specs.List.{list_any}
 use Rattle.std.specs.Option.{option_map_or}
@@ -13,15 +13,15 @@ use Rattle.frame_core.specs.Slots.{Slot, is_first}
 use Rattle.op_cross.specs.Runs.{item_of}
 use Rattle.op_leaf.specs.Leaves.{leaf_slot}
 use Rattle.frame_core.specs.Calls.{Answer}
-use Rattle.op_leaf.specs.Readers.{Reader, after_cell, at_start, reader_slot, takes_of}
+use Rattle.op_leaf.specs.Readers.{Reader, after_cell, at_start, reader_slot, reader_takes}
 use Rattle.op_select.specs.declared.rule.Picked.{Picked}
 use Rattle.op_select.specs.Selection.{picked}
 use Rattle.stream_meaning.specs.declared.part.Part.{Part}
 use Rattle.stream_meaning.specs.Arithmetic.{mix_slot}
 use Rattle.stream_meaning.specs.Operators.{Work, Plays, Picks, Mixes, Fades, Reads, child_used, work_of, marks_at}
 
--- what is the same at all instants: the plan, its audio files, the clock of each node, the start second, and the answers
--- that are given for each buffer
+-- what is the same at all instants: the plan, its audio files, the clock of each node, the start second, and the
+-- answers that are given for each buffer
 pub record Setting : Type 0 where
   pub plan : Plan
   pub library : Sounds
@@ -31,7 +31,13 @@ pub record Setting : Type 0 where
 
 -- the same with other answers
 abbrev pub answered : Setting → (ℕ → List Answer) → Setting
-answered setting answers = record { plan = setting.plan; library = setting.library; clocks = setting.clocks; start = setting.start; answers = answers }
+answered setting answers = record {
+  plan = setting.plan;
+  library = setting.library;
+  clocks = setting.clocks;
+  start = setting.start;
+  answers = answers;
+}
 
 -- the setting with these answers, and behind them any others
 abbrev pub with_rest : Setting → (answers rest : ℕ → List Answer) → Setting
@@ -85,17 +91,17 @@ abbrev pub gives : Moment → ℕ → Bool
 gives moment i = demanded moment i && is_some (offer moment i)
 
 -- at how many of these instants node i gave
-abbrev pub count : List Moment → ℕ → ℕ
-count [] i = 0
-count (moment ∷ past) i = if gives moment i then suc (count past i) else count past i
+abbrev pub gives_before : List Moment → ℕ → ℕ
+gives_before [] i = 0
+gives_before (moment ∷ past) i = if gives moment i then suc (gives_before past i) else gives_before past i
 
 -- the child that a node used when it last gave
 abbrev pub last_pick : List Moment → ℕ → Option ℕ
 last_pick [] i = None
 last_pick (moment ∷ past) i = if gives moment i then (part_at moment.parts i).pick else last_pick past i
 
--- at how many of these instants node i gave a cell that begins a track: so many choices a rotate or a random has made, since it
--- marks a cell exactly where its child was found by a choice
+-- at how many of these instants node i gave a cell that begins a track: so many choices a rotate or a random has made,
+-- since it marks a cell exactly where its child was found by a choice
 abbrev pub choices : List Moment → ℕ → ℕ
 choices [] i = 0
 choices (moment ∷ past) i = if gives moment i && is_first (offer moment i) then suc (choices past i) else choices past i
@@ -103,7 +109,8 @@ choices (moment ∷ past) i = if gives moment i && is_first (offer moment i) the
 -- the item of crossfade i: it has gone on where it gave, and where its item was empty
 abbrev pub position : List Moment → ℕ → ℕ
 position [] i = 0
-position (moment ∷ past) i = if gives moment i || not (is_some (offer moment i)) then suc (position past i) else position past i
+position (moment ∷ past) i = if gives moment i || not (is_some (offer moment i)) then suc (position past i)
+    else position past i
 
 -- a reader before the first instant of its clock
 abbrev pub new_reading : Setting → (buffer : ℕ) → Reading
@@ -120,7 +127,7 @@ next_answers answers reading = drop reading.taken answers
 abbrev pub started : List Answer → Reading → Reading
 started answers reading = record {
   reader = at_start (next_answers answers reading) reading.reader;
-  taken = reading.taken + length (takes_of (next_answers answers reading) reading.reader);
+  taken = reading.taken + length (reader_takes (next_answers answers reading) reading.reader);
 }
 
 -- a reader at an instant, where `before` is the reader that the instant before left
@@ -151,10 +158,11 @@ picked_part (Some picked) = record { slot = Some picked.cell; pick = Some picked
 
 -- what node i offers and picks, over its children's slots; `sub k m` are the first m slots of crossfade k's child
 abbrev pub part_by : Setting → (sub : ℕ → ℕ → List Slot) → List Moment → ℕ → Work → List Slot → Part
-part_by setting sub past i (Plays leaf) slots = unpicked (leaf_slot setting.library leaf (count past i))
+part_by setting sub past i (Plays leaf) slots = unpicked (leaf_slot setting.library leaf (gives_before past i))
 part_by setting sub past i (Picks choice eligible) slots =
     picked_part (picked slots (last_pick past i)
-    (child_used choice slots (marks_at eligible (second_at setting (length past)) (length slots)) (last_pick past i) (choices past i)))
+    (child_used choice slots (marks_at eligible (second_at setting (length past)) (length slots)) (last_pick past i)
+    (choices past i)))
 part_by setting sub past i (Mixes mixing) slots = unpicked (mix_slot mixing slots)
 part_by setting sub past i (Fades overlap) slots = unpicked (item_of overlap (sub i) (position past i))
 part_by setting sub past i (Reads buffer) slots =
@@ -167,7 +175,8 @@ work_at setting i node = work_of setting.plan.rate i node.kind node.op
 abbrev pub part_in : Setting → (sub : ℕ → ℕ → List Slot) → Bool → List Moment → ℕ → Option Node → List Part → Part
 part_in setting sub inside past i None before = silent
 part_in setting sub false past i (Some node) before = silent
-part_in setting sub true past i (Some node) before = part_by setting sub past i (work_at setting i node) (slots_at before node.children)
+part_in setting sub true past i (Some node) before = part_by setting sub past i (work_at setting i node)
+    (slots_at before node.children)
 
 -- the parts of the first n nodes
 abbrev pub parts_upto : Setting → (sub : ℕ → ℕ → List Slot) → NodeClock → List Moment → ℕ → List Part
@@ -225,12 +234,14 @@ is_root setting (Sub k) i = nat_eq (crossfaded setting.plan.nodes k) i
 abbrev pub moment_of : Setting → NodeClock → List Part → Moment
 moment_of setting clock parts = record {
   parts = parts;
-  demands = demands_from (λ i. lies_in setting clock i && is_root setting clock i) 0 (uses_from setting parts 0 setting.plan.nodes);
+  demands = demands_from (λ i. lies_in setting clock i
+      && is_root setting clock i) 0 (uses_from setting parts 0 setting.plan.nodes);
 }
 
 -- the instant of a clock after these
 abbrev pub moment_after : Setting → (sub : ℕ → ℕ → List Slot) → NodeClock → List Moment → Moment
-moment_after setting sub clock past = moment_of setting clock (parts_upto setting sub clock past (length setting.plan.nodes))
+moment_after setting sub clock past = moment_of setting clock
+    (parts_upto setting sub clock past (length setting.plan.nodes))
 
 -- the first n instants of a clock, the latest first
 abbrev pub first_instants : Setting → (sub : ℕ → ℕ → List Slot) → NodeClock → ℕ → List Moment
@@ -245,12 +256,14 @@ slots_of (moment ∷ past) i = slots_of past i ++ offer moment i ∷ []
 
 -- `sub` is the meaning of the sub-clocks: the first m slots of each crossfade's child in the crossfade's own sub-clock
 abbrev pub IsMeaning : Setting → (sub : ℕ → ℕ → List Slot) → Type 0
-IsMeaning setting sub = (k m : ℕ) → sub k m ≡ slots_of (first_instants setting sub (Sub k) m) (crossfaded setting.plan.nodes k)
+IsMeaning setting sub = (k m : ℕ) → sub k m
+    ≡ slots_of (first_instants setting sub (Sub k) m) (crossfaded setting.plan.nodes k)
 
 -- these slots, for sub-clocks that nest no deeper than this
 abbrev pub sub_within : Setting → (depth : ℕ) → ℕ → ℕ → List Slot
 sub_within setting zero k m = []
-sub_within setting (suc depth) k m = slots_of (first_instants setting (sub_within setting depth) (Sub k) m) (crossfaded setting.plan.nodes k)
+sub_within setting (suc depth) k m = slots_of (first_instants setting (sub_within setting depth) (Sub k) m)
+    (crossfaded setting.plan.nodes k)
 
 -- the slots of the sub-clocks: they nest no deeper than there are nodes
 abbrev pub sub_of : Setting → ℕ → ℕ → List Slot
@@ -258,4 +271,6 @@ sub_of setting = sub_within setting (suc (length setting.plan.nodes))
 
 -- the slot of node i at instant n of its clock
 abbrev pub stream_of : Setting → ℕ → ℕ → Slot
-stream_of setting i n = offer (moment_after setting (sub_of setting) (clock_of setting i) (first_instants setting (sub_of setting) (clock_of setting i) n)) i
+stream_of setting i n = offer
+    (moment_after setting (sub_of setting) (clock_of setting i)
+    (first_instants setting (sub_of setting) (clock_of setting i) n)) i

@@ -1,5 +1,5 @@
--- What a node does, sorted: a leaf, a choice among its children, a mix of them, a crossfade or a reader. Nothing else tells operators
--- apart.
+-- What a node does, sorted: a leaf, a choice among its children, a mix of them, a crossfade or a reader. Nothing else
+-- tells operators apart.
 use Rattle.std.specs.Prelude.{Bool, true, Option, List, ℕ, map, replicate}
 use Rattle.liq_base.specs.declared.memory.Kind.{Kind}
 use Rattle.time_pred.specs.Predicates.{Predicate, holds}
@@ -30,11 +30,14 @@ pub data Choice : Type 0 where
   Selects : Rule → Choice
   TakesTurns : Turn → Choice
 
--- the child that is used, over the children's slots and which are eligible, by the child that was used last and the number of
--- choices that gave
+-- the child that is used, over the children's slots and which are eligible, by the child that was used last and the
+-- number of choices that gave
 abbrev pub child_used : Choice → List Slot → List Bool → (last : Option ℕ) → (choices : ℕ) → Option ℕ
 child_used (Selects rule) slots eligible last choices = pick_of rule slots eligible last
-child_used (TakesTurns turn) slots eligible last choices = used_child turn (record { last = last; choices = choices }) slots
+child_used (TakesTurns turn) slots eligible last choices = used_child turn (record {
+  last = last;
+  choices = choices;
+}) slots
 
 pub data Work : Type 0 where
   Plays : Leaf → Work

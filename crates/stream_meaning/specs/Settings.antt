@@ -17,7 +17,8 @@ pub record IsSetting (setting : Setting) (clocks : ClockMap) : Type 0 where
   pub each : setting.clocks ≡ clocks.of
   pub library : IsLibrary setting.library
   pub leaves : length setting.library.leaves ≡ length setting.plan.nodes
-  pub singles : (i : ℕ) (node : Node) (file : List ℕ) → slice_get setting.plan.nodes i ≡ Some node → node.op ≡ Single file
+  pub singles : (i : ℕ) (node : Node) (file : List ℕ) → slice_get setting.plan.nodes i ≡ Some node
+      → node.op ≡ Single file
       → length (tracks_of setting.library i) ≡ 1
   pub start : setting.start < 604800
 

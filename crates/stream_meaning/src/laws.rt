@@ -22,8 +22,8 @@ pub fn sub_clocks_have_slots()
     ensures { (setting : Setting) (clocks : Map) → IsSetting setting clocks → IsMeaning setting (sub_of setting) }
 {}
 
-/// Whatever answers are given, an infallible node offers a cell at every instant of its clock, so an output of it has no
-/// gap.
+/// Whatever answers are given, an infallible node offers a cell at every instant of its clock, so an output of it has
+/// no gap.
 pub fn infallible_nodes_offer()
     ensures cells { (setting : Setting) (clocks : Map) (mark : ℕ → Bool) (i n : ℕ) → IsSetting setting clocks
         → IsMarking setting.plan.nodes mark → i < length setting.plan.nodes → mark i ≡ true
@@ -33,22 +33,30 @@ pub fn infallible_nodes_offer()
         → gaps setting i ticks ≡ 0 }
 {}
 
-/// What a rotate or a random goes by at an instant is the past behind the instants at which it gave: the child that it used
-/// last, and the number of its choices.
+/// What a rotate or a random goes by at an instant is the past behind the instants at which it gave: the child that it
+/// used last, and the number of its choices.
 pub fn turns_go_by_choices()
-    ensures { (setting : Setting) (sub : ℕ → ℕ → List TheSlot) (i n : ℕ) (node : TheNode) (turn : TheTurn) (eligible : Eligible)
-        → AreNodes setting.plan.nodes → slice_get setting.plan.nodes i ≡ Some node → work_at setting i node ≡ Picks (TakesTurns turn) eligible
-        → turned (first_instants setting sub (clock_of setting i) n) i ≡ past_of turn (gave_over (first_instants setting sub (clock_of setting i) n) i node.children) }
+    ensures { (setting : Setting) (sub : ℕ → ℕ
+        → List TheSlot) (i n : ℕ) (node : TheNode) (turn : TheTurn) (eligible : Eligible)
+        → AreNodes setting.plan.nodes → slice_get setting.plan.nodes i ≡ Some node
+        → work_at setting i node ≡ Picks (TakesTurns turn) eligible
+        → turned (first_instants setting sub (clock_of setting i) n) i
+        ≡ past_of turn (gave_over (first_instants setting sub (clock_of setting i) n) i node.children) }
 {}
 
-/// The calls of an instant are the takes of its clock's readers, and then those of the instants that its sub-clocks make.
+/// The calls of an instant are the takes of its clock's readers, and then those of the instants that its sub-clocks
+/// make.
 pub fn calls_go_by_sub_clocks()
     ensures { (setting : Setting) (clocks : Map) → IsSetting setting clocks
         → (sub : ℕ → ℕ → List TheSlot) (clock : Clock) (past : List Moment)
-        → calls_of setting sub clock past ≡ takes_at setting clock past ++ joined_upto (λ k. fades_in setting sub (λ j m. calls_of setting sub (InSub j) (first_instants setting sub (InSub j) m)) (lies_in setting clock k) past k (slice_get setting.plan.nodes k)) (length setting.plan.nodes) }
+        → calls_of setting sub clock past ≡ takes_at setting clock past
+        ++ joined_upto (λ k. fades_in setting sub
+        (λ j m. calls_of setting sub (InSub j) (first_instants setting sub (InSub j) m)) (lies_in setting clock k) past
+        k (slice_get setting.plan.nodes k)) (length setting.plan.nodes) }
 {}
 
-/// A plan without readers and feeds makes no calls, whatever the setting; a well-formed plan that counts no buffer is one.
+/// A plan without readers and feeds makes no calls, whatever the setting; a well-formed plan that counts no buffer is
+/// one.
 pub fn no_calls_without_buffers()
     ensures none { (setting : Setting) → HasNoBuffers setting.plan → (accepted : ℕ → Bool) (m t : ℕ)
         → calls_of_tick setting accepted m t ≡ [] }

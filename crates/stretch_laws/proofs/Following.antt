@@ -20,7 +20,7 @@ use Rattle.op_leaf.specs.Readers.{reader_slot}
 use Rattle.op_select.specs.Selection.{goes_on, picked}
 use Rattle.stream_meaning.specs.declared.part.Part.{Part}
 use Rattle.stream_meaning.specs.Operators.{Work, Plays, Picks, Mixes, Fades, Reads, child_used, marks_at}
-use Rattle.stream_meaning.specs.Instants.{Setting, Moment, Reading, child_at, choices, count, demanded, gives, is_root, last_pick, lies_in, moment_after, offer, offering, part_at, part_by, parts_upto, picked_part, position, reading_after, reading_at, second_at, silent, slots_at, started, uses_by, uses_from, work_at}
+use Rattle.stream_meaning.specs.Instants.{Setting, Moment, Reading, child_at, choices, gives_before, demanded, gives, is_root, last_pick, lies_in, moment_after, offer, offering, part_at, part_by, parts_upto, picked_part, position, reading_after, reading_at, second_at, silent, slots_at, started, uses_by, uses_from, work_at}
 use Rattle.stretch_laws.specs.Steady.{Follows, AllFollow}
 use Rattle.stretch_laws.specs.Stretches.{IsLike, IsNode, IsOn, IsStretch}
 use Rattle.stretch_laws.proofs.Staying.{follow_length, none_follows}
@@ -192,8 +192,8 @@ module _ (setting : Setting) (sub : ℕ → ℕ → List Slot) (clock : NodeCloc
         → (part_at (Before All) i ≡ part_by setting sub past i work Slots)
         → KeptPart (demanded First i) (part_by setting sub past i work Slots) (part_by setting sub later i work Others)
     by_work (Plays leaf) at same =
-        let g : gives First i ≡ (demanded First i && is_some (leaf_slot setting.library leaf (count past i))) = ap (λ (p : Part). demanded First i && is_some p.slot) same in
-        kept_alone (demanded First i) (leaf_slot setting.library leaf (count past i)) (leaf_slot setting.library leaf (count later i))
+        let g : gives First i ≡ (demanded First i && is_some (leaf_slot setting.library leaf (gives_before past i))) = ap (λ (p : Part). demanded First i && is_some p.slot) same in
+        kept_alone (demanded First i) (leaf_slot setting.library leaf (gives_before past i)) (leaf_slot setting.library leaf (gives_before later i))
         (λ e. ap (λ n. is_inner (leaf_slot setting.library leaf n)) (on.given i (g ∙ e)) ∙ stretch.leaves i node leaf j is at some within (g ∙ e))
         (λ e. ap (leaf_slot setting.library leaf) (on.kept i (g ∙ e)))
     by_work (Fades overlap) at same =

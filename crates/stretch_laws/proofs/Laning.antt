@@ -18,7 +18,7 @@ use Rattle.op_select.specs.Selection.{picked, picked_cell}
 use Rattle.stream_meaning.specs.declared.part.Part.{Part}
 use Rattle.stream_meaning.specs.Arithmetic.{Mixing, mix_slot}
 use Rattle.stream_meaning.specs.Operators.{Work, Choice, Eligible, Plays, Picks, Mixes, Fades, Reads, child_used, marks_at}
-use Rattle.stream_meaning.specs.Instants.{Setting, Moment, Reading, choices, count, demanded, gives, last_pick, moment_after, offer, part_at, part_by, parts_upto, picked_part, position, reading_after, reading_at, second_at, slots_at, work_at}
+use Rattle.stream_meaning.specs.Instants.{Setting, Moment, Reading, choices, gives_before, demanded, gives, last_pick, moment_after, offer, part_at, part_by, parts_upto, picked_part, position, reading_after, reading_at, second_at, slots_at, work_at}
 use Rattle.stretch_laws.specs.Stretches.{IsNode, IsStretch, going_on, lane}
 use Rattle.stretch_laws.proofs.Staying.{picked-none, picked-some}
 use Rattle.stretch_laws.proofs.Parts.{own_part, part_stays}
@@ -80,7 +80,7 @@ module _ (setting : Setting) (sub : ℕ → ℕ → List Slot) (clock : NodeCloc
   part_works j work at = part_is j ∙ ap (λ w. part_by setting sub (Later j) i w (Slots j)) at
 
   pub played : (leaf : Leaf) (j : ℕ) → work_at setting i node ≡ Plays leaf → j < instants → gives First i ≡ true
-      → lane setting sub clock past j i ≡ leaf_slot setting.library leaf (count past i + j)
+      → lane setting sub clock past j i ≡ leaf_slot setting.library leaf (gives_before past i + j)
   played leaf j at within gave =
       ap (λ (p : Part). p.slot) (part_works j (Plays leaf) at)
       ∙ ap (leaf_slot setting.library leaf) ((on_all setting sub clock past instants nodes stretch j (omega (arith, within))).given i gave)

@@ -8,7 +8,7 @@ use Rattle.clock_infer.specs.declared.clock_map.NodeClock.{NodeClock}
 use Rattle.frame_core.specs.Slots.{Slot, is_first, is_inner}
 use Rattle.op_leaf.specs.Readers.{after_cell, read_by}
 use Rattle.stream_meaning.specs.Operators.{Reads}
-use Rattle.stream_meaning.specs.Instants.{Setting, Moment, Reading, choices, count, demanded, gives, last_pick, moment_after, offer, part_at, position, read_on, reading_after, reading_at, work_at}
+use Rattle.stream_meaning.specs.Instants.{Setting, Moment, Reading, choices, gives_before, demanded, gives, last_pick, moment_after, offer, part_at, position, read_on, reading_after, reading_at, work_at}
 use Rattle.stretch_laws.specs.Stretches.{IsLike, IsNode, IsOn, IsStretch, going_on}
 use Rattle.stretch_laws.proofs.Works.{inner_first}
 use Rattle.stretch_laws.proofs.Following.{is_like, no_tick}
@@ -131,8 +131,8 @@ module _ (setting : Setting) (sub : ℕ → ℕ → List Slot) (clock : NodeCloc
       → IsOn setting sub clock past (suc j) (moment ∷ later)
   on_next j later moment within start like on = record {
     long = (let long = on.long in omega (arith, long));
-    given = λ i g. count_more (gives moment i) (count later i) (like.gave i ∙ g) ∙ (let e = on.given i g in omega (arith, e));
-    kept = λ i g. count_same (gives moment i) (suc (count later i)) (count later i) (like.gave i ∙ g) ∙ on.kept i g;
+    given = λ i g. count_more (gives moment i) (gives_before later i) (like.gave i ∙ g) ∙ (let e = on.given i g in omega (arith, e));
+    kept = λ i g. count_same (gives moment i) (suc (gives_before later i)) (gives_before later i) (like.gave i ∙ g) ∙ on.kept i g;
     picked = λ i g some. count_taken (gives moment i) (part_at moment.parts i).pick (last_pick later i) (like.gave i ∙ g) ∙ like.picks i g;
     stayed = λ i g. count_same (gives moment i) (part_at moment.parts i).pick (last_pick later i) (like.gave i ∙ g) ∙ on.stayed i g;
     chosen = λ i g some. choice_more (gives moment i) (is_first (offer moment i)) (choices later i) (like.gave i ∙ g) ∙ counted j later moment start like on i g;

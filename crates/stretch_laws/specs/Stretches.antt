@@ -11,7 +11,7 @@ use Rattle.op_leaf.specs.declared.leaf.Leaf.{Leaf}
 use Rattle.op_leaf.specs.Leaves.{leaf_slot}
 use Rattle.op_leaf.specs.Readers.{read_by, reader_slot}
 use Rattle.stream_meaning.specs.Operators.{Work, Choice, Selects, TakesTurns, Eligible, Plays, Picks, Mixes, Fades, Reads, marks_at}
-use Rattle.stream_meaning.specs.Instants.{Setting, Moment, choices, count, demanded, gives, first_instants, last_pick, lies_in, moment_after, offer, part_at, parts_upto, position, reading_after, reading_at, second_at, slots_at, work_at}
+use Rattle.stream_meaning.specs.Instants.{Setting, Moment, choices, gives_before, demanded, gives, first_instants, last_pick, lies_in, moment_after, offer, part_at, parts_upto, position, reading_after, reading_at, second_at, slots_at, work_at}
 use Rattle.stream_meaning.specs.Calls.{calls_of}
 use Rattle.stretch_laws.specs.Steady.{Follows, IsFree}
 
@@ -26,8 +26,8 @@ pub record IsNode (setting : Setting) (clock : NodeClock) (i : ℕ) (node : Node
   pub there : slice_get setting.plan.nodes i ≡ Some node
   pub inside : lies_in setting clock i ≡ true
 
--- a later instant is like a first one: the same nodes offer, are demanded and give, those that are demanded pick the same
--- child, and none that gives begins a track
+-- a later instant is like a first one: the same nodes offer, are demanded and give, those that are demanded pick the
+-- same child, and none that gives begins a track
 pub record IsLike (first later : Moment) : Type 0 where
   pub demands : later.demands ≡ first.demands
   pub slots : (i : ℕ) → Follows (offer first i) (offer later i)
@@ -36,59 +36,87 @@ pub record IsLike (first later : Moment) : Type 0 where
 
 -- what a node that makes its own cells gives j instants behind the first one has this title
 abbrev pub KeepsTitle : Setting → (sub : ℕ → ℕ → List Slot) → List Moment → (i : ℕ) → Work → (j title : ℕ) → Type 0
-KeepsTitle setting sub past i (Plays leaf) j title = title_of (leaf_slot setting.library leaf (count past i + j)) ≡ title
+KeepsTitle setting sub past i (Plays leaf) j title = title_of (leaf_slot setting.library leaf (gives_before past i + j))
+    ≡ title
 KeepsTitle setting sub past i (Picks choice eligible) j title = Unit {0}
 KeepsTitle setting sub past i (Mixes mixing) j title = Unit {0}
 KeepsTitle setting sub past i (Fades overlap) j title = title_of (item_of overlap (sub i) (position past i + j)) ≡ title
 KeepsTitle setting sub past i (Reads buffer) j title =
-    title_of (reader_slot (read_by j (reading_at setting buffer (length past) (reading_after setting i buffer past)).reader)) ≡ title
+    title_of (reader_slot (read_by j
+    (reading_at setting buffer (length past) (reading_after setting i buffer past)).reader)) ≡ title
 
 -- so many instants of a clock behind these, of which the first one decides
-pub record IsStretch (setting : Setting) (sub : ℕ → ℕ → List Slot) (clock : NodeClock) (past : List Moment) (instants : ℕ) : Type 0 where
+pub record IsStretch (setting : Setting) (sub : ℕ → ℕ
+    → List Slot) (clock : NodeClock) (past : List Moment) (instants : ℕ) : Type 0 where
   -- leaves that give go on with their track
-  pub leaves : (i : ℕ) (node : Node) (leaf : Leaf) (j : ℕ) → IsNode setting clock i node → work_at setting i node ≡ Plays leaf → 0 < j → j < instants
-      → gives (moment_after setting sub clock past) i ≡ true → is_inner (leaf_slot setting.library leaf (count past i + j)) ≡ true
+  pub leaves : (i : ℕ) (node : Node) (leaf : Leaf) (j : ℕ) → IsNode setting clock i node
+      → work_at setting i node ≡ Plays leaf → 0 < j → j < instants
+      → gives (moment_after setting sub clock past) i ≡ true
+      → is_inner (leaf_slot setting.library leaf (gives_before past i + j)) ≡ true
   -- no tick begins where there is a reader
-  pub ticks : (i : ℕ) (node : Node) (buffer j : ℕ) → IsNode setting clock i node → work_at setting i node ≡ Reads buffer → 0 < j → j < instants
+  pub ticks : (i : ℕ) (node : Node) (buffer j : ℕ) → IsNode setting clock i node → work_at setting i node ≡ Reads buffer
+      → 0 < j → j < instants
       → nat_eq ((length past + j) % setting.plan.frame) 0 ≡ false
   -- readers that give go on
-  pub readers : (i : ℕ) (node : Node) (buffer j : ℕ) → IsNode setting clock i node → work_at setting i node ≡ Reads buffer → 0 < j → j < instants
+  pub readers : (i : ℕ) (node : Node) (buffer j : ℕ) → IsNode setting clock i node
+      → work_at setting i node ≡ Reads buffer → 0 < j → j < instants
       → gives (moment_after setting sub clock past) i ≡ true
-      → is_inner (reader_slot (read_by j (reading_at setting buffer (length past) (reading_after setting i buffer past)).reader)) ≡ true
+      → is_inner (reader_slot (read_by j
+      (reading_at setting buffer (length past) (reading_after setting i buffer past)).reader)) ≡ true
   -- no item of a crossfade is empty, and of those that give the next items begin no track
-  pub items : (i : ℕ) (node : Node) (overlap j : ℕ) → IsNode setting clock i node → work_at setting i node ≡ Fades overlap → 0 < j → j < instants
+  pub items : (i : ℕ) (node : Node) (overlap j : ℕ) → IsNode setting clock i node
+      → work_at setting i node ≡ Fades overlap → 0 < j → j < instants
       → is_some (offer (moment_after setting sub clock past) i) ≡ true
-  pub settled : (i : ℕ) (node : Node) (overlap j : ℕ) → IsNode setting clock i node → work_at setting i node ≡ Fades overlap → 0 < j → j < instants
-      → gives (moment_after setting sub clock past) i ≡ true → is_inner (item_of overlap (sub i) (position past i + j)) ≡ true
+  pub settled : (i : ℕ) (node : Node) (overlap j : ℕ) → IsNode setting clock i node
+      → work_at setting i node ≡ Fades overlap → 0 < j → j < instants
+      → gives (moment_after setting sub clock past) i ≡ true
+      → is_inner (item_of overlap (sub i) (position past i + j)) ≡ true
   -- no predicate changes
-  pub marks : (i : ℕ) (node : Node) (choice : Choice) (eligible : Eligible) (j children : ℕ) → IsNode setting clock i node → work_at setting i node ≡ Picks choice eligible → 0 < j → j < instants
-      → marks_at eligible (second_at setting (length past + j)) children ≡ marks_at eligible (second_at setting (length past)) children
+  pub marks : (i : ℕ) (node : Node) (choice : Choice) (eligible : Eligible) (j children : ℕ)
+      → IsNode setting clock i node → work_at setting i node ≡ Picks choice eligible → 0 < j → j < instants
+      → marks_at eligible (second_at setting (length past + j)) children
+      ≡ marks_at eligible (second_at setting (length past)) children
   -- a selection names a child where the one used last begins a track
-  pub free : (i : ℕ) (node : Node) (choice : Choice) (eligible : Eligible) (j : ℕ) → IsNode setting clock i node → work_at setting i node ≡ Picks choice eligible → 0 < j → j < instants
+  pub free : (i : ℕ) (node : Node) (choice : Choice) (eligible : Eligible) (j : ℕ) → IsNode setting clock i node
+      → work_at setting i node ≡ Picks choice eligible → 0 < j → j < instants
       → IsFree choice (slots_at (parts_upto setting sub clock past i) node.children)
-      (marks_at eligible (second_at setting (length past)) (length (slots_at (parts_upto setting sub clock past i) node.children))) (last_pick past i)
+      (marks_at eligible (second_at setting (length past))
+      (length (slots_at (parts_upto setting sub clock past i) node.children))) (last_pick past i)
   -- leaves, readers and crossfades that give keep their title
-  pub titles : (i : ℕ) (node : Node) (j : ℕ) → IsNode setting clock i node → 0 < j → j < instants → gives (moment_after setting sub clock past) i ≡ true
-      → KeepsTitle setting sub past i (work_at setting i node) j (title_of (offer (moment_after setting sub clock past) i))
+  pub titles : (i : ℕ) (node : Node) (j : ℕ) → IsNode setting clock i node → 0 < j → j < instants
+      → gives (moment_after setting sub clock past) i ≡ true
+      → KeepsTitle setting sub past i (work_at setting i node) j
+      (title_of (offer (moment_after setting sub clock past) i))
 
 -- the past of an instant that comes j instants behind the first one
-pub record IsOn (setting : Setting) (sub : ℕ → ℕ → List Slot) (clock : NodeClock) (past : List Moment) (j : ℕ) (later : List Moment) : Type 0 where
+pub record IsOn (setting : Setting) (sub : ℕ → ℕ
+    → List Slot) (clock : NodeClock) (past : List Moment) (j : ℕ) (later : List Moment) : Type 0 where
   pub long : length later ≡ length past + j
-  pub given : (i : ℕ) → gives (moment_after setting sub clock past) i ≡ true → count later i ≡ count past i + j
-  pub kept : (i : ℕ) → gives (moment_after setting sub clock past) i ≡ false → count later i ≡ count past i
-  pub picked : (i : ℕ) → gives (moment_after setting sub clock past) i ≡ true → 0 < j → last_pick later i ≡ (part_at (moment_after setting sub clock past).parts i).pick
+  pub given : (i : ℕ) → gives (moment_after setting sub clock past) i ≡ true
+      → gives_before later i ≡ gives_before past i + j
+  pub kept : (i : ℕ) → gives (moment_after setting sub clock past) i ≡ false
+      → gives_before later i ≡ gives_before past i
+  pub picked : (i : ℕ) → gives (moment_after setting sub clock past) i ≡ true → 0 < j
+      → last_pick later i ≡ (part_at (moment_after setting sub clock past).parts i).pick
   pub stayed : (i : ℕ) → gives (moment_after setting sub clock past) i ≡ false → last_pick later i ≡ last_pick past i
   pub chosen : (i : ℕ) → gives (moment_after setting sub clock past) i ≡ true → 0 < j
-      → choices later i ≡ (if is_first (offer (moment_after setting sub clock past) i) then suc (choices past i) else choices past i)
+      → choices later i ≡ (if is_first (offer (moment_after setting sub clock past) i) then suc (choices past i)
+      else choices past i)
   pub unchosen : (i : ℕ) → gives (moment_after setting sub clock past) i ≡ false → choices later i ≡ choices past i
   pub passed : (i : ℕ) → gives (moment_after setting sub clock past) i ≡ true → position later i ≡ position past i + j
-  pub held : (i : ℕ) → gives (moment_after setting sub clock past) i ≡ false → is_some (offer (moment_after setting sub clock past) i) ≡ true → position later i ≡ position past i
-  pub read : (i : ℕ) (node : Node) (buffer : ℕ) → IsNode setting clock i node → work_at setting i node ≡ Reads buffer → 0 < j → gives (moment_after setting sub clock past) i ≡ true
-      → (reading_after setting i buffer later).reader ≡ read_by j (reading_at setting buffer (length past) (reading_after setting i buffer past)).reader
-  pub unread : (i : ℕ) (node : Node) (buffer : ℕ) → IsNode setting clock i node → work_at setting i node ≡ Reads buffer → 0 < j → gives (moment_after setting sub clock past) i ≡ false
-      → (reading_after setting i buffer later).reader ≡ (reading_at setting buffer (length past) (reading_after setting i buffer past)).reader
+  pub held : (i : ℕ) → gives (moment_after setting sub clock past) i ≡ false
+      → is_some (offer (moment_after setting sub clock past) i) ≡ true → position later i ≡ position past i
+  pub read : (i : ℕ) (node : Node) (buffer : ℕ) → IsNode setting clock i node → work_at setting i node ≡ Reads buffer
+      → 0 < j → gives (moment_after setting sub clock past) i ≡ true
+      → (reading_after setting i buffer later).reader
+      ≡ read_by j (reading_at setting buffer (length past) (reading_after setting i buffer past)).reader
+  pub unread : (i : ℕ) (node : Node) (buffer : ℕ) → IsNode setting clock i node → work_at setting i node ≡ Reads buffer
+      → 0 < j → gives (moment_after setting sub clock past) i ≡ false
+      → (reading_after setting i buffer later).reader
+      ≡ (reading_at setting buffer (length past) (reading_after setting i buffer past)).reader
 
--- the slots that a crossfade is filled over some instants of a stretch of its sub-clock: cells of this title that begin no track
+-- the slots that a crossfade is filled over some instants of a stretch of its sub-clock: cells of this title that begin
+-- no track
 pub record AreFilled (setting : Setting) (sub : ℕ → ℕ → List Slot) (k n count title : ℕ) : Type 0 where
   pub cells : List Cell
   pub inner : AllInner cells
@@ -100,35 +128,46 @@ pub record AreFilled (setting : Setting) (sub : ℕ → ℕ → List Slot) (k n 
 abbrev pub lane : Setting → (sub : ℕ → ℕ → List Slot) → NodeClock → List Moment → (j i : ℕ) → Slot
 lane setting sub clock past j i = offer (moment_after setting sub clock (going_on setting sub clock j past)) i
 
--- how far one node goes on behind an instant, by its work: `begins` tells whether the child used last begins a track there
-abbrev pub NodeGoes : Setting → (sub : ℕ → ℕ → List Slot) → List Moment → Moment → (i : ℕ) → Work → (begins : Bool) → (rest : ℕ) → Type 0
+-- how far one node goes on behind an instant, by its work: `begins` tells whether the child used last begins a track
+-- there
+abbrev pub NodeGoes : Setting → (sub : ℕ → ℕ → List Slot) → List Moment → Moment → (i : ℕ) → Work → (begins : Bool)
+    → (rest : ℕ) → Type 0
 NodeGoes setting sub past moment i (Plays leaf) begins rest =
-    gives moment i ≡ true → (j : ℕ) → j < rest → is_inner (leaf_slot setting.library leaf (suc (count past i) + j)) ≡ true
-NodeGoes setting sub past moment i (Picks (Selects rule) eligible) begins rest = 0 < rest → is_some (offer moment i) ≡ false → begins ≡ false
+    gives moment i ≡ true → (j : ℕ) → j < rest
+    → is_inner (leaf_slot setting.library leaf (suc (gives_before past i) + j)) ≡ true
+NodeGoes setting sub past moment i (Picks (Selects rule) eligible) begins rest = 0 < rest
+    → is_some (offer moment i) ≡ false → begins ≡ false
 NodeGoes setting sub past moment i (Picks (TakesTurns turn) eligible) begins rest = Unit {0}
 NodeGoes setting sub past moment i (Mixes mixing) begins rest = Unit {0}
 NodeGoes setting sub past moment i (Fades overlap) begins rest =
     (0 < rest → is_some (offer moment i) ≡ true)
-    × (gives moment i ≡ true → (j : ℕ) → j < rest → is_inner (item_of overlap (sub i) (suc (position past i) + j)) ≡ true)
+    × (gives moment i ≡ true → (j : ℕ) → j < rest
+    → is_inner (item_of overlap (sub i) (suc (position past i) + j)) ≡ true)
 NodeGoes setting sub past moment i (Reads buffer) begins rest =
     gives moment i ≡ true → (j : ℕ) → j < rest
-    → is_inner (reader_slot (read_by (suc j) (reading_at setting buffer (length past) (reading_after setting i buffer past)).reader)) ≡ true
+    → is_inner (reader_slot (read_by (suc j)
+    (reading_at setting buffer (length past) (reading_after setting i buffer past)).reader)) ≡ true
 
 -- which title it keeps: that of what it offered
 abbrev pub NodeKeeps : Setting → (sub : ℕ → ℕ → List Slot) → List Moment → Moment → (i : ℕ) → Work → (rest : ℕ) → Type 0
 NodeKeeps setting sub past moment i (Plays leaf) rest =
-    gives moment i ≡ true → (j : ℕ) → j < rest → title_of (leaf_slot setting.library leaf (suc (count past i) + j)) ≡ title_of (offer moment i)
+    gives moment i ≡ true → (j : ℕ) → j < rest
+    → title_of (leaf_slot setting.library leaf (suc (gives_before past i) + j)) ≡ title_of (offer moment i)
 NodeKeeps setting sub past moment i (Picks choice eligible) rest = Unit {0}
 NodeKeeps setting sub past moment i (Mixes mixing) rest = Unit {0}
 NodeKeeps setting sub past moment i (Fades overlap) rest =
-    gives moment i ≡ true → (j : ℕ) → j < rest → title_of (item_of overlap (sub i) (suc (position past i) + j)) ≡ title_of (offer moment i)
+    gives moment i ≡ true → (j : ℕ) → j < rest → title_of (item_of overlap (sub i) (suc (position past i) + j))
+    ≡ title_of (offer moment i)
 NodeKeeps setting sub past moment i (Reads buffer) rest =
     gives moment i ≡ true → (j : ℕ) → j < rest
-    → title_of (reader_slot (read_by (suc j) (reading_at setting buffer (length past) (reading_after setting i buffer past)).reader)) ≡ title_of (offer moment i)
+    → title_of (reader_slot (read_by (suc j)
+    (reading_at setting buffer (length past) (reading_after setting i buffer past)).reader)) ≡ title_of (offer moment i)
 
 -- the instants that sub-clocks make for a stretch, behind its first instant, make no calls
-pub record AreQuiet (setting : Setting) (sub : ℕ → ℕ → List Slot) (clock : NodeClock) (past : List Moment) (instants : ℕ) : Type 0 where
-  pub each : (k : ℕ) (node : Node) (overlap i m : ℕ) → IsNode setting clock k node → work_at setting k node ≡ Fades overlap
+pub record AreQuiet (setting : Setting) (sub : ℕ → ℕ
+    → List Slot) (clock : NodeClock) (past : List Moment) (instants : ℕ) : Type 0 where
+  pub each : (k : ℕ) (node : Node) (overlap i m : ℕ) → IsNode setting clock k node
+      → work_at setting k node ≡ Fades overlap
       → gives (moment_after setting sub clock past) k ≡ true → suc i < instants
       → run_of overlap (sub k) (position past k + i) ≤ m → m < run_of overlap (sub k) (position past k + suc i)
       → calls_of setting sub (Sub k) (first_instants setting sub (Sub k) m) ≡ []

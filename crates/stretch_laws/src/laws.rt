@@ -14,83 +14,119 @@ ghost use Rattle.plan_core.specs.Plans.{AreNodes};
 ghost use Rattle.stream_meaning.specs.Arithmetic.{Mixing, mix_slot};
 ghost use Rattle.stream_meaning.specs.Calls.{GoDown, calls_of, takes_at};
 ghost use Rattle.stream_meaning.specs.Operators.{Choice, Eligible, Fades, Mixes, Picks, Plays, Reads};
-ghost use Rattle.stream_meaning.specs.Instants.{Setting, Moment, IsMeaning, count, crossfaded, gives, first_instants, moment_after, offer, part_at, position, reading_after, reading_at, work_at};
+ghost use Rattle.stream_meaning.specs.Instants.{Setting, Moment, IsMeaning, gives_before, crossfaded, gives, first_instants, moment_after, offer, part_at, position, reading_after, reading_at, work_at};
 ghost use Rattle.stretch_laws.specs.Stretches.{AreFilled, AreQuiet, IsLike, IsNode, IsOn, IsStretch, going_on, lane};
 
-/// Over a stretch demands, picks of demanded nodes and who offers are those of its first instant, and none that gives begins
-/// a track behind that. What a node knows of the past counts on.
+/// Over a stretch demands, picks of demanded nodes and who offers are those of its first instant, and none that gives
+/// begins a track behind that. What a node knows of the past counts on.
 pub fn stretches_stay_alike()
-    ensures like { (setting : Setting) (sub : ℕ → ℕ → List TheSlot) (clock : Clock) (past : List Moment) (instants j : ℕ)
+    ensures like { (setting : Setting) (sub : ℕ → ℕ
+        → List TheSlot) (clock : Clock) (past : List Moment) (instants j : ℕ)
         → AreNodes setting.plan.nodes → IsStretch setting sub clock past instants → 0 < j → j < instants
-        → IsLike (moment_after setting sub clock past) (moment_after setting sub clock (going_on setting sub clock j past)) }
+        → IsLike (moment_after setting sub clock past)
+        (moment_after setting sub clock (going_on setting sub clock j past)) }
     ensures on { (setting : Setting) (sub : ℕ → ℕ → List TheSlot) (clock : Clock) (past : List Moment) (instants j : ℕ)
         → AreNodes setting.plan.nodes → IsStretch setting sub clock past instants → j ≤ instants
         → IsOn setting sub clock past j (going_on setting sub clock j past) }
 {}
 
-/// What a node that gives offers over a stretch: a leaf its next cells, a crossfade its next items, a reader its next cells, a
-/// node that chooses the cells of one child, and a mix what it makes of those of its children.
+/// What a node that gives offers over a stretch: a leaf its next cells, a crossfade its next items, a reader its next
+/// cells, a node that chooses the cells of one child, and a mix what it makes of those of its children.
 pub fn stretches_have_lanes()
-    ensures played { (setting : Setting) (sub : ℕ → ℕ → List TheSlot) (clock : Clock) (past : List Moment) (instants i j : ℕ) (node : TheNode) (leaf : TheLeaf)
-        → AreNodes setting.plan.nodes → IsStretch setting sub clock past instants → IsNode setting clock i node → work_at setting i node ≡ Plays leaf
+    ensures played { (setting : Setting) (sub : ℕ → ℕ
+        → List TheSlot) (clock : Clock) (past : List Moment) (instants i j : ℕ) (node : TheNode) (leaf : TheLeaf)
+        → AreNodes setting.plan.nodes → IsStretch setting sub clock past instants → IsNode setting clock i node
+        → work_at setting i node ≡ Plays leaf
         → j < instants → gives (moment_after setting sub clock past) i ≡ true
-        → lane setting sub clock past j i ≡ leaf_slot setting.library leaf (count past i + j) }
-    ensures faded { (setting : Setting) (sub : ℕ → ℕ → List TheSlot) (clock : Clock) (past : List Moment) (instants i j overlap : ℕ) (node : TheNode)
-        → AreNodes setting.plan.nodes → IsStretch setting sub clock past instants → IsNode setting clock i node → work_at setting i node ≡ Fades overlap
+        → lane setting sub clock past j i ≡ leaf_slot setting.library leaf (gives_before past i + j) }
+    ensures faded { (setting : Setting) (sub : ℕ → ℕ
+        → List TheSlot) (clock : Clock) (past : List Moment) (instants i j overlap : ℕ) (node : TheNode)
+        → AreNodes setting.plan.nodes → IsStretch setting sub clock past instants → IsNode setting clock i node
+        → work_at setting i node ≡ Fades overlap
         → j < instants → gives (moment_after setting sub clock past) i ≡ true
         → lane setting sub clock past j i ≡ item_of overlap (sub i) (position past i + j) }
-    ensures read { (setting : Setting) (sub : ℕ → ℕ → List TheSlot) (clock : Clock) (past : List Moment) (instants i j buffer : ℕ) (node : TheNode)
-        → AreNodes setting.plan.nodes → IsStretch setting sub clock past instants → IsNode setting clock i node → work_at setting i node ≡ Reads buffer
+    ensures read { (setting : Setting) (sub : ℕ → ℕ
+        → List TheSlot) (clock : Clock) (past : List Moment) (instants i j buffer : ℕ) (node : TheNode)
+        → AreNodes setting.plan.nodes → IsStretch setting sub clock past instants → IsNode setting clock i node
+        → work_at setting i node ≡ Reads buffer
         → 0 < j → j < instants → gives (moment_after setting sub clock past) i ≡ true
-        → lane setting sub clock past j i ≡ reader_slot (read_by j (reading_at setting buffer (length past) (reading_after setting i buffer past)).reader) }
-    ensures mixed { (setting : Setting) (sub : ℕ → ℕ → List TheSlot) (clock : Clock) (past : List Moment) (instants i j : ℕ) (node : TheNode) (mixing : Mixing)
-        → AreNodes setting.plan.nodes → IsStretch setting sub clock past instants → IsNode setting clock i node → work_at setting i node ≡ Mixes mixing
+        → lane setting sub clock past j i
+        ≡ reader_slot (read_by j
+        (reading_at setting buffer (length past) (reading_after setting i buffer past)).reader) }
+    ensures mixed { (setting : Setting) (sub : ℕ → ℕ
+        → List TheSlot) (clock : Clock) (past : List Moment) (instants i j : ℕ) (node : TheNode) (mixing : Mixing)
+        → AreNodes setting.plan.nodes → IsStretch setting sub clock past instants → IsNode setting clock i node
+        → work_at setting i node ≡ Mixes mixing
         → lane setting sub clock past j i ≡ mix_slot mixing (map (lane setting sub clock past j) node.children) }
-    ensures chosen { (setting : Setting) (sub : ℕ → ℕ → List TheSlot) (clock : Clock) (past : List Moment) (instants i j place child : ℕ) (node : TheNode) (choice : Choice) (eligible : Eligible)
-        → AreNodes setting.plan.nodes → IsStretch setting sub clock past instants → IsNode setting clock i node → work_at setting i node ≡ Picks choice eligible
-        → 0 < j → j < instants → gives (moment_after setting sub clock past) i ≡ true → (part_at (moment_after setting sub clock past).parts i).pick ≡ Some place
-        → slice_get node.children place ≡ Some child → lane setting sub clock past j i ≡ lane setting sub clock past j child }
+    ensures chosen { (setting : Setting) (sub : ℕ → ℕ
+        → List TheSlot) (clock : Clock) (past : List Moment) (instants i j place child : ℕ) (node : TheNode)
+        (choice : Choice) (eligible : Eligible)
+        → AreNodes setting.plan.nodes → IsStretch setting sub clock past instants → IsNode setting clock i node
+        → work_at setting i node ≡ Picks choice eligible
+        → 0 < j → j < instants → gives (moment_after setting sub clock past) i ≡ true
+        → (part_at (moment_after setting sub clock past).parts i).pick ≡ Some place
+        → slice_get node.children place ≡ Some child → lane setting sub clock past j i
+        ≡ lane setting sub clock past j child }
 {}
 
 /// Over a stretch a node that gives keeps its title.
 pub fn stretches_keep_titles()
     ensures { (setting : Setting) (sub : ℕ → ℕ → List TheSlot) (clock : Clock) (past : List Moment) (instants i j : ℕ)
-        → AreNodes setting.plan.nodes → IsStretch setting sub clock past instants → j < instants → gives (moment_after setting sub clock past) i ≡ true
+        → AreNodes setting.plan.nodes → IsStretch setting sub clock past instants → j < instants
+        → gives (moment_after setting sub clock past) i ≡ true
         → title_of (lane setting sub clock past j i) ≡ title_of (offer (moment_after setting sub clock past) i) }
 {}
 
-/// Over a stretch of a sub-clock, behind its first instant, its crossfade is filled cells of one track and of one title.
+/// Over a stretch of a sub-clock, behind its first instant, its crossfade is filled cells of one track and of one
+/// title.
 pub fn sub_clocks_give_cells()
     ensures { (setting : Setting) (sub : ℕ → ℕ → List TheSlot) (k first instants n many : ℕ)
-        → AreNodes setting.plan.nodes → IsMeaning setting sub → IsStretch setting sub (InSub k) (first_instants setting sub (InSub k) first) instants
-        → gives (moment_after setting sub (InSub k) (first_instants setting sub (InSub k) first)) (crossfaded setting.plan.nodes k) ≡ true
+        → AreNodes setting.plan.nodes → IsMeaning setting sub
+        → IsStretch setting sub (InSub k) (first_instants setting sub (InSub k) first) instants
+        → gives (moment_after setting sub (InSub k) (first_instants setting sub (InSub k) first))
+        (crossfaded setting.plan.nodes k) ≡ true
         → first < n → n + many ≤ first + instants
-        → AreFilled setting sub k n many (title_of (offer (moment_after setting sub (InSub k) (first_instants setting sub (InSub k) first)) (crossfaded setting.plan.nodes k))) }
+        → AreFilled setting sub k n many
+        (title_of (offer (moment_after setting sub (InSub k) (first_instants setting sub (InSub k) first))
+        (crossfaded setting.plan.nodes k))) }
 {}
 
 /// Where cells pass through a crossfade, each of its next items takes one slot more, and begins no track. They have
 /// the titles of the cells that are held, and behind these of those that are filled.
 pub fn cells_pass_through()
-    ensures run { (setting : Setting) (sub : ℕ → ℕ → List TheSlot) (k n many p j below : ℕ) (state : Crossing) → ((m : ℕ) → length (sub k m) ≡ m)
-        → AreFilled setting sub k n many below → IsCrossing state → StandsFor state (sub k n) p → passes state ≡ true → AllInner state.cells
-        → ((m : ℕ) → m < n → length (cross state.overlap (sub k m)) ≤ p) → j < many → run_of state.overlap (sub k) (p + j) ≡ n + suc j }
-    ensures item { (setting : Setting) (sub : ℕ → ℕ → List TheSlot) (k n many p j below : ℕ) (state : Crossing) → ((m : ℕ) → length (sub k m) ≡ m)
-        → AreFilled setting sub k n many below → IsCrossing state → StandsFor state (sub k n) p → passes state ≡ true → AllInner state.cells
-        → ((m : ℕ) → m < n → length (cross state.overlap (sub k m)) ≤ p) → j < many → is_inner (item_of state.overlap (sub k) (p + j)) ≡ true }
-    ensures titled { (setting : Setting) (sub : ℕ → ℕ → List TheSlot) (k n many rest p j title below : ℕ) (state : Crossing) → ((m : ℕ) → length (sub k m) ≡ m)
-        → AreFilled setting sub k n many below → IsCrossing state → StandsFor state (sub k n) p → passes state ≡ true → AllInner state.cells
+    ensures run { (setting : Setting) (sub : ℕ → ℕ → List TheSlot) (k n many p j below : ℕ) (state : Crossing)
+        → ((m : ℕ) → length (sub k m) ≡ m)
+        → AreFilled setting sub k n many below → IsCrossing state → StandsFor state (sub k n) p → passes state ≡ true
+        → AllInner state.cells
+        → ((m : ℕ) → m < n → length (cross state.overlap (sub k m)) ≤ p) → j < many
+        → run_of state.overlap (sub k) (p + j) ≡ n + suc j }
+    ensures item { (setting : Setting) (sub : ℕ → ℕ → List TheSlot) (k n many p j below : ℕ) (state : Crossing)
+        → ((m : ℕ) → length (sub k m) ≡ m)
+        → AreFilled setting sub k n many below → IsCrossing state → StandsFor state (sub k n) p → passes state ≡ true
+        → AllInner state.cells
+        → ((m : ℕ) → m < n → length (cross state.overlap (sub k m)) ≤ p) → j < many
+        → is_inner (item_of state.overlap (sub k) (p + j)) ≡ true }
+    ensures titled { (setting : Setting) (sub : ℕ → ℕ
+        → List TheSlot) (k n many rest p j title below : ℕ) (state : Crossing) → ((m : ℕ) → length (sub k m) ≡ m)
+        → AreFilled setting sub k n many below → IsCrossing state → StandsFor state (sub k n) p → passes state ≡ true
+        → AllInner state.cells
         → ((m : ℕ) → m < n → length (cross state.overlap (sub k m)) ≤ p)
-        → rest ≤ many → ((i : ℕ) → i < rest → i < length state.cells → title_of (slice_get state.cells i) ≡ title) → (length state.cells < rest → below ≡ title)
+        → rest ≤ many → ((i : ℕ) → i < rest → i < length state.cells → title_of (slice_get state.cells i) ≡ title)
+        → (length state.cells < rest → below ≡ title)
         → j < rest → title_of (item_of state.overlap (sub k) (p + j)) ≡ title }
 {}
 
-/// Behind the first instant of a stretch no reader takes; and where the instants that its sub-clocks make for it make no calls,
-/// it makes none.
+/// Behind the first instant of a stretch no reader takes; and where the instants that its sub-clocks make for it make
+/// no calls, it makes none.
 pub fn stretches_make_no_calls()
-    ensures takes { (setting : Setting) (sub : ℕ → ℕ → List TheSlot) (clock : Clock) (past : List Moment) (instants i : ℕ)
+    ensures takes { (setting : Setting) (sub : ℕ → ℕ
+        → List TheSlot) (clock : Clock) (past : List Moment) (instants i : ℕ)
         → AreNodes setting.plan.nodes → IsStretch setting sub clock past instants → suc i < instants
         → takes_at setting clock (going_on setting sub clock (suc i) past) ≡ [] }
-    ensures calls { (setting : Setting) (sub : ℕ → ℕ → List TheSlot) (clock : Clock) (past : List Moment) (instants i : ℕ)
-        → AreNodes setting.plan.nodes → IsStretch setting sub clock past instants → suc i < instants → GoDown setting sub
-        → AreQuiet setting sub clock past instants → calls_of setting sub clock (going_on setting sub clock (suc i) past) ≡ [] }
+    ensures calls { (setting : Setting) (sub : ℕ → ℕ
+        → List TheSlot) (clock : Clock) (past : List Moment) (instants i : ℕ)
+        → AreNodes setting.plan.nodes → IsStretch setting sub clock past instants → suc i < instants
+        → GoDown setting sub
+        → AreQuiet setting sub clock past instants
+        → calls_of setting sub clock (going_on setting sub clock (suc i) past) ≡ [] }
 {}

@@ -1,4 +1,5 @@
-//! Tests of the public calls of texts and tokens: each once with ample memory against its answer, worked rows, printed texts.
+//! Tests of the public calls of texts and tokens: each once with ample memory against its answer, worked rows, printed
+//! texts.
 #![tactic(auto)]
 
 #[cfg(test)]

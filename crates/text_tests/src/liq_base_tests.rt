@@ -1,4 +1,5 @@
-// The shelf and the sink in memory that fail where they are told to, each call once with ample memory; and the printed texts.
+// The shelf and the sink in memory that fail where they are told to, each call once with ample memory; and the printed
+// texts.
 use crate::texts::check_same;
 use liq_base::{Failed, Fetched, MemShelf, MemSink, Memory, Shelf, ShelfFault, Sink};
 use std::alloc::{AllocError, Global};

@@ -1,4 +1,5 @@
-//! Faults of scripts as text. What is read of a text, and the token of each fault, are whole runs: `tests/lib/scripts.py`.
+//! Faults of scripts as text. What is read of a text, and the token of each fault, are whole runs:
+//! `tests/lib/scripts.py`.
 use script_parse::ParseFault;
 use std::process::Abort;
 use std::test::Fail;

@@ -5,12 +5,12 @@ use Rattle.std.specs.Global.{Vec}
 use Rattle.std.specs.List.{list_all, list_any}
 use Rattle.time_pred.specs.declared.pred.Pred as pred
 use Rattle.time_pred.specs.declared.pred.Pred.TheBlock as block
-use Rattle.time_pred.specs.Predicates.{PredicateTree, Many, All, Any, more, parts_of, holds, all_hold, some_holds, is_always, is_never, all_always, some_always, all_never, some_never}
+use Rattle.time_pred.specs.Predicates.{PredicateTree, PredicateParts, All, Any, first_part, parts_of, holds, all_hold, some_holds, is_always, is_never, all_always, some_always, all_never, some_never}
 use Rattle.time_pred.specs.View.{view_pred, view_parts}
 
 parts_row : (n : _) (row : pred.Row_of-Pred n) → view_parts row ≡ parts_of (map view_pred (pred.items-the_row-Pred n row))
 parts_row n pred.end_of-Pred = refl
-parts_row n (pred.more_of-Pred p rest) = ap (more (view_pred p)) (parts_row _ rest)
+parts_row n (pred.more_of-Pred p rest) = ap (first_part (view_pred p)) (parts_row _ rest)
 
 pub parts_seen : (v : Vec pred.Pred) → view_parts (block.hidden-the_row-Pred-0 v) ≡ parts_of (map view_pred v.items)
 parts_seen v = parts_row _ (block.hidden-the_row-Pred-0 v) ∙ ap (λ (l : List pred.Pred). parts_of (map view_pred l)) (pred.items_hidden-the_row-Pred-0 v)
@@ -42,10 +42,10 @@ never_some (p ∷ ps) = ap (λ (b : Bool). is_never (view_pred p) || b) (never_s
 
 -- the same of a predicate that is made of a Vec
 pub all_holds : (v : Vec pred.Pred) (at : ℕ) → holds (view_pred (pred.All v)) at ≡ list_all (λ p. holds (view_pred p) at) v.items
-all_holds v at = ap (λ (t : PredicateTree Many). all_hold t at) (parts_seen v) ∙ hold_listed at v.items
+all_holds v at = ap (λ (t : PredicateTree PredicateParts). all_hold t at) (parts_seen v) ∙ hold_listed at v.items
 
 pub any_holds : (v : Vec pred.Pred) (at : ℕ) → holds (view_pred (pred.Any v)) at ≡ list_any (λ p. holds (view_pred p) at) v.items
-any_holds v at = ap (λ (t : PredicateTree Many). some_holds t at) (parts_seen v) ∙ holds_listed at v.items
+any_holds v at = ap (λ (t : PredicateTree PredicateParts). some_holds t at) (parts_seen v) ∙ holds_listed at v.items
 
 pub all_is_always : (v : Vec pred.Pred) → is_always (view_pred (pred.All v)) ≡ list_all (λ p. is_always (view_pred p)) v.items
 all_is_always v = ap all_always (parts_seen v) ∙ always_all v.items

@@ -6,7 +6,7 @@ use Rattle.std.proofs.lemmas.Bool.{cases_lt}
 use Rattle.std.proofs.lemmas.Bool.Decides.{nat_tests}
 use Rattle.std.proofs.Math.Nat.{mod-add-mod, mod-eq_of_lt, mod-mod_of_dvd, dvd-mul_left}
 use Rattle.fixed_text.specs.declared.time_mark.TimeMark.{TimeMark}
-use Rattle.time_pred.specs.Marks.{Stays, is_between, is_within, period_of, value_of}
+use Rattle.time_pred.specs.Marks.{Stays, is_between, is_in_interval, period_of, value_of}
 
 -- a week has a whole number of these
 abbrev pub Wholes : ℕ → Type 0
@@ -49,7 +49,7 @@ same_lt b x j ahead = elim (cases_lt x b) [
   | inr high ↦ (let e : nat_lt (x + j) b ≡ false = grind (arith, nat_tests, high) in let f : nat_lt x b ≡ false = grind (arith, nat_tests, high) in e ∙ sym f)
 ]
 
-pub within_same : (a b x j : ℕ) → (x < a → x + j < a) → (x < b → x + j < b) → is_within a b (x + j) ≡ is_within a b x
+pub within_same : (a b x j : ℕ) → (x < a → x + j < a) → (x < b → x + j < b) → is_in_interval a b (x + j) ≡ is_in_interval a b x
 within_same a b x j first end =
     ap (λ (low : Bool). cond (nat_le a b) (low && nat_lt (x + j) b) (low || nat_lt (x + j) b)) (same_le a x j first)
     ∙ ap (λ (high : Bool). cond (nat_le a b) (nat_le a x && high) (nat_le a x || high)) (same_lt b x j end)

@@ -11,9 +11,11 @@ days_before (suc d) = d
 
 -- the value of a mark: the sum of its parts
 abbrev pub value_of : TimeMark → ℕ
-value_of m = option_map_or days_before m.day 0 * 86400 + unwrap_or m.hour 0 * 3600 + unwrap_or m.minute 0 * 60 + unwrap_or m.second 0
+value_of m = option_map_or days_before m.day 0 * 86400 + unwrap_or m.hour 0 * 3600 + unwrap_or m.minute 0 * 60
+    + unwrap_or m.second 0
 
--- the period of a mark, by its coarsest part: a week for a day, a day for an hour, an hour for a minute, a minute for a second
+-- the period of a mark, by its coarsest part: a week for a day, a day for an hour, an hour for a minute, a minute for a
+-- second
 abbrev pub period_of : TimeMark → ℕ
 period_of m = if is_some m.day then 604800 else if is_some m.hour then 86400 else if is_some m.minute then 3600 else 60
 
@@ -23,15 +25,16 @@ finest_of m = if is_some m.second then 1 else if is_some m.minute then 60 else i
 
 -- a mark alone holds where less than its finest part has gone by since its value, around its period
 abbrev pub is_at : TimeMark → ℕ → Bool
-is_at m at = nat_lt (unsigned_abs (int_rem_euclid (pos (at % period_of m) -ℤ pos (value_of m)) (pos (period_of m)))) (finest_of m)
+is_at m at = nat_lt (unsigned_abs (int_rem_euclid (pos (at % period_of m) -ℤ pos (value_of m)) (pos (period_of m))))
+    (finest_of m)
 
 -- from a to b, without b, or from a around the end of the period to b
-abbrev pub is_within : ℕ → ℕ → ℕ → Bool
-is_within a b x = if nat_le a b then nat_le a x && nat_lt x b else nat_le a x || nat_lt x b
+abbrev pub is_in_interval : ℕ → ℕ → ℕ → Bool
+is_in_interval a b x = if nat_le a b then nat_le a x && nat_lt x b else nat_le a x || nat_lt x b
 
 -- an interval has the period of the coarser of its marks
 abbrev pub is_between : TimeMark → TimeMark → ℕ → Bool
-is_between from to at = is_within (value_of from) (value_of to) (at % max (period_of from) (period_of to))
+is_between from to at = is_in_interval (value_of from) (value_of to) (at % max (period_of from) (period_of to))
 
 -- from a second on, what is told of a second stays for so many
 abbrev pub Stays : (ℕ → Bool) → (at seconds : ℕ) → Type 0

@@ -3,7 +3,7 @@ use Rattle.std.specs.Prelude.{◌≡◌, ℕ, zero, suc, Option, Some, None, ref
 use base.Stored.{Coded, Gv, gnil, gnum, gcons, num}
 use Rattle.std.proofs.Common.{sym, ap, ◌∙◌}
 use Rattle.fixed_text.specs.declared.time_mark.TimeMark.{TimeMark}
-use Rattle.time_pred.specs.Predicates.{PredicateTree, One, Many, Predicate, Always, Never, At, Between, Not, All, Any, none, more}
+use Rattle.time_pred.specs.Predicates.{PredicateTree, OnePredicate, PredicateParts, Predicate, Always, Never, At, Between, Negated, All, Any, no_parts, first_part}
 
 abbrev part_code : Option ℕ → Gv
 part_code None = gnil
@@ -32,52 +32,65 @@ abbrev mark_code : TimeMark → Gv
 mark_code m = gcons (part_code m.day) (gcons (part_code m.hour) (gcons (part_code m.minute) (part_code m.second)))
 
 abbrev mark_back : Gv → TimeMark
-mark_back g = record { day = part_back (first g); hour = part_back (first (rest g)); minute = part_back (first (rest (rest g))); second = part_back (rest (rest (rest g))) }
+mark_back g = record {
+  day = part_back (first g);
+  hour = part_back (first (rest g));
+  minute = part_back (first (rest (rest g)));
+  second = part_back (rest (rest (rest g)));
+}
 
 pub mark_same : (m : TimeMark) → mark_back (mark_code m) ≡ m
-mark_same m = λ i. record { day = part_same m.day i; hour = part_same m.hour i; minute = part_same m.minute i; second = part_same m.second i }
+mark_same m = λ i. record {
+  day = part_same m.day i;
+  hour = part_same m.hour i;
+  minute = part_same m.minute i;
+  second = part_same m.second i;
+}
 
 abbrev mutual
-  code : PredicateTree One → Gv
+  code : PredicateTree OnePredicate → Gv
   code Always = gcons (gnum 0) gnil
   code Never = gcons (gnum 1) gnil
   code (At mark) = gcons (gnum 2) (mark_code mark)
   code (Between from to) = gcons (gnum 3) (gcons (mark_code from) (mark_code to))
-  code (Not p) = gcons (gnum 4) (code p)
+  code (Negated p) = gcons (gnum 4) (code p)
   code (All ps) = gcons (gnum 5) (codes ps)
   code (Any ps) = gcons (gnum 6) (codes ps)
 
-  codes : PredicateTree Many → Gv
-  codes none = gnil
-  codes (more p ps) = gcons (code p) (codes ps)
+  codes : PredicateTree PredicateParts → Gv
+  codes no_parts = gnil
+  codes (first_part p ps) = gcons (code p) (codes ps)
 
-abbrev by_tag : ℕ → Gv → PredicateTree One → PredicateTree Many → PredicateTree One
+abbrev by_tag : ℕ → Gv → PredicateTree OnePredicate → PredicateTree PredicateParts → PredicateTree OnePredicate
 by_tag zero g p ps = Always
 by_tag (suc zero) g p ps = Never
 by_tag (suc (suc zero)) g p ps = At (mark_back g)
 by_tag (suc (suc (suc zero))) g p ps = Between (mark_back (first g)) (mark_back (rest g))
-by_tag (suc (suc (suc (suc zero)))) g p ps = Not p
+by_tag (suc (suc (suc (suc zero)))) g p ps = Negated p
 by_tag (suc (suc (suc (suc (suc zero))))) g p ps = All ps
 by_tag (suc (suc (suc (suc (suc (suc n)))))) g p ps = Any ps
 
-abbrev back : Gv → PredicateTree One × PredicateTree Many
-back gnil = (Never, none)
-back (gnum n) = (Never, none)
-back (gcons a b) = (by_tag (num a) b (back b).0 (back b).1, more (back a).0 (back b).1)
+abbrev back : Gv → PredicateTree OnePredicate × PredicateTree PredicateParts
+back gnil = (Never, no_parts)
+back (gnum n) = (Never, no_parts)
+back (gcons a b) = (by_tag (num a) b (back b).0 (back b).1, first_part (back a).0 (back b).1)
 
 mutual
-  pub back_same : (p : PredicateTree One) → (back (code p)).0 ≡ p
+  pub back_same : (p : PredicateTree OnePredicate) → (back (code p)).0 ≡ p
   back_same Always = refl
   back_same Never = refl
   back_same (At mark) = ap At (mark_same mark)
   back_same (Between from to) = λ i. Between (mark_same from i) (mark_same to i)
-  back_same (Not p) = ap Not (back_same p)
+  back_same (Negated p) = ap Negated (back_same p)
   back_same (All ps) = ap All (backs_same ps)
   back_same (Any ps) = ap Any (backs_same ps)
 
-  pub backs_same : (ps : PredicateTree Many) → (back (codes ps)).1 ≡ ps
-  backs_same none = refl
-  backs_same (more p ps) = λ i. more (back_same p i) (backs_same ps i)
+  pub backs_same : (ps : PredicateTree PredicateParts) → (back (codes ps)).1 ≡ ps
+  backs_same no_parts = refl
+  backs_same (first_part p ps) = λ i. first_part (back_same p i) (backs_same ps i)
 
 abbrev pub predicate_code : Coded Predicate
-predicate_code = record { code = code; inj = λ x y same. sym (back_same x) ∙ ap (λ (g : Gv). (back g).0) same ∙ back_same y }
+predicate_code = record {
+  code = code;
+  inj = λ x y same. sym (back_same x) ∙ ap (λ (g : Gv). (back g).0) same ∙ back_same y;
+}

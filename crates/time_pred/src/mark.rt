@@ -54,7 +54,8 @@ pub fn steady_at(mark: TimeMark, at: WeekSecond) -> u32
 
 // How many seconds have gone by since a mark's value, around its period.
 fn phase(mark: TimeMark, at: WeekSecond) -> u32
-    ensures is { result ≡ unsigned_abs (int_rem_euclid (pos (at.second % period_of mark) -ℤ pos (value_of mark)) (pos (period_of mark))) }
+    ensures is { result ≡ unsigned_abs
+        (int_rem_euclid (pos (at.second % period_of mark) -ℤ pos (value_of mark)) (pos (period_of mark))) }
     ensures below { result < period_of mark }
 {
     let period = period(mark);

@@ -52,8 +52,8 @@ impl Pred {
         }
     }
 
-    /// A number of seconds from this one on, at least 1 and at most a week, for which the answer of `holds` stays. It takes
-    /// no memory.
+    /// A number of seconds from this one on, at least 1 and at most a week, for which the answer of `holds` stays. It
+    /// takes no memory.
     #[cycle(steady)]
     pub fn steady(&self, at: WeekSecond) -> u32
         ensures stays { Stays (holds (view_pred self.now)) at.second result }

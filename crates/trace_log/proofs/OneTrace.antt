@@ -6,7 +6,7 @@ use Rattle.std.proofs.Math.Nat.{mul_comm}
 use Rattle.std.proofs.lemmas.List.{append_cancel_right, ext_get_or}
 use Rattle.buffer_ends.specs.Local.{Answers, no_answers}
 use Rattle.trace_log.specs.Values.{TraceValue}
-use Rattle.trace_log.specs.Texts.{line, lines_below, log_at, place_line, places_of, trace_text, windows_of, IsTrace}
+use Rattle.trace_log.specs.Texts.{line, lines_below, log_at, place_line, places_of, trace_text, window_count, IsTrace}
 use Rattle.trace_log.proofs.Parts.{lines_are, one_header, one_line, one_rest}
 
 -- the same lines are those of the same logs
@@ -39,8 +39,8 @@ pub one_trace : (t u : TraceValue) → IsTrace t → IsTrace u → trace_text t 
 unfolding trace_text
 one_trace t u is is' e =
     let p = one_header t.ticks t.window (length t.buffers) u.ticks u.window (length u.buffers) _ _ is.bounds is'.bounds e in
-    let windows : windows_of t.ticks t.window ≡ windows_of u.ticks u.window = rw (p.0, p.1) refl in
+    let windows : window_count t.ticks t.window ≡ window_count u.ticks u.window = rw (p.0, p.1) refl in
     let lines : lines_below t.buffers (length t.buffers) (places_of t) ≡ lines_below u.buffers (length t.buffers) (places_of t) = p.3 ∙ rw (p.0, p.1, p.2) refl in
-    let buffers : t.buffers ≡ u.buffers = buffers_same t.buffers u.buffers (length t.buffers) (windows_of t.ticks t.window) refl (sym p.2) is.logs
+    let buffers : t.buffers ≡ u.buffers = buffers_same t.buffers u.buffers (length t.buffers) (window_count t.ticks t.window) refl (sym p.2) is.logs
     (λ b h. is'.logs b (omega (arith, h, p.2)) ∙ sym windows) (logs_same t.buffers u.buffers (length t.buffers) (places_of t) lines) in
     (λ i. record { ticks = p.0 i; window = p.1 i; buffers = buffers i })

@@ -8,7 +8,7 @@ use Rattle.buffer_ends.specs.Local.{Answers}
 use Rattle.trace_log.specs.Marks.{Lacks}
 use Rattle.trace_log.specs.Texts.{header, lines_below, place_line, log_at, line, letters, InBounds}
 use Rattle.trace_log.specs.Stops.{Lines}
-use Rattle.trace_log.specs.Stops.Lines.{none, more}
+use Rattle.trace_log.specs.Stops.Lines.{no_lines, one_line_more}
 use Rattle.trace_log.proofs.Marks.{decimal_lacks, letters_lack}
 use Rattle.trace_log.proofs.Letters.{one_letters}
 use Rattle.trace_log.proofs.Words.{header_parts, line_parts}
@@ -61,8 +61,8 @@ one_line j i log other f g e =
 
 -- what follows some lines
 pub one_rest : (b k : ℕ) (t u f g : List ℕ) → Lines b k t → Lines b k u → t ++ f ≡ u ++ g → f ≡ g
-one_rest b zero _ _ f g none none e = e
-one_rest b (suc k) _ _ f g (more _ t log x) (more _ u other y) e =
+one_rest b zero _ _ f g no_lines no_lines e = e
+one_rest b (suc k) _ _ f g (one_line_more _ t log x) (one_line_more _ u other y) e =
     let inner : t ++ (line (k / b) (k % b) log ++ f) ≡ u ++ (line (k / b) (k % b) other ++ g) = sym (append_assoc t _ f) ∙ e ∙ append_assoc u _ g in
     (one_line (k / b) (k % b) log other f g (one_rest b k t u _ _ x y inner)).1
 
@@ -75,8 +75,8 @@ pub record Among (b k : ℕ) (text : List ℕ) : Type 0 where
   pub is : text ≡ before ++ (line (k / b) (k % b) log ++ after)
 
 pub among : (b m k : ℕ) (text : List ℕ) → Lines b m text → k < m → Among b k text
-among b zero k _ none h = absurd (omega arith)
-among b (suc m) k _ (more _ t log form) h = elim (eqb_tells k m) [
+among b zero k _ no_lines h = absurd (omega arith)
+among b (suc m) k _ (one_line_more _ t log form) h = elim (eqb_tells k m) [
   | inl p ↦ subst (λ j. Among b j (t ++ line (m / b) (m % b) log)) (sym p.1) (record { before = t; log = log; after = []; form = form; is = rw (append-nil (line (m / b) (m % b) log)) refl })
   | inr p ↦
       let below : k < m = omega (arith, p.1, h) in
@@ -93,5 +93,5 @@ among b (suc m) k _ (more _ t log form) h = elim (eqb_tells k m) [
 -- the lines of logs have the form
 pub lines_are : (bs : List (List Answers)) (m k : ℕ) → Lines m k (lines_below bs m k)
 unfolding lines_below place_line
-lines_are bs m zero = none
-lines_are bs m (suc k) = more k (lines_below bs m k) (log_at bs (k % m) (k / m)) (lines_are bs m k)
+lines_are bs m zero = no_lines
+lines_are bs m (suc k) = one_line_more k (lines_below bs m k) (log_at bs (k % m) (k / m)) (lines_are bs m k)

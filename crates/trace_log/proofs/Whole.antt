@@ -2,7 +2,7 @@
 use Rattle.std.proofs.Common.{◌≡◌, ◌<◌, ◌≤◌, ◌*◌, ◌+◌, ◌-◌, ◌/◌, ◌%◌, ◌^◌, inl, inr, Bool, ℕ, List, [], ◌++◌, length, get_or, refl, sym, ap, ◌∙◌, subst, arith, append-nil}
 use Rattle.std.proofs.lemmas.Nat.{div-add-mod', div-mul-add, mod-mul-add, mul-le}
 use Rattle.buffer_ends.specs.Local.{Answers}
-use Rattle.trace_log.specs.Texts.{header, letters, line, lines_below, trace_text, windows_of, InBounds, IsTrace}
+use Rattle.trace_log.specs.Texts.{header, letters, line, lines_below, trace_text, window_count, InBounds, IsTrace}
 use Rattle.trace_log.specs.Marks.{told_by}
 use Rattle.trace_log.specs.Stops.{Lines, HasLine, IsText}
 use Rattle.trace_log.proofs.Letters.{letters_told}
@@ -10,12 +10,12 @@ use Rattle.trace_log.proofs.Parts.{among, lines_are, one_header, one_rest}
 use Rattle.trace_log.proofs.Filling.{AreRead}
 
 -- what stands behind line 0
-pub lines_behind : (text : List ℕ) (n w b : ℕ) (behind : List ℕ) → IsText text → InBounds n w b → text ≡ header n w b ++ behind → Lines b (windows_of n w * b) behind
+pub lines_behind : (text : List ℕ) (n w b : ℕ) (behind : List ℕ) → IsText text → InBounds n w b → text ≡ header n w b ++ behind → Lines b (window_count n w * b) behind
 lines_behind text n w b behind t bounds is =
     let p = one_header n w b t.ticks t.window t.buffers behind t.lines bounds t.bounds (sym is ∙ t.is) in
-    let same : windows_of n w * b ≡ windows_of t.ticks t.window * t.buffers = rw (p.0, p.1, p.2) refl in
-    let others : Lines b (windows_of t.ticks t.window * t.buffers) t.lines = subst (λ j. Lines j (windows_of t.ticks t.window * t.buffers) t.lines) (sym p.2) t.form in
-    subst (λ l. Lines b (windows_of n w * b) l) (sym p.3) (subst (λ j. Lines b j t.lines) (sym same) others)
+    let same : window_count n w * b ≡ window_count t.ticks t.window * t.buffers = rw (p.0, p.1, p.2) refl in
+    let others : Lines b (window_count t.ticks t.window * t.buffers) t.lines = subst (λ j. Lines j (window_count t.ticks t.window * t.buffers) t.lines) (sym p.2) t.form in
+    subst (λ l. Lines b (window_count n w * b) l) (sym p.3) (subst (λ j. Lines b j t.lines) (sym same) others)
 
 -- the line of the next place is there
 pub line_there : (text : List ℕ) (bs : List (List Answers)) (m n k : ℕ) (rest : List ℕ) → Lines m n text → AreRead text bs m k rest → k < n → HasLine (k / m) (k % m) rest
@@ -44,20 +44,20 @@ windows_end text bs m w k rest r all b h =
 
 -- logs whose lines stand behind line 0 are a trace, and the text is its text
 pub whole_trace : (text : List ℕ) (n w b : ℕ) (behind : List ℕ) (bs : List (List Answers)) → InBounds n w b → text ≡ header n w b ++ behind → length bs ≡ b
-    → ((k : ℕ) → k < b → length (get_or bs k []) ≡ windows_of n w) → behind ≡ lines_below bs b (windows_of n w * b)
+    → ((k : ℕ) → k < b → length (get_or bs k []) ≡ window_count n w) → behind ≡ lines_below bs b (window_count n w * b)
     → IsTrace (record { ticks = n; window = w; buffers = bs }) × (text ≡ trace_text (record { ticks = n; window = w; buffers = bs }))
 unfolding trace_text
 whole_trace text n w b behind bs bounds is all logs lines = (
   record { bounds = subst (λ j. InBounds n w j) (sym all) bounds; logs = λ k h. logs k (omega (arith, h, all)) },
-  is ∙ ap (λ (t : List ℕ). header n w b ++ t) lines ∙ ap (λ j. header n w j ++ lines_below bs j (windows_of n w * j)) (sym all),
+  is ∙ ap (λ (t : List ℕ). header n w b ++ t) lines ∙ ap (λ j. header n w j ++ lines_below bs j (window_count n w * j)) (sym all),
 )
 
 -- the places of a trace are counted by a number of 64 bits
-pub places_fit : (n w b : ℕ) → InBounds n w b → windows_of n w * b < 2 ^ 64
+pub places_fit : (n w b : ℕ) → InBounds n w b → window_count n w * b < 2 ^ 64
 places_fit n w b bounds =
     let some : 0 < w = omega (arith, bounds.window_least) in
-    let most : windows_of n w ≤ n + (w - 1) = div_most (n + (w - 1)) w some in
-    let product : windows_of n w * b ≤ 1001000000 * 4096 = mul-le (windows_of n w) b 1001000000 4096 (omega (arith, most, bounds.ticks_most, bounds.window_most)) bounds.buffers_most in
+    let most : window_count n w ≤ n + (w - 1) = div_most (n + (w - 1)) w some in
+    let product : window_count n w * b ≤ 1001000000 * 4096 = mul-le (window_count n w) b 1001000000 4096 (omega (arith, most, bounds.ticks_most, bounds.window_most)) bounds.buffers_most in
     omega (arith, product)
   where
     div_most : (a c : ℕ) → 0 < c → a / c ≤ a

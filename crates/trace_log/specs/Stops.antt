@@ -1,12 +1,13 @@
 -- The first line of a text that is outside the form of a trace.
 use Rattle.std.specs.Prelude.{◌≡◌, ◌<◌, ◌*◌, ◌/◌, ◌%◌, ℕ, zero, suc, List, [], ◌++◌}
 use Rattle.buffer_ends.specs.Local.{Answers}
-use Rattle.trace_log.specs.Texts.{header, line, windows_of, InBounds}
+use Rattle.trace_log.specs.Texts.{header, line, window_count, InBounds}
 
 -- the first k lines behind line 0, whose logs are the items of a list
 pub data Lines (many : ℕ) : ℕ → List ℕ → Type 0 where
-  none : Lines many zero []
-  more : (k : ℕ) (text : List ℕ) (log : Answers) → Lines many k text → Lines many (suc k) (text ++ line (k / many) (k % many) log)
+  no_lines : Lines many zero []
+  one_line_more : (k : ℕ) (text : List ℕ) (log : Answers) → Lines many k text
+      → Lines many (suc k) (text ++ line (k / many) (k % many) log)
 
 -- a line of this window and this buffer begins the text
 abbrev pub HasLine : ℕ → ℕ → List ℕ → Type 0
@@ -20,9 +21,10 @@ NoLine many k text = (log : Answers) (rest : List ℕ) → text ≡ line (k / ma
 pub data StopsAt (text : List ℕ) : ℕ → Type 0 where
   first : ((n w b : ℕ) (rest : List ℕ) → InBounds n w b → text ≡ header n w b ++ rest → ⊥) → StopsAt text zero
   inside : (n w b k : ℕ) (front rest : List ℕ) → InBounds n w b → Lines b k front → text ≡ header n w b ++ front ++ rest
-      → k < windows_of n w * b → NoLine b k rest → StopsAt text (suc k)
-  behind : (n w b : ℕ) (front rest : List ℕ) → InBounds n w b → Lines b (windows_of n w * b) front → text ≡ header n w b ++ front ++ rest
-      → (rest ≡ [] → ⊥) → StopsAt text (suc (windows_of n w * b))
+      → k < window_count n w * b → NoLine b k rest → StopsAt text (suc k)
+  past_lines : (n w b : ℕ) (front rest : List ℕ) → InBounds n w b → Lines b (window_count n w * b) front
+      → text ≡ header n w b ++ front ++ rest
+      → (rest ≡ [] → ⊥) → StopsAt text (suc (window_count n w * b))
 
 -- the text of some logs, within the bounds
 pub record IsText (text : List ℕ) : Type 0 where
@@ -31,7 +33,7 @@ pub record IsText (text : List ℕ) : Type 0 where
   pub buffers : ℕ
   pub lines : List ℕ
   pub bounds : InBounds ticks window buffers
-  pub form : Lines buffers (windows_of ticks window * buffers) lines
+  pub form : Lines buffers (window_count ticks window * buffers) lines
   pub is : text ≡ header ticks window buffers ++ lines
 
 -- the first lines stand, and this is what follows

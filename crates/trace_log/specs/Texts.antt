@@ -14,7 +14,8 @@ letters one other (a ∷ more) = map (letter one other) (a ∷ more)
 
 -- line 0
 unfoldable pub header : ℕ → ℕ → ℕ → List ℕ
-header ticks window buffers = codes "liq trace 1 " ++ decimal ticks ++ codes " " ++ decimal window ++ codes " " ++ decimal buffers ++ codes "\n"
+header ticks window buffers = codes "liq trace 1 " ++ decimal ticks ++ codes " " ++ decimal window ++ codes " "
+    ++ decimal buffers ++ codes "\n"
 
 -- the line of a window of a buffer: A and F for puts, G and E for takes
 unfoldable pub line : ℕ → ℕ → Answers → List ℕ
@@ -22,8 +23,8 @@ line window buffer log = codes "window " ++ decimal window ++ codes " buffer " +
     ++ codes " puts " ++ letters 65 70 log.puts ++ codes " takes " ++ letters 71 69 log.takes ++ codes "\n"
 
 -- how many windows some ticks have
-abbrev pub windows_of : ℕ → ℕ → ℕ
-windows_of ticks window = (ticks + (window - 1)) / window
+abbrev pub window_count : ℕ → ℕ → ℕ
+window_count ticks window = (ticks + (window - 1)) / window
 
 abbrev pub log_at : List (List Answers) → ℕ → ℕ → Answers
 log_at buffers buffer window = slice_index_or (slice_index_or buffers buffer []) window no_answers
@@ -39,7 +40,7 @@ lines_below buffers many (suc k) = lines_below buffers many k ++ place_line buff
 
 -- how many lines stand behind line 0
 abbrev pub places_of : TraceValue → ℕ
-places_of t = windows_of t.ticks t.window * length t.buffers
+places_of t = window_count t.ticks t.window * length t.buffers
 
 unfoldable pub trace_text : TraceValue → List ℕ
 trace_text t = header t.ticks t.window (length t.buffers) ++ lines_below t.buffers (length t.buffers) (places_of t)
@@ -54,4 +55,4 @@ pub record InBounds (ticks window buffers : ℕ) : Type 0 where
 -- a trace within the bounds, with a log per window in each buffer
 pub record IsTrace (t : TraceValue) : Type 0 where
   pub bounds : InBounds t.ticks t.window (length t.buffers)
-  pub logs : (b : ℕ) → b < length t.buffers → length (slice_index_or t.buffers b []) ≡ windows_of t.ticks t.window
+  pub logs : (b : ℕ) → b < length t.buffers → length (slice_index_or t.buffers b []) ≡ window_count t.ticks t.window

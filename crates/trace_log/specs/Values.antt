@@ -10,5 +10,6 @@ pub record TraceValue : Type 0 where
   pub buffers : List (List Answers)
 
 abbrev pub trace_coded : Coded TraceValue
-trace_coded = code_by (ℕ × (ℕ × List (List Answers))) (coded× coded_ℕ (coded× coded_ℕ (coded_list (coded_list answers_coded))))
+trace_coded = code_by (ℕ
+    × (ℕ × List (List Answers))) (coded× coded_ℕ (coded× coded_ℕ (coded_list (coded_list answers_coded))))
     (λ t. (t.ticks, (t.window, t.buffers))) (λ p. record { ticks = p.0; window = p.1.0; buffers = p.1.1 }) (λ _. refl)

@@ -10,7 +10,8 @@ use fixed_text::read_u64;
 // The numbers of line 0, and what stands behind it. `None` exactly where line 0 has not its form.
 pub(crate) fn cut_header(text: &[u8]) -> Option<(u64, u64, u64, &[u8])>
     ensures found { IfSome result (λ p. InBounds p.0 p.1 p.2 × (text.now ≡ header p.0 p.1 p.2 ++ p.3.now)) }
-    ensures only { (n w b : ℕ) (f : List ℕ) → InBounds n w b → text.now ≡ header n w b ++ f → IsSomeAnd result (λ p. (p.0 ≡ n) × (p.1 ≡ w) × (p.2 ≡ b) × (p.3.now ≡ f)) }
+    ensures only { (n w b : ℕ) (f : List ℕ) → InBounds n w b → text.now ≡ header n w b ++ f
+        → IsSomeAnd result (λ p. (p.0 ≡ n) × (p.1 ≡ w) × (p.2 ≡ b) × (p.3.now ≡ f)) }
 {
     let behind = cut_word(text, b"liq trace 1 ")?;
     let (ticks, behind_ticks) = cut_number(behind, b' ')?;
@@ -25,8 +26,11 @@ pub(crate) fn cut_header(text: &[u8]) -> Option<(u64, u64, u64, &[u8])>
 // The letters of the puts and of the takes of a line, and what stands behind it. `None` exactly where the text does not
 // begin with a line of this window and this buffer.
 pub(crate) fn cut_line(text: &[u8], window: u64, buffer: u64) -> Option<(&[u8], &[u8], &[u8])>
-    ensures found { IfSome result (λ p. (log : Answers) × (p.0.now ≡ letters 65 70 log.puts) × (p.1.now ≡ letters 71 69 log.takes) × (text.now ≡ line window buffer log ++ p.2.now)) }
-    ensures only { (log : Answers) (f : List ℕ) → text.now ≡ line window buffer log ++ f → IsSomeAnd result (λ p. (p.0.now ≡ letters 65 70 log.puts) × (p.1.now ≡ letters 71 69 log.takes) × (p.2.now ≡ f)) }
+    ensures found { IfSome result (λ p. (log : Answers) × (p.0.now ≡ letters 65 70 log.puts)
+        × (p.1.now ≡ letters 71 69 log.takes) × (text.now ≡ line window buffer log ++ p.2.now)) }
+    ensures only { (log : Answers) (f : List ℕ) → text.now ≡ line window buffer log ++ f
+        → IsSomeAnd result (λ p. (p.0.now ≡ letters 65 70 log.puts) × (p.1.now ≡ letters 71 69 log.takes)
+        × (p.2.now ≡ f)) }
 {
     let in_window = cut_word(text, b"window ")?;
     let (found_window, behind_window) = cut_number(in_window, b' ')?;
@@ -52,7 +56,8 @@ fn first_mark(text: &[u8], stop: u8) -> Option<usize>
 // What stands before and behind the first such byte.
 fn cut_at(text: &[u8], stop: u8) -> Option<(&[u8], &[u8])>
     ensures found { IfSome result (λ p. text.now ≡ p.0.now ++ stop ∷ p.1.now) }
-    ensures only { (w f : List ℕ) → Lacks stop w → text.now ≡ w ++ stop ∷ f → IsSomeAnd result (λ p. (p.0.now ≡ w) × (p.1.now ≡ f)) }
+    ensures only { (w f : List ℕ) → Lacks stop w → text.now ≡ w ++ stop ∷ f
+        → IsSomeAnd result (λ p. (p.0.now ≡ w) × (p.1.now ≡ f)) }
 {
     let mark = first_mark(text, stop)?;
     Some((&text[..mark], &text[mark + 1..]))
@@ -62,7 +67,8 @@ fn cut_at(text: &[u8], stop: u8) -> Option<(&[u8], &[u8])>
 fn cut_number(text: &[u8], stop: u8) -> Option<(u64, &[u8])>
     requires { stop < 48 }
     ensures found { IfSome result (λ p. text.now ≡ decimal p.0 ++ stop ∷ p.1.now) }
-    ensures only { (n : ℕ) (f : List ℕ) → n < 2 ^ 64 → text.now ≡ decimal n ++ stop ∷ f → IsSomeAnd result (λ p. (p.0 ≡ n) × (p.1.now ≡ f)) }
+    ensures only { (n : ℕ) (f : List ℕ) → n < 2 ^ 64 → text.now ≡ decimal n ++ stop ∷ f
+        → IsSomeAnd result (λ p. (p.0 ≡ n) × (p.1.now ≡ f)) }
 {
     let (front, rest) = cut_at(text, stop)?;
     let number = read_u64(front)?;
@@ -100,8 +106,10 @@ fn cut_letters(text: &[u8], stop: u8, one: u8, other: u8) -> Option<(&[u8], &[u8
     requires one { one ≢ stop }
     requires other { other ≢ stop }
     requires none { 45 ≢ stop }
-    ensures found { IfSome result (λ p. (answers : List Bool) × (p.0.now ≡ letters one other answers) × (text.now ≡ p.0.now ++ stop ∷ p.1.now)) }
-    ensures only { (answers : List Bool) (f : List ℕ) → text.now ≡ letters one other answers ++ stop ∷ f → IsSomeAnd result (λ p. (p.0.now ≡ letters one other answers) × (p.1.now ≡ f)) }
+    ensures found { IfSome result (λ p. (answers : List Bool) × (p.0.now ≡ letters one other answers)
+        × (text.now ≡ p.0.now ++ stop ∷ p.1.now)) }
+    ensures only { (answers : List Bool) (f : List ℕ) → text.now ≡ letters one other answers ++ stop ∷ f
+        → IsSomeAnd result (λ p. (p.0.now ≡ letters one other answers) × (p.1.now ≡ f)) }
 {
     let (front, rest) = cut_at(text, stop)?;
     if !are_letters(front, one, other) {

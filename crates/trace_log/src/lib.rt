@@ -1,4 +1,5 @@
-//! The text of a trace: what the ends of the buffers answered, window by window. `docs/formats.md`, "Traces", has the form.
+//! The text of a trace: what the ends of the buffers answered, window by window. `docs/formats.md`, "Traces", has the
+//! form.
 #![tactic(auto)]
 
 mod checking;

@@ -1,7 +1,7 @@
 // A trace becomes its text.
 ghost use Rattle.std.specs.Prelude.{◌≡◌, ◌++◌, ◌<◌, ◌*◌, ◌+◌, decimal, length, map, slice_index_or, take, OnOk, OnErr};
 ghost use Rattle.buffer_ends.specs.Local.{no_answers};
-ghost use Rattle.trace_log.specs.Texts.{header, letter, letters, log_at, line, place_line, places_of, trace_text, windows_of, IsTrace};
+ghost use Rattle.trace_log.specs.Texts.{header, letter, letters, log_at, line, place_line, places_of, trace_text, window_count, IsTrace};
 
 use crate::trace::Trace;
 use buffer_ends::WindowLog;
@@ -42,7 +42,8 @@ fn append_trace(trace: &Trace, into: &mut Vec<u8>) -> Result<(), Memory>
 fn append_place(trace: &Trace, into: &mut Vec<u8>, place: u64) -> Result<(), Memory>
     requires trace { IsTrace trace.now }
     requires inside { place < places_of trace.now }
-    ensures ok { OnOk result (into.new.items ≡ into.old.items ++ place_line trace.now.buffers (length trace.now.buffers) place) }
+    ensures ok { OnOk result (into.new.items
+        ≡ into.old.items ++ place_line trace.now.buffers (length trace.now.buffers) place) }
     ensures kept { take (length into.old.items) into.new.items ≡ into.old.items }
 {
     let many = trace.buffers.len() as u64;
@@ -57,7 +58,7 @@ fn append_place(trace: &Trace, into: &mut Vec<u8>, place: u64) -> Result<(), Mem
 fn log_of(trace: &Trace, buffer: u64, window: u64) -> &WindowLog
     requires trace { IsTrace trace.now }
     requires buffer { buffer < length trace.now.buffers }
-    requires window { window < windows_of trace.now.ticks trace.now.window }
+    requires window { window < window_count trace.now.ticks trace.now.window }
     ensures { result.now ≡ log_at trace.now.buffers buffer window }
 {
     let log = &trace.buffers[buffer as usize];

@@ -69,8 +69,10 @@ fn read_lines(
     requires fit { windows * length buffers.old.items < 2 ^ 64 }
     requires lines { Lines (length buffers.old.items) (windows * length buffers.old.items) text.now }
     ensures all { OnOk result (length buffers.new.items ≡ length buffers.old.items) }
-    ensures each { OnOk result ((b : ℕ) → b < length buffers.old.items → length (slice_index_or buffers.new.items b []) ≡ windows) }
-    ensures lines { OnOk result (text.now ≡ lines_below buffers.new.items (length buffers.old.items) (windows * length buffers.old.items)) }
+    ensures each { OnOk result ((b : ℕ) → b < length buffers.old.items
+        → length (slice_index_or buffers.new.items b []) ≡ windows) }
+    ensures lines { OnOk result (text.now
+        ≡ lines_below buffers.new.items (length buffers.old.items) (windows * length buffers.old.items)) }
 {
     let many = buffers.len() as u64;
     let mut rest = text;
@@ -85,7 +87,8 @@ fn read_lines(
 // Puts the answers of a window to a buffer.
 fn add_log(buffers: &mut Vec<BufferLog>, buffer: u64, log: WindowLog) -> Result<(), Memory>
     requires { buffer < length buffers.old.items }
-    ensures { OnOk result (buffers.new.items ≡ slice_set buffers.old.items buffer (slice_index_or buffers.old.items buffer [] ++ log ∷ [])) }
+    ensures { OnOk result (buffers.new.items
+        ≡ slice_set buffers.old.items buffer (slice_index_or buffers.old.items buffer [] ++ log ∷ [])) }
 {
     buffers[buffer as usize].windows.push(log)?;
     Ok(())

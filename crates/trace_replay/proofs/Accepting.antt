@@ -12,7 +12,7 @@ use Rattle.stream_meaning.specs.Settings.{IsSetting}
 use Rattle.run_records.specs.Buffers.{reader}
 use Rattle.run_records.specs.Records.{capacity_of, start}
 use Rattle.buffer_ends.specs.Local.{Answers}
-use Rattle.trace_log.specs.Texts.{IsTrace, windows_of}
+use Rattle.trace_log.specs.Texts.{IsTrace, window_count}
 use Rattle.trace_log.specs.Values.{TraceValue}
 use Rattle.frame_core.specs.declared.cell.Cell.{Cell}
 use Rattle.trace_replay.specs.declared.ends.Ends.{Ends}
@@ -41,9 +41,9 @@ map_long [] = refl
 map_long (w ∷ windows) = ap suc (map_long windows)
 
 -- the windows of so many ticks
-formed_by : (W N : ℕ) → 1 ≤ W → (start W N (windows_of N W) ≡ N) × ((j : ℕ) → j < windows_of N W → start W N j < N)
+formed_by : (W N : ℕ) → 1 ≤ W → (start W N (window_count N W) ≡ N) × ((j : ℕ) → j < window_count N W → start W N j < N)
 formed_by W N some =
-    let q : ℕ = windows_of N W in
+    let q : ℕ = window_count N W in
     let parts = div-add-mod (N + (W - 1)) W in
     let turn = mul_comm W q in
     let rest = mod-lt (N + (W - 1)) some in (
@@ -72,7 +72,7 @@ module _ (base : Setting) (clocks : ClockMap) (is : IsSetting base clocks) (trac
       let bounds = read.bounds in
       let by = formed_by trace.window trace.ticks bounds.window_least in
       record {
-        count = windows_of trace.ticks trace.window;
+        count = window_count trace.ticks trace.window;
         whole = by.0;
         tight = by.1;
         many = λ b known. map_long (slice_index_or trace.buffers b []) ∙ read.logs b (omega (arith, known, buffers_are));

@@ -22,7 +22,7 @@ use Rattle.stream_meaning.proofs.Unread.{no_tick_takes, none_in_joined}
 use Rattle.run_records.specs.Outputs.{first_calls}
 use Rattle.run_records.proofs.Ticking.{reads_op}
 use Rattle.run_records.specs.Buffers.{feeder, reader}
-use Rattle.run_records.specs.Ordered.{IsOrdered, made as counted, told}
+use Rattle.run_records.specs.Ordered.{IsOrdered, made as counted, text_of_window}
 use Rattle.run_records.specs.Owning.{IsOwn}
 use Rattle.run_records.specs.Records.{AreWindows, Follows, Run, Window, answers_of, calls_in, capacity_of, on, puts_of, setting_in, start, windows_in, windows_of}
 use Rattle.run_records.proofs.Alone.{feeder_runs}
@@ -411,11 +411,11 @@ module _ (base : Setting) (map_of : ClockMap) (is : IsSetting base map_of) (W N 
     takes_snoc [] w = append-nil w.1
     takes_snoc (x ∷ log) w = ap (λ l. x.1 ++ l) (takes_snoc log w) ∙ sym (append_assoc x.1 (takes_in log) w.1)
 
-    map_snoc : (ws : List Window) (w : Window) → map told (ws ++ w ∷ []) ≡ map told ws ++ told w ∷ []
+    map_snoc : (ws : List Window) (w : Window) → map text_of_window (ws ++ w ∷ []) ≡ map text_of_window ws ++ text_of_window w ∷ []
     map_snoc [] w = refl
-    map_snoc (x ∷ ws) w = ap (λ l. told x ∷ l) (map_snoc ws w)
+    map_snoc (x ∷ ws) w = ap (λ l. text_of_window x ∷ l) (map_snoc ws w)
 
-    windows_told : (b j : ℕ) → b < B → j ≤ formed.count → map told (windows_in world C at.accepted b W N j) ≡ take j (text b)
+    windows_told : (b j : ℕ) → b < B → j ≤ formed.count → map text_of_window (windows_in world C at.accepted b W N j) ≡ take j (text b)
     windows_told b zero known within = refl
     windows_told b (suc j) known within =
         let many = formed.many b known in
@@ -435,7 +435,7 @@ module _ (base : Setting) (map_of : ClockMap) (is : IsSetting base map_of) (W N 
     told_all : IsTold base text run
     told_all b known =
         let many = formed.many b known in
-        ap (map told) (window_at b known) ∙ windows_told b formed.count known (omega arith) ∙ take_all formed.count (text b) (omega (arith, many))
+        ap (map text_of_window) (window_at b known) ∙ windows_told b formed.count known (omega arith) ∙ take_all formed.count (text b) (omega (arith, many))
 
     lawful_now : AreWindows base C W N run
     lawful_now = record {

@@ -2,7 +2,7 @@
 use Rattle.std.proofs.Common.{◌≡◌, ◌≤◌, ◌<◌, ◌+◌, ◌⊎◌, ℕ, zero, suc, Bool, true, false, is_some, Option, Some, None, List, [], ◌∷◌, ◌++◌, length, map, refl, sym, ap, ◌∙◌, subst, arith, inl, inr, append_assoc, append-nil, length-append, true≢false, ⊎_elim}
 use Rattle.std.proofs.lemmas.Bool.{cases_lt}
 use Rattle.frame_core.specs.Legal.{Legal}
-use Rattle.frame_core.specs.Legal.Legal.{ended, accepted, full, got, empty}
+use Rattle.frame_core.specs.Legal.Legal.{all_done, accepted, put_refused, got, empty}
 use Rattle.trace_replay.specs.Told.{yes, AtNo, Fits}
 use Rattle.frame_core.specs.Frames.{somes}
 
@@ -44,7 +44,7 @@ module _ {X : Type 0} where
   told answers = map is_some answers
 
   pub legal_fits : {C : ℕ} {rest queue : List X} {puts takes : List (Option X)} → Legal C rest queue puts takes → length queue ≤ C → Fits C (length queue) (told puts) (told takes)
-  legal_fits {C = C} {rest = rest} ended low = record {
+  legal_fits {C = C} {rest = rest} all_done low = record {
     least = omega arith;
     most = omega (arith, low);
     fulls = at_none (λ put. C ≤ length rest + put);
@@ -62,7 +62,7 @@ module _ {X : Type 0} where
         apart = at_true (told puts) (λ put. AtNo (told takes) (λ n. (length queue + put ≤ n) ⊎ (n + C ≤ length queue + put)))
             (λ before after e front behind f. ⊎_elim (λ a. inl (omega (arith, a, size))) (λ b. inr (omega (arith, b, size))) (is.apart before after e front behind f));
       }
-  legal_fits {C = C} (full {queue = queue} {puts = puts} {takes = takes} most more) low =
+  legal_fits {C = C} (put_refused {queue = queue} {puts = puts} {takes = takes} most more) low =
       let is = legal_fits more low in
       record {
         least = is.least;
@@ -219,11 +219,11 @@ module _ {X : Type 0} where
   pub fits_legal : (fuel C : ℕ) (rest queue : List X) (puts takes : List (Option X)) → length puts + length takes ≤ fuel → 1 ≤ C → length queue ≤ C
       → Fits C (length queue) (told puts) (told takes) → queue ++ somes puts ≡ somes takes ++ rest → Legal C rest queue puts takes
   fits_legal fuel C rest queue [] [] short some low is whole =
-      subst (λ (l : List X). Legal C rest l [] []) (sym (sym (append-nil queue) ∙ whole)) ended
+      subst (λ (l : List X). Legal C rest l [] []) (sym (sym (append-nil queue) ∙ whole)) all_done
   fits_legal zero C rest queue (put ∷ puts) takes short some low is whole = absurd (omega (arith, short))
   fits_legal zero C rest queue [] (take ∷ takes) short some low is whole = absurd (omega (arith, short))
   fits_legal (suc fuel) C rest queue (None ∷ puts) takes short some low is whole =
-      full (omega (arith, low, here_false (told puts) (λ put. C ≤ length queue + put) is.fulls))
+      put_refused (omega (arith, low, here_false (told puts) (λ put. C ≤ length queue + put) is.fulls))
       (fits_legal fuel C rest queue puts takes (omega (arith, short)) some low (fits_full C (length queue) (told puts) (told takes) is) whole)
   fits_legal (suc fuel) C rest [] [] (None ∷ takes) short some low is whole =
       empty (fits_legal fuel C rest [] [] takes (omega (arith, short)) some low (fits_empty C 0 [] (told takes) is) whole)

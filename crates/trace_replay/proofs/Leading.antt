@@ -11,7 +11,7 @@ use Rattle.stream_meaning.specs.Calls.{joined_upto}
 use Rattle.stream_meaning.specs.Settings.{IsSetting}
 use Rattle.run_records.specs.Outputs.{first_calls}
 use Rattle.run_records.specs.Buffers.{feeder, reader}
-use Rattle.run_records.specs.Ordered.{IsOrdered, made as counted, told}
+use Rattle.run_records.specs.Ordered.{IsOrdered, made as counted, text_of_window}
 use Rattle.run_records.specs.Records.{AreWindows, Run, Window, answers_of, calls_in, capacity_of, puts_of, setting_in, windows_of}
 use Rattle.run_records.proofs.Alone.{feeder_runs}
 use Rattle.trace_replay.specs.Clocks.{Log, got_in, put_by}
@@ -82,9 +82,9 @@ module _ (base : Setting) (map_of : ClockMap) (is : IsSetting base map_of) (W N 
   B = length base.plan.buffers
 
   text : ℕ → Log
-  text b = map told (windows_of run b)
+  text b = map text_of_window (windows_of run b)
 
-  told_is : (b : ℕ) → b < B → map told (windows_of run b) ≡ text b
+  told_is : (b : ℕ) → b < B → map text_of_window (windows_of run b) ≡ text b
   unfolding text
   told_is b known = refl
 

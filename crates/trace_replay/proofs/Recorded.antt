@@ -18,7 +18,7 @@ use Rattle.stream_meaning.specs.Settings.{IsSetting}
 use Rattle.stream_meaning.proofs.Answering.{joined_same}
 use Rattle.run_records.specs.Outputs.{first_calls}
 use Rattle.run_records.specs.Buffers.{feeder, reader}
-use Rattle.run_records.specs.Ordered.{told}
+use Rattle.run_records.specs.Ordered.{text_of_window}
 use Rattle.run_records.specs.Owning.{IsOwn}
 use Rattle.run_records.specs.Records.{AreWindows, Follows, Run, Window, answers_of, calls_in, capacity_of, on, puts_of, setting_in, start, windows_in, windows_of}
 use Rattle.run_records.proofs.Flattening.{all_puts, all_takes}
@@ -39,11 +39,11 @@ run_whole {X} C q rest (w ∷ windows) run =
     ∙ ap (λ l. l ++ somes puts) (legal_whole run.1) ∙ append_assoc (somes w.1) run.0 (somes puts)
     ∙ ap (λ l. somes w.1 ++ l) more ∙ sym (append_assoc (somes w.1) (somes takes) rest) ∙ ap (λ l. l ++ rest) (sym (somes-append w.1 takes))
 
-pub puts_told : (windows : List Window) → map is_some (flat_map (λ (w : Window). w.0) windows) ≡ puts_in (map told windows)
+pub puts_told : (windows : List Window) → map is_some (flat_map (λ (w : Window). w.0) windows) ≡ puts_in (map text_of_window windows)
 puts_told [] = refl
 puts_told (w ∷ windows) = map-append is_some w.0 (flat_map (λ (w : Window). w.0) windows) ∙ ap (λ l. map is_some w.0 ++ l) (puts_told windows)
 
-pub takes_told : (windows : List Window) → map is_some (flat_map (λ (w : Window). w.1) windows) ≡ takes_in (map told windows)
+pub takes_told : (windows : List Window) → map is_some (flat_map (λ (w : Window). w.1) windows) ≡ takes_in (map text_of_window windows)
 takes_told [] = refl
 takes_told (w ∷ windows) = map-append is_some w.1 (flat_map (λ (w : Window). w.1) windows) ∙ ap (λ l. map is_some w.1 ++ l) (takes_told windows)
 
@@ -159,7 +159,7 @@ windows_first setting clocks accepted b W N j (suc count) low =
     ]
 
 module _ (base : Setting) (map_of : ClockMap) (is : IsSetting base map_of) (W N : ℕ) (text : ℕ → Log) (run : Run) (lawful : AreWindows base map_of.running W N run)
-    (told_is : (b : ℕ) → b < length base.plan.buffers → map told (windows_of run b) ≡ text b) where
+    (told_is : (b : ℕ) → b < length base.plan.buffers → map text_of_window (windows_of run b) ≡ text b) where
   -- the chunks that a buffer accepted
   abbrev pub chunks_in : ℕ → List (List Cell)
   chunks_in b = somes (puts_of run b)
@@ -179,14 +179,14 @@ module _ (base : Setting) (map_of : ClockMap) (is : IsSetting base map_of) (W N 
 
   pub text_long : (b : ℕ) → b < length base.plan.buffers → length (text b) ≡ lawful.count
   text_long b low =
-      ap (λ l. length l) (sym (told_is b low)) ∙ map_long told (windows_of run b) ∙ ap (λ l. length l) (lawful.are b low)
+      ap (λ l. length l) (sym (told_is b low)) ∙ map_long text_of_window (windows_of run b) ∙ ap (λ l. length l) (lawful.are b low)
       ∙ windows_long (setting_in base run) map_of.running lawful.accepted b W N lawful.count
 
-  text_first : (b j : ℕ) → b < length base.plan.buffers → j ≤ length (text b) → take j (text b) ≡ map told (windows_in (setting_in base run) map_of.running lawful.accepted b W N j)
+  text_first : (b j : ℕ) → b < length base.plan.buffers → j ≤ length (text b) → take j (text b) ≡ map text_of_window (windows_in (setting_in base run) map_of.running lawful.accepted b W N j)
   text_first b j low high =
       let long = text_long b low in
-      ap (λ l. take j l) (sym (told_is b low) ∙ ap (map told) (lawful.are b low)) ∙ take_map told j (windows_in (setting_in base run) map_of.running lawful.accepted b W N lawful.count)
-      ∙ ap (map told) (windows_first (setting_in base run) map_of.running lawful.accepted b W N j lawful.count (omega (arith, high, long)))
+      ap (λ l. take j l) (sym (told_is b low) ∙ ap (map text_of_window) (lawful.are b low)) ∙ take_map text_of_window j (windows_in (setting_in base run) map_of.running lawful.accepted b W N lawful.count)
+      ∙ ap (map text_of_window) (windows_first (setting_in base run) map_of.running lawful.accepted b W N j lawful.count (omega (arith, high, long)))
 
   module _ (m : ℕ) (runs : m < map_of.running) where
     abbrev made : ℕ → List Call

@@ -4,7 +4,7 @@ use Rattle.std.proofs.lemmas.List.{map-append}
 use Rattle.clock_infer.specs.declared.clock_map.ClockMap.{ClockMap}
 use Rattle.stream_meaning.specs.Instants.{Setting}
 use Rattle.stream_meaning.specs.Settings.{IsSetting}
-use Rattle.run_records.specs.Ordered.{told}
+use Rattle.run_records.specs.Ordered.{text_of_window}
 use Rattle.run_records.specs.Records.{AreWindows, Run, Window, windows_of}
 use Rattle.run_records.proofs.Replaying.{text_is_whole}
 use Rattle.buffer_ends.specs.Local.{Answers, yes}
@@ -19,21 +19,21 @@ use Rattle.trace_replay.proofs.Fronts.{head_same, no_items, tail_same}
 use Rattle.trace_replay.proofs.Tracing.{log_at, same_text}
 
 -- windows that are told as those of a record are theirs
-log_one : (log : Answers) (window : Window) → pair_of log ≡ told window → log ≡ log_of window
+log_one : (log : Answers) (window : Window) → pair_of log ≡ text_of_window window → log ≡ log_of window
 log_one log window e = let puts : log.puts ≡ map is_some window.0 = ap (λ (p : List Bool × List Bool). p.0) e in
     let takes : log.takes ≡ map is_some window.1 = ap (λ (p : List Bool × List Bool). p.1) e in
     λ i. record { puts = puts i; takes = takes i }
 
-logs_same : (logs : List Answers) (windows : List Window) → map told windows ≡ map pair_of logs → logs ≡ map log_of windows
+logs_same : (logs : List Answers) (windows : List Window) → map text_of_window windows ≡ map pair_of logs → logs ≡ map log_of windows
 logs_same [] [] e = refl
-logs_same [] (w ∷ windows) e = absurd (no_items (told w) (map told windows) (sym e))
+logs_same [] (w ∷ windows) e = absurd (no_items (text_of_window w) (map text_of_window windows) (sym e))
 logs_same (l ∷ logs) [] e = absurd (no_items (pair_of l) (map pair_of logs) e)
 logs_same (l ∷ logs) (w ∷ windows) e =
-    let here = log_one l w (sym (head_same (told w) (pair_of l) (map told windows) (map pair_of logs) e)) in
-    let more = logs_same logs windows (tail_same (told w) (pair_of l) (map told windows) (map pair_of logs) e) in
+    let here = log_one l w (sym (head_same (text_of_window w) (pair_of l) (map text_of_window windows) (map pair_of logs) e)) in
+    let more = logs_same logs windows (tail_same (text_of_window w) (pair_of l) (map text_of_window windows) (map pair_of logs) e) in
     λ i. here i ∷ more i
 
-all_same : (logs : List (List Answers)) (buffers : List (List Window)) → length logs ≡ length buffers → ((b : ℕ) → b < length buffers → map told (slice_index_or buffers b []) ≡ map pair_of (slice_index_or logs b []))
+all_same : (logs : List (List Answers)) (buffers : List (List Window)) → length logs ≡ length buffers → ((b : ℕ) → b < length buffers → map text_of_window (slice_index_or buffers b []) ≡ map pair_of (slice_index_or logs b []))
     → logs ≡ map (map log_of) buffers
 all_same [] [] long each = refl
 all_same [] (w ∷ buffers) long each = absurd (omega (arith, long))

@@ -9,7 +9,7 @@ use Rattle.frame_core.specs.declared.cell.Cell.{Cell}
 use Rattle.frame_core.specs.Slots.{Slot}
 use Rattle.frame_core.specs.Calls.{Call, Took, puts_to, takes_of, Answer}
 use Rattle.op_cross.specs.Runs.{run_of}
-use Rattle.op_leaf.specs.Readers.{takes_of as takes_of_reader}
+use Rattle.op_leaf.specs.Readers.{reader_takes as takes_of_reader}
 use Rattle.run_records.proofs.Flattening.{puts-append, takes-append}
 use Rattle.stream_meaning.specs.Operators.{Work, Plays, Picks, Mixes, Fades, Reads}
 use Rattle.stream_meaning.specs.Instants.{Setting, Moment, lies_in, position, next_answers, reading_after, work_at, first_instants, sub_of}

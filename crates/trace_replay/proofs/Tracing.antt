@@ -3,7 +3,7 @@ use Rattle.std.proofs.Common.{◌≡◌, ◌∙◌, ℕ, zero, suc, List, [], �
 use Rattle.clock_infer.specs.declared.clock_map.ClockMap.{ClockMap}
 use Rattle.stream_meaning.specs.Instants.{Setting}
 use Rattle.stream_meaning.specs.Settings.{IsSetting}
-use Rattle.run_records.specs.Ordered.{IsOrdered, told}
+use Rattle.run_records.specs.Ordered.{IsOrdered, text_of_window}
 use Rattle.run_records.specs.Records.{AreWindows, Run, Window, setting_in, windows_of}
 use Rattle.buffer_ends.specs.Local.{Answers}
 use Rattle.buffer_sides.specs.Logs.{told as log_of}
@@ -13,9 +13,9 @@ use Rattle.trace_replay.specs.Listings.{LeadOnward}
 use Rattle.trace_replay.specs.Traces.{IsAccepted, pair_of, text_of, trace_of}
 use Rattle.trace_replay.proofs.Leading.{ordered_onward}
 
-pub same_text : (windows : List Window) → map pair_of (map log_of windows) ≡ map told windows
+pub same_text : (windows : List Window) → map pair_of (map log_of windows) ≡ map text_of_window windows
 same_text [] = refl
-same_text (w ∷ windows) = ap (λ l. told w ∷ l) (same_text windows)
+same_text (w ∷ windows) = ap (λ l. text_of_window w ∷ l) (same_text windows)
 
 pub log_at : (buffers : List (List Window)) (b : ℕ) → slice_index_or (map (map log_of) buffers) b [] ≡ map log_of (slice_index_or buffers b [])
 log_at [] b = refl

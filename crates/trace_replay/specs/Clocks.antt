@@ -33,9 +33,10 @@ Agree one other = IsFront one other ⊎ IsFront other one
 abbrev pub Joins : Setting → ℕ → Type 0
 Joins base b = feeder base b ≡ reader base b → ⊥
 
--- These calls are answered as the text tells, from its first answers on; what was got of the buffers that join two clocks are the
--- first of these chunks.
-pub record AreAnswered (base : Setting) (text : ℕ → Log) (chunks : ℕ → List (List Cell)) (calls : List Call) : Type 0 where
+-- These calls are answered as the text tells, from its first answers on; what was got of the buffers that join two
+-- clocks are the first of these chunks.
+pub record AreAnswered (base : Setting) (text : ℕ → Log) (chunks : ℕ
+    → List (List Cell)) (calls : List Call) : Type 0 where
   pub puts : (b : ℕ) → b < length base.plan.buffers → IsFront (map is_some (puts_to b calls)) (puts_in (text b))
   pub takes : (b : ℕ) → b < length base.plan.buffers → IsFront (map is_some (takes_of b calls)) (takes_in (text b))
   pub got : (b : ℕ) → b < length base.plan.buffers → Joins base b → IsFront (somes (takes_of b calls)) (chunks b)
@@ -60,33 +61,43 @@ buffer_of (Given b chunk accepted) = b
 
 -- the calls on the buffers with both ends in one clock stand in an order in which their lists answer so
 pub record AreInOrder (base : Setting) (calls : List Call) : Type 0 where
-  pub each : (front behind : List Call) (call : Call) → calls ≡ front ++ call ∷ behind → buffer_of call < length base.plan.buffers → feeder base (buffer_of call) ≡ reader base (buffer_of call)
-      → Suits (capacity_of base (buffer_of call)) (somes (puts_to (buffer_of call) front)) (got_in (buffer_of call) front) call
+  pub each : (front behind : List Call) (call : Call) → calls ≡ front ++ call ∷ behind
+      → buffer_of call < length base.plan.buffers → feeder base (buffer_of call) ≡ reader base (buffer_of call)
+      → Suits (capacity_of base (buffer_of call)) (somes (puts_to (buffer_of call) front))
+      (got_in (buffer_of call) front) call
 
--- by the end of each whole window of so many ticks the text's answers are used up, as far as the clock has this end of the buffer
+-- by the end of each whole window of so many ticks the text's answers are used up, as far as the clock has this end of
+-- the buffer
 pub record AreWhole (base : Setting) (text : ℕ → Log) (W N m n : ℕ) (calls : ℕ → List Call) : Type 0 where
-  pub puts : (j b : ℕ) → start W N j ≤ n → j ≤ length (text b) → b < length base.plan.buffers → feeder base b ≡ m → length (puts_to b (calls (start W N j))) ≡ length (puts_in (take j (text b)))
-  pub takes : (j b : ℕ) → start W N j ≤ n → j ≤ length (text b) → b < length base.plan.buffers → reader base b ≡ m → length (takes_of b (calls (start W N j))) ≡ length (takes_in (take j (text b)))
+  pub puts : (j b : ℕ) → start W N j ≤ n → j ≤ length (text b) → b < length base.plan.buffers → feeder base b ≡ m
+      → length (puts_to b (calls (start W N j))) ≡ length (puts_in (take j (text b)))
+  pub takes : (j b : ℕ) → start W N j ≤ n → j ≤ length (text b) → b < length base.plan.buffers → reader base b ≡ m
+      → length (takes_of b (calls (start W N j))) ≡ length (takes_in (take j (text b)))
 
 -- Clock m has made its first n ticks, with some answers, which are those of the text
-pub record HasReplayed (base : Setting) (text : ℕ → Log) (W N m n : ℕ) (chunks : ℕ → List (List Cell)) (given : ℕ → List Answer) (accepted : ℕ → ℕ → Bool) : Type 0 where
+pub record HasReplayed (base : Setting) (text : ℕ → Log) (W N m n : ℕ) (chunks : ℕ → List (List Cell)) (given : ℕ
+    → List Answer) (accepted : ℕ → ℕ → Bool) : Type 0 where
   pub answered_so : AreAnswered base text chunks (first_calls (answered base given) accepted m n)
   pub in_order : AreInOrder base (first_calls (answered base given) accepted m n)
   pub whole : AreWhole base text W N m n (λ t. first_calls (answered base given) accepted m t)
 
 -- this call, with its answer, can come behind these
 pub record CanCome (base : Setting) (text : ℕ → Log) (front : List Call) (call : Call) : Type 0 where
-  pub puts : (b : ℕ) → b < length base.plan.buffers → IsFront (map is_some (puts_to b (front ++ call ∷ []))) (puts_in (text b))
-  pub takes : (b : ℕ) → b < length base.plan.buffers → IsFront (map is_some (takes_of b (front ++ call ∷ []))) (takes_in (text b))
+  pub puts : (b : ℕ) → b < length base.plan.buffers
+      → IsFront (map is_some (puts_to b (front ++ call ∷ []))) (puts_in (text b))
+  pub takes : (b : ℕ) → b < length base.plan.buffers
+      → IsFront (map is_some (takes_of b (front ++ call ∷ []))) (takes_in (text b))
   pub suits : buffer_of call < length base.plan.buffers → feeder base (buffer_of call) ≡ reader base (buffer_of call)
-      → Suits (capacity_of base (buffer_of call)) (somes (puts_to (buffer_of call) front)) (got_in (buffer_of call) front) call
+      → Suits (capacity_of base (buffer_of call)) (somes (puts_to (buffer_of call) front))
+      (got_in (buffer_of call) front) call
 
 -- whatever its answer, it cannot
 abbrev pub NeverComes : (base : Setting) (text : ℕ → Log) (front : List Call) → Call → Type 0
 NeverComes base text front call = (other : Call) → IsSameCall call other → CanCome base text front other → ⊥
 
 -- it is a take that is to get a chunk of another clock, which is not there yet
-pub record Waits (base : Setting) (text : ℕ → Log) (chunks : ℕ → List (List Cell)) (front : List Call) (call : Call) : Type 0 where
+pub record Waits (base : Setting) (text : ℕ → Log) (chunks : ℕ
+    → List (List Cell)) (front : List Call) (call : Call) : Type 0 where
   pub buffer : ℕ
   pub known : buffer < length base.plan.buffers
   pub take : call ≡ Took buffer None

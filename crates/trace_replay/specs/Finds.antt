@@ -18,18 +18,22 @@ abbrev pub total : List ℕ → ℕ
 total [] = 0
 total (n ∷ ns) = n + total ns
 
--- The clocks have made these ticks, and so many are left. For each text that the buffers told at first they tell it still, and these
--- are the chunks that the clocks put.
-pub record ArePassing (base : Setting) (clocks : ClockMap) (W N : ℕ) (ends : List Ends) (first : List BufferState) (made : List ℕ) (left : ℕ) (states : List BufferState) : Type 0 where
+-- The clocks have made these ticks, and so many are left. For each text that the buffers told at first they tell it
+-- still, and these are the chunks that the clocks put.
+pub record ArePassing (base : Setting) (clocks : ClockMap) (W N : ℕ) (ends : List Ends) (first : List BufferState)
+    (made : List ℕ) (left : ℕ) (states : List BufferState) : Type 0 where
   pub size : length made ≡ clocks.running
   pub counts : left + total made ≡ clocks.running * N
   pub many : length states ≡ length first
   pub fit : (text : ℕ → Log) → AreFit base W N text first ends → AreFit base W N text states ends
-  pub at : (text : ℕ → Log) → AreFit base W N text first ends → AreAt base clocks.running W N text (made_of made) (chunks_of states)
+  pub at : (text : ℕ → Log) → AreFit base W N text first ends
+      → AreAt base clocks.running W N text (made_of made) (chunks_of states)
 
 -- as long as no tick more was made in this pass, the clocks that had their turn wait
-abbrev pub AreStuck : Setting → (W N : ℕ) → List Ends → List BufferState → (made : List ℕ) → (states : List BufferState) → (before left m : ℕ) → Type 0
-AreStuck base W N ends first made states before left m = left ≡ before → (text : ℕ → Log) → AreFit base W N text first ends
+abbrev pub AreStuck : Setting → (W N : ℕ) → List Ends → List BufferState → (made : List ℕ) → (states : List BufferState)
+    → (before left m : ℕ) → Type 0
+AreStuck base W N ends first made states before left m = left ≡ before → (text : ℕ → Log)
+    → AreFit base W N text first ends
     → (k : ℕ) → k < m → made_of made k < N → IsHalted base text (chunks_of states) k (made_of made k)
 
 -- the setting of a station
@@ -37,7 +41,8 @@ abbrev pub base_at : Station → Setting
 base_at station = base_of station.plan.now station.library.now station.clocks.now station.start.second
 
 -- all clocks made all their ticks, and these are the chunks that they put
-pub record HaveFound (base : Setting) (clocks : ClockMap) (W N : ℕ) (text : ℕ → Log) (chunks : ℕ → List (List Cell)) : Type 0 where
+pub record HaveFound (base : Setting) (clocks : ClockMap) (W N : ℕ) (text : ℕ → Log) (chunks : ℕ
+    → List (List Cell)) : Type 0 where
   pub made : ℕ → ℕ
   pub all : (k : ℕ) → k < clocks.running → made k ≡ N
   pub at : AreAt base clocks.running W N text made chunks

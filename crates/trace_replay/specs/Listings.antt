@@ -9,8 +9,10 @@ abbrev pub seen : ℕ → List ℕ → ℕ
 seen m [] = 0
 seen m (k ∷ ks) = if nat_eq k m then suc (seen m ks) else seen m ks
 
--- Each clock that runs stands in the list once, and each buffer that joins two clocks leads from a clock to a later one.
+-- Each clock that runs stands in the list once, and each buffer that joins two clocks leads from a clock to a later
+-- one.
 pub record LeadOnward (base : Setting) (clocks : ℕ) (listing : List ℕ) : Type 0 where
   pub all : (m : ℕ) → m < clocks → seen m listing ≡ 1
   pub each : (before behind : List ℕ) (m : ℕ) → listing ≡ before ++ m ∷ behind → m < clocks
-  pub onward : (before behind : List ℕ) (m b : ℕ) → listing ≡ before ++ m ∷ behind → b < length base.plan.buffers → Joins base b → reader base b ≡ m → seen (feeder base b) before ≡ 1
+  pub onward : (before behind : List ℕ) (m b : ℕ) → listing ≡ before ++ m ∷ behind → b < length base.plan.buffers
+      → Joins base b → reader base b ≡ m → seen (feeder base b) before ≡ 1

@@ -19,7 +19,8 @@ pub record IsWithin (s : BufferState) (mark : Mark) : Type 0 where
   pub got : mark.got ≤ length s.chunks
 
 abbrev pub AreWithin : List BufferState → List Mark → Type 0
-AreWithin states marks = (b : ℕ) (d : BufferState) (e : Mark) → b < length states → IsWithin (slice_index_or states b d) (slice_index_or marks b e)
+AreWithin states marks = (b : ℕ) (d : BufferState) (e : Mark) → b < length states
+    → IsWithin (slice_index_or states b d) (slice_index_or marks b e)
 
 -- how many chunks come from other clocks
 abbrev pub others_in : Bool → List (List Cell) → ℕ
@@ -45,11 +46,14 @@ resumed s fed read mark = record {
 -- each buffer goes on with the run of clock m
 abbrev pub HaveResumed : (feeders readers : List ℕ) → (m : ℕ) → List Mark → List BufferState → List BufferState → Type 0
 HaveResumed feeders readers m marks old new = (b : ℕ) (d : BufferState) (e : Mark) → b < length old
-    → slice_index_or new b d ≡ resumed (slice_index_or old b d) (nat_eq (slice_index_or feeders b 0) m) (nat_eq (slice_index_or readers b 0) m) (slice_index_or marks b e)
+    → slice_index_or new b d
+    ≡ resumed (slice_index_or old b d) (nat_eq (slice_index_or feeders b 0) m) (nat_eq (slice_index_or readers b 0) m)
+    (slice_index_or marks b e)
 
 -- these are the marks of the buffers
 abbrev pub HaveMarked : List BufferState → List Mark → Type 0
-HaveMarked states marks = (b : ℕ) (d : BufferState) (e : Mark) → b < length states → slice_index_or marks b e ≡ mark_of (slice_index_or states b d)
+HaveMarked states marks = (b : ℕ) (d : BufferState) (e : Mark) → b < length states
+    → slice_index_or marks b e ≡ mark_of (slice_index_or states b d)
 
 -- Of a buffer that the clock reads the chunks that were got are let go: from so many on it holds the same.
 pub record HasLetGo (before after : BufferState) : Type 0 where
@@ -62,8 +66,10 @@ pub record HasLetGo (before after : BufferState) : Type 0 where
   pub most : after.gone ≤ length after.chunks
 
 abbrev pub HaveLetGo : List BufferState → List BufferState → Type 0
-HaveLetGo old new = (b : ℕ) (d : BufferState) → b < length old → HasLetGo (slice_index_or old b d) (slice_index_or new b d)
+HaveLetGo old new = (b : ℕ) (d : BufferState) → b < length old
+    → HasLetGo (slice_index_or old b d) (slice_index_or new b d)
 
 -- each buffer is as before any run
 abbrev pub IsForgotten : List BufferState → List BufferState → Type 0
-IsForgotten old new = (b : ℕ) (d : BufferState) → b < length old → slice_index_or new b d ≡ begun (slice_index_or old b d) true true
+IsForgotten old new = (b : ℕ) (d : BufferState) → b < length old
+    → slice_index_or new b d ≡ begun (slice_index_or old b d) true true

@@ -31,9 +31,10 @@ use Rattle.trace_replay.specs.Thin.{AreFull, AreUnlost, NoneLost}
 use Rattle.trace_replay.specs.Traces.{text_of}
 use Rattle.trace_replay.specs.Turns.{AreOf, AreSides, AreTold, Score, chunks_of}
 
--- Between two ticks: clock m has made its first n ticks, by which its engine has gone from `first` to `now`, and the buffers, with all
--- their chunks in `full`, stand for its calls.
-pub record IsReplaying {S : Type 0} (told : S → SinkTold) (score : Score) (N m n : ℕ) (first now : ClockEngine S) (states : List BufferState) : Type 0 where
+-- Between two ticks: clock m has made its first n ticks, by which its engine has gone from `first` to `now`, and the
+-- buffers, with all their chunks in `full`, stand for its calls.
+pub record IsReplaying {S : Type 0} (told : S
+    → SinkTold) (score : Score) (N m n : ℕ) (first now : ClockEngine S) (states : List BufferState) : Type 0 where
   pub calls : List Call
   pub accepted : ℕ → ℕ → Bool
   pub over : setting_of now.parts ≡ score.base
@@ -48,9 +49,10 @@ pub record IsReplaying {S : Type 0} (told : S → SinkTold) (score : Score) (N m
   pub run : HasRunTurns told calls n first now
   pub rooms : (left : ℕ) → n + left ≡ N → HaveTicksRoom told now.parts now.outs left
 
--- An engine of clock m, which has made some of its N ticks, may go on up to n: the clock makes so many as the text tells, with the chunks
--- that are there.
-pub record MayReplay {S : Type 0} (told : S → SinkTold) (score : Score) (N m made n : ℕ) (first now : ClockEngine S) (states : List BufferState) : Type 0 where
+-- An engine of clock m, which has made some of its N ticks, may go on up to n: the clock makes so many as the text
+-- tells, with the chunks that are there.
+pub record MayReplay {S : Type 0} (told : S
+    → SinkTold) (score : Score) (N m made n : ℕ) (first now : ClockEngine S) (states : List BufferState) : Type 0 where
   pub is : IsSetting score.base score.clocks
   pub before : IsReplaying told score N m made first now states
   pub on : made ≤ n
@@ -60,14 +62,16 @@ pub record MayReplay {S : Type 0} (told : S → SinkTold) (score : Score) (N m m
   pub taken : ℕ → ℕ → Bool
   pub whole : HasReplayed score.base score.text window N m n score.chunks given taken
 
--- A fault ended it in a tick below n, after these calls of the ticks before and these ones of its own; they are the first ones of all the
--- calls by which the clock makes its first n ticks as the text tells.
-pub record IsBrokenOff {S : Type 0} (told : S → SinkTold) (score : Score) (N m n : ℕ) (first now : ClockEngine S) : Type 0 where
+-- A fault ended it in a tick below n, after these calls of the ticks before and these ones of its own; they are the
+-- first ones of all the calls by which the clock makes its first n ticks as the text tells.
+pub record IsBrokenOff {S : Type 0} (told : S
+    → SinkTold) (score : Score) (N m n : ℕ) (first now : ClockEngine S) : Type 0 where
   pub tick : ℕ
   pub low : tick < n
   pub calls : List Call
   pub made : List Call
-  pub front : (W : ℕ) (given : ℕ → List Answer) (taken : ℕ → ℕ → Bool) → HasReplayed score.base score.text W N m n score.chunks given taken
+  pub front : (W : ℕ) (given : ℕ → List Answer) (taken : ℕ → ℕ → Bool)
+      → HasReplayed score.base score.text W N m n score.chunks given taken
       → IsFront (calls ++ made) (first_calls (answered score.base given) taken m n)
   pub part : HasRunPart told (world (setting_of first.parts) (calls ++ made)) tick (suc tick) first now
 
@@ -78,8 +82,8 @@ pub record HasSinkFailed {S : Type 0} (told : S → SinkTold) (sink : ℕ) (firs
   pub there : slice_get (outputs_of (setting_of first.parts) first.parts.clock) place ≡ Some (sink, node)
   pub rose : RoseAt told place first.outs now.outs
 
--- What a replay is of: a plan with its clocks and files, what a trace tells of its buffers, and how long its windows and how many its ticks
--- are.
+-- What a replay is of: a plan with its clocks and files, what a trace tells of its buffers, and how long its windows
+-- and how many its ticks are.
 pub record Tale : Type 0 where
   pub base : Setting
   pub clocks : ClockMap
@@ -89,26 +93,39 @@ pub record Tale : Type 0 where
 
 -- the tale of a trace, of the plan of a station
 abbrev pub tale_at : Station → TraceValue → Tale
-tale_at station trace = record { base = base_at station; clocks = station.clocks.now; text = text_of trace.buffers; window = trace.window; ticks = trace.ticks }
+tale_at station trace = record {
+  base = base_at station;
+  clocks = station.clocks.now;
+  text = text_of trace.buffers;
+  window = trace.window;
+  ticks = trace.ticks;
+}
 
 -- with the chunks that these buffers hold
 abbrev pub score_over : Tale → (full : List BufferState) → Score
 score_over tale full = record { base = tale.base; clocks = tale.clocks; text = tale.text; chunks = chunks_of full }
 
--- Between two turns: the engine of clock m has gone from `first` to `now` by its first n ticks, and waits at these marks of the buffers,
--- which with all their chunks are `full`. In each lawful record with this text it makes these calls.
-pub record IsResting {S : Type 0} (told : S → SinkTold) (tale : Tale) (sides : Sides) (m n : ℕ) (first now : ClockEngine S) (marks : List Mark) (full states : List BufferState) : Type 0 where
-  pub paused : IsPaused tale.base tale.text tale.window tale.ticks sides.feeders.items sides.readers.items m n now.parts marks full
-  pub forced : (run : Run) (lawful : AreWindows tale.base tale.clocks.running tale.window tale.ticks run) → IsTold tale.base tale.text run
+-- Between two turns: the engine of clock m has gone from `first` to `now` by its first n ticks, and waits at these
+-- marks of the buffers, which with all their chunks are `full`. In each lawful record with this text it makes these
+-- calls.
+pub record IsResting {S : Type 0} (told : S
+    → SinkTold) (tale : Tale) (sides : Sides) (m n : ℕ) (first now : ClockEngine S) (marks : List Mark)
+    (full states : List BufferState) : Type 0 where
+  pub paused : IsPaused tale.base tale.text tale.window tale.ticks sides.feeders.items sides.readers.items m n now.parts
+      marks full
+  pub forced : (run : Run) (lawful : AreWindows tale.base tale.clocks.running tale.window tale.ticks run)
+      → IsTold tale.base tale.text run
       → paused.calls ≡ first_calls (answered tale.base (answers_of run)) (lawful.accepted m) m n
   pub run : HasRunTurns told paused.calls n first now
   pub rooms : (left : ℕ) → n + left ≡ tale.ticks → HaveTicksRoom told now.parts now.outs left
   pub unlost : AreUnlost sides.readers.items m marks states
   pub many : length marks ≡ length states
 
--- An engine of clock m, which rests after some of its ticks, may come to n in a turn, by which these chunks are there; the ticks of all
--- clocks and the chunks so far are those of the tale.
-pub record MayPlay {S : Type 0} (told : S → SinkTold) (tale : Tale) (sides : Sides) (m made n : ℕ) (first now : ClockEngine S) (marks : List Mark) (states : List BufferState) : Type 0 where
+-- An engine of clock m, which rests after some of its ticks, may come to n in a turn, by which these chunks are there;
+-- the ticks of all clocks and the chunks so far are those of the tale.
+pub record MayPlay {S : Type 0} (told : S
+    → SinkTold) (tale : Tale) (sides : Sides) (m made n : ℕ) (first now : ClockEngine S) (marks : List Mark)
+    (states : List BufferState) : Type 0 where
   pub is : IsSetting tale.base tale.clocks
   pub ends : AreSides tale.base sides.feeders.items sides.readers.items
   pub runs : m < tale.clocks.running
@@ -122,19 +139,24 @@ pub record MayPlay {S : Type 0} (told : S → SinkTold) (tale : Tale) (sides : S
   pub next : ℕ → List (List Cell)
   pub come : HasCome tale.base tale.window tale.ticks tale.text m n (chunks_of full) next
 
--- In its turn it came to n ticks, by which these chunks are there: from buffers that with all their chunks are `opening` to those that are
--- `full`. No chunk was let go that another clock is to get.
-pub record HasPlayed {S : Type 0} (told : S → SinkTold) (tale : Tale) (sides : Sides) (m n : ℕ) (first now : ClockEngine S) (marks : List Mark) (opening before states : List BufferState) (next : ℕ → List (List Cell)) : Type 0 where
+-- In its turn it came to n ticks, by which these chunks are there: from buffers that with all their chunks are
+-- `opening` to those that are `full`. No chunk was let go that another clock is to get.
+pub record HasPlayed {S : Type 0} (told : S
+    → SinkTold) (tale : Tale) (sides : Sides) (m n : ℕ) (first now : ClockEngine S) (marks : List Mark)
+    (opening before states : List BufferState) (next : ℕ → List (List Cell)) : Type 0 where
   pub full : List BufferState
   pub fills : AreFull states full
   pub tell : AreTold tale.base tale.text full
   pub come : HasCome tale.base tale.window tale.ticks tale.text m n (chunks_of opening) (chunks_of full)
   pub same : (b : ℕ) → b < length tale.base.plan.buffers → chunks_of full b ≡ next b
   pub rests : IsResting told tale sides m n first now marks full states
-  pub unlost : (k : ℕ) (other : List Mark) → (k ≡ m → ⊥) → AreUnlost sides.readers.items k other before → AreUnlost sides.readers.items k other states
+  pub unlost : (k : ℕ) (other : List Mark) → (k ≡ m → ⊥) → AreUnlost sides.readers.items k other before
+      → AreUnlost sides.readers.items k other states
 
 -- Between two turns of all clocks: each engine has made its ticks so far and rests, and these turns are left.
-pub record ArePlaying {S : Type 0} (told : S → SinkTold) (tale : Tale) (sides : Sides) (turns : List TurnMade) (first now : List (ClockEngine S)) (rests : List Rest) (states : List BufferState) : Type 0 where
+pub record ArePlaying {S : Type 0} (told : S
+    → SinkTold) (tale : Tale) (sides : Sides) (turns : List TurnMade) (first now : List (ClockEngine S))
+    (rests : List Rest) (states : List BufferState) : Type 0 where
   pub full : List BufferState
   pub fills : AreFull states full
   pub tell : AreTold tale.base tale.text full
@@ -145,7 +167,8 @@ pub record ArePlaying {S : Type 0} (told : S → SinkTold) (tale : Tale) (sides 
   pub size : length now ≡ length first
   pub long : length rests ≡ length first
   pub counts : (k : ℕ) (rest : Rest) → slice_get rests k ≡ Some rest → rest.made ≡ made k
-  pub each : (k : ℕ) (before after : ClockEngine S) (rest : Rest) → slice_get first k ≡ Some before → slice_get now k ≡ Some after → slice_get rests k ≡ Some rest
+  pub each : (k : ℕ) (before after : ClockEngine S) (rest : Rest) → slice_get first k ≡ Some before
+      → slice_get now k ≡ Some after → slice_get rests k ≡ Some rest
       → IsResting told tale sides k (made k) before after rest.marks.items full states
 
 -- where an engine rests before its first tick, over so many buffers

@@ -20,8 +20,8 @@ pub record IsRecordOf (base : Setting) (clocks : ℕ) (trace : TraceValue) (run 
   pub ordered : IsOrdered (setting_in base run) clocks lawful.accepted trace.ticks
   pub leaves : trace ≡ trace_of trace.window trace.ticks run
 
--- All ticks of the record of a trace were made: each engine has run them, given what the record's takes got, and the counts and logs are
--- the record's.
+-- All ticks of the record of a trace were made: each engine has run them, given what the record's takes got, and the
+-- counts and logs are the record's.
 pub record HasReplayedAll {S : Type 0} (told : S → SinkTold) (base : Setting) (clocks : ℕ) (trace : TraceValue)
     (first now : List (ClockEngine S)) (counts : List Counts) (logs : List (List Answers)) : Type 0 where
   pub run : Run
@@ -30,10 +30,12 @@ pub record HasReplayedAll {S : Type 0} (told : S → SinkTold) (base : Setting) 
   pub counts_are : counts ≡ counts_of_run run
   pub logs_are : logs ≡ logs_of_run run
 
--- A replay in this setting came so far: of its N ticks each clock made so many, and tried no more, or the one in which it stopped. Each
--- output holds its bytes of the ticks that its clock made, and then a front of those of the one that it tried. A write that ended the
--- replay is one of the clock that it names. In which order the clocks make their ticks is not told.
-pub record HasReplayedTo {S : Type 0} (told : S → SinkTold) (setting : Setting) (N : ℕ) (first now : List (ClockEngine S)) (end : End) : Type 0 where
+-- A replay in this setting came so far: of its N ticks each clock made so many, and tried no more, or the one in which
+-- it stopped. Each output holds its bytes of the ticks that its clock made, and then a front of those of the one that
+-- it tried. A write that ended the replay is one of the clock that it names. In which order the clocks make their ticks
+-- is not told.
+pub record HasReplayedTo {S : Type 0} (told : S
+    → SinkTold) (setting : Setting) (N : ℕ) (first now : List (ClockEngine S)) (end : End) : Type 0 where
   pub made : ℕ → ℕ
   pub tried : ℕ → ℕ
   pub within : (m : ℕ) → IsWithin 0 N (made m) (tried m)

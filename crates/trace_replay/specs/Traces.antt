@@ -39,11 +39,15 @@ side_of false answers = answers.takes
 
 -- how often the calls on a buffer with these windows had which answer
 abbrev pub counts_in : List Answers → Counts
-counts_in windows = counts_of (record { puts = flat_map (side_of true) windows; takes = flat_map (side_of false) windows })
+counts_in windows = counts_of (record {
+  puts = flat_map (side_of true) windows;
+  takes = flat_map (side_of false) windows;
+})
 
 -- how many of them the first windows have, one, two and so on
 abbrev pub AreEndsOf : Bool → List Answers → List ℕ → Type 0
-AreEndsOf puts windows ends = (j : ℕ) → j < length windows → slice_get ends j ≡ Some (length (flat_map (side_of puts) (take (suc j) windows)))
+AreEndsOf puts windows ends = (j : ℕ) → j < length windows
+    → slice_get ends j ≡ Some (length (flat_map (side_of puts) (take (suc j) windows)))
 
 -- a buffer of which this is told, before any run
 abbrev pub new_state : (capacity : ℕ) → Log → BufferState
@@ -64,7 +68,8 @@ new_state capacity log = record {
 -- the buffers of a plan, of which these logs tell
 abbrev pub AreNew : List BufferPlan → List (List Answers) → (count : ℕ) → List BufferState → List Ends → Type 0
 AreNew plans logs count states ends = (b : ℕ) → b < count
-    → ((d : BufferState) (plan : BufferPlan) → slice_get plans b ≡ Some plan → slice_index_or states b d ≡ new_state plan.capacity (text_of logs b))
+    → ((d : BufferState) (plan : BufferPlan) → slice_get plans b ≡ Some plan
+    → slice_index_or states b d ≡ new_state plan.capacity (text_of logs b))
     × ((e : Ends) → AreEnds (text_of logs b) (slice_index_or ends b e))
 
 -- how many windows so many ticks have

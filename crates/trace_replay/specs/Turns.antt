@@ -25,7 +25,19 @@ use Rattle.trace_replay.specs.Answering.{AllStand, BufferState, SameBuffers, beg
 
 -- no buffer
 abbrev pub no_state : BufferState
-no_state = record { capacity = 0; puts = []; takes = []; fed = false; read = false; put_at = 0; take_at = 0; got = 0; opened = 0; chunks = []; gone = 0 }
+no_state = record {
+  capacity = 0;
+  puts = [];
+  takes = [];
+  fed = false;
+  read = false;
+  put_at = 0;
+  take_at = 0;
+  got = 0;
+  opened = 0;
+  chunks = [];
+  gone = 0;
+}
 
 -- the chunks that were put to each buffer
 abbrev pub chunks_of : List BufferState → ℕ → List (List Cell)
@@ -41,22 +53,35 @@ pub record IsAtEnd (s : BufferState) (ends : Ends) (j : ℕ) : Type 0 where
   pub puts : s.fed ≡ true → slice_get ends.puts.items j ≡ Some s.put_at
   pub takes : s.read ≡ true → slice_get ends.takes.items j ≡ Some s.take_at
 
--- buffers in the run of clock m over a plan: they tell the answers of a text, and those that the clock does not feed hold these chunks
-pub record AreOf (base : Setting) (text : ℕ → Log) (m : ℕ) (chunks : ℕ → List (List Cell)) (states : List BufferState) : Type 0 where
+-- buffers in the run of clock m over a plan: they tell the answers of a text, and those that the clock does not feed
+-- hold these chunks
+pub record AreOf (base : Setting) (text : ℕ → Log) (m : ℕ) (chunks : ℕ
+    → List (List Cell)) (states : List BufferState) : Type 0 where
   pub many : length states ≡ length base.plan.buffers
-  pub puts : (b : ℕ) (d : BufferState) → b < length base.plan.buffers → (slice_index_or states b d).puts ≡ puts_in (text b)
-  pub takes : (b : ℕ) (d : BufferState) → b < length base.plan.buffers → (slice_index_or states b d).takes ≡ takes_in (text b)
-  pub capacity : (b : ℕ) (d : BufferState) → b < length base.plan.buffers → (slice_index_or states b d).capacity ≡ capacity_of base b
-  pub fed : (b : ℕ) (d : BufferState) → b < length base.plan.buffers → feeder base b ≡ m → (slice_index_or states b d).fed ≡ true
-  pub not_fed : (b : ℕ) (d : BufferState) → b < length base.plan.buffers → (feeder base b ≡ m → ⊥) → (slice_index_or states b d).fed ≡ false
-  pub read : (b : ℕ) (d : BufferState) → b < length base.plan.buffers → reader base b ≡ m → (slice_index_or states b d).read ≡ true
-  pub not_read : (b : ℕ) (d : BufferState) → b < length base.plan.buffers → (reader base b ≡ m → ⊥) → (slice_index_or states b d).read ≡ false
-  pub anew : (b : ℕ) (d : BufferState) → b < length base.plan.buffers → feeder base b ≡ m → (slice_index_or states b d).opened ≡ 0
-  pub there : (b : ℕ) (d : BufferState) → b < length base.plan.buffers → (feeder base b ≡ m → ⊥) → (slice_index_or states b d).opened ≡ length (chunks b)
-  pub front : (b : ℕ) (d : BufferState) → b < length base.plan.buffers → (feeder base b ≡ m → ⊥) → (rest : List (List Cell)) × ((slice_index_or states b d).chunks ≡ chunks b ++ rest)
+  pub puts : (b : ℕ) (d : BufferState) → b < length base.plan.buffers
+      → (slice_index_or states b d).puts ≡ puts_in (text b)
+  pub takes : (b : ℕ) (d : BufferState) → b < length base.plan.buffers
+      → (slice_index_or states b d).takes ≡ takes_in (text b)
+  pub capacity : (b : ℕ) (d : BufferState) → b < length base.plan.buffers
+      → (slice_index_or states b d).capacity ≡ capacity_of base b
+  pub fed : (b : ℕ) (d : BufferState) → b < length base.plan.buffers → feeder base b ≡ m
+      → (slice_index_or states b d).fed ≡ true
+  pub not_fed : (b : ℕ) (d : BufferState) → b < length base.plan.buffers → (feeder base b ≡ m → ⊥)
+      → (slice_index_or states b d).fed ≡ false
+  pub read : (b : ℕ) (d : BufferState) → b < length base.plan.buffers → reader base b ≡ m
+      → (slice_index_or states b d).read ≡ true
+  pub not_read : (b : ℕ) (d : BufferState) → b < length base.plan.buffers → (reader base b ≡ m → ⊥)
+      → (slice_index_or states b d).read ≡ false
+  pub anew : (b : ℕ) (d : BufferState) → b < length base.plan.buffers → feeder base b ≡ m
+      → (slice_index_or states b d).opened ≡ 0
+  pub there : (b : ℕ) (d : BufferState) → b < length base.plan.buffers → (feeder base b ≡ m → ⊥)
+      → (slice_index_or states b d).opened ≡ length (chunks b)
+  pub front : (b : ℕ) (d : BufferState) → b < length base.plan.buffers → (feeder base b ≡ m → ⊥)
+      → (rest : List (List Cell)) × ((slice_index_or states b d).chunks ≡ chunks b ++ rest)
 
 -- Clock m has made its first n ticks, and its engine and its buffers stand for their calls.
-pub record RunsAt (base : Setting) (text : ℕ → Log) (W N m n : ℕ) (chunks : ℕ → List (List Cell)) (parts : EngineParts) (states : List BufferState) : Type 0 where
+pub record RunsAt (base : Setting) (text : ℕ → Log) (W N m n : ℕ) (chunks : ℕ
+    → List (List Cell)) (parts : EngineParts) (states : List BufferState) : Type 0 where
   pub calls : List Call
   pub accepted : ℕ → ℕ → Bool
   pub over : setting_of parts ≡ base
@@ -69,7 +94,8 @@ pub record RunsAt (base : Setting) (text : ℕ → Log) (W N m n : ℕ) (chunks 
 
 -- each buffer is at this window's end
 abbrev pub AreAtEnd : List BufferState → List Ends → (j : ℕ) → Type 0
-AreAtEnd states ends j = (b : ℕ) (s : BufferState) (e : Ends) → b < length states → IsAtEnd (slice_index_or states b s) (slice_index_or ends b e) j
+AreAtEnd states ends j = (b : ℕ) (s : BufferState) (e : Ends) → b < length states
+    → IsAtEnd (slice_index_or states b s) (slice_index_or ends b e) j
 
 -- one is not
 pub record IsOffEnd (states : List BufferState) (ends : List Ends) (j : ℕ) : Type 0 where
@@ -85,7 +111,8 @@ EndsWith W N n = (n % W ≡ W - 1) ⊎ (suc n ≡ N)
 abbrev pub GoesOn : (W N n : ℕ) → Course → List BufferState → List Ends → Course → Type 0
 GoesOn W N n before states ends Goes = (before ≡ Goes) × (EndsWith W N n → AreAtEnd states ends (n / W))
 GoesOn W N n before states ends Waits = before ≡ Waits
-GoesOn W N n before states ends Fails = (before ≡ Fails) ⊎ ((before ≡ Goes) × EndsWith W N n × IsOffEnd states ends (n / W))
+GoesOn W N n before states ends Fails = (before ≡ Fails)
+    ⊎ ((before ≡ Goes) × EndsWith W N n × IsOffEnd states ends (n / W))
 
 -- what a replay is of: a plan with its clocks and files, a text, and the chunks that are there
 pub record Score : Type 0 where
@@ -95,7 +122,8 @@ pub record Score : Type 0 where
   pub chunks : ℕ → List (List Cell)
 
 -- an engine of clock m may be run over these buffers
-pub record MayTurn (score : Score) (W N m : ℕ) (parts : EngineParts) (states : List BufferState) (ends : List Ends) : Type 0 where
+pub record MayTurn (score : Score) (W N m : ℕ) (parts : EngineParts) (states : List BufferState)
+    (ends : List Ends) : Type 0 where
   pub is : IsSetting score.base score.clocks
   pub over : setting_of parts ≡ score.base
   pub clock : parts.clock ≡ m
@@ -104,19 +132,24 @@ pub record MayTurn (score : Score) (W N m : ℕ) (parts : EngineParts) (states :
   pub stand : AllStand states []
   pub formed : IsFormed (length score.base.plan.buffers) W N score.text
   pub long : length ends ≡ length states
-  pub ends_are : (b : ℕ) (e : Ends) → b < length score.base.plan.buffers → AreEnds (score.text b) (slice_index_or ends b e)
+  pub ends_are : (b : ℕ) (e : Ends) → b < length score.base.plan.buffers
+      → AreEnds (score.text b) (slice_index_or ends b e)
 
 -- between two ticks of a run
-pub record IsRunning (score : Score) (W N m n : ℕ) (ends : List Ends) (first : EngineParts) (opening : List BufferState) (parts : EngineParts) (states : List BufferState) : Type 0 where
+pub record IsRunning (score : Score) (W N m n : ℕ) (ends : List Ends) (first : EngineParts) (opening : List BufferState)
+    (parts : EngineParts) (states : List BufferState) : Type 0 where
   pub goes : MayTurn score W N m first opening ends → RunsAt score.base score.text W N m n score.chunks parts states
   pub changed : SameBuffers opening states
 
 -- buffers that tell the answers of a text
 pub record AreTold (base : Setting) (text : ℕ → Log) (states : List BufferState) : Type 0 where
   pub many : length states ≡ length base.plan.buffers
-  pub puts : (b : ℕ) (d : BufferState) → b < length base.plan.buffers → (slice_index_or states b d).puts ≡ puts_in (text b)
-  pub takes : (b : ℕ) (d : BufferState) → b < length base.plan.buffers → (slice_index_or states b d).takes ≡ takes_in (text b)
-  pub capacity : (b : ℕ) (d : BufferState) → b < length base.plan.buffers → (slice_index_or states b d).capacity ≡ capacity_of base b
+  pub puts : (b : ℕ) (d : BufferState) → b < length base.plan.buffers
+      → (slice_index_or states b d).puts ≡ puts_in (text b)
+  pub takes : (b : ℕ) (d : BufferState) → b < length base.plan.buffers
+      → (slice_index_or states b d).takes ≡ takes_in (text b)
+  pub capacity : (b : ℕ) (d : BufferState) → b < length base.plan.buffers
+      → (slice_index_or states b d).capacity ≡ capacity_of base b
 
 -- by a buffer's number, the main clocks of its feed and of its reader
 pub record AreSides (base : Setting) (feeders readers : List ℕ) : Type 0 where
@@ -128,7 +161,8 @@ pub record AreSides (base : Setting) (feeders readers : List ℕ) : Type 0 where
 -- each buffer begins a run of clock m
 abbrev pub HaveBegun : (feeders readers : List ℕ) → (m : ℕ) → List BufferState → List BufferState → Type 0
 HaveBegun feeders readers m old new = (b : ℕ) (d : BufferState) → b < length old
-    → slice_index_or new b d ≡ begun (slice_index_or old b d) (nat_eq (slice_index_or feeders b 0) m) (nat_eq (slice_index_or readers b 0) m)
+    → slice_index_or new b d
+    ≡ begun (slice_index_or old b d) (nat_eq (slice_index_or feeders b 0) m) (nat_eq (slice_index_or readers b 0) m)
 
 -- an output of clock m
 abbrev pub is_output_in : List NodeClock → (m : ℕ) → SinkPlan → Bool
@@ -138,14 +172,22 @@ is_output_in clocks m (Feed buffer node) = false
 -- how many there are among these sinks
 abbrev pub outputs_in : List NodeClock → (m : ℕ) → List SinkPlan → ℕ
 outputs_in clocks m [] = 0
-outputs_in clocks m (sink ∷ sinks) = if is_output_in clocks m sink then suc (outputs_in clocks m sinks) else outputs_in clocks m sinks
+outputs_in clocks m (sink ∷ sinks) = if is_output_in clocks m sink then suc (outputs_in clocks m sinks)
+    else outputs_in clocks m sinks
 
 -- a plan with its clocks, its files and its start second, and no answers
 abbrev pub base_of : Plan → Sounds → ClockMap → (start : ℕ) → Setting
-base_of plan library clocks start = record { plan = plan; library = library; clocks = clocks.of; start = start; answers = λ buffer. [] }
+base_of plan library clocks start = record {
+  plan = plan;
+  library = library;
+  clocks = clocks.of;
+  start = start;
+  answers = λ buffer. [];
+}
 
 -- a text that these buffers tell, with its windows
-pub record AreFit (base : Setting) (W N : ℕ) (text : ℕ → Log) (states : List BufferState) (ends : List Ends) : Type 0 where
+pub record AreFit (base : Setting) (W N : ℕ) (text : ℕ
+    → Log) (states : List BufferState) (ends : List Ends) : Type 0 where
   pub told : AreTold base text states
   pub formed : IsFormed (length base.plan.buffers) W N text
   pub ends_are : (b : ℕ) (e : Ends) → b < length base.plan.buffers → AreEnds (text b) (slice_index_or ends b e)

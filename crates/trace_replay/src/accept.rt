@@ -25,8 +25,8 @@ use plan_core::Plan;
 use std::alloc::Global;
 use trace_log::Trace;
 
-/// Whether the text of a trace with as many buffers as the plan is that of a lawful record whose ticks can be ordered. Where
-/// it is, these are the turns in which the clocks make it, and the buffers are empty then.
+/// Whether the text of a trace with as many buffers as the plan is that of a lawful record whose ticks can be ordered.
+/// Where it is, these are the turns in which the clocks make it, and the buffers are empty then.
 pub fn judge(
     alloc: Global,
     station: &Station<'_>,
@@ -45,13 +45,19 @@ pub fn judge(
     requires size { length taps.old.buffers.items ≡ length station.now.plan.now.buffers }
     requires long { length ends.now ≡ length station.now.plan.now.buffers }
     requires none { turns.old.items ≡ [] }
-    requires new { AreNew station.now.plan.now.buffers logs.now (length station.now.plan.now.buffers) taps.old.buffers.items ends.now }
-    ensures yes { IfOk result (λ found. found ≡ true → IsOrderedText (base_at station.now) station.now.clocks.now.running window ticks (text_of logs.now)) }
-    ensures no { IfOk result (λ found. found ≡ false → IsOrderedText (base_at station.now) station.now.clocks.now.running window ticks (text_of logs.now) → ⊥) }
-    ensures turns { IfOk result (λ found. found ≡ true → AreTurns (base_at station.now) station.now.clocks.now.running window ticks (text_of logs.now) turns.new.items no_ticks no_chunks) }
+    requires new { AreNew station.now.plan.now.buffers logs.now (length station.now.plan.now.buffers)
+        taps.old.buffers.items ends.now }
+    ensures yes { IfOk result (λ found. found ≡ true
+        → IsOrderedText (base_at station.now) station.now.clocks.now.running window ticks (text_of logs.now)) }
+    ensures no { IfOk result (λ found. found ≡ false
+        → IsOrderedText (base_at station.now) station.now.clocks.now.running window ticks (text_of logs.now) → ⊥) }
+    ensures turns { IfOk result (λ found. found ≡ true
+        → AreTurns (base_at station.now) station.now.clocks.now.running window ticks (text_of logs.now) turns.new.items
+        no_ticks no_chunks) }
     ensures empty { IfOk result (λ found. found ≡ true → (b : ℕ) → chunks_of taps.new.buffers.items b ≡ []) }
     ensures kept { IfOk result (λ found. found ≡ true → AreKept taps.new.buffers.items) }
-    ensures told { IfOk result (λ found. found ≡ true → AreTold (base_at station.now) (text_of logs.now) taps.new.buffers.items) }
+    ensures told { IfOk result (λ found. found ≡ true
+        → AreTold (base_at station.now) (text_of logs.now) taps.new.buffers.items) }
 {
     if !all_legal(station.plan.buffers.as_slice(), logs) {
         return Ok(false);
@@ -62,8 +68,8 @@ pub fn judge(
     find_turns(alloc, station, taps, turns, sides, ends, window, ticks)
 }
 
-/// Whether a trace that was read is that of a lawful record of so many ticks of a plan, with its clocks, its files and its start
-/// second, whose ticks can be ordered.
+/// Whether a trace that was read is that of a lawful record of so many ticks of a plan, with its clocks, its files and
+/// its start second, whose ticks can be ordered.
 pub fn accepts(
     alloc: Global,
     plan: &Plan,
@@ -75,8 +81,10 @@ pub fn accepts(
 ) -> Result<bool, Memory>
     requires setting { IsSetting (base_of plan.now library.now clocks.now start.second) clocks.now }
     requires trace { IsTrace trace.now }
-    ensures yes { IfOk result (λ accepted. accepted ≡ true → IsAccepted (base_of plan.now library.now clocks.now start.second) clocks.now.running ticks trace.now) }
-    ensures no { IfOk result (λ accepted. accepted ≡ false → IsAccepted (base_of plan.now library.now clocks.now start.second) clocks.now.running ticks trace.now → ⊥) }
+    ensures yes { IfOk result (λ accepted. accepted ≡ true
+        → IsAccepted (base_of plan.now library.now clocks.now start.second) clocks.now.running ticks trace.now) }
+    ensures no { IfOk result (λ accepted. accepted ≡ false
+        → IsAccepted (base_of plan.now library.now clocks.now start.second) clocks.now.running ticks trace.now → ⊥) }
 {
     Ok(find_record(alloc, plan, clocks, library, start, ticks, trace)?.is_some())
 }

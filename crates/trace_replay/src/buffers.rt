@@ -84,7 +84,9 @@ fn mains_of(
     nodes: &[u32],
 ) -> Result<Vec<u32>, Memory>
     ensures size { IfOk result (λ mains. length mains.items ≡ length nodes.now) }
-    ensures each { IfOk result (λ mains. (setting : Setting) → setting.plan ≡ plan.now → setting.clocks ≡ clocks.now.of → (b : ℕ) → b < length nodes.now → slice_index_or mains.items b 0 ≡ main_of setting (slice_index_or nodes.now b 0)) }
+    ensures each { IfOk result (λ mains. (setting : Setting) → setting.plan ≡ plan.now → setting.clocks ≡ clocks.now.of
+        → (b : ℕ) → b < length nodes.now → slice_index_or mains.items b 0
+        ≡ main_of setting (slice_index_or nodes.now b 0)) }
 {
     let mut mains = Vec::new(alloc);
     for node in nodes {
@@ -96,7 +98,8 @@ fn mains_of(
 /// The main clocks of each buffer's feed and reader.
 pub fn sides_of(alloc: Global, plan: &Plan, clocks: &ClockMap) -> Result<Sides, Memory>
     requires { IsWellFormed plan.now }
-    ensures { IfOk result (λ sides. (setting : Setting) → setting.plan ≡ plan.now → setting.clocks ≡ clocks.now.of → AreSides setting sides.feeders.items sides.readers.items) }
+    ensures { IfOk result (λ sides. (setting : Setting) → setting.plan ≡ plan.now → setting.clocks ≡ clocks.now.of
+        → AreSides setting sides.feeders.items sides.readers.items) }
 {
     let fed = feeders(alloc, plan)?;
     let read = readers(alloc, plan)?;
@@ -113,8 +116,10 @@ pub fn sides_of(alloc: Global, plan: &Plan, clocks: &ClockMap) -> Result<Sides, 
 pub fn all_legal(plans: &[BufferPlan], logs: &[BufferLog]) -> bool
     requires buffers { All IsBuffer plans.now }
     requires many { length logs.now ≡ length plans.now }
-    ensures yes { result ≡ true → (b : ℕ) (plan : ThePlan) → slice_get plans.now b ≡ Some plan → are_legal plan.capacity 0 (text_of logs.now b) ≡ true }
-    ensures no { result ≡ false → (b : ℕ) × (plan : ThePlan) × (slice_get plans.now b ≡ Some plan) × (are_legal plan.capacity 0 (text_of logs.now b) ≡ false) }
+    ensures yes { result ≡ true → (b : ℕ) (plan : ThePlan) → slice_get plans.now b ≡ Some plan
+        → are_legal plan.capacity 0 (text_of logs.now b) ≡ true }
+    ensures no { result ≡ false → (b : ℕ) × (plan : ThePlan) × (slice_get plans.now b ≡ Some plan)
+        × (are_legal plan.capacity 0 (text_of logs.now b) ≡ false) }
 {
     for b in 0..plans.len() {
         if !is_legal_log(plans[b].capacity, &logs[b]) {
@@ -135,8 +140,10 @@ fn is_legal_log(capacity: u32, log: &BufferLog) -> bool
 /// Whether nothing is told of takes of a buffer whose reader's clock does not run.
 pub fn unread_stay(buffers: &[ToldBuffer], readers: &[u32], running: u32) -> bool
     requires { length readers.now ≡ length buffers.now }
-    ensures yes { result ≡ true → (b : ℕ) (d : BufferState) → b < length buffers.now → running ≤ slice_index_or readers.now b 0 → (slice_index_or buffers.now b d).takes ≡ [] }
-    ensures no { result ≡ false → (b : ℕ) × (b < length buffers.now) × (running ≤ slice_index_or readers.now b 0) × ((d : BufferState) → (slice_index_or buffers.now b d).takes ≡ [] → ⊥) }
+    ensures yes { result ≡ true → (b : ℕ) (d : BufferState) → b < length buffers.now
+        → running ≤ slice_index_or readers.now b 0 → (slice_index_or buffers.now b d).takes ≡ [] }
+    ensures no { result ≡ false → (b : ℕ) × (b < length buffers.now) × (running ≤ slice_index_or readers.now b 0)
+        × ((d : BufferState) → (slice_index_or buffers.now b d).takes ≡ [] → ⊥) }
 {
     for b in 0..buffers.len() {
         if readers[b] >= running && has_takes(&buffers[b]) {

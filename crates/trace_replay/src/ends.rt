@@ -65,8 +65,8 @@ fn ends_with(window: u64, ticks: u64, tick: u64) -> bool
     tick == ticks - 1
 }
 
-/// How a run goes on behind a tick: as its calls were answered, but it fails where a window ends with it and the clock made other
-/// calls than the window has.
+/// How a run goes on behind a tick: as its calls were answered, but it fails where a window ends with it and the clock
+/// made other calls than the window has.
 pub fn course_of(
     course: Course,
     buffers: &[ToldBuffer],

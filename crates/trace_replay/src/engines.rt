@@ -28,7 +28,8 @@ use liq_base::{Memory, Sink};
 use std::alloc::Global;
 use trace_log::Trace;
 
-/// Where an engine rests between two turns of its clock: how many ticks it has made, and how far its calls came on each buffer.
+/// Where an engine rests between two turns of its clock: how many ticks it has made, and how far its calls came on each
+/// buffer.
 #[derive(Drop)]
 pub struct Rest {
     pub made: u64,
@@ -45,13 +46,17 @@ pub fn replay_clock<O: Sink>(
 ) -> Result<(), TickFault>
     requires few { ticks ≤ 1000000000 }
     requires goes { taps.old.course ≡ IsGoing }
-    requires play { (score : Score) × (total : ℕ) × (first : Engine O) × MayReplay O.told score total engine.old.parts.clock made ticks first engine.old taps.old.buffers.items }
-    ensures done { OnOk result ((score : Score) (total : ℕ) (first : Engine O) → MayReplay O.told score total engine.old.parts.clock made ticks first engine.old taps.old.buffers.items
+    requires play { (score : Score) × (total : ℕ) × (first : Engine O)
+        × MayReplay O.told score total engine.old.parts.clock made ticks first engine.old taps.old.buffers.items }
+    ensures done { OnOk result ((score : Score) (total : ℕ) (first : Engine O)
+        → MayReplay O.told score total engine.old.parts.clock made ticks first engine.old taps.old.buffers.items
         → IsReplaying O.told score total engine.old.parts.clock ticks first engine.new taps.new.buffers.items) }
     ensures same { OnOk result (SameBuffers taps.old.buffers.items taps.new.buffers.items) }
-    ensures part { OnErr result ((score : Score) (total : ℕ) (first : Engine O) → MayReplay O.told score total engine.old.parts.clock made ticks first engine.old taps.old.buffers.items
+    ensures part { OnErr result ((score : Score) (total : ℕ) (first : Engine O)
+        → MayReplay O.told score total engine.old.parts.clock made ticks first engine.old taps.old.buffers.items
         → IsBrokenOff O.told score total engine.old.parts.clock ticks first engine.new) }
-    ensures cause { IfErr result (λ fault. (score : Score) (total : ℕ) (first : Engine O) (sink : ℕ) → MayReplay O.told score total engine.old.parts.clock made ticks first engine.old taps.old.buffers.items
+    ensures cause { IfErr result (λ fault. (score : Score) (total : ℕ) (first : Engine O) (sink : ℕ)
+        → MayReplay O.told score total engine.old.parts.clock made ticks first engine.old taps.old.buffers.items
         → fault ≡ TickWrite sink → HasSinkFailed O.told sink first engine.new) }
 {
     for _tick in made..ticks {
@@ -70,16 +75,22 @@ fn replay_turn<O: Sink>(
     ticks: u64,
 ) -> Result<(), TickFault>
     requires few { ticks ≤ 1000000000 }
-    requires play { (tale : Tale) × (first : Engine O) × MayPlay O.told tale sides.now engine.old.parts.clock rest.old.made ticks first engine.old rest.old.marks.items taps.old.buffers.items }
+    requires play { (tale : Tale) × (first : Engine O)
+        × MayPlay O.told tale sides.now engine.old.parts.clock rest.old.made ticks first engine.old rest.old.marks.items
+        taps.old.buffers.items }
     ensures done { OnOk result ((tale : Tale) (first : Engine O)
-        (may : MayPlay O.told tale sides.now engine.old.parts.clock rest.old.made ticks first engine.old rest.old.marks.items taps.old.buffers.items)
-        → HasPlayed O.told tale sides.now engine.old.parts.clock ticks first engine.new rest.new.marks.items may.full taps.old.buffers.items taps.new.buffers.items may.next) }
+        (may : MayPlay O.told tale sides.now engine.old.parts.clock rest.old.made ticks first engine.old
+        rest.old.marks.items taps.old.buffers.items)
+        → HasPlayed O.told tale sides.now engine.old.parts.clock ticks first engine.new rest.new.marks.items may.full
+        taps.old.buffers.items taps.new.buffers.items may.next) }
     ensures made { OnOk result (rest.new.made ≡ ticks) }
     ensures part { OnErr result ((tale : Tale) (first : Engine O)
-        (may : MayPlay O.told tale sides.now engine.old.parts.clock rest.old.made ticks first engine.old rest.old.marks.items taps.old.buffers.items)
+        (may : MayPlay O.told tale sides.now engine.old.parts.clock rest.old.made ticks first engine.old
+        rest.old.marks.items taps.old.buffers.items)
         → IsBrokenOff O.told (score_over tale may.full) tale.ticks engine.old.parts.clock ticks first engine.new) }
     ensures cause { IfErr result (λ fault. (tale : Tale) (first : Engine O) (sink : ℕ)
-        → MayPlay O.told tale sides.now engine.old.parts.clock rest.old.made ticks first engine.old rest.old.marks.items taps.old.buffers.items
+        → MayPlay O.told tale sides.now engine.old.parts.clock rest.old.made ticks first engine.old rest.old.marks.items
+        taps.old.buffers.items
         → fault ≡ TickWrite sink → HasSinkFailed O.told sink first engine.new) }
 {
     resume_run(
@@ -154,10 +165,13 @@ fn replay_turns<O: Sink>(
     requires sides { AreSides (base_at station.now) sides.now.feeders.items sides.now.readers.items }
     requires engines { AreEngines O.told trace.now.ticks (base_at station.now) engines.old }
     requires all { length engines.old ≡ station.now.clocks.now.running }
-    requires playing { ArePlaying O.told (tale_at station.now trace.now) sides.now turns.now engines.old engines.old rests.old taps.old.buffers.items }
-    ensures done { OnOk result ((run : Run) → IsRecordOf (base_at station.now) station.now.clocks.now.running trace.now run
+    requires playing { ArePlaying O.told (tale_at station.now trace.now) sides.now turns.now engines.old engines.old
+        rests.old taps.old.buffers.items }
+    ensures done { OnOk result ((run : Run)
+        → IsRecordOf (base_at station.now) station.now.clocks.now.running trace.now run
         → HaveRunTicks O.told (setting_in (base_at station.now) run) trace.now.ticks engines.old engines.new) }
-    ensures part { IfErr result (λ end. (run : Run) → IsRecordOf (base_at station.now) station.now.clocks.now.running trace.now run
+    ensures part { IfErr result (λ end. (run : Run)
+        → IsRecordOf (base_at station.now) station.now.clocks.now.running trace.now run
         → HasReplayedTo O.told (setting_in (base_at station.now) run) trace.now.ticks engines.old engines.new end) }
     ensures stopped { IfErr result (λ end. end ≡ Done → ⊥) }
 {
@@ -193,14 +207,18 @@ pub fn replay_engines<O: Sink>(
     requires sides { AreSides (base_at station.now) sides.now.feeders.items sides.now.readers.items }
     requires engines { AreEngines O.told trace.now.ticks (base_at station.now) engines.old }
     requires all { length engines.old ≡ station.now.clocks.now.running }
-    requires formed { IsFormed (length (base_at station.now).plan.buffers) trace.now.window trace.now.ticks (text_of trace.now.buffers) }
+    requires formed { IsFormed (length (base_at station.now).plan.buffers) trace.now.window trace.now.ticks
+        (text_of trace.now.buffers) }
     requires told { AreTold (base_at station.now) (text_of trace.now.buffers) taps.old.buffers.items }
     requires empty { (b : ℕ) → chunks_of taps.old.buffers.items b ≡ [] }
     requires kept { AreKept taps.old.buffers.items }
-    requires turns { AreTurns (base_at station.now) station.now.clocks.now.running trace.now.window trace.now.ticks (text_of trace.now.buffers) turns.now no_ticks no_chunks }
-    ensures done { OnOk result ((run : Run) → IsRecordOf (base_at station.now) station.now.clocks.now.running trace.now run
+    requires turns { AreTurns (base_at station.now) station.now.clocks.now.running trace.now.window trace.now.ticks
+        (text_of trace.now.buffers) turns.now no_ticks no_chunks }
+    ensures done { OnOk result ((run : Run)
+        → IsRecordOf (base_at station.now) station.now.clocks.now.running trace.now run
         → HaveRunTicks O.told (setting_in (base_at station.now) run) trace.now.ticks engines.old engines.new) }
-    ensures part { IfErr result (λ end. (run : Run) → IsRecordOf (base_at station.now) station.now.clocks.now.running trace.now run
+    ensures part { IfErr result (λ end. (run : Run)
+        → IsRecordOf (base_at station.now) station.now.clocks.now.running trace.now run
         → HasReplayedTo O.told (setting_in (base_at station.now) run) trace.now.ticks engines.old engines.new end) }
     ensures stopped { IfErr result (λ end. end ≡ Done → ⊥) }
 {

@@ -27,8 +27,9 @@ fn note_turn(turns: &mut Vec<TurnMade>, clock: u32, ticks: u64) -> Result<(), Me
     Ok(())
 }
 
-// Goes over the clocks in order, again and again, and runs each from its first tick on, as far as it can be run with the chunks that
-// are there. Answers whether all ticks were made; it ends where a pass over all clocks made no tick more.
+// Goes over the clocks in order, again and again, and runs each from its first tick on, as far as it can be run with
+// the chunks that are there. Answers whether all ticks were made; it ends where a pass over all clocks made no tick
+// more.
 fn search_chunks(
     alloc: Global,
     station: &Station<'_>,
@@ -48,11 +49,15 @@ fn search_chunks(
     requires kept { AreKept taps.old.buffers.items }
     requires empty { (b : ℕ) → chunks_of taps.old.buffers.items b ≡ [] }
     requires text { (text : ℕ → Log) × AreFit (base_at station.now) window ticks text taps.old.buffers.items ends.now }
-    ensures found { IfOk result (λ found. found ≡ true → (text : ℕ → Log) → AreFit (base_at station.now) window ticks text taps.old.buffers.items ends.now
-        → AreTurns (base_at station.now) station.now.clocks.now.running window ticks text turns.new.items no_ticks no_chunks) }
-    ensures none { IfOk result (λ found. found ≡ false → (text : ℕ → Log) → AreFit (base_at station.now) window ticks text taps.old.buffers.items ends.now
+    ensures found { IfOk result (λ found. found ≡ true → (text : ℕ → Log)
+        → AreFit (base_at station.now) window ticks text taps.old.buffers.items ends.now
+        → AreTurns (base_at station.now) station.now.clocks.now.running window ticks text turns.new.items no_ticks
+        no_chunks) }
+    ensures none { IfOk result (λ found. found ≡ false → (text : ℕ → Log)
+        → AreFit (base_at station.now) window ticks text taps.old.buffers.items ends.now
         → IsOrderedText (base_at station.now) station.now.clocks.now.running window ticks text → ⊥) }
-    ensures fit { IfOk result (λ found. (text : ℕ → Log) → AreFit (base_at station.now) window ticks text taps.old.buffers.items ends.now
+    ensures fit { IfOk result (λ found. (text : ℕ → Log)
+        → AreFit (base_at station.now) window ticks text taps.old.buffers.items ends.now
         → AreFit (base_at station.now) window ticks text taps.new.buffers.items ends.now) }
 {
     let running = station.clocks.running;
@@ -80,8 +85,9 @@ fn search_chunks(
     Ok(true)
 }
 
-// Goes over the clocks in order, again and again, and lets each go on as far as it can with the chunks that are there. Answers whether
-// all ticks were made; it ends where a call was not answered as was foreseen, or where a pass over all clocks made no tick more.
+// Goes over the clocks in order, again and again, and lets each go on as far as it can with the chunks that are there.
+// Answers whether all ticks were made; it ends where a call was not answered as was foreseen, or where a pass over all
+// clocks made no tick more.
 fn pass_on(
     alloc: Global,
     station: &Station<'_>,
@@ -103,9 +109,12 @@ fn pass_on(
     requires kept { AreKept taps.old.buffers.items }
     requires empty { (b : ℕ) → chunks_of taps.old.buffers.items b ≡ [] }
     requires text { (text : ℕ → Log) × AreFit (base_at station.now) window ticks text taps.old.buffers.items ends.now }
-    ensures found { IfOk result (λ found. found ≡ true → (text : ℕ → Log) → AreFit (base_at station.now) window ticks text taps.old.buffers.items ends.now
-        → AreTurns (base_at station.now) station.now.clocks.now.running window ticks text turns.new.items no_ticks no_chunks) }
-    ensures fit { IfOk result (λ found. (text : ℕ → Log) → AreFit (base_at station.now) window ticks text taps.old.buffers.items ends.now
+    ensures found { IfOk result (λ found. found ≡ true → (text : ℕ → Log)
+        → AreFit (base_at station.now) window ticks text taps.old.buffers.items ends.now
+        → AreTurns (base_at station.now) station.now.clocks.now.running window ticks text turns.new.items no_ticks
+        no_chunks) }
+    ensures fit { IfOk result (λ found. (text : ℕ → Log)
+        → AreFit (base_at station.now) window ticks text taps.old.buffers.items ends.now
         → AreFit (base_at station.now) window ticks text taps.new.buffers.items ends.now) }
     ensures many { IfOk result (λ found. length taps.new.buffers.items ≡ length taps.old.buffers.items) }
 {
@@ -134,7 +143,8 @@ fn pass_on(
     Ok(true)
 }
 
-// Makes the ticks of each clock by one engine, and answers whether all were made. Where the plan has no buffer none is made.
+// Makes the ticks of each clock by one engine, and answers whether all were made. Where the plan has no buffer none is
+// made.
 fn find_live(
     alloc: Global,
     station: &Station<'_>,
@@ -154,9 +164,12 @@ fn find_live(
     requires kept { AreKept taps.old.buffers.items }
     requires empty { (b : ℕ) → chunks_of taps.old.buffers.items b ≡ [] }
     requires text { (text : ℕ → Log) × AreFit (base_at station.now) window ticks text taps.old.buffers.items ends.now }
-    ensures found { IfOk result (λ found. found ≡ true → (text : ℕ → Log) → AreFit (base_at station.now) window ticks text taps.old.buffers.items ends.now
-        → AreTurns (base_at station.now) station.now.clocks.now.running window ticks text turns.new.items no_ticks no_chunks) }
-    ensures fit { IfOk result (λ found. (text : ℕ → Log) → AreFit (base_at station.now) window ticks text taps.old.buffers.items ends.now
+    ensures found { IfOk result (λ found. found ≡ true → (text : ℕ → Log)
+        → AreFit (base_at station.now) window ticks text taps.old.buffers.items ends.now
+        → AreTurns (base_at station.now) station.now.clocks.now.running window ticks text turns.new.items no_ticks
+        no_chunks) }
+    ensures fit { IfOk result (λ found. (text : ℕ → Log)
+        → AreFit (base_at station.now) window ticks text taps.old.buffers.items ends.now
         → AreFit (base_at station.now) window ticks text taps.new.buffers.items ends.now) }
     ensures many { IfOk result (λ found. length taps.new.buffers.items ≡ length taps.old.buffers.items) }
 {
@@ -174,8 +187,8 @@ fn find_live(
     found
 }
 
-// The turns in which the clocks make all their ticks, and whether they do. Where engines that go on from turn to turn do not make them
-// all, the search by new engines decides from the beginning.
+// The turns in which the clocks make all their ticks, and whether they do. Where engines that go on from turn to turn
+// do not make them all, the search by new engines decides from the beginning.
 fn search_turns(
     alloc: Global,
     station: &Station<'_>,
@@ -195,11 +208,15 @@ fn search_turns(
     requires kept { AreKept taps.old.buffers.items }
     requires empty { (b : ℕ) → chunks_of taps.old.buffers.items b ≡ [] }
     requires text { (text : ℕ → Log) × AreFit (base_at station.now) window ticks text taps.old.buffers.items ends.now }
-    ensures found { IfOk result (λ found. found ≡ true → (text : ℕ → Log) → AreFit (base_at station.now) window ticks text taps.old.buffers.items ends.now
-        → AreTurns (base_at station.now) station.now.clocks.now.running window ticks text turns.new.items no_ticks no_chunks) }
-    ensures none { IfOk result (λ found. found ≡ false → (text : ℕ → Log) → AreFit (base_at station.now) window ticks text taps.old.buffers.items ends.now
+    ensures found { IfOk result (λ found. found ≡ true → (text : ℕ → Log)
+        → AreFit (base_at station.now) window ticks text taps.old.buffers.items ends.now
+        → AreTurns (base_at station.now) station.now.clocks.now.running window ticks text turns.new.items no_ticks
+        no_chunks) }
+    ensures none { IfOk result (λ found. found ≡ false → (text : ℕ → Log)
+        → AreFit (base_at station.now) window ticks text taps.old.buffers.items ends.now
         → IsOrderedText (base_at station.now) station.now.clocks.now.running window ticks text → ⊥) }
-    ensures fit { IfOk result (λ found. (text : ℕ → Log) → AreFit (base_at station.now) window ticks text taps.old.buffers.items ends.now
+    ensures fit { IfOk result (λ found. (text : ℕ → Log)
+        → AreFit (base_at station.now) window ticks text taps.old.buffers.items ends.now
         → AreFit (base_at station.now) window ticks text taps.new.buffers.items ends.now) }
 {
     if find_live(alloc, station, taps, turns, sides, ends, window, ticks)? {
@@ -230,13 +247,17 @@ pub fn find_turns(
     requires kept { AreKept taps.old.buffers.items }
     requires empty { (b : ℕ) → chunks_of taps.old.buffers.items b ≡ [] }
     requires text { (text : ℕ → Log) × AreFit (base_at station.now) window ticks text taps.old.buffers.items ends.now }
-    ensures found { IfOk result (λ found. found ≡ true → (text : ℕ → Log) → AreFit (base_at station.now) window ticks text taps.old.buffers.items ends.now
-        → AreTurns (base_at station.now) station.now.clocks.now.running window ticks text turns.new.items no_ticks no_chunks) }
-    ensures none { IfOk result (λ found. found ≡ false → (text : ℕ → Log) → AreFit (base_at station.now) window ticks text taps.old.buffers.items ends.now
+    ensures found { IfOk result (λ found. found ≡ true → (text : ℕ → Log)
+        → AreFit (base_at station.now) window ticks text taps.old.buffers.items ends.now
+        → AreTurns (base_at station.now) station.now.clocks.now.running window ticks text turns.new.items no_ticks
+        no_chunks) }
+    ensures none { IfOk result (λ found. found ≡ false → (text : ℕ → Log)
+        → AreFit (base_at station.now) window ticks text taps.old.buffers.items ends.now
         → IsOrderedText (base_at station.now) station.now.clocks.now.running window ticks text → ⊥) }
     ensures empty { IfOk result (λ found. (b : ℕ) → chunks_of taps.new.buffers.items b ≡ []) }
     ensures kept { IfOk result (λ found. AreKept taps.new.buffers.items) }
-    ensures fit { IfOk result (λ found. (text : ℕ → Log) → AreFit (base_at station.now) window ticks text taps.old.buffers.items ends.now
+    ensures fit { IfOk result (λ found. (text : ℕ → Log)
+        → AreFit (base_at station.now) window ticks text taps.old.buffers.items ends.now
         → AreFit (base_at station.now) window ticks text taps.new.buffers.items ends.now) }
 {
     let found = search_turns(alloc, station, taps, turns, sides, ends, window, ticks)?;

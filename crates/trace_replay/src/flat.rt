@@ -17,7 +17,8 @@ fn side_of(window: &WindowLog, puts: bool) -> &[bool]
     &window.takes
 }
 
-/// The answers of the puts of all windows, or of their takes; and how many of them the first windows have: one, two and so on.
+/// The answers of the puts of all windows, or of their takes; and how many of them the first windows have: one, two and
+/// so on.
 pub fn flatten(
     alloc: Global,
     windows: &[WindowLog],

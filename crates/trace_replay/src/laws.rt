@@ -16,45 +16,62 @@ ghost use Rattle.trace_log.specs.Values.{TraceValue};
 ghost use Rattle.trace_replay.specs.Told.{is_legal};
 ghost use Rattle.trace_replay.specs.Traces.{IsAccepted, trace_of};
 
-/// A window whose answers are those of a legal one is legal with any chunks that come out in the order in which they went in.
+/// A window whose answers are those of a legal one is legal with any chunks that come out in the order in which they
+/// went in.
 pub fn told_windows_are_legal()
-    ensures { (capacity : ℕ) (rest queue : List (List Cell)) (puts takes : List (Option (List Cell))) → 1 ≤ capacity → length queue ≤ capacity
-        → is_legal capacity (length queue) (map is_some puts) (map is_some takes) ≡ true → queue ++ somes puts ≡ somes takes ++ rest → Legal capacity rest queue puts takes }
+    ensures { (capacity : ℕ) (rest queue : List (List Cell)) (puts takes : List (Option (List Cell))) → 1 ≤ capacity
+        → length queue ≤ capacity
+        → is_legal capacity (length queue) (map is_some puts) (map is_some takes) ≡ true
+        → queue ++ somes puts ≡ somes takes ++ rest → Legal capacity rest queue puts takes }
 {}
 
-/// Where the main clocks can be listed so that each buffer that joins two clocks leads to a later one, the ticks of every lawful
-/// record can be ordered.
+/// Where the main clocks can be listed so that each buffer that joins two clocks leads to a later one, the ticks of
+/// every lawful record can be ordered.
 pub fn onward_records_are_ordered()
-    ensures { (base : Setting) (clocks : Map) → IsSetting base clocks → (W N : ℕ) (run : Run) → (lawful : AreWindows base clocks.running W N run) → (listing : List ℕ)
+    ensures { (base : Setting) (clocks : Map) → IsSetting base clocks → (W N : ℕ) (run : Run)
+        → (lawful : AreWindows base clocks.running W N run) → (listing : List ℕ)
         → LeadOnward base clocks.running listing → IsOrdered (setting_in base run) clocks.running lawful.accepted N }
 {}
 
 /// The trace of a lawful record whose ticks can be ordered is accepted.
 pub fn ordered_traces_are_accepted()
-    ensures { (base : Setting) (clocks : Map) → IsSetting base clocks → (W N : ℕ) (run : Run) → (lawful : AreWindows base clocks.running W N run)
-        → IsOrdered (setting_in base run) clocks.running lawful.accepted N → IsAccepted base clocks.running N (trace_of W N run) }
+    ensures { (base : Setting) (clocks : Map) → IsSetting base clocks → (W N : ℕ) (run : Run)
+        → (lawful : AreWindows base clocks.running W N run)
+        → IsOrdered (setting_in base run) clocks.running lawful.accepted N
+        → IsAccepted base clocks.running N (trace_of W N run) }
 {}
 
 /// So where the main clocks can be listed so, the trace of every lawful record is accepted.
 pub fn onward_traces_are_accepted()
-    ensures { (base : Setting) (clocks : Map) → IsSetting base clocks → (W N : ℕ) (run : Run) → AreWindows base clocks.running W N run → (listing : List ℕ)
+    ensures { (base : Setting) (clocks : Map) → IsSetting base clocks → (W N : ℕ) (run : Run)
+        → AreWindows base clocks.running W N run → (listing : List ℕ)
         → LeadOnward base clocks.running listing → IsAccepted base clocks.running N (trace_of W N run) }
 {}
 
 /// So is that of a run by threads, whose logs are the answers of a lawful record.
 pub fn logs_of_onward_runs_are_accepted()
-    ensures { (base : Setting) (clocks : Map) → IsSetting base clocks → (W N : ℕ) (run : Run) → AreWindows base clocks.running W N run → (logs : List (List Answers)) → logs ≡ map (map told) run.buffers
-        → (listing : List ℕ) → LeadOnward base clocks.running listing → IsAccepted base clocks.running N (record { ticks = N; window = W; buffers = logs }) }
+    ensures { (base : Setting) (clocks : Map) → IsSetting base clocks → (W N : ℕ) (run : Run)
+        → AreWindows base clocks.running W N run → (logs : List (List Answers)) → logs ≡ map (map told) run.buffers
+        → (listing : List ℕ) → LeadOnward base clocks.running listing → IsAccepted base clocks.running N (record {
+          ticks = N;
+          window = W;
+          buffers = logs;
+        }) }
 {}
 
 /// An accepted trace tells one record: that of the run that left it, if a run left it.
 pub fn accepted_traces_tell_one_record()
-    ensures { (base : Setting) (clocks : Map) → IsSetting base clocks → (N : ℕ) (trace : TraceValue) → (accepted : IsAccepted base clocks.running N trace)
-        → (run : Run) → AreWindows base clocks.running trace.window N run → trace ≡ trace_of trace.window N run → accepted.ordered.run ≡ run }
+    ensures { (base : Setting) (clocks : Map) → IsSetting base clocks → (N : ℕ) (trace : TraceValue)
+        → (accepted : IsAccepted base clocks.running N trace)
+        → (run : Run) → AreWindows base clocks.running trace.window N run → trace ≡ trace_of trace.window N run
+        → accepted.ordered.run ≡ run }
 {}
 
-/// The record of a replay is that of the run that left the trace, if a run left it: so the replay makes the run's bytes.
+/// The record of a replay is that of the run that left the trace, if a run left it: so the replay makes the run's
+/// bytes.
 pub fn replays_are_of_the_run()
-    ensures { (base : Setting) (clocks : Map) → IsSetting base clocks → (trace : TraceValue) (run other : Run) → IsRecordOf base clocks.running trace run
-        → AreWindows base clocks.running trace.window trace.ticks other → trace ≡ trace_of trace.window trace.ticks other → run ≡ other }
+    ensures { (base : Setting) (clocks : Map) → IsSetting base clocks → (trace : TraceValue) (run other : Run)
+        → IsRecordOf base clocks.running trace run
+        → AreWindows base clocks.running trace.window trace.ticks other
+        → trace ≡ trace_of trace.window trace.ticks other → run ≡ other }
 {}

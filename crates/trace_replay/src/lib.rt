@@ -1,5 +1,5 @@
-//! The replay of a trace: which windows are legal by their answers alone, which traces tell a lawful record whose ticks can be
-//! ordered, and the rendering of such a record again, on one thread.
+//! The replay of a trace: which windows are legal by their answers alone, which traces tell a lawful record whose ticks
+//! can be ordered, and the rendering of such a record again, on one thread.
 #![tactic(auto)]
 
 mod accept;

@@ -62,8 +62,8 @@ fn last_of(from: u64, ticks: u64) -> u64
     from + TURN_TICKS
 }
 
-/// Makes a few further ticks of a clock that has made so many, each where its takes can be answered, and answers how many it has made
-/// then; nothing where a call was not answered as was foreseen.
+/// Makes a few further ticks of a clock that has made so many, each where its takes can be answered, and answers how
+/// many it has made then; nothing where a call was not answered as was foreseen.
 pub fn go_on(
     alloc: Global,
     engine: &mut ClockEngine<'_, NoSink>,
@@ -78,12 +78,14 @@ pub fn go_on(
     requires few { ticks ≤ 1000000000 }
     requires within { from ≤ ticks }
     requires goes { taps.old.course ≡ IsGoing }
-    requires turn { (score : Score) × MayFlow score window ticks engine.old.parts.clock from engine.old.parts taps.old.buffers.items ends.now }
+    requires turn { (score : Score)
+        × MayFlow score window ticks engine.old.parts.clock from engine.old.parts taps.old.buffers.items ends.now }
     ensures on { IfOk result (λ reached. (n : ℕ) → reached ≡ Some n → from ≤ n) }
     ensures within { IfOk result (λ reached. (n : ℕ) → reached ≡ Some n → n ≤ ticks) }
     ensures made { IfOk result (λ reached. (n : ℕ) (score : Score) → reached ≡ Some n
         → MayFlow score window ticks engine.old.parts.clock from engine.old.parts taps.old.buffers.items ends.now
-        → HasFlown score.base score.text window ticks engine.old.parts.clock n score.chunks engine.new.parts taps.new.buffers.items) }
+        → HasFlown score.base score.text window ticks engine.old.parts.clock n score.chunks engine.new.parts
+        taps.new.buffers.items) }
     ensures same { IfOk result (λ reached. SameBuffers taps.old.buffers.items taps.new.buffers.items) }
 {
     let until = last_of(from, ticks);
@@ -103,8 +105,8 @@ pub fn go_on(
     Ok(Some(until))
 }
 
-/// A turn of a clock that has made so many ticks, with the chunks that are there. Answers how many it has made then; nothing where a
-/// call was not answered as was foreseen. The chunks that it got are let go.
+/// A turn of a clock that has made so many ticks, with the chunks that are there. Answers how many it has made then;
+/// nothing where a call was not answered as was foreseen. The chunks that it got are let go.
 pub fn live_turn(
     alloc: Global,
     live: &mut LiveClock<'_>,
@@ -120,19 +122,28 @@ pub fn live_turn(
     requires within { from ≤ ticks }
     requires long { length ends.now ≡ length taps.old.buffers.items }
     requires marks { length live.old.marks.items ≡ length taps.old.buffers.items }
-    requires turn { (base : Setting) × (clocks : Map) × (text : ℕ → Log) × (full : List BufferState) × IsSetting base clocks × AreSides base sides.now.feeders.items sides.now.readers.items
-        × AreFit base window ticks text taps.old.buffers.items ends.now × AreFull taps.old.buffers.items full × AreUnlost sides.now.readers.items live.old.engine.parts.clock live.old.marks.items taps.old.buffers.items
-        × IsPaused base text window ticks sides.now.feeders.items sides.now.readers.items live.old.engine.parts.clock from live.old.engine.parts live.old.marks.items full }
+    requires turn { (base : Setting) × (clocks : Map) × (text : ℕ → Log) × (full : List BufferState)
+        × IsSetting base clocks × AreSides base sides.now.feeders.items sides.now.readers.items
+        × AreFit base window ticks text taps.old.buffers.items ends.now × AreFull taps.old.buffers.items full
+        × AreUnlost sides.now.readers.items live.old.engine.parts.clock live.old.marks.items taps.old.buffers.items
+        × IsPaused base text window ticks sides.now.feeders.items sides.now.readers.items live.old.engine.parts.clock
+        from live.old.engine.parts live.old.marks.items full }
     ensures on { IfOk result (λ reached. (n : ℕ) → reached ≡ Some n → from ≤ n) }
     ensures within { IfOk result (λ reached. (n : ℕ) → reached ≡ Some n → n ≤ ticks) }
-    ensures gone { IfOk result (λ reached. (n : ℕ) (base : Setting) (clocks : Map) (text : ℕ → Log) (full : List BufferState) → reached ≡ Some n → IsSetting base clocks
-        → AreSides base sides.now.feeders.items sides.now.readers.items → AreFit base window ticks text taps.old.buffers.items ends.now → AreFull taps.old.buffers.items full
+    ensures gone { IfOk result (λ reached. (n : ℕ) (base : Setting) (clocks : Map) (text : ℕ
+        → Log) (full : List BufferState) → reached ≡ Some n → IsSetting base clocks
+        → AreSides base sides.now.feeders.items sides.now.readers.items
+        → AreFit base window ticks text taps.old.buffers.items ends.now → AreFull taps.old.buffers.items full
         → AreUnlost sides.now.readers.items live.old.engine.parts.clock live.old.marks.items taps.old.buffers.items
-        → IsPaused base text window ticks sides.now.feeders.items sides.now.readers.items live.old.engine.parts.clock from live.old.engine.parts live.old.marks.items full
-        → HasFlownOn base text window ticks sides.now.feeders.items sides.now.readers.items live.old.engine.parts.clock n live.new.engine.parts live.new.marks.items full taps.new.buffers.items) }
-    ensures stays { IfOk result (λ reached. (k : ℕ) (marks : List TheMark) → (k ≡ live.old.engine.parts.clock → ⊥) → AreUnlost sides.now.readers.items k marks taps.old.buffers.items
+        → IsPaused base text window ticks sides.now.feeders.items sides.now.readers.items live.old.engine.parts.clock
+        from live.old.engine.parts live.old.marks.items full
+        → HasFlownOn base text window ticks sides.now.feeders.items sides.now.readers.items live.old.engine.parts.clock
+        n live.new.engine.parts live.new.marks.items full taps.new.buffers.items) }
+    ensures stays { IfOk result (λ reached. (k : ℕ) (marks : List TheMark) → (k ≡ live.old.engine.parts.clock → ⊥)
+        → AreUnlost sides.now.readers.items k marks taps.old.buffers.items
         → AreUnlost sides.now.readers.items k marks taps.new.buffers.items) }
-    ensures fit { IfOk result (λ reached. (base : Setting) (text : ℕ → Log) → AreFit base window ticks text taps.old.buffers.items ends.now
+    ensures fit { IfOk result (λ reached. (base : Setting) (text : ℕ → Log)
+        → AreFit base window ticks text taps.old.buffers.items ends.now
         → AreFit base window ticks text taps.new.buffers.items ends.now) }
     ensures many { IfOk result (λ reached. length taps.new.buffers.items ≡ length taps.old.buffers.items) }
     ensures marks { IfOk result (λ reached. length live.new.marks.items ≡ length live.old.marks.items) }

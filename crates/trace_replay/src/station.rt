@@ -87,7 +87,8 @@ pub fn sinks_of(
     clocks: &ClockMap,
     clock: u32,
 ) -> Result<Vec<NoSink>, Memory>
-    ensures { IfOk result (λ outs. (setting : Setting) → setting.plan ≡ plan.now → setting.clocks ≡ clocks.now.of → length outs.items ≡ length (outputs_of setting clock)) }
+    ensures { IfOk result (λ outs. (setting : Setting) → setting.plan ≡ plan.now → setting.clocks ≡ clocks.now.of
+        → length outs.items ≡ length (outputs_of setting clock)) }
 {
     count_outputs(alloc, plan.sinks.as_slice(), clocks.of.as_slice(), clock)
 }

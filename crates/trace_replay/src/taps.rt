@@ -14,8 +14,8 @@ use frame_core::{Chunk, Gave, Taps};
 use liq_base::Memory;
 use std::alloc::Global;
 
-/// The buffers of a plan in the run of one clock. They answer as a trace tells as long as each call has a right answer. From the
-/// first on that has none, takes are empty and chunks that are given are dropped.
+/// The buffers of a plan in the run of one clock. They answer as a trace tells as long as each call has a right answer.
+/// From the first on that has none, takes are empty and chunks that are given are dropped.
 #[derive(Drop)]
 pub struct ToldTaps {
     pub buffers: Vec<ToldBuffer>,
@@ -26,7 +26,8 @@ pub struct ToldTaps {
 // Takes of one of the buffers.
 fn take_from(alloc: Global, buffers: &mut Vec<ToldBuffer>, buffer: u32) -> Result<Taken, Memory>
     requires { buffer < length buffers.old.items }
-    ensures taken { IfOk result (λ taken. (s : BufferState) × (buffers.new.items ≡ slice_set buffers.old.items buffer s) × ((d : BufferState) → TakesOn (slice_index_or buffers.old.items buffer d) taken s)) }
+    ensures taken { IfOk result (λ taken. (s : BufferState) × (buffers.new.items ≡ slice_set buffers.old.items buffer s)
+        × ((d : BufferState) → TakesOn (slice_index_or buffers.old.items buffer d) taken s)) }
     ensures memory { OnErr result (buffers.new.items ≡ buffers.old.items) }
     ensures same { SameBuffers buffers.old.items buffers.new.items }
 {
@@ -40,7 +41,8 @@ fn put_into(
     chunk: Chunk,
 ) -> Result<Put, (Chunk, Memory)>
     requires { buffer < length buffers.old.items }
-    ensures put { IfOk result (λ put. (s : BufferState) × (buffers.new.items ≡ slice_set buffers.old.items buffer s) × ((d : BufferState) → PutsOn (slice_index_or buffers.old.items buffer d) chunk put s)) }
+    ensures put { IfOk result (λ put. (s : BufferState) × (buffers.new.items ≡ slice_set buffers.old.items buffer s)
+        × ((d : BufferState) → PutsOn (slice_index_or buffers.old.items buffer d) chunk put s)) }
     ensures memory { IfErr result (λ e. (e.0 ≡ chunk) × (buffers.new.items ≡ buffers.old.items)) }
     ensures same { SameBuffers buffers.old.items buffers.new.items }
 {
@@ -115,8 +117,11 @@ impl ToldTaps {
     fn take_told(&mut self, buffer: u32) -> Result<Option<Chunk>, Memory>
         requires known { buffer < length self.old.buffers.items }
         requires goes { self.old.course ≡ IsGoing }
-        ensures call { IfOk result (λ answer. Adds (λ t calls. TapsFollow t.course t.buffers.items calls) self.old self.new (Took buffer answer ∷ [])) }
-        ensures memory { OnErr result ((self.new.course ≡ self.old.course) × (self.new.buffers.items ≡ self.old.buffers.items)) }
+        ensures call { IfOk result
+            (λ answer. Adds (λ t calls. TapsFollow t.course t.buffers.items calls) self.old self.new (Took buffer answer
+            ∷ [])) }
+        ensures memory { OnErr result ((self.new.course ≡ self.old.course)
+            × (self.new.buffers.items ≡ self.old.buffers.items)) }
         ensures same { SameBuffers self.old.buffers.items self.new.buffers.items }
     {
         match take_from(self.alloc, &mut self.buffers, buffer)? {
@@ -141,8 +146,10 @@ impl ToldTaps {
     fn give_told(&mut self, buffer: u32, chunk: Chunk) -> Result<Gave, (Chunk, Memory)>
         requires known { buffer < length self.old.buffers.items }
         requires goes { self.old.course ≡ IsGoing }
-        ensures call { IfOk result (λ gave. (call : Call) × IsGive buffer chunk gave call × Adds (λ t calls. TapsFollow t.course t.buffers.items calls) self.old self.new (call ∷ [])) }
-        ensures memory { IfErr result (λ e. (e.0 ≡ chunk) × (self.new.course ≡ self.old.course) × (self.new.buffers.items ≡ self.old.buffers.items)) }
+        ensures call { IfOk result (λ gave. (call : Call) × IsGive buffer chunk gave call
+            × Adds (λ t calls. TapsFollow t.course t.buffers.items calls) self.old self.new (call ∷ [])) }
+        ensures memory { IfErr result (λ e. (e.0 ≡ chunk) × (self.new.course ≡ self.old.course)
+            × (self.new.buffers.items ≡ self.old.buffers.items)) }
         ensures same { SameBuffers self.old.buffers.items self.new.buffers.items }
     {
         match put_into(&mut self.buffers, buffer, chunk)? {

@@ -47,7 +47,8 @@ pub const NO_MARK: Mark = Mark {
     got: 0,
 };
 
-/// A buffer in the run of one clock, which answers as a trace tells. The chunks that were put to it stay until they are let go.
+/// A buffer in the run of one clock, which answers as a trace tells. The chunks that were put to it stay until they are
+/// let go.
 #[derive(Drop)]
 pub struct ToldBuffer {
     pub capacity: u32,
@@ -93,7 +94,8 @@ impl Model for ToldBuffer {
       gone = b.gone;
     } };
 
-    ghost invariant = { λ b. (b.put_at ≤ length b.puts.items) × (b.take_at ≤ length b.takes.items) × (b.got ≤ b.put) × (b.opened ≤ b.put)
+    ghost invariant = { λ b. (b.put_at ≤ length b.puts.items) × (b.take_at ≤ length b.takes.items) × (b.got ≤ b.put)
+        × (b.opened ≤ b.put)
         × (b.put ≡ b.gone + length b.held.items) × (b.put ≡ length (blanks b.gone ++ b.held.items)) };
 }
 
@@ -166,8 +168,8 @@ impl ToldBuffer {
         }
     }
 
-    /// Whether the chunks that are there suffice for its next takes, up to one that is told to be empty or until so many cells were
-    /// got.
+    /// Whether the chunks that are there suffice for its next takes, up to one that is told to be empty or until so
+    /// many cells were got.
     pub fn serves(&self, cells: u64) -> bool {
         if self.got < self.gone {
             return false;

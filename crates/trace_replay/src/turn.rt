@@ -55,11 +55,15 @@ pub fn run_clock(
     requires few { ticks ≤ 1000000000 }
     requires goes { taps.old.course ≡ IsGoing }
     requires kept { AreKept taps.old.buffers.items }
-    requires turn { (score : Score) × MayTurn score window ticks engine.old.parts.clock engine.old.parts taps.old.buffers.items ends.now }
-    ensures made { IfOk result (λ turn. (n : ℕ) (score : Score) → turn ≡ HasMadeTicks n → MayTurn score window ticks engine.old.parts.clock engine.old.parts taps.old.buffers.items ends.now
-        → HasTurned score.base window ticks score.text engine.old.parts.clock n score.chunks (chunks_of taps.new.buffers.items)) }
+    requires turn { (score : Score)
+        × MayTurn score window ticks engine.old.parts.clock engine.old.parts taps.old.buffers.items ends.now }
+    ensures made { IfOk result (λ turn. (n : ℕ) (score : Score) → turn ≡ HasMadeTicks n
+        → MayTurn score window ticks engine.old.parts.clock engine.old.parts taps.old.buffers.items ends.now
+        → HasTurned score.base window ticks score.text engine.old.parts.clock n score.chunks
+        (chunks_of taps.new.buffers.items)) }
     ensures same { IfOk result (λ turn. SameBuffers taps.old.buffers.items taps.new.buffers.items) }
-    ensures refused { IfOk result (λ turn. (score : Score) → turn ≡ IsRefusedTurn → MayTurn score window ticks engine.old.parts.clock engine.old.parts taps.old.buffers.items ends.now
+    ensures refused { IfOk result (λ turn. (score : Score) → turn ≡ IsRefusedTurn
+        → MayTurn score window ticks engine.old.parts.clock engine.old.parts taps.old.buffers.items ends.now
         → IsRefused score.base window ticks score.text score.chunks engine.old.parts.clock) }
 {
     for tick in 0..ticks {
@@ -75,7 +79,8 @@ pub fn run_clock(
     Ok(Turn::Made(ticks))
 }
 
-/// Runs a clock from its first tick on, with the chunks that are there. Where the plan has no buffer no tick waits, and none is made.
+/// Runs a clock from its first tick on, with the chunks that are there. Where the plan has no buffer no tick waits, and
+/// none is made.
 pub fn run_turn(
     alloc: Global,
     station: &Station<'_>,
@@ -88,19 +93,35 @@ pub fn run_turn(
 ) -> Result<Turn, Memory>
     requires some { 1 ≤ window }
     requires few { ticks ≤ 1000000000 }
-    requires setting { IsSetting (base_of station.now.plan.now station.now.library.now station.now.clocks.now station.now.start.second) station.now.clocks.now }
-    requires sides { AreSides (base_of station.now.plan.now station.now.library.now station.now.clocks.now station.now.start.second) sides.now.feeders.items sides.now.readers.items }
+    requires setting { IsSetting
+        (base_of station.now.plan.now station.now.library.now station.now.clocks.now station.now.start.second)
+        station.now.clocks.now }
+    requires sides { AreSides
+        (base_of station.now.plan.now station.now.library.now station.now.clocks.now station.now.start.second)
+        sides.now.feeders.items sides.now.readers.items }
     requires long { length ends.now ≡ length taps.old.buffers.items }
     requires kept { AreKept taps.old.buffers.items }
-    requires text { (text : ℕ → Log) × AreFit (base_of station.now.plan.now station.now.library.now station.now.clocks.now station.now.start.second) window ticks text taps.old.buffers.items ends.now }
-    ensures made { IfOk result (λ turn. (n : ℕ) (text : ℕ → Log) → turn ≡ HasMadeTicks n → AreFit (base_of station.now.plan.now station.now.library.now station.now.clocks.now station.now.start.second) window ticks text taps.old.buffers.items ends.now
-        → HasTurned (base_of station.now.plan.now station.now.library.now station.now.clocks.now station.now.start.second) window ticks text clock n (chunks_of taps.old.buffers.items) (chunks_of taps.new.buffers.items)) }
-    ensures fit { IfOk result (λ turn. (text : ℕ → Log) → AreFit (base_of station.now.plan.now station.now.library.now station.now.clocks.now station.now.start.second) window ticks text taps.old.buffers.items ends.now
-        → AreFit (base_of station.now.plan.now station.now.library.now station.now.clocks.now station.now.start.second) window ticks text taps.new.buffers.items ends.now) }
+    requires text { (text : ℕ → Log)
+        × AreFit (base_of station.now.plan.now station.now.library.now station.now.clocks.now station.now.start.second)
+        window ticks text taps.old.buffers.items ends.now }
+    ensures made { IfOk result (λ turn. (n : ℕ) (text : ℕ → Log) → turn ≡ HasMadeTicks n
+        → AreFit (base_of station.now.plan.now station.now.library.now station.now.clocks.now station.now.start.second)
+        window ticks text taps.old.buffers.items ends.now
+        → HasTurned (base_of station.now.plan.now station.now.library.now station.now.clocks.now
+        station.now.start.second) window ticks text clock n (chunks_of taps.old.buffers.items)
+        (chunks_of taps.new.buffers.items)) }
+    ensures fit { IfOk result (λ turn. (text : ℕ → Log)
+        → AreFit (base_of station.now.plan.now station.now.library.now station.now.clocks.now station.now.start.second)
+        window ticks text taps.old.buffers.items ends.now
+        → AreFit (base_of station.now.plan.now station.now.library.now station.now.clocks.now station.now.start.second)
+        window ticks text taps.new.buffers.items ends.now) }
     ensures kept { IfOk result (λ turn. AreKept taps.new.buffers.items) }
     ensures many { IfOk result (λ turn. length taps.new.buffers.items ≡ length taps.old.buffers.items) }
-    ensures refused { IfOk result (λ turn. (text : ℕ → Log) → turn ≡ IsRefusedTurn → AreFit (base_of station.now.plan.now station.now.library.now station.now.clocks.now station.now.start.second) window ticks text taps.old.buffers.items ends.now
-        → IsRefused (base_of station.now.plan.now station.now.library.now station.now.clocks.now station.now.start.second) window ticks text (chunks_of taps.old.buffers.items) clock) }
+    ensures refused { IfOk result (λ turn. (text : ℕ → Log) → turn ≡ IsRefusedTurn
+        → AreFit (base_of station.now.plan.now station.now.library.now station.now.clocks.now station.now.start.second)
+        window ticks text taps.old.buffers.items ends.now
+        → IsRefused (base_of station.now.plan.now station.now.library.now station.now.clocks.now
+        station.now.start.second) window ticks text (chunks_of taps.old.buffers.items) clock) }
 {
     if station.plan.buffers.as_slice().is_empty() {
         return Ok(Turn::Made(ticks));

@@ -29,8 +29,9 @@ use std::alloc::Global;
 use std::marker::Model;
 use trace_log::Trace;
 
-/// The way to all the chunks of the record that an accepted trace tells: the turns of its clocks, in each of which a clock makes some ticks
-/// with the chunks that the turns before it put. `docs/buffers.md`, "A record from its text", says what they take of memory.
+/// The way to all the chunks of the record that an accepted trace tells: the turns of its clocks, in each of which a
+/// clock makes some ticks with the chunks that the turns before it put. `docs/buffers.md`, "A record from its text",
+/// says what they take of memory.
 #[derive(Drop)]
 pub struct RecordChunks {
     taps: ToldTaps,
@@ -45,12 +46,17 @@ impl Model for RecordChunks {
 
     ghost coded = { held_coded };
 
-    ghost view = { λ chunks. record { buffers = chunks.taps.buffers.items; feeders = chunks.sides.feeders.items; readers = chunks.sides.readers.items; turns = chunks.turns.items } };
+    ghost view = { λ chunks. record {
+      buffers = chunks.taps.buffers.items;
+      feeders = chunks.sides.feeders.items;
+      readers = chunks.sides.readers.items;
+      turns = chunks.turns.items;
+    } };
 }
 
-/// The way to all the chunks of the record that a trace tells, where the trace, which was read, is that of a lawful record of so many ticks of a
-/// plan, with its clocks, its files and its start second, whose ticks can be ordered; and nothing where it is not. Only want of memory
-/// comes in place of an answer.
+/// The way to all the chunks of the record that a trace tells, where the trace, which was read, is that of a lawful
+/// record of so many ticks of a plan, with its clocks, its files and its start second, whose ticks can be ordered; and
+/// nothing where it is not. Only want of memory comes in place of an answer.
 pub fn find_record(
     alloc: Global,
     plan: &Plan,
@@ -62,9 +68,14 @@ pub fn find_record(
 ) -> Result<Option<RecordChunks>, Memory>
     requires setting { IsSetting (base_of plan.now library.now clocks.now start.second) clocks.now }
     requires trace { IsTrace trace.now }
-    ensures yes { IfOk result (λ found. ForSome found (λ chunks. IsAccepted (base_of plan.now library.now clocks.now start.second) clocks.now.running ticks trace.now)) }
-    ensures chunks { IfOk result (λ found. ForSome found (λ chunks. AreAllChunks (base_of plan.now library.now clocks.now start.second) clocks.now trace.now chunks)) }
-    ensures no { IfOk result (λ found. found ≡ None → IsAccepted (base_of plan.now library.now clocks.now start.second) clocks.now.running ticks trace.now → ⊥) }
+    ensures yes { IfOk result
+        (λ found. ForSome found (λ chunks. IsAccepted (base_of plan.now library.now clocks.now start.second)
+        clocks.now.running ticks trace.now)) }
+    ensures chunks { IfOk result
+        (λ found. ForSome found (λ chunks. AreAllChunks (base_of plan.now library.now clocks.now start.second)
+        clocks.now trace.now chunks)) }
+    ensures no { IfOk result (λ found. found ≡ None
+        → IsAccepted (base_of plan.now library.now clocks.now start.second) clocks.now.running ticks trace.now → ⊥) }
 {
     if trace.ticks != ticks || trace.buffers.len() != plan.buffers.len() {
         return Ok(None);
@@ -124,9 +135,9 @@ fn ended(alloc: Global, end: End) -> RunEnd
 }
 
 /// Renders the ticks of an accepted trace again, on one thread: each output gets the bytes of the record that the trace
-/// tells. The engines stand in clock order, one for each clock that runs, made no tick, and are over this plan, with these
-/// clocks, files and start second; the chunks are those of this trace. Done answers the trace's logs and their numbers. The first fault ends the run: each
-/// engine has made some of its ticks then.
+/// tells. The engines stand in clock order, one for each clock that runs, made no tick, and are over this plan, with
+/// these clocks, files and start second; the chunks are those of this trace. Done answers the trace's logs and their
+/// numbers. The first fault ends the run: each engine has made some of its ticks then.
 pub fn replay<O: Sink>(
     alloc: Global,
     plan: &Plan,
@@ -139,13 +150,17 @@ pub fn replay<O: Sink>(
 ) -> RunEnd
     requires setting { IsSetting (base_of plan.now library.now clocks.now start.second) clocks.now }
     requires trace { IsTrace trace.now }
-    requires accepted { IsAccepted (base_of plan.now library.now clocks.now start.second) clocks.now.running trace.now.ticks trace.now }
-    requires engines { AreEngines O.told trace.now.ticks (base_of plan.now library.now clocks.now start.second) engines.old }
+    requires accepted { IsAccepted (base_of plan.now library.now clocks.now start.second) clocks.now.running
+        trace.now.ticks trace.now }
+    requires engines { AreEngines O.told trace.now.ticks (base_of plan.now library.now clocks.now start.second)
+        engines.old }
     requires all { length engines.old ≡ clocks.now.running }
     requires chunks { AreAllChunks (base_of plan.now library.now clocks.now start.second) clocks.now trace.now chunks }
     ensures done { result.end ≡ Done
-        → HasReplayedAll O.told (base_of plan.now library.now clocks.now start.second) clocks.now.running trace.now engines.old engines.new result.counts.items result.logs.items }
-    ensures part { HasReplayedSome O.told (base_of plan.now library.now clocks.now start.second) clocks.now.running trace.now engines.old engines.new result.end }
+        → HasReplayedAll O.told (base_of plan.now library.now clocks.now start.second) clocks.now.running trace.now
+        engines.old engines.new result.counts.items result.logs.items }
+    ensures part { HasReplayedSome O.told (base_of plan.now library.now clocks.now start.second) clocks.now.running
+        trace.now engines.old engines.new result.end }
 {
     let station = Station {
         plan,

@@ -6,9 +6,9 @@ ghost use Rattle.trace_replay.specs.Told.{IsToldLegal, are_legal, begins_true, i
 
 use buffer_ends::WindowLog;
 
-/// Whether some window of a buffer of so many chunks, which opens with so many, is legal and has these answers: of its puts,
-/// true for a chunk that was accepted, and of its takes, true for a chunk that was got. It takes a time that is linear in their
-/// number.
+/// Whether some window of a buffer of so many chunks, which opens with so many, is legal and has these answers: of its
+/// puts, true for a chunk that was accepted, and of its takes, true for a chunk that was got. It takes a time that is
+/// linear in their number.
 pub fn is_legal(capacity: u32, opening: u32, puts: &[bool], takes: &[bool]) -> bool
     requires some { 1 ≤ capacity }
     requires fits { opening ≤ capacity }
@@ -22,7 +22,8 @@ pub fn is_legal(capacity: u32, opening: u32, puts: &[bool], takes: &[bool]) -> b
 pub fn next_opening(capacity: u32, opening: u32, puts: &[bool], takes: &[bool]) -> Option<u32>
     requires some { 1 ≤ capacity }
     requires fits { opening ≤ capacity }
-    ensures legal { IfSome result (λ left. (is_legal capacity opening puts.now takes.now ≡ true) × (left ≡ (opening + yes puts.now) - yes takes.now) × (left ≤ capacity)) }
+    ensures legal { IfSome result (λ left. (is_legal capacity opening puts.now takes.now ≡ true)
+        × (left ≡ (opening + yes puts.now) - yes takes.now) × (left ≤ capacity)) }
     ensures none { IsNone result → is_legal capacity opening puts.now takes.now ≡ false }
 {
     if !passes(capacity, opening, puts, takes) {
@@ -130,7 +131,8 @@ fn pass(capacity: u32, count: u64, from: Place, takes: &[bool]) -> Place
     ensures got { result.got ≤ result.at }
     ensures floor { result.floor ≡ (passed capacity count from.got from.floor (drop from.at takes.now)).floor }
     ensures count { result.got ≡ (passed capacity count from.got from.floor (drop from.at takes.now)).got }
-    ensures left { drop result.at takes.now ≡ (passed capacity count from.got from.floor (drop from.at takes.now)).left }
+    ensures left { drop result.at takes.now
+        ≡ (passed capacity count from.got from.floor (drop from.at takes.now)).left }
 {
     let mut place = from;
     while place.at < takes.len() {

@@ -7,7 +7,7 @@ use Rattle.liq_base.specs.declared.memory.Kind.TheVariants.{Mono, Stereo}
 use Rattle.frame_core.specs.Sounds.{IsSound, Sound}
 use Rattle.wav_io.specs.Reading.{AreBlocks, Wav, read_of}
 use Rattle.wav_io.proofs.Heads.{is_file}
-use Rattle.resample.specs.Resampled.{IsFile, blocks_of, length_at, resampled}
+use Rattle.resample.specs.Resampled.{IsFile, blocks_of, output_length, resampled}
 use Rattle.resample.proofs.Laws.{resampled_length, resampled_some, resampled_whole, same_rate}
 use Rattle.wav_io.specs.declared.fault.WavFault.{WavFault}
 use Rattle.track_library.specs.Files.{IsReadable, sound_in}
@@ -48,11 +48,11 @@ twice Stereo n = omega arith
 
 -- how many bytes a changed file has
 pub written_is : (kind : Kind) (samples : List ℤ) (from to block count : ℕ) → block ≡ 2 * channels_of kind → count ≡ blocks_of kind samples
-    → 44 + block * length_at count from to ≡ 44 + 2 * length (resampled from to kind samples)
+    → 44 + block * output_length count from to ≡ 44 + 2 * length (resampled from to kind samples)
 written_is kind samples from to block count is_block is_count =
-    ap (λ n. 44 + n * length_at count from to) is_block
-    ∙ ap (λ n. 44 + 2 * channels_of kind * length_at n from to) is_count
-    ∙ ap (λ n. 44 + n) (twice kind (length_at (blocks_of kind samples) from to))
+    ap (λ n. 44 + n * output_length count from to) is_block
+    ∙ ap (λ n. 44 + 2 * channels_of kind * output_length n from to) is_count
+    ∙ ap (λ n. 44 + n) (twice kind (output_length (blocks_of kind samples) from to))
     ∙ ap (λ n. 44 + 2 * n) (sym (resampled_length from to kind samples))
 
 -- a file at the rate of the script

@@ -5,7 +5,7 @@ use Rattle.std.specs.Str.{bytes_eq}
 use Rattle.std.specs.List.{All}
 use Rattle.std.proofs.lemmas.List.Elements.{All-push}
 use Rattle.frame_core.specs.Sounds.{IsSound}
-use Rattle.track_library.specs.Walk.{Heard, Audio, first_use, value_of}
+use Rattle.track_library.specs.Walk.{Heard, Audio, first_use, entry_of}
 use Rattle.track_library.specs.States.{IsHeard, Finds}
 use Rattle.track_library.specs.declared.fault.LoadFault.{LoadFault}
 use Rattle.track_library.specs.declared.fault.LoadFault.TheVariants.{AllTooLarge}
@@ -70,13 +70,13 @@ first_finds all heard name (Ok audio) after number h s few e =
     (keep_finds heard name audio h s (chosen_few (nat_le (heard.bytes + audio.1) all) heard _ (after, number) AllTooLarge refl few e)) e
 
 named_below : (n : ℕ) (names : List (List ℕ × Result ℕ Unusable)) (name : List ℕ) (found : Result ℕ Unusable)
-    → All (λ e. IfOk e.1 (λ number. number < n)) names → value_of name names ≡ Some found → IfOk found (λ number. number < n)
+    → All (λ e. IfOk e.1 (λ number. number < n)) names → entry_of name names ≡ Some found → IfOk found (λ number. number < n)
 named_below n [] name found all there = absurd (cc)
 named_below n (e ∷ es) name found all there = at_test (bytes_eq name e.0) there (named_below n es name found (λ k d b. all (suc k) d (omega arith))) where
-  at_test : (b : Bool) → cond b (Some e.1) (value_of name es) ≡ Some found → (value_of name es ≡ Some found → IfOk found (λ number. number < n)) → IfOk found (λ number. number < n)
+  at_test : (b : Bool) → cond b (Some e.1) (entry_of name es) ≡ Some found → (entry_of name es ≡ Some found → IfOk found (λ number. number < n)) → IfOk found (λ number. number < n)
   at_test true h more = (let same : e.1 ≡ found = (cc) in subst (λ r. IfOk r (λ number. number < n)) same (all 0 e (omega arith)))
   at_test false h more = more h
 
 -- a name that was met before
-pub known_finds : (heard : Heard) (name : List ℕ) (found : Result ℕ Unusable) → IsHeard heard → value_of name heard.names ≡ Some found → Finds heard heard found
+pub known_finds : (heard : Heard) (name : List ℕ) (found : Result ℕ Unusable) → IsHeard heard → entry_of name heard.names ≡ Some found → Finds heard heard found
 known_finds heard name found h there = record { heard = h; grew = omega arith; number = named_below _ heard.names name found h.numbers there }

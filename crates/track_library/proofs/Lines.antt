@@ -4,7 +4,7 @@ use Rattle.std.specs.Prelude.{nat_eq, slice_index}
 use Rattle.std.specs.Prelude.{◌&&◌, not}
 use Rattle.std.specs.Str.{is_utf8}
 use Rattle.std.proofs.lemmas.List.{take_rest}
-use Rattle.track_library.specs.Lists.{lines, with_first, names_in, is_name, without_cr}
+use Rattle.track_library.specs.Lists.{lines, with_first, names_among, is_name, without_cr}
 
 -- a line ends at the first LF
 pub cut_at : (at : ℕ) (bytes : List ℕ) → at < length bytes → ((k : ℕ) → k < at → nat_eq (slice_index bytes k) 10 ≡ false)
@@ -30,11 +30,11 @@ one_line (b ∷ c ∷ bytes) some none =
     ∙ ap (with_first b) (one_line (c ∷ bytes) (omega arith) (λ k h. none (suc k) (omega arith)))
 
 -- a line that is a name, and one that is none
-pub one_name : (line : List ℕ) (rest : List (List ℕ)) → is_name (without_cr line) ≡ true → names_in (line ∷ rest) ≡ without_cr line ∷ names_in rest
-one_name line rest e = ap (λ t. cond t (without_cr line ∷ names_in rest) (names_in rest)) e
+pub one_name : (line : List ℕ) (rest : List (List ℕ)) → is_name (without_cr line) ≡ true → names_among (line ∷ rest) ≡ without_cr line ∷ names_among rest
+one_name line rest e = ap (λ t. cond t (without_cr line ∷ names_among rest) (names_among rest)) e
 
-pub no_name : (line : List ℕ) (rest : List (List ℕ)) → is_name (without_cr line) ≡ false → names_in (line ∷ rest) ≡ names_in rest
-no_name line rest e = ap (λ t. cond t (without_cr line ∷ names_in rest) (names_in rest)) e
+pub no_name : (line : List ℕ) (rest : List (List ℕ)) → is_name (without_cr line) ≡ false → names_among (line ∷ rest) ≡ names_among rest
+no_name line rest e = ap (λ t. cond t (without_cr line ∷ names_among rest) (names_among rest)) e
 
 -- what a line has to be for a name
 pub is_named : (line : List ℕ) (utf8 : Bool) → nat_eq (length line) 0 ≡ false → nat_eq (slice_index line 0) 35 ≡ false → is_utf8 line ≡ utf8 → is_name line ≡ utf8

@@ -2,25 +2,25 @@
 use Rattle.std.proofs.Common.{◌≡◌, ◌∙◌, ◌≤◌, ℕ, Bool, true, false, suc, ◌*◌, ◌/◌, ◌∷◌, [], List, length, take, ap, refl, arith}
 use Rattle.liq_base.specs.declared.memory.Kind.{Kind}
 use Rattle.liq_base.specs.declared.memory.Kind.TheVariants.{Mono, Stereo}
-use Rattle.frame_core.specs.Bytes.{sample_in, samples_in}
+use Rattle.frame_core.specs.Bytes.{sample_in, samples_from}
 use Rattle.frame_core.specs.Sounds.{IsSound}
 use Rattle.sample_bytes.specs.Wide.{wide_samples_in}
 use Rattle.wav_io.specs.Reading.{AreBlocks}
 use Rattle.track_library.specs.Walk.{samples_at}
 
 -- two bytes a sample
-pub samples_long : (bytes : List ℕ) → length (samples_in bytes) ≡ length bytes / 2
+pub samples_long : (bytes : List ℕ) → length (samples_from bytes) ≡ length bytes / 2
 samples_long [] = refl
 samples_long (low ∷ []) = refl
 samples_long (low ∷ high ∷ bytes) = let rest = samples_long bytes in omega arith
 
 -- an odd byte at the end is left out
-pub samples_front : (bytes : List ℕ) → samples_in (take (2 * (length bytes / 2)) bytes) ≡ samples_in bytes
+pub samples_front : (bytes : List ℕ) → samples_from (take (2 * (length bytes / 2)) bytes) ≡ samples_from bytes
 samples_front [] = refl
 samples_front (low ∷ []) = refl
 samples_front (low ∷ high ∷ bytes) =
     let e : 2 * (length (low ∷ high ∷ bytes) / 2) ≡ suc (suc (2 * (length bytes / 2))) = omega arith in
-    ap (λ n. samples_in (take n (low ∷ high ∷ bytes))) e ∙ ap (λ l. sample_in low high ∷ l) (samples_front bytes)
+    ap (λ n. samples_from (take n (low ∷ high ∷ bytes))) e ∙ ap (λ l. sample_in low high ∷ l) (samples_front bytes)
 
 -- three bytes a wide sample
 pub wide_long : (bytes : List ℕ) → length (wide_samples_in bytes) ≡ length bytes / 3
@@ -47,12 +47,12 @@ pub blocks_sound : (wide : Bool) (kind : Kind) (bytes : List ℕ) → AreBlocks 
 blocks_sound false Mono bytes blocks =
     let long = samples_long bytes in
     let count = blocks.count in
-    let half : length (samples_in bytes) ≡ count = omega (arith, blocks.whole) in
+    let half : length (samples_from bytes) ≡ count = omega (arith, blocks.whole) in
     record { whole_blocks = omega arith; some = omega (arith, blocks.some) }
 blocks_sound false Stereo bytes blocks =
     let long = samples_long bytes in
     let count = blocks.count in
-    let half : length (samples_in bytes) ≡ 2 * count = omega (arith, blocks.whole) in
+    let half : length (samples_from bytes) ≡ 2 * count = omega (arith, blocks.whole) in
     record { whole_blocks = omega arith; some = omega (arith, blocks.some) }
 blocks_sound true Mono bytes blocks =
     let long = wide_long bytes in

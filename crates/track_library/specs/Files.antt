@@ -27,7 +27,10 @@ pub record IsUsed (rate : ℕ) (bytes : List ℕ) : Type 0 where
 
 -- the sound of a recording at the rate of the script
 abbrev pub at_rate : (rate : ℕ) → Recording → Sound
-at_rate rate recording = record { kind = recording.kind; samples = resampled recording.rate rate recording.kind recording.samples.items }
+at_rate rate recording = record {
+  kind = recording.kind;
+  samples = resampled recording.rate rate recording.kind recording.samples.items;
+}
 
 -- a recording is the sound of some bytes at each rate
 abbrev pub SoundsAs : Result Wav WavFault → Recording → Type 0

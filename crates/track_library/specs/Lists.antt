@@ -25,10 +25,11 @@ abbrev pub is_name : List ℕ → Bool
 is_name line = not (nat_eq (length line) 0) && not (nat_eq (slice_index line 0) 35) && is_utf8 line
 
 -- the names among these lines
-abbrev pub names_in : List (List ℕ) → List (List ℕ)
-names_in [] = []
-names_in (line ∷ lines) = if is_name (without_cr line) then without_cr line ∷ names_in lines else names_in lines
+abbrev pub names_among : List (List ℕ) → List (List ℕ)
+names_among [] = []
+names_among (line ∷ lines) = if is_name (without_cr line) then without_cr line ∷ names_among lines
+    else names_among lines
 
 -- the names in a list
-abbrev pub names_of : List ℕ → List (List ℕ)
-names_of bytes = names_in (lines (without_mark bytes))
+abbrev pub names_listed : List ℕ → List (List ℕ)
+names_listed bytes = names_among (lines (without_mark bytes))

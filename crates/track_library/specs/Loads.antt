@@ -20,8 +20,8 @@ use Rattle.track_library.specs.declared.walk.Walk.{Walk}
 abbrev pub rules_for : Plan → Sizes → Rules
 rules_for plan sizes = record { rate = plan.rate; file = sizes.file; all = sizes.all }
 
--- these are the audio files of the nodes: where the shelf tells its files, those of the definition; and whatever it tells, each
--- node has a leaf, and that of a `single` has one file
+-- these are the audio files of the nodes: where the shelf tells its files, those of the definition; and whatever it
+-- tells, each node has a leaf, and that of a `single` has one file
 pub record AreLoaded (told : Option Files) (rules : Rules) (nodes : List Node) (library : Sounds) : Type 0 where
   pub loaded : ForSome told (λ files. load_of rules files nodes ≡ Ok library)
   pub leaves : length library.leaves ≡ length nodes
@@ -32,10 +32,13 @@ pub record AreLoaded (told : Option Files) (rules : Rules) (nodes : List Node) (
 abbrev pub LoadEnds : (old new : ShelfTold) → Rules → List Node → LoadFault → Type 0
 LoadEnds old new rules nodes = Ends old new (λ files. LoadReads rules files nodes) (λ files. load_of rules files nodes)
 
--- the nodes were walked from nothing read on. Where the shelf tells its files, this was read and these are the leaves, by the definition; and
--- whatever it tells, each node has a leaf of files that are used, and that of a `single` has one file
-pub record HaveWalked (told : Option Files) (rules : Rules) (nodes : List Node) (walk : Walk) (leaves : List (List ℕ)) : Type 0 where
-  pub walked : ForSome told (λ files. nodes_walked rules files nodes (Ok (nothing_met, [])) ≡ Ok (walked_of walk, leaves))
+-- the nodes were walked from nothing read on. Where the shelf tells its files, this was read and these are the leaves,
+-- by the definition; and whatever it tells, each node has a leaf of files that are used, and that of a `single` has one
+-- file
+pub record HaveWalked (told : Option Files) (rules : Rules) (nodes : List Node) (walk : Walk)
+    (leaves : List (List ℕ)) : Type 0 where
+  pub walked : ForSome told (λ files. nodes_walked rules files nodes (Ok (nothing_met, []))
+      ≡ Ok (walked_of walk, leaves))
   pub heard : IsHeard (heard_of walk.audio)
   pub below : All (All (λ number. number < length walk.audio.files.items)) leaves
   pub few : All (λ leaf. length leaf < 2 ^ 32) leaves

@@ -6,20 +6,22 @@ use Rattle.plan_core.specs.declared.node.Op.{Op}
 use Rattle.plan_core.specs.declared.node.Op.TheVariants.{Single, Playlist, Blank, Square, Fail, Fallback, Switch, Sequence, Rotate, Random, Add, Amplify, Mean, Stereo, Crossfade, Buffer, Clock}
 use Rattle.track_library.specs.declared.rules.Rules.{Rules}
 use Rattle.track_library.specs.declared.fault.LoadFault.{LoadFault}
-use Rattle.track_library.specs.Walk.{Heard, Walked, entry_next, node_next, nothing_met, use_list, value_of}
+use Rattle.track_library.specs.Walk.{Heard, Walked, entry_next, node_next, nothing_met, use_list, entry_of}
 
 -- a name that was not met before is read
 abbrev pub FirstRead : {V : Type 0} → List (List ℕ × V) → List ℕ → List ℕ → Type 0
-FirstRead met name read = (read ≡ name) × (value_of name met ≡ None)
+FirstRead met name read = (read ≡ name) × (entry_of name met ≡ None)
 
 -- the entries of a list: the next one is read, or one behind it, where the next one has no fault
 abbrev pub EntriesRead : Rules → Files → List (List ℕ) → Result (Heard × List ℕ) LoadFault → List ℕ → Type 0
 EntriesRead rules files [] played read = ⊥
 EntriesRead rules files (name ∷ names) (Err fault) read = ⊥
 EntriesRead rules files (name ∷ names) (Ok (heard, leaf)) read =
-    FirstRead heard.names name read ⊎ EntriesRead rules files names (entry_next rules files name (Ok (heard, leaf))) read
+    FirstRead heard.names name read
+    ⊎ EntriesRead rules files names (entry_next rules files name (Ok (heard, leaf))) read
 
-abbrev pub PlaylistReads : Rules → Files → Heard → Result (List (List ℕ × List (List ℕ)) × List (List ℕ)) LoadFault → List ℕ → Type 0
+abbrev pub PlaylistReads : Rules → Files → Heard → Result (List (List ℕ × List (List ℕ)) × List (List ℕ)) LoadFault
+    → List ℕ → Type 0
 PlaylistReads rules files heard (Err fault) read = ⊥
 PlaylistReads rules files heard (Ok (lists, names)) read = EntriesRead rules files names (Ok (heard, [])) read
 
@@ -49,7 +51,8 @@ abbrev pub NodesRead : Rules → Files → List Node → Result (Walked × List 
 NodesRead rules files [] walked read = ⊥
 NodesRead rules files (node ∷ nodes) (Err fault) read = ⊥
 NodesRead rules files (node ∷ nodes) (Ok (walked, leaves)) read =
-    LeafReads rules files node.op walked read ⊎ NodesRead rules files nodes (node_next rules files node (Ok (walked, leaves))) read
+    LeafReads rules files node.op walked read
+    ⊎ NodesRead rules files nodes (node_next rules files node (Ok (walked, leaves))) read
 
 -- loading a plan reads the file of this name
 abbrev pub LoadReads : Rules → Files → List Node → List ℕ → Type 0

@@ -10,4 +10,5 @@ HasOne op leaf = (file : List ℕ) → op ≡ Single file → length leaf ≡ 1
 
 -- so it is of each of these nodes
 abbrev pub HaveSingles : List Node → (leaves : List (List ℕ)) → Type 0
-HaveSingles nodes leaves = (i : ℕ) (node : Node) (file : List ℕ) → slice_get nodes i ≡ Some node → node.op ≡ Single file → length (slice_index_or leaves i []) ≡ 1
+HaveSingles nodes leaves = (i : ℕ) (node : Node) (file : List ℕ) → slice_get nodes i ≡ Some node → node.op ≡ Single file
+    → length (slice_index_or leaves i []) ≡ 1

@@ -32,7 +32,12 @@ abbrev pub listed : List (String Global × Vec (List ℕ) Global) → List (List
 listed entries = map (λ e. (string_bytes e.0, e.1.items)) entries
 
 abbrev pub heard_of : AudioFiles → Heard
-heard_of audio = record { names = named audio.names.entries; sounds = audio.files.items; titles = audio.titles.items; bytes = audio.bytes }
+heard_of audio = record {
+  names = named audio.names.entries;
+  sounds = audio.files.items;
+  titles = audio.titles.items;
+  bytes = audio.bytes;
+}
 
 abbrev pub lists_of : ReadLists → List (List ℕ × List (List ℕ))
 lists_of read = listed read.lists.entries
@@ -41,7 +46,8 @@ lists_of read = listed read.lists.entries
 abbrev pub names_at : List (List ℕ × List (List ℕ)) → ℕ → List (List ℕ)
 names_at lists at = (slice_index_or lists at ([], [])).1
 
--- each number that a name has is that of a sound, each sound has whole blocks, at least one, and a name, and there are fewer than 2^32
+-- each number that a name has is that of a sound, each sound has whole blocks, at least one, and a name, and there are
+-- fewer than 2^32
 pub record IsHeard (heard : Heard) : Type 0 where
   pub numbers : All (λ e. IfOk e.1 (λ number. number < length heard.sounds)) heard.names
   pub sounds : All IsSound heard.sounds

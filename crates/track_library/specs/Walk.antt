@@ -11,12 +11,12 @@ use Rattle.plan_core.specs.declared.node.Op.{Op}
 use Rattle.plan_core.specs.declared.node.Op.TheVariants.{Single, Playlist, Blank, Square, Fail, Fallback, Switch, Sequence, Rotate, Random, Add, Amplify, Mean, Stereo, Crossfade, Buffer, Clock}
 use Rattle.wav_io.specs.Reading.{Wav, read_of}
 use Rattle.resample.specs.Resampled.{resampled}
-use Rattle.frame_core.specs.Bytes.{samples_in}
+use Rattle.frame_core.specs.Bytes.{samples_from}
 use Rattle.sample_bytes.specs.Wide.{wide_samples_in}
 use Rattle.frame_core.specs.Library.{Sounds}
 use Rattle.frame_core.specs.Sounds.{Sound}
 use Rattle.wav_io.specs.declared.fault.WavFault.{WavFault}
-use Rattle.track_library.specs.Lists.{names_of}
+use Rattle.track_library.specs.Lists.{names_listed}
 use Rattle.track_library.specs.declared.rules.Rules.{Rules}
 use Rattle.track_library.specs.declared.fault.LoadFault.{LoadFault}
 use Rattle.track_library.specs.declared.fault.LoadFault.TheVariants.{Missing, BadAudio, FileTooLarge, AllTooLarge, ReadFault, Memory}
@@ -35,11 +35,14 @@ items_of (Ok bytes) = Ok bytes.items
 
 -- the samples of a WAV file: of three bytes each the upper two, or of two bytes
 abbrev pub samples_at : Bool → List ℕ → List ℤ
-samples_at wide bytes = if wide then wide_samples_in bytes else samples_in bytes
+samples_at wide bytes = if wide then wide_samples_in bytes else samples_from bytes
 
 -- the sound of a WAV file, changed to the rate of the script
 abbrev pub sound_of : ℕ → Wav → Sound
-sound_of rate wav = record { kind = wav.kind; samples = resampled wav.rate rate wav.kind (samples_at wav.wide wav.body) }
+sound_of rate wav = record {
+  kind = wav.kind;
+  samples = resampled wav.rate rate wav.kind (samples_at wav.wide wav.body);
+}
 
 -- how many bytes a file of so many counts for: these, or those that a file with this sound has, whichever are more
 abbrev pub counted_bytes : ℕ → Sound → ℕ
@@ -56,21 +59,22 @@ of_at_most most audio = if nat_le audio.1 most then Ok audio else Err TooLong
 -- the audio of these bytes, as they were read
 abbrev pub audio_in : Rules → List ℕ → Result Wav WavFault → Result Audio Unusable
 audio_in rules bytes (Err fault) = Err (NotWav fault)
-audio_in rules bytes (Ok wav) = of_at_most rules.file (sound_of rules.rate wav, counted_bytes (length bytes) (sound_of rules.rate wav))
+audio_in rules bytes (Ok wav) = of_at_most rules.file
+    (sound_of rules.rate wav, counted_bytes (length bytes) (sound_of rules.rate wav))
 
-abbrev pub opened : Rules → Result (List ℕ) Unusable → Result Audio Unusable
-opened rules (Err fault) = Err fault
-opened rules (Ok bytes) = audio_in rules bytes (read_of bytes)
+abbrev pub audio_opened : Rules → Result (List ℕ) Unusable → Result Audio Unusable
+audio_opened rules (Err fault) = Err fault
+audio_opened rules (Ok bytes) = audio_in rules bytes (read_of bytes)
 
 -- an audio file that can be used: it is there, has no more bytes than one may, is a WAV file, and counts for no more
 -- than one may; else what it breaks first
 abbrev pub audio_at : Rules → Files → List ℕ → Result Audio Unusable
-audio_at rules files name = opened rules (bytes_in rules.file (file_at files name))
+audio_at rules files name = audio_opened rules (bytes_in rules.file (file_at files name))
 
 -- what stands first under a name
-abbrev pub value_of : {V : Type 0} → List ℕ → List (List ℕ × V) → Option V
-value_of name [] = None
-value_of name (entry ∷ entries) = if bytes_eq name entry.0 then Some entry.1 else value_of name entries
+abbrev pub entry_of : {V : Type 0} → List ℕ → List (List ℕ × V) → Option V
+entry_of name [] = None
+entry_of name (entry ∷ entries) = if bytes_eq name entry.0 then Some entry.1 else entry_of name entries
 
 -- the audio files that were met: what each name is, which is the number of a sound or a fault; the sounds that are
 -- used, in the order in which they were met, with the names of their files; and how many bytes these count for
@@ -82,19 +86,36 @@ pub record Heard : Type 0 where
 
 -- a name that was not met before: a sound is used, if what its file counts for fits beside the others
 abbrev pub first_use : ℕ → Heard → List ℕ → Result Audio Unusable → Result (Heard × Result ℕ Unusable) LoadFault
-first_use all heard name (Err fault) = Ok (record { names = heard.names ++ (name, Err fault) ∷ []; sounds = heard.sounds; titles = heard.titles; bytes = heard.bytes }, Err fault)
+first_use all heard name (Err fault) = Ok (
+  record {
+    names = heard.names ++ (name, Err fault) ∷ [];
+    sounds = heard.sounds;
+    titles = heard.titles;
+    bytes = heard.bytes;
+  },
+  Err fault,
+)
 first_use all heard name (Ok audio) =
     if nat_le (heard.bytes + audio.1) all then
-    Ok (record { names = heard.names ++ (name, Ok (length heard.sounds)) ∷ []; sounds = heard.sounds ++ audio.0 ∷ []; titles = heard.titles ++ name ∷ []; bytes = heard.bytes + audio.1 }, Ok (length heard.sounds))
+    Ok (
+      record {
+        names = heard.names ++ (name, Ok (length heard.sounds)) ∷ [];
+        sounds = heard.sounds ++ audio.0 ∷ [];
+        titles = heard.titles ++ name ∷ [];
+        bytes = heard.bytes + audio.1;
+      },
+      Ok (length heard.sounds),
+    )
     else Err AllTooLarge
 
 -- what a name is: a name that was met before is what it was
-abbrev pub use_of : ℕ → Heard → List ℕ → Option (Result ℕ Unusable) → Result Audio Unusable → Result (Heard × Result ℕ Unusable) LoadFault
+abbrev pub use_of : ℕ → Heard → List ℕ → Option (Result ℕ Unusable) → Result Audio Unusable
+    → Result (Heard × Result ℕ Unusable) LoadFault
 use_of all heard name (Some found) audio = Ok (heard, found)
 use_of all heard name None audio = first_use all heard name audio
 
 abbrev pub use_audio : Rules → Files → Heard → List ℕ → Result (Heard × Result ℕ Unusable) LoadFault
-use_audio rules files heard name = use_of rules.all heard name (value_of name heard.names) (audio_at rules files name)
+use_audio rules files heard name = use_of rules.all heard name (entry_of name heard.names) (audio_at rules files name)
 
 -- the fault that is told of a file that cannot be used
 abbrev pub told_fault : List ℕ → Unusable → LoadFault
@@ -119,14 +140,15 @@ entry_next rules files name (Err fault) = Err fault
 entry_next rules files name (Ok (heard, leaf)) = entry_played leaf (use_audio rules files heard name)
 
 -- the entries of a list, one after another
-abbrev pub entries_played : Rules → Files → List (List ℕ) → Result (Heard × List ℕ) LoadFault → Result (Heard × List ℕ) LoadFault
+abbrev pub entries_played : Rules → Files → List (List ℕ) → Result (Heard × List ℕ) LoadFault
+    → Result (Heard × List ℕ) LoadFault
 entries_played rules files [] played = played
 entries_played rules files (name ∷ names) played = entries_played rules files names (entry_next rules files name played)
 
 -- the names of a list, which is there and has at most 1048576 bytes
 abbrev pub list_in : List ℕ → Result (List ℕ) Unusable → Result (List (List ℕ)) LoadFault
 list_in name (Err fault) = Err (told_fault name fault)
-list_in name (Ok bytes) = Ok (names_of bytes)
+list_in name (Ok bytes) = Ok (names_listed bytes)
 
 -- the lists that were read, and the audio files that were met
 pub record Walked : Type 0 where
@@ -145,22 +167,29 @@ abbrev pub list_of : List (List ℕ × List (List ℕ)) → List ℕ → Option 
 list_of lists name (Some names) fresh = Ok (lists, names)
 list_of lists name None fresh = first_list lists name fresh
 
-abbrev pub use_list : Files → List (List ℕ × List (List ℕ)) → List ℕ → Result (List (List ℕ × List (List ℕ)) × List (List ℕ)) LoadFault
-use_list files lists name = list_of lists name (value_of name lists) (list_in name (bytes_in (2 ^ 20) (file_at files name)))
+abbrev pub use_list : Files → List (List ℕ × List (List ℕ)) → List ℕ
+    → Result (List (List ℕ × List (List ℕ)) × List (List ℕ)) LoadFault
+use_list files lists name = list_of lists name (entry_of name lists)
+    (list_in name (bytes_in (2 ^ 20) (file_at files name)))
 
-abbrev pub with_lists : List (List ℕ × List (List ℕ)) → Result (Heard × List ℕ) LoadFault → Result (Walked × List ℕ) LoadFault
+abbrev pub with_lists : List (List ℕ × List (List ℕ)) → Result (Heard × List ℕ) LoadFault
+    → Result (Walked × List ℕ) LoadFault
 with_lists lists (Err fault) = Err fault
 with_lists lists (Ok (heard, leaf)) = Ok (record { lists = lists; heard = heard }, leaf)
 
 -- a `playlist` plays those entries of its list that can be used
-abbrev pub playlist_leaf : Rules → Files → Heard → Result (List (List ℕ × List (List ℕ)) × List (List ℕ)) LoadFault → Result (Walked × List ℕ) LoadFault
+abbrev pub playlist_leaf : Rules → Files → Heard → Result (List (List ℕ × List (List ℕ)) × List (List ℕ)) LoadFault
+    → Result (Walked × List ℕ) LoadFault
 playlist_leaf rules files heard (Err fault) = Err fault
-playlist_leaf rules files heard (Ok (lists, names)) = with_lists lists (entries_played rules files names (Ok (heard, [])))
+playlist_leaf rules files heard (Ok (lists, names)) = with_lists lists
+    (entries_played rules files names (Ok (heard, [])))
 
 -- the files that a node plays
 abbrev pub leaf_of : Rules → Files → Op → Walked → Result (Walked × List ℕ) LoadFault
-leaf_of rules files (Single name) walked = with_lists walked.lists (single_leaf name (use_audio rules files walked.heard name))
-leaf_of rules files (Playlist name again) walked = playlist_leaf rules files walked.heard (use_list files walked.lists name)
+leaf_of rules files (Single name) walked = with_lists walked.lists
+    (single_leaf name (use_audio rules files walked.heard name))
+leaf_of rules files (Playlist name again) walked = playlist_leaf rules files walked.heard
+    (use_list files walked.lists name)
 leaf_of rules files (Blank track) walked = Ok (walked, [])
 leaf_of rules files (Square pitch) walked = Ok (walked, [])
 leaf_of rules files Fail walked = Ok (walked, [])
@@ -181,29 +210,36 @@ abbrev pub leaf_added : List (List ℕ) → Result (Walked × List ℕ) LoadFaul
 leaf_added leaves (Err fault) = Err fault
 leaf_added leaves (Ok (walked, leaf)) = Ok (walked, leaves ++ leaf ∷ [])
 
-abbrev pub node_next : Rules → Files → Node → Result (Walked × List (List ℕ)) LoadFault → Result (Walked × List (List ℕ)) LoadFault
+abbrev pub node_next : Rules → Files → Node → Result (Walked × List (List ℕ)) LoadFault
+    → Result (Walked × List (List ℕ)) LoadFault
 node_next rules files node (Err fault) = Err fault
 node_next rules files node (Ok (walked, leaves)) = leaf_added leaves (leaf_of rules files node.op walked)
 
 -- the nodes, one after another
-abbrev pub nodes_walked : Rules → Files → List Node → Result (Walked × List (List ℕ)) LoadFault → Result (Walked × List (List ℕ)) LoadFault
+abbrev pub nodes_walked : Rules → Files → List Node → Result (Walked × List (List ℕ)) LoadFault
+    → Result (Walked × List (List ℕ)) LoadFault
 nodes_walked rules files [] walked = walked
 nodes_walked rules files (node ∷ nodes) walked = nodes_walked rules files nodes (node_next rules files node walked)
 
-abbrev pub sounds_of : Result (Walked × List (List ℕ)) LoadFault → Result Sounds LoadFault
-sounds_of (Err fault) = Err fault
-sounds_of (Ok (walked, leaves)) = Ok (record { files = walked.heard.sounds; names = walked.heard.titles; leaves = leaves })
+abbrev pub sounds_or_fault : Result (Walked × List (List ℕ)) LoadFault → Result Sounds LoadFault
+sounds_or_fault (Err fault) = Err fault
+sounds_or_fault (Ok (walked, leaves)) = Ok (record {
+  files = walked.heard.sounds;
+  names = walked.heard.titles;
+  leaves = leaves;
+})
 
 abbrev pub nothing_met : Walked
 nothing_met = record { lists = []; heard = record { names = []; sounds = []; titles = []; bytes = 0 } }
 
 -- the library of a plan, or the first fault of the walk
 abbrev pub load_of : Rules → Files → List Node → Result Sounds LoadFault
-load_of rules files nodes = sounds_of (nodes_walked rules files nodes (Ok (nothing_met, [])))
+load_of rules files nodes = sounds_or_fault (nodes_walked rules files nodes (Ok (nothing_met, [])))
 
 -- why a step ends with this fault: a read that failed let the count of failed reads rise, and is one of those of the
 -- step; memory may be refused anywhere; every other fault is the one of the files, where they are told
-abbrev pub Ends : {X : Type 0} → (old new : ShelfTold) → (Files → List ℕ → Type 0) → (Files → Result X LoadFault) → LoadFault → Type 0
+abbrev pub Ends : {X : Type 0} → (old new : ShelfTold) → (Files → List ℕ → Type 0) → (Files → Result X LoadFault)
+    → LoadFault → Type 0
 Ends old new reads step (Missing name) = ForSome old.files (λ files. step files ≡ Err (Missing name))
 Ends old new reads step (BadAudio name fault) = ForSome old.files (λ files. step files ≡ Err (BadAudio name fault))
 Ends old new reads step (FileTooLarge name) = ForSome old.files (λ files. step files ≡ Err (FileTooLarge name))

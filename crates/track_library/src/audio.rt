@@ -2,7 +2,7 @@
 ghost use Rattle.std.specs.Prelude.{◌≡◌, ◌≤◌, ◌<◌, ◌+◌, ◌^◌, ◌++◌, ◌∷◌, [], length, Ok, Err, None, Some, IfOk, IfErr, OnOk};
 ghost use Rattle.std.specs.Option.{ForSome};
 ghost use Rattle.frame_core.specs.Sounds.{IsSound};
-ghost use Rattle.track_library.specs.Walk.{Ends, EndsAt, first_use, use_audio, value_of};
+ghost use Rattle.track_library.specs.Walk.{Ends, EndsAt, first_use, use_audio, entry_of};
 ghost use Rattle.track_library.specs.Reads.{FirstRead};
 ghost use Rattle.track_library.specs.States.{heard_of, AreRules, Finds, IsHeard};
 ghost use Rattle.liq_base.specs.Shelves.{OnlyRead};
@@ -34,7 +34,7 @@ pub struct AudioFiles {
 impl AudioFiles {
     /// What this name is, if it was met before.
     fn known(&self, name: &str) -> Option<Result<u32, Unusable>>
-        ensures { result ≡ value_of name.now (heard_of self.now).names }
+        ensures { result ≡ entry_of name.now (heard_of self.now).names }
     {
         self.names.get(name).copied()
     }
@@ -46,8 +46,11 @@ impl AudioFiles {
         name: &str,
         found: Result<u32, Unusable>,
     ) -> Result<(), Memory>
-        requires { value_of name.now (heard_of self.old).names ≡ None }
-        ensures { OnOk result (heard_of self.new ≡ record (heard_of self.old) { names = (heard_of self.old).names ++ (name.now, found) ∷ [] }) }
+        requires { entry_of name.now (heard_of self.old).names ≡ None }
+        ensures { OnOk result (heard_of self.new ≡ record (heard_of self.old) {
+          names = (heard_of self.old).names
+              ++ (name.now, found) ∷ [];
+        }) }
     {
         self.names.insert(String::from_str(alloc, name)?, found)?;
         Ok(())
@@ -57,7 +60,12 @@ impl AudioFiles {
     fn keep(&mut self, alloc: Global, name: &str, file: Undecoded) -> Result<u32, Memory>
         ensures number { IfOk result (λ number. number ≡ length (heard_of self.old).sounds) }
         ensures few { IfOk result (λ number. number + 1 < 2 ^ 32) }
-        ensures kept { OnOk result (heard_of self.new ≡ record (heard_of self.old) { sounds = (heard_of self.old).sounds ++ file ∷ []; titles = (heard_of self.old).titles ++ name.now ∷ [] }) }
+        ensures kept { OnOk result (heard_of self.new
+            ≡ record (heard_of self.old) {
+              sounds = (heard_of self.old).sounds ++ file
+                  ∷ [];
+              titles = (heard_of self.old).titles ++ name.now ∷ [];
+            }) }
     {
         let number = new_number(self.files.len())?;
         self.titles.push(Text::from_str(alloc, name)?)?;
@@ -75,8 +83,9 @@ impl AudioFiles {
     ) -> Result<Result<u32, Unusable>, LoadFault>
         requires heard { IsHeard (heard_of self.old) }
         requires sound { IfOk found (λ audio. IsSound audio.0) }
-        requires unknown { value_of name.now (heard_of self.old).names ≡ None }
-        ensures used { IfOk result (λ number. first_use all (heard_of self.old) name.now found ≡ Ok (heard_of self.new, number)) }
+        requires unknown { entry_of name.now (heard_of self.old).names ≡ None }
+        ensures used { IfOk result (λ number. first_use all (heard_of self.old) name.now found
+            ≡ Ok (heard_of self.new, number)) }
         ensures finds { IfOk result (λ number. Finds (heard_of self.old) (heard_of self.new) number) }
         ensures fault { IfErr result (EndsAt (first_use all (heard_of self.old) name.now found)) }
     {
@@ -107,9 +116,13 @@ impl AudioFiles {
     ) -> Result<Result<u32, Unusable>, LoadFault>
         requires heard { IsHeard (heard_of self.old) }
         requires rules { AreRules rules }
-        ensures used { IfOk result (λ found. ForSome (S.told shelf.old).files (λ files. use_audio rules files (heard_of self.old) name.now ≡ Ok (heard_of self.new, found))) }
+        ensures used { IfOk result
+            (λ found. ForSome (S.told shelf.old).files (λ files. use_audio rules files (heard_of self.old) name.now
+            ≡ Ok (heard_of self.new, found))) }
         ensures finds { IfOk result (λ found. Finds (heard_of self.old) (heard_of self.new) found) }
-        ensures fault { IfErr result (Ends (S.told shelf.old) (S.told shelf.new) (λ _. FirstRead (heard_of self.old).names name.now) (λ files. use_audio rules files (heard_of self.old) name.now)) }
+        ensures fault { IfErr result
+            (Ends (S.told shelf.old) (S.told shelf.new) (λ _. FirstRead (heard_of self.old).names name.now)
+            (λ files. use_audio rules files (heard_of self.old) name.now)) }
         ensures shelf { OnlyRead (S.told shelf.old) (S.told shelf.new) }
     {
         if let Some(found) = self.known(name) {

@@ -8,8 +8,8 @@ use std::alloc::{AllocError, AllocFailed, Global};
 use thiserror::Error;
 use wav_io::WavFault;
 
-/// Why the audio files of a plan are not loaded. Most faults carry the name of a file. No fault has the number 3 any more:
-/// a file of another rate than the script's is changed to it.
+/// Why the audio files of a plan are not loaded. Most faults carry the name of a file. No fault has the number 3 any
+/// more: a file of another rate than the script's is changed to it.
 #[derive(Debug, Drop, Error)]
 pub enum LoadFault {
     /// Fault 1: the file is not there.

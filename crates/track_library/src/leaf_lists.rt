@@ -11,8 +11,8 @@ use plan_core::Op;
 use std::alloc::Global;
 use std::marker::Model;
 
-/// The numbers of the files that each node so far plays, in order, as one list for each node. Nodes that play one list of
-/// audio files share it.
+/// The numbers of the files that each node so far plays, in order, as one list for each node. Nodes that play one list
+/// of audio files share it.
 #[derive(Drop)]
 pub struct LeafLists {
     lists: Vec<Vec<u32>>,
@@ -100,7 +100,8 @@ impl LeafLists {
 
 // The number of a list, if that list is this one.
 fn if_same(lists: &[Vec<u32>], number: Option<u32>, leaf: &[u32]) -> Option<u32>
-    ensures { IfSome result (λ number. (number < length lists.now) × (slice_index_or (map (λ v. v.items) lists.now) number [] ≡ leaf.now)) }
+    ensures { IfSome result (λ number. (number < length lists.now)
+        × (slice_index_or (map (λ v. v.items) lists.now) number [] ≡ leaf.now)) }
 {
     let number = number?;
     match lists.get(number as usize) {

@@ -1,6 +1,6 @@
 // Lists of audio files.
 ghost use Rattle.std.specs.Prelude.{◌≡◌, ◌<◌, ◌∷◌, false, true, length, IfOk, MatchOption};
-ghost use Rattle.track_library.specs.Lists.{is_name, lines, names_of, without_cr, without_mark};
+ghost use Rattle.track_library.specs.Lists.{is_name, lines, names_listed, without_cr, without_mark};
 
 use liq_base::{Memory, Text};
 use std::alloc::Global;
@@ -11,7 +11,7 @@ const MARK: [u8; 3] = [0xEF, 0xBB, 0xBF];
 /// The names in a list of audio files, in order. Lines end at LF or at the end; a CR at a line's end and a byte order
 /// mark at the start are no part of them. Lines that are empty, begin with `#` or are not UTF-8 are skipped.
 pub fn read_list(alloc: Global, bytes: &[u8]) -> Result<Vec<Text>, Memory>
-    ensures names { IfOk result (λ names. names.items ≡ names_of bytes.now) }
+    ensures names { IfOk result (λ names. names.items ≡ names_listed bytes.now) }
 {
     let mut names = Vec::new(alloc);
     let mut rest = cut_mark(bytes);

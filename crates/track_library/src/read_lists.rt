@@ -1,7 +1,7 @@
 // The lists that were read on the walk.
 ghost use Rattle.std.specs.Prelude.{◌≡◌, ◌≤◌, ◌<◌, ◌++◌, ◌∷◌, [], length, Ok, None, IfOk, IfErr, OnOk};
 ghost use Rattle.std.specs.Option.{ForSome};
-ghost use Rattle.track_library.specs.Walk.{Ends, use_list, value_of};
+ghost use Rattle.track_library.specs.Walk.{Ends, use_list, entry_of};
 ghost use Rattle.track_library.specs.Reads.{FirstRead};
 ghost use Rattle.track_library.specs.States.{lists_of, names_at};
 ghost use Rattle.liq_base.specs.Shelves.{OnlyRead};
@@ -28,9 +28,13 @@ impl ReadLists {
         shelf: &mut S,
         name: &str,
     ) -> Result<usize, LoadFault>
-        ensures used { IfOk result (λ at. ForSome (S.told shelf.old).files (λ files. use_list files (lists_of self.old) name.now ≡ Ok (lists_of self.new, names_at (lists_of self.new) at))) }
+        ensures used { IfOk result
+            (λ at. ForSome (S.told shelf.old).files (λ files. use_list files (lists_of self.old) name.now
+            ≡ Ok (lists_of self.new, names_at (lists_of self.new) at))) }
         ensures within { IfOk result (λ at. at < length (lists_of self.new)) }
-        ensures fault { IfErr result (Ends (S.told shelf.old) (S.told shelf.new) (λ _. FirstRead (lists_of self.old) name.now) (λ files. use_list files (lists_of self.old) name.now)) }
+        ensures fault { IfErr result
+            (Ends (S.told shelf.old) (S.told shelf.new) (λ _. FirstRead (lists_of self.old) name.now)
+            (λ files. use_list files (lists_of self.old) name.now)) }
         ensures shelf { OnlyRead (S.told shelf.old) (S.told shelf.new) }
     {
         if let Some(at) = self.lists.get_index_of(name) {
@@ -47,7 +51,7 @@ impl ReadLists {
 
     /// Adds a list that was not read before, and answers its place.
     fn add(&mut self, alloc: Global, name: &str, names: Vec<Text>) -> Result<usize, Memory>
-        requires { value_of name.now (lists_of self.old) ≡ None }
+        requires { entry_of name.now (lists_of self.old) ≡ None }
         ensures at { IfOk result (λ at. at ≡ length (lists_of self.old)) }
         ensures added { OnOk result (lists_of self.new ≡ lists_of self.old ++ (name.now, names.items) ∷ []) }
     {

@@ -28,7 +28,8 @@ pub fn fetch<S: Shelf>(
     name: &str,
     most: u64,
 ) -> Result<Result<Vec<u8>, Unusable>, LoadFault>
-    ensures fetched { IfOk result (λ found. ForSome (S.told shelf.old).files (λ files. bytes_in most (file_at files name.now) ≡ items_of found)) }
+    ensures fetched { IfOk result
+        (λ found. ForSome (S.told shelf.old).files (λ files. bytes_in most (file_at files name.now) ≡ items_of found)) }
     ensures few { IfOk result (λ found. IfOk found (λ bytes. length bytes.items ≤ most)) }
     ensures fault { IfErr result (λ fault. IsReading name.now (S.told shelf.old) (S.told shelf.new) fault) }
     ensures shelf { OnlyRead (S.told shelf.old) (S.told shelf.new) }
@@ -127,7 +128,8 @@ pub fn read_audio<S: Shelf>(
     rules: Rules,
 ) -> Result<Result<(Undecoded, u64), Unusable>, LoadFault>
     requires { AreRules rules }
-    ensures audio { IfOk result (λ found. ForSome (S.told shelf.old).files (λ files. audio_at rules files name.now ≡ found)) }
+    ensures audio { IfOk result (λ found. ForSome (S.told shelf.old).files (λ files. audio_at rules files name.now
+        ≡ found)) }
     ensures sound { IfOk result (λ found. IfOk found (λ audio. IsSound audio.0)) }
     ensures fault { IfErr result (λ fault. IsReading name.now (S.told shelf.old) (S.told shelf.new) fault) }
     ensures shelf { OnlyRead (S.told shelf.old) (S.told shelf.new) }

@@ -43,8 +43,8 @@ pub fn record(alloc: Global, bytes: Vec<u8>) -> Result<Recording, Memory>
     })
 }
 
-/// The track of a recording at this rate, from 8000 to 192000 samples a second. The samples at another rate are given back
-/// once they are changed.
+/// The track of a recording at this rate, from 8000 to 192000 samples a second. The samples at another rate are given
+/// back once they are changed.
 pub fn track_at(alloc: Global, recording: Recording, rate: u32) -> Result<Track, Memory>
     requires recording { IsRecording recording }
     requires least { 8000 ≤ rate }

@@ -1,5 +1,5 @@
 // The samples of an audio file.
-ghost use Rattle.frame_core.specs.Bytes.{samples_in};
+ghost use Rattle.frame_core.specs.Bytes.{samples_from};
 ghost use Rattle.sample_bytes.specs.Wide.{wide_samples_in};
 ghost use Rattle.std.specs.Prelude.{◌≡◌, IfOk};
 ghost use Rattle.track_library.specs.Walk.{samples_at};
@@ -11,7 +11,7 @@ use std::alloc::Global;
 /// The samples of so many whole blocks, in the order in which they stand: signed, of 16 bits, the lower byte first. Of
 /// the bytes an odd one at the end is left out. They are the only copy that it makes.
 pub fn read_samples(alloc: Global, blocks: &[u8]) -> Result<Vec<i16>, Memory>
-    ensures samples { IfOk result (λ samples. samples.items ≡ samples_in blocks.now) }
+    ensures samples { IfOk result (λ samples. samples.items ≡ samples_from blocks.now) }
 {
     let count = blocks.len() / 2;
     let mut samples = vec![in alloc; 0i16; count]?;
@@ -20,8 +20,8 @@ pub fn read_samples(alloc: Global, blocks: &[u8]) -> Result<Vec<i16>, Memory>
     Ok(samples)
 }
 
-/// The samples of so many whole blocks of 24 bits, of which the lowest byte is dropped. Of the bytes one or two at the end
-/// are left out. They are the only copy that it makes.
+/// The samples of so many whole blocks of 24 bits, of which the lowest byte is dropped. Of the bytes one or two at the
+/// end are left out. They are the only copy that it makes.
 fn read_wide(alloc: Global, blocks: &[u8]) -> Result<Vec<i16>, Memory>
     ensures samples { IfOk result (λ samples. samples.items ≡ wide_samples_in blocks.now) }
 {

@@ -10,8 +10,8 @@ use liq_base::Memory;
 use std::alloc::Global;
 use std::marker::Model;
 
-/// An audio file that is used, as its sound at the rate of the script. Its bytes are kept as they were read, and no memory
-/// is taken for its samples.
+/// An audio file that is used, as its sound at the rate of the script. Its bytes are kept as they were read, and no
+/// memory is taken for its samples.
 #[derive(Drop)]
 pub struct Undecoded {
     bytes: Vec<u8>,

@@ -57,8 +57,12 @@ impl Walk {
     ) -> Result<Vec<u32>, LoadFault>
         requires heard { IsHeard (heard_of self.old.audio) }
         requires rules { AreRules rules }
-        ensures leaf { IfOk result (λ leaf. ForSome (S.told shelf.old).files (λ files. leaf_of rules files op.now (walked_of self.old) ≡ Ok (walked_of self.new, leaf.items))) }
-        ensures fault { IfErr result (Ends (S.told shelf.old) (S.told shelf.new) (λ files. LeafReads rules files op.now (walked_of self.old)) (λ files. leaf_of rules files op.now (walked_of self.old))) }
+        ensures leaf { IfOk result
+            (λ leaf. ForSome (S.told shelf.old).files (λ files. leaf_of rules files op.now (walked_of self.old)
+            ≡ Ok (walked_of self.new, leaf.items))) }
+        ensures fault { IfErr result
+            (Ends (S.told shelf.old) (S.told shelf.new) (λ files. LeafReads rules files op.now (walked_of self.old))
+            (λ files. leaf_of rules files op.now (walked_of self.old))) }
         ensures plays { IfOk result (λ leaf. Plays (heard_of self.old.audio) (heard_of self.new.audio) leaf.items) }
         ensures single { IfOk result (λ leaf. HasOne op.now leaf.items) }
         ensures shelf { OnlyRead (S.told shelf.old) (S.told shelf.new) }
@@ -78,7 +82,11 @@ impl Walk {
         requires heard { IsHeard (heard_of self.audio) }
         requires below { All (All (λ number. number < length self.audio.files.items)) leaves }
         requires few { All (λ leaf. length leaf < 2 ^ 32) leaves }
-        ensures same { result ≡ record { files = self.audio.files.items; names = self.audio.titles.items; leaves = leaves } }
+        ensures same { result ≡ record {
+          files = self.audio.files.items;
+          names = self.audio.titles.items;
+          leaves = leaves;
+        } }
         ensures library { IsLibrary result }
     {
         let Walk { lists: _, audio } = self;
@@ -92,8 +100,8 @@ impl Walk {
     }
 }
 
-/// The audio files of a plan: for each of its nodes those that it plays, each of them once, and each changed to the rate
-/// of the plan. All of them are read, and whether they may be loaded is known, before one is decoded.
+/// The audio files of a plan: for each of its nodes those that it plays, each of them once, and each changed to the
+/// rate of the plan. All of them are read, and whether they may be loaded is known, before one is decoded.
 pub fn load<S: Shelf>(
     alloc: Global,
     plan: &Plan,
@@ -102,7 +110,8 @@ pub fn load<S: Shelf>(
 ) -> Result<Library, LoadFault>
     requires { AreRules (rules_for plan.now sizes) }
     ensures loaded { IfOk result (AreLoaded (S.told shelf.old).files (rules_for plan.now sizes) plan.now.nodes) }
-    ensures fault { IfErr result (LoadEnds (S.told shelf.old) (S.told shelf.new) (rules_for plan.now sizes) plan.now.nodes) }
+    ensures fault { IfErr result
+        (LoadEnds (S.told shelf.old) (S.told shelf.new) (rules_for plan.now sizes) plan.now.nodes) }
     ensures shelf { OnlyRead (S.told shelf.old) (S.told shelf.new) }
 {
     let files = find_files(alloc, plan, shelf, sizes)?;
@@ -118,7 +127,8 @@ pub fn find_files<S: Shelf>(
 ) -> Result<PlanFiles, LoadFault>
     requires { AreRules (rules_for plan.now sizes) }
     ensures loaded { IfOk result (AreLoaded (S.told shelf.old).files (rules_for plan.now sizes) plan.now.nodes) }
-    ensures fault { IfErr result (LoadEnds (S.told shelf.old) (S.told shelf.new) (rules_for plan.now sizes) plan.now.nodes) }
+    ensures fault { IfErr result
+        (LoadEnds (S.told shelf.old) (S.told shelf.new) (rules_for plan.now sizes) plan.now.nodes) }
     ensures shelf { OnlyRead (S.told shelf.old) (S.told shelf.new) }
 {
     let rules = Rules {
@@ -165,8 +175,13 @@ fn find_single<S: Shelf>(
 ) -> Result<Vec<u32>, LoadFault>
     requires heard { IsHeard (heard_of audio.old) }
     requires rules { AreRules rules }
-    ensures leaf { IfOk result (λ leaf. ForSome (S.told shelf.old).files (λ files. single_leaf name.now (use_audio rules files (heard_of audio.old) name.now) ≡ Ok (heard_of audio.new, leaf.items))) }
-    ensures fault { IfErr result (Ends (S.told shelf.old) (S.told shelf.new) (λ _. FirstRead (heard_of audio.old).names name.now) (λ files. single_leaf name.now (use_audio rules files (heard_of audio.old) name.now))) }
+    ensures leaf { IfOk result
+        (λ leaf. ForSome (S.told shelf.old).files
+        (λ files. single_leaf name.now (use_audio rules files (heard_of audio.old) name.now)
+        ≡ Ok (heard_of audio.new, leaf.items))) }
+    ensures fault { IfErr result
+        (Ends (S.told shelf.old) (S.told shelf.new) (λ _. FirstRead (heard_of audio.old).names name.now)
+        (λ files. single_leaf name.now (use_audio rules files (heard_of audio.old) name.now))) }
     ensures plays { IfOk result (λ leaf. Plays (heard_of audio.old) (heard_of audio.new) leaf.items) }
     ensures one { IfOk result (λ leaf. length leaf.items ≡ 1) }
     ensures shelf { OnlyRead (S.told shelf.old) (S.told shelf.new) }
@@ -201,8 +216,14 @@ fn play_entries<S: Shelf>(
 ) -> Result<Vec<u32>, LoadFault>
     requires heard { IsHeard (heard_of audio.old) }
     requires rules { AreRules rules }
-    ensures leaf { IfOk result (λ leaf. ForSome (S.told shelf.old).files (λ files. entries_played rules files names.now (Ok (heard_of audio.old, [])) ≡ Ok (heard_of audio.new, leaf.items))) }
-    ensures fault { IfErr result (Ends (S.told shelf.old) (S.told shelf.new) (λ files. EntriesRead rules files names.now (Ok (heard_of audio.old, []))) (λ files. entries_played rules files names.now (Ok (heard_of audio.old, [])))) }
+    ensures leaf { IfOk result
+        (λ leaf. ForSome (S.told shelf.old).files
+        (λ files. entries_played rules files names.now (Ok (heard_of audio.old, []))
+        ≡ Ok (heard_of audio.new, leaf.items))) }
+    ensures fault { IfErr result
+        (Ends (S.told shelf.old) (S.told shelf.new)
+        (λ files. EntriesRead rules files names.now (Ok (heard_of audio.old, [])))
+        (λ files. entries_played rules files names.now (Ok (heard_of audio.old, [])))) }
     ensures plays { IfOk result (λ leaf. Plays (heard_of audio.old) (heard_of audio.new) leaf.items) }
     ensures shelf { OnlyRead (S.told shelf.old) (S.told shelf.new) }
 {

@@ -5,7 +5,7 @@ use Rattle.type_terms.specs.Ground.{Assignment}
 use Rattle.type_terms.specs.Table.{Table}
 use Rattle.type_terms.specs.Term.{kind_meaning}
 use Rattle.type_terms.specs.declared.ty.KindTerm.{KindTerm}
-use Rattle.typing_rules.specs.Kinds.{kind_at, kinds_of, put}
+use Rattle.typing_rules.specs.Kinds.{known_kind, kinds_of, put}
 use Rattle.typing_rules.specs.Scripts.{Places}
 use Rattle.typing_rules.specs.declared.uses.KindOf.{KindOf}
 use Rattle.typing_rules.specs.declared.uses.Use.{Use}
@@ -27,13 +27,13 @@ front_of : (given : List Kind) (ws : List KindOf) (xs ys : List Kind) → kinds_
 front_of given ws [] ys e = refl
 front_of given [] (x ∷ xs) ys e = absurd cc
 front_of given (w ∷ ws) (x ∷ xs) ys e =
-    let p = put_parts (kind_at given w) (kinds_of given ws) x (xs ++ ys) e in
+    let p = put_parts (known_kind given w) (kinds_of given ws) x (xs ++ ys) e in
     ap₂ put p.0 (front_of given ws xs ys p.1)
 
 rest_of : (given : List Kind) (ws : List KindOf) (xs ys : List Kind) → kinds_of given ws ≡ Some (xs ++ ys) → kinds_of given (drop (length xs) ws) ≡ Some ys
 rest_of given ws [] ys e = e
 rest_of given [] (x ∷ xs) ys e = absurd cc
-rest_of given (w ∷ ws) (x ∷ xs) ys e = rest_of given ws xs ys (put_parts (kind_at given w) (kinds_of given ws) x (xs ++ ys) e).1
+rest_of given (w ∷ ws) (x ∷ xs) ys e = rest_of given ws xs ys (put_parts (known_kind given w) (kinds_of given ws) x (xs ++ ys) e).1
 
 -- ---- a use's kinds
 

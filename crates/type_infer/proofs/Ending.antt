@@ -12,7 +12,7 @@ use Rattle.typing_rules.specs.declared.fault.TypeFault.{TypeFault}
 use Rattle.typing_rules.specs.declared.fault.TypeFault.TheVariants as fault
 use Rattle.typing_rules.specs.declared.uses.Use.{Use}
 use Rattle.typing_rules.specs.Kinds.{read}
-use Rattle.typing_rules.specs.NameFaults.{first_fault, in_statement}
+use Rattle.typing_rules.specs.NameFaults.{first_fault, name_fault_in}
 use Rattle.typing_rules.specs.Scoping.{Meaning, meanings_of, meant, names, target_in}
 use Rattle.typing_rules.specs.Scripts.{HasTyping, Targets, statement_count, first_of}
 use Rattle.type_steps.specs.Environment.{entries_under}
@@ -125,7 +125,7 @@ name_answer xs n all o t g f so is other =
     let typing : HasTyping (target_in (meanings_of (first_of n (listed xs)))) (first_of n (listed xs)) = subst (λ (x : Targets). HasTyping x (first_of n (listed xs))) (targets_are all (meanings_of (first_of n (listed xs))) f.names_are.all_are) (has_typing (target_in all) (first_of n (listed xs)) t so) in
     subst (λ (h : TypeFault). IsNameFault (listed xs) h) (sym next.told) (fault_behind_front n (listed xs) next.inside next.first typing)
 
-no_clash : (k n : ℕ) (h : NameFault) → fault.TypeClash k ≡ in_statement n h → ⊥
+no_clash : (k n : ℕ) (h : NameFault) → fault.TypeClash k ≡ name_fault_in n h → ⊥
 no_clash k n (name.Unknown at) e = cc
 no_clash k n (name.Missing at label) e = cc
 no_clash k n (name.Extra at) e = cc

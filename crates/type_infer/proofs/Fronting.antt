@@ -7,7 +7,7 @@ use Rattle.script_grammar.specs.declared.tree.Stmt.{Stmt as AStatement}
 use Rattle.typing_rules.specs.declared.fault.NameFault.{NameFault}
 use Rattle.typing_rules.specs.declared.fault.TypeFault.{TypeFault}
 use Rattle.typing_rules.specs.declared.fault.TypeFault.TheVariants.{Memory}
-use Rattle.typing_rules.specs.NameFaults.{faults_in, first_fault, in_statement, or_later, told}
+use Rattle.typing_rules.specs.NameFaults.{faults_in, first_fault, name_fault_in, or_later, reported_fault}
 use Rattle.typing_rules.specs.Scoping.{Meaning, Scope, meanings_of, meant, names, used, with_statement}
 use Rattle.typing_rules.specs.Scripts.{first_of}
 use Rattle.type_steps.specs.Statements.{scope_after, with_last}
@@ -24,10 +24,10 @@ scope_last : (sc : Scope) (script : Script) (x : Tree AStmt) → scope_after sc 
 scope_last sc none x = refl
 scope_last sc (more s rest) x = scope_last (with_statement s sc) rest x
 
-fault_last : (i : ℕ) (sc : Scope) (script : Script) (x : Tree AStmt) → first_fault i sc script ≡ None → told (faults_in (scope_after sc script) x) ≡ None → first_fault i sc (with_last script x) ≡ None
+fault_last : (i : ℕ) (sc : Scope) (script : Script) (x : Tree AStmt) → first_fault i sc script ≡ None → reported_fault (faults_in (scope_after sc script) x) ≡ None → first_fault i sc (with_last script x) ≡ None
 fault_last i sc none x h e = ap (λ (o : Option NameFault). or_later i o None) e
 fault_last i sc (more s rest) x h e =
-    let parts = no_first i (told (faults_in sc s)) (first_fault (i + 1) (with_statement s sc) rest) h in
+    let parts = no_first i (reported_fault (faults_in sc s)) (first_fault (i + 1) (with_statement s sc) rest) h in
     ap (λ (o : Option NameFault). or_later i o (first_fault (i + 1) (with_statement s sc) (with_last rest x))) parts.0
     ∙ fault_last (i + 1) (with_statement s sc) rest x parts.1 e
 
@@ -36,30 +36,30 @@ fault_last i sc (more s rest) x h e =
 abbrev at_number : ℕ → NameFault → Option (ℕ × NameFault)
 at_number n g = Some (n, g)
 
-fault_at : (xs : List (Tree AStmt)) (i j : ℕ) (sc : Scope) (x : Tree AStmt) (g : NameFault) → i < length xs → x ≡ get_or xs i x → first_fault j sc (first_of i (listed xs)) ≡ None → told (faults_in (scope_after sc (first_of i (listed xs))) x) ≡ Some g → first_fault j sc (listed xs) ≡ at_number (i + j) g
+fault_at : (xs : List (Tree AStmt)) (i j : ℕ) (sc : Scope) (x : Tree AStmt) (g : NameFault) → i < length xs → x ≡ get_or xs i x → first_fault j sc (first_of i (listed xs)) ≡ None → reported_fault (faults_in (scope_after sc (first_of i (listed xs))) x) ≡ Some g → first_fault j sc (listed xs) ≡ at_number (i + j) g
 fault_at [] i j sc x g lt is h e = absurd (omega arith)
 fault_at (y ∷ xs) zero j sc x g lt is h e =
-    let here : told (faults_in sc y) ≡ Some g = ap (λ (z : Tree AStmt). told (faults_in sc z)) (sym is) ∙ e in
+    let here : reported_fault (faults_in sc y) ≡ Some g = ap (λ (z : Tree AStmt). reported_fault (faults_in sc z)) (sym is) ∙ e in
     let sum : j ≡ zero + j = omega arith in
     ap (λ (o : Option NameFault). or_later j o (first_fault (j + 1) (with_statement y sc) (listed xs))) here ∙ ap (λ (n : ℕ). at_number n g) sum
 fault_at (y ∷ xs) (suc i) j sc x g lt is h e =
-    let parts = no_first j (told (faults_in sc y)) (first_fault (j + 1) (with_statement y sc) (first_of i (listed xs))) h in
+    let parts = no_first j (reported_fault (faults_in sc y)) (first_fault (j + 1) (with_statement y sc) (first_of i (listed xs))) h in
     let sum : i + (j + 1) ≡ suc i + j = omega arith in
     ap (λ (o : Option NameFault). or_later j o (first_fault (j + 1) (with_statement y sc) (listed xs))) parts.0
     ∙ fault_at xs i (j + 1) (with_statement y sc) x g (omega (arith, lt)) is parts.1 e
     ∙ ap (λ (n : ℕ). at_number n g) sum
 
-fault_told : (n : ℕ) (o : Option NameFault) (f : TypeFault) → option_map (in_statement n) o ≡ Some f → (g : NameFault) × (o ≡ Some g) × (f ≡ in_statement n g)
+fault_told : (n : ℕ) (o : Option NameFault) (f : TypeFault) → option_map (name_fault_in n) o ≡ Some f → (g : NameFault) × (o ≡ Some g) × (f ≡ name_fault_in n g)
 fault_told n None f h = let e : None ≡ Some f = h in cc
-fault_told n (Some g) f h = let e : Some (in_statement n g) ≡ Some f = h in (g, refl, cc)
+fault_told n (Some g) f h = let e : Some (name_fault_in n g) ≡ Some f = h in (g, refl, cc)
 
 next_fault : (xs : List (Tree AStmt)) (i : ℕ) (x : Tree AStmt) (sc : Scope) (f : TypeFault) → i < length xs → x ≡ get_or xs i x → first_fault 1 [] (first_of i (listed xs)) ≡ None → sc ≡ scope_after [] (first_of i (listed xs)) →
-    option_map (in_statement (i + 1)) (told (faults_in sc x)) ≡ Some f → IsNextFault xs i f
+    option_map (name_fault_in (i + 1)) (reported_fault (faults_in sc x)) ≡ Some f → IsNextFault xs i f
 next_fault xs i x sc f lt is clear scope here =
-    let t = fault_told (i + 1) (told (faults_in sc x)) f here in
+    let t = fault_told (i + 1) (reported_fault (faults_in sc x)) f here in
     record {
       inside = t.0;
-      first = fault_at xs i 1 [] x t.0 lt is clear (ap (λ (s : Scope). told (faults_in s x)) (sym scope) ∙ t.1);
+      first = fault_at xs i 1 [] x t.0 lt is clear (ap (λ (s : Scope). reported_fault (faults_in s x)) (sym scope) ∙ t.1);
       told = t.2;
     }
 
@@ -69,13 +69,13 @@ pub names_none : (xs : List (Tree AStmt)) (all : List Meaning) → all ≡ [] �
 names_none xs all a = record { all_are = a; faultless = refl }
 
 pub names_next : (xs : List (Tree AStmt)) (i : ℕ) (all all' ms : List Meaning) (x : Tree AStmt) (sc : Scope) → AreNamesOf xs i all → i < length xs → x ≡ get_or xs i x → sc ≡ scope_after [] (first_of i (listed xs)) →
-    ms ≡ map meant (names sc x) → told (faults_in sc x) ≡ None → all' ≡ all ++ ms → AreNamesOf xs (i + 1) all'
+    ms ≡ map meant (names sc x) → reported_fault (faults_in sc x) ≡ None → all' ≡ all ++ ms → AreNamesOf xs (i + 1) all'
 names_next xs i all all' ms x sc a lt is scope here faultless e =
     let front = first_next xs i x lt is in
     let these : ms ≡ map meant (names (scope_after [] (first_of i (listed xs))) x) = subst (λ (s : Scope). ms ≡ map meant (names s x)) scope here in
     record {
       all_are = e ∙ ap (λ (l : List Meaning). l ++ ms) a.all_are ∙ ap (λ (l : List Meaning). meanings_of (first_of i (listed xs)) ++ l) these ∙ sym (meanings_more (first_of i (listed xs)) x) ∙ ap meanings_of (sym front);
-      faultless = ap (first_fault 1 []) front ∙ fault_last 1 [] (first_of i (listed xs)) x a.faultless (subst (λ (s : Scope). told (faults_in s x) ≡ None) scope faultless);
+      faultless = ap (first_fault 1 []) front ∙ fault_last 1 [] (first_of i (listed xs)) x a.faultless (subst (λ (s : Scope). reported_fault (faults_in s x) ≡ None) scope faultless);
     }
 
 pub scope_next : (xs : List (Tree AStmt)) (i : ℕ) (x : Tree AStmt) (sc new : Scope) → i < length xs → x ≡ get_or xs i x → sc ≡ scope_after [] (first_of i (listed xs)) → new ≡ with_statement x sc → new ≡ scope_after [] (first_of (i + 1) (listed xs))
@@ -94,7 +94,7 @@ below_at_most : (n k : ℕ) → n < k → n ≤ k
 below_at_most n k l = omega arith
 
 pub front_here : (xs : List (Tree AStmt)) (i n : ℕ) (all : List Meaning) (x : Tree AStmt) (sc : Scope) (fault : TypeFault) → n ≡ i → AreNamesOf xs i all → i < length xs → x ≡ get_or xs i x → sc ≡ scope_after [] (first_of i (listed xs)) →
-    (fault ≢ Memory → option_map (in_statement (i + 1)) (told (faults_in sc x)) ≡ Some fault) → IsFront xs n all (Some fault)
+    (fault ≢ Memory → option_map (name_fault_in (i + 1)) (reported_fault (faults_in sc x)) ≡ Some fault) → IsFront xs n all (Some fault)
 front_here xs i n all x sc fault ni a lt is scope here = subst (λ (k : ℕ). IsFront xs k all (Some fault)) (sym ni) (record {
   names_are = a;
   short = below_at_most i (length xs) lt;

@@ -8,7 +8,7 @@ use Rattle.script_grammar.specs.View.{listed}
 use Rattle.typing_rules.specs.declared.fault.NameFault.{NameFault}
 use Rattle.typing_rules.specs.declared.uses.Target.{Target}
 use Rattle.typing_rules.specs.Answers.{IsNameFault, IsTypeClash}
-use Rattle.typing_rules.specs.NameFaults.{faults_in, first_fault, in_statement, or_later, told}
+use Rattle.typing_rules.specs.NameFaults.{faults_in, first_fault, name_fault_in, or_later, reported_fault}
 use Rattle.typing_rules.specs.Scoping.{Meaning, Name, Scope, meanings_of, meant, names, target_in, used, with_statement}
 use Rattle.typing_rules.specs.Scripts.{HasTyping, Targets, statement_count, first_of}
 use Rattle.type_steps.specs.Statements.{with_last}
@@ -63,7 +63,7 @@ fewer_faultless zero n i sc script le h = refl
 fewer_faultless (suc k) zero i sc script le h = absurd (omega (arith, le))
 fewer_faultless (suc k) (suc n) i sc none le h = refl
 fewer_faultless (suc k) (suc n) i sc (more s rest) le h =
-    let parts = no_first i (told (faults_in sc s)) (first_fault (i + 1) (with_statement s sc) (first_of n rest)) h in
+    let parts = no_first i (reported_fault (faults_in sc s)) (first_fault (i + 1) (with_statement s sc) (first_of n rest)) h in
     ap (λ (o : Option NameFault). or_later i o (first_fault (i + 1) (with_statement s sc) (first_of k rest))) parts.0
     ∙ fewer_faultless k n (i + 1) (with_statement s sc) rest (omega (arith, le)) parts.1
 
@@ -135,7 +135,7 @@ typing_in_script k n script le h =
 
 -- ---- the answers
 
-pub fault_behind_front : (n : ℕ) (script : Script) (f : NameFault) → first_fault 1 [] script ≡ Some (n + 1, f) → HasTyping (target_in (meanings_of (first_of n script))) (first_of n script) → IsNameFault script (in_statement (n + 1) f)
+pub fault_behind_front : (n : ℕ) (script : Script) (f : NameFault) → first_fault 1 [] script ≡ Some (n + 1, f) → HasTyping (target_in (meanings_of (first_of n script))) (first_of n script) → IsNameFault script (name_fault_in (n + 1) f)
 fault_behind_front n script f first typing =
     let same : n ≡ n + 1 - 1 = omega arith in
     let le : n ≤ n = omega arith in

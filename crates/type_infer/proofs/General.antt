@@ -6,7 +6,7 @@ use Rattle.type_terms.specs.Agrees.{Agrees}
 use Rattle.type_terms.specs.Ground.{Ground, Assignment}
 use Rattle.type_terms.specs.Table.{Table, Solves}
 use Rattle.type_terms.specs.Term.{kind_meaning, meaning, variable}
-use Rattle.typing_rules.specs.Kinds.{kind_at, kinds_of, put}
+use Rattle.typing_rules.specs.Kinds.{known_kind, kinds_of, put}
 use Rattle.typing_rules.specs.Scripts.{Entry, Places, Targets, def_token, sight}
 use Rattle.typing_rules.specs.Scripts as entry
 use Rattle.typing_rules.specs.Typing.{DefHas}
@@ -50,15 +50,15 @@ variables_mean a (n ∷ ns) = ap (λ (ts : List Ground). a.type_of n ∷ ts) (va
 
 same_settled : (a b : Assignment) (xs ys : List Kind) (zs : List Kind) (text : List TextKind) → kinds_of xs (map (settled_text a) text) ≡ Some zs → kinds_of ys (map (settled_text b) text) ≡ Some zs → map (settled_text a) text ≡ map (settled_text b) text
 same_settled a b xs ys zs [] e f = refl
-same_settled a b xs ys [] (t ∷ text) e f = absurd (put_some (kind_at xs (settled_text a t)) (kinds_of xs (map (settled_text a) text)) e) where
+same_settled a b xs ys [] (t ∷ text) e f = absurd (put_some (known_kind xs (settled_text a t)) (kinds_of xs (map (settled_text a) text)) e) where
   put_some : (o : Option Kind) (p : Option (List Kind)) → put o p ≡ Some [] → ⊥
   put_some (Some j) (Some js) e = cc
   put_some (Some j) None e = cc
   put_some None (Some js) e = cc
   put_some None None e = cc
 same_settled a b xs ys (z ∷ zs) (t ∷ text) e f =
-    let p = parts (kind_at xs (settled_text a t)) (kinds_of xs (map (settled_text a) text)) e in
-    let q = parts (kind_at ys (settled_text b t)) (kinds_of ys (map (settled_text b) text)) f in
+    let p = parts (known_kind xs (settled_text a t)) (kinds_of xs (map (settled_text a) text)) e in
+    let q = parts (known_kind ys (settled_text b t)) (kinds_of ys (map (settled_text b) text)) f in
     ap₂ (λ (w : KindOf) (ws : List KindOf). w ∷ ws) (one t p.0 q.0) (same_settled a b xs ys zs text p.1 q.1) where
       parts : (o : Option Kind) (p : Option (List Kind)) → put o p ≡ Some (z ∷ zs) → (o ≡ Some z) × (p ≡ Some zs)
       parts (Some j) (Some js) e = (cc, cc)
@@ -66,7 +66,7 @@ same_settled a b xs ys (z ∷ zs) (t ∷ text) e f =
       parts None (Some js) e = absurd cc
       parts None None e = absurd cc
 
-      one : (t : TextKind) → kind_at xs (settled_text a t) ≡ Some z → kind_at ys (settled_text b t) ≡ Some z → settled_text a t ≡ settled_text b t
+      one : (t : TextKind) → known_kind xs (settled_text a t) ≡ Some z → known_kind ys (settled_text b t) ≡ Some z → settled_text a t ≡ settled_text b t
       one (Outer k) e f = ap settled_as (let x : kind_meaning a k ≡ kind_meaning b k = same_kind (kind_meaning a k) (kind_meaning b k) e f in x) where
         settled_as : Kind → KindOf
         settled_as k = Fixed k

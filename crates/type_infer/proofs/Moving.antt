@@ -2,11 +2,11 @@
 use Rattle.std.specs.Prelude.{⊤}
 use Rattle.std.proofs.Common.{◌≡◌, subst, ℕ, List, [], ◌∷◌, ◌++◌, Option, Some, None, Bool, true, false, nat_eq}
 use Rattle.liq_base.specs.declared.memory.Kind.{Kind}
-use Rattle.script_grammar.specs.Tree.{Sort, Tree, Many, AParam, AnInner, AnArg, AFull, ADef, none, more, Stmt, BindPart, DefPart, CallPart, IfPart, Bind, Def, Inner, Param, Labelled, Optional, Negative, Plain, Expr, And, Not, Alone, Compared, Sum, Added, Product, Multiplied, Constant, Quoted, Truth, Named, Called, Chosen, Nothing, Paren, Tuple, Listed, Braces, Format, Call, Arg, If, POr, PAnd, PNot, Always, Never, Mark, Between, Grouped, Script}
+use Rattle.script_grammar.specs.Tree.{Sort, Tree, Many, AParam, AnInner, AnArg, AFull, ADef, none, more, Stmt, BindPart, DefPart, CallPart, IfPart, Bind, Def, Inner, Param, Labelled, Optional, Negative, Plain, Expr, And, Not, Alone, Compared, Sum, Added, Product, Multiplied, Constant, Quoted, Truth, Named, Called, Chosen, Nothing, Paren, Tuple, Listed, Braces, Format, NamedCall, Arg, If, POr, PAnd, PNot, TrueAtom, FalseAtom, Mark, IntervalAtom, Grouped, Script}
 use Rattle.type_terms.specs.Ground.{Ground, Grounds}
 use Rattle.typing_rules.specs.declared.uses.Target.{Target}
 use Rattle.typing_rules.specs.declared.uses.Target.TheVariants as target
-use Rattle.typing_rules.specs.Arguments.{Given, Matched}
+use Rattle.typing_rules.specs.Arguments.{GivenArgument, Matched}
 use Rattle.typing_rules.specs.Typing.{Applied, AreGiven, DefHas, DefaultHas, DefaultsHave, EachHas, Has, HaveAll, InnersHave, NameHas, Sight, TypesByToken}
 use Rattle.typing_rules.specs.Scripts.{Entry, HasTyping, IsTypedTo, Places, Targets, calls_behind, def_token, function, params_of, sight, types_of, value}
 use Rattle.expression_types.specs.Order.{tokens_used}
@@ -25,7 +25,7 @@ same_right ts us [] m h = h
 same_right ts us (t ∷ l) m h = same_right ts us l m h.1
 
 abbrev Calls : Type 1
-Calls = ℕ → ℕ → List (Given Ground) → Ground → Type 0
+Calls = ℕ → ℕ → List (GivenArgument Ground) → Ground → Type 0
 
 abbrev Kinds : Type 0
 Kinds = ℕ → Option (List Kind)
@@ -35,14 +35,14 @@ seen ts types kinds calls = record { target = ts; types = types; kinds = kinds; 
 
 -- ---- expressions
 
-module _ (ts us : Targets) (kinds : Kinds) (calls others : Calls) (call : (at t : ℕ) (gs : List (Given Ground)) (g : Ground) → calls at t gs g → others at t gs g) where
+module _ (ts us : Targets) (kinds : Kinds) (calls others : Calls) (call : (at t : ℕ) (gs : List (GivenArgument Ground)) (g : Ground) → calls at t gs g → others at t gs g) where
   name_moves : (types : TypesByToken) (o : Option Target) (g : Ground) → NameHas (seen ts types kinds calls) o g → NameHas (seen us types kinds others) o g
   name_moves types (Some (target.Slot t)) g h = h
   name_moves types (Some (target.Def t)) g h = absurd h
   name_moves types (Some (target.Builtin b)) g h = absurd h
   name_moves types None g h = absurd h
 
-  call_moves : (types : TypesByToken) (at : ℕ) (o : Option Target) (gs : List (Given Ground)) (g : Ground) → Applied (seen ts types kinds calls) at o gs g → Applied (seen us types kinds others) at o gs g
+  call_moves : (types : TypesByToken) (at : ℕ) (o : Option Target) (gs : List (GivenArgument Ground)) (g : Ground) → Applied (seen ts types kinds calls) at o gs g → Applied (seen us types kinds others) at o gs g
   call_moves types at (Some (target.Slot t)) gs g h = absurd h
   call_moves types at (Some (target.Def t)) gs g h = (h.0, h.1, call at t gs g h.2)
   call_moves types at (Some (target.Builtin b)) gs g h = h
@@ -76,7 +76,7 @@ module _ (ts us : Targets) (kinds : Kinds) (calls others : Calls) (call : (at t 
     moved types (Listed at parts) a g h = (h.0, h.1, moved_each types parts a h.0 h.2)
     moved types (Braces at pred) a g h = h
     moved types (Format at size) a g h = h
-    moved types (Call at name args) a g h = (h.0, moved_given types args a.1 h.0 h.1, subst (λ (o : Option Target). Applied (seen us types kinds others) at o h.0 g) a.0 (call_moves types at (ts at) h.0 g h.2))
+    moved types (NamedCall at name args) a g h = (h.0, moved_given types args a.1 h.0 h.1, subst (λ (o : Option Target). Applied (seen us types kinds others) at o h.0 g) a.0 (call_moves types at (ts at) h.0 g h.2))
     moved types (If at c t e) a g h =
         let front = same_left ts us (tokens_used c ++ tokens_used t) (tokens_used e) a in
         (moved types c (same_left ts us (tokens_used c) (tokens_used t) front) _ h.0, moved types t (same_right ts us (tokens_used c) (tokens_used t) front) g h.1, moved types e (same_right ts us (tokens_used c ++ tokens_used t) (tokens_used e) a) g h.2)
@@ -97,10 +97,10 @@ module _ (ts us : Targets) (kinds : Kinds) (calls others : Calls) (call : (at t 
     moved types (POr first rest) a g h = absurd h
     moved types (PAnd first rest) a g h = absurd h
     moved types (PNot negated atom) a g h = absurd h
-    moved types Always a g h = absurd h
-    moved types Never a g h = absurd h
+    moved types TrueAtom a g h = absurd h
+    moved types FalseAtom a g h = absurd h
     moved types (Mark x) a g h = absurd h
-    moved types (Between x y) a g h = absurd h
+    moved types (IntervalAtom x y) a g h = absurd h
     moved types (Grouped p) a g h = absurd h
 
     moved_each : {r : Sort} (types : TypesByToken) (t : Tree (Many r)) → AllSame ts us (tokens_used t) → (g : Ground) → EachHas (seen ts types kinds calls) t g → EachHas (seen us types kinds others) t g
@@ -111,7 +111,7 @@ module _ (ts us : Targets) (kinds : Kinds) (calls others : Calls) (call : (at t 
     moved_all types none a gs h = h
     moved_all types (more x xs) a gs h = (h.0, h.1, h.2, moved types x (same_left ts us (tokens_used x) (tokens_used xs) a) h.0 h.3, moved_all types xs (same_right ts us (tokens_used x) (tokens_used xs) a) h.1 h.4)
 
-    moved_given : (types : TypesByToken) (t : Tree (Many AnArg)) → AllSame ts us (tokens_used t) → (gs : List (Given Ground)) → AreGiven (seen ts types kinds calls) t gs → AreGiven (seen us types kinds others) t gs
+    moved_given : (types : TypesByToken) (t : Tree (Many AnArg)) → AllSame ts us (tokens_used t) → (gs : List (GivenArgument Ground)) → AreGiven (seen ts types kinds calls) t gs → AreGiven (seen us types kinds others) t gs
     moved_given types none a gs h = h
     moved_given types (more (Arg at label f) xs) a gs h = (h.0, h.1, h.2, moved types f (same_left ts us (tokens_used f) (tokens_used xs) a) h.0 h.3, moved_given types xs (same_right ts us (tokens_used f) (tokens_used xs) a) h.1 h.4)
 
@@ -154,7 +154,7 @@ both_move : (b : Bool) (A B C D : Type 0) → (A → C) → (B → D) → Chosen
 both_move true A B C D f k h = f h
 both_move false A B C D f k h = k h
 
-calls_move : (ts us : Targets) (kinds : Places) (es : List Entry) → AreSame ts us es → (chain : List ℕ) (at t : ℕ) (gs : List (Given Ground)) (g : Ground) → calls_behind ts kinds es chain at t gs g → calls_behind us kinds es chain at t gs g
+calls_move : (ts us : Targets) (kinds : Places) (es : List Entry) → AreSame ts us es → (chain : List ℕ) (at t : ℕ) (gs : List (GivenArgument Ground)) (g : Ground) → calls_behind ts kinds es chain at t gs g → calls_behind us kinds es chain at t gs g
 calls_move ts us kinds [] a chain at t gs g h = h
 calls_move ts us kinds (value x y ∷ es) a chain at t gs g h = calls_move ts us kinds es a chain at t gs g h
 calls_move ts us kinds (function d ∷ es) a chain at t gs g h =

@@ -14,7 +14,7 @@ use Rattle.type_terms.specs.Term.{Term, variable}
 use Rattle.typing_rules.specs.declared.uses.Target.{Target}
 use Rattle.typing_rules.specs.declared.uses.Target.TheVariants as target
 use Rattle.typing_rules.specs.declared.uses.Use.{Use}
-use Rattle.typing_rules.specs.Arguments.{Given, Matched, Parameter}
+use Rattle.typing_rules.specs.Arguments.{GivenArgument, Matched, Parameter}
 use Rattle.typing_rules.specs.Kinds.{kinds_of}
 use Rattle.typing_rules.specs.Scripts.{Entry, Places, Targets, behind, calls_behind, def_token, params_of, sight}
 use Rattle.typing_rules.specs.Typing.{DefHas}
@@ -162,7 +162,7 @@ with_value s targets bs ds n over h =
 abbrev TakesBy : Bool → Texts → Places → List ℕ → ℕ → List Kind → List Use → Type 0
 TakesBy b xs kinds chain t ks us = elim b [ true ↦ TextTakes (CallTakes xs kinds) kinds chain ks us | false ↦ CallTakes xs kinds chain t ks ]
 
-abbrev CallsBy : Bool → Targets → Places → List Entry → List ℕ → ℕ → ℕ → List (Given Ground) → Ground → Tree ADef → Type 0
+abbrev CallsBy : Bool → Targets → Places → List Entry → List ℕ → ℕ → ℕ → List (GivenArgument Ground) → Ground → Tree ADef → Type 0
 CallsBy b targets kinds es chain at t gs g d = elim b [
   | true ↦ ((ts : List Ground) × Matched (params_of d) gs ts × DefHas (sight targets kinds es (at ∷ chain)) d ts g)
   | false ↦ calls_behind targets kinds es chain at t gs g

@@ -9,7 +9,7 @@ use Rattle.type_terms.specs.Ground.{Assignment}
 use Rattle.type_terms.specs.Table.{Table}
 use Rattle.type_terms.specs.Term.{Term, kind_meaning}
 use Rattle.type_terms.specs.declared.ty.KindTerm.{KindTerm}
-use Rattle.typing_rules.specs.Kinds.{counted, kind_at, kinds_of, put}
+use Rattle.typing_rules.specs.Kinds.{numbered_on, known_kind, kinds_of, put}
 use Rattle.typing_rules.specs.Scripts.{Targets}
 use Rattle.general_types.specs.declared.general.TextKind.{TextKind}
 use Rattle.general_types.specs.declared.general.TextKind.TheVariants.{Open, Outer}
@@ -62,13 +62,13 @@ is_typed s s1 targets before d p fs h h' t known was i g =
 lengths : (given : List Kind) (a : Assignment) (text : List TextKind) (zs : List Kind) → kinds_of given (map (settled_text a) text) ≡ Some zs → length text ≡ length zs
 lengths given a [] [] e = refl
 lengths given a [] (z ∷ zs) e = absurd cc
-lengths given a (t ∷ text) [] e = absurd (put_some (kind_at given (settled_text a t)) (kinds_of given (map (settled_text a) text)) e) where
+lengths given a (t ∷ text) [] e = absurd (put_some (known_kind given (settled_text a t)) (kinds_of given (map (settled_text a) text)) e) where
   put_some : (o : Option Kind) (p : Option (List Kind)) → put o p ≡ Some [] → ⊥
   put_some (Some j) (Some js) e = cc
   put_some (Some j) None e = cc
   put_some None (Some js) e = cc
   put_some None None e = cc
-lengths given a (t ∷ text) (z ∷ zs) e = ap suc (lengths given a text zs (rest (kind_at given (settled_text a t)) (kinds_of given (map (settled_text a) text)) e)) where
+lengths given a (t ∷ text) (z ∷ zs) e = ap suc (lengths given a text zs (rest (known_kind given (settled_text a t)) (kinds_of given (map (settled_text a) text)) e)) where
   rest : (o : Option Kind) (p : Option (List Kind)) → put o p ≡ Some (z ∷ zs) → p ≡ Some zs
   rest (Some j) (Some js) e = cc
   rest (Some j) None e = absurd cc
@@ -132,5 +132,5 @@ is_numbered s s1 targets before d p fs h h' t was i g =
     let long = text_long s1 d p fs h h' t s (terms_before before) i.follows was.held g in
     record {
       some = g.solution;
-      numbered = ap (λ (us : List TextUse). counted 0 (opens_in us)) g.text_is ∙ ap (counted 0) (uses_open fs g.text long) ∙ g.numbered;
+      numbered = ap (λ (us : List TextUse). numbered_on 0 (opens_in us)) g.text_is ∙ ap (numbered_on 0) (uses_open fs g.text long) ∙ g.numbered;
     }

@@ -29,8 +29,10 @@ said_in u = (u.at, Some u.target, Some (length u.kinds))
 abbrev pub AreSaidAs : Names → List ℕ → List TextUse → Type 0
 AreSaidAs ns ts us = map said_in us ≡ map (said_at ns) ts
 
--- From s to s' a def was typed: its general type and the uses in its text give its typings, and no typing of what stands before it is lost but where the def has none. The types of the values hold the variables h now.
-pub record IsTypedDef (s s' : Table) (targets : Targets) (before : List Known) (d : Def) (h : HeldVariables) (t : KnownDef) : Type 0 where
+-- From s to s' a def was typed: its general type and the uses in its text give its typings, and no typing of what
+-- stands before it is lost but where the def has none. The types of the values hold the variables h now.
+pub record IsTypedDef (s s' : Table) (targets : Targets) (before : List Known) (d : Def) (h : HeldVariables)
+    (t : KnownDef) : Type 0 where
   pub def : t.def.now ≡ d
   pub at : t.at ≡ def_token (view_def d)
   pub params : map seen_parameter t.params.items ≡ params_of (view_def d)
@@ -39,7 +41,8 @@ pub record IsTypedDef (s s' : Table) (targets : Targets) (before : List Known) (
   pub typing : IsTypingOf s' targets before (view_def d) (scheme_of t.general) (text_of t)
   pub held : HoldsBefore s' (function (view_def d) (text_of t) ∷ before) h
 
--- There is a solution, and the open kinds of the text have the numbers from 0 in the order of first mention and are as many as the general type has.
+-- There is a solution, and the open kinds of the text have the numbers from 0 in the order of first mention and are as
+-- many as the general type has.
 pub record IsNumberedDef (s : Table) (d : KnownDef) : Type 0 where
   pub some : (a : Assignment) × Solves a s
   pub numbered : text_count (text_of d) ≡ Some (scheme_count (scheme_of d.general))

@@ -35,37 +35,47 @@ vars_named ts = map (λ t. t.var) ts
 abbrev pub tokens_named : List TypedName → List ℕ
 tokens_named ts = map (λ t. t.at) ts
 
-pub record AreTypedParams (s s' : Table) (env : Env) (ps : Tree (Many AParam)) (ts : List TypedName) (old new : List Found) : Type 0 where
+pub record AreTypedParams (s s' : Table) (env : Env) (ps : Tree (Many AParam)) (ts : List TypedName)
+    (old new : List Found) : Type 0 where
   pub typed : InfersParams s s' env ps (vars_named ts) old new
   pub named : tokens_named ts ≡ param_tokens ps
 
-abbrev pub AreParamsOf : Table → Table → Env → Tree (Many AParam) → List Found → List Found → Option (List TypedName) → Type 0
+abbrev pub AreParamsOf : Table → Table → Env → Tree (Many AParam) → List Found → List Found → Option (List TypedName)
+    → Type 0
 AreParamsOf s s' env ps old new None = HaveNoParams s env ps old
 AreParamsOf s s' env ps old new (Some ts) = AreTypedParams s s' env ps ts old new
 
-abbrev pub AreInnersOf : Table → Table → Targets → List Known → Tree (Many AnInner) → List (ℕ × Term) → List (ℕ × Term) → List Found → List Found → Bool → Type 0
+abbrev pub AreInnersOf : Table → Table → Targets → List Known → Tree (Many AnInner) → List (ℕ × Term) → List (ℕ × Term)
+    → List Found → List Found → Bool → Type 0
 AreInnersOf s s' targets before is us vs old new false = HaveNoInners s (outside targets before) is us old
 AreInnersOf s s' targets before is us vs old new true = InfersInners s s' (outside targets before) is us vs old new
 
 -- the bindings in the body lead to these, and the result has this type behind them
 abbrev pub BodyHas : Env → Places → Assignment → Tree (Many AnInner) → Tree AnExpr → TypesByToken → Ground → Type 0
-BodyHas env kinds a is e us g = (ws : TypesByToken) × InnersHave (sight_under env a kinds) is us ws × Has (within ws (sight_under env a kinds)) e g
+BodyHas env kinds a is e us g = (ws : TypesByToken) × InnersHave (sight_under env a kinds) is us ws
+    × Has (within ws (sight_under env a kinds)) e g
 
 abbrev pub ResultAs : Env → Places → ℕ → Ground → List Found → Assignment → Type 0
 ResultAs env kinds n g fs b = (b.type_of n ≡ g) × AreFound env b kinds fs
 
 -- behind the parameters us, the body has a result whose type is a variable
-pub record InfersBody (s s' : Table) (env : Env) (is : Tree (Many AnInner)) (e : Tree AnExpr) (us : List (ℕ × Term)) (n : ℕ) (old new : List Found) : Type 0 where
+pub record InfersBody (s s' : Table) (env : Env) (is : Tree (Many AnInner)) (e : Tree AnExpr) (us : List (ℕ
+    × Term)) (n : ℕ) (old new : List Found) : Type 0 where
   pub inside : n < length s'.types
   pub uses : AreUsesOver s' new
   pub follows : Follows s s'
-  pub sound : (a : Assignment) → Solves a s' → (kinds : Places) → AreFound env a kinds new → BodyHas env kinds a is e (types_under a us) (a.type_of n) × AreFound env a kinds old
-  pub complete : (a : Assignment) → Solves a s → (kinds : Places) (g : Ground) → BodyHas env kinds a is e (types_under a us) g → AreFound env a kinds old → Reached s s' a (ResultAs env kinds n g new)
+  pub sound : (a : Assignment) → Solves a s' → (kinds : Places) → AreFound env a kinds new
+      → BodyHas env kinds a is e (types_under a us) (a.type_of n) × AreFound env a kinds old
+  pub complete : (a : Assignment) → Solves a s → (kinds : Places) (g : Ground)
+      → BodyHas env kinds a is e (types_under a us) g → AreFound env a kinds old
+      → Reached s s' a (ResultAs env kinds n g new)
 
 abbrev pub HasNoBody : Table → Env → Tree (Many AnInner) → Tree AnExpr → List (ℕ × Term) → List Found → Type 0
-HasNoBody s env is e us old = (a : Assignment) → Solves a s → (kinds : Places) (g : Ground) → BodyHas env kinds a is e (types_under a us) g → AreFound env a kinds old → ⊥
+HasNoBody s env is e us old = (a : Assignment) → Solves a s → (kinds : Places) (g : Ground)
+    → BodyHas env kinds a is e (types_under a us) g → AreFound env a kinds old → ⊥
 
-abbrev pub IsBodyOf : Table → Table → Targets → List Known → Tree (Many AnInner) → Tree AnExpr → List (ℕ × Term) → List Found → List Found → Option ℕ → Type 0
+abbrev pub IsBodyOf : Table → Table → Targets → List Known → Tree (Many AnInner) → Tree AnExpr → List (ℕ × Term)
+    → List Found → List Found → Option ℕ → Type 0
 IsBodyOf s s' targets before is e us old new None = HasNoBody s (outside targets before) is e us old
 IsBodyOf s s' targets before is e us old new (Some n) = InfersBody s s' (outside targets before) is e us n old new
 
@@ -73,8 +83,10 @@ abbrev pub ArePartsOf : Table → Table → Targets → List Known → Tree ADef
 ArePartsOf s s' targets before d new None = HasNoDef s (outside targets before) d
 ArePartsOf s s' targets before d new (Some p) = InfersDef s s' (outside targets before) d p.params.items p.result new
 
--- A def whose parts have these variables and uses was made general in all that is not held. The first variables were held at an earlier substitution, and the second ones are held now.
-pub record IsGeneralDef (s : Table) (h h' : HeldVariables) (d : Def) (p : TypedParts) (fs : List Found) (t : KnownDef) : Type 0 where
+-- A def whose parts have these variables and uses was made general in all that is not held. The first variables were
+-- held at an earlier substitution, and the second ones are held now.
+pub record IsGeneralDef (s : Table) (h h' : HeldVariables) (d : Def) (p : TypedParts) (fs : List Found)
+    (t : KnownDef) : Type 0 where
   pub def : t.def.now ≡ d
   pub at : t.at ≡ def_token (view_def d)
   pub params : map seen_parameter t.params.items ≡ params_of (view_def d)
@@ -85,4 +97,5 @@ pub record IsGeneralDef (s : Table) (h h' : HeldVariables) (d : Def) (p : TypedP
   pub held : (s0 : Table) (names : List Term) → Follows s0 s → IsHeldBy s0 names h → IsHeldBy s names h'
   pub over : (names : List Term) → IsHeldBy s names h' → IsSchemeOver s (scheme_of t.general)
   pub text_over : (names : List Term) → IsHeldBy s names h' → AreTextKindsOver s text
-  pub general : (names : List Term) → IsHeldBy s names h' → IsGeneral s names (map variable p.params.items) (variable p.result) (kinds_in fs) (scheme_of t.general) text
+  pub general : (names : List Term) → IsHeldBy s names h'
+      → IsGeneral s names (map variable p.params.items) (variable p.result) (kinds_in fs) (scheme_of t.general) text

@@ -5,7 +5,7 @@ use Rattle.script_grammar.specs.View.{listed}
 use Rattle.typing_rules.specs.declared.fault.NameFault.{NameFault}
 use Rattle.typing_rules.specs.declared.fault.TypeFault.{TypeFault}
 use Rattle.typing_rules.specs.declared.fault.TypeFault.TheVariants.{Memory}
-use Rattle.typing_rules.specs.NameFaults.{first_fault, in_statement}
+use Rattle.typing_rules.specs.NameFaults.{first_fault, name_fault_in}
 use Rattle.typing_rules.specs.Scoping.{Meaning, meanings_of}
 use Rattle.typing_rules.specs.Scripts.{first_of}
 
@@ -18,7 +18,7 @@ pub record AreNamesOf (xs : List (Tree AStmt)) (n : ℕ) (all : List Meaning) : 
 pub record IsNextFault (xs : List (Tree AStmt)) (n : ℕ) (f : TypeFault) : Type 0 where
   pub inside : NameFault
   pub first : first_fault 1 [] (listed xs) ≡ Some (n + 1, inside)
-  pub told : f ≡ in_statement (n + 1) inside
+  pub told : f ≡ name_fault_in (n + 1) inside
 
 -- The names of all statements, or of those before the first with a fault of names.
 pub record IsFront (xs : List (Tree AStmt)) (n : ℕ) (all : List Meaning) (fault : Option TypeFault) : Type 0 where

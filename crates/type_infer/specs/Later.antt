@@ -18,7 +18,8 @@ terms_since (n ∷ ns) types = terms_since ns (variable n ∷ types)
 abbrev pub AreValues : Table → List ℕ → Type 0
 AreValues s ns = All (λ n. n < length s.types) ns
 
--- At an earlier substitution some types held these variables, and the values have these types and, bound since, the pending variables. The texts of the defs hold no others now: they are the same where the values have the same types.
+-- At an earlier substitution some types held these variables, and the values have these types and, bound since, the
+-- pending variables. The texts of the defs hold no others now: they are the same where the values have the same types.
 pub record HoldsLater (s : Table) (before : List Known) (h : HeldVariables) (pending : List ℕ) : Type 0 where
   pub earlier : Table
   pub follows : Follows earlier s
@@ -26,7 +27,8 @@ pub record HoldsLater (s : Table) (before : List Known) (h : HeldVariables) (pen
   pub held : IsHeldBy earlier types h
   pub since : terms_before before ≡ terms_since pending types
   pub there : AreValues s pending
-  pub texts : (a b : Assignment) → Solves a s → Solves b s → SameTypes (terms_before before) a b → texts_under a before ≡ texts_under b before
+  pub texts : (a b : Assignment) → Solves a s → Solves b s → SameTypes (terms_before before) a b
+      → texts_under a before ≡ texts_under b before
 
 -- what is held with these values too
 abbrev pub AddsValues : Table → List ℕ → HeldVariables → HeldVariables → Type 0
@@ -34,4 +36,5 @@ AddsValues s ns old new = (types : List Term) → IsHeldBy s types old → IsHel
 
 -- what is held where more is bound, and with these values too
 abbrev pub IsRenewed : Table → List ℕ → HeldVariables → HeldVariables → Type 0
-IsRenewed now ns old new = (s : Table) (types : List Term) → Follows s now → IsHeldBy s types old → IsHeldBy now (terms_since ns types) new
+IsRenewed now ns old new = (s : Table) (types : List Term) → Follows s now → IsHeldBy s types old
+    → IsHeldBy now (terms_since ns types) new

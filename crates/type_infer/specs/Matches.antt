@@ -38,6 +38,7 @@ abbrev pub IsTextCountedIn : List KnownDef → List TextUse → Type 0
 IsTextCountedIn ds [] = ⊤
 IsTextCountedIn ds (u ∷ us) = HasCountIn ds u.target (length u.kinds) × IsTextCountedIn ds us
 
--- The text of each def that is found by its token is the newest there, and numbers as many open kinds as its general type has.
+-- The text of each def that is found by its token is the newest there, and numbers as many open kinds as its general
+-- type has.
 pub record AreNumberedDefs (ds : List KnownDef) (before : List Known) : Type 0 where
   pub each : (t : ℕ) (d : KnownDef) → def_seen t ds ≡ Some d → count_at t before ≡ Some (opens_of d)

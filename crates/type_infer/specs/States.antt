@@ -35,12 +35,14 @@ pub record IsNoted (s : Table) (var : ℕ) (uses : List FoundUse) (t : TypedExpr
   pub same : t.var ≡ var
   pub uses_are : t.uses.items ≡ uses
 
--- From s to s' the expression was typed. Its uses are its names in order, with their targets, and each has as many kinds as what it means has open ones.
-pub record IsTypedWith (s s' : Table) (env : Env) (ds : List KnownDef) {r : Sort} (e : Tree r) (t : TypedExpr) : Type 0 where
-  pub infers : Infers s s' env e (variable t.var) [] (founds t.uses.items)
-  pub some : (a : Assignment) × Solves a s'
-  pub named : map found_said (founds t.uses.items) ≡ map (aimed env.targets) (tokens_used e)
-  pub counted : HaveCountsIn ds (founds t.uses.items)
+-- From s to s' the expression was typed. Its uses are its names in order, with their targets, and each has as many
+-- kinds as what it means has open ones.
+pub record IsTypedWith (s s' : Table) (env : Env) (ds : List KnownDef) {r : Sort} (e : Tree r) (t : TypedExpr) : Type 0
+  where
+    pub infers : Infers s s' env e (variable t.var) [] (founds t.uses.items)
+    pub some : (a : Assignment) × Solves a s'
+    pub named : map found_said (founds t.uses.items) ≡ map (aimed env.targets) (tokens_used e)
+    pub counted : HaveCountsIn ds (founds t.uses.items)
 
 abbrev pub IsTypedAs : Table → Table → Env → List KnownDef → {r : Sort} → Tree r → Option TypedExpr → Type 0
 IsTypedAs s s' env ds e None = HasNoType s env e []
@@ -89,10 +91,12 @@ pub record IsNext (targets : Targets) (script : Script) (s : Tree AStmt) : Type 
 
 -- one statement more was typed, or there is no typing with it
 abbrev pub IsMore : Targets → Tree APart → Typing → Typing → Type 0
-IsMore targets part old new = (script : Script) (semicolon : Bool) → IsTypedSo targets script old → IsNext targets script (Stmt part semicolon) → IsAfter targets (with_last script (Stmt part semicolon)) new
+IsMore targets part old new = (script : Script) (semicolon : Bool) → IsTypedSo targets script old
+    → IsNext targets script (Stmt part semicolon) → IsAfter targets (with_last script (Stmt part semicolon)) new
 
 abbrev pub IsNoMore : Targets → Tree APart → Typing → Type 0
-IsNoMore targets part old = (script : Script) (semicolon : Bool) → IsTypedSo targets script old → HasNoTypings targets (with_last script (Stmt part semicolon))
+IsNoMore targets part old = (script : Script) (semicolon : Bool) → IsTypedSo targets script old
+    → HasNoTypings targets (with_last script (Stmt part semicolon))
 
 abbrev pub IsStepped : Targets → Tree APart → Typing → Typing → Bool → Type 0
 IsStepped targets part old new true = IsMore targets part old new

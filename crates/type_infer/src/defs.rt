@@ -21,11 +21,12 @@ use script_grammar::tree::Def;
 use std::alloc::Global;
 use type_terms::{Subst, Ty};
 
-/// The general type of a def and the uses in its text; `None` where it has no typing. It fails only where memory is refused.
+/// The general type of a def and the uses in its text; `None` where it has no typing. It fails only where memory is
+/// refused.
 ///
-/// `seen` is what is seen outside of defs, and `held` what the types of earlier values hold, before the def and then behind it.
-/// Where the def has a typing, its text has one use for each of its names, in the order of the tokens. Its open kinds are
-/// numbered as the text names them first, and are all that the general type has.
+/// `seen` is what is seen outside of defs, and `held` what the types of earlier values hold, before the def and then
+/// behind it. Where the def has a typing, its text has one use for each of its names, in the order of the tokens. Its
+/// open kinds are numbered as the text names them first, and are all that the general type has.
 pub fn type_def<'a>(
     alloc: Global,
     subst: &mut Subst,
@@ -36,8 +37,11 @@ pub fn type_def<'a>(
     requires seen { IsSeen subst.old seen [] }
     requires outside { seen.inner.now ≡ [] }
     requires held { HoldsBefore subst.old (env_of seen).before held.old }
-    ensures typed { IfOk result (λ r. IsDefTyped subst.old subst.new (env_of seen.entry).targets (env_of seen.entry).before def.entry.now held.new r) }
-    ensures order { IfOk result (λ r. IfSome r (λ t. AreSaidAs seen.entry (tokens_used (view_def def.entry.now)) (text_of t))) }
+    ensures typed { IfOk result
+        (λ r. IsDefTyped subst.old subst.new (env_of seen.entry).targets (env_of seen.entry).before def.entry.now
+        held.new r) }
+    ensures order { IfOk result
+        (λ r. IfSome r (λ t. AreSaidAs seen.entry (tokens_used (view_def def.entry.now)) (text_of t))) }
     ensures numbered { IfOk result (λ r. IfSome r (λ t. IsNumberedDef subst.new t)) }
 {
     let mut uses = Vec::new(alloc);
@@ -57,7 +61,8 @@ fn answer_of(parts: &TypedParts) -> Ty
     Ty::Var(parts.result)
 }
 
-/// The general type of a def whose parts were typed, and the uses of its text. What is held is as it was before the def.
+/// The general type of a def whose parts were typed, and the uses of its text. What is held is as it was before the
+/// def.
 fn general_def<'a>(
     alloc: Global,
     subst: &Subst,
@@ -70,7 +75,8 @@ fn general_def<'a>(
     requires params { AreVars subst.now parts.now.params.items }
     requires result { parts.now.result < length subst.now.types }
     requires uses { AreUsesOver subst.now (founds uses.now) }
-    ensures general { IfOk result (λ t. IsGeneralDef subst.now held.old held.new def.entry.now parts.now (founds uses.now) t) }
+    ensures general { IfOk result
+        (λ t. IsGeneralDef subst.now held.old held.new def.entry.now parts.now (founds uses.now) t) }
 {
     subst.has_defaults();
     held.renew(alloc, subst)?;

@@ -1,7 +1,7 @@
 // The names of the statements before the first with a fault of names.
 ghost use Rattle.std.specs.Prelude.{◌≡◌, ◌≢◌, ◌++◌, None, Some, IfErr, IfOk, OnOk, map, option_map};
 ghost use Rattle.script_grammar.specs.View.{view_stmt};
-ghost use Rattle.typing_rules.specs.NameFaults.{faults_in, in_statement, told};
+ghost use Rattle.typing_rules.specs.NameFaults.{faults_in, name_fault_in, reported_fault};
 ghost use Rattle.typing_rules.specs.Scoping.{meant, names, with_statement};
 ghost use Rattle.name_scope.specs.Noted.{found_in, resolved};
 ghost use Rattle.name_scope.specs.Seen.{in_scope};
@@ -13,8 +13,8 @@ use script_grammar::tree::Stmt;
 use std::alloc::Global;
 use typing_rules::TypeFault;
 
-/// What the names of the statements before the first with a fault of names mean, in the order of the tokens, and how many
-/// these statements are. Where there is such a fault it is the one that is told of the next statement.
+/// What the names of the statements before the first with a fault of names mean, in the order of the tokens, and how
+/// many these statements are. Where there is such a fault it is the one that is told of the next statement.
 #[derive(Drop)]
 pub struct Front {
     pub all: Vec<Resolved>,
@@ -53,7 +53,8 @@ pub fn resolve_front(alloc: Global, statements: &[Stmt]) -> Result<Front, Memory
     })
 }
 
-/// Notes what the names of one statement mean, and these alone, and goes to the scope behind it; or tells the fault of names.
+/// Notes what the names of one statement mean, and these alone, and goes to the scope behind it; or tells the fault of
+/// names.
 fn note_names<'a>(
     alloc: Global,
     scope: &mut Scope<'a>,
@@ -62,11 +63,15 @@ fn note_names<'a>(
     number: u32,
 ) -> Result<(), TypeFault>
     requires clear { notes.old.fault ≡ None }
-    ensures names { OnOk result (found_in notes.new ≡ map meant (names (in_scope scope.old) (view_stmt stmt.entry.now))) }
+    ensures names { OnOk result (found_in notes.new
+        ≡ map meant (names (in_scope scope.old) (view_stmt stmt.entry.now))) }
     ensures clear { OnOk result (notes.new.fault ≡ None) }
-    ensures faultless { OnOk result (told (faults_in (in_scope scope.old) (view_stmt stmt.entry.now)) ≡ None) }
+    ensures faultless { OnOk result (reported_fault (faults_in (in_scope scope.old) (view_stmt stmt.entry.now))
+        ≡ None) }
     ensures bound { OnOk result (in_scope scope.new ≡ with_statement (view_stmt stmt.entry.now) (in_scope scope.old)) }
-    ensures told { IfErr result (λ f. f ≢ TypeFault.Memory → option_map (in_statement number) (told (faults_in (in_scope scope.old) (view_stmt stmt.entry.now))) ≡ Some f) }
+    ensures told { IfErr result (λ f. f ≢ TypeFault.Memory
+        → option_map (name_fault_in number) (reported_fault (faults_in (in_scope scope.old) (view_stmt stmt.entry.now)))
+        ≡ Some f) }
 {
     notes.found.clear();
     resolve_statement(alloc, scope, notes, stmt, number)?;

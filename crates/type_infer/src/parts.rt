@@ -33,8 +33,12 @@ pub fn type_parts(
     requires seen { IsSeen subst.old seen uses.old.items }
     requires outside { seen.inner.now ≡ [] }
     requires first { uses.old.items ≡ [] }
-    ensures typed { IfOk result (λ r. ArePartsOf subst.old subst.new (env_of seen.entry).targets (env_of seen.entry).before (view_def def.now) (founds uses.new.items) r) }
-    ensures order { IfOk result (λ r. AreAddedIf seen.entry (tokens_used (view_def def.now)) (founds uses.old.items) (founds uses.new.items) r) }
+    ensures typed { IfOk result
+        (λ r. ArePartsOf subst.old subst.new (env_of seen.entry).targets (env_of seen.entry).before (view_def def.now)
+        (founds uses.new.items) r) }
+    ensures order { IfOk result
+        (λ r. AreAddedIf seen.entry (tokens_used (view_def def.now)) (founds uses.old.items) (founds uses.new.items)
+        r) }
 {
     match type_params(alloc, subst, seen, uses, &def.params)? {
         None => Ok(None),
@@ -57,8 +61,12 @@ fn type_param(
     param: &Param,
 ) -> Result<Option<u64>, Memory>
     requires seen { IsSeen subst.old names uses.old.items }
-    ensures typed { IfOk result (λ r. IsParamOf subst.old subst.new (env_of names.entry) (view_param param.now) (founds uses.old.items) (founds uses.new.items) r) }
-    ensures order { IfOk result (λ r. AreAddedIf names.entry (tokens_used (view_param param.now)) (founds uses.old.items) (founds uses.new.items) r) }
+    ensures typed { IfOk result
+        (λ r. IsParamOf subst.old subst.new (env_of names.entry) (view_param param.now) (founds uses.old.items)
+        (founds uses.new.items) r) }
+    ensures order { IfOk result
+        (λ r. AreAddedIf names.entry (tokens_used (view_param param.now)) (founds uses.old.items)
+        (founds uses.new.items) r) }
 {
     match &param.form {
         ParamForm::Optional(default) => type_full(alloc, subst, names, uses, default),
@@ -82,8 +90,12 @@ fn type_params(
     params: &[Param],
 ) -> Result<Option<Vec<TypedName>>, Memory>
     requires seen { IsSeen subst.old names uses.old.items }
-    ensures typed { IfOk result (λ r. AreParamsOf subst.old subst.new (env_of names.entry) (listed (map view_param params.now)) (founds uses.old.items) (founds uses.new.items) (option_map (λ v. v.items) r)) }
-    ensures order { IfOk result (λ r. AreAddedIf names.entry (tokens_used (listed (map view_param params.now))) (founds uses.old.items) (founds uses.new.items) r) }
+    ensures typed { IfOk result
+        (λ r. AreParamsOf subst.old subst.new (env_of names.entry) (listed (map view_param params.now))
+        (founds uses.old.items) (founds uses.new.items) (option_map (λ v. v.items) r)) }
+    ensures order { IfOk result
+        (λ r. AreAddedIf names.entry (tokens_used (listed (map view_param params.now))) (founds uses.old.items)
+        (founds uses.new.items) r) }
 {
     let mut typed = Vec::new(alloc);
     for param in params {
@@ -106,8 +118,12 @@ fn type_behind<'n, 'a>(
 ) -> Result<Option<u64>, Memory>
     requires seen { IsSeen subst.old seen uses.old.items }
     requires over { AreTypesOver subst.old (types_seen bindings.now) }
-    ensures typed { IfOk result (λ r. IsTypeOf subst.old subst.new (with_inner (env_of seen.entry) (types_seen bindings.entry.now)) (view_full full.now) (founds uses.old.items) (founds uses.new.items) r) }
-    ensures order { IfOk result (λ r. AreAddedIf seen.entry (tokens_used (view_full full.now)) (founds uses.old.items) (founds uses.new.items) r) }
+    ensures typed { IfOk result
+        (λ r. IsTypeOf subst.old subst.new (with_inner (env_of seen.entry) (types_seen bindings.entry.now))
+        (view_full full.now) (founds uses.old.items) (founds uses.new.items) r) }
+    ensures order { IfOk result
+        (λ r. AreAddedIf seen.entry (tokens_used (view_full full.now)) (founds uses.old.items) (founds uses.new.items)
+        r) }
 {
     let names = Names {
         targets: seen.targets,
@@ -129,8 +145,12 @@ fn type_result<'n, 'a>(
 ) -> Result<Option<u64>, Memory>
     requires seen { IsSeen subst.old seen uses.old.items }
     requires over { AreTypesOver subst.old (types_seen bindings.now) }
-    ensures typed { IfOk result (λ r. IsTypeOf subst.old subst.new (with_inner (env_of seen.entry) (types_seen bindings.entry.now)) (view_expr expr.now) (founds uses.old.items) (founds uses.new.items) r) }
-    ensures order { IfOk result (λ r. AreAddedIf seen.entry (tokens_used (view_expr expr.now)) (founds uses.old.items) (founds uses.new.items) r) }
+    ensures typed { IfOk result
+        (λ r. IsTypeOf subst.old subst.new (with_inner (env_of seen.entry) (types_seen bindings.entry.now))
+        (view_expr expr.now) (founds uses.old.items) (founds uses.new.items) r) }
+    ensures order { IfOk result
+        (λ r. AreAddedIf seen.entry (tokens_used (view_expr expr.now)) (founds uses.old.items) (founds uses.new.items)
+        r) }
 {
     let names = Names {
         targets: seen.targets,
@@ -141,7 +161,8 @@ fn type_result<'n, 'a>(
     type_expr(alloc, subst, names, uses, expr)
 }
 
-/// Adds the bindings in the body with their variables, each typed behind the ones before it; false where one has no type.
+/// Adds the bindings in the body with their variables, each typed behind the ones before it; false where one has no
+/// type.
 fn type_inners(
     alloc: Global,
     subst: &mut Subst,
@@ -153,8 +174,13 @@ fn type_inners(
     requires seen { IsSeen subst.old seen uses.old.items }
     requires outside { seen.inner.now ≡ [] }
     requires over { AreTypesOver subst.old (types_seen bindings.old.items) }
-    ensures typed { IfOk result (λ yes. AreInnersOf subst.old subst.new (env_of seen.entry).targets (env_of seen.entry).before (listed (map view_inner inners.now)) (types_seen bindings.old.items) (types_seen bindings.new.items) (founds uses.old.items) (founds uses.new.items) yes) }
-    ensures order { IfOk result (λ yes. AreAddedWhere seen.entry (tokens_used (listed (map view_inner inners.now))) (founds uses.old.items) (founds uses.new.items) yes) }
+    ensures typed { IfOk result
+        (λ yes. AreInnersOf subst.old subst.new (env_of seen.entry).targets (env_of seen.entry).before
+        (listed (map view_inner inners.now)) (types_seen bindings.old.items) (types_seen bindings.new.items)
+        (founds uses.old.items) (founds uses.new.items) yes) }
+    ensures order { IfOk result
+        (λ yes. AreAddedWhere seen.entry (tokens_used (listed (map view_inner inners.now))) (founds uses.old.items)
+        (founds uses.new.items) yes) }
 {
     for inner in inners {
         match type_behind(
@@ -198,8 +224,12 @@ fn type_body(
     requires seen { IsSeen subst.old seen uses.old.items }
     requires outside { seen.inner.now ≡ [] }
     requires over { AreTypesOver subst.old (types_seen params.items) }
-    ensures typed { IfOk result (λ r. IsBodyOf subst.old subst.new (env_of seen.entry).targets (env_of seen.entry).before (listed (map view_inner def.now.inner.items)) (view_expr def.now.result) (types_seen params.items) (founds uses.old.items) (founds uses.new.items) r) }
-    ensures order { IfOk result (λ r. AreAddedIf seen.entry (tokens_used (listed (map view_inner def.now.inner.items)) ++ tokens_used (view_expr def.now.result)) (founds uses.old.items) (founds uses.new.items) r) }
+    ensures typed { IfOk result
+        (λ r. IsBodyOf subst.old subst.new (env_of seen.entry).targets (env_of seen.entry).before
+        (listed (map view_inner def.now.inner.items)) (view_expr def.now.result) (types_seen params.items)
+        (founds uses.old.items) (founds uses.new.items) r) }
+    ensures order { IfOk result (λ r. AreAddedIf seen.entry (tokens_used (listed (map view_inner def.now.inner.items))
+        ++ tokens_used (view_expr def.now.result)) (founds uses.old.items) (founds uses.new.items) r) }
 {
     let mut bindings = params;
     let typed = type_inners(alloc, subst, seen, &mut bindings, uses, &def.inner)?;

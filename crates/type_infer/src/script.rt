@@ -34,9 +34,9 @@ pub struct Typed<'a> {
     pub uses: Vec<Use>,
 }
 
-/// The uses of a script that has a typing: one for each name in the order of the tokens, with what it means and its kinds,
-/// mono exactly where every typing is (`docs/typing.md`). The fields `at` of the script are the indexes of its tokens, as
-/// parsing answers it.
+/// The uses of a script that has a typing: one for each name in the order of the tokens, with what it means and its
+/// kinds, mono exactly where every typing is (`docs/typing.md`). The fields `at` of the script are the indexes of its
+/// tokens, as parsing answers it.
 ///
 /// # Errors
 ///
@@ -79,8 +79,9 @@ fn start<'a>(alloc: Global) -> Result<Typing<'a>, TypeFault>
     }
 }
 
-/// Room for what the statements leave, so that few lists grow step by step: each leaves one step, and binds one name at most.
-/// A statement mostly needs a type variable, and each name that it uses another one, and perhaps one for its kind.
+/// Room for what the statements leave, so that few lists grow step by step: each leaves one step, and binds one name at
+/// most. A statement mostly needs a type variable, and each name that it uses another one, and perhaps one for its
+/// kind.
 fn make_room(typing: &mut Typing<'_>, front: &Front) -> Result<(), Memory>
     ensures { IsSameTyping typing.old typing.new }
 {
@@ -100,10 +101,15 @@ fn type_statements<'a>(
     statements: &'a [Stmt],
     front: &Front,
 ) -> Result<Typing<'a>, TypeFault>
-    requires front { IsFront (map view_stmt statements.now) front.now.count (map resolved front.now.all.items) front.now.fault }
+    requires front { IsFront (map view_stmt statements.now) front.now.count (map resolved front.now.all.items)
+        front.now.fault }
     requires placed { IsPlaced 0 (listed (map view_stmt statements.now)) }
-    ensures typed { IfOk result (λ t. IsTypedSo (target_in (map resolved front.now.all.items)) (first_of front.now.count (listed (map view_stmt statements.entry.now))) t) }
-    ensures clash { IfErr result (λ f. IsClashIn (target_in (map resolved front.now.all.items)) (listed (map view_stmt statements.entry.now)) front.now.count f) }
+    ensures typed { IfOk result
+        (λ t. IsTypedSo (target_in (map resolved front.now.all.items))
+        (first_of front.now.count (listed (map view_stmt statements.entry.now))) t) }
+    ensures clash { IfErr result
+        (λ f. IsClashIn (target_in (map resolved front.now.all.items)) (listed (map view_stmt statements.entry.now))
+        front.now.count f) }
 {
     if front.count > u32::MAX as usize {
         return Err(TypeFault::Memory);
@@ -119,12 +125,17 @@ fn type_with<'a>(
     statements: &'a [Stmt],
     front: &Front,
 ) -> Result<Typing<'a>, TypeFault>
-    requires front { IsFront (map view_stmt statements.now) front.now.count (map resolved front.now.all.items) front.now.fault }
+    requires front { IsFront (map view_stmt statements.now) front.now.count (map resolved front.now.all.items)
+        front.now.fault }
     requires placed { IsPlaced 0 (listed (map view_stmt statements.now)) }
     requires table { targets_of targets.now ≡ target_in (map resolved front.now.all.items) }
     requires counted { front.now.count ≤ 4294967295 }
-    ensures typed { IfOk result (λ t. IsTypedSo (target_in (map resolved front.now.all.items)) (first_of front.now.count (listed (map view_stmt statements.entry.now))) t) }
-    ensures clash { IfErr result (λ f. IsClashIn (target_in (map resolved front.now.all.items)) (listed (map view_stmt statements.entry.now)) front.now.count f) }
+    ensures typed { IfOk result
+        (λ t. IsTypedSo (target_in (map resolved front.now.all.items))
+        (first_of front.now.count (listed (map view_stmt statements.entry.now))) t) }
+    ensures clash { IfErr result
+        (λ f. IsClashIn (target_in (map resolved front.now.all.items)) (listed (map view_stmt statements.entry.now))
+        front.now.count f) }
 {
     let mut typing = start(alloc)?;
     if make_room(&mut typing, front).is_err() {
@@ -142,13 +153,18 @@ fn type_each<'a>(
     statements: &'a [Stmt],
     front: &Front,
 ) -> Result<(), TypeFault>
-    requires front { IsFront (map view_stmt statements.now) front.now.count (map resolved front.now.all.items) front.now.fault }
+    requires front { IsFront (map view_stmt statements.now) front.now.count (map resolved front.now.all.items)
+        front.now.fault }
     requires placed { IsPlaced 0 (listed (map view_stmt statements.now)) }
     requires table { targets_of targets.now ≡ target_in (map resolved front.now.all.items) }
     requires counted { front.now.count ≤ 4294967295 }
     requires begun { IsAfter (target_in (map resolved front.now.all.items)) none typing.old }
-    ensures typed { OnOk result (IsTypedSo (target_in (map resolved front.now.all.items)) (first_of front.now.count (listed (map view_stmt statements.entry.now))) typing.new) }
-    ensures clash { IfErr result (λ f. IsClashIn (target_in (map resolved front.now.all.items)) (listed (map view_stmt statements.entry.now)) front.now.count f) }
+    ensures typed { OnOk result
+        (IsTypedSo (target_in (map resolved front.now.all.items))
+        (first_of front.now.count (listed (map view_stmt statements.entry.now))) typing.new) }
+    ensures clash { IfErr result
+        (λ f. IsClashIn (target_in (map resolved front.now.all.items)) (listed (map view_stmt statements.entry.now))
+        front.now.count f) }
 {
     for index in 0..front.count {
         let typed = type_next(alloc, typing, targets, statements, front, index)?;
@@ -181,12 +197,16 @@ fn type_next<'a>(
     front: &Front,
     index: usize,
 ) -> Result<bool, TypeFault>
-    requires front { IsFront (map view_stmt statements.now) front.now.count (map resolved front.now.all.items) front.now.fault }
+    requires front { IsFront (map view_stmt statements.now) front.now.count (map resolved front.now.all.items)
+        front.now.fault }
     requires placed { IsPlaced 0 (listed (map view_stmt statements.now)) }
     requires table { targets_of targets.now ≡ target_in (map resolved front.now.all.items) }
     requires inside { index < front.now.count }
-    requires before { IsAfter (target_in (map resolved front.now.all.items)) (first_of index (listed (map view_stmt statements.now))) typing.old }
-    ensures turned { IfOk result (λ yes. IsTurned (target_in (map resolved front.now.all.items)) (listed (map view_stmt statements.entry.now)) front.now.count index typing.new yes) }
+    requires before { IsAfter (target_in (map resolved front.now.all.items))
+        (first_of index (listed (map view_stmt statements.now))) typing.old }
+    ensures turned { IfOk result
+        (λ yes. IsTurned (target_in (map resolved front.now.all.items)) (listed (map view_stmt statements.entry.now))
+        front.now.count index typing.new yes) }
     ensures refused { IfErr result (λ f. f ≡ TypeFault.Memory) }
 {
     let part = &statements[index].part;
@@ -202,7 +222,8 @@ fn next<'a>(
     part: &'a StmtPart,
 ) -> Result<bool, TypeFault>
     requires ready { IsReady (targets_of targets.now) typing.old }
-    ensures stepped { IfOk result (λ yes. IsStepped (targets_of targets.now) (view_part part.entry.now) typing.old typing.new yes) }
+    ensures stepped { IfOk result
+        (λ yes. IsStepped (targets_of targets.now) (view_part part.entry.now) typing.old typing.new yes) }
     ensures refused { IfErr result (λ f. f ≡ TypeFault.Memory) }
 {
     match type_part(alloc, typing, targets, part) {
@@ -213,7 +234,8 @@ fn next<'a>(
 
 /// The names of the statements before the first with a fault of names, with want of memory as a fault of the script.
 fn told_front(alloc: Global, statements: &[Stmt]) -> Result<Front, TypeFault>
-    ensures front { IfOk result (λ f. IsFront (map view_stmt statements.now) f.count (map resolved f.all.items) f.fault) }
+    ensures front { IfOk result
+        (λ f. IsFront (map view_stmt statements.now) f.count (map resolved f.all.items) f.fault) }
     ensures refused { IfErr result (λ f. f ≡ TypeFault.Memory) }
 {
     match resolve_front(alloc, statements) {
@@ -222,8 +244,8 @@ fn told_front(alloc: Global, statements: &[Stmt]) -> Result<Front, TypeFault>
     }
 }
 
-/// The uses of the statements that were typed, in a list that begins with room for so many, where no fault of names stands
-/// behind them; or that fault.
+/// The uses of the statements that were typed, in a list that begins with room for so many, where no fault of names
+/// stands behind them; or that fault.
 fn uses_or_fault(
     alloc: Global,
     typing: Typing<'_>,

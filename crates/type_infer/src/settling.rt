@@ -13,8 +13,8 @@ use std::alloc::Global;
 use type_terms::{KindTerm, Subst, resolved_kind};
 use typing_rules::{KindOf, Use, UseKinds};
 
-/// The uses of all statements, in the order of the tokens, in a list that begins with room for so many. What was found is
-/// freed as it is turned into the answer, so that its memory is taken again at once.
+/// The uses of all statements, in the order of the tokens, in a list that begins with room for so many. What was found
+/// is freed as it is turned into the answer, so that its memory is taken again at once.
 pub fn settled_uses(alloc: Global, typing: Typing<'_>, room: usize) -> Result<Vec<Use>, Memory>
     requires over { AreDonesOver typing.subst (dones typing) }
     ensures { IfOk result (λ us. AreDefaultOf typing.entry.subst (dones typing.entry) us.items) }
@@ -126,7 +126,8 @@ fn add_def(
     uses: &mut Vec<Use>,
 ) -> Result<(), Memory>
     requires over { AreDonesOver subst.now (defined_as (option_map (λ d. d.now) def)) }
-    ensures { OnOk result (AddsDones subst.now (defined_as (option_map (λ d. d.now) def.entry)) uses.old.items uses.new.items) }
+    ensures { OnOk result (AddsDones subst.now (defined_as (option_map (λ d. d.now) def.entry)) uses.old.items
+        uses.new.items) }
 {
     match def {
         None => Ok(()),

@@ -26,7 +26,8 @@ pub fn type_part<'a>(
     part: &'a StmtPart,
 ) -> Result<bool, Memory>
     requires ready { IsReady (targets_of targets.now) typing.old }
-    ensures { IfOk result (λ yes. IsStepped (targets_of targets.now) (view_part part.entry.now) typing.old typing.new yes) }
+    ensures { IfOk result (λ yes. IsStepped (targets_of targets.now) (view_part part.entry.now) typing.old typing.new
+        yes) }
 {
     match part {
         StmtPart::Bind(bind) => type_bind(alloc, typing, targets, bind),
@@ -66,8 +67,8 @@ fn add_values(alloc: Global, subst: &Subst, held: &mut Held, values: &[u64]) -> 
     Ok(())
 }
 
-/// What the values hold now that more is bound, with the pending ones, of which none is left. Where memory runs out, some
-/// of it may have been done.
+/// What the values hold now that more is bound, with the pending ones, of which none is left. Where memory runs out,
+/// some of it may have been done.
 fn catch_up(
     alloc: Global,
     subst: &Subst,
@@ -123,7 +124,8 @@ fn type_bind(
     bind: &Bind,
 ) -> Result<bool, Memory>
     requires ready { IsReady (targets_of targets.now) typing.old }
-    ensures { IfOk result (λ yes. IsStepped (targets_of targets.now) (BindPart (view_bind bind.now)) typing.old typing.new yes) }
+    ensures { IfOk result (λ yes. IsStepped (targets_of targets.now) (BindPart (view_bind bind.now)) typing.old
+        typing.new yes) }
 {
     let seen = outside(targets, &typing.before, &typing.defs);
     match value_type(alloc, &mut typing.subst, seen, &bind.value)? {
@@ -143,7 +145,8 @@ fn type_run(
     call: &Call,
 ) -> Result<bool, Memory>
     requires ready { IsReady (targets_of targets.now) typing.old }
-    ensures { IfOk result (λ yes. IsStepped (targets_of targets.now) (CallPart (view_call call.now)) typing.old typing.new yes) }
+    ensures { IfOk result (λ yes. IsStepped (targets_of targets.now) (CallPart (view_call call.now)) typing.old
+        typing.new yes) }
 {
     let seen = outside(targets, &typing.before, &typing.defs);
     match run_type(alloc, &mut typing.subst, seen, call)? {
@@ -163,7 +166,8 @@ fn type_branch(
     choice: &If,
 ) -> Result<bool, Memory>
     requires ready { IsReady (targets_of targets.now) typing.old }
-    ensures { IfOk result (λ yes. IsStepped (targets_of targets.now) (IfPart (view_if choice.now)) typing.old typing.new yes) }
+    ensures { IfOk result (λ yes. IsStepped (targets_of targets.now) (IfPart (view_if choice.now)) typing.old typing.new
+        yes) }
 {
     let seen = outside(targets, &typing.before, &typing.defs);
     match choice_type(alloc, &mut typing.subst, seen, choice)? {
@@ -183,7 +187,8 @@ fn type_function<'a>(
     def: &'a Def,
 ) -> Result<bool, Memory>
     requires ready { IsReady (targets_of targets.now) typing.old }
-    ensures { IfOk result (λ yes. IsStepped (targets_of targets.now) (DefPart (view_def def.entry.now)) typing.old typing.new yes) }
+    ensures { IfOk result (λ yes. IsStepped (targets_of targets.now) (DefPart (view_def def.entry.now)) typing.old
+        typing.new yes) }
 {
     catch_up(alloc, &typing.subst, &mut typing.held, &mut typing.pending)?;
     let seen = outside(targets, &typing.before, &typing.defs);

@@ -10,8 +10,8 @@ pub struct TypedExpr {
     pub uses: Vec<FoundUse>,
 }
 
-/// What a statement has left: a binding and the uses in its value, a def by its place among the defs, or the uses of what
-/// runs.
+/// What a statement has left: a binding and the uses in its value, a def by its place among the defs, or the uses of
+/// what runs.
 #[derive(Drop)]
 pub enum Step {
     Bound(TypedName, Vec<FoundUse>),
@@ -19,11 +19,12 @@ pub enum Step {
     Ran(Vec<FoundUse>),
 }
 
-/// The typings of statements: the substitution whose solutions they are, what the statements have bound, the newest last,
-/// their defs, and what each statement has left.
+/// The typings of statements: the substitution whose solutions they are, what the statements have bound, the newest
+/// last, their defs, and what each statement has left.
 ///
-/// Only a def asks which variables the types of values hold. So `held` has those of an earlier substitution, for the values
-/// that were bound then, and `pending` the variables that are the types of the values bound since, the oldest first.
+/// Only a def asks which variables the types of values hold. So `held` has those of an earlier substitution, for the
+/// values that were bound then, and `pending` the variables that are the types of the values bound since, the oldest
+/// first.
 #[derive(Drop)]
 pub struct Typing<'a> {
     pub subst: Subst,

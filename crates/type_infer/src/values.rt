@@ -11,8 +11,8 @@ use script_grammar::tree::{Call, Full, If};
 use std::alloc::Global;
 use type_terms::Subst;
 
-/// Room for the uses of a value at first. Most values use two names at most, and a list that begins without room takes room
-/// for four at its first use.
+/// Room for the uses of a value at first. Most values use two names at most, and a list that begins without room takes
+/// room for four at its first use.
 const USES_OF_A_VALUE: usize = 2;
 
 /// The type of a value, and the uses in it; `None` where it has no type.
@@ -23,7 +23,8 @@ pub fn value_type(
     full: &Full,
 ) -> Result<Option<TypedExpr>, Memory>
     requires seen { IsSeen subst.old seen [] }
-    ensures { IfOk result (λ r. IsTypedAs subst.old subst.new (env_of seen.entry) seen.entry.defs.now (view_full full.now) r) }
+    ensures { IfOk result (λ r. IsTypedAs subst.old subst.new (env_of seen.entry) seen.entry.defs.now
+        (view_full full.now) r) }
 {
     let mut uses = Vec::with_capacity(alloc, USES_OF_A_VALUE)?;
     match type_full(alloc, subst, seen, &mut uses, full)? {
@@ -40,7 +41,8 @@ pub fn run_type(
     call: &Call,
 ) -> Result<Option<TypedExpr>, Memory>
     requires seen { IsSeen subst.old seen [] }
-    ensures { IfOk result (λ r. IsTypedAs subst.old subst.new (env_of seen.entry) seen.entry.defs.now (view_call call.now) r) }
+    ensures { IfOk result (λ r. IsTypedAs subst.old subst.new (env_of seen.entry) seen.entry.defs.now
+        (view_call call.now) r) }
 {
     let mut uses = Vec::with_capacity(alloc, USES_OF_A_VALUE)?;
     match type_call(alloc, subst, seen, &mut uses, call)? {
@@ -57,7 +59,8 @@ pub fn choice_type(
     choice: &If,
 ) -> Result<Option<TypedExpr>, Memory>
     requires seen { IsSeen subst.old seen [] }
-    ensures { IfOk result (λ r. IsTypedAs subst.old subst.new (env_of seen.entry) seen.entry.defs.now (view_if choice.now) r) }
+    ensures { IfOk result (λ r. IsTypedAs subst.old subst.new (env_of seen.entry) seen.entry.defs.now
+        (view_if choice.now) r) }
 {
     let mut uses = Vec::with_capacity(alloc, USES_OF_A_VALUE)?;
     match type_choice(alloc, subst, seen, &mut uses, choice)? {

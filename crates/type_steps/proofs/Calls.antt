@@ -2,7 +2,7 @@
 use Rattle.std.proofs.Common.{◌≡◌, ◌∙◌, sym, ap, ap₂, subst, refl, ℕ, List, [], ◌∷◌, ◌++◌, map, Some, None, Option, Bool, true, false, cond, nat_eq}
 use Rattle.std.specs.Prelude.{option_map}
 use Rattle.liq_base.specs.declared.memory.Kind.{Kind}
-use Rattle.script_grammar.specs.Tree.{Tree, Many, AnArg, Call, Named}
+use Rattle.script_grammar.specs.Tree.{Tree, Many, AnArg, NamedCall, Named}
 use Rattle.type_terms.specs.Ground.{Ground, Assignment}
 use Rattle.type_terms.specs.Term.{Term, variable, meaning, kind_meaning}
 use Rattle.type_terms.specs.Table.{Table, Solves, IsOver}
@@ -10,7 +10,7 @@ use Rattle.type_terms.specs.Agrees.{Agrees, Follows}
 use Rattle.type_terms.specs.declared.ty.KindTerm.{KindTerm}
 use Rattle.typing_rules.specs.declared.uses.Target.{Target}
 use Rattle.typing_rules.specs.declared.uses.Target.TheVariants as target
-use Rattle.typing_rules.specs.Arguments.{Parameter, Given, Matched}
+use Rattle.typing_rules.specs.Arguments.{Parameter, GivenArgument, Matched}
 use Rattle.typing_rules.specs.Typing.{TypesByToken, Has, AreGiven, Applied, NameHas, type_at}
 use Rattle.typing_rules.specs.Scripts.{Places, types_of}
 use Rattle.type_steps.specs.Environment.{Env, Known, value, function, Found, Texts, AreFound, AreUsesOver, AreKindsOver, AreKnownOver, AreTypesOver, EachTakes, Takes, CallTakes, IsEnvOver, sight_under, texts_under, entries_under, types_under, term_at, term_before, or_else, term_seen, with_use}
@@ -108,15 +108,15 @@ name_means_none s env at name o old means no_slot a m k g h p = by_meaning o no_
 -- ---- a call
 
 -- a call of what means nothing, or a value
-pub call_means_none : (s : Table) (env : Env) (at : ℕ) (name : List ℕ) (args : Tree (Many AnArg)) (old : List Found) → env.targets at ≡ None → HasNoType s env (Call at name args) old
+pub call_means_none : (s : Table) (env : Env) (at : ℕ) (name : List ℕ) (args : Tree (Many AnArg)) (old : List Found) → env.targets at ≡ None → HasNoType s env (NamedCall at name args) old
 call_means_none s env at name args old means a m k g h p = subst (λ x. Applied (sight_under env a k) at x h.0 g) means h.2
 
-pub call_means_value : (s : Table) (env : Env) (at : ℕ) (name : List ℕ) (args : Tree (Many AnArg)) (t : ℕ) (old : List Found) → env.targets at ≡ Some (target.Slot t) → HasNoType s env (Call at name args) old
+pub call_means_value : (s : Table) (env : Env) (at : ℕ) (name : List ℕ) (args : Tree (Many AnArg)) (t : ℕ) (old : List Found) → env.targets at ≡ Some (target.Slot t) → HasNoType s env (NamedCall at name args) old
 call_means_value s env at name args t old means a m k g h p = subst (λ x. Applied (sight_under env a k) at x h.0 g) means h.2
 
 -- a call of what the environment says nothing of
 pub call_unknown : (s : Table) (env : Env) (at : ℕ) (name : List ℕ) (args : Tree (Many AnArg)) (t : Target) (old : List Found) → env.targets at ≡ Some t →
-    ((a : Assignment) → Solves a s → (k : Places) (gs : List (Given Ground)) (g : Ground) → Applied (sight_under env a k) at (Some t) gs g → ⊥) → HasNoType s env (Call at name args) old
+    ((a : Assignment) → Solves a s → (k : Places) (gs : List (GivenArgument Ground)) (g : Ground) → Applied (sight_under env a k) at (Some t) gs g → ⊥) → HasNoType s env (NamedCall at name args) old
 call_unknown s env at name args t old means no_call a m k g h p = no_call a m k h.0 g (subst (λ x. Applied (sight_under env a k) at x h.0 g) means h.2)
 
 terms_later : (s s' : Table) (ts : List Term) → Follows s s' → AreTermsOver s ts → AreTermsOver s' ts
@@ -141,15 +141,15 @@ module _ (s s1 : Table) (env : Env) (at : ℕ) (name : List ℕ) (args : Tree (M
   abbrev InstanceAt : Places → List Ground → Ground → Assignment → Type 0
   InstanceAt k ts v b = (map (meaning b) params ≡ ts) × (meaning b result ≡ v) × AreFound env b k (with_use old at t kinds)
 
-  chosen : (a : Assignment) → Solves a s → (k : Places) (gs : List (Given Ground)) (v : Ground) (ts : List Ground) (ks : List Kind) → I a ts v ks → Takes (CallTakes (texts_under a env.before) k) k [] at t ks → AreFound env a k old → Reached s s1 a (InstanceAt k ts v)
+  chosen : (a : Assignment) → Solves a s → (k : Places) (gs : List (GivenArgument Ground)) (v : Ground) (ts : List Ground) (ks : List Kind) → I a ts v ks → Takes (CallTakes (texts_under a env.before) k) k [] at t ks → AreFound env a k old → Reached s s1 a (InstanceAt k ts v)
   chosen a m k gs v ts ks i h p = with_uses (f.complete a m ts v ks i) where
     with_uses : ((b : Assignment) × Solves b s1 × Agrees s a b × (map (meaning b) params ≡ ts) × (meaning b result ≡ v) × (map (kind_meaning b) kinds ≡ ks)) → Reached s s1 a (InstanceAt k ts v)
     with_uses r = record { at = r.0; solves = r.1; agrees = r.2; holds = (r.3, r.4, used_at a r.0 k ks r.2 r.5 p h) }
 
-  called : (a : Assignment) (k : Places) (v : Ground) → Has (sight_under env a k) (Call at name args) v → (gs : List (Given Ground)) × AreGiven (sight_under env a k) args gs × Applied (sight_under env a k) at (Some t) gs v
+  called : (a : Assignment) (k : Places) (v : Ground) → Has (sight_under env a k) (NamedCall at name args) v → (gs : List (GivenArgument Ground)) × AreGiven (sight_under env a k) args gs × Applied (sight_under env a k) at (Some t) gs v
   called a k v h = (h.0, h.1, subst (λ x. Applied (sight_under env a k) at x h.0 v) means h.2)
 
-  pub call_infers : (s2 s3 : Table) (gs : List (Given ℕ)) (new : List Found) → InfersGiven s1 s2 env args gs (with_use old at t kinds) new → Restricts s2 s3 (λ a. Matched ps (given_under a gs) (map (meaning a) params)) → Infers s s3 env (Call at name args) result old new
+  pub call_infers : (s2 s3 : Table) (gs : List (GivenArgument ℕ)) (new : List Found) → InfersGiven s1 s2 env args gs (with_use old at t kinds) new → Restricts s2 s3 (λ a. Matched ps (given_under a gs) (map (meaning a) params)) → Infers s s3 env (NamedCall at name args) result old new
   call_infers s2 s3 gs new g h = record {
     over = over_later s1 s3 result (follows_both s1 s2 s3 g.follows h.follows) f.result;
     uses = uses_later s2 s3 new h.follows g.uses;
@@ -160,13 +160,13 @@ module _ (s s1 : Table) (env : Env) (at : ℕ) (name : List ℕ) (args : Tree (M
     complete = λ a m k v p q. reached a m k v (called a k v p) q;
   } where
     whole : (a : Assignment) (k : Places) → Solves a s1 → Matched ps (given_under a gs) (map (meaning a) params) → AreGiven (sight_under env a k) args (given_under a gs) × AreFound env a k (with_use old at t kinds) →
-        Has (sight_under env a k) (Call at name args) (meaning a result) × AreFound env a k old
+        Has (sight_under env a k) (NamedCall at name args) (meaning a result) × AreFound env a k old
     whole a k m1 matched w =
         let split = each_without (texts_under a env.before) k a old one w.1 in
         let applied = c.calls a (f.follows.solves a m1) k (given_under a gs) (meaning a result) (map (meaning a) params) (map (kind_meaning a) kinds) matched (f.sound a m1) split.1 in
         ((given_under a gs, w.0, subst (λ x. Applied (sight_under env a k) at x (given_under a gs) (meaning a result)) (sym means) applied), split.0)
 
-    through : (a : Assignment) → Solves a s → (k : Places) (v : Ground) (hs : List (Given Ground)) → AreGiven (sight_under env a k) args hs → ((ts : List Ground) × (ks : List Kind) × Matched ps hs ts × I a ts v ks × Takes (CallTakes (texts_under a env.before) k) k [] at t ks) → AreFound env a k old →
+    through : (a : Assignment) → Solves a s → (k : Places) (v : Ground) (hs : List (GivenArgument Ground)) → AreGiven (sight_under env a k) args hs → ((ts : List Ground) × (ks : List Kind) × Matched ps hs ts × I a ts v ks × Takes (CallTakes (texts_under a env.before) k) k [] at t ks) → AreFound env a k old →
         Reached s s3 a (FoundAs env k result v new)
     through a m k v hs given x q =
         reach f.follows (chosen a m k hs v x.0 x.1 x.3 x.4 q) (λ b1 m1 g1 p1.
@@ -177,31 +177,31 @@ module _ (s s1 : Table) (env : Env) (at : ℕ) (name : List ℕ) (args : Tree (M
           found_over s2 env b2 b3 k new (env_later s s2 env (follows_both s s1 s2 f.follows g.follows) o) g.uses g3 p2.1,
         ))))
 
-    reached : (a : Assignment) → Solves a s → (k : Places) (v : Ground) → ((hs : List (Given Ground)) × AreGiven (sight_under env a k) args hs × Applied (sight_under env a k) at (Some t) hs v) → AreFound env a k old →
+    reached : (a : Assignment) → Solves a s → (k : Places) (v : Ground) → ((hs : List (GivenArgument Ground)) × AreGiven (sight_under env a k) args hs × Applied (sight_under env a k) at (Some t) hs v) → AreFound env a k old →
         Reached s s3 a (FoundAs env k result v new)
     reached a m k v w q = through a m k v w.0 w.1 (c.instance a m k w.0 v w.2) q
 
-  pub call_no_given : HaveNoGiven s1 env args (with_use old at t kinds) → HasNoType s env (Call at name args) old
+  pub call_no_given : HaveNoGiven s1 env args (with_use old at t kinds) → HasNoType s env (NamedCall at name args) old
   call_no_given h a m k v p q = absent (called a k v p) where
-    behind : (hs : List (Given Ground)) → AreGiven (sight_under env a k) args hs → ((ts : List Ground) × (ks : List Kind) × Matched ps hs ts × I a ts v ks × Takes (CallTakes (texts_under a env.before) k) k [] at t ks) → ⊥
+    behind : (hs : List (GivenArgument Ground)) → AreGiven (sight_under env a k) args hs → ((ts : List Ground) × (ks : List Kind) × Matched ps hs ts × I a ts v ks × Takes (CallTakes (texts_under a env.before) k) k [] at t ks) → ⊥
     behind hs given x = let r = chosen a m k hs v x.0 x.1 x.3 x.4 q in h r.at r.solves k hs (seen_over (λ z. AreGiven z args hs) s env a r.at k o r.agrees given) r.holds.2
 
-    absent : ((hs : List (Given Ground)) × AreGiven (sight_under env a k) args hs × Applied (sight_under env a k) at (Some t) hs v) → ⊥
+    absent : ((hs : List (GivenArgument Ground)) × AreGiven (sight_under env a k) args hs × Applied (sight_under env a k) at (Some t) hs v) → ⊥
     absent w = behind w.0 w.1 (c.instance a m k w.0 v w.2)
 
-  pub call_no_match : (s2 : Table) (gs : List (Given ℕ)) (new : List Found) → InfersGiven s1 s2 env args gs (with_use old at t kinds) new → Never s2 (λ a. Matched ps (given_under a gs) (map (meaning a) params)) → HasNoType s env (Call at name args) old
+  pub call_no_match : (s2 : Table) (gs : List (GivenArgument ℕ)) (new : List Found) → InfersGiven s1 s2 env args gs (with_use old at t kinds) new → Never s2 (λ a. Matched ps (given_under a gs) (map (meaning a) params)) → HasNoType s env (NamedCall at name args) old
   call_no_match s2 gs new g h a m k v p q = absent (called a k v p) where
-    further : (hs : List (Given Ground)) (ts : List Ground) → Matched ps hs ts → (b1 : Assignment) → map (meaning b1) params ≡ ts → Reached s1 s2 b1 (GivenAs env k gs hs new) → ⊥
+    further : (hs : List (GivenArgument Ground)) (ts : List Ground) → Matched ps hs ts → (b1 : Assignment) → map (meaning b1) params ≡ ts → Reached s1 s2 b1 (GivenAs env k gs hs new) → ⊥
     further hs ts matched b1 is r =
         let same : map (meaning r.at) params ≡ ts = sym (terms_over s1 b1 r.at params f.params r.agrees) ∙ is in
         h r.at r.solves (subst (λ js. Matched ps js (map (meaning r.at) params)) (sym r.holds.0) (subst (λ us. Matched ps hs us) (sym same) matched))
 
-    behind : (hs : List (Given Ground)) → AreGiven (sight_under env a k) args hs → ((ts : List Ground) × (ks : List Kind) × Matched ps hs ts × I a ts v ks × Takes (CallTakes (texts_under a env.before) k) k [] at t ks) → ⊥
+    behind : (hs : List (GivenArgument Ground)) → AreGiven (sight_under env a k) args hs → ((ts : List Ground) × (ks : List Kind) × Matched ps hs ts × I a ts v ks × Takes (CallTakes (texts_under a env.before) k) k [] at t ks) → ⊥
     behind hs given x =
         let r = chosen a m k hs v x.0 x.1 x.3 x.4 q in
         further hs x.0 x.2 r.at r.holds.0 (g.complete r.at r.solves k hs (seen_over (λ z. AreGiven z args hs) s env a r.at k o r.agrees given) r.holds.2)
 
-    absent : ((hs : List (Given Ground)) × AreGiven (sight_under env a k) args hs × Applied (sight_under env a k) at (Some t) hs v) → ⊥
+    absent : ((hs : List (GivenArgument Ground)) × AreGiven (sight_under env a k) args hs × Applied (sight_under env a k) at (Some t) hs v) → ⊥
     absent w = behind w.0 w.1 (c.instance a m k w.0 v w.2)
 
 -- with a variable in place of the result

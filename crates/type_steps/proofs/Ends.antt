@@ -16,7 +16,7 @@ use Rattle.type_terms.specs.declared.ty.Base.{Base}
 use Rattle.type_terms.specs.declared.ty.Base.TheVariants as base
 use Rattle.type_terms.specs.Table.{Table}
 use Rattle.typing_rules.specs.Typing.{Sight, Has, truth}
-use Rattle.typing_rules.specs.Arguments.{Given}
+use Rattle.typing_rules.specs.Arguments.{GivenArgument}
 use Rattle.script_grammar.proofs.Rows.{compare_seen, not_seen, added_seen, compare_alone}
 use Rattle.type_steps.specs.Environment.{Env, Found, AreUsesOver, IsEnvOver}
 use Rattle.type_steps.specs.Flow.{Infers, HasNoType, InfersEach, HaveNoType, InfersAll, HaveNoTypes, InfersGiven, HaveNoGiven, Restricts, Defines, Never, IsMade, IsTypeOf, AreJoined, if_yes}
@@ -90,9 +90,9 @@ fulls_end xs i s s1 env ns old new le f = subst (λ l. InfersAll s s1 env (liste
 
 -- ---- the arguments of a call
 
-module _ (xs : List arg.Arg) (i : ℕ) (x : arg.Arg) (lt : i < length xs) (is : x ≡ get_or xs i x) (s s1 : Table) (env : Env) (gs : List (Given ℕ)) (old mid : List Found) (o : IsEnvOver s env)
+module _ (xs : List arg.Arg) (i : ℕ) (x : arg.Arg) (lt : i < length xs) (is : x ≡ get_or xs i x) (s s1 : Table) (env : Env) (gs : List (GivenArgument ℕ)) (old mid : List Found) (o : IsEnvOver s env)
     (f : InfersGiven s s1 env (listed (map view_arg (take i xs))) gs old mid) where
-  pub args_next : (s2 : Table) (n : ℕ) (new : List Found) (hs : List (Given ℕ)) → hs ≡ gs ++ (x.label, n) ∷ [] → Infers s1 s2 env (view_full x.value) (variable n) mid new → InfersGiven s s2 env (listed (map view_arg (take (i + 1) xs))) hs old new
+  pub args_next : (s2 : Table) (n : ℕ) (new : List Found) (hs : List (GivenArgument ℕ)) → hs ≡ gs ++ (x.label, n) ∷ [] → Infers s1 s2 env (view_full x.value) (variable n) mid new → InfersGiven s s2 env (listed (map view_arg (take (i + 1) xs))) hs old new
   args_next s2 n new hs his g =
       subst (λ l. InfersGiven s s2 env (listed l) hs old new) (sym (next_taken view_arg xs i x lt is))
       (subst (λ us. InfersGiven s s2 env (listed (map view_arg (take i xs) ++ view_arg x ∷ [])) us old new) (sym his)
@@ -105,7 +105,7 @@ module _ (xs : List arg.Arg) (i : ℕ) (x : arg.Arg) (lt : i < length xs) (is : 
       (subst (λ l. HaveNoGiven s env (listed l) old) (sym (next_taken view_arg xs i x lt is))
       (given_last_none s s1 env (map view_arg (take i xs)) x.at x.label (view_full x.value) gs old mid o f h)))
 
-pub args_end : (xs : List arg.Arg) (i : ℕ) (s s1 : Table) (env : Env) (gs : List (Given ℕ)) (old new : List Found) → length xs ≤ i → InfersGiven s s1 env (listed (map view_arg (take i xs))) gs old new → InfersGiven s s1 env (listed (map view_arg xs)) gs old new
+pub args_end : (xs : List arg.Arg) (i : ℕ) (s s1 : Table) (env : Env) (gs : List (GivenArgument ℕ)) (old new : List Found) → length xs ≤ i → InfersGiven s s1 env (listed (map view_arg (take i xs))) gs old new → InfersGiven s s1 env (listed (map view_arg xs)) gs old new
 args_end xs i s s1 env gs old new le f = subst (λ l. InfersGiven s s1 env (listed (map view_arg l)) gs old new) (take_all i xs le) f
 
 -- ---- literals and other leaves

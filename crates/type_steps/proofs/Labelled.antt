@@ -1,7 +1,7 @@
 -- Arguments by a table of their labels.
 use Rattle.std.proofs.Common.{◌≡◌, refl, sym, ap, ◌∙◌, ℕ, zero, suc, arith, ◌+◌, ◌<◌, List, [], ◌∷◌, length, get_or, Option, map}
 use Rattle.std.specs.Prelude.{option_map}
-use Rattle.typing_rules.specs.Arguments.{Given, argument, others}
+use Rattle.typing_rules.specs.Arguments.{GivenArgument, argument, others}
 use Rattle.name_scope.specs.Labelled.{first_of, on, placed}
 use Rattle.name_scope.specs.Seen.{left_of, seen_label}
 use Rattle.name_scope.specs.declared.labels.Labels.{Labels}
@@ -21,7 +21,7 @@ pub all_given : (gs : List Argument) (ls : List (Option (List ℕ))) (t : Labels
 all_given gs ls t e f = ap (map (on (var_at gs))) (e ∙ ap (placed 0) f) ∙ placed_on seen_argument (var_at gs) 0 gs (var_is gs)
 
 -- one is taken
-pub given_taken : (gs : List Argument) (t : Labels) (label : Option (List ℕ)) (o : Option ℕ) → o ≡ first_of label (left_of t) → option_map (var_at gs) o ≡ option_map (λ (x : ℕ × List (Given ℕ)). x.0) (argument label (left_given gs t))
+pub given_taken : (gs : List Argument) (t : Labels) (label : Option (List ℕ)) (o : Option ℕ) → o ≡ first_of label (left_of t) → option_map (var_at gs) o ≡ option_map (λ (x : ℕ × List (GivenArgument ℕ)). x.0) (argument label (left_given gs t))
 given_taken gs t label o e = ap (option_map (var_at gs)) e ∙ sym (first_on (var_at gs) label (left_of t))
 
 pub given_others : (gs : List Argument) (t t' : Labels) (label : Option (List ℕ)) → left_of t' ≡ others (left_of t) (argument label (left_of t)) → left_given gs t' ≡ others (left_given gs t) (argument label (left_given gs t))

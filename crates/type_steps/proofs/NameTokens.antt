@@ -4,8 +4,8 @@ use Rattle.script_lex.specs.declared.token.TokenKind.{TokenKind}
 use Rattle.script_lex.specs.declared.token.TokenKind.TheVariants.{Keyword, Symbol}
 use Rattle.script_lex.specs.declared.token.Keyword.TheVariants as word
 use Rattle.script_lex.specs.declared.token.Symbol.TheVariants as sign
-use Rattle.script_grammar.specs.Tree.{Sort, Tree, Many, AnInner, none, more, Stmt, BindPart, DefPart, CallPart, IfPart, Bind, Def, Inner, Param, Labelled, Optional, Negative, Plain, Expr, And, Not, Alone, Compared, Sum, Added, Product, Multiplied, Constant, Quoted, Truth, Named, Called, Chosen, Nothing, Paren, Tuple, Listed, Braces, Format, Call, Arg, If, POr, PAnd, PNot, Always, Never, Mark, Between, Grouped}
-use Rattle.script_grammar.specs.Spelling.{spell, behind, with_commas, token_if, label, op_token}
+use Rattle.script_grammar.specs.Tree.{Sort, Tree, Many, AnInner, none, more, Stmt, BindPart, DefPart, CallPart, IfPart, Bind, Def, Inner, Param, Labelled, Optional, Negative, Plain, Expr, And, Not, Alone, Compared, Sum, Added, Product, Multiplied, Constant, Quoted, Truth, Named, Called, Chosen, Nothing, Paren, Tuple, Listed, Braces, Format, NamedCall, Arg, If, POr, PAnd, PNot, TrueAtom, FalseAtom, Mark, IntervalAtom, Grouped}
+use Rattle.script_grammar.specs.Spelling.{spell, each_after, with_commas, token_if, label, op_token}
 use Rattle.script_grammar.specs.Placed.{IsPlaced, IsBehind, IsApart}
 use Rattle.typing_rules.specs.Scoping.{Name, Scope, inner_names, names, with_inner, with_inners, with_params}
 
@@ -57,11 +57,11 @@ mutual
   rise sc i (Negative at number) p = omega arith
   rise sc i (Plain e) p = rise sc i e p
   rise sc i (Expr head rest) p =
-      let n = length-append (spell head) (behind (Keyword word.Or) rest) in
-      join i (i + length (spell head)) (i + length (spell head)) (i + length (spell head) + length (behind (Keyword word.Or) rest)) (i + length (spell head ++ behind (Keyword word.Or) rest)) (names sc head) (names sc rest) (omega arith) (omega (arith, n)) (rise sc i head p.0) (rise_behind sc (Keyword word.Or) (i + length (spell head)) rest p.1)
+      let n = length-append (spell head) (each_after (Keyword word.Or) rest) in
+      join i (i + length (spell head)) (i + length (spell head)) (i + length (spell head) + length (each_after (Keyword word.Or) rest)) (i + length (spell head ++ each_after (Keyword word.Or) rest)) (names sc head) (names sc rest) (omega arith) (omega (arith, n)) (rise sc i head p.0) (rise_behind sc (Keyword word.Or) (i + length (spell head)) rest p.1)
   rise sc i (And head rest) p =
-      let n = length-append (spell head) (behind (Keyword word.And) rest) in
-      join i (i + length (spell head)) (i + length (spell head)) (i + length (spell head) + length (behind (Keyword word.And) rest)) (i + length (spell head ++ behind (Keyword word.And) rest)) (names sc head) (names sc rest) (omega arith) (omega (arith, n)) (rise sc i head p.0) (rise_behind sc (Keyword word.And) (i + length (spell head)) rest p.1)
+      let n = length-append (spell head) (each_after (Keyword word.And) rest) in
+      join i (i + length (spell head)) (i + length (spell head)) (i + length (spell head) + length (each_after (Keyword word.And) rest)) (i + length (spell head ++ each_after (Keyword word.And) rest)) (names sc head) (names sc rest) (omega arith) (omega (arith, n)) (rise sc i head p.0) (rise_behind sc (Keyword word.And) (i + length (spell head)) rest p.1)
   rise sc i (Not negated inner) p =
       let n = length-append (token_if (Keyword word.Not) negated) (spell inner) in
       let j = i + length (token_if (Keyword word.Not) negated) in
@@ -91,21 +91,21 @@ mutual
       let n = length-append (spell f) (Symbol sign.CloseRound ∷ []) in
       widen i (i + 1) (i + 1 + length (spell f)) (i + length (spell (Paren f))) (names sc f) (omega arith) (omega (arith, n)) (rise sc (i + 1) f p)
   rise sc i (Tuple at f g rest) p =
-      let n0 = length-append (spell f) (Symbol sign.Comma ∷ (spell g ++ (behind (Symbol sign.Comma) rest ++ (Symbol sign.CloseRound ∷ [])))) in
-      let n1 = length-append (spell g) (behind (Symbol sign.Comma) rest ++ (Symbol sign.CloseRound ∷ [])) in
-      let n2 = length-append (behind (Symbol sign.Comma) rest) (Symbol sign.CloseRound ∷ []) in
+      let n0 = length-append (spell f) (Symbol sign.Comma ∷ (spell g ++ (each_after (Symbol sign.Comma) rest ++ (Symbol sign.CloseRound ∷ [])))) in
+      let n1 = length-append (spell g) (each_after (Symbol sign.Comma) rest ++ (Symbol sign.CloseRound ∷ [])) in
+      let n2 = length-append (each_after (Symbol sign.Comma) rest) (Symbol sign.CloseRound ∷ []) in
       let j = i + 1 + length (spell f) in
       let k = j + 1 + length (spell g) in
-      join i k k (k + length (behind (Symbol sign.Comma) rest)) (i + length (spell (Tuple at f g rest))) (names sc f ++ names sc g) (names sc rest) (omega arith) (omega (arith, n0, n1, n2))
+      join i k k (k + length (each_after (Symbol sign.Comma) rest)) (i + length (spell (Tuple at f g rest))) (names sc f ++ names sc g) (names sc rest) (omega arith) (omega (arith, n0, n1, n2))
       (join i j (j + 1) k k (names sc f) (names sc g) (omega arith) (omega arith) (widen i (i + 1) j j (names sc f) (omega arith) (omega arith) (rise sc (i + 1) f p.1)) (rise sc (j + 1) g p.2))
       (rise_behind sc (Symbol sign.Comma) k rest p.3)
   rise sc i (Listed at parts) p =
       let n = length-append (with_commas parts) (Symbol sign.CloseSquare ∷ []) in
       widen i (i + 1) (i + 1 + length (with_commas parts)) (i + length (spell (Listed at parts))) (names sc parts) (omega arith) (omega (arith, n)) (rise_apart sc (i + 1) parts p.1)
   rise sc i (Format at size) p = omega arith
-  rise sc i (Call at name args) p =
+  rise sc i (NamedCall at name args) p =
       let n = length-append (with_commas args) (Symbol sign.CloseRound ∷ []) in
-      (omega (arith, p.0), widen (at + 1) (i + 1) (i + 1 + length (with_commas args)) (i + length (spell (Call at name args))) (names sc args) (omega (arith, p.0)) (omega (arith, n)) (rise_apart sc (i + 1) args p.1))
+      (omega (arith, p.0), widen (at + 1) (i + 1) (i + 1 + length (with_commas args)) (i + length (spell (NamedCall at name args))) (names sc args) (omega (arith, p.0)) (omega (arith, n)) (rise_apart sc (i + 1) args p.1))
   rise sc i (Arg at name value) p =
       let n = length-append (label name) (spell value) in
       let j = i + length (label name) in
@@ -122,25 +122,25 @@ mutual
   rise sc i (POr head rest) p = omega arith
   rise sc i (PAnd head rest) p = omega arith
   rise sc i (PNot negated atom) p = omega arith
-  rise sc i Always p = omega arith
-  rise sc i Never p = omega arith
+  rise sc i TrueAtom p = omega arith
+  rise sc i FalseAtom p = omega arith
   rise sc i (Mark a) p = omega arith
-  rise sc i (Between a b) p = omega arith
+  rise sc i (IntervalAtom a b) p = omega arith
   rise sc i (Grouped g) p = omega arith
 
-  rise_behind : {s : Sort} (sc : Scope) (k : TokenKind) (i : ℕ) (ts : Tree (Many s)) → IsBehind i ts → RiseTo i (i + length (behind k ts)) (names sc ts)
+  rise_behind : {s : Sort} (sc : Scope) (k : TokenKind) (i : ℕ) (ts : Tree (Many s)) → IsBehind i ts → RiseTo i (i + length (each_after k ts)) (names sc ts)
   rise_behind sc k i none p = omega arith
   rise_behind sc k i (more x xs) p =
-      let n = length-append (spell x) (behind k xs) in
+      let n = length-append (spell x) (each_after k xs) in
       let j = i + 1 + length (spell x) in
-      join i j j (j + length (behind k xs)) (i + length (behind k (more x xs))) (names sc x) (names sc xs) (omega arith) (omega (arith, n)) (widen i (i + 1) j j (names sc x) (omega arith) (omega arith) (rise sc (i + 1) x p.0)) (rise_behind sc k j xs p.1)
+      join i j j (j + length (each_after k xs)) (i + length (each_after k (more x xs))) (names sc x) (names sc xs) (omega arith) (omega (arith, n)) (widen i (i + 1) j j (names sc x) (omega arith) (omega arith) (rise sc (i + 1) x p.0)) (rise_behind sc k j xs p.1)
 
   rise_apart : {s : Sort} (sc : Scope) (i : ℕ) (ts : Tree (Many s)) → IsApart i ts → RiseTo i (i + length (with_commas ts)) (names sc ts)
   rise_apart sc i none p = omega arith
   rise_apart sc i (more x xs) p =
-      let n = length-append (spell x) (behind (Symbol sign.Comma) xs) in
+      let n = length-append (spell x) (each_after (Symbol sign.Comma) xs) in
       let j = i + length (spell x) in
-      join i j j (j + length (behind (Symbol sign.Comma) xs)) (i + length (with_commas (more x xs))) (names sc x) (names sc xs) (omega arith) (omega (arith, n)) (rise sc i x p.0) (rise_behind sc (Symbol sign.Comma) j xs p.1)
+      join i j j (j + length (each_after (Symbol sign.Comma) xs)) (i + length (with_commas (more x xs))) (names sc x) (names sc xs) (omega arith) (omega (arith, n)) (rise sc i x p.0) (rise_behind sc (Symbol sign.Comma) j xs p.1)
 
   rise_inners : (sc : Scope) (i : ℕ) (ts : Tree (Many AnInner)) → IsPlaced i ts → RiseTo i (i + length (spell ts)) (inner_names sc ts)
   rise_inners sc i none p = omega arith

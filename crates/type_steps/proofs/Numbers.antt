@@ -11,7 +11,7 @@ use Rattle.typing_rules.specs.declared.uses.KindOf.TheVariants.{Fixed}
 use Rattle.typing_rules.specs.declared.uses.Target.{Target}
 use Rattle.typing_rules.specs.declared.uses.Target.TheVariants as target
 use Rattle.typing_rules.specs.declared.uses.Use.{Use}
-use Rattle.typing_rules.specs.Kinds.{AreInOrder, Block, EachHasKinds, HasKinds, IsInOrder, AreKindsNumbered, blocks, counted, kinds_listed, block_names, number_of, numbers_in, open_kinds, owner, said}
+use Rattle.typing_rules.specs.Kinds.{AreInOrder, Block, EachHasKinds, HasKinds, IsInOrder, AreKindsNumbered, blocks, numbered_on, kinds_listed, block_names, number_of, numbers_in, open_kinds, owner, said}
 use Rattle.typing_rules.specs.Scoping.{Meaning, Name, Scope, meant, names, with_statement}
 use Rattle.typing_rules.specs.Scripts.{def_token}
 use Rattle.typing_rules.specs.Uses.{use_at}
@@ -83,8 +83,8 @@ module _ (a : Assignment) (script : Script) (xs : List Done) (whole : AreWhole s
     by : (⊥ ⊎ BlockOf (blocks [] script) 0 d us) → open_kinds (blocks [] script) all_uses (def_token d) ≡ text_count us
     by (inl h) = absurd h
     by (inr r) =
-        ap (λ (o : Option Block). counted 0 (numbers_in all_uses (block_names o))) r.found
-        ∙ ap (counted 0) (names_numbers all_uses (map (settled_use a) us) r.names (texts_said a us ∙ r.said) i ∙ text_numbers a us)
+        ap (λ (o : Option Block). numbered_on 0 (numbers_in all_uses (block_names o))) r.found
+        ∙ ap (numbered_on 0) (names_numbers all_uses (map (settled_use a) us) r.names (texts_said a us ∙ r.said) i ∙ text_numbers a us)
 
   -- a def that is known, by its token
   record Counted (ks : List Known) (t n : ℕ) : Type 0 where

@@ -8,7 +8,7 @@ use Rattle.type_terms.specs.Ground as ground
 use Rattle.type_terms.specs.Term.{Term, Terms, tuple_term, variable, no_terms, one_more, terms_of, meaning, meanings}
 use Rattle.type_terms.specs.Table.{Table, Solves, IsOver}
 use Rattle.type_terms.specs.Agrees.{Agrees, Follows}
-use Rattle.typing_rules.specs.Arguments.{Given}
+use Rattle.typing_rules.specs.Arguments.{GivenArgument}
 use Rattle.typing_rules.specs.Typing.{Sight, Has, HaveAll, AreGiven}
 use Rattle.typing_rules.specs.Scripts.{Places}
 use Rattle.type_steps.specs.Environment.{Env, Found, AreFound, AreUsesOver, IsEnvOver, sight_under}
@@ -117,27 +117,27 @@ tuple_none s env at f h rest old n a m k v p q = n a m k (ground.more p.0 (groun
 
 -- ---- one more argument
 
-given_last : (z : Sight) (ts : List (Tree AnArg)) (at : ℕ) (label : Option (List ℕ)) (x : Tree AFull) (gs : List (Given Ground)) (g : Ground) → AreGiven z (listed ts) gs → Has z x g → AreGiven z (listed (ts ++ Arg at label x ∷ [])) (gs ++ (label, g) ∷ [])
-given_last z [] at label x gs g h e = (g, [], ap (λ (hs : List (Given Ground)). hs ++ (label, g) ∷ []) h, e, refl)
-given_last z (Arg b l y ∷ ts) at label x gs g h e = (h.0, h.1 ++ (label, g) ∷ [], ap (λ (hs : List (Given Ground)). hs ++ (label, g) ∷ []) h.2, h.3, given_last z ts at label x h.1 g h.4 e)
+given_last : (z : Sight) (ts : List (Tree AnArg)) (at : ℕ) (label : Option (List ℕ)) (x : Tree AFull) (gs : List (GivenArgument Ground)) (g : Ground) → AreGiven z (listed ts) gs → Has z x g → AreGiven z (listed (ts ++ Arg at label x ∷ [])) (gs ++ (label, g) ∷ [])
+given_last z [] at label x gs g h e = (g, [], ap (λ (hs : List (GivenArgument Ground)). hs ++ (label, g) ∷ []) h, e, refl)
+given_last z (Arg b l y ∷ ts) at label x gs g h e = (h.0, h.1 ++ (label, g) ∷ [], ap (λ (hs : List (GivenArgument Ground)). hs ++ (label, g) ∷ []) h.2, h.3, given_last z ts at label x h.1 g h.4 e)
 
-given_before : (z : Sight) (ts : List (Tree AnArg)) (at : ℕ) (label : Option (List ℕ)) (x : Tree AFull) (gs : List (Given Ground)) → AreGiven z (listed (ts ++ Arg at label x ∷ [])) gs → (hs : List (Given Ground)) × (g : Ground) × (gs ≡ hs ++ (label, g) ∷ []) × AreGiven z (listed ts) hs × Has z x g
-given_before z [] at label x gs h = ([], h.0, h.2 ∙ ap (λ (hs : List (Given Ground)). (label, h.0) ∷ hs) h.4, refl, h.3)
+given_before : (z : Sight) (ts : List (Tree AnArg)) (at : ℕ) (label : Option (List ℕ)) (x : Tree AFull) (gs : List (GivenArgument Ground)) → AreGiven z (listed (ts ++ Arg at label x ∷ [])) gs → (hs : List (GivenArgument Ground)) × (g : Ground) × (gs ≡ hs ++ (label, g) ∷ []) × AreGiven z (listed ts) hs × Has z x g
+given_before z [] at label x gs h = ([], h.0, h.2 ∙ ap (λ (hs : List (GivenArgument Ground)). (label, h.0) ∷ hs) h.4, refl, h.3)
 given_before z (Arg b l y ∷ ts) at label x gs h = with_rest (given_before z ts at label x h.1 h.4) where
-  with_rest : ((hs : List (Given Ground)) × (g : Ground) × (h.1 ≡ hs ++ (label, g) ∷ []) × AreGiven z (listed ts) hs × Has z x g) → (hs : List (Given Ground)) × (g : Ground) × (gs ≡ hs ++ (label, g) ∷ []) × AreGiven z (listed (Arg b l y ∷ ts)) hs × Has z x g
-  with_rest r = ((l, h.0) ∷ r.0, r.1, h.2 ∙ ap (λ (hs : List (Given Ground)). (l, h.0) ∷ hs) r.2, (h.0, r.0, refl, h.3, r.3), r.4)
+  with_rest : ((hs : List (GivenArgument Ground)) × (g : Ground) × (h.1 ≡ hs ++ (label, g) ∷ []) × AreGiven z (listed ts) hs × Has z x g) → (hs : List (GivenArgument Ground)) × (g : Ground) × (gs ≡ hs ++ (label, g) ∷ []) × AreGiven z (listed (Arg b l y ∷ ts)) hs × Has z x g
+  with_rest r = ((l, h.0) ∷ r.0, r.1, h.2 ∙ ap (λ (hs : List (GivenArgument Ground)). (l, h.0) ∷ hs) r.2, (h.0, r.0, refl, h.3, r.3), r.4)
 
-pub inside_later : (s s' : Table) (gs : List (Given ℕ)) → Follows s s' → AreInside s gs → AreInside s' gs
+pub inside_later : (s s' : Table) (gs : List (GivenArgument ℕ)) → Follows s s' → AreInside s gs → AreInside s' gs
 inside_later s s' [] f o = tt
 inside_later s s' (g ∷ gs) f o = (over_later s s' (variable g.1) f o.0, inside_later s s' gs f o.1)
 
-inside_last : (s : Table) (gs : List (Given ℕ)) (g : Given ℕ) → AreInside s gs → g.1 < length s.types → AreInside s (gs ++ g ∷ [])
+inside_last : (s : Table) (gs : List (GivenArgument ℕ)) (g : GivenArgument ℕ) → AreInside s gs → g.1 < length s.types → AreInside s (gs ++ g ∷ [])
 inside_last s [] g o h = (h, tt)
 inside_last s (x ∷ gs) g o h = (o.0, inside_last s gs g o.1 h)
 
-pub given_over : (s : Table) (a b : Assignment) (gs : List (Given ℕ)) → AreInside s gs → Agrees s a b → given_under a gs ≡ given_under b gs
+pub given_over : (s : Table) (a b : Assignment) (gs : List (GivenArgument ℕ)) → AreInside s gs → Agrees s a b → given_under a gs ≡ given_under b gs
 given_over s a b [] o g = refl
-given_over s a b (x ∷ gs) o g = ap₂ (λ (t : Ground) (ts : List (Given Ground)). (x.0, t) ∷ ts) (g.types x.1 o.0) (given_over s a b gs o.1 g)
+given_over s a b (x ∷ gs) o g = ap₂ (λ (t : Ground) (ts : List (GivenArgument Ground)). (x.0, t) ∷ ts) (g.types x.1 o.0) (given_over s a b gs o.1 g)
 
 pub given_none : (s : Table) (env : Env) (fs : List Found) → AreUsesOver s fs → InfersGiven s s env none [] fs fs
 given_none s env fs o = record {
@@ -148,7 +148,7 @@ given_none s env fs o = record {
   complete = λ a m k gs h p. stay m (sym h, p);
 }
 
-module _ (s s1 : Table) (env : Env) (ts : List (Tree AnArg)) (at : ℕ) (label : Option (List ℕ)) (x : Tree AFull) (gs : List (Given ℕ)) (old mid : List Found) (o : IsEnvOver s env) (f : InfersGiven s s1 env (listed ts) gs old mid) where
+module _ (s s1 : Table) (env : Env) (ts : List (Tree AnArg)) (at : ℕ) (label : Option (List ℕ)) (x : Tree AFull) (gs : List (GivenArgument ℕ)) (old mid : List Found) (o : IsEnvOver s env) (f : InfersGiven s s1 env (listed ts) gs old mid) where
   pub given_last_infers : (s2 : Table) (n : ℕ) (new : List Found) → Infers s1 s2 env x (variable n) mid new → InfersGiven s s2 env (listed (ts ++ Arg at label x ∷ [])) (gs ++ (label, n) ∷ []) old new
   given_last_infers s2 n new g = record {
     over = inside_last s2 gs (label, n) (inside_later s1 s2 gs g.follows f.over) g.over;
@@ -163,25 +163,25 @@ module _ (s s1 : Table) (env : Env) (ts : List (Tree AnArg)) (at : ℕ) (label :
     parts_sound : (a : Assignment) (k : Places) → Solves a s1 → Has (sight_under env a k) x (a.type_of n) × AreFound env a k mid → AreGiven (sight_under env a k) (listed (ts ++ Arg at label x ∷ [])) (given_under a (gs ++ (label, n) ∷ [])) × AreFound env a k old
     parts_sound a k m1 w =
         let z = f.sound a m1 k w.1 in
-        (subst (λ (hs : List (Given Ground)). AreGiven (sight_under env a k) (listed (ts ++ Arg at label x ∷ [])) hs) (sym (under_last a)) (given_last (sight_under env a k) ts at label x (given_under a gs) (a.type_of n) z.0 w.0), z.1)
+        (subst (λ (hs : List (GivenArgument Ground)). AreGiven (sight_under env a k) (listed (ts ++ Arg at label x ∷ [])) hs) (sym (under_last a)) (given_last (sight_under env a k) ts at label x (given_under a gs) (a.type_of n) z.0 w.0), z.1)
 
-    reached : (a : Assignment) → Solves a s → (k : Places) (hs : List (Given Ground)) → ((js : List (Given Ground)) × (g : Ground) × (hs ≡ js ++ (label, g) ∷ []) × AreGiven (sight_under env a k) (listed ts) js × Has (sight_under env a k) x g) → AreFound env a k old →
+    reached : (a : Assignment) → Solves a s → (k : Places) (hs : List (GivenArgument Ground)) → ((js : List (GivenArgument Ground)) × (g : Ground) × (hs ≡ js ++ (label, g) ∷ []) × AreGiven (sight_under env a k) (listed ts) js × Has (sight_under env a k) x g) → AreFound env a k old →
         Reached s s2 a (GivenAs env k (gs ++ (label, n) ∷ []) hs new)
     reached a m k hs b q =
         reach f.follows (f.complete a m k b.0 b.3 q) (λ b1 m1 g1 p1.
         ends_with (g.complete b1 m1 k b.1 (seen_over (λ z. Has z x b.1) s env a b1 k o g1 b.4) p1.1) (λ b2 m2 g2 p2. (
-          under_last b2 ∙ ap₂ (λ (js : List (Given Ground)) (v : Ground). js ++ (label, v) ∷ []) (sym (given_over s1 b1 b2 gs f.over g2) ∙ p1.0) p2.0 ∙ sym b.2,
+          under_last b2 ∙ ap₂ (λ (js : List (GivenArgument Ground)) (v : Ground). js ++ (label, v) ∷ []) (sym (given_over s1 b1 b2 gs f.over g2) ∙ p1.0) p2.0 ∙ sym b.2,
           p2.1,
         )))
 
   pub given_last_none : HasNoType s1 env x mid → HaveNoGiven s env (listed (ts ++ Arg at label x ∷ [])) old
   given_last_none n a m k hs p q = absent (given_before (sight_under env a k) ts at label x hs p) where
-    absent : ((js : List (Given Ground)) × (g : Ground) × (hs ≡ js ++ (label, g) ∷ []) × AreGiven (sight_under env a k) (listed ts) js × Has (sight_under env a k) x g) → ⊥
+    absent : ((js : List (GivenArgument Ground)) × (g : Ground) × (hs ≡ js ++ (label, g) ∷ []) × AreGiven (sight_under env a k) (listed ts) js × Has (sight_under env a k) x g) → ⊥
     absent b = let r = f.complete a m k b.0 b.3 q in n r.at r.solves k b.1 (seen_over (λ z. Has z x b.1) s env a r.at k o r.agrees b.4) r.holds.1
 
 -- where the first arguments have no types, all have none
 pub given_front_none : (s : Table) (env : Env) (ts us : List (Tree AnArg)) (old : List Found) → HaveNoGiven s env (listed ts) old → HaveNoGiven s env (listed (ts ++ us)) old
 given_front_none s env ts us old n a m k gs p q = let r = front (sight_under env a k) ts gs p in n a m k r.0 r.1 q where
-  front : (z : Sight) (vs : List (Tree AnArg)) (gs : List (Given Ground)) → AreGiven z (listed (vs ++ us)) gs → (hs : List (Given Ground)) × AreGiven z (listed vs) hs
+  front : (z : Sight) (vs : List (Tree AnArg)) (gs : List (GivenArgument Ground)) → AreGiven z (listed (vs ++ us)) gs → (hs : List (GivenArgument Ground)) × AreGiven z (listed vs) hs
   front z [] gs h = ([], refl)
   front z (Arg at label f ∷ vs) gs h = let r = front z vs h.1 h.4 in ((label, h.0) ∷ r.0, (h.0, r.0, refl, h.3, r.1))

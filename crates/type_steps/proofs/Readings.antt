@@ -12,7 +12,7 @@ use Rattle.typing_rules.specs.declared.uses.KindOf.TheVariants.{Fixed, Given}
 use Rattle.typing_rules.specs.declared.uses.Target.{Target}
 use Rattle.typing_rules.specs.declared.uses.Target.TheVariants as target
 use Rattle.typing_rules.specs.declared.uses.Use.{Use}
-use Rattle.typing_rules.specs.Kinds.{around, counted, kind_at, kinds_in, kinds_of, put, read}
+use Rattle.typing_rules.specs.Kinds.{around, numbered_on, known_kind, kinds_in, kinds_of, put, read}
 use Rattle.typing_rules.specs.Scripts.{Places, def_token}
 use Rattle.typing_rules.specs.Uses.{use_at}
 use Rattle.type_steps.specs.Environment.{CallTakes, EachTakes, Found, Known, Pending, Takes, TextTakes, TextUse, Texts, function, of_def, of_term, settled, settled_use, texts_under, value}
@@ -37,10 +37,10 @@ number_is m n e = cc
 none_is : {A : Type 0} (n : ℕ) → None ≡ Some n → A
 none_is n e = cc
 
-pub counted_below : (m n : ℕ) (js : List ℕ) → counted m js ≡ Some n → CountsBelow m n js
+pub counted_below : (m n : ℕ) (js : List ℕ) → numbered_on m js ≡ Some n → CountsBelow m n js
 counted_below m n [] e = let d = number_is m n e in record { rises = omega (arith, d); below = tt }
 counted_below m n (j ∷ js) e = by (nat_lt j m) (nat_eq j m) refl refl (λ f. counted_below m n js f) (λ f. counted_below (suc m) n js f) e where
-  by : (a b : Bool) → nat_lt j m ≡ a → nat_eq j m ≡ b → (counted m js ≡ Some n → CountsBelow m n js) → (counted (suc m) js ≡ Some n → CountsBelow (suc m) n js) → cond a (counted m js) (cond b (counted (suc m) js) None) ≡ Some n → CountsBelow m n (j ∷ js)
+  by : (a b : Bool) → nat_lt j m ≡ a → nat_eq j m ≡ b → (numbered_on m js ≡ Some n → CountsBelow m n js) → (numbered_on (suc m) js ≡ Some n → CountsBelow (suc m) n js) → cond a (numbered_on m js) (cond b (numbered_on (suc m) js) None) ≡ Some n → CountsBelow m n (j ∷ js)
   by true b p q same more f =
       let r = same f in
       let lt : j < m = ltb-true j m p in
@@ -73,7 +73,7 @@ pub record GivesKinds (js : List Kind) (ws : List KindOf) : Type 0 where
   pub are : kinds_of js ws ≡ Some kinds
   pub many : length kinds ≡ length ws
 
-put_both : (js : List Kind) (w : KindOf) (ws : List KindOf) (k : Kind) → kind_at js w ≡ Some k → GivesKinds js ws → GivesKinds js (w ∷ ws)
+put_both : (js : List Kind) (w : KindOf) (ws : List KindOf) (k : Kind) → known_kind js w ≡ Some k → GivesKinds js ws → GivesKinds js (w ∷ ws)
 put_both js w ws k e r = record {
   kinds = k ∷ r.kinds;
   are = ap (λ o. put o (kinds_of js ws)) e ∙ ap (put (Some k)) r.are;

@@ -3,7 +3,7 @@ use Rattle.std.specs.Prelude.{◌≡◌, ℕ, List, [], ◌∷◌, length, Optio
 use Rattle.std.specs.List.{flat_map}
 use Rattle.typing_rules.specs.declared.uses.Target.{Target}
 use Rattle.typing_rules.specs.declared.uses.Target.TheVariants as target
-use Rattle.typing_rules.specs.Kinds.{counted}
+use Rattle.typing_rules.specs.Kinds.{numbered_on}
 use Rattle.typing_rules.specs.Scripts.{def_token}
 use Rattle.typing_rules.specs.Table.{signature}
 use Rattle.general_types.specs.Schemes.{Scheme, open_numbers}
@@ -19,7 +19,7 @@ opens_in us = flat_map (λ u. flat_map open_in u.kinds) us
 
 -- how many open kinds there are, if each new one has the next number
 abbrev pub text_count : List TextUse → Option ℕ
-text_count us = counted 0 (opens_in us)
+text_count us = numbered_on 0 (opens_in us)
 
 -- how many open kinds a general type has
 abbrev pub scheme_count : Scheme → ℕ

@@ -1,4 +1,5 @@
--- What inference says of one def: its general type and the uses in its text give, under the solutions of the substitution, exactly its typings.
+-- What inference says of one def: its general type and the uses in its text give, under the solutions of the
+-- substitution, exactly its typings.
 use Rattle.std.specs.Prelude.{◌≡◌, List, [], ◌∷◌, map}
 use Rattle.liq_base.specs.declared.memory.Kind.{Kind}
 use Rattle.script_grammar.specs.Tree.{Tree, ADef}
@@ -22,27 +23,34 @@ terms_before [] = []
 terms_before (value t u ∷ ks) = u ∷ terms_before ks
 terms_before (function d us ∷ ks) = terms_before ks
 
--- The values hold exactly these variables, and the texts of the defs hold no others: they are the same where the values have the same types.
+-- The values hold exactly these variables, and the texts of the defs hold no others: they are the same where the values
+-- have the same types.
 pub record HoldsBefore (s : Table) (before : List Known) (h : HeldVariables) : Type 0 where
   pub held : IsHeldBy s (terms_before before) h
-  pub texts : (a b : Assignment) → Solves a s → Solves b s → SameTypes (terms_before before) a b → texts_under a before ≡ texts_under b before
+  pub texts : (a b : Assignment) → Solves a s → Solves b s → SameTypes (terms_before before) a b
+      → texts_under a before ≡ texts_under b before
 
 -- the kinds at the places of a def's text are those of its uses, with these open kinds
 abbrev pub IsTextTaken : Assignment → Places → List Known → List Kind → List TextUse → Type 0
-IsTextTaken a kinds before opens us = TextTakes (CallTakes (texts_under a before) kinds) kinds [] opens (map (settled_use a) us)
+IsTextTaken a kinds before opens us = TextTakes (CallTakes (texts_under a before) kinds) kinds [] opens
+    (map (settled_use a) us)
 
 -- At each solution the typings of the def are the instances of the scheme, with the kinds of the text's uses.
-pub record IsTypingOf (s : Table) (targets : Targets) (before : List Known) (d : Tree ADef) (g : Scheme) (us : List TextUse) : Type 0 where
+pub record IsTypingOf (s : Table) (targets : Targets) (before : List Known) (d : Tree ADef) (g : Scheme)
+    (us : List TextUse) : Type 0 where
   pub over : IsSchemeOver s g
   pub text_over : IsTextOver s us
-  pub sound : (a : Assignment) → Solves a s → (kinds : Places) (ts : List Ground) (r : Ground) (opens : List Kind) → IsInstance g a ts r opens → IsTextTaken a kinds before opens us →
+  pub sound : (a : Assignment) → Solves a s → (kinds : Places) (ts : List Ground) (r : Ground) (opens : List Kind)
+      → IsInstance g a ts r opens → IsTextTaken a kinds before opens us →
       DefHas (sight targets kinds (entries_under a before) []) d ts r
-  pub complete : (a : Assignment) → Solves a s → (kinds : Places) (ts : List Ground) (r : Ground) → DefHas (sight targets kinds (entries_under a before) []) d ts r →
+  pub complete : (a : Assignment) → Solves a s → (kinds : Places) (ts : List Ground) (r : Ground)
+      → DefHas (sight targets kinds (entries_under a before) []) d ts r →
       (opens : List Kind) × IsInstance g a ts r opens × IsTextTaken a kinds before opens us
 
 -- each solution of s at which the def has a typing is one of s' on the variables of s
 abbrev pub KeepsTypings : Table → Table → Targets → List Known → Tree ADef → Type 0
-KeepsTypings s s' targets before d = (a : Assignment) → Solves a s → HasSome targets (entries_under a before) d → (b : Assignment) × Solves b s' × Agrees s a b
+KeepsTypings s s' targets before d = (a : Assignment) → Solves a s → HasSome targets (entries_under a before) d
+    → (b : Assignment) × Solves b s' × Agrees s a b
 
 -- at no solution has the def a typing
 abbrev pub HasNoTyping : Table → Targets → List Known → Tree ADef → Type 0

@@ -1,4 +1,5 @@
--- What an expression sees while types are inferred: names with types over variables, and defs with the uses in their texts.
+-- What an expression sees while types are inferred: names with types over variables, and defs with the uses in their
+-- texts.
 use Rattle.std.specs.Prelude.{◌≡◌, ◌<◌, ℕ, List, [], ◌∷◌, ◌++◌, cond, map, length, Option, Some, None, nat_eq, true, false, ⊤}
 use Rattle.liq_base.specs.declared.memory.Kind.{Kind}
 use Rattle.script_grammar.specs.Tree.{Tree, ADef}
@@ -38,7 +39,8 @@ pub data Known : Type 0 where
   value : ℕ → Term → Known
   function : Tree ADef → List TextUse → Known
 
--- What is seen: what names mean, what statements have bound, the newest first, and the parameters and inner bindings of the def around.
+-- What is seen: what names mean, what statements have bound, the newest first, and the parameters and inner bindings of
+-- the def around.
 pub record Env : Type 0 where
   pub targets : Targets
   pub before : List Known
@@ -103,7 +105,8 @@ Takes calls kinds chain at (target.Builtin b) ks = kinds chain at ≡ Some ks
 -- the uses in a text whose own open kinds are given
 abbrev pub TextTakes : (List ℕ → ℕ → List Kind → Type 0) → Places → List ℕ → List Kind → List Use → Type 0
 TextTakes calls kinds chain given [] = ⊤
-TextTakes calls kinds chain given (u ∷ us) = ((ks : List Kind) × (kinds_of given u.kinds ≡ Some ks) × Takes calls kinds chain u.at u.target ks) × TextTakes calls kinds chain given us
+TextTakes calls kinds chain given (u ∷ us) = ((ks : List Kind) × (kinds_of given u.kinds ≡ Some ks)
+    × Takes calls kinds chain u.at u.target ks) × TextTakes calls kinds chain given us
 
 -- the places behind a chain that ends in a call of a def, whose open kinds are these
 abbrev pub CallTakes : Texts → Places → List ℕ → ℕ → List Kind → Type 0
@@ -116,7 +119,8 @@ CallTakes (x ∷ xs) kinds chain t ks =
 
 abbrev pub EachTakes : Texts → Places → Assignment → List Found → Type 0
 EachTakes xs kinds a [] = ⊤
-EachTakes xs kinds a (f ∷ fs) = Takes (CallTakes xs kinds) kinds [] f.at f.target (map (kind_meaning a) f.kinds) × EachTakes xs kinds a fs
+EachTakes xs kinds a (f ∷ fs) = Takes (CallTakes xs kinds) kinds [] f.at f.target (map (kind_meaning a) f.kinds)
+    × EachTakes xs kinds a fs
 
 -- at the places of what is being typed, the kinds are those of the uses that were found
 abbrev pub AreFound : Env → Assignment → Places → List Found → Type 0

@@ -2,14 +2,14 @@
 use Rattle.std.specs.Prelude.{◌≡◌, ℕ, ◌<◌, List, get_or, map, length, false, Option, Some, None, ⊤}
 use Rattle.type_terms.specs.Ground.{Ground}
 use Rattle.type_terms.specs.Table.{Table}
-use Rattle.typing_rules.specs.Arguments.{Parameter, Given, is_needed}
+use Rattle.typing_rules.specs.Arguments.{Parameter, GivenArgument, is_needed}
 use Rattle.name_scope.specs.Labelled.{on}
 use Rattle.name_scope.specs.Seen.{left_of, seen_label}
 use Rattle.name_scope.specs.declared.labels.Labels.{Labels}
 use Rattle.type_steps.specs.declared.arguments.Argument.{Argument}
 
 -- an argument as its label and its variable
-abbrev pub seen_argument : Argument → Given ℕ
+abbrev pub seen_argument : Argument → GivenArgument ℕ
 seen_argument g = (seen_label g.label, g.var)
 
 -- A parameter takes an argument of its type, or takes none and need not.
@@ -26,5 +26,5 @@ abbrev pub var_at : List Argument → ℕ → ℕ
 var_at gs i = get_or (map (λ g. g.var) gs) i 0
 
 -- the arguments that are left in a table of the labels of these
-abbrev pub left_given : List Argument → Labels → List (Given ℕ)
+abbrev pub left_given : List Argument → Labels → List (GivenArgument ℕ)
 left_given gs t = map (on (var_at gs)) (left_of t)

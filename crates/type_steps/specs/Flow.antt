@@ -1,4 +1,5 @@
--- What inference says of one expression: the type and the uses that it has found give, under the solutions of the substitution, exactly the typings.
+-- What inference says of one expression: the type and the uses that it has found give, under the solutions of the
+-- substitution, exactly the typings.
 use Rattle.std.specs.Prelude.{◌≡◌, ℕ, zero, suc, ◌<◌, ⊤, length, map, Bool, true, false, List, [], ◌∷◌, Option, Some, None}
 use Rattle.liq_base.specs.declared.memory.Kind.{Kind}
 use Rattle.script_grammar.specs.Tree.{Sort, Tree, Many, AnArg, AFull}
@@ -7,7 +8,7 @@ use Rattle.type_terms.specs.Term.{Term, Terms, tuple_term, variable, terms_of, m
 use Rattle.type_terms.specs.declared.ty.KindTerm.{KindTerm}
 use Rattle.type_terms.specs.Table.{Table, Solves, IsOver}
 use Rattle.type_terms.specs.Agrees.{Agrees, Follows}
-use Rattle.typing_rules.specs.Arguments.{Parameter, Given, Matched}
+use Rattle.typing_rules.specs.Arguments.{Parameter, GivenArgument, Matched}
 use Rattle.typing_rules.specs.declared.uses.Target.{Target}
 use Rattle.typing_rules.specs.Typing.{Has, EachHas, HaveAll, AreGiven, Applied}
 use Rattle.typing_rules.specs.Scripts.{Places}
@@ -35,59 +36,75 @@ pub record Infers (s s' : Table) (env : Env) {r : Sort} (e : Tree r) (u : Term) 
   pub over : IsOver s' u
   pub uses : AreUsesOver s' new
   pub follows : Follows s s'
-  pub sound : (a : Assignment) → Solves a s' → (kinds : Places) → AreFound env a kinds new → Has (sight_under env a kinds) e (meaning a u) × AreFound env a kinds old
-  pub complete : (a : Assignment) → Solves a s → (kinds : Places) (g : Ground) → Has (sight_under env a kinds) e g → AreFound env a kinds old →
+  pub sound : (a : Assignment) → Solves a s' → (kinds : Places) → AreFound env a kinds new
+      → Has (sight_under env a kinds) e (meaning a u) × AreFound env a kinds old
+  pub complete : (a : Assignment) → Solves a s → (kinds : Places) (g : Ground) → Has (sight_under env a kinds) e g
+      → AreFound env a kinds old →
       Reached s s' a (FoundAs env kinds u g new)
 
 -- at no solution, with the kinds at the places that the uses so far say, the expression has a type
 abbrev pub HasNoType : Table → Env → {r : Sort} → Tree r → List Found → Type 0
-HasNoType s env e old = (a : Assignment) → Solves a s → (kinds : Places) (g : Ground) → Has (sight_under env a kinds) e g → AreFound env a kinds old → ⊥
+HasNoType s env e old = (a : Assignment) → Solves a s → (kinds : Places) (g : Ground)
+    → Has (sight_under env a kinds) e g → AreFound env a kinds old → ⊥
 
 -- the same of several expressions of the one type u
-pub record InfersEach (s s' : Table) (env : Env) {r : Sort} (es : Tree (Many r)) (u : Term) (old new : List Found) : Type 0 where
+pub record InfersEach (s s' : Table) (env : Env) {r : Sort} (es : Tree (Many r)) (u : Term)
+    (old new : List Found) : Type 0 where
   pub uses : AreUsesOver s' new
   pub follows : Follows s s'
-  pub sound : (a : Assignment) → Solves a s' → (kinds : Places) → AreFound env a kinds new → EachHas (sight_under env a kinds) es (meaning a u) × AreFound env a kinds old
-  pub complete : (a : Assignment) → Solves a s → (kinds : Places) → EachHas (sight_under env a kinds) es (meaning a u) → AreFound env a kinds old →
+  pub sound : (a : Assignment) → Solves a s' → (kinds : Places) → AreFound env a kinds new
+      → EachHas (sight_under env a kinds) es (meaning a u) × AreFound env a kinds old
+  pub complete : (a : Assignment) → Solves a s → (kinds : Places) → EachHas (sight_under env a kinds) es (meaning a u)
+      → AreFound env a kinds old →
       Reached s s' a (Uses env kinds new)
 
 abbrev pub HaveNoType : Table → Env → {r : Sort} → Tree (Many r) → Term → List Found → Type 0
-HaveNoType s env es u old = (a : Assignment) → Solves a s → (kinds : Places) → EachHas (sight_under env a kinds) es (meaning a u) → AreFound env a kinds old → ⊥
+HaveNoType s env es u old = (a : Assignment) → Solves a s → (kinds : Places)
+    → EachHas (sight_under env a kinds) es (meaning a u) → AreFound env a kinds old → ⊥
 
 -- the same of several expressions, each of its own type
-pub record InfersAll (s s' : Table) (env : Env) (es : Tree (Many AFull)) (us : Terms) (old new : List Found) : Type 0 where
-  pub over : IsOver s' (tuple_term us)
-  pub uses : AreUsesOver s' new
-  pub follows : Follows s s'
-  pub sound : (a : Assignment) → Solves a s' → (kinds : Places) → AreFound env a kinds new → HaveAll (sight_under env a kinds) es (meanings a us) × AreFound env a kinds old
-  pub complete : (a : Assignment) → Solves a s → (kinds : Places) (gs : Grounds) → HaveAll (sight_under env a kinds) es gs → AreFound env a kinds old →
-      Reached s s' a (AllAs env kinds us gs new)
+pub record InfersAll (s s' : Table) (env : Env) (es : Tree (Many AFull)) (us : Terms) (old new : List Found) : Type 0
+  where
+    pub over : IsOver s' (tuple_term us)
+    pub uses : AreUsesOver s' new
+    pub follows : Follows s s'
+    pub sound : (a : Assignment) → Solves a s' → (kinds : Places) → AreFound env a kinds new
+        → HaveAll (sight_under env a kinds) es (meanings a us) × AreFound env a kinds old
+    pub complete : (a : Assignment) → Solves a s → (kinds : Places) (gs : Grounds)
+        → HaveAll (sight_under env a kinds) es gs → AreFound env a kinds old →
+        Reached s s' a (AllAs env kinds us gs new)
 
 abbrev pub HaveNoTypes : Table → Env → Tree (Many AFull) → List Found → Type 0
-HaveNoTypes s env es old = (a : Assignment) → Solves a s → (kinds : Places) (gs : Grounds) → HaveAll (sight_under env a kinds) es gs → AreFound env a kinds old → ⊥
+HaveNoTypes s env es old = (a : Assignment) → Solves a s → (kinds : Places) (gs : Grounds)
+    → HaveAll (sight_under env a kinds) es gs → AreFound env a kinds old → ⊥
 
 -- the arguments of a call by their labels and the variables that are their types
-abbrev pub given_under : Assignment → List (Given ℕ) → List (Given Ground)
+abbrev pub given_under : Assignment → List (GivenArgument ℕ) → List (GivenArgument Ground)
 given_under a gs = map (λ g. (g.0, a.type_of g.1)) gs
 
-abbrev pub GivenAs : Env → Places → List (Given ℕ) → List (Given Ground) → List Found → Assignment → Type 0
+abbrev pub GivenAs : Env → Places → List (GivenArgument ℕ) → List (GivenArgument Ground) → List Found → Assignment
+    → Type 0
 GivenAs env kinds gs hs fs b = (given_under b gs ≡ hs) × AreFound env b kinds fs
 
-abbrev pub AreInside : Table → List (Given ℕ) → Type 0
+abbrev pub AreInside : Table → List (GivenArgument ℕ) → Type 0
 AreInside s [] = ⊤
 AreInside s (g ∷ gs) = (g.1 < length s.types) × AreInside s gs
 
 -- the same of arguments
-pub record InfersGiven (s s' : Table) (env : Env) (es : Tree (Many AnArg)) (gs : List (Given ℕ)) (old new : List Found) : Type 0 where
+pub record InfersGiven (s s' : Table) (env : Env) (es : Tree (Many AnArg)) (gs : List (GivenArgument ℕ))
+    (old new : List Found) : Type 0 where
   pub over : AreInside s' gs
   pub uses : AreUsesOver s' new
   pub follows : Follows s s'
-  pub sound : (a : Assignment) → Solves a s' → (kinds : Places) → AreFound env a kinds new → AreGiven (sight_under env a kinds) es (given_under a gs) × AreFound env a kinds old
-  pub complete : (a : Assignment) → Solves a s → (kinds : Places) (hs : List (Given Ground)) → AreGiven (sight_under env a kinds) es hs → AreFound env a kinds old →
+  pub sound : (a : Assignment) → Solves a s' → (kinds : Places) → AreFound env a kinds new
+      → AreGiven (sight_under env a kinds) es (given_under a gs) × AreFound env a kinds old
+  pub complete : (a : Assignment) → Solves a s → (kinds : Places) (hs : List (GivenArgument Ground))
+      → AreGiven (sight_under env a kinds) es hs → AreFound env a kinds old →
       Reached s s' a (GivenAs env kinds gs hs new)
 
 abbrev pub HaveNoGiven : Table → Env → Tree (Many AnArg) → List Found → Type 0
-HaveNoGiven s env es old = (a : Assignment) → Solves a s → (kinds : Places) (hs : List (Given Ground)) → AreGiven (sight_under env a kinds) es hs → AreFound env a kinds old → ⊥
+HaveNoGiven s env es old = (a : Assignment) → Solves a s → (kinds : Places) (hs : List (GivenArgument Ground))
+    → AreGiven (sight_under env a kinds) es hs → AreFound env a kinds old → ⊥
 
 -- ---- a fact of types that is made to hold
 
@@ -124,26 +141,35 @@ abbrev pub AreTermsOver : Table → List Term → Type 0
 AreTermsOver s [] = ⊤
 AreTermsOver s (t ∷ ts) = IsOver s t × AreTermsOver s ts
 
--- What a name may call at a token: the calls are those with arguments that match parameters ps of types ts, a result g and open kinds ks, for the ts, g and ks that I says.
-pub record IsCallable (s : Table) (env : Env) (at : ℕ) (t : Target) (ps : List Parameter) (I : Assignment → List Ground → Ground → List Kind → Type 0) : Type 0 where
-  pub calls : (a : Assignment) → Solves a s → (kinds : Places) (gs : List (Given Ground)) (g : Ground) (ts : List Ground) (ks : List Kind) →
-      Matched ps gs ts → I a ts g ks → Takes (CallTakes (texts_under a env.before) kinds) kinds [] at t ks → Applied (sight_under env a kinds) at (Some t) gs g
-  pub instance : (a : Assignment) → Solves a s → (kinds : Places) (gs : List (Given Ground)) (g : Ground) → Applied (sight_under env a kinds) at (Some t) gs g →
-      (ts : List Ground) × (ks : List Kind) × Matched ps gs ts × I a ts g ks × Takes (CallTakes (texts_under a env.before) kinds) kinds [] at t ks
+-- What a name may call at a token: the calls are those with arguments that match parameters ps of types ts, a result g
+-- and open kinds ks, for the ts, g and ks that I says.
+pub record IsCallable (s : Table) (env : Env) (at : ℕ) (t : Target) (ps : List Parameter) (I : Assignment → List Ground
+    → Ground → List Kind → Type 0) : Type 0 where
+  pub calls : (a : Assignment) → Solves a s
+      → (kinds : Places) (gs : List (GivenArgument Ground)) (g : Ground) (ts : List Ground) (ks : List Kind) →
+      Matched ps gs ts → I a ts g ks → Takes (CallTakes (texts_under a env.before) kinds) kinds [] at t ks
+      → Applied (sight_under env a kinds) at (Some t) gs g
+  pub instance : (a : Assignment) → Solves a s → (kinds : Places) (gs : List (GivenArgument Ground)) (g : Ground)
+      → Applied (sight_under env a kinds) at (Some t) gs g →
+      (ts : List Ground) × (ks : List Kind) × Matched ps gs ts × I a ts g ks
+      × Takes (CallTakes (texts_under a env.before) kinds) kinds [] at t ks
 
 -- from s to s' what may be called was given these types and kinds
-pub record IsInstantiated (s s' : Table) (I : Assignment → List Ground → Ground → List Kind → Type 0) (us : List Term) (v : Term) (ws : List KindTerm) : Type 0 where
+pub record IsInstantiated (s s' : Table) (I : Assignment → List Ground → Ground → List Kind
+    → Type 0) (us : List Term) (v : Term) (ws : List KindTerm) : Type 0 where
   pub params : AreTermsOver s' us
   pub result : IsOver s' v
   pub kinds : AreKindsOver s' ws
   pub follows : Follows s s'
   pub sound : (a : Assignment) → Solves a s' → I a (map (meaning a) us) (meaning a v) (map (kind_meaning a) ws)
   pub complete : (a : Assignment) → Solves a s → (ts : List Ground) (g : Ground) (ks : List Kind) → I a ts g ks →
-      (b : Assignment) × Solves b s' × Agrees s a b × (map (meaning b) us ≡ ts) × (meaning b v ≡ g) × (map (kind_meaning b) ws ≡ ks)
+      (b : Assignment) × Solves b s' × Agrees s a b × (map (meaning b) us ≡ ts) × (meaning b v ≡ g)
+      × (map (kind_meaning b) ws ≡ ks)
 
 -- no call of what a name means
 abbrev pub HasNoCall : Table → Env → ℕ → Target → Type 0
-HasNoCall s env at t = (a : Assignment) → Solves a s → (kinds : Places) (gs : List (Given Ground)) (g : Ground) → Applied (sight_under env a kinds) at (Some t) gs g → ⊥
+HasNoCall s env at t = (a : Assignment) → Solves a s → (kinds : Places) (gs : List (GivenArgument Ground)) (g : Ground)
+    → Applied (sight_under env a kinds) at (Some t) gs g → ⊥
 
 -- ---- what is answered: a variable, or nothing where there is no type
 
@@ -160,7 +186,8 @@ abbrev pub AreTypesOf : Table → Table → Env → Tree (Many AFull) → List F
 AreTypesOf s s' env es old new None = HaveNoTypes s env es old
 AreTypesOf s s' env es old new (Some ns) = InfersAll s s' env es (terms_of (map variable ns)) old new
 
-abbrev pub AreGivenOf : Table → Table → Env → Tree (Many AnArg) → List Found → List Found → Option (List (Given ℕ)) → Type 0
+abbrev pub AreGivenOf : Table → Table → Env → Tree (Many AnArg) → List Found → List Found
+    → Option (List (GivenArgument ℕ)) → Type 0
 AreGivenOf s s' env es old new None = HaveNoGiven s env es old
 AreGivenOf s s' env es old new (Some gs) = InfersGiven s s' env es gs old new
 

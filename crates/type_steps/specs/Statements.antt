@@ -14,7 +14,8 @@ use Rattle.type_steps.specs.Environment.{AreKnownOver, AreUsesOver, EachTakes, F
 use Rattle.type_steps.specs.Counts.{scheme_count, text_count}
 use Rattle.type_steps.specs.Defs.{IsTypingOf}
 
--- what a statement has left: a value by its token with its type and the uses in it, a def with the uses in its text, or the uses of what runs
+-- what a statement has left: a value by its token with its type and the uses in it, a def with the uses in its text, or
+-- the uses of what runs
 pub data Done : Type 0 where
   bound : ℕ → Term → List Found → Done
   defined : Tree ADef → List TextUse → Done
@@ -84,17 +85,19 @@ scope_after sc (more s rest) = scope_after (with_statement s sc) rest
 -- outside of defs the kinds at the places are those of the uses
 abbrev pub AreTaken : Assignment → Places → List Known → List Done → Type 0
 AreTaken a kinds ks [] = ⊤
-AreTaken a kinds ks (x ∷ xs) = EachTakes (texts_under a ks) kinds a (founds_of x) × AreTaken a kinds (known_with x ks) xs
+AreTaken a kinds ks (x ∷ xs) = EachTakes (texts_under a ks) kinds a (founds_of x)
+    × AreTaken a kinds (known_with x ks) xs
 
 abbrev pub AreFoundsOver : Table → List Done → Type 0
 AreFoundsOver s [] = ⊤
 AreFoundsOver s (x ∷ xs) = AreUsesOver s (founds_of x) × AreFoundsOver s xs
 
 -- A general type gives the typings of the def, and has as many open kinds as its text.
-pub record IsDefKnown (s : Table) (targets : Targets) (ks : List Known) (d : Tree ADef) (us : List TextUse) : Type 0 where
-  pub general : Scheme
-  pub typing : IsTypingOf s targets ks d general us
-  pub numbered : text_count us ≡ Some (scheme_count general)
+pub record IsDefKnown (s : Table) (targets : Targets) (ks : List Known) (d : Tree ADef) (us : List TextUse) : Type 0
+  where
+    pub general : Scheme
+    pub typing : IsTypingOf s targets ks d general us
+    pub numbered : text_count us ≡ Some (scheme_count general)
 
 abbrev pub AreDefsKnown : Table → Targets → List Known → Type 0
 AreDefsKnown s targets [] = ⊤
@@ -107,7 +110,8 @@ pub record AreTypings (s : Table) (targets : Targets) (script : Script) (xs : Li
   pub over : AreKnownOver s (known_of xs)
   pub uses_over : AreFoundsOver s xs
   pub defs : AreDefsKnown s targets (known_of xs)
-  pub sound : (a : Assignment) → Solves a s → (kinds : Places) → AreTaken a kinds [] xs → IsTypedTo targets kinds [] script (entries_under a (known_of xs))
+  pub sound : (a : Assignment) → Solves a s → (kinds : Places) → AreTaken a kinds [] xs
+      → IsTypedTo targets kinds [] script (entries_under a (known_of xs))
   pub complete : (kinds : Places) (es : List Entry) → IsTypedTo targets kinds [] script es →
       (a : Assignment) × Solves a s × AreTaken a kinds [] xs × (entries_under a (known_of xs) ≡ es)
 

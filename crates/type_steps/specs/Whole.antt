@@ -1,4 +1,5 @@
--- That what statements have left is whole: their names have their uses, in order, with as many kinds as what they mean has open ones.
+-- That what statements have left is whole: their names have their uses, in order, with as many kinds as what they mean
+-- has open ones.
 use Rattle.std.specs.Prelude.{◌≡◌, ℕ, List, [], ◌∷◌, map, Some, ⊤}
 use Rattle.script_grammar.specs.Placed.{IsPlaced}
 use Rattle.script_grammar.specs.Tree.{Tree, AStmt, Script, none, more, Stmt, BindPart, DefPart, CallPart, IfPart, Bind}
@@ -9,7 +10,8 @@ use Rattle.type_steps.specs.Statements.{Done, bound, defined, found_said, known_
 
 -- this is left of the statement, and its uses are its names
 abbrev pub IsDoneOf : Scope → Tree AStmt → Done → Type 0
-IsDoneOf sc (Stmt (BindPart (Bind at name f)) semicolon) (bound t u fs) = (t ≡ at) × (map found_said fs ≡ map meant (names sc f))
+IsDoneOf sc (Stmt (BindPart (Bind at name f)) semicolon) (bound t u fs) = (t ≡ at)
+    × (map found_said fs ≡ map meant (names sc f))
 IsDoneOf sc (Stmt (BindPart b) semicolon) (defined d us) = ⊥
 IsDoneOf sc (Stmt (BindPart b) semicolon) (ran fs) = ⊥
 IsDoneOf sc (Stmt (DefPart d) semicolon) (bound t u fs) = ⊥
@@ -28,7 +30,8 @@ AreDone sc none (x ∷ xs) = ⊥
 AreDone sc (more s rest) [] = ⊥
 AreDone sc (more s rest) (x ∷ xs) = IsDoneOf sc s x × AreDone (with_statement s sc) rest xs
 
--- where this is known, each use has as many kinds as what it means has open ones; a def numbers its own as its text names them first
+-- where this is known, each use has as many kinds as what it means has open ones; a def numbers its own as its text
+-- names them first
 abbrev pub IsDoneCounted : List Known → Done → Type 0
 IsDoneCounted ks (bound t u fs) = AreCounted ks fs
 IsDoneCounted ks (defined d us) = ((n : ℕ) × (text_count us ≡ Some n)) × IsTextCounted ks us

@@ -33,7 +33,9 @@ pub fn fit(
 ) -> Result<bool, Memory>
     requires over { AreTermsOver subst.old (map term_of types.now) }
     requires inside { AreInside subst.old (map seen_argument given.old.items) }
-    ensures { IfOk result (λ yes. IsMade yes subst.old subst.new (λ a. Matched (map seen_parameter params.now) (given_under a (map seen_argument given.old.items)) (map (meaning a) (map term_of types.now)))) }
+    ensures { IfOk result (λ yes. IsMade yes subst.old subst.new
+        (λ a. Matched (map seen_parameter params.now) (given_under a (map seen_argument given.old.items))
+        (map (meaning a) (map term_of types.now)))) }
 {
     if params.len() != types.len() {
         return Ok(false);
@@ -63,7 +65,9 @@ fn fit_many(
     requires over { AreTermsOver subst.old (map term_of types.now) }
     requires inside { AreInside subst.old (map seen_argument given.now) }
     requires same_many { length params.now ≡ length types.now }
-    ensures { IfOk result (λ yes. IsMade yes subst.old subst.new (λ a. Matched (map seen_parameter params.now) (given_under a (map seen_argument given.now)) (map (meaning a) (map term_of types.now)))) }
+    ensures { IfOk result (λ yes. IsMade yes subst.old subst.new
+        (λ a. Matched (map seen_parameter params.now) (given_under a (map seen_argument given.now))
+        (map (meaning a) (map term_of types.now)))) }
 {
     let mut labels = Labels::new(alloc, labels_of(alloc, given)?)?;
     fit_labelled(alloc, subst, params, types, given, &mut labels)
@@ -82,7 +86,9 @@ fn fit_labelled(
     requires inside { AreInside subst.old (map seen_argument given.now) }
     requires same_many { length params.now ≡ length types.now }
     requires all { left_given given.now labels.old ≡ map seen_argument given.now }
-    ensures { IfOk result (λ yes. IsMade yes subst.old subst.new (λ a. Matched (map seen_parameter params.now) (given_under a (map seen_argument given.now)) (map (meaning a) (map term_of types.now)))) }
+    ensures { IfOk result (λ yes. IsMade yes subst.old subst.new
+        (λ a. Matched (map seen_parameter params.now) (given_under a (map seen_argument given.now))
+        (map (meaning a) (map term_of types.now)))) }
 {
     for i in 0..params.len() {
         let param = param_at(params, i);
@@ -112,8 +118,11 @@ fn take_labelled(
     given: &[Argument<'_>],
     label: Option<&str>,
 ) -> Result<Option<u64>, Memory>
-    ensures taken { IfOk result (λ r. r ≡ option_map (λ x. x.0) (argument (seen_label label.entry) (left_given given.now labels.old))) }
-    ensures others { OnOk result (left_given given.now labels.new ≡ the_others (left_given given.now labels.old) (argument (seen_label label.entry) (left_given given.now labels.old))) }
+    ensures taken { IfOk result (λ r. r
+        ≡ option_map (λ x. x.0) (argument (seen_label label.entry) (left_given given.now labels.old))) }
+    ensures others { OnOk result (left_given given.now labels.new
+        ≡ the_others (left_given given.now labels.old)
+        (argument (seen_label label.entry) (left_given given.now labels.old))) }
 {
     match labels.take(label)? {
         None => Ok(None),
@@ -133,8 +142,11 @@ fn var_of(given: &[Argument<'_>], place: usize) -> u64
 
 /// Takes out the first argument with this label, or the first without one.
 fn take_argument(given: &mut Vec<Argument<'_>>, label: Option<&str>) -> Option<u64>
-    ensures taken { result ≡ option_map (λ x. x.0) (argument (seen_label label.entry) (map seen_argument given.old.items)) }
-    ensures others { map seen_argument given.new.items ≡ the_others (map seen_argument given.old.items) (argument (seen_label label.entry) (map seen_argument given.old.items)) }
+    ensures taken { result ≡ option_map (λ x. x.0)
+        (argument (seen_label label.entry) (map seen_argument given.old.items)) }
+    ensures others { map seen_argument given.new.items
+        ≡ the_others (map seen_argument given.old.items)
+        (argument (seen_label label.entry) (map seen_argument given.old.items)) }
 {
     for index in 0..given.len() {
         let one = given[index];
@@ -156,7 +168,8 @@ fn fit_one(
 ) -> Result<bool, Memory>
     requires over { IsOver subst.old (term_of ty.now) }
     requires inside { IsInside subst.old taken }
-    ensures { IfOk result (λ yes. IsMade yes subst.old subst.new (λ a. FitsOne (seen_parameter param.entry) (option_map a.type_of taken) (meaning a (term_of ty.now)))) }
+    ensures { IfOk result (λ yes. IsMade yes subst.old subst.new
+        (λ a. FitsOne (seen_parameter param.entry) (option_map a.type_of taken) (meaning a (term_of ty.now)))) }
 {
     match taken {
         None => Ok(!is_needed(param.form)),

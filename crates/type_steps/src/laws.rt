@@ -1,4 +1,5 @@
-// What follows for a script all of whose statements were typed. A caller that needs the law calls its function, which does nothing.
+// What follows for a script all of whose statements were typed. A caller that needs the law calls its function, which
+// does nothing.
 ghost use Rattle.std.specs.Prelude.{◌≡◌, List, [], None};
 ghost use Rattle.script_grammar.specs.Tree.{Script};
 ghost use Rattle.type_terms.specs.Extends.{HasDefaults};
@@ -9,7 +10,10 @@ ghost use Rattle.typing_rules.specs.Scoping.{meanings_of, target_in};
 ghost use Rattle.type_steps.specs.Statements.{AreTypings, Done, uses_under};
 ghost use Rattle.type_steps.specs.Whole.{AreWhole};
 
-/// Where the typings of a script are the solutions of a substitution, and what its statements left is whole, the uses under the default solution are the answer.
+/// Where the typings of a script are the solutions of a substitution, and what its statements left is whole, the uses
+/// under the default solution are the answer.
 pub fn defaults_are_the_answer()
-    ensures typed { (s : Table) (script : Script) (xs : List Done) → AreWhole script xs → AreTypings s (target_in (meanings_of script)) script xs → (default : HasDefaults s) → first_fault 1 [] script ≡ None → IsTyped script (uses_under default.at xs) }
+    ensures typed { (s : Table) (script : Script) (xs : List Done) → AreWhole script xs
+        → AreTypings s (target_in (meanings_of script)) script xs → (default : HasDefaults s)
+        → first_fault 1 [] script ≡ None → IsTyped script (uses_under default.at xs) }
 {}

@@ -1,5 +1,5 @@
-//! What inference says of one expression and of each statement, the steps that it takes, and how the typings of a script go
-//! on, statement by statement, as the solutions of a substitution.
+//! What inference says of one expression and of each statement, the steps that it takes, and how the typings of a
+//! script go on, statement by statement, as the solutions of a substitution.
 #![tactic(auto)]
 
 mod arguments;

@@ -44,16 +44,20 @@ agenda_of lists = agenda lists.work.items lists.seen.keys
 abbrev pub empty_agenda : Agenda
 empty_agenda = record { todo = []; seen = [] }
 
--- at each solution the two are equal where the agenda says so, which asks for no more than that and what it asked for before
+-- at each solution the two are equal where the agenda says so, which asks for no more than that and what it asked for
+-- before
 pub record IsTakenUp (s : Table) (old new : Agenda) (left right : Term) : Type 0 where
   pub over : AllOver s old.todo → AllOver s new.todo
-  pub needed : (a : Assignment) → Solves a s → meaning a left ≡ meaning a right → AllEqual a old.todo → AllEqual a new.todo
-  pub enough : (a : Assignment) (n : ℕ) → Solves a s → AllEqualBelow a n new.todo → AllEqualBelow a n new.seen → EqualBelow a n left right
+  pub needed : (a : Assignment) → Solves a s → meaning a left ≡ meaning a right → AllEqual a old.todo
+      → AllEqual a new.todo
+  pub enough : (a : Assignment) (n : ℕ) → Solves a s → AllEqualBelow a n new.todo → AllEqualBelow a n new.seen
+      → EqualBelow a n left right
   -- nothing is forgotten
   pub todo_kept : (a : Assignment) (n : ℕ) → AllEqualBelow a n new.todo → AllEqualBelow a n old.todo
   pub seen_kept : (a : Assignment) (n : ℕ) → AllEqualBelow a n new.seen → AllEqualBelow a n old.seen
   -- what is new among the seen is equal where smaller pairs are
-  pub learnt : (a : Assignment) (n : ℕ) → Solves a s → AllEqualBelow a n new.todo → AllEqualBelow a n new.seen → AllEqualBelow a (suc n) old.seen → AllEqualBelow a (suc n) new.seen
+  pub learnt : (a : Assignment) (n : ℕ) → Solves a s → AllEqualBelow a n new.todo → AllEqualBelow a n new.seen
+      → AllEqualBelow a (suc n) old.seen → AllEqualBelow a (suc n) new.seen
 
 abbrev pub TakesUp : Table → Agenda → Agenda → Term → Term → Difference → Type 0
 TakesUp s old new left right Same = IsTakenUp s old new left right

@@ -27,7 +27,8 @@ pub record HasNewType (s s' : Table) (number : Type 0) (n : ℕ) : Type 0 where
   pub inside : n < length s'.types
   pub follows : Follows s s'
   pub is_number : number → (a : Assignment) → Solves a s' → IsNumber (a.type_of n)
-  pub each : (a : Assignment) → Solves a s → (g : Ground) → (number → IsNumber g) → (b : Assignment) × Solves b s' × Agrees s a b × (b.type_of n ≡ g)
+  pub each : (a : Assignment) → Solves a s → (g : Ground) → (number → IsNumber g)
+      → (b : Assignment) × Solves b s' × Agrees s a b × (b.type_of n ≡ g)
 
 -- with a new type variable, which is bound to t
 pub record HasBoundType (s s' : Table) (n : ℕ) (t : Term) : Type 0 where
@@ -40,7 +41,8 @@ pub record HasBoundType (s s' : Table) (n : ℕ) (t : Term) : Type 0 where
 pub record HasNewKind (s s' : Table) (n : ℕ) : Type 0 where
   pub inside : n < length s'.kinds
   pub follows : Follows s s'
-  pub each : (a : Assignment) → Solves a s → (k : Kind) → (b : Assignment) × Solves b s' × Agrees s a b × (b.kind_of n ≡ k)
+  pub each : (a : Assignment) → Solves a s → (k : Kind)
+      → (b : Assignment) × Solves b s' × Agrees s a b × (b.kind_of n ≡ k)
 
 -- no variable is new or changed whether it is a number variable, and bound ones are bound still
 pub record SameVariables (old new : Table) : Type 0 where

@@ -100,8 +100,15 @@ term_code = code_by Gv itself tree_of of_tree of_tree_of
 
 abbrev pub variable_code : Coded Variable
 variable_code =
-    code_by (Bool × Option Term) (coded× coded_bool (coded_option term_code)) (λ v. (v.number, v.bound)) (λ p. record { number = p.0; bound = p.1 }) (λ _. refl)
+    code_by (Bool × Option Term) (coded× coded_bool (coded_option term_code)) (λ v. (v.number, v.bound)) (λ p. record {
+      number = p.0;
+      bound = p.1;
+    }) (λ _. refl)
 
 abbrev pub table_code : Coded Table
 table_code =
-    code_by (List Variable × List (Option KindTerm)) (coded× (coded_list variable_code) (coded_list (coded_option kind_code))) (λ s. (s.types, s.kinds)) (λ p. record { types = p.0; kinds = p.1 }) (λ _. refl)
+    code_by (List Variable × List (Option KindTerm))
+    (coded× (coded_list variable_code) (coded_list (coded_option kind_code))) (λ s. (s.types, s.kinds)) (λ p. record {
+      types = p.0;
+      kinds = p.1;
+    }) (λ _. refl)

@@ -13,7 +13,8 @@ pub record Extends (s : Table) (p a : Assignment) : Type 0 where
   pub types : (k : ℕ) → bound_at s.types k ≡ None → a.type_of k ≡ p.type_of k
   pub kinds : (k : ℕ) → kind_at s.kinds k ≡ None → a.kind_of k ≡ p.kind_of k
 
--- the solution whose free kinds are stereo and whose other free variables are int: a kind is mono there exactly where it is at every solution
+-- the solution whose free kinds are stereo and whose other free variables are int: a kind is mono there exactly where
+-- it is at every solution
 pub record HasDefaults (s : Table) : Type 0 where
   pub at : Assignment
   pub solves : Solves at s

@@ -62,4 +62,7 @@ abbrev mutual
 
 -- each variable is what `a` makes of its new number
 abbrev pub behind : List ℕ → List ℕ → Assignment → Assignment
-behind types kinds a = record { type_of = λ n. a.type_of (new_number types n); kind_of = λ n. a.kind_of (new_number kinds n) }
+behind types kinds a = record {
+  type_of = λ n. a.type_of (new_number types n);
+  kind_of = λ n. a.kind_of (new_number kinds n);
+}

@@ -78,7 +78,8 @@ IsAmong m n _ = Unit {0}
 abbrev pub IsIn : List ℕ → ℕ → Type 0
 IsIn ks k = list_any (nat_eq k) ks ≡ true
 
--- a walk comes to u, having gone behind the variables of `old`: `deep` where it goes behind u now, which with `nested` it does once for each variable
+-- a walk comes to u, having gone behind the variables of `old`: `deep` where it goes behind u now, which with `nested`
+-- it does once for each variable
 pub record IsVisit (nested deep : Bool) (old new : List ℕ) (u : Term) : Type 0 where
   pub kept : (k : ℕ) → IsIn old k → IsIn new k
   pub here : nested ≡ true → (k : ℕ) → u ≡ variable k → IsIn new k

@@ -23,7 +23,8 @@ abbrev pub rank_step : (ℕ → ℕ) → Option Term → ℕ
 rank_step w None = 0
 rank_step w (Some t) = suc (height w t)
 
--- the rank of a variable, where at most n variables are bound: one more than the height of its binding, in which it is itself free
+-- the rank of a variable, where at most n variables are bound: one more than the height of its binding, in which it is
+-- itself free
 abbrev pub rank_in : ℕ → List Variable → ℕ → ℕ
 rank_in zero vs k = 0
 rank_in (suc n) vs k = rank_step (rank_in n (erase k vs)) (bound_at vs k)

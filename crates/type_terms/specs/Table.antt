@@ -80,11 +80,13 @@ pub record IsSound (s : Table) : Type 0 where
   pub numbers : (k : ℕ) (t : Term) → bound_at s.types k ≡ Some t → number_at s.types k ≡ true → IsNumberTerm s.types t
   pub kinds : (k j : ℕ) → kind_at s.kinds k ≡ Some (Var j) → j < k
 
--- x doesn't stand in t, directly or through what variables are bound to: a set without x, closed under bindings, holds t's variables
+-- x doesn't stand in t, directly or through what variables are bound to: a set without x, closed under bindings, holds
+-- t's variables
 pub record Avoids (vs : List Variable) (x : ℕ) (t : Term) : Type 0 where
   pub reached : ℕ → Bool
   pub without : reached x ≡ false
-  pub closed : (k : ℕ) (s : Term) → bound_at vs k ≡ Some s → reached k ≡ true → InTerm (λ j. reached j ≡ true) (λ _. Unit {0}) s
+  pub closed : (k : ℕ) (s : Term) → bound_at vs k ≡ Some s → reached k ≡ true
+      → InTerm (λ j. reached j ≡ true) (λ _. Unit {0}) s
   pub within : InTerm (λ j. reached j ≡ true) (λ _. Unit {0}) t
 
 -- the new variables are the old ones, but that x, which was free, is bound to t

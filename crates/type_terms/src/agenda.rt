@@ -6,7 +6,8 @@ use crate::ty::Ty;
 use indexmap::IndexSet;
 use std::alloc::Global;
 
-/// The pairs that are still to be compared, as copies, so that variables can be bound meanwhile, and the pairs of variables that were taken apart.
+/// The pairs that are still to be compared, as copies, so that variables can be bound meanwhile, and the pairs of
+/// variables that were taken apart.
 #[derive(Drop)]
 pub struct Agenda {
     pub work: Vec<(Ty, Ty)>,

@@ -58,7 +58,8 @@ pub fn push_copies(
     left: &Ty,
     right: &Ty,
 ) -> Result<(), Memory>
-    ensures { OnOk result (pairs_of work.new.items ≡ pairs_of work.old.items ++ (term_of left.now, term_of right.now) ∷ []) }
+    ensures { OnOk result (pairs_of work.new.items
+        ≡ pairs_of work.old.items ++ (term_of left.now, term_of right.now) ∷ []) }
 {
     let left = copy(alloc, left)?;
     let right = copy(alloc, right)?;
@@ -72,7 +73,8 @@ pub fn push_split<'a>(
     s: &'a Ty,
     t: &'a Ty,
 ) -> Result<bool, Memory>
-    ensures yes { IfOk result (λ b. OnTrue b (IsSplit (term_of s.now) (term_of t.now) × (pairs work.new.items ≡ pairs work.old.items ++ parts_of (term_of s.now) (term_of t.now)))) }
+    ensures yes { IfOk result (λ b. OnTrue b (IsSplit (term_of s.now) (term_of t.now)
+        × (pairs work.new.items ≡ pairs work.old.items ++ parts_of (term_of s.now) (term_of t.now)))) }
     ensures no { IfOk result (λ b. OnFalse b (pairs work.new.items ≡ pairs work.old.items)) }
     ensures unsplit { IfOk result (λ b. OnFalse b (IsSplit (term_of s.now) (term_of t.now) → ⊥)) }
 {
@@ -111,7 +113,8 @@ pub fn differ<'a>(
     right: &'a Ty,
 ) -> Result<Difference<'a>, Memory>
     requires { AreComparable bindings.now (term_of left.now) (term_of right.now) }
-    ensures { IfOk result (λ d. TakesUp (table_of bindings.now) (agenda_of agenda.old) (agenda_of agenda.new) (term_of left.now) (term_of right.now) d) }
+    ensures { IfOk result (λ d. TakesUp (table_of bindings.now) (agenda_of agenda.old) (agenda_of agenda.new)
+        (term_of left.now) (term_of right.now) d) }
 {
     if are_one_variable(left, right) {
         return Ok(Difference::Same);
@@ -197,7 +200,8 @@ fn differ_from_variable<'a>(
     requires free { bound_at types.now x ≡ None }
     requires over { InTerm (λ n. n < length types.now) (λ _. Unit {0}) (term_of t.now) }
     requires no_variable { extra (term_of t.now) ≡ 1 }
-    ensures { IfOk result (λ d. (ks : List (Option KindTerm)) → IsOver (table types.now ks) (term_of t.now) → Settles (table types.now ks) (variable x) (term_of t.now) d) }
+    ensures { IfOk result (λ d. (ks : List (Option KindTerm)) → IsOver (table types.now ks) (term_of t.now)
+        → Settles (table types.now ks) (variable x) (term_of t.now) d) }
 {
     let variable = &types[x as usize];
     if variable.is_number() {
@@ -213,9 +217,11 @@ fn differ_from_variable<'a>(
     }
 }
 
-/// Whether `x` stays free where it is made equal to `y`: a number variable rather than another, else the one of lesser number.
+/// Whether `x` stays free where it is made equal to `y`: a number variable rather than another, else the one of lesser
+/// number.
 ///
-/// So variables that are made equal in the order of their numbers, from whichever side, lead to the first of them in one step.
+/// So variables that are made equal in the order of their numbers, from whichever side, lead to the first of them in
+/// one step.
 fn stays_free(types: &[TypeVariable], x: u64, y: u64) -> bool
     requires inside { x < length types.now }
     requires inside_too { y < length types.now }
@@ -323,7 +329,8 @@ pub fn differ_directly<'a>(
     right: &'a Ty,
 ) -> Result<Option<Difference<'a>>, Memory>
     requires { AreComparable bindings.now (term_of left.now) (term_of right.now) }
-    ensures { IfOk result (λ o. IfSome o (λ d. Settles (table_of bindings.now) (term_of left.now) (term_of right.now) d)) }
+    ensures { IfOk result (λ o. IfSome o
+        (λ d. Settles (table_of bindings.now) (term_of left.now) (term_of right.now) d)) }
 {
     let s = bindings.resolve(left);
     let t = bindings.resolve(right);
@@ -356,7 +363,8 @@ fn are_one_variable(left: &Ty, right: &Ty) -> bool
 
 /// Whether both types are variables that were put down for comparison before.
 fn is_known(seen: &IndexSet<(u64, u64)>, left: &Ty, right: &Ty) -> bool
-    ensures { OnTrue result ((a : Assignment) (n : ℕ) → AllEqualBelow a n (variable_pairs seen.now.keys) → EqualBelow a n (term_of left.now) (term_of right.now)) }
+    ensures { OnTrue result ((a : Assignment) (n : ℕ) → AllEqualBelow a n (variable_pairs seen.now.keys)
+        → EqualBelow a n (term_of left.now) (term_of right.now)) }
 {
     match left {
         Ty::Var(x) => match right {
@@ -369,8 +377,11 @@ fn is_known(seen: &IndexSet<(u64, u64)>, left: &Ty, right: &Ty) -> bool
 
 /// Notes two variables that are put down for comparison; other types are not noted.
 fn note(seen: &mut IndexSet<(u64, u64)>, left: &Ty, right: &Ty) -> Result<(), Memory>
-    ensures known { OnOk result ((a : Assignment) (n : ℕ) → AllEqualBelow a n (variable_pairs seen.new.keys) → AllEqualBelow a n (variable_pairs seen.old.keys)) }
-    ensures learnt { OnOk result ((a : Assignment) (n : ℕ) → ((x : ℕ) → term_of left.now ≡ variable x → EqualBelow a n (term_of left.now) (term_of right.now)) → AllEqualBelow a n (variable_pairs seen.old.keys) → AllEqualBelow a n (variable_pairs seen.new.keys)) }
+    ensures known { OnOk result ((a : Assignment) (n : ℕ) → AllEqualBelow a n (variable_pairs seen.new.keys)
+        → AllEqualBelow a n (variable_pairs seen.old.keys)) }
+    ensures learnt { OnOk result ((a : Assignment) (n : ℕ)
+        → ((x : ℕ) → term_of left.now ≡ variable x → EqualBelow a n (term_of left.now) (term_of right.now))
+        → AllEqualBelow a n (variable_pairs seen.old.keys) → AllEqualBelow a n (variable_pairs seen.new.keys)) }
 {
     match left {
         Ty::Var(x) => match right {
@@ -391,7 +402,8 @@ fn push_parts<'a>(
     ts: &'a [Ty],
 ) -> Result<(), Memory>
     requires { length ss.now ≡ length ts.now }
-    ensures { OnOk result (pairs work.new.items ≡ pairs work.old.items ++ zipped (terms_of (map term_of ss.now)) (terms_of (map term_of ts.now))) }
+    ensures { OnOk result (pairs work.new.items ≡ pairs work.old.items
+        ++ zipped (terms_of (map term_of ss.now)) (terms_of (map term_of ts.now))) }
 {
     for i in 0..ss.len() {
         work.push((&ss[i], &ts[i]))?;

@@ -37,7 +37,8 @@ pub fn variables(alloc: Global, ty: &Ty) -> Result<VariableNumbers, Memory>
 /// A type of more than a thousand levels is given up as if memory had run out.
 pub fn renamed(alloc: Global, ty: &Ty, types: &[u64], kinds: &[u64]) -> Result<Ty, Memory>
     ensures instance { IfOk result (λ u. term_of u ≡ instance types.now kinds.now (term_of ty.now)) }
-    ensures same { IfOk result (λ u. (a : Assignment) → meaning a (term_of u) ≡ meaning (behind types.now kinds.now a) (term_of ty.now)) }
+    ensures same { IfOk result (λ u. (a : Assignment)
+        → meaning a (term_of u) ≡ meaning (behind types.now kinds.now a) (term_of ty.now)) }
 {
     renamed_within(alloc, types, kinds, ty, MOST_LEVELS)
 }

@@ -22,10 +22,12 @@ pub const MOST_STEPS: u64 = 4_194_304;
 pub fn resolve<'a>(types: &'a [TypeVariable], t: &'a Ty) -> &'a Ty
     requires triangular { IsTriangular types.now }
     requires over { InTerm (λ n. n < length types.now) (λ _. Unit {0}) (term_of t.now) }
-    ensures value { (a : Assignment) → MeetsBindings types.now a → meaning a (term_of result.now) ≡ meaning a (term_of t.now) }
+    ensures value { (a : Assignment) → MeetsBindings types.now a
+        → meaning a (term_of result.now) ≡ meaning a (term_of t.now) }
     ensures free { (k : ℕ) → term_of result.now ≡ variable k → bound_at types.now k ≡ None }
     ensures over { InTerm (λ n. n < length types.now) (λ _. Unit {0}) (term_of result.now) }
-    ensures kept { (s : Table) → s.types ≡ types.now → IsSound s → IsOver s (term_of t.now) → IsOver s (term_of result.now) }
+    ensures kept { (s : Table) → s.types ≡ types.now → IsSound s → IsOver s (term_of t.now)
+        → IsOver s (term_of result.now) }
 {
     let mut t = t;
     while let Ty::Var(k) = t {
@@ -58,7 +60,8 @@ pub fn mark(nested: &mut [bool], ty: &Ty)
 
 /// Whether the variable stands in the type, directly or through what variables are bound to.
 ///
-/// A variable that stands in no binding needs no walk through the bindings: `nested` is false. A type without parts takes no memory.
+/// A variable that stands in no binding needs no walk through the bindings: `nested` is false. A type without parts
+/// takes no memory.
 pub fn occurs_in(
     alloc: Global,
     types: &[TypeVariable],
@@ -70,7 +73,8 @@ pub fn occurs_in(
     requires over { InTerm (λ n. n < length types.now) (λ _. Unit {0}) (term_of ty.now) }
     requires unnested { nested ≡ false → IsUnnested types.now x }
     ensures no { IfOk result (λ b. OnFalse b (Avoids types.now x (term_of ty.now))) }
-    ensures yes { IfOk result (λ b. OnTrue b ((a : Assignment) → MeetsBindings types.now a → size (a.type_of x) + extra (term_of ty.now) ≤ size (meaning a (term_of ty.now)))) }
+    ensures yes { IfOk result (λ b. OnTrue b ((a : Assignment) → MeetsBindings types.now a
+        → size (a.type_of x) + extra (term_of ty.now) ≤ size (meaning a (term_of ty.now)))) }
 {
     if is_leaf(ty) {
         return Ok(false);
@@ -87,7 +91,8 @@ pub fn are_among(
     kinds: &[Option<KindTerm>],
     ty: &Ty,
 ) -> Result<bool, Memory>
-    ensures { IfOk result (λ yes. IsTrue yes ↔ InTerm (λ n. n < length types.now) (λ n. n < length kinds.now) (term_of ty.now)) }
+    ensures { IfOk result (λ yes. IsTrue yes ↔ InTerm (λ n. n < length types.now) (λ n. n
+        < length kinds.now) (term_of ty.now)) }
 {
     let mut work = Vec::new(alloc);
     all_among(&mut work, types, kinds, ty)
@@ -108,7 +113,8 @@ fn search<'a>(
     requires work { work.old.items ≡ [] }
     requires seen { seen.old.keys ≡ [] }
     ensures no { IfOk result (λ b. OnFalse b (Avoids types.now x (term_of ty.now))) }
-    ensures yes { IfOk result (λ b. OnTrue b ((a : Assignment) → MeetsBindings types.now a → size (a.type_of x) + extra (term_of ty.now) ≤ size (meaning a (term_of ty.now)))) }
+    ensures yes { IfOk result (λ b. OnTrue b ((a : Assignment) → MeetsBindings types.now a
+        → size (a.type_of x) + extra (term_of ty.now) ≤ size (meaning a (term_of ty.now)))) }
 {
     work.push(ty)?;
     for _step in 0..MOST_STEPS {
@@ -132,7 +138,8 @@ fn all_among<'a>(
     ty: &'a Ty,
 ) -> Result<bool, Memory>
     requires { work.old.items ≡ [] }
-    ensures { IfOk result (λ yes. IsTrue yes ↔ InTerm (λ n. n < length types.now) (λ n. n < length kinds.now) (term_of ty.now)) }
+    ensures { IfOk result (λ yes. IsTrue yes ↔ InTerm (λ n. n < length types.now) (λ n. n
+        < length kinds.now) (term_of ty.now)) }
 {
     work.push(ty)?;
     for _step in 0..MOST_STEPS {

@@ -64,7 +64,8 @@ impl Subst {
         })
     }
 
-    /// Makes room for so many type variables and kind variables more, so that the lists of them need not grow step by step.
+    /// Makes room for so many type variables and kind variables more, so that the lists of them need not grow step by
+    /// step.
     pub fn reserve(&mut self, types: usize, kinds: usize) -> Result<(), Memory>
         ensures same { self.new ≡ self.old }
     {
@@ -79,7 +80,10 @@ impl Subst {
     /// A number variable where `number` is true. Where memory runs out nothing changes.
     pub fn fresh(&mut self, number: bool) -> Result<Ty, Memory>
         ensures next { IfOk result (λ t. term_of t ≡ variable (length self.old.types)) }
-        ensures grown { OnOk result (self.new ≡ table (self.old.types ++ record { number = number; bound = None } ∷ []) self.old.kinds) }
+        ensures grown { OnOk result (self.new ≡ table (self.old.types ++ record {
+          number = number;
+          bound = None;
+        } ∷ []) self.old.kinds) }
         ensures free { OnOk result (HasNewType self.old self.new (IsTrue number) (length self.old.types)) }
         ensures err { OnErr result (self.new ≡ self.old) }
     {
@@ -97,7 +101,10 @@ impl Subst {
     pub fn fresh_bound(&mut self, ty: Ty) -> Result<u64, Memory>
         requires over { IsOver self.old (term_of ty) }
         ensures next { IfOk result (λ n. n ≡ length self.old.types) }
-        ensures grown { OnOk result (self.new ≡ table (self.old.types ++ record { number = false; bound = Some (term_of ty) } ∷ []) self.old.kinds) }
+        ensures grown { OnOk result (self.new ≡ table (self.old.types ++ record {
+          number = false;
+          bound = Some (term_of ty);
+        } ∷ []) self.old.kinds) }
         ensures bound { IfOk result (λ n. HasBoundType self.old self.new n (term_of ty)) }
         ensures err { OnErr result (self.new ≡ self.old) }
     {
@@ -167,7 +174,8 @@ impl Subst {
         self.bindings.kinds.len()
     }
 
-    /// How many of the first so many type variables and kind variables are bound to nothing. It looks only at those behind them.
+    /// How many of the first so many type variables and kind variables are bound to nothing. It looks only at those
+    /// behind them.
     pub fn free_among(&self, types: usize, kinds: usize) -> usize
         ensures { result ≡ the_free_among self.now types kinds }
     {
@@ -183,9 +191,11 @@ impl Subst {
         are_among(alloc, &self.bindings.types, &self.bindings.kinds, ty)
     }
 
-    /// Each assignment to the variables that are bound to nothing, with int or decimal for each number variable, is that of a solution.
+    /// Each assignment to the variables that are bound to nothing, with int or decimal for each number variable, is
+    /// that of a solution.
     pub fn extends_each_assignment(&self)
-        ensures { (p : Assignment) → ((k : ℕ) → number_at self.now.types k ≡ true → IsNumber (p.type_of k)) → (a : Assignment) × Extends self.now p a }
+        ensures { (p : Assignment) → ((k : ℕ) → number_at self.now.types k ≡ true → IsNumber (p.type_of k))
+            → (a : Assignment) × Extends self.now p a }
     {
         let _ = &self.bindings.types;
     }
@@ -208,13 +218,16 @@ impl Subst {
 /// Binds variables so that exactly those solutions are left at which the two types are the same.
 ///
 /// `false` where there is none. Nothing is bound then, nor where memory runs out.
-/// A type with more than a thousand levels is given up as if memory had run out, and so is what takes more than some four million steps: comparing pairs of bound types, taking one such pair apart, searching one type for a variable.
+/// A type with more than a thousand levels is given up as if memory had run out, and so is what takes more than some
+/// four million steps: comparing pairs of bound types, taking one such pair apart, searching one type for a variable.
 pub fn unify(alloc: Global, subst: &mut Subst, left: &Ty, right: &Ty) -> Result<bool, Memory>
     requires left { IsOver subst.old (term_of left.now) }
     requires right { IsOver subst.old (term_of right.now) }
-    ensures most_general { IfOk result (λ yes. OnTrue yes ((a : Assignment) → Solves a subst.new ↔ (Solves a subst.old × (meaning a (term_of left.now) ≡ meaning a (term_of right.now))))) }
+    ensures most_general { IfOk result (λ yes. OnTrue yes ((a : Assignment) → Solves a subst.new
+        ↔ (Solves a subst.old × (meaning a (term_of left.now) ≡ meaning a (term_of right.now))))) }
     ensures solvable { IfOk result (λ yes. OnTrue yes ((a : Assignment) × Solves a subst.new)) }
-    ensures none { IfOk result (λ yes. OnFalse yes ((a : Assignment) → Solves a subst.old → meaning a (term_of left.now) ≢ meaning a (term_of right.now))) }
+    ensures none { IfOk result (λ yes. OnFalse yes ((a : Assignment) → Solves a subst.old
+        → meaning a (term_of left.now) ≢ meaning a (term_of right.now))) }
     ensures unchanged { IfOk result (λ yes. OnFalse yes (subst.new ≡ subst.old)) }
     ensures same_variables { IfOk result (λ yes. OnTrue yes (SameVariables subst.old subst.new)) }
     ensures err { OnErr result (subst.new ≡ subst.old) }
@@ -237,7 +250,8 @@ pub fn resolved_kind(subst: &Subst, kind: KindTerm) -> KindTerm
 pub fn resolved(alloc: Global, subst: &Subst, ty: &Ty) -> Result<Ty, Memory>
     requires { IsOver subst.now (term_of ty.now) }
     ensures unbound { IfOk result (λ t. IsUnbound subst.now (term_of t)) }
-    ensures same { IfOk result (λ t. (a : Assignment) → Solves a subst.now → meaning a (term_of t) ≡ meaning a (term_of ty.now)) }
+    ensures same { IfOk result (λ t. (a : Assignment) → Solves a subst.now
+        → meaning a (term_of t) ≡ meaning a (term_of ty.now)) }
 {
     let mut nodes = MOST_NODES;
     settle(

@@ -27,7 +27,8 @@ impl Bindings {
     pub fn resolve<'a>(&'a self, ty: &'a Ty) -> &'a Ty
         requires sound { IsSound (table_of self.now) }
         requires over { IsOver (table_of self.now) (term_of ty.now) }
-        ensures value { (a : Assignment) → MeetsBindings self.now.types.items a → meaning a (term_of result.now) ≡ meaning a (term_of ty.now) }
+        ensures value { (a : Assignment) → MeetsBindings self.now.types.items a
+            → meaning a (term_of result.now) ≡ meaning a (term_of ty.now) }
         ensures free { (k : ℕ) → term_of result.now ≡ variable k → bound_at self.now.types.items k ≡ None }
         ensures over { IsOver (table_of self.now) (term_of result.now) }
     {

@@ -83,7 +83,8 @@ fn unify_directly(
     requires comparable { AreComparable bindings.old (term_of left.now) (term_of right.now) }
     requires counted { free.old ≡ free_count (table_of bindings.old) }
     ensures narrowed { Narrows (term_of left.now) (term_of right.now) bindings.old bindings.new }
-    ensures direct { IfOk result (IsDirect (table_of bindings.old) (table_of bindings.new) (term_of left.now) (term_of right.now)) }
+    ensures direct { IfOk result
+        (IsDirect (table_of bindings.old) (table_of bindings.new) (term_of left.now) (term_of right.now)) }
     ensures counted { free.new ≡ free_count (table_of bindings.new) }
     ensures err { OnErr result (table_of bindings.new ≡ table_of bindings.old) }
 {
@@ -151,7 +152,8 @@ fn undo(bindings: &mut Bindings, trail: &Trail)
     free_kinds(&mut bindings.kinds, &trail.kinds);
 }
 
-/// Takes up one pair: binds the variable that it forces, or puts what the two are bound to on the agenda; `false` where they differ in shape.
+/// Takes up one pair: binds the variable that it forces, or puts what the two are bound to on the agenda; `false` where
+/// they differ in shape.
 fn take_up(
     alloc: Global,
     bindings: &mut Bindings,
@@ -163,7 +165,9 @@ fn take_up(
     requires { AreComparable bindings.old (term_of left.now) (term_of right.now) }
     ensures narrowed { Narrows (term_of left.now) (term_of right.now) bindings.old bindings.new }
     ensures trailed { IsTrailed (table_of bindings.old) (table_of bindings.new) trail.old trail.new }
-    ensures taken { IfOk result (IsTaken (table_of bindings.new) (agenda_of agenda.old) (agenda_of agenda.new) (term_of left.now) (term_of right.now)) }
+    ensures taken { IfOk result
+        (IsTaken (table_of bindings.new) (agenda_of agenda.old) (agenda_of agenda.new) (term_of left.now)
+        (term_of right.now)) }
 {
     match differ(alloc, bindings, agenda, left, right)? {
         Difference::Same => Ok(true),
@@ -182,7 +186,8 @@ fn take_up(
     }
 }
 
-/// Takes up two types: they are taken apart with a stack of references, and the pairs of parts that are not both lists or both tuples are taken up.
+/// Takes up two types: they are taken apart with a stack of references, and the pairs of parts that are not both lists
+/// or both tuples are taken up.
 fn take_apart(
     alloc: Global,
     bindings: &mut Bindings,
@@ -194,7 +199,9 @@ fn take_apart(
     requires { AreComparable bindings.old (term_of left.now) (term_of right.now) }
     ensures narrowed { Narrows (term_of left.now) (term_of right.now) bindings.old bindings.new }
     ensures trailed { IsTrailed (table_of bindings.old) (table_of bindings.new) trail.old trail.new }
-    ensures taken { IfOk result (IsTaken (table_of bindings.new) (agenda_of agenda.old) (agenda_of agenda.new) (term_of left.now) (term_of right.now)) }
+    ensures taken { IfOk result
+        (IsTaken (table_of bindings.new) (agenda_of agenda.old) (agenda_of agenda.new) (term_of left.now)
+        (term_of right.now)) }
 {
     let mut parts: Vec<(&Ty, &Ty)> = Vec::new(alloc);
     parts.push((left, right))?;

@@ -11,8 +11,8 @@ use Rattle.typing_rules.specs.declared.uses.Target.TheVariants as target
 use Rattle.type_terms.specs.declared.ty.Base.TheVariants as base
 use Rattle.typing_rules.specs.declared.uses.Builtin.TheVariants as builtin
 use Rattle.typing_rules.specs.declared.form.Form.TheVariants.{InPlace, Perhaps}
-use Rattle.typing_rules.specs.Arguments.{Given, Matched}
-use Rattle.typing_rules.specs.Table.{IsCallOf, params_of}
+use Rattle.typing_rules.specs.Arguments.{GivenArgument, Matched}
+use Rattle.typing_rules.specs.Table.{IsCallOf, params_of_builtin}
 use Rattle.typing_rules.specs.Typing.{DefaultsHave, NameHas, TypesByToken, type_at}
 use Rattle.typing_rules.specs.Scripts.{HasTyping, Places, Targets, calls_behind, first_of, sight, value, function}
 use Rattle.typing_rules.specs.Scoping.{target_in, meanings_of}
@@ -21,9 +21,9 @@ use Rattle.typing_rules.specs.declared.fault.TypeFault.TheVariants as fault
 use Rattle.typing_rules.proofs.Samples.{full, lone, one, two, int, mean_of_mono, amplified_by_int, restricted, at_two_types, default_of_other_type}
 
 -- mean takes a stereo source
-mean_takes : (u : Ground) (types : List Ground) → base_type base.Text ∷ source Stereo ∷ [] ≡ types → Matched (params_of builtin.Mean) ((None, u) ∷ []) types → u ≡ source Stereo
+mean_takes : (u : Ground) (types : List Ground) → base_type base.Text ∷ source Stereo ∷ [] ≡ types → Matched (params_of_builtin builtin.Mean) ((None, u) ∷ []) types → u ≡ source Stereo
 mean_takes u types is m =
-    (subst (λ ts. Matched (params_of builtin.Mean) ((None, u) ∷ []) ts) (sym is) m).2.0
+    (subst (λ ts. Matched (params_of_builtin builtin.Mean) ((None, u) ∷ []) ts) (sym is) m).2.0
 
 no_mean : HasTyping (target_in (meanings_of mean_of_mono)) mean_of_mono → ⊥
 no_mean h =
@@ -34,8 +34,8 @@ no_mean h =
     let given = call.1 in
     let right : Some h.2.0 ≡ Some given.0 = given.3.0.0.0.0 in
     let row : IsCallOf builtin.Mean call.0 call.2.0 parts.0 = call.2.2 in
-    let all : call.0 ≡ (None, given.0) ∷ [] = given.2 ∙ ap (λ (us : List (Given Ground)). (None, given.0) ∷ us) given.4 in
-    let stereo = mean_takes given.0 row.types row.params (subst (λ (gs : List (Given Ground)). Matched (params_of builtin.Mean) gs row.types) all row.matched) in
+    let all : call.0 ≡ (None, given.0) ∷ [] = given.2 ∙ ap (λ (us : List (GivenArgument Ground)). (None, given.0) ∷ us) given.4 in
+    let stereo = mean_takes given.0 row.types row.params (subst (λ (gs : List (GivenArgument Ground)). Matched (params_of_builtin builtin.Mean) gs row.types) all row.matched) in
     let mono : source Mono ≡ parts.0 = row.result in
     let f : source Stereo ≡ source Mono = cc in cc
 
@@ -71,9 +71,9 @@ mean_clashes = record {
 }
 
 -- amplify takes a decimal first
-amplify_takes : (u v : Ground) (types : List Ground) (k : Kind) → base_type base.Text ∷ base_type base.Decimal ∷ source k ∷ [] ≡ types → Matched (params_of builtin.Amplify) ((None, u) ∷ (None, v) ∷ []) types → u ≡ base_type base.Decimal
+amplify_takes : (u v : Ground) (types : List Ground) (k : Kind) → base_type base.Text ∷ base_type base.Decimal ∷ source k ∷ [] ≡ types → Matched (params_of_builtin builtin.Amplify) ((None, u) ∷ (None, v) ∷ []) types → u ≡ base_type base.Decimal
 amplify_takes u v types k is m =
-    (subst (λ ts. Matched (params_of builtin.Amplify) ((None, u) ∷ (None, v) ∷ []) ts) (sym is) m).2.0
+    (subst (λ ts. Matched (params_of_builtin builtin.Amplify) ((None, u) ∷ (None, v) ∷ []) ts) (sym is) m).2.0
 
 no_amplify : HasTyping (target_in (meanings_of amplified_by_int)) amplified_by_int → ⊥
 no_amplify h =
@@ -84,8 +84,8 @@ no_amplify h =
     let is_int : factor.0 ≡ base_type base.Int = factor.3.0.0.0.0 in
     let row : IsCallOf builtin.Amplify inside.0 inside.2.0 third.0 = inside.2.2 in
     let second = factor.4 in
-    let all : inside.0 ≡ (None, factor.0) ∷ (None, second.0) ∷ [] = factor.2 ∙ ap (λ (us : List (Given Ground)). (None, factor.0) ∷ us) (second.2 ∙ ap (λ (us : List (Given Ground)). (None, second.0) ∷ us) second.4) in
-    let is_decimal = amplify_takes factor.0 second.0 row.types (row.at.kind_of 0) row.params (subst (λ (gs : List (Given Ground)). Matched (params_of builtin.Amplify) gs row.types) all row.matched) in
+    let all : inside.0 ≡ (None, factor.0) ∷ (None, second.0) ∷ [] = factor.2 ∙ ap (λ (us : List (GivenArgument Ground)). (None, factor.0) ∷ us) (second.2 ∙ ap (λ (us : List (GivenArgument Ground)). (None, second.0) ∷ us) second.4) in
+    let is_decimal = amplify_takes factor.0 second.0 row.types (row.at.kind_of 0) row.params (subst (λ (gs : List (GivenArgument Ground)). Matched (params_of_builtin builtin.Amplify) gs row.types) all row.matched) in
     let f : base_type base.Int ≡ base_type base.Decimal = sym is_int ∙ is_decimal in cc
 
 amplify_clashes : IsTypeClash amplified_by_int 1
@@ -168,9 +168,9 @@ no_default h =
     let first = call.1 in
     let second = first.4 in
     let is_text : first.0 ≡ base_type base.Text = first.3.0.0.0.0 in
-    let all : call.0 ≡ (Some (codes "y"), first.0) ∷ (None, second.0) ∷ [] = first.2 ∙ ap (λ (us : List (Given Ground)). (Some (codes "y"), first.0) ∷ us) (second.2 ∙ ap (λ (us : List (Given Ground)). (None, second.0) ∷ us) second.4) in
+    let all : call.0 ≡ (Some (codes "y"), first.0) ∷ (None, second.0) ∷ [] = first.2 ∙ ap (λ (us : List (GivenArgument Ground)). (Some (codes "y"), first.0) ∷ us) (second.2 ∙ ap (λ (us : List (GivenArgument Ground)). (None, second.0) ∷ us) second.4) in
     let def = call.2.2 in
-    let takes = f_takes first.0 second.0 def.0 (subst (λ (gs : List (Given Ground)). Matched (record { name = codes "y"; form = Perhaps } ∷ record { name = codes "z"; form = InPlace } ∷ []) gs def.0) all def.1) in
+    let takes = f_takes first.0 second.0 def.0 (subst (λ (gs : List (GivenArgument Ground)). Matched (record { name = codes "y"; form = Perhaps } ∷ record { name = codes "z"; form = InPlace } ∷ []) gs def.0) all def.1) in
     let given = subst (λ (ts : List Ground). DefaultsHave (sight (target_in (meanings_of default_of_other_type)) h.0 [] (14 ∷ [])) (two (Optional 3 (codes "y") (full (int 5 1))) (Param 7 (codes "z"))) ts) takes.2 def.2.0 in
     let is_int : takes.0 ≡ base_type base.Int = given.0.0.0.0.0 in
     let f : base_type base.Text ≡ base_type base.Int = sym is_text ∙ sym takes.3 ∙ is_int in cc

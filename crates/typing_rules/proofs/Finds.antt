@@ -5,26 +5,26 @@ use Rattle.script_grammar.specs.Placed.{IsPlaced}
 use Rattle.script_grammar.specs.Spelling.{spell}
 use Rattle.script_grammar.specs.Tree.{Tree, ADef, none, more, Stmt, BindPart, DefPart, CallPart, IfPart, Bind, Def, Script}
 use Rattle.type_terms.specs.Ground.{Ground}
-use Rattle.typing_rules.specs.Arguments.{Given, Matched}
+use Rattle.typing_rules.specs.Arguments.{GivenArgument, Matched}
 use Rattle.typing_rules.specs.Typing.{DefHas}
 use Rattle.typing_rules.specs.Scripts.{Entry, value, function, Targets, Places, IsTypedTo, calls_behind, def_token, params_of, sight}
 use Rattle.typing_rules.specs.Kinds.{Stands}
 use Rattle.typing_rules.specs.Defs.{IsDefOf, def_at, Leads}
 
-abbrev CallIs : Targets → Places → List Entry → Tree ADef → List ℕ → ℕ → ℕ → List (Given Ground) → Ground → Bool → Type 0
+abbrev CallIs : Targets → Places → List Entry → Tree ADef → List ℕ → ℕ → ℕ → List (GivenArgument Ground) → Ground → Bool → Type 0
 CallIs ts kinds es d chain at t gs g b =
     elim b [
       | true ↦ ((us : List Ground) × Matched (params_of d) gs us × DefHas (sight ts kinds es (at ∷ chain)) d us g)
       | false ↦ calls_behind ts kinds es chain at t gs g
     ]
 
-by_test : (ts : Targets) (kinds : Places) (es : List Entry) (d : Tree ADef) (chain : List ℕ) (at t : ℕ) (gs : List (Given Ground)) (g : Ground) → (calls_behind ts kinds es chain at t gs g → Leads ts kinds es chain at t gs g) → (b : Bool) → nat_eq (def_token d) t ≡ b → CallIs ts kinds es d chain at t gs g b → Leads ts kinds (function d ∷ es) chain at t gs g
+by_test : (ts : Targets) (kinds : Places) (es : List Entry) (d : Tree ADef) (chain : List ℕ) (at t : ℕ) (gs : List (GivenArgument Ground)) (g : Ground) → (calls_behind ts kinds es chain at t gs g → Leads ts kinds es chain at t gs g) → (b : Bool) → nat_eq (def_token d) t ≡ b → CallIs ts kinds es d chain at t gs g b → Leads ts kinds (function d ∷ es) chain at t gs g
 by_test ts kinds es d chain at t gs g rest true same c = record { def = d; before = es; stands = inl (refl, refl); token = eqb-true (def_token d) t same; types = c.0; matched = c.1; has = c.2 }
 by_test ts kinds es d chain at t gs g rest false other c =
     let l = rest c in
     record { def = l.def; before = l.before; stands = inr l.stands; token = l.token; types = l.types; matched = l.matched; has = l.has }
 
-pub leads : (ts : Targets) (kinds : Places) (es : List Entry) (chain : List ℕ) (at t : ℕ) (gs : List (Given Ground)) (g : Ground) → calls_behind ts kinds es chain at t gs g → Leads ts kinds es chain at t gs g
+pub leads : (ts : Targets) (kinds : Places) (es : List Entry) (chain : List ℕ) (at t : ℕ) (gs : List (GivenArgument Ground)) (g : Ground) → calls_behind ts kinds es chain at t gs g → Leads ts kinds es chain at t gs g
 leads ts kinds [] chain at t gs g h = absurd h
 leads ts kinds (value u k ∷ es) chain at t gs g h =
     let l = leads ts kinds es chain at t gs g h in

@@ -9,8 +9,8 @@ use Rattle.type_terms.specs.declared.ty.Base.TheVariants as base
 use Rattle.typing_rules.specs.declared.uses.Builtin.TheVariants as builtin
 use Rattle.typing_rules.specs.declared.uses.Target.TheVariants as target
 use Rattle.typing_rules.specs.declared.form.Form.TheVariants.{InPlace, Perhaps}
-use Rattle.typing_rules.specs.Arguments.{Given, Matched, Parameter}
-use Rattle.typing_rules.specs.Table.{IsCallOf, params_of}
+use Rattle.typing_rules.specs.Arguments.{GivenArgument, Matched, Parameter}
+use Rattle.typing_rules.specs.Table.{IsCallOf, params_of_builtin}
 use Rattle.typing_rules.specs.Scoping.{Name, target_of}
 use Rattle.typing_rules.specs.Typing.{DefHas, TypesByToken, type_at}
 use Rattle.typing_rules.specs.Scripts.{Entry, Places, function, sight, IsTypedTo}
@@ -20,11 +20,11 @@ use Rattle.typing_rules.proofs.Halves.{half, halves, uses, typed, numbered}
 use Rattle.typing_rules.proofs.Lesser.{uses_same}
 use Rattle.typing_rules.proofs.HalvesOpen.{All, first_names, one_of, in_def, opened}
 
-output_takes : (f t u : Ground) (types : List Ground) (k : Kind) → base_type base.Text ∷ base_type base.Bool ∷ base_type base.Format ∷ base_type base.Text ∷ source k ∷ [] ≡ types → Matched (params_of builtin.OutputFile) ((None, f) ∷ (None, t) ∷ (None, u) ∷ []) types → u ≡ source k
-output_takes f t u types k is m = (subst (λ ts. Matched (params_of builtin.OutputFile) ((None, f) ∷ (None, t) ∷ (None, u) ∷ []) ts) (sym is) m).2.1.1.0
+output_takes : (f t u : Ground) (types : List Ground) (k : Kind) → base_type base.Text ∷ base_type base.Bool ∷ base_type base.Format ∷ base_type base.Text ∷ source k ∷ [] ≡ types → Matched (params_of_builtin builtin.OutputFile) ((None, f) ∷ (None, t) ∷ (None, u) ∷ []) types → u ≡ source k
+output_takes f t u types k is m = (subst (λ ts. Matched (params_of_builtin builtin.OutputFile) ((None, f) ∷ (None, t) ∷ (None, u) ∷ []) ts) (sym is) m).2.1.1.0
 
-amplify_takes : (u v : Ground) (types : List Ground) (k : Kind) → base_type base.Text ∷ base_type base.Decimal ∷ source k ∷ [] ≡ types → Matched (params_of builtin.Amplify) ((None, u) ∷ (None, v) ∷ []) types → v ≡ source k
-amplify_takes u v types k is m = (subst (λ ts. Matched (params_of builtin.Amplify) ((None, u) ∷ (None, v) ∷ []) ts) (sym is) m).2.1.0
+amplify_takes : (u v : Ground) (types : List Ground) (k : Kind) → base_type base.Text ∷ base_type base.Decimal ∷ source k ∷ [] ≡ types → Matched (params_of_builtin builtin.Amplify) ((None, u) ∷ (None, v) ∷ []) types → v ≡ source k
+amplify_takes u v types k is m = (subst (λ ts. Matched (params_of_builtin builtin.Amplify) ((None, u) ∷ (None, v) ∷ []) ts) (sym is) m).2.1.0
 
 abbrev half_params : List Parameter
 half_params = record { name = codes "by"; form = Perhaps } ∷ record { name = codes "s"; form = InPlace } ∷ []
@@ -48,18 +48,18 @@ body_kind d kinds chain w v u h =
     let first = call.1 in
     let second = first.4 in
     let s_there : Some v ≡ Some second.0 = subst (λ (us : TypesByToken). type_at 7 (us ++ []) ≡ Some second.0) h.1.1 second.3.0.0.0.0 in
-    let all : call.0 ≡ (None, first.0) ∷ (None, second.0) ∷ [] = first.2 ∙ ap (λ (us : List (Given Ground)). (None, first.0) ∷ us) (second.2 ∙ ap (λ (us : List (Given Ground)). (None, second.0) ∷ us) second.4) in
+    let all : call.0 ≡ (None, first.0) ∷ (None, second.0) ∷ [] = first.2 ∙ ap (λ (us : List (GivenArgument Ground)). (None, first.0) ∷ us) (second.2 ∙ ap (λ (us : List (GivenArgument Ground)). (None, second.0) ∷ us) second.4) in
     let row : IsCallOf builtin.Amplify call.0 call.2.0 u = call.2.2 in
     let k = row.at.kind_of 0 in
-    let is : second.0 ≡ source k = amplify_takes first.0 second.0 row.types k row.params (subst (λ (gs : List (Given Ground)). Matched (params_of builtin.Amplify) gs row.types) all row.matched) in
+    let is : second.0 ≡ source k = amplify_takes first.0 second.0 row.types k row.params (subst (λ (gs : List (GivenArgument Ground)). Matched (params_of_builtin builtin.Amplify) gs row.types) all row.matched) in
     (k, call.2.1 ∙ ap (λ (ks : List Kind). Some ks) (sym row.kinds), (let f : v ≡ second.0 = cc in f ∙ is), sym row.result)
 
 pub one_source : (j k : Kind) → source j ≡ source k → j ≡ k
 one_source j k h = cc
 
 -- what an output takes
-output_kind : (ks : List Kind) (f t u g : Ground) (gs : List (Given Ground)) → gs ≡ (None, f) ∷ (None, t) ∷ (None, u) ∷ [] → IsCallOf builtin.OutputFile gs ks g → (k : Kind) × (k ∷ [] ≡ ks) × (u ≡ source k)
-output_kind ks f t u g gs all row = (row.at.kind_of 0, row.kinds, output_takes f t u row.types (row.at.kind_of 0) row.params (subst (λ (gs : List (Given Ground)). Matched (params_of builtin.OutputFile) gs row.types) all row.matched))
+output_kind : (ks : List Kind) (f t u g : Ground) (gs : List (GivenArgument Ground)) → gs ≡ (None, f) ∷ (None, t) ∷ (None, u) ∷ [] → IsCallOf builtin.OutputFile gs ks g → (k : Kind) × (k ∷ [] ≡ ks) × (u ≡ source k)
+output_kind ks f t u g gs all row = (row.at.kind_of 0, row.kinds, output_takes f t u row.types (row.at.kind_of 0) row.params (subst (λ (gs : List (GivenArgument Ground)). Matched (params_of_builtin builtin.OutputFile) gs row.types) all row.matched))
 
 -- with a list of one kind nothing is less than stereo, and mono is not less than mono
 stereo_less : (o : Option (List Kind)) (k : Kind) → o ≡ Some (k ∷ []) → MonoOnly (Some (Stereo ∷ [])) o
@@ -129,15 +129,15 @@ says d e kinds es h =
     let given_a = half_a.1 in
     let blank_a = given_a.3.0.0.0.0 in
     let blank_row_a : IsCallOf builtin.Blank blank_a.0 blank_a.2.0 given_a.0 = blank_a.2.2 in
-    let all_a : half_a.0 ≡ (None, given_a.0) ∷ [] = given_a.2 ∙ ap (λ (us : List (Given Ground)). (None, given_a.0) ∷ us) given_a.4 in
+    let all_a : half_a.0 ≡ (None, given_a.0) ∷ [] = given_a.2 ∙ ap (λ (us : List (GivenArgument Ground)). (None, given_a.0) ∷ us) given_a.4 in
     let def_a = half_a.2.2 in
-    let takes_a = half_takes_one given_a.0 def_a.0 (subst (λ (gs : List (Given Ground)). Matched half_params gs def_a.0) all_a def_a.1) in
+    let takes_a = half_takes_one given_a.0 def_a.0 (subst (λ (gs : List (GivenArgument Ground)). Matched half_params gs def_a.0) all_a def_a.1) in
     let body_a = body_kind d kinds (21 ∷ []) takes_a.0 takes_a.1 a3.0 (subst (λ (ts : List Ground). HalfAt d kinds (21 ∷ []) ts a3.0) takes_a.2 def_a.2) in
     let c = h.1.1.0.1 in
     let c3 = c.1.4.4 in
     let c_row : IsCallOf builtin.OutputFile c.0 c.2.0 h.1.1.0.0 = c.2.2 in
     let all_c : c.0 ≡ (None, c.1.0) ∷ (None, c.1.4.0) ∷ (None, c3.0) ∷ [] =
-    c.1.2 ∙ ap (λ (us : List (Given Ground)). (None, c.1.0) ∷ us) (c.1.4.2 ∙ ap (λ (us : List (Given Ground)). (None, c.1.4.0) ∷ us) (c3.2 ∙ ap (λ (us : List (Given Ground)). (None, c3.0) ∷ us) c3.4)) in
+    c.1.2 ∙ ap (λ (us : List (GivenArgument Ground)). (None, c.1.0) ∷ us) (c.1.4.2 ∙ ap (λ (us : List (GivenArgument Ground)). (None, c.1.4.0) ∷ us) (c3.2 ∙ ap (λ (us : List (GivenArgument Ground)). (None, c3.0) ∷ us) c3.4)) in
     let out_c = output_kind c.2.0 c.1.0 c.1.4.0 c3.0 h.1.1.0.0 c.0 all_c c_row in
     let half_c = c3.3.0.0.0.0 in
     let first = half_c.1 in
@@ -146,9 +146,9 @@ says d e kinds es h =
     let mean_row : IsCallOf builtin.Mean mean.0 mean.2.0 first.0 = mean.2.2 in
     let blank_c = mean.1.3.0.0.0.0 in
     let blank_row_c : IsCallOf builtin.Blank blank_c.0 blank_c.2.0 mean.1.0 = blank_c.2.2 in
-    let all_half : half_c.0 ≡ (None, first.0) ∷ (Some (codes "by"), second.0) ∷ [] = first.2 ∙ ap (λ (us : List (Given Ground)). (None, first.0) ∷ us) (second.2 ∙ ap (λ (us : List (Given Ground)). (Some (codes "by"), second.0) ∷ us) second.4) in
+    let all_half : half_c.0 ≡ (None, first.0) ∷ (Some (codes "by"), second.0) ∷ [] = first.2 ∙ ap (λ (us : List (GivenArgument Ground)). (None, first.0) ∷ us) (second.2 ∙ ap (λ (us : List (GivenArgument Ground)). (Some (codes "by"), second.0) ∷ us) second.4) in
     let def_c = half_c.2.2 in
-    let takes_c = half_takes first.0 second.0 def_c.0 (subst (λ (gs : List (Given Ground)). Matched half_params gs def_c.0) all_half def_c.1) in
+    let takes_c = half_takes first.0 second.0 def_c.0 (subst (λ (gs : List (GivenArgument Ground)). Matched half_params gs def_c.0) all_half def_c.1) in
     let body_c = body_kind d kinds (31 ∷ []) takes_c.0 takes_c.1 c3.0 (subst (λ (ts : List Ground). HalfAt d kinds (31 ∷ []) ts c3.0) takes_c.2 def_c.2) in
     let mono : source Mono ≡ first.0 = mean_row.result in
     let inside_mono : source body_c.0 ≡ source Mono = sym body_c.2 ∙ sym takes_c.3 ∙ sym mono in

@@ -5,7 +5,7 @@ use Rattle.script_grammar.specs.Placed.{IsPlaced}
 use Rattle.script_grammar.specs.Tree.{Tree, ADef, Script}
 use Rattle.type_terms.specs.Ground.{Ground}
 use Rattle.typing_rules.specs.declared.uses.Use.{Use}
-use Rattle.typing_rules.specs.Arguments.{Given, Matched}
+use Rattle.typing_rules.specs.Arguments.{GivenArgument, Matched}
 use Rattle.typing_rules.specs.Typing.{DefHas}
 use Rattle.typing_rules.specs.Scripts.{Entry, IsTypedTo, Places, Targets, calls_behind, def_token, params_of, sight}
 use Rattle.typing_rules.specs.Kinds.{Stands, around, read, target_at}
@@ -17,7 +17,7 @@ stands_on [] d before e earlier h k = absurd h
 stands_on (x ∷ es) d before e earlier (inl h) k = inr (subst (λ xs. Stands xs e earlier) (sym h.1) k)
 stands_on (x ∷ es) d before e earlier (inr h) k = inr (stands_on es d before e earlier h k)
 
-pub leads_into : (script : Script) (ts : Targets) (kinds : Places) (es : List Entry) (chain : List ℕ) (at t : ℕ) (gs : List (Given Ground)) (g : Ground) → IsPlaced 0 script → AreDefsOf script es → calls_behind ts kinds es chain at t gs g → LeadsInto script ts kinds es chain at t gs g
+pub leads_into : (script : Script) (ts : Targets) (kinds : Places) (es : List Entry) (chain : List ℕ) (at t : ℕ) (gs : List (GivenArgument Ground)) (g : Ground) → IsPlaced 0 script → AreDefsOf script es → calls_behind ts kinds es chain at t gs g → LeadsInto script ts kinds es chain at t gs g
 leads_into script ts kinds es chain at t gs g placed defs c =
     let l = leads ts kinds es chain at t gs g c in
     record { call = l; found = found 0 script l.def placed (defs l.def l.before l.stands); inside = λ d b s. defs d b (stands_on es l.def l.before d b l.stands s) }
@@ -29,18 +29,18 @@ defs_of_script script ts kinds es typed d before s = in_script (stands_def ts ki
   in_script (inr e) = e
 
 -- A fact of calls, of how many more may run, the def, its kinds, the arguments and the result; and of the entries that a text sees.
-pub record IsKept (script : Script) (uses : List Use) (Seen : List Entry → Type 0) (Good : ℕ → ℕ → List Kind → List (Given Ground) → Ground → Type 0) : Type 0 where
+pub record IsKept (script : Script) (uses : List Use) (Seen : List Entry → Type 0) (Good : ℕ → ℕ → List Kind → List (GivenArgument Ground) → Ground → Type 0) : Type 0 where
   pub fewer : (es : List Entry) (d : Tree ADef) (before : List Entry) → Stands es d before → Seen es → Seen before
-  pub none_left : (t : ℕ) (ks : List Kind) (gs : List (Given Ground)) (g : Ground) → Good 0 t ks gs g
-  pub one_more : (n : ℕ) (d : Tree ADef) (before : List Entry) (chain : List ℕ) (ks : List Kind) (gs : List (Given Ground)) (us : List Ground) (g : Ground) →
+  pub none_left : (t : ℕ) (ks : List Kind) (gs : List (GivenArgument Ground)) (g : Ground) → Good 0 t ks gs g
+  pub one_more : (n : ℕ) (d : Tree ADef) (before : List Entry) (chain : List ℕ) (ks : List Kind) (gs : List (GivenArgument Ground)) (us : List Ground) (g : Ground) →
       def_at (def_token d) script ≡ Some d → Seen before → around [] uses chain ≡ Some ks → Matched (params_of d) gs us →
       DefHas (sight (target_at uses) (read [] uses) before chain) d us g →
-      ((at t : ℕ) (js : List Kind) (hs : List (Given Ground)) (h : Ground) → read [] uses chain at ≡ Some js → calls_behind (target_at uses) (read [] uses) before chain at t hs h → Good n t js hs h) →
+      ((at t : ℕ) (js : List Kind) (hs : List (GivenArgument Ground)) (h : Ground) → read [] uses chain at ≡ Some js → calls_behind (target_at uses) (read [] uses) before chain at t hs h → Good n t js hs h) →
       Good (suc n) (def_token d) ks gs g
 
-pub kept_from : (script : Script) (uses : List Use) (Seen : List Entry → Type 0) (Good : ℕ → ℕ → List Kind → List (Given Ground) → Ground → Type 0) → IsKept script uses Seen Good → IsPlaced 0 script →
+pub kept_from : (script : Script) (uses : List Use) (Seen : List Entry → Type 0) (Good : ℕ → ℕ → List Kind → List (GivenArgument Ground) → Ground → Type 0) → IsKept script uses Seen Good → IsPlaced 0 script →
     (n : ℕ) (es : List Entry) → ((d : Tree ADef) (before : List Entry) → Stands es d before → IsDefOf script d) → Seen es →
-    (chain : List ℕ) (at t : ℕ) (ks : List Kind) (gs : List (Given Ground)) (g : Ground) → read [] uses chain at ≡ Some ks → calls_behind (target_at uses) (read [] uses) es chain at t gs g → Good n t ks gs g
+    (chain : List ℕ) (at t : ℕ) (ks : List Kind) (gs : List (GivenArgument Ground)) (g : Ground) → read [] uses chain at ≡ Some ks → calls_behind (target_at uses) (read [] uses) es chain at t gs g → Good n t ks gs g
 kept_from script uses Seen Good kept placed zero es defs seen chain at t ks gs g h c = kept.none_left t ks gs g
 kept_from script uses Seen Good kept placed (suc n) es defs seen chain at t ks gs g h c =
     let l = leads (target_at uses) (read [] uses) es chain at t gs g c in
@@ -51,9 +51,9 @@ kept_from script uses Seen Good kept placed (suc n) es defs seen chain at t ks g
     (λ at' t' js hs k r c'. kept_from script uses Seen Good kept placed n l.before (λ d b s. defs d b (stands_on es l.def l.before d b l.stands s)) fewer (at ∷ chain) at' t' js hs k r c'))
 
 -- each call of a typed script's statements keeps it
-pub kept_by_calls : (script : Script) (uses : List Use) (Seen : List Entry → Type 0) (Good : ℕ → ℕ → List Kind → List (Given Ground) → Ground → Type 0) → IsKept script uses Seen Good → IsPlaced 0 script →
+pub kept_by_calls : (script : Script) (uses : List Use) (Seen : List Entry → Type 0) (Good : ℕ → ℕ → List Kind → List (GivenArgument Ground) → Ground → Type 0) → IsKept script uses Seen Good → IsPlaced 0 script →
     (es : List Entry) → IsTypedTo (target_at uses) (read [] uses) [] script es → Seen es →
-    (n at t : ℕ) (ks : List Kind) (gs : List (Given Ground)) (g : Ground) → read [] uses [] at ≡ Some ks → calls_behind (target_at uses) (read [] uses) es [] at t gs g → Good n t ks gs g
+    (n at t : ℕ) (ks : List Kind) (gs : List (GivenArgument Ground)) (g : Ground) → read [] uses [] at ≡ Some ks → calls_behind (target_at uses) (read [] uses) es [] at t gs g → Good n t ks gs g
 kept_by_calls script uses Seen Good kept placed es typed seen n at t ks gs g h c =
     kept_from script uses Seen Good kept placed n es (λ d before s. in_script d before (stands_def (target_at uses) (read [] uses) script [] es d before typed s)) seen [] at t ks gs g h c where
       in_script : (d : Tree ADef) (before : List Entry) → Stands [] d before ⊎ IsDefOf script d → IsDefOf script d

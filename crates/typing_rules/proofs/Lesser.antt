@@ -7,7 +7,7 @@ use Rattle.typing_rules.specs.declared.uses.KindOf.{KindOf}
 use Rattle.typing_rules.specs.declared.uses.KindOf.TheVariants.{Fixed, Given}
 use Rattle.typing_rules.specs.declared.uses.Target.{Target}
 use Rattle.typing_rules.specs.declared.uses.Use.{Use}
-use Rattle.typing_rules.specs.Kinds.{AreLessKinds, AreLessUses, IsLessKind, MonoWhere, around, kind_at, kinds_in, kinds_of, put, read, said, target_at}
+use Rattle.typing_rules.specs.Kinds.{AreLessKinds, AreLessUses, IsLessKind, MonoWhere, around, known_kind, kinds_in, kinds_of, put, read, said, target_at}
 use Rattle.typing_rules.specs.Scoping.{Meaning, target_in}
 use Rattle.typing_rules.specs.Uses.{use_at}
 
@@ -27,7 +27,7 @@ pub record LessKinds (o : Option (List Kind)) (ks : List Kind) : Type 0 where
 record Puts (js : List Kind) (w : KindOf) (ws : List KindOf) (ks : List Kind) : Type 0 where
   pub first : Kind
   pub rest : List Kind
-  pub first_is : kind_at js w ≡ Some first
+  pub first_is : known_kind js w ≡ Some first
   pub rest_are : kinds_of js ws ≡ Some rest
   pub all : ks ≡ first ∷ rest
 
@@ -44,8 +44,8 @@ no_kind : {A : Type 0} (k : Kind) → ◌≡◌ {A = Option Kind} None (Some k) 
 no_kind k e = cc
 
 puts : (js : List Kind) (w : KindOf) (ws : List KindOf) (ks : List Kind) → kinds_of js (w ∷ ws) ≡ Some ks → Puts js w ws ks
-puts js w ws ks e = by (kind_at js w) (kinds_of js ws) refl refl e where
-  by : (o : Option Kind) (p : Option (List Kind)) → kind_at js w ≡ o → kinds_of js ws ≡ p → put o p ≡ Some ks → Puts js w ws ks
+puts js w ws ks e = by (known_kind js w) (kinds_of js ws) refl refl e where
+  by : (o : Option Kind) (p : Option (List Kind)) → known_kind js w ≡ o → kinds_of js ws ≡ p → put o p ≡ Some ks → Puts js w ws ks
   by None p f g h = none_are ks h
   by (Some k) None f g h = none_are ks h
   by (Some k) (Some ls) f g h = record { first = k; rest = ls; first_is = f; rest_are = g; all = sym (kinds_are (k ∷ ls) ks h) }
@@ -57,7 +57,7 @@ less_at (l ∷ ls) [] i k m e = absurd m
 less_at (l ∷ ls) (j ∷ js) zero k m e = (l, refl, λ is. sym (kind_is j k e) ∙ m.0 is)
 less_at (l ∷ ls) (j ∷ js) (suc i) k m e = less_at ls js i k m.1 e
 
-kind_less : (ls js : List Kind) → MonoWhere ls js → (v w : KindOf) → IsLessKind v w → (k : Kind) → kind_at js w ≡ Some k → (l : Kind) × (kind_at ls v ≡ Some l) × (l ≡ Mono → k ≡ Mono)
+kind_less : (ls js : List Kind) → MonoWhere ls js → (v w : KindOf) → IsLessKind v w → (k : Kind) → known_kind js w ≡ Some k → (l : Kind) × (known_kind ls v ≡ Some l) × (l ≡ Mono → k ≡ Mono)
 kind_less ls js m (Fixed j) (Fixed i) h k e = (j, refl, λ is. sym (kind_is i k e) ∙ h is)
 kind_less ls js m (Fixed j) (Given n) h k e = absurd h
 kind_less ls js m (Given i) (Fixed j) h k e = absurd h

@@ -5,7 +5,7 @@ use Rattle.typing_rules.specs.declared.fault.TypeFault.{TypeFault}
 use Rattle.typing_rules.specs.declared.fault.TypeFault.TheVariants as fault
 use Rattle.typing_rules.specs.Scoping.{Scope, target_in, meanings_of, with_statement}
 use Rattle.typing_rules.specs.declared.fault.NameFault.{NameFault}
-use Rattle.typing_rules.specs.NameFaults.{first_fault, or_later, told, faults_in, in_statement}
+use Rattle.typing_rules.specs.NameFaults.{first_fault, or_later, reported_fault, faults_in, name_fault_in}
 use Rattle.typing_rules.specs.Scripts.{Entry, value, function, Targets, Places, HasTyping, IsTypedTo, IsClash, first_of}
 use Rattle.typing_rules.specs.Answers.{IsTypeFault, IsNameFault, IsTypeClash}
 
@@ -41,7 +41,7 @@ at_least_by i (Some f) later x rest h =
 
 at_least : (i : ℕ) (sc : Scope) (script : Script) (x : ℕ × NameFault) → first_fault i sc script ≡ Some x → i ≤ x.0
 at_least i sc none x h = cc
-at_least i sc (more s rest) x h = at_least_by i (told (faults_in sc s)) (first_fault (i + 1) (with_statement s sc) rest) x (λ e. at_least (i + 1) (with_statement s sc) rest x e) h
+at_least i sc (more s rest) x h = at_least_by i (reported_fault (faults_in sc s)) (first_fault (i + 1) (with_statement s sc) rest) x (λ e. at_least (i + 1) (with_statement s sc) rest x e) h
 
 late_by : (i n : ℕ) (o : Option NameFault) (later front : Option (ℕ × NameFault)) (x : ℕ × NameFault) → (later ≡ Some x → front ≡ None → i + 1 + n ≤ x.0) → or_later i o later ≡ Some x → or_later i o front ≡ None → i + suc n ≤ x.0
 late_by i n None later front x rest h none_there = omega (arith, rest h none_there)
@@ -52,7 +52,7 @@ late : (n i : ℕ) (sc : Scope) (script : Script) (x : ℕ × NameFault) → fir
 late zero i sc script x h empty = omega (arith, at_least i sc script x h)
 late (suc n) i sc none x h empty = cc
 late (suc n) i sc (more s rest) x h empty =
-    late_by i n (told (faults_in sc s)) (first_fault (i + 1) (with_statement s sc) rest) (first_fault (i + 1) (with_statement s sc) (first_of n rest)) x (λ e f. late n (i + 1) (with_statement s sc) rest x e f) h empty
+    late_by i n (reported_fault (faults_in sc s)) (first_fault (i + 1) (with_statement s sc) rest) (first_fault (i + 1) (with_statement s sc) (first_of n rest)) x (λ e f. late n (i + 1) (with_statement s sc) rest x e f) h empty
 
 not_both : (script : Script) (f : TypeFault) (n : ℕ) → IsNameFault script f → IsTypeClash script n → ⊥
 not_both script f n h c =
@@ -63,7 +63,7 @@ same_name_fault : (script : Script) (f g : TypeFault) → IsNameFault script f �
 same_name_fault script f g h k =
     let both : Some (h.stmt, h.inside) ≡ Some (k.stmt, k.inside) = sym h.first ∙ k.first in
     let same : (h.stmt, h.inside) ≡ (k.stmt, k.inside) = cc in
-    h.told ∙ ap (λ (y : ℕ × NameFault). in_statement y.0 y.1) same ∙ sym k.told
+    h.told ∙ ap (λ (y : ℕ × NameFault). name_fault_in y.0 y.1) same ∙ sym k.told
 
 not_before : (script : Script) (n m : ℕ) → IsClash script n → IsClash script m → n < m → ⊥
 not_before script n m h k lt = h.none (shorter_typing n (m - 1) (target_in (meanings_of script)) script (omega (arith, lt)) k.before)

@@ -9,7 +9,7 @@ use Rattle.typing_rules.specs.declared.uses.KindOf.{KindOf}
 use Rattle.typing_rules.specs.declared.uses.KindOf.TheVariants.{Fixed, Given}
 use Rattle.typing_rules.specs.declared.uses.Target.TheVariants as target
 use Rattle.typing_rules.specs.declared.uses.Builtin.TheVariants as builtin
-use Rattle.typing_rules.specs.Table.{params_of}
+use Rattle.typing_rules.specs.Table.{params_of_builtin}
 use Rattle.typing_rules.specs.Scripts.{value}
 use Rattle.typing_rules.specs.Kinds.{blocks, open_kinds}
 use Rattle.typing_rules.specs.Answers.{IsTyped, IsTypeClash}
@@ -30,7 +30,7 @@ with_kind k = record { at = 2; target = target.Builtin builtin.Blank; kinds = k 
 -- mono where nothing fixes the kind
 free_is_mono : IsTyped free_kind (with_kind (Fixed Mono)) → ⊥
 free_is_mono h =
-    let less = h.least all_stereo (value 0 (source Stereo) ∷ []) (source Stereo, (((((([], refl, (Stereo ∷ [], refl, blank_call Stereo)), tt, tt), tt, tt), tt, tt), tt, tt)), refl) [] (record { at = 2; meant = Some (target.Builtin builtin.Blank, params_of builtin.Blank); given = [] }) builtin.Blank (inl (refl, inl refl)) refl in
+    let less = h.least all_stereo (value 0 (source Stereo) ∷ []) (source Stereo, (((((([], refl, (Stereo ∷ [], refl, blank_call Stereo)), tt, tt), tt, tt), tt, tt), tt, tt)), refl) [] (record { at = 2; meant = Some (target.Builtin builtin.Blank, params_of_builtin builtin.Blank); given = [] }) builtin.Blank (inl (refl, inl refl)) refl in
     let f : Stereo ≡ Mono = less.0 refl in cc
 
 -- an open kind outside of a def

@@ -8,11 +8,11 @@ use Rattle.typing_rules.specs.Uses.{use_at}
 use Rattle.typing_rules.specs.Kinds.{around, kinds_in}
 use Rattle.script_grammar.specs.Tree.{Tree, ADef}
 use Rattle.type_terms.specs.Ground.{Ground}
-use Rattle.typing_rules.specs.Arguments.{Given, Matched}
+use Rattle.typing_rules.specs.Arguments.{GivenArgument, Matched}
 use Rattle.typing_rules.specs.Typing.{DefHas}
 use Rattle.typing_rules.specs.Scripts.{behind, Entry, value, function, Targets, Places, calls_behind, def_token, params_of, sight, types_of}
 
-pub shift : (ts : Targets) (kinds : Places) (es : List Entry) (chain c : List ℕ) (at t : ℕ) (gs : List (Given Ground)) (g : Ground) → calls_behind ts kinds es (c ++ chain) at t gs g ≡ calls_behind ts (behind chain kinds) es c at t gs g
+pub shift : (ts : Targets) (kinds : Places) (es : List Entry) (chain c : List ℕ) (at t : ℕ) (gs : List (GivenArgument Ground)) (g : Ground) → calls_behind ts kinds es (c ++ chain) at t gs g ≡ calls_behind ts (behind chain kinds) es c at t gs g
 shift ts kinds [] chain c at t gs g = refl
 shift ts kinds (value u h ∷ es) chain c at t gs g = shift ts kinds es chain c at t gs g
 shift ts kinds (function d ∷ es) chain c at t gs g = λ i. elim (nat_eq (def_token d) t) [

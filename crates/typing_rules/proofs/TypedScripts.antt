@@ -6,7 +6,7 @@ use Rattle.type_terms.specs.Ground.{Ground}
 use Rattle.typing_rules.specs.declared.uses.Use.{Use}
 use Rattle.typing_rules.specs.declared.fault.TypeFault.{TypeFault}
 use Rattle.typing_rules.specs.declared.fault.TypeFault.TheVariants as fault
-use Rattle.typing_rules.specs.Arguments.{Given, Matched}
+use Rattle.typing_rules.specs.Arguments.{GivenArgument, Matched}
 use Rattle.typing_rules.specs.Scoping.{target_in}
 use Rattle.typing_rules.specs.Typing.{DefHas}
 use Rattle.typing_rules.specs.Scripts.{Entry, value, function, Targets, Places, HasTyping, IsTypedTo, calls_behind, def_token, first_of, params_of, sight}
@@ -47,16 +47,16 @@ typed_or_fault script uses (fault.TypeClash n) t h =
 typed_or_fault script uses fault.Memory t h = refl
 
 -- the newest def's calls are the typings of its text in its environment
-pub call_law : (ts : Targets) (kinds : Places) (es : List Entry) (d : Tree ADef) (chain : List ℕ) (at : ℕ) (gs : List (Given Ground)) (g : Ground) →
+pub call_law : (ts : Targets) (kinds : Places) (es : List Entry) (d : Tree ADef) (chain : List ℕ) (at : ℕ) (gs : List (GivenArgument Ground)) (g : Ground) →
     calls_behind ts kinds (function d ∷ es) chain at (def_token d) gs g ≡ ((us : List Ground) × Matched (params_of d) gs us × DefHas (sight ts kinds es (at ∷ chain)) d us g)
 call_law ts kinds es d chain at gs g =
     ap (λ (b : Bool). elim b [ true ↦ ((us : List Ground) × Matched (params_of d) gs us × DefHas (sight ts kinds es (at ∷ chain)) d us g) | false ↦ calls_behind ts kinds es chain at (def_token d) gs g ]) (eq-eqb (def_token d) (def_token d) refl)
 
-abbrev NewestCall : Targets → Places → List Entry → Tree ADef → List ℕ → ℕ → List (Given Ground) → Ground → Type 0
+abbrev NewestCall : Targets → Places → List Entry → Tree ADef → List ℕ → ℕ → List (GivenArgument Ground) → Ground → Type 0
 NewestCall ts kinds es d chain at gs g = (us : List Ground) × Matched (params_of d) gs us × DefHas (sight ts kinds es (at ∷ chain)) d us g
 
-pub call_typed : (ts : Targets) (kinds : Places) (es : List Entry) (d : Tree ADef) (chain : List ℕ) (at : ℕ) (gs : List (Given Ground)) (g : Ground) → calls_behind ts kinds (function d ∷ es) chain at (def_token d) gs g → NewestCall ts kinds es d chain at gs g
+pub call_typed : (ts : Targets) (kinds : Places) (es : List Entry) (d : Tree ADef) (chain : List ℕ) (at : ℕ) (gs : List (GivenArgument Ground)) (g : Ground) → calls_behind ts kinds (function d ∷ es) chain at (def_token d) gs g → NewestCall ts kinds es d chain at gs g
 call_typed ts kinds es d chain at gs g h = transport (call_law ts kinds es d chain at gs g) h
 
-pub typed_call : (ts : Targets) (kinds : Places) (es : List Entry) (d : Tree ADef) (chain : List ℕ) (at : ℕ) (gs : List (Given Ground)) (g : Ground) → NewestCall ts kinds es d chain at gs g → calls_behind ts kinds (function d ∷ es) chain at (def_token d) gs g
+pub typed_call : (ts : Targets) (kinds : Places) (es : List Entry) (d : Tree ADef) (chain : List ℕ) (at : ℕ) (gs : List (GivenArgument Ground)) (g : Ground) → NewestCall ts kinds es d chain at gs g → calls_behind ts kinds (function d ∷ es) chain at (def_token d) gs g
 typed_call ts kinds es d chain at gs g h = transport⁻¹ (call_law ts kinds es d chain at gs g) h

@@ -9,7 +9,7 @@ use Rattle.typing_rules.specs.declared.uses.Use.{Use}
 use Rattle.typing_rules.specs.declared.uses.KindOf.TheVariants.{Fixed}
 use Rattle.typing_rules.specs.declared.uses.Builtin.TheVariants as builtin
 use Rattle.typing_rules.specs.declared.uses.Target.TheVariants as target
-use Rattle.typing_rules.specs.Table.{IsCallOf, params_of}
+use Rattle.typing_rules.specs.Table.{IsCallOf, params_of_builtin}
 use Rattle.typing_rules.specs.Scoping.{Name, target_of}
 use Rattle.typing_rules.specs.Typing.{DefHas, TypesByToken, type_at}
 use Rattle.typing_rules.specs.Scripts.{Entry, IsTypedTo, Places, Targets, function, sight, value}
@@ -63,7 +63,7 @@ nowhere [] n (inr (inr h)) = h
 nowhere (at ∷ chain) n h = nowhere chain h.0 h.2
 
 -- a builtin in the text is `blank`, and no def is called
-inside : (t : ℕ) (n : Name) (P : Name → Type 0) → P (record { at = 9; meant = Some (target.Slot 0, []); given = [] }) → P (record { at = 12; meant = Some (target.Builtin builtin.Blank, params_of builtin.Blank); given = [] }) → IsUsedIn (blocks [] uncalled) (Some t) n → P n
+inside : (t : ℕ) (n : Name) (P : Name → Type 0) → P (record { at = 9; meant = Some (target.Slot 0, []); given = [] }) → P (record { at = 12; meant = Some (target.Builtin builtin.Blank, params_of_builtin builtin.Blank); given = [] }) → IsUsedIn (blocks [] uncalled) (Some t) n → P n
 inside t n P x blank (inl h) = absurd h.1
 inside t n P x blank (inr (inl (e, inl is))) = subst P is x
 inside t n P x blank (inr (inl (e, inr (inl is)))) = subst P is blank
@@ -131,7 +131,7 @@ uncalled_is_mono h =
     let means : target_at in_text.0 ≡ target_at uses = sym (same_targets (uses_with Mono) in_text.0 in_text.1) in
     let has : DefHas (sight (target_at in_text.0) all_stereo (value 0 (list (source Stereo)) ∷ []) []) text [] (list (list (source Stereo))) = subst (λ (ts : Targets). DefHas (sight ts all_stereo (value 0 (list (source Stereo)) ∷ []) []) text [] (list (list (source Stereo)))) (sym means) (text_has Stereo all_stereo refl) in
     let only = open_text.only all_stereo [] (list (list (source Stereo))) has in
-    let there = only.2 [] (record { at = 12; meant = Some (target.Builtin builtin.Blank, params_of builtin.Blank); given = [] }) builtin.Blank (inr (inl (refl, inr (inl refl)))) refl in
+    let there = only.2 [] (record { at = 12; meant = Some (target.Builtin builtin.Blank, params_of_builtin builtin.Blank); given = [] }) builtin.Blank (inr (inl (refl, inr (inl refl)))) refl in
     let l = read_less (uses_with Mono) in_text.0 in_text.1 only.0 [] 12 (Stereo ∷ []) there in
     let is : l.kinds ≡ Mono ∷ [] = sym (some_same (Mono ∷ []) l.kinds l.are) in
     let mono = subst (λ (ks : List Kind). MonoWhere ks (Stereo ∷ [])) is l.less in

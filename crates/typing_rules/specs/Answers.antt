@@ -6,7 +6,7 @@ use Rattle.typing_rules.specs.declared.fault.TypeFault.{TypeFault}
 use Rattle.typing_rules.specs.declared.fault.TypeFault.TheVariants as fault
 use Rattle.typing_rules.specs.Scoping.{target_in, meanings_of}
 use Rattle.typing_rules.specs.declared.fault.NameFault.{NameFault}
-use Rattle.typing_rules.specs.NameFaults.{first_fault, in_statement}
+use Rattle.typing_rules.specs.NameFaults.{first_fault, name_fault_in}
 use Rattle.typing_rules.specs.Scripts.{Entry, Places, IsTypedTo, HasTyping, IsClash, first_of}
 use Rattle.typing_rules.specs.Kinds.{said, target_at, read, blocks, IsLess, IsLessInside, AreKindsNumbered, IsOpen, Stands}
 
@@ -21,19 +21,21 @@ pub record IsTyped (script : Script) (uses : List Use) : Type 0 where
   -- the kinds of the uses are those of a typing, and the least
   pub entries : List Entry
   pub typing : IsTypedTo (target_at uses) (read [] uses) [] script entries
-  pub least : (kinds : Places) (es : List Entry) → IsTypedTo (target_at uses) kinds [] script es → IsLess (blocks [] script) (read [] uses) kinds
+  pub least : (kinds : Places) (es : List Entry) → IsTypedTo (target_at uses) kinds [] script es
+      → IsLess (blocks [] script) (read [] uses) kinds
   -- the open kinds of defs
   pub numbered : AreKindsNumbered (blocks [] script) uses
   pub opened : (d : Tree ADef) (before : List Entry) → Stands entries d before → IsOpen (blocks [] script) uses before d
   -- and in each def, whether it is called or not, the other kinds are the least
-  pub least_inside : (kinds : Places) (es : List Entry) → IsTypedTo (target_at uses) kinds [] script es → IsLessInside (blocks [] script) uses es
+  pub least_inside : (kinds : Places) (es : List Entry) → IsTypedTo (target_at uses) kinds [] script es
+      → IsLessInside (blocks [] script) uses es
 
 -- a fault of names, in the first statement that has any fault
 pub record IsNameFault (script : Script) (f : TypeFault) : Type 0 where
   pub stmt : ℕ
   pub inside : NameFault
   pub first : first_fault 1 [] script ≡ Some (stmt, inside)
-  pub told : f ≡ in_statement stmt inside
+  pub told : f ≡ name_fault_in stmt inside
   pub before : HasTyping (target_in (meanings_of script)) (first_of (stmt - 1) script)
 
 -- a clash of types, in the first statement that has any fault

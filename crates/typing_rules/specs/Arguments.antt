@@ -9,8 +9,8 @@ pub record Parameter : Type 0 where
   pub form : Form
 
 -- an argument as its label and what is known of it: its token, its type or its value
-abbrev pub Given : Type 0 → Type 0
-Given T = Option (List ℕ) × T
+abbrev pub GivenArgument : Type 0 → Type 0
+GivenArgument T = Option (List ℕ) × T
 
 abbrev pub label_by : List ℕ → Form → Option (List ℕ)
 label_by name InPlace = None
@@ -27,21 +27,22 @@ is_label None (Some b) = false
 is_label (Some a) None = false
 is_label (Some a) (Some b) = bytes_eq a b
 
-abbrev pub after : {T : Type 0} → Given T → Option (T × List (Given T)) → Option (T × List (Given T))
+abbrev pub after : {T : Type 0} → GivenArgument T → Option (T × List (GivenArgument T))
+    → Option (T × List (GivenArgument T))
 after g None = None
 after g (Some x) = Some (x.0, g ∷ x.1)
 
 -- the first argument with this label, or the first without one, and the others
-abbrev pub argument : {T : Type 0} → Option (List ℕ) → List (Given T) → Option (T × List (Given T))
+abbrev pub argument : {T : Type 0} → Option (List ℕ) → List (GivenArgument T) → Option (T × List (GivenArgument T))
 argument label [] = None
 argument label (g ∷ gs) = cond (is_label label g.0) (Some (g.1, gs)) (after g (argument label gs))
 
-abbrev pub others : {T : Type 0} → List (Given T) → Option (T × List (Given T)) → List (Given T)
+abbrev pub others : {T : Type 0} → List (GivenArgument T) → Option (T × List (GivenArgument T)) → List (GivenArgument T)
 others gs None = gs
 others gs (Some x) = x.1
 
 -- the arguments that no parameter takes
-abbrev pub left_over : {T : Type 0} → List Parameter → List (Given T) → List (Given T)
+abbrev pub left_over : {T : Type 0} → List Parameter → List (GivenArgument T) → List (GivenArgument T)
 left_over [] gs = gs
 left_over (p ∷ ps) gs = left_over ps (others gs (argument (label_of p) gs))
 
@@ -50,19 +51,22 @@ is_needed InPlace = true
 is_needed ByLabel = true
 is_needed Perhaps = false
 
-abbrev pub missing_or : {T : Type 0} → Parameter → Option (T × List (Given T)) → Option (List ℕ) → Option (List ℕ)
+abbrev pub missing_or : {T : Type 0} → Parameter → Option (T × List (GivenArgument T)) → Option (List ℕ)
+    → Option (List ℕ)
 missing_or p (Some x) later = later
 missing_or p None later = cond (is_needed p.form) (Some p.name) later
 
 -- the first parameter that must have an argument and finds none
-abbrev pub first_missing : {T : Type 0} → List Parameter → List (Given T) → Option (List ℕ)
+abbrev pub first_missing : {T : Type 0} → List Parameter → List (GivenArgument T) → Option (List ℕ)
 first_missing [] gs = None
-first_missing (p ∷ ps) gs = missing_or p (argument (label_of p) gs) (first_missing ps (others gs (argument (label_of p) gs)))
+first_missing (p ∷ ps) gs = missing_or p (argument (label_of p) gs)
+    (first_missing ps (others gs (argument (label_of p) gs)))
 
 -- what each parameter takes, if it takes an argument
-abbrev pub arguments_taken : {T : Type 0} → List Parameter → List (Given T) → List (Option T)
+abbrev pub arguments_taken : {T : Type 0} → List Parameter → List (GivenArgument T) → List (Option T)
 arguments_taken [] gs = []
-arguments_taken (p ∷ ps) gs = option_map (λ x. x.0) (argument (label_of p) gs) ∷ arguments_taken ps (others gs (argument (label_of p) gs))
+arguments_taken (p ∷ ps) gs = option_map (λ x. x.0) (argument (label_of p) gs)
+    ∷ arguments_taken ps (others gs (argument (label_of p) gs))
 
 -- what is taken is what stands in its place; what is not may be any
 abbrev pub TakenAs : {T : Type 0} → List (Option T) → List T → Type 0
@@ -73,7 +77,7 @@ TakenAs (None ∷ os) (t ∷ ts) = TakenAs os ts
 TakenAs (Some x ∷ os) (t ∷ ts) = (x ≡ t) × TakenAs os ts
 
 -- Arguments match parameters that stand for these: none is missing, and none is left over.
-abbrev pub Matched : {T : Type 0} → List Parameter → List (Given T) → List T → Type 0
+abbrev pub Matched : {T : Type 0} → List Parameter → List (GivenArgument T) → List T → Type 0
 Matched ps gs ts = (first_missing ps gs ≡ None) × (left_over ps gs ≡ []) × TakenAs (arguments_taken ps gs) ts
 
 -- the parameters of a def

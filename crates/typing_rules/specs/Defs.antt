@@ -2,7 +2,7 @@
 use Rattle.std.specs.Prelude.{◌≡◌, ◌⊎◌, ℕ, List, ◌∷◌, Option, Some, None, true, false, nat_eq}
 use Rattle.script_grammar.specs.Tree.{Tree, ADef, none, more, Stmt, BindPart, DefPart, CallPart, IfPart, Script}
 use Rattle.type_terms.specs.Ground.{Ground}
-use Rattle.typing_rules.specs.Arguments.{Given, Matched}
+use Rattle.typing_rules.specs.Arguments.{GivenArgument, Matched}
 use Rattle.typing_rules.specs.Typing.{DefHas}
 use Rattle.typing_rules.specs.Scripts.{Entry, Targets, Places, def_token, params_of, sight}
 use Rattle.typing_rules.specs.Kinds.{Stands}
@@ -18,13 +18,15 @@ IsDefOf (more (Stmt (IfPart i) semicolon) rest) d = IsDefOf rest d
 -- the first def whose name stands at a token, as evaluation finds it
 abbrev pub def_at : ℕ → Script → Option (Tree ADef)
 def_at t none = None
-def_at t (more (Stmt (DefPart d) semicolon) rest) = elim (nat_eq (def_token d) t) [ true ↦ Some d | false ↦ def_at t rest ]
+def_at t (more (Stmt (DefPart d) semicolon) rest) = elim (nat_eq (def_token d) t)
+    [ true ↦ Some d | false ↦ def_at t rest ]
 def_at t (more (Stmt (BindPart b) semicolon) rest) = def_at t rest
 def_at t (more (Stmt (CallPart c) semicolon) rest) = def_at t rest
 def_at t (more (Stmt (IfPart i) semicolon) rest) = def_at t rest
 
 -- a def, its environment, and the typing of its text there
-pub record Leads (ts : Targets) (kinds : Places) (es : List Entry) (chain : List ℕ) (at t : ℕ) (gs : List (Given Ground)) (g : Ground) : Type 0 where
+pub record Leads (ts : Targets) (kinds : Places) (es : List Entry) (chain : List ℕ) (at t : ℕ)
+    (gs : List (GivenArgument Ground)) (g : Ground) : Type 0 where
   pub def : Tree ADef
   pub before : List Entry
   pub stands : Stands es def before
@@ -38,7 +40,8 @@ abbrev pub AreDefsOf : Script → List Entry → Type 0
 AreDefsOf script es = (d : Tree ADef) (before : List Entry) → Stands es d before → IsDefOf script d
 
 -- what a call leads to, the def by its token, in an environment whose defs are the script's
-pub record LeadsInto (script : Script) (ts : Targets) (kinds : Places) (es : List Entry) (chain : List ℕ) (at t : ℕ) (gs : List (Given Ground)) (g : Ground) : Type 0 where
+pub record LeadsInto (script : Script) (ts : Targets) (kinds : Places) (es : List Entry) (chain : List ℕ) (at t : ℕ)
+    (gs : List (GivenArgument Ground)) (g : Ground) : Type 0 where
   pub call : Leads ts kinds es chain at t gs g
   pub found : def_at (def_token call.def) script ≡ Some call.def
   pub inside : AreDefsOf script call.before

@@ -1,4 +1,5 @@
--- The kinds of the uses, read along the calls: they are a typing's, the least one's, and a def is open in exactly its open kinds.
+-- The kinds of the uses, read along the calls: they are a typing's, the least one's, and a def is open in exactly its
+-- open kinds.
 use Rattle.std.specs.Prelude.{◌≡◌, ◌⊎◌, ℕ, suc, List, [], ◌∷◌, length, map, Option, Some, None, option_map, option_and_then, Bool, false, cond, nat_eq, nat_lt, slice_get, find}
 use Rattle.std.specs.List.{flat_map}
 use Rattle.liq_base.specs.declared.memory.Kind.{Kind}
@@ -18,9 +19,9 @@ use Rattle.typing_rules.specs.Typing.{DefHas}
 use Rattle.typing_rules.specs.Scripts.{Entry, function, Targets, Places, def_token, sight}
 
 -- the kinds of a use, where the def around has these
-abbrev pub kind_at : List Kind → KindOf → Option Kind
-kind_at given (Fixed k) = Some k
-kind_at given (Given j) = slice_get given j
+abbrev pub known_kind : List Kind → KindOf → Option Kind
+known_kind given (Fixed k) = Some k
+known_kind given (Given j) = slice_get given j
 
 abbrev pub put : Option Kind → Option (List Kind) → Option (List Kind)
 put None ks = None
@@ -29,7 +30,7 @@ put (Some k) (Some ks) = Some (k ∷ ks)
 
 abbrev pub kinds_of : List Kind → List KindOf → Option (List Kind)
 kinds_of given [] = Some []
-kinds_of given (w ∷ ws) = put (kind_at given w) (kinds_of given ws)
+kinds_of given (w ∷ ws) = put (known_kind given w) (kinds_of given ws)
 
 abbrev pub kinds_in : Option Use → List Kind → Option (List Kind)
 kinds_in None given = None
@@ -80,7 +81,8 @@ IsUsedIn (b ∷ bs) def n = ((b.0 ≡ def) × IsOneOf b.1 n) ⊎ IsUsedIn bs def
 -- a place of the expansion of a def's text, or of the script's
 abbrev pub IsPlace : List Block → Option ℕ → List ℕ → Name → Type 0
 IsPlace bs def [] n = IsUsedIn bs def n
-IsPlace bs def (at ∷ chain) n = (c : Name) × (t : ℕ) × IsPlace bs def chain c × (c.at ≡ at) × (target_of c.meant ≡ Some (target.Def t)) × IsUsedIn bs (Some t) n
+IsPlace bs def (at ∷ chain) n = (c : Name) × (t : ℕ) × IsPlace bs def chain c × (c.at ≡ at)
+    × (target_of c.meant ≡ Some (target.Def t)) × IsUsedIn bs (Some t) n
 
 -- where the first list is mono the second is
 abbrev pub MonoWhere : List Kind → List Kind → Type 0
@@ -96,11 +98,13 @@ MonoOnly None k = ⊥
 
 -- at each place that is a builtin's, the first is mono only where the second is
 abbrev pub IsLess : List Block → Places → Places → Type 0
-IsLess bs first second = (chain : List ℕ) (n : Name) (b : Builtin) → IsPlace bs None chain n → target_of n.meant ≡ Some (target.Builtin b) → MonoOnly (first chain n.at) (second chain n.at)
+IsLess bs first second = (chain : List ℕ) (n : Name) (b : Builtin) → IsPlace bs None chain n
+    → target_of n.meant ≡ Some (target.Builtin b) → MonoOnly (first chain n.at) (second chain n.at)
 
 -- at each place of a def's text that is a builtin's, both are the same
 abbrev pub AreSame : List Block → ℕ → Places → Places → Type 0
-AreSame bs def first second = (chain : List ℕ) (n : Name) (b : Builtin) → IsPlace bs (Some def) chain n → target_of n.meant ≡ Some (target.Builtin b) → first chain n.at ≡ second chain n.at
+AreSame bs def first second = (chain : List ℕ) (n : Name) (b : Builtin) → IsPlace bs (Some def) chain n
+    → target_of n.meant ≡ Some (target.Builtin b) → first chain n.at ≡ second chain n.at
 
 -- numbers of open kinds in the order of tokens
 abbrev pub number_of : KindOf → List ℕ
@@ -115,9 +119,9 @@ abbrev pub numbers_in : List Use → List Name → List ℕ
 numbers_in uses ns = flat_map number_of (flat_map (λ n. kinds_listed (use_at n.at uses)) ns)
 
 -- How many numbers there are beside the first n, if each new one is the next.
-abbrev pub counted : ℕ → List ℕ → Option ℕ
-counted n [] = Some n
-counted n (j ∷ js) = cond (nat_lt j n) (counted n js) (cond (nat_eq j n) (counted (suc n) js) None)
+abbrev pub numbered_on : ℕ → List ℕ → Option ℕ
+numbered_on n [] = Some n
+numbered_on n (j ∷ js) = cond (nat_lt j n) (numbered_on n js) (cond (nat_eq j n) (numbered_on (suc n) js) None)
 
 -- the number of a def's open kinds
 abbrev pub block_names : Option Block → List Name
@@ -129,7 +133,7 @@ is_of t None = false
 is_of t (Some u) = nat_eq u t
 
 abbrev pub open_kinds : List Block → List Use → ℕ → Option ℕ
-open_kinds bs uses t = counted 0 (numbers_in uses (block_names (find (λ b. is_of t b.0) bs)))
+open_kinds bs uses t = numbered_on 0 (numbers_in uses (block_names (find (λ b. is_of t b.0) bs)))
 
 -- as many kinds as what is meant has open ones; none for a value
 abbrev pub HasKinds : List Block → List Use → Target → List KindOf → Type 0
@@ -150,7 +154,8 @@ abbrev pub AreInOrder : List Block → List Use → List Block → Type 0
 AreInOrder bs uses [] = Unit {0}
 AreInOrder bs uses (b ∷ rest) = IsInOrder bs uses b × AreInOrder bs uses rest
 
--- the numbers of open kinds begin from 0, in the order of tokens; and each use has as many kinds as what it means has open ones
+-- the numbers of open kinds begin from 0, in the order of tokens; and each use has as many kinds as what it means has
+-- open ones
 pub record AreKindsNumbered (bs : List Block) (uses : List Use) : Type 0 where
   pub order : AreInOrder bs uses bs
   pub each : EachHasKinds bs uses uses
@@ -164,8 +169,10 @@ Stands (e ∷ es) d before = ((e ≡ function d) × (es ≡ before)) ⊎ Stands 
 pub record IsOpen (bs : List Block) (uses : List Use) (before : List Entry) (d : Tree ADef) : Type 0 where
   pub count : ℕ
   pub number : open_kinds bs uses (def_token d) ≡ Some count
-  pub each : (given : List Kind) → length given ≡ count → (ts : List Ground) × (g : Ground) × DefHas (sight (target_at uses) (read given uses) before []) d ts g
-  pub only : (kinds : Places) (ts : List Ground) (g : Ground) → DefHas (sight (target_at uses) kinds before []) d ts g → (given : List Kind) × (length given ≡ count) × AreSame bs (def_token d) (read given uses) kinds
+  pub each : (given : List Kind) → length given ≡ count
+      → (ts : List Ground) × (g : Ground) × DefHas (sight (target_at uses) (read given uses) before []) d ts g
+  pub only : (kinds : Places) (ts : List Ground) (g : Ground) → DefHas (sight (target_at uses) kinds before []) d ts g
+      → (given : List Kind) × (length given ≡ count) × AreSame bs (def_token d) (read given uses) kinds
 
 -- the same open kind, or the first is mono only where the second is
 abbrev pub IsLessKind : KindOf → KindOf → Type 0
@@ -189,4 +196,5 @@ AreLessUses (u ∷ us) (v ∷ vs) = (u.at ≡ v.at) × (u.target ≡ v.target) �
 
 -- Among these entries each def is open as other uses say, which are mono at least where these are.
 abbrev pub IsLessInside : List Block → List Use → List Entry → Type 0
-IsLessInside bs uses es = (others : List Use) × AreLessUses uses others × ((d : Tree ADef) (before : List Entry) → Stands es d before → IsOpen bs others before d)
+IsLessInside bs uses es = (others : List Use) × AreLessUses uses others
+    × ((d : Tree ADef) (before : List Entry) → Stands es d before → IsOpen bs others before d)

@@ -6,7 +6,7 @@ use Rattle.typing_rules.specs.declared.fault.NameFault.{NameFault}
 use Rattle.typing_rules.specs.declared.fault.NameFault.TheVariants.{Unknown, Missing, Extra, Repeated}
 use Rattle.typing_rules.specs.declared.fault.TypeFault.{TypeFault}
 use Rattle.typing_rules.specs.declared.fault.TypeFault.TheVariants as fault
-use Rattle.typing_rules.specs.Arguments.{Parameter, Given, left_over, first_missing}
+use Rattle.typing_rules.specs.Arguments.{Parameter, GivenArgument, left_over, first_missing}
 pub use Rattle.typing_rules.specs.Arguments.{token_of}
 use Rattle.typing_rules.specs.Scoping.{Name, Scope, names, with_statement}
 
@@ -28,7 +28,7 @@ missing_at at None = []
 missing_at at (Some label) = Missing at label ∷ []
 
 -- the faults of one name that is used
-abbrev pub faults_as : ℕ → Option (Target × List Parameter) → List (Given ℕ) → List NameFault
+abbrev pub faults_as : ℕ → Option (Target × List Parameter) → List (GivenArgument ℕ) → List NameFault
 faults_as at None given = Unknown at ∷ []
 faults_as at (Some x) given = missing_at at (first_missing x.1 given) ++ map (λ g. Extra g.1) (left_over x.1 given)
 
@@ -52,7 +52,8 @@ repeated_at at false = []
 
 abbrev pub repeats : List (List ℕ) → Tree (Many AParam) → List NameFault
 repeats earlier none = []
-repeats earlier (more p ps) = repeated_at (token_of p) (is_among (param_name p) earlier) ++ repeats (earlier ++ param_name p ∷ []) ps
+repeats earlier (more p ps) = repeated_at (token_of p) (is_among (param_name p) earlier)
+    ++ repeats (earlier ++ param_name p ∷ []) ps
 
 abbrev pub repeats_in : Tree AStmt → List NameFault
 repeats_in (Stmt (DefPart (Def at name ps equals is e)) semicolon) = repeats [] ps
@@ -73,15 +74,15 @@ earlier f None = f
 earlier f (Some g) = cond (is_before f g) f g
 
 -- the one that is told
-abbrev pub told : List NameFault → Option NameFault
-told [] = None
-told (f ∷ fs) = Some (earlier f (told fs))
+abbrev pub reported_fault : List NameFault → Option NameFault
+reported_fault [] = None
+reported_fault (f ∷ fs) = Some (earlier f (reported_fault fs))
 
-abbrev pub in_statement : ℕ → NameFault → TypeFault
-in_statement n (Unknown at) = fault.UnknownName n at
-in_statement n (Missing at label) = fault.MissingArgument n at label
-in_statement n (Extra at) = fault.ExtraArgument n at
-in_statement n (Repeated at) = fault.RepeatedName n at
+abbrev pub name_fault_in : ℕ → NameFault → TypeFault
+name_fault_in n (Unknown at) = fault.UnknownName n at
+name_fault_in n (Missing at label) = fault.MissingArgument n at label
+name_fault_in n (Extra at) = fault.ExtraArgument n at
+name_fault_in n (Repeated at) = fault.RepeatedName n at
 
 abbrev pub or_later : ℕ → Option NameFault → Option (ℕ × NameFault) → Option (ℕ × NameFault)
 or_later n None later = later
@@ -90,8 +91,9 @@ or_later n (Some f) later = Some (n, f)
 -- the first statement that has such a fault, and the one that is told, where the first statement has this number
 abbrev pub first_fault : ℕ → Scope → Script → Option (ℕ × NameFault)
 first_fault n sc none = None
-first_fault n sc (more s rest) = or_later n (told (faults_in sc s)) (first_fault (n + 1) (with_statement s sc) rest)
+first_fault n sc (more s rest) = or_later n (reported_fault (faults_in sc s))
+    (first_fault (n + 1) (with_statement s sc) rest)
 
 -- the first fault of names of a script, as it is told
 abbrev pub first_told : Script → Option TypeFault
-first_told script = option_map (λ x. in_statement x.0 x.1) (first_fault 1 [] script)
+first_told script = option_map (λ x. name_fault_in x.0 x.1) (first_fault 1 [] script)

@@ -1,16 +1,16 @@
 -- Which binding each name means, and how its call matches: the names that a script uses, in the order of their tokens.
 use Rattle.std.specs.Prelude.{ℕ, List, [], ◌∷◌, ◌++◌, Option, Some, None, cond, bytes_eq, nat_eq, map}
-use Rattle.script_grammar.specs.Tree.{Sort, Tree, Many, AParam, AnInner, AnArg, AStmt, ABind, none, more, Stmt, BindPart, DefPart, CallPart, IfPart, Bind, Def, Inner, Param, Labelled, Optional, Plain, Expr, And, Not, Alone, Compared, Sum, Added, Product, Multiplied, Named, Called, Chosen, Paren, Tuple, Listed, Call, Arg, If, Script}
+use Rattle.script_grammar.specs.Tree.{Sort, Tree, Many, AParam, AnInner, AnArg, AStmt, ABind, none, more, Stmt, BindPart, DefPart, CallPart, IfPart, Bind, Def, Inner, Param, Labelled, Optional, Plain, Expr, And, Not, Alone, Compared, Sum, Added, Product, Multiplied, Named, Called, Chosen, Paren, Tuple, Listed, NamedCall, Arg, If, Script}
 use Rattle.typing_rules.specs.declared.uses.Builtin.{Builtin}
 use Rattle.typing_rules.specs.declared.uses.Target.{Target}
 use Rattle.typing_rules.specs.declared.uses.Target.TheVariants as target
-use Rattle.typing_rules.specs.Arguments.{Parameter, Given, parameters_of}
-use Rattle.typing_rules.specs.Table.{builtin_named, params_of}
+use Rattle.typing_rules.specs.Arguments.{Parameter, GivenArgument, parameters_of}
+use Rattle.typing_rules.specs.Table.{builtin_named, params_of_builtin}
 
 -- what a name is bound to: a value or a def, by the token of the name that is bound
 pub data Bound : Type 0 where
-  value : ℕ → Bound
-  function : ℕ → List Parameter → Bound
+  bound_value : ℕ → Bound
+  bound_function : ℕ → List Parameter → Bound
 
 -- the names in scope, the newest first; a newer one hides an older one, of either sort, and a builtin
 abbrev pub Scope : Type 0
@@ -22,46 +22,47 @@ bound name (b ∷ bs) = cond (bytes_eq name b.0) (Some b.1) (bound name bs)
 
 -- a name outside a call means a value
 abbrev pub value_meant : Option Bound → Option Target
-value_meant (Some (value t)) = Some (target.Slot t)
-value_meant (Some (function t ps)) = None
+value_meant (Some (bound_value t)) = Some (target.Slot t)
+value_meant (Some (bound_function t ps)) = None
 value_meant None = None
 
 -- what a call's name means, and its parameters
 abbrev pub builtin_meant : Option Builtin → Option (Target × List Parameter)
 builtin_meant None = None
-builtin_meant (Some b) = Some (target.Builtin b, params_of b)
+builtin_meant (Some b) = Some (target.Builtin b, params_of_builtin b)
 
 abbrev pub call_meant : List ℕ → Option Bound → Option (Target × List Parameter)
-call_meant name (Some (value t)) = None
-call_meant name (Some (function t ps)) = Some (target.Def t, ps)
+call_meant name (Some (bound_value t)) = None
+call_meant name (Some (bound_function t ps)) = Some (target.Def t, ps)
 call_meant name None = builtin_meant (builtin_named name)
 
--- A name that is used, at a token: the parameters of what it means, and the arguments by their tokens. One outside a call has neither. None: it is unknown.
+-- A name that is used, at a token: the parameters of what it means, and the arguments by their tokens. One outside a
+-- call has neither. None: it is unknown.
 pub record Name : Type 0 where
   pub at : ℕ
   pub meant : Option (Target × List Parameter)
-  pub given : List (Given ℕ)
+  pub given : List (GivenArgument ℕ)
 
 abbrev pub no_parameters : Option Target → Option (Target × List Parameter)
 no_parameters None = None
 no_parameters (Some t) = Some (t, [])
 
-abbrev pub tokens_given : Tree (Many AnArg) → List (Given ℕ)
+abbrev pub tokens_given : Tree (Many AnArg) → List (GivenArgument ℕ)
 tokens_given none = []
 tokens_given (more (Arg at label f) rest) = (label, at) ∷ tokens_given rest
 
 -- the scope behind parameters, an inner binding, and a statement
 abbrev pub with_param : Tree AParam → Scope → Scope
-with_param (Param at name) sc = (name, value at) ∷ sc
-with_param (Labelled at name) sc = (name, value at) ∷ sc
-with_param (Optional at name d) sc = (name, value at) ∷ sc
+with_param (Param at name) sc = (name, bound_value at) ∷ sc
+with_param (Labelled at name) sc = (name, bound_value at) ∷ sc
+with_param (Optional at name d) sc = (name, bound_value at) ∷ sc
 
 abbrev pub with_params : Tree (Many AParam) → Scope → Scope
 with_params none sc = sc
 with_params (more p ps) sc = with_params ps (with_param p sc)
 
 abbrev pub with_bind : Tree ABind → Scope → Scope
-with_bind (Bind at name f) sc = (name, value at) ∷ sc
+with_bind (Bind at name f) sc = (name, bound_value at) ∷ sc
 
 abbrev pub with_inner : Tree AnInner → Scope → Scope
 with_inner (Inner b semicolon) sc = with_bind b sc
@@ -72,11 +73,13 @@ with_inners (more i is) sc = with_inners is (with_inner i sc)
 
 abbrev pub with_statement : Tree AStmt → Scope → Scope
 with_statement (Stmt (BindPart b) semicolon) sc = with_bind b sc
-with_statement (Stmt (DefPart (Def at name ps equals is e)) semicolon) sc = (name, function at (parameters_of ps)) ∷ sc
+with_statement (Stmt (DefPart (Def at name ps equals is e)) semicolon) sc = (name, bound_function at (parameters_of ps))
+    ∷ sc
 with_statement (Stmt (CallPart c) semicolon) sc = sc
 with_statement (Stmt (IfPart i) semicolon) sc = sc
 
--- The names that a tree uses; those of inner bindings, each in the scope of the ones before it; and those of statements.
+-- The names that a tree uses; those of inner bindings, each in the scope of the ones before it; and those of
+-- statements.
 abbrev mutual
   pub names : {s : Sort} → Scope → Tree s → List Name
   names sc none = []
@@ -88,7 +91,8 @@ abbrev mutual
   names sc (IfPart i) = names sc i
   names sc (Bind at name f) = names sc f
   -- a default sees the names before the def; the result sees the parameters and the inner bindings
-  names sc (Def at name ps equals is e) = names sc ps ++ inner_names (with_params ps sc) is ++ names (with_inners is (with_params ps sc)) e
+  names sc (Def at name ps equals is e) = names sc ps ++ inner_names (with_params ps sc) is
+      ++ names (with_inners is (with_params ps sc)) e
   names sc (Inner b semicolon) = names sc b
   names sc (Optional at name d) = names sc d
   names sc (Plain e) = names sc e
@@ -107,7 +111,11 @@ abbrev mutual
   names sc (Paren f) = names sc f
   names sc (Tuple at f g rest) = names sc f ++ names sc g ++ names sc rest
   names sc (Listed at parts) = names sc parts
-  names sc (Call at name args) = record { at = at; meant = call_meant name (bound name sc); given = tokens_given args } ∷ names sc args
+  names sc (NamedCall at name args) = record {
+    at = at;
+    meant = call_meant name (bound name sc);
+    given = tokens_given args;
+  } ∷ names sc args
   names sc (Arg at label f) = names sc f
   names sc (If at c t e) = names sc c ++ names sc t ++ names sc e
   names sc t = []

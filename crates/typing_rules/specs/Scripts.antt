@@ -4,11 +4,12 @@ use Rattle.liq_base.specs.declared.memory.Kind.{Kind}
 use Rattle.script_grammar.specs.Tree.{Tree, ADef, none, more, Stmt, BindPart, DefPart, CallPart, IfPart, Bind, Def, Script}
 use Rattle.type_terms.specs.Ground.{Ground}
 use Rattle.typing_rules.specs.declared.uses.Target.{Target}
-use Rattle.typing_rules.specs.Arguments.{Parameter, Given, Matched, parameters_of}
+use Rattle.typing_rules.specs.Arguments.{Parameter, GivenArgument, Matched, parameters_of}
 use Rattle.typing_rules.specs.Scoping.{target_in, meanings_of}
 use Rattle.typing_rules.specs.Typing.{TypesByToken, Sight, Has, DefHas}
 
--- what a script's statements bind: the type of a value by its token, and the text of a def; the newest first, so that what stands behind a def is its environment
+-- what a script's statements bind: the type of a value by its token, and the text of a def; the newest first, so that
+-- what stands behind a def is its environment
 pub data Entry : Type 0 where
   value : ℕ → Ground → Entry
   function : Tree ADef → Entry
@@ -22,7 +23,8 @@ types_of (function d ∷ es) = types_of es
 abbrev pub Targets : Type 0
 Targets = ℕ → Option Target
 
--- The kinds at the places of the expansion. A place is a use, by its token, with the tokens of the calls that lead to it, the last one first.
+-- The kinds at the places of the expansion. A place is a use, by its token, with the tokens of the calls that lead to
+-- it, the last one first.
 abbrev pub Places : Type 0
 Places = List ℕ → ℕ → Option (List Kind)
 
@@ -36,18 +38,29 @@ def_token (Def at name ps equals is e) = at
 abbrev pub params_of : Tree ADef → List Parameter
 params_of (Def at name ps equals is e) = parameters_of ps
 
--- Calls from the places behind a chain of calls. What a def's text sees is what stands before the def, and its calls are one longer.
-abbrev pub calls_behind : Targets → Places → List Entry → List ℕ → ℕ → ℕ → List (Given Ground) → Ground → Type 0
+-- Calls from the places behind a chain of calls. What a def's text sees is what stands before the def, and its calls
+-- are one longer.
+abbrev pub calls_behind : Targets → Places → List Entry → List ℕ → ℕ → ℕ → List (GivenArgument Ground) → Ground → Type 0
 calls_behind target kinds [] chain at t gs g = ⊥
 calls_behind target kinds (value u h ∷ es) chain at t gs g = calls_behind target kinds es chain at t gs g
 calls_behind target kinds (function d ∷ es) chain at t gs g =
     elim (nat_eq (def_token d) t) [
-      | true ↦ ((ts : List Ground) × Matched (params_of d) gs ts × DefHas (record { target = target; types = types_of es; kinds = kinds (at ∷ chain); call = calls_behind target kinds es (at ∷ chain) }) d ts g)
+      | true ↦ ((ts : List Ground) × Matched (params_of d) gs ts × DefHas (record {
+        target = target;
+        types = types_of es;
+        kinds = kinds (at ∷ chain);
+        call = calls_behind target kinds es (at ∷ chain);
+      }) d ts g)
       | false ↦ calls_behind target kinds es chain at t gs g
     ]
 
 abbrev pub sight : Targets → Places → List Entry → List ℕ → Sight
-sight target kinds es chain = record { target = target; types = types_of es; kinds = kinds chain; call = calls_behind target kinds es chain }
+sight target kinds es chain = record {
+  target = target;
+  types = types_of es;
+  kinds = kinds chain;
+  call = calls_behind target kinds es chain;
+}
 
 -- a def has some typing, at kinds of its own, whether it is called or not
 abbrev pub HasSome : Targets → List Entry → Tree ADef → Type 0
@@ -56,10 +69,14 @@ HasSome target es d = (kinds : Places) × (ts : List Ground) × (g : Ground) × 
 -- from one list of entries to another
 abbrev pub IsTypedTo : Targets → Places → List Entry → Script → List Entry → Type 0
 IsTypedTo target kinds es none fs = fs ≡ es
-IsTypedTo target kinds es (more (Stmt (BindPart (Bind at name f)) semicolon) rest) fs = (g : Ground) × Has (sight target kinds es []) f g × IsTypedTo target kinds (value at g ∷ es) rest fs
-IsTypedTo target kinds es (more (Stmt (DefPart d) semicolon) rest) fs = HasSome target es d × IsTypedTo target kinds (function d ∷ es) rest fs
-IsTypedTo target kinds es (more (Stmt (CallPart c) semicolon) rest) fs = ((g : Ground) × Has (sight target kinds es []) c g) × IsTypedTo target kinds es rest fs
-IsTypedTo target kinds es (more (Stmt (IfPart i) semicolon) rest) fs = ((g : Ground) × Has (sight target kinds es []) i g) × IsTypedTo target kinds es rest fs
+IsTypedTo target kinds es (more (Stmt (BindPart (Bind at name f)) semicolon) rest) fs = (g : Ground)
+    × Has (sight target kinds es []) f g × IsTypedTo target kinds (value at g ∷ es) rest fs
+IsTypedTo target kinds es (more (Stmt (DefPart d) semicolon) rest) fs = HasSome target es d
+    × IsTypedTo target kinds (function d ∷ es) rest fs
+IsTypedTo target kinds es (more (Stmt (CallPart c) semicolon) rest) fs = ((g : Ground)
+    × Has (sight target kinds es []) c g) × IsTypedTo target kinds es rest fs
+IsTypedTo target kinds es (more (Stmt (IfPart i) semicolon) rest) fs = ((g : Ground)
+    × Has (sight target kinds es []) i g) × IsTypedTo target kinds es rest fs
 
 -- a script has a typing, where names have these meanings
 abbrev pub HasTyping : Targets → Script → Type 0

@@ -9,21 +9,22 @@ use Rattle.type_terms.specs.declared.ty.KindTerm.TheVariants.{Fixed, Var}
 use Rattle.typing_rules.specs.declared.uses.Builtin.{Builtin}
 use Rattle.typing_rules.specs.declared.uses.Builtin.TheVariants as builtin
 use Rattle.typing_rules.specs.declared.form.Form.TheVariants.{InPlace, Perhaps}
-use Rattle.typing_rules.specs.Arguments.{Parameter, Given, Matched}
+use Rattle.typing_rules.specs.Arguments.{Parameter, GivenArgument, Matched}
 
 -- a parameter and its type
 abbrev pub TypedParameter : Type 0
 TypedParameter = Parameter × Term
 
--- The types are over variables of the row's own, from 0: so many type variables, and so many kind variables, which are the open kinds.
+-- The types are over variables of the row's own, from 0: so many type variables, and so many kind variables, which are
+-- the open kinds.
 pub record Signature : Type 0 where
   pub params : List TypedParameter
   pub result : Term
   pub types : ℕ
   pub kinds : ℕ
 
-abbrev pub plain : List ℕ → Term → TypedParameter
-plain name t = (record { name = name; form = InPlace }, t)
+abbrev pub plain_parameter : List ℕ → Term → TypedParameter
+plain_parameter name t = (record { name = name; form = InPlace }, t)
 
 abbrev pub labelled : List ℕ → Term → TypedParameter
 labelled name t = (record { name = name; form = Perhaps }, t)
@@ -55,34 +56,58 @@ abbrev pub source_call : List TypedParameter → Signature
 source_call params = record { params = id_param ∷ params; result = source_k; types = 0; kinds = 1 }
 
 abbrev pub sources_param : TypedParameter
-sources_param = plain (codes "sources") (list_term source_k)
+sources_param = plain_parameter (codes "sources") (list_term source_k)
 
 abbrev pub source_param : TypedParameter
-source_param = plain (codes "s") source_k
+source_param = plain_parameter (codes "s") source_k
 
 abbrev pub pair : Term → Term → Term
 pair t u = tuple_term (one_more t (one_more u no_terms))
 
 abbrev pub signature : Builtin → Signature
-signature builtin.OutputFile = record { params = id_param ∷ labelled (codes "fallible") bool ∷ plain (codes "format") (base_term base.Format) ∷ plain (codes "name") text ∷ source_param ∷ []; result = unit; types = 0; kinds = 1 }
-signature builtin.Set = record { params = plain (codes "key") text ∷ plain (codes "value") (variable 0) ∷ []; result = unit; types = 1; kinds = 0 }
-signature builtin.Single = source_call (plain (codes "file") text ∷ [])
-signature builtin.Playlist = source_call (labelled (codes "loop") bool ∷ labelled (codes "mode") text ∷ plain (codes "file") text ∷ [])
+signature builtin.OutputFile = record {
+  params = id_param ∷ labelled (codes "fallible") bool ∷ plain_parameter (codes "format") (base_term base.Format)
+      ∷ plain_parameter (codes "name") text ∷ source_param ∷ [];
+  result = unit;
+  types = 0;
+  kinds = 1;
+}
+signature builtin.Set = record {
+  params = plain_parameter (codes "key") text ∷ plain_parameter (codes "value") (variable 0) ∷ [];
+  result = unit;
+  types = 1;
+  kinds = 0;
+}
+signature builtin.Single = source_call (plain_parameter (codes "file") text ∷ [])
+signature builtin.Playlist = source_call (labelled (codes "loop") bool ∷ labelled (codes "mode") text
+    ∷ plain_parameter (codes "file") text ∷ [])
 signature builtin.Blank = source_call (labelled (codes "duration") decimal ∷ [])
-signature builtin.Square = source_call (plain (codes "f") decimal ∷ [])
+signature builtin.Square = source_call (plain_parameter (codes "f") decimal ∷ [])
 signature builtin.Fail = source_call []
 signature builtin.Fallback = source_call (labelled (codes "track_sensitive") bool ∷ sources_param ∷ [])
-signature builtin.Switch = source_call (labelled (codes "track_sensitive") bool ∷ plain (codes "pairs") (list_term (pair (base_term base.Pred) source_k)) ∷ [])
+signature builtin.Switch = source_call (labelled (codes "track_sensitive") bool
+    ∷ plain_parameter (codes "pairs") (list_term (pair (base_term base.Pred) source_k)) ∷ [])
 signature builtin.Sequence = source_call (sources_param ∷ [])
 signature builtin.Rotate = source_call (sources_param ∷ [])
 signature builtin.Random = source_call (labelled (codes "seed") int ∷ sources_param ∷ [])
 signature builtin.Add = source_call (labelled (codes "normalize") bool ∷ sources_param ∷ [])
-signature builtin.Amplify = source_call (plain (codes "k") decimal ∷ source_param ∷ [])
-signature builtin.Mean = record { params = id_param ∷ plain (codes "s") (source_term (Fixed Stereo)) ∷ []; result = source_term (Fixed Mono); types = 0; kinds = 0 }
-signature builtin.Stereo = record { params = id_param ∷ plain (codes "s") (source_term (Fixed Mono)) ∷ []; result = source_term (Fixed Stereo); types = 0; kinds = 0 }
+signature builtin.Amplify = source_call (plain_parameter (codes "k") decimal ∷ source_param ∷ [])
+signature builtin.Mean = record {
+  params = id_param ∷ plain_parameter (codes "s") (source_term (Fixed Stereo)) ∷ [];
+  result = source_term (Fixed Mono);
+  types = 0;
+  kinds = 0;
+}
+signature builtin.Stereo = record {
+  params = id_param ∷ plain_parameter (codes "s") (source_term (Fixed Mono)) ∷ [];
+  result = source_term (Fixed Stereo);
+  types = 0;
+  kinds = 0;
+}
 signature builtin.Crossfade = source_call (labelled (codes "duration") decimal ∷ source_param ∷ [])
 signature builtin.Mksafe = source_call (source_param ∷ [])
-signature builtin.Buffer = source_call (labelled (codes "buffer") decimal ∷ labelled (codes "max") decimal ∷ source_param ∷ [])
+signature builtin.Buffer = source_call (labelled (codes "buffer") decimal ∷ labelled (codes "max") decimal
+    ∷ source_param ∷ [])
 signature builtin.Clock = source_call (source_param ∷ [])
 
 -- the builtins by their names
@@ -103,17 +128,18 @@ named_in name (b ∷ bs) = cond (bytes_eq name b.0) (Some b.1) (named_in name bs
 abbrev pub builtin_named : List ℕ → Option Builtin
 builtin_named name = named_in name builtin_names
 
-abbrev pub params_of : Builtin → List Parameter
-params_of b = map (λ p. p.0) (signature b).params
+abbrev pub params_of_builtin : Builtin → List Parameter
+params_of_builtin b = map (λ p. p.0) (signature b).params
 
 abbrev pub first_kinds : (ℕ → Kind) → ℕ → List Kind
 first_kinds f zero = []
 first_kinds f (suc n) = first_kinds f n ++ f n ∷ []
 
--- A call of the builtin with arguments of these types and with these open kinds may have the type g. Each call may read the row's variables anew.
-pub record IsCallOf (b : Builtin) (gs : List (Given Ground)) (ks : List Kind) (g : Ground) : Type 0 where
+-- A call of the builtin with arguments of these types and with these open kinds may have the type g. Each call may read
+-- the row's variables anew.
+pub record IsCallOf (b : Builtin) (gs : List (GivenArgument Ground)) (ks : List Kind) (g : Ground) : Type 0 where
   pub types : List Ground
-  pub matched : Matched (params_of b) gs types
+  pub matched : Matched (params_of_builtin b) gs types
   pub at : Assignment
   pub params : map (λ p. meaning at p.1) (signature b).params ≡ types
   pub result : meaning at (signature b).result ≡ g

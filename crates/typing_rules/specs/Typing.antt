@@ -3,13 +3,13 @@ use Rattle.std.specs.Prelude.{◌≡◌, ℕ, List, [], ◌∷◌, ◌++◌, tru
 use Rattle.liq_base.specs.declared.memory.Kind.{Kind}
 use Rattle.script_grammar.specs.declared.tree.Literal.{Literal}
 use Rattle.script_grammar.specs.declared.tree.Literal.TheVariants as literal
-use Rattle.script_grammar.specs.Tree.{Sort, Tree, Many, AParam, AnInner, AnArg, AFull, ADef, none, more, Bind, Def, Inner, Param, Labelled, Optional, Negative, Plain, Expr, And, Not, Alone, Compared, Sum, Added, Product, Multiplied, Constant, Quoted, Truth, Named, Called, Chosen, Nothing, Paren, Tuple, Listed, Braces, Format, Call, Arg, If}
+use Rattle.script_grammar.specs.Tree.{Sort, Tree, Many, AParam, AnInner, AnArg, AFull, ADef, none, more, Bind, Def, Inner, Param, Labelled, Optional, Negative, Plain, Expr, And, Not, Alone, Compared, Sum, Added, Product, Multiplied, Constant, Quoted, Truth, Named, Called, Chosen, Nothing, Paren, Tuple, Listed, Braces, Format, NamedCall, Arg, If}
 use Rattle.type_terms.specs.Ground.{Ground, Grounds, base_type, list, tuple, source, IsNumber}
 use Rattle.type_terms.specs.Ground as ground
 use Rattle.type_terms.specs.declared.ty.Base.TheVariants as base
 use Rattle.typing_rules.specs.declared.uses.Target.{Target}
 use Rattle.typing_rules.specs.declared.uses.Target.TheVariants as target
-use Rattle.typing_rules.specs.Arguments.{Given}
+use Rattle.typing_rules.specs.Arguments.{GivenArgument}
 pub use Rattle.typing_rules.specs.Arguments.{token_of}
 use Rattle.typing_rules.specs.Table.{IsCallOf}
 
@@ -17,13 +17,14 @@ use Rattle.typing_rules.specs.Table.{IsCallOf}
 abbrev pub TypesByToken : Type 0
 TypesByToken = List (ℕ × Ground)
 
--- What is known where an expression stands: what the name at a token means, the type of the binding at a token, the kinds
--- of the use at a token, and what a call may be: the token of the call, that of the def, the arguments' types and the result's.
+-- What is known where an expression stands: what the name at a token means, the type of the binding at a token, the
+-- kinds of the use at a token, and what a call may be: the token of the call, that of the def, the arguments' types and
+-- the result's.
 pub record Sight : Type 1 where
   pub target : ℕ → Option Target
   pub types : TypesByToken
   pub kinds : ℕ → Option (List Kind)
-  pub call : ℕ → ℕ → List (Given Ground) → Ground → Type 0
+  pub call : ℕ → ℕ → List (GivenArgument Ground) → Ground → Type 0
 
 abbrev pub truth : Ground
 truth = base_type base.Bool
@@ -44,7 +45,7 @@ NameHas s (Some (target.Builtin b)) g = ⊥
 NameHas s None g = ⊥
 
 -- a call of what its name means, at a token
-abbrev pub Applied : Sight → ℕ → Option Target → List (Given Ground) → Ground → Type 0
+abbrev pub Applied : Sight → ℕ → Option Target → List (GivenArgument Ground) → Ground → Type 0
 Applied s at (Some (target.Slot t)) gs g = ⊥
 Applied s at (Some (target.Def t)) gs g = (ks : List Kind) × (s.kinds at ≡ Some ks) × s.call at t gs g
 Applied s at (Some (target.Builtin b)) gs g = (ks : List Kind) × (s.kinds at ≡ Some ks) × IsCallOf b gs ks g
@@ -78,11 +79,13 @@ abbrev mutual
   Has s (Chosen i) g = Has s i g
   Has s (Nothing at) g = g ≡ base_type base.Unit
   Has s (Paren f) g = Has s f g
-  Has s (Tuple at f h rest) g = (t : Ground) × (u : Ground) × (ts : Grounds) × (g ≡ tuple (ground.more t (ground.more u ts))) × Has s f t × Has s h u × HaveAll s rest ts
+  Has s (Tuple at f h rest) g = (t : Ground) × (u : Ground) × (ts : Grounds)
+      × (g ≡ tuple (ground.more t (ground.more u ts))) × Has s f t × Has s h u × HaveAll s rest ts
   Has s (Listed at parts) g = (t : Ground) × (g ≡ list t) × EachHas s parts t
   Has s (Braces at pred) g = g ≡ base_type base.Pred
   Has s (Format at size) g = g ≡ base_type base.Format
-  Has s (Call at name args) g = (gs : List (Given Ground)) × AreGiven s args gs × Applied s at (s.target at) gs g
+  Has s (NamedCall at name args) g = (gs : List (GivenArgument Ground)) × AreGiven s args gs
+      × Applied s at (s.target at) gs g
   Has s (If at c t e) g = Has s c truth × Has s t g × Has s e g
   -- nothing else is an expression
   Has s t g = ⊥
@@ -95,9 +98,10 @@ abbrev mutual
   HaveAll s none ts = ts ≡ ground.no_more
   HaveAll s (more f rest) ts = (t : Ground) × (us : Grounds) × (ts ≡ ground.more t us) × Has s f t × HaveAll s rest us
 
-  pub AreGiven : Sight → Tree (Many AnArg) → List (Given Ground) → Type 0
+  pub AreGiven : Sight → Tree (Many AnArg) → List (GivenArgument Ground) → Type 0
   AreGiven s none gs = gs ≡ []
-  AreGiven s (more (Arg at label f) rest) gs = (t : Ground) × (us : List (Given Ground)) × (gs ≡ (label, t) ∷ us) × Has s f t × AreGiven s rest us
+  AreGiven s (more (Arg at label f) rest) gs = (t : Ground) × (us : List (GivenArgument Ground))
+      × (gs ≡ (label, t) ∷ us) × Has s f t × AreGiven s rest us
 
 -- the same with bindings of a def before the others
 abbrev pub within : TypesByToken → Sight → Sight
@@ -123,8 +127,10 @@ DefaultsHave s (more p ps) (t ∷ ts) = DefaultHas s p t × DefaultsHave s ps ts
 -- inner bindings, each behind the ones before it
 abbrev pub InnersHave : Sight → Tree (Many AnInner) → TypesByToken → TypesByToken → Type 0
 InnersHave s none us vs = vs ≡ us
-InnersHave s (more (Inner (Bind at name f) semicolon) is) us vs = (t : Ground) × Has (within us s) f t × InnersHave s is (us ++ (at, t) ∷ []) vs
+InnersHave s (more (Inner (Bind at name f) semicolon) is) us vs = (t : Ground) × Has (within us s) f t
+    × InnersHave s is (us ++ (at, t) ∷ []) vs
 
 -- A def with parameters of these types has the type g. Its defaults are seen without its bindings.
 abbrev pub DefHas : Sight → Tree ADef → List Ground → Ground → Type 0
-DefHas s (Def at name ps equals is e) ts g = DefaultsHave s ps ts × ((us : TypesByToken) × InnersHave s is (typed_params ps ts) us × Has (within us s) e g)
+DefHas s (Def at name ps equals is e) ts g = DefaultsHave s ps ts
+    × ((us : TypesByToken) × InnersHave s is (typed_params ps ts) us × Has (within us s) e g)

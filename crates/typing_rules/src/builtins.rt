@@ -2,7 +2,7 @@
 ghost use Rattle.std.specs.Prelude.{◌≡◌, map};
 ghost use Rattle.std.specs.Str.{bytes_eq};
 ghost use Rattle.typing_rules.specs.Rows.{row_term, seen_parameter, seen_row};
-ghost use Rattle.typing_rules.specs.Table.{builtin_named as the_builtin_named, named_in as the_named_in, params_of, signature};
+ghost use Rattle.typing_rules.specs.Table.{builtin_named as the_builtin_named, named_in as the_named_in, params_of_builtin, signature};
 
 use crate::form::Form;
 use crate::parameter::Parameter;
@@ -73,7 +73,7 @@ const ROWS: [Row; 20] = [
 
 /// The row of a builtin. It takes no memory.
 pub fn builtin_row(builtin: Builtin) -> &'static Row
-    ensures params { map seen_parameter result.now.params.now ≡ params_of builtin }
+    ensures params { map seen_parameter result.now.params.now ≡ params_of_builtin builtin }
     ensures types { map row_term result.now.types.now ≡ map (λ p. p.1) (signature builtin).params }
     ensures call { row_term result.now.result ≡ (signature builtin).result }
 {

@@ -1,4 +1,5 @@
-// What follows from the rules of typing, for all scripts. A caller that needs a law calls its function, which does nothing.
+// What follows from the rules of typing, for all scripts. A caller that needs a law calls its function, which does
+// nothing.
 ghost use Rattle.std.specs.Prelude.{◌≡◌, ◌⊎◌, ◌≤◌, ℕ, List, [], ◌∷◌, ◌++◌, Some};
 ghost use Rattle.liq_base.specs.declared.memory.Kind.{Kind as a_kind};
 ghost use Rattle.script_grammar.specs.Placed.{IsPlaced};
@@ -8,7 +9,7 @@ ghost use Rattle.typing_rules.specs.declared.fault.TypeFault.{TypeFault as a_fau
 ghost use Rattle.typing_rules.specs.declared.fault.TypeFault.TheVariants as fault;
 ghost use Rattle.typing_rules.specs.declared.uses.Use.{Use as a_use};
 ghost use Rattle.typing_rules.specs.Answers.{IsTyped, IsTypeFault};
-ghost use Rattle.typing_rules.specs.Arguments.{Given, Matched};
+ghost use Rattle.typing_rules.specs.Arguments.{GivenArgument, Matched};
 ghost use Rattle.typing_rules.specs.Defs.{AreDefsOf, IsDefOf, LeadsInto, def_at};
 ghost use Rattle.typing_rules.specs.Kinds.{around, kinds_in, read, target_at, target_said};
 ghost use Rattle.typing_rules.specs.Scripts.{Entry, HasTyping, IsTypedTo, Places, Targets, behind, calls_behind, def_token, first_of, function, params_of, sight};
@@ -17,50 +18,72 @@ ghost use Rattle.typing_rules.specs.Uses.{use_at as the_use_at};
 
 /// A script with a typing has no fault but want of memory.
 pub fn typed_or_fault()
-    ensures without { (script : Script) (uses : List a_use) (f : a_fault) → IsTyped script uses → IsTypeFault script f → f ≡ fault.Memory }
+    ensures without { (script : Script) (uses : List a_use) (f : a_fault) → IsTyped script uses → IsTypeFault script f
+        → f ≡ fault.Memory }
 {}
 
 /// Two faults of one script are the same, or one is want of memory.
 pub fn one_fault()
-    ensures one { (script : Script) (f g : a_fault) → IsTypeFault script f → IsTypeFault script g → (f ≡ fault.Memory) ⊎ ((g ≡ fault.Memory) ⊎ (f ≡ g)) }
+    ensures one { (script : Script) (f g : a_fault) → IsTypeFault script f → IsTypeFault script g
+        → (f ≡ fault.Memory) ⊎ ((g ≡ fault.Memory) ⊎ (f ≡ g)) }
 {}
 
 /// The first statements of a script with a typing have it too, and so have fewer of them.
 pub fn fewer_statements()
-    ensures first { (n : ℕ) (ts : Targets) (kinds : Places) (script : Script) (es fs : List Entry) → IsTypedTo ts kinds es script fs → (gs : List Entry) × IsTypedTo ts kinds es (first_of n script) gs }
-    ensures shorter { (n k : ℕ) (ts : Targets) (script : Script) → n ≤ k → HasTyping ts (first_of k script) → HasTyping ts (first_of n script) }
+    ensures first { (n : ℕ) (ts : Targets) (kinds : Places) (script : Script) (es fs : List Entry)
+        → IsTypedTo ts kinds es script fs → (gs : List Entry) × IsTypedTo ts kinds es (first_of n script) gs }
+    ensures shorter { (n k : ℕ) (ts : Targets) (script : Script) → n ≤ k → HasTyping ts (first_of k script)
+        → HasTyping ts (first_of n script) }
 {}
 
 /// A call of the newest def is a typing of its text in its environment.
 pub fn newest_call()
-    ensures typed { (ts : Targets) (kinds : Places) (es : List Entry) (d : Tree ADef) (chain : List ℕ) (at : ℕ) (gs : List (Given Ground)) (g : Ground) → calls_behind ts kinds (function d ∷ es) chain at (def_token d) gs g → (us : List Ground) × Matched (params_of d) gs us × DefHas (sight ts kinds es (at ∷ chain)) d us g }
-    ensures call { (ts : Targets) (kinds : Places) (es : List Entry) (d : Tree ADef) (chain : List ℕ) (at : ℕ) (gs : List (Given Ground)) (g : Ground) → ((us : List Ground) × Matched (params_of d) gs us × DefHas (sight ts kinds es (at ∷ chain)) d us g) → calls_behind ts kinds (function d ∷ es) chain at (def_token d) gs g }
+    ensures typed { (ts : Targets) (kinds : Places) (es : List Entry) (d : Tree ADef) (chain : List ℕ) (at : ℕ)
+        (gs : List (GivenArgument Ground)) (g : Ground)
+        → calls_behind ts kinds (function d ∷ es) chain at (def_token d) gs g
+        → (us : List Ground) × Matched (params_of d) gs us × DefHas (sight ts kinds es (at ∷ chain)) d us g }
+    ensures call { (ts : Targets) (kinds : Places) (es : List Entry) (d : Tree ADef) (chain : List ℕ) (at : ℕ)
+        (gs : List (GivenArgument Ground)) (g : Ground)
+        → ((us : List Ground) × Matched (params_of d) gs us × DefHas (sight ts kinds es (at ∷ chain)) d us g)
+        → calls_behind ts kinds (function d ∷ es) chain at (def_token d) gs g }
 {}
 
 /// The text of a def behind a chain of calls is its text by itself, with the places renamed.
 pub fn text_behind()
-    ensures alone { (ts : Targets) (kinds : Places) (es : List Entry) (chain : List ℕ) (d : Tree ADef) (us : List Ground) (g : Ground) → DefHas (sight ts kinds es chain) d us g → DefHas (sight ts (behind chain kinds) es []) d us g }
-    ensures called { (ts : Targets) (kinds : Places) (es : List Entry) (chain : List ℕ) (d : Tree ADef) (us : List Ground) (g : Ground) → DefHas (sight ts (behind chain kinds) es []) d us g → DefHas (sight ts kinds es chain) d us g }
+    ensures alone { (ts : Targets) (kinds : Places) (es : List Entry) (chain : List ℕ) (d : Tree ADef)
+        (us : List Ground) (g : Ground) → DefHas (sight ts kinds es chain) d us g
+        → DefHas (sight ts (behind chain kinds) es []) d us g }
+    ensures called { (ts : Targets) (kinds : Places) (es : List Entry) (chain : List ℕ) (d : Tree ADef)
+        (us : List Ground) (g : Ground) → DefHas (sight ts (behind chain kinds) es []) d us g
+        → DefHas (sight ts kinds es chain) d us g }
 {}
 
 /// Uses that are read behind a chain of calls are read from the kinds that the chain gives.
 pub fn read_behind()
-    ensures same { (given inside : List a_kind) (uses : List a_use) (chain : List ℕ) → around given uses chain ≡ Some inside → (c : List ℕ) → around given uses (c ++ chain) ≡ around inside uses c }
+    ensures same { (given inside : List a_kind) (uses : List a_use) (chain : List ℕ)
+        → around given uses chain ≡ Some inside → (c : List ℕ) → around given uses (c ++ chain) ≡ around inside uses c }
 {}
 
-/// What evaluation looks up by a token is what typing reads: the target of a use, and its kinds in a scope of these kinds.
+/// What evaluation looks up by a token is what typing reads: the target of a use, and its kinds in a scope of these
+/// kinds.
 pub fn looked_up()
     ensures target { (uses : List a_use) (at : ℕ) → target_said (the_use_at at uses) ≡ target_at uses at }
-    ensures kinds { (uses : List a_use) (ks : List a_kind) (chain : List ℕ) (at : ℕ) → around [] uses chain ≡ Some ks → read [] uses chain at ≡ kinds_in (the_use_at at uses) ks }
+    ensures kinds { (uses : List a_use) (ks : List a_kind) (chain : List ℕ) (at : ℕ) → around [] uses chain ≡ Some ks
+        → read [] uses chain at ≡ kinds_in (the_use_at at uses) ks }
 {}
 
 /// The search for a def by the token of its name finds that def.
 pub fn found_def()
-    ensures found { (i : ℕ) (script : Script) (d : Tree ADef) → IsPlaced i script → IsDefOf script d → def_at (def_token d) script ≡ Some d }
+    ensures found { (i : ℕ) (script : Script) (d : Tree ADef) → IsPlaced i script → IsDefOf script d
+        → def_at (def_token d) script ≡ Some d }
 {}
 
-/// A call in a typed script leads to one def, to what stood before it and to a typing of its text there; the def is what the search by its token finds.
+/// A call in a typed script leads to one def, to what stood before it and to a typing of its text there; the def is
+/// what the search by its token finds.
 pub fn leads_to()
-    ensures leads { (script : Script) (ts : Targets) (kinds : Places) (es : List Entry) (chain : List ℕ) (at t : ℕ) (gs : List (Given Ground)) (g : Ground) → IsPlaced 0 script → AreDefsOf script es → calls_behind ts kinds es chain at t gs g → LeadsInto script ts kinds es chain at t gs g }
-    ensures defs { (script : Script) (ts : Targets) (kinds : Places) (es : List Entry) → IsTypedTo ts kinds [] script es → AreDefsOf script es }
+    ensures leads { (script : Script) (ts : Targets) (kinds : Places) (es : List Entry) (chain : List ℕ) (at t : ℕ)
+        (gs : List (GivenArgument Ground)) (g : Ground) → IsPlaced 0 script → AreDefsOf script es
+        → calls_behind ts kinds es chain at t gs g → LeadsInto script ts kinds es chain at t gs g }
+    ensures defs { (script : Script) (ts : Targets) (kinds : Places) (es : List Entry) → IsTypedTo ts kinds [] script es
+        → AreDefsOf script es }
 {}

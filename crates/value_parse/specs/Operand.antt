@@ -10,7 +10,7 @@ use Rattle.parse_base.specs.declared.fault.Fault.{Fault}
 use Rattle.parse_base.specs.declared.fault.Fault.TheVariants as faults
 use Rattle.parse_base.specs.Gives.{kinds, Fails}
 use Rattle.script_grammar.specs.Lone.{lone as lone_expr}
-use Rattle.script_grammar.specs.Tree.{Sort, Tree, Many, more, AFull, AnExpr, ANot, ACompare, AnOperand, ACall, AnArg, AnIf, Plain, Not, Braces, Listed, Call, Arg, If}
+use Rattle.script_grammar.specs.Tree.{Sort, Tree, Many, more, AFull, AnExpr, ANot, ACompare, AnOperand, ACall, AnArg, AnIf, Plain, Not, Braces, Listed, NamedCall, Arg, If}
 use Rattle.script_grammar.specs.Read.{Read, Reader, ◌>>=◌, made, both, expect, chain}
 use Rattle.script_grammar.specs.Kinds.{is_close_curly, is_then, is_else, is_end}
 use Rattle.script_grammar.specs.ReadPredicate.{por}
@@ -45,7 +45,7 @@ as_list at read = read >>= made (Listed at)
 
 -- the call that arguments make
 abbrev pub as_call : ℕ → List ℕ → Read (Tree (Many AnArg)) → Read (Tree ACall)
-as_call at name read = read >>= made (Call at name)
+as_call at name read = read >>= made (NamedCall at name)
 
 -- what was read is not there: want of memory, or the fault of that reading
 abbrev pub IsFaultOf : {X : Type 0} → Result X Fault → Fault → Type 0

@@ -23,8 +23,8 @@ use script_grammar::tree::{Arg, Call, Full, Operand};
 use script_lex::{Token, TokenKind};
 use std::alloc::Global;
 
-/// Room is made for so many arguments of a call. A list makes room for four at first, which most calls leave half empty,
-/// at 330 bytes an argument.
+/// Room is made for so many arguments of a call. A list makes room for four at first, which most calls leave half
+/// empty, at 330 bytes an argument.
 const USUAL: usize = 2;
 
 /// call: NameOpen (argument (`,` argument)*)? `)`
@@ -41,7 +41,8 @@ pub fn call(
     requires within { length tokens.now ≤ total }
     requires small { total < 2 ^ 32 }
     ensures shorter { IfOk result (λ x. length x.1.now < length tokens.now) }
-    ensures gives { Gives (λ x. (view_call x.0, kinds x.1.now)) result (call (places total) (full_by levels (places total)) (kinds tokens.now)) }
+    ensures gives { Gives (λ x. (view_call x.0, kinds x.1.now)) result
+        (call (places total) (full_by levels (places total)) (kinds tokens.now)) }
     ensures whole { IfOk result (λ x. IsWholeCall x.0) }
 {
     match tokens {
@@ -71,7 +72,9 @@ fn call_of<'a>(
     read: Result<&'a [Token], Fault>,
 ) -> Result<(Call, &'a [Token]), Fault>
     ensures shorter { (n : ℕ) → IfOk read.entry (λ rest. length rest.now < n) → IfOk result (λ x. length x.1.now < n) }
-    ensures gives { (r : Read (Tree (Many AnArg))) → Gives (λ rest. (listed (map view_arg items.items), kinds rest.now)) read.entry r → Gives (λ x. (view_call x.0, kinds x.1.now)) result (as_call at name.now r) }
+    ensures gives { (r : Read (Tree (Many AnArg)))
+        → Gives (λ rest. (listed (map view_arg items.items), kinds rest.now)) read.entry r
+        → Gives (λ x. (view_call x.0, kinds x.1.now)) result (as_call at name.now r) }
     ensures whole { IfOk read.entry (λ _. All IsWholeArg items.items) → IfOk result (λ x. IsWholeCall x.0) }
 {
     let rest = read?;
@@ -93,7 +96,8 @@ fn args<'a>(
     requires small { total < 2 ^ 32 }
     requires empty { items.old.items ≡ [] }
     ensures shorter { IfOk result (λ rest. length rest.now < length tokens.now) }
-    ensures gives { Gives (λ rest. (listed (map view_arg items.new.items), kinds rest.now)) result (args (places total) (full_by levels (places total)) (kinds tokens.now)) }
+    ensures gives { Gives (λ rest. (listed (map view_arg items.new.items), kinds rest.now)) result
+        (args (places total) (full_by levels (places total)) (kinds tokens.now)) }
     ensures whole { IfOk result (λ _. All IsWholeArg items.new.items) }
 {
     let (is_closed, after) = token::perhaps(tokens, Class::CloseRound);
@@ -118,7 +122,8 @@ fn some_args<'a>(
     requires small { total < 2 ^ 32 }
     requires empty { items.old.items ≡ [] }
     ensures shorter { IfOk result (λ rest. length rest.now < length tokens.now) }
-    ensures gives { Gives (λ rest. (listed (map view_arg items.new.items), kinds rest.now)) result (chained is_comma (arg (places total) (full_by levels (places total))) (kinds tokens.now)) }
+    ensures gives { Gives (λ rest. (listed (map view_arg items.new.items), kinds rest.now)) result
+        (chained is_comma (arg (places total) (full_by levels (places total))) (kinds tokens.now)) }
     ensures whole { IfOk result (λ _. All IsWholeArg items.new.items) }
 {
     let mut rest = arg(alloc, total, levels, items, tokens)?;
@@ -141,7 +146,8 @@ fn comma_arg<'a>(
     requires within { length tokens.now ≤ total }
     requires small { total < 2 ^ 32 }
     ensures shorter { IfOk result (λ rest. length rest.now < length tokens.now) }
-    ensures gives { Pushes view_arg items.old.items items.new.items result (behind is_comma (arg (places total) (full_by levels (places total))) (kinds tokens.now)) }
+    ensures gives { Pushes view_arg items.old.items items.new.items result
+        (behind is_comma (arg (places total) (full_by levels (places total))) (kinds tokens.now)) }
     ensures whole { IfOk result (λ _. All IsWholeArg items.old.items → All IsWholeArg items.new.items) }
 {
     let ((), rest) = token::expect(tokens, Class::Comma)?;
@@ -163,7 +169,8 @@ fn arg<'a>(
     requires within { length tokens.now ≤ total }
     requires small { total < 2 ^ 32 }
     ensures shorter { IfOk result (λ rest. length rest.now < length tokens.now) }
-    ensures gives { Pushes view_arg items.old.items items.new.items result (arg (places total) (full_by levels (places total)) (kinds tokens.now)) }
+    ensures gives { Pushes view_arg items.old.items items.new.items result
+        (arg (places total) (full_by levels (places total)) (kinds tokens.now)) }
     ensures whole { IfOk result (λ _. All IsWholeArg items.old.items → All IsWholeArg items.new.items) }
 {
     let at = place(total, tokens);
@@ -185,7 +192,8 @@ fn labelled<'a>(
     requires within { length tokens.now ≤ total }
     requires small { total < 2 ^ 32 }
     ensures shorter { IfOk result (λ rest. length rest.now < length tokens.now) }
-    ensures gives { Pushes view_arg items.old.items items.new.items result (labelled at label (full_by levels (places total)) (kinds tokens.now)) }
+    ensures gives { Pushes view_arg items.old.items items.new.items result
+        (labelled at label (full_by levels (places total)) (kinds tokens.now)) }
     ensures whole { IfOk result (λ _. All IsWholeArg items.old.items → All IsWholeArg items.new.items) }
 {
     match bare_levels(levels, tokens) {
@@ -206,7 +214,8 @@ fn labelled<'a>(
     }
 }
 
-// How many levels may nest in a value that begins with its first operand; none where it does not, or may not stand here.
+// How many levels may nest in a value that begins with its first operand; none where it does not, or may not stand
+// here.
 fn bare_levels(levels: usize, tokens: &[Token]) -> Option<usize>
     ensures bare { IfSome result (λ below. (levels ≡ below + 1) × (is_bare (kinds tokens.now) ≡ true)) }
 {
@@ -217,7 +226,8 @@ fn bare_levels(levels: usize, tokens: &[Token]) -> Option<usize>
     }
 }
 
-// The same, once the first operand of the value is read. That is mostly all of the value, which is then made where it stays.
+// The same, once the first operand of the value is read. That is mostly all of the value, which is then made where it
+// stays.
 #[inline(never)]
 #[cycle(value)]
 fn push_operand<'a>(
@@ -235,10 +245,12 @@ fn push_operand<'a>(
     requires lead { perhaps is_not (kinds tokens.now) ≡ Ok (false, kinds tokens.now) }
     requires room { vec_len items.old < vec_capacity items.old }
     requires shorter { IfOk read (λ x. length x.1.now < length tokens.now) }
-    requires gives { Gives (λ x. (view_operand x.0, kinds x.1.now)) read (operand false (places total) (full_by levels (places total)) (kinds tokens.now)) }
+    requires gives { Gives (λ x. (view_operand x.0, kinds x.1.now)) read
+        (operand false (places total) (full_by levels (places total)) (kinds tokens.now)) }
     requires whole { IfOk read (λ x. IsWholeOperand x.0) }
     ensures shorter { IfOk result (λ rest. length rest.now < length tokens.now) }
-    ensures gives { Pushes view_arg items.old.items items.new.items result (as_argument at label (plain false (places total) (full_by levels (places total)) (kinds tokens.now))) }
+    ensures gives { Pushes view_arg items.old.items items.new.items result
+        (as_argument at label (plain false (places total) (full_by levels (places total)) (kinds tokens.now))) }
     ensures whole { IfOk result (λ _. All IsWholeArg items.old.items → All IsWholeArg items.new.items) }
 {
     let (operand, rest) = read?;
@@ -255,7 +267,8 @@ fn push_operand<'a>(
 // An argument that is one operand.
 fn push_lone(alloc: Global, at: u32, label: Option<Text>, items: &mut Vec<Arg>, operand: Operand)
     requires room { vec_len items.old < vec_capacity items.old }
-    ensures pushed { (x : Arg) × (items.new.items ≡ items.old.items ++ x ∷ []) × (view_arg x ≡ an_argument at label (lone false (view_operand operand))) }
+    ensures pushed { (x : Arg) × (items.new.items ≡ items.old.items ++ x ∷ [])
+        × (view_arg x ≡ an_argument at label (lone false (view_operand operand))) }
     ensures whole { IsWholeOperand operand → All IsWholeArg items.old.items → All IsWholeArg items.new.items }
 {
     items.push_reserved(argument(at, label, lone(alloc, false, operand)));
@@ -270,8 +283,10 @@ fn push_arg<'a>(
     read: Result<(Full, &'a [Token]), Fault>,
 ) -> Result<&'a [Token], Fault>
     ensures shorter { (n : ℕ) → IfOk read.entry (λ x. length x.1.now < n) → IfOk result (λ rest. length rest.now < n) }
-    ensures gives { (r : Read (Tree AFull)) → Gives (λ x. (view_full x.0, kinds x.1.now)) read.entry r → Pushes view_arg items.old.items items.new.items result (as_argument at label r) }
-    ensures whole { IfOk read.entry (λ x. IsWholeFull x.0) → IfOk result (λ _. All IsWholeArg items.old.items → All IsWholeArg items.new.items) }
+    ensures gives { (r : Read (Tree AFull)) → Gives (λ x. (view_full x.0, kinds x.1.now)) read.entry r
+        → Pushes view_arg items.old.items items.new.items result (as_argument at label r) }
+    ensures whole { IfOk read.entry (λ x. IsWholeFull x.0)
+        → IfOk result (λ _. All IsWholeArg items.old.items → All IsWholeArg items.new.items) }
 {
     items.reserve(1)?;
     let (value, rest) = read?;

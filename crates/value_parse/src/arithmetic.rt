@@ -35,10 +35,12 @@ pub fn compare_of<'a>(
     requires within { length _tokens.now ≤ total }
     requires small { total < 2 ^ 32 }
     requires shorter { IfOk read (λ x. length x.1.now < length _tokens.now) }
-    requires gives { Gives (λ x. (view_sum x.0, kinds x.1.now)) read (sum loose (places total) (full_by levels (places total)) (kinds _tokens.now)) }
+    requires gives { Gives (λ x. (view_sum x.0, kinds x.1.now)) read
+        (sum loose (places total) (full_by levels (places total)) (kinds _tokens.now)) }
     requires whole { IfOk read (λ x. IsWholeSum x.0) }
     ensures shorter { IfOk result (λ x. length x.1.now < length _tokens.now) }
-    ensures gives { Gives (λ x. (view_compare x.0, kinds x.1.now)) result (compare loose (places total) (full_by levels (places total)) (kinds _tokens.now)) }
+    ensures gives { Gives (λ x. (view_compare x.0, kinds x.1.now)) result
+        (compare loose (places total) (full_by levels (places total)) (kinds _tokens.now)) }
     ensures whole { IfOk result (λ x. IsWholeCompare x.0) }
 {
     let (left, rest) = read?;
@@ -59,7 +61,9 @@ fn behind_sum(
     requires small { total < 2 ^ 32 }
     requires whole { IsWholeSum left }
     ensures shorter { IfOk result (λ x. length x.1.now ≤ length tokens.now) }
-    ensures gives { Gives (λ x. (view_compare x.0, kinds x.1.now)) result (behind_op loose (places total) (full_by levels (places total)) (view_sum left) (next_op (kinds tokens.now)) (kinds tokens.now)) }
+    ensures gives { Gives (λ x. (view_compare x.0, kinds x.1.now)) result
+        (behind_op loose (places total) (full_by levels (places total)) (view_sum left) (next_op (kinds tokens.now))
+        (kinds tokens.now)) }
     ensures whole { IfOk result (λ x. IsWholeCompare x.0) }
 {
     match (next_op(tokens), tokens) {
@@ -92,10 +96,12 @@ pub fn sum_of<'a>(
     requires within { length _tokens.now ≤ total }
     requires small { total < 2 ^ 32 }
     requires shorter { IfOk read (λ x. length x.1.now < length _tokens.now) }
-    requires gives { Gives (λ x. (view_product x.0, kinds x.1.now)) read (product loose (places total) (full_by levels (places total)) (kinds _tokens.now)) }
+    requires gives { Gives (λ x. (view_product x.0, kinds x.1.now)) read
+        (product loose (places total) (full_by levels (places total)) (kinds _tokens.now)) }
     requires whole { IfOk read (λ x. IsWholeProduct x.0) }
     ensures shorter { IfOk result (λ x. length x.1.now < length _tokens.now) }
-    ensures gives { Gives (λ x. (view_sum x.0, kinds x.1.now)) result (sum loose (places total) (full_by levels (places total)) (kinds _tokens.now)) }
+    ensures gives { Gives (λ x. (view_sum x.0, kinds x.1.now)) result
+        (sum loose (places total) (full_by levels (places total)) (kinds _tokens.now)) }
     ensures whole { IfOk result (λ x. IsWholeSum x.0) }
 {
     let (first, rest) = read?;
@@ -115,7 +121,8 @@ fn addends(
     requires within { length tokens.now ≤ total }
     requires small { total < 2 ^ 32 }
     ensures shorter { IfOk result (λ x. length x.1.now ≤ length tokens.now) }
-    ensures gives { Gives (λ x. (listed (map view_added x.0.items), kinds x.1.now)) result (many (next is_added) (added loose (places total) (full_by levels (places total))) (kinds tokens.now)) }
+    ensures gives { Gives (λ x. (listed (map view_added x.0.items), kinds x.1.now)) result
+        (many (next is_added) (added loose (places total) (full_by levels (places total))) (kinds tokens.now)) }
     ensures whole { IfOk result (λ x. All IsWholeAdded x.0.items) }
 {
     let mut items = Vec::new(alloc);
@@ -139,7 +146,8 @@ fn added(
     requires within { length tokens.now ≤ total }
     requires small { total < 2 ^ 32 }
     ensures shorter { IfOk result (λ x. length x.1.now < length tokens.now) }
-    ensures gives { Gives (λ x. (view_added x.0, kinds x.1.now)) result (added loose (places total) (full_by levels (places total)) (kinds tokens.now)) }
+    ensures gives { Gives (λ x. (view_added x.0, kinds x.1.now)) result
+        (added loose (places total) (full_by levels (places total)) (kinds tokens.now)) }
     ensures whole { IfOk result (λ x. IsWholeAdded x.0) }
 {
     let at = place(total, tokens);
@@ -172,10 +180,12 @@ pub fn product_of<'a>(
     requires within { length _tokens.now ≤ total }
     requires small { total < 2 ^ 32 }
     requires shorter { IfOk read (λ x. length x.1.now < length _tokens.now) }
-    requires gives { Gives (λ x. (view_operand x.0, kinds x.1.now)) read (operand loose (places total) (full_by levels (places total)) (kinds _tokens.now)) }
+    requires gives { Gives (λ x. (view_operand x.0, kinds x.1.now)) read
+        (operand loose (places total) (full_by levels (places total)) (kinds _tokens.now)) }
     requires whole { IfOk read (λ x. IsWholeOperand x.0) }
     ensures shorter { IfOk result (λ x. length x.1.now < length _tokens.now) }
-    ensures gives { Gives (λ x. (view_product x.0, kinds x.1.now)) result (product loose (places total) (full_by levels (places total)) (kinds _tokens.now)) }
+    ensures gives { Gives (λ x. (view_product x.0, kinds x.1.now)) result
+        (product loose (places total) (full_by levels (places total)) (kinds _tokens.now)) }
     ensures whole { IfOk result (λ x. IsWholeProduct x.0) }
 {
     let (first, rest) = read?;
@@ -195,7 +205,9 @@ fn factors(
     requires within { length tokens.now ≤ total }
     requires small { total < 2 ^ 32 }
     ensures shorter { IfOk result (λ x. length x.1.now ≤ length tokens.now) }
-    ensures gives { Gives (λ x. (listed (map view_multiplied x.0.items), kinds x.1.now)) result (many (next is_multiplied) (multiplied loose (places total) (full_by levels (places total))) (kinds tokens.now)) }
+    ensures gives { Gives (λ x. (listed (map view_multiplied x.0.items), kinds x.1.now)) result
+        (many (next is_multiplied) (multiplied loose (places total) (full_by levels (places total)))
+        (kinds tokens.now)) }
     ensures whole { IfOk result (λ x. All IsWholeMultiplied x.0.items) }
 {
     let mut items = Vec::new(alloc);
@@ -219,7 +231,8 @@ fn multiplied(
     requires within { length tokens.now ≤ total }
     requires small { total < 2 ^ 32 }
     ensures shorter { IfOk result (λ x. length x.1.now < length tokens.now) }
-    ensures gives { Gives (λ x. (view_multiplied x.0, kinds x.1.now)) result (multiplied loose (places total) (full_by levels (places total)) (kinds tokens.now)) }
+    ensures gives { Gives (λ x. (view_multiplied x.0, kinds x.1.now)) result
+        (multiplied loose (places total) (full_by levels (places total)) (kinds tokens.now)) }
     ensures whole { IfOk result (λ x. IsWholeMultiplied x.0) }
 {
     let at = place(total, tokens);

@@ -27,7 +27,8 @@ pub fn atom(
     requires small { total < 2 ^ 32 }
     requires closed { next holds_values (kinds tokens.now) ≡ false }
     ensures shorter { IfOk result (λ x. length x.1.now < length tokens.now) }
-    ensures gives { Gives (λ x. (view_operand x.0, kinds x.1.now)) result (operand loose (places total) no_value (kinds tokens.now)) }
+    ensures gives { Gives (λ x. (view_operand x.0, kinds x.1.now)) result
+        (operand loose (places total) no_value (kinds tokens.now)) }
     ensures whole { IfOk result (λ x. IsWholeOperand x.0) }
 {
     let at = place(total, tokens);
@@ -109,8 +110,10 @@ pub fn atom(
 
 /// An `if` of its parts.
 pub fn make_choice(at: u32, condition: Box<Full>, then_part: Box<Full>, else_part: Box<Full>) -> If
-    ensures made { view_if result ≡ an_if at (view_full condition.value) (view_full then_part.value) (view_full else_part.value) }
-    ensures whole { IsWholeFull condition.value → IsWholeFull then_part.value → IsWholeFull else_part.value → IsWholeIf result }
+    ensures made { view_if result
+        ≡ an_if at (view_full condition.value) (view_full then_part.value) (view_full else_part.value) }
+    ensures whole { IsWholeFull condition.value → IsWholeFull then_part.value → IsWholeFull else_part.value
+        → IsWholeIf result }
 {
     If {
         at,

@@ -28,7 +28,8 @@ pub fn choice(
     requires within { length tokens.now ≤ total }
     requires small { total < 2 ^ 32 }
     ensures shorter { IfOk result (λ x. length x.1.now < length tokens.now) }
-    ensures gives { Gives (λ x. (view_if x.0, kinds x.1.now)) result (choice (places total) (full_by levels (places total)) (kinds tokens.now)) }
+    ensures gives { Gives (λ x. (view_if x.0, kinds x.1.now)) result
+        (choice (places total) (full_by levels (places total)) (kinds tokens.now)) }
     ensures whole { IfOk result (λ x. IsWholeIf x.0) }
 {
     let at = place(total, tokens);
@@ -48,7 +49,8 @@ fn chosen(
     requires within { length tokens.now ≤ total }
     requires small { total < 2 ^ 32 }
     ensures shorter { IfOk result (λ x. length x.1.now < length tokens.now) }
-    ensures gives { Gives (λ x. (view_if x.0, kinds x.1.now)) result (chosen at (full_by levels (places total)) (kinds tokens.now)) }
+    ensures gives { Gives (λ x. (view_if x.0, kinds x.1.now)) result
+        (chosen at (full_by levels (places total)) (kinds tokens.now)) }
     ensures whole { IfOk result (λ x. IsWholeIf x.0) }
 {
     let (condition, rest) = full_box(alloc, total, levels, tokens)?;
@@ -67,7 +69,8 @@ fn branches(
     requires within { length tokens.now ≤ total }
     requires small { total < 2 ^ 32 }
     ensures shorter { IfOk result (λ x. length x.2.now < length tokens.now) }
-    ensures gives { Gives (λ x. (seen_branches (view_full x.0.value) (view_full x.1.value), kinds x.2.now)) result (branches (full_by levels (places total)) (kinds tokens.now)) }
+    ensures gives { Gives (λ x. (seen_branches (view_full x.0.value) (view_full x.1.value), kinds x.2.now)) result
+        (branches (full_by levels (places total)) (kinds tokens.now)) }
     ensures whole { IfOk result (λ x. IsWholeFull x.0.value × IsWholeFull x.1.value) }
 {
     let ((), rest) = token::expect(tokens, Class::Then)?;
@@ -87,7 +90,8 @@ fn otherwise(
     requires within { length tokens.now ≤ total }
     requires small { total < 2 ^ 32 }
     ensures shorter { IfOk result (λ x. length x.1.now < length tokens.now) }
-    ensures gives { Gives (λ x. (seen_otherwise (view_full x.0.value), kinds x.1.now)) result (otherwise (full_by levels (places total)) (kinds tokens.now)) }
+    ensures gives { Gives (λ x. (seen_otherwise (view_full x.0.value), kinds x.1.now)) result
+        (otherwise (full_by levels (places total)) (kinds tokens.now)) }
     ensures whole { IfOk result (λ x. IsWholeFull x.0.value) }
 {
     let ((), rest) = token::expect(tokens, Class::Else)?;

@@ -27,7 +27,8 @@ pub fn value(
     requires within { length tokens.now ≤ total }
     requires small { total < 2 ^ 32 }
     ensures shorter { IfOk result (λ x. length x.1.now < length tokens.now) }
-    ensures gives { Gives (λ x. (view_full x.0, kinds x.1.now)) result (read_value loose (places total) (kinds tokens.now)) }
+    ensures gives { Gives (λ x. (view_full x.0, kinds x.1.now)) result
+        (read_value loose (places total) (kinds tokens.now)) }
     ensures whole { IfOk result (λ x. IsWholeFull x.0) }
 {
     values::full_step(alloc, total, tokens.len(), loose, tokens)
@@ -50,7 +51,8 @@ pub fn call(alloc: Global, total: usize, tokens: &[Token]) -> Result<(Call, &[To
     requires within { length tokens.now ≤ total }
     requires small { total < 2 ^ 32 }
     ensures shorter { IfOk result (λ x. length x.1.now < length tokens.now) }
-    ensures gives { Gives (λ x. (view_call x.0, kinds x.1.now)) result (read_call (places total) (full_by (length tokens.now) (places total)) (kinds tokens.now)) }
+    ensures gives { Gives (λ x. (view_call x.0, kinds x.1.now)) result
+        (read_call (places total) (full_by (length tokens.now) (places total)) (kinds tokens.now)) }
     ensures whole { IfOk result (λ x. IsWholeCall x.0) }
 {
     arguments::call(alloc, total, tokens.len(), tokens)
@@ -61,7 +63,8 @@ pub fn choice(alloc: Global, total: usize, tokens: &[Token]) -> Result<(If, &[To
     requires within { length tokens.now ≤ total }
     requires small { total < 2 ^ 32 }
     ensures shorter { IfOk result (λ x. length x.1.now < length tokens.now) }
-    ensures gives { Gives (λ x. (view_if x.0, kinds x.1.now)) result (read_choice (places total) (full_by (length tokens.now) (places total)) (kinds tokens.now)) }
+    ensures gives { Gives (λ x. (view_if x.0, kinds x.1.now)) result
+        (read_choice (places total) (full_by (length tokens.now) (places total)) (kinds tokens.now)) }
     ensures whole { IfOk result (λ x. IsWholeIf x.0) }
 {
     conditionals::choice(alloc, total, tokens.len(), tokens)

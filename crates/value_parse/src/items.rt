@@ -14,7 +14,8 @@ pub fn keep<'a, T: Drop>(
     items: &mut Vec<T>,
     read: Result<(T, &'a [Token]), Fault>,
 ) -> Result<&'a [Token], Fault>
-    ensures kept { IfOk result (λ rest. IsOkAnd read.entry (λ x. (x.1.now ≡ rest.now) × (items.new.items ≡ items.old.items ++ x.0 ∷ []))) }
+    ensures kept { IfOk result (λ rest. IsOkAnd read.entry (λ x. (x.1.now ≡ rest.now)
+        × (items.new.items ≡ items.old.items ++ x.0 ∷ []))) }
     ensures fault { IfErr result (λ e. IsFaultOf read.entry e) }
 {
     items.reserve(1)?;

@@ -31,7 +31,8 @@ pub fn expr(
     requires within { length tokens.now ≤ total }
     requires small { total < 2 ^ 32 }
     ensures shorter { IfOk result (λ x. length x.1.now < length tokens.now) }
-    ensures gives { Gives (λ x. (view_expr x.0, kinds x.1.now)) result (expr loose (places total) (full_by levels (places total)) (kinds tokens.now)) }
+    ensures gives { Gives (λ x. (view_expr x.0, kinds x.1.now)) result
+        (expr loose (places total) (full_by levels (places total)) (kinds tokens.now)) }
     ensures whole { IfOk result (λ x. IsWholeExpr x.0) }
 {
     let (negated, inner) = token::perhaps(tokens, Class::Not);
@@ -66,10 +67,12 @@ pub fn expr_from<'a>(
     requires inside { length inner.now ≤ length tokens.now }
     requires lead { perhaps is_not (kinds tokens.now) ≡ Ok (negated, kinds inner.now) }
     requires shorter { IfOk read (λ x. length x.1.now < length inner.now) }
-    requires gives { Gives (λ x. (view_operand x.0, kinds x.1.now)) read (operand loose (places total) (full_by levels (places total)) (kinds inner.now)) }
+    requires gives { Gives (λ x. (view_operand x.0, kinds x.1.now)) read
+        (operand loose (places total) (full_by levels (places total)) (kinds inner.now)) }
     requires whole { IfOk read (λ x. IsWholeOperand x.0) }
     ensures shorter { IfOk result (λ x. length x.1.now < length tokens.now) }
-    ensures gives { Gives (λ x. (view_expr x.0, kinds x.1.now)) result (expr loose (places total) (full_by levels (places total)) (kinds tokens.now)) }
+    ensures gives { Gives (λ x. (view_expr x.0, kinds x.1.now)) result
+        (expr loose (places total) (full_by levels (places total)) (kinds tokens.now)) }
     ensures whole { IfOk result (λ x. IsWholeExpr x.0) }
 {
     let first = negation_of(alloc, total, levels, loose, negated, inner, read);
@@ -92,10 +95,12 @@ fn expr_of<'a>(
     requires within { length _tokens.now ≤ total }
     requires small { total < 2 ^ 32 }
     requires shorter { IfOk read (λ x. length x.1.now < length _tokens.now) }
-    requires gives { Gives (λ x. (view_and x.0, kinds x.1.now)) read (and_ loose (places total) (full_by levels (places total)) (kinds _tokens.now)) }
+    requires gives { Gives (λ x. (view_and x.0, kinds x.1.now)) read
+        (and_ loose (places total) (full_by levels (places total)) (kinds _tokens.now)) }
     requires whole { IfOk read (λ x. IsWholeAnd x.0) }
     ensures shorter { IfOk result (λ x. length x.1.now < length _tokens.now) }
-    ensures gives { Gives (λ x. (view_expr x.0, kinds x.1.now)) result (expr loose (places total) (full_by levels (places total)) (kinds _tokens.now)) }
+    ensures gives { Gives (λ x. (view_expr x.0, kinds x.1.now)) result
+        (expr loose (places total) (full_by levels (places total)) (kinds _tokens.now)) }
     ensures whole { IfOk result (λ x. IsWholeExpr x.0) }
 {
     let (first, rest) = read?;
@@ -115,7 +120,9 @@ fn ands(
     requires within { length tokens.now ≤ total }
     requires small { total < 2 ^ 32 }
     ensures shorter { IfOk result (λ x. length x.1.now ≤ length tokens.now) }
-    ensures gives { Gives (λ x. (listed (map view_and x.0.items), kinds x.1.now)) result (many (next is_or) (behind is_or (and_ loose (places total) (full_by levels (places total)))) (kinds tokens.now)) }
+    ensures gives { Gives (λ x. (listed (map view_and x.0.items), kinds x.1.now)) result
+        (many (next is_or) (behind is_or (and_ loose (places total) (full_by levels (places total))))
+        (kinds tokens.now)) }
     ensures whole { IfOk result (λ x. All IsWholeAnd x.0.items) }
 {
     let mut items = Vec::new(alloc);
@@ -139,7 +146,8 @@ fn or_and(
     requires within { length tokens.now ≤ total }
     requires small { total < 2 ^ 32 }
     ensures shorter { IfOk result (λ x. length x.1.now < length tokens.now) }
-    ensures gives { Gives (λ x. (view_and x.0, kinds x.1.now)) result (behind is_or (and_ loose (places total) (full_by levels (places total))) (kinds tokens.now)) }
+    ensures gives { Gives (λ x. (view_and x.0, kinds x.1.now)) result
+        (behind is_or (and_ loose (places total) (full_by levels (places total))) (kinds tokens.now)) }
     ensures whole { IfOk result (λ x. IsWholeAnd x.0) }
 {
     let ((), rest) = token::expect(tokens, Class::Or)?;
@@ -170,10 +178,12 @@ fn and_of<'a>(
     requires within { length _tokens.now ≤ total }
     requires small { total < 2 ^ 32 }
     requires shorter { IfOk read (λ x. length x.1.now < length _tokens.now) }
-    requires gives { Gives (λ x. (view_not x.0, kinds x.1.now)) read (not_ loose (places total) (full_by levels (places total)) (kinds _tokens.now)) }
+    requires gives { Gives (λ x. (view_not x.0, kinds x.1.now)) read
+        (not_ loose (places total) (full_by levels (places total)) (kinds _tokens.now)) }
     requires whole { IfOk read (λ x. IsWholeNot x.0) }
     ensures shorter { IfOk result (λ x. length x.1.now < length _tokens.now) }
-    ensures gives { Gives (λ x. (view_and x.0, kinds x.1.now)) result (and_ loose (places total) (full_by levels (places total)) (kinds _tokens.now)) }
+    ensures gives { Gives (λ x. (view_and x.0, kinds x.1.now)) result
+        (and_ loose (places total) (full_by levels (places total)) (kinds _tokens.now)) }
     ensures whole { IfOk result (λ x. IsWholeAnd x.0) }
 {
     let (first, rest) = read?;
@@ -193,7 +203,9 @@ fn nots(
     requires within { length tokens.now ≤ total }
     requires small { total < 2 ^ 32 }
     ensures shorter { IfOk result (λ x. length x.1.now ≤ length tokens.now) }
-    ensures gives { Gives (λ x. (listed (map view_not x.0.items), kinds x.1.now)) result (many (next is_and) (behind is_and (not_ loose (places total) (full_by levels (places total)))) (kinds tokens.now)) }
+    ensures gives { Gives (λ x. (listed (map view_not x.0.items), kinds x.1.now)) result
+        (many (next is_and) (behind is_and (not_ loose (places total) (full_by levels (places total))))
+        (kinds tokens.now)) }
     ensures whole { IfOk result (λ x. All IsWholeNot x.0.items) }
 {
     let mut items = Vec::new(alloc);
@@ -217,7 +229,8 @@ fn and_not(
     requires within { length tokens.now ≤ total }
     requires small { total < 2 ^ 32 }
     ensures shorter { IfOk result (λ x. length x.1.now < length tokens.now) }
-    ensures gives { Gives (λ x. (view_not x.0, kinds x.1.now)) result (behind is_and (not_ loose (places total) (full_by levels (places total))) (kinds tokens.now)) }
+    ensures gives { Gives (λ x. (view_not x.0, kinds x.1.now)) result
+        (behind is_and (not_ loose (places total) (full_by levels (places total))) (kinds tokens.now)) }
     ensures whole { IfOk result (λ x. IsWholeNot x.0) }
 {
     let ((), rest) = token::expect(tokens, Class::And)?;
@@ -246,7 +259,8 @@ fn not_term(
     requires within { length tokens.now ≤ total }
     requires small { total < 2 ^ 32 }
     ensures shorter { IfOk result (λ x. length x.1.now < length tokens.now) }
-    ensures gives { Gives (λ x. (view_not x.0, kinds x.1.now)) result (not_ loose (places total) (full_by levels (places total)) (kinds tokens.now)) }
+    ensures gives { Gives (λ x. (view_not x.0, kinds x.1.now)) result
+        (not_ loose (places total) (full_by levels (places total)) (kinds tokens.now)) }
     ensures whole { IfOk result (λ x. IsWholeNot x.0) }
 {
     let (negated, rest) = token::perhaps(tokens, Class::Not);
@@ -276,10 +290,12 @@ fn negation_of<'a>(
     requires within { length tokens.now ≤ total }
     requires small { total < 2 ^ 32 }
     requires shorter { IfOk read (λ x. length x.1.now < length tokens.now) }
-    requires gives { Gives (λ x. (view_operand x.0, kinds x.1.now)) read (operand loose (places total) (full_by levels (places total)) (kinds tokens.now)) }
+    requires gives { Gives (λ x. (view_operand x.0, kinds x.1.now)) read
+        (operand loose (places total) (full_by levels (places total)) (kinds tokens.now)) }
     requires whole { IfOk read (λ x. IsWholeOperand x.0) }
     ensures shorter { IfOk result (λ x. length x.1.now < length tokens.now) }
-    ensures gives { Gives (λ x. (view_not x.0, kinds x.1.now)) result (behind_not negated (compare loose (places total) (full_by levels (places total)) (kinds tokens.now))) }
+    ensures gives { Gives (λ x. (view_not x.0, kinds x.1.now)) result
+        (behind_not negated (compare loose (places total) (full_by levels (places total)) (kinds tokens.now))) }
     ensures whole { IfOk result (λ x. IsWholeNot x.0) }
 {
     let product = product_of(alloc, total, levels, loose, tokens, read);
@@ -297,7 +313,8 @@ fn not_of<'a>(
     read: Result<(Compare, &'a [Token]), Fault>,
 ) -> Result<(Not, &'a [Token]), Fault>
     ensures shorter { (n : ℕ) → IfOk read.entry (λ x. length x.1.now < n) → IfOk result (λ x. length x.1.now < n) }
-    ensures gives { (r : Read (Tree ACompare)) → Gives (λ x. (view_compare x.0, kinds x.1.now)) read.entry r → Gives (λ x. (view_not x.0, kinds x.1.now)) result (behind_not negated r) }
+    ensures gives { (r : Read (Tree ACompare)) → Gives (λ x. (view_compare x.0, kinds x.1.now)) read.entry r
+        → Gives (λ x. (view_not x.0, kinds x.1.now)) result (behind_not negated r) }
     ensures whole { IfOk read.entry (λ x. IsWholeCompare x.0) → IfOk result (λ x. IsWholeNot x.0) }
 {
     let (inner, rest) = read?;

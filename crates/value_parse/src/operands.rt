@@ -37,7 +37,8 @@ pub fn operand(
     requires within { length tokens.now ≤ total }
     requires small { total < 2 ^ 32 }
     ensures shorter { IfOk result (λ x. length x.1.now < length tokens.now) }
-    ensures gives { Gives (λ x. (view_operand x.0, kinds x.1.now)) result (operand loose (places total) (full_by levels (places total)) (kinds tokens.now)) }
+    ensures gives { Gives (λ x. (view_operand x.0, kinds x.1.now)) result
+        (operand loose (places total) (full_by levels (places total)) (kinds tokens.now)) }
     ensures whole { IfOk result (λ x. IsWholeOperand x.0) }
 {
     match tokens {
@@ -91,7 +92,8 @@ fn round(
     requires within { length tokens.now ≤ total }
     requires small { total < 2 ^ 32 }
     ensures shorter { IfOk result (λ x. length x.1.now < length tokens.now) }
-    ensures gives { Gives (λ x. (view_operand x.0, kinds x.1.now)) result (as_round at (closed is_comma is_close_round (full_by levels (places total)) (kinds tokens.now))) }
+    ensures gives { Gives (λ x. (view_operand x.0, kinds x.1.now)) result
+        (as_round at (closed is_comma is_close_round (full_by levels (places total)) (kinds tokens.now))) }
     ensures whole { IfOk result (λ x. IsWholeOperand x.0) }
 {
     let mut parts = Vec::new(alloc);
@@ -111,7 +113,8 @@ fn list(
     requires within { length tokens.now ≤ total }
     requires small { total < 2 ^ 32 }
     ensures shorter { IfOk result (λ x. length x.1.now < length tokens.now) }
-    ensures gives { Gives (λ x. (view_operand x.0, kinds x.1.now)) result (as_list at (closed is_comma is_close_square (full_by levels (places total)) (kinds tokens.now))) }
+    ensures gives { Gives (λ x. (view_operand x.0, kinds x.1.now)) result
+        (as_list at (closed is_comma is_close_square (full_by levels (places total)) (kinds tokens.now))) }
     ensures whole { IfOk result (λ x. IsWholeOperand x.0) }
 {
     let mut parts = Vec::new(alloc);
@@ -133,7 +136,8 @@ fn fulls<'a>(
     requires small { total < 2 ^ 32 }
     requires empty { parts.old.items ≡ [] }
     ensures shorter { IfOk result (λ rest. length rest.now < length tokens.now) }
-    ensures gives { Gives (λ rest. (listed (map view_full parts.new.items), kinds rest.now)) result (closed is_comma (is_in close) (full_by levels (places total)) (kinds tokens.now)) }
+    ensures gives { Gives (λ rest. (listed (map view_full parts.new.items), kinds rest.now)) result
+        (closed is_comma (is_in close) (full_by levels (places total)) (kinds tokens.now)) }
     ensures whole { IfOk result (λ _. All IsWholeFull parts.new.items) }
 {
     let (is_closed, after) = token::perhaps(tokens, close);
@@ -158,7 +162,8 @@ fn some_fulls<'a>(
     requires small { total < 2 ^ 32 }
     requires empty { parts.old.items ≡ [] }
     ensures shorter { IfOk result (λ rest. length rest.now < length tokens.now) }
-    ensures gives { Gives (λ rest. (listed (map view_full parts.new.items), kinds rest.now)) result (chained is_comma (full_by levels (places total)) (kinds tokens.now)) }
+    ensures gives { Gives (λ rest. (listed (map view_full parts.new.items), kinds rest.now)) result
+        (chained is_comma (full_by levels (places total)) (kinds tokens.now)) }
     ensures whole { IfOk result (λ _. All IsWholeFull parts.new.items) }
 {
     let mut rest = keep(parts, full(alloc, total, levels, tokens))?;
@@ -180,7 +185,8 @@ fn comma_full(
     requires within { length tokens.now ≤ total }
     requires small { total < 2 ^ 32 }
     ensures shorter { IfOk result (λ x. length x.1.now < length tokens.now) }
-    ensures gives { Gives (λ x. (view_full x.0, kinds x.1.now)) result (behind is_comma (full_by levels (places total)) (kinds tokens.now)) }
+    ensures gives { Gives (λ x. (view_full x.0, kinds x.1.now)) result
+        (behind is_comma (full_by levels (places total)) (kinds tokens.now)) }
     ensures whole { IfOk result (λ x. IsWholeFull x.0) }
 {
     let ((), rest) = token::expect(tokens, Class::Comma)?;
@@ -196,7 +202,9 @@ fn round_of<'a>(
     read: Result<&'a [Token], Fault>,
 ) -> Result<(tree::Operand, &'a [Token]), Fault>
     ensures shorter { (n : ℕ) → IfOk read.entry (λ rest. length rest.now < n) → IfOk result (λ x. length x.1.now < n) }
-    ensures gives { (r : Read (Tree (Many AFull))) → Gives (λ rest. (listed (map view_full parts.items), kinds rest.now)) read.entry r → Gives (λ x. (view_operand x.0, kinds x.1.now)) result (as_round at r) }
+    ensures gives { (r : Read (Tree (Many AFull)))
+        → Gives (λ rest. (listed (map view_full parts.items), kinds rest.now)) read.entry r
+        → Gives (λ x. (view_operand x.0, kinds x.1.now)) result (as_round at r) }
     ensures whole { IfOk read.entry (λ _. All IsWholeFull parts.items) → IfOk result (λ x. IsWholeOperand x.0) }
 {
     let rest = read?;
@@ -211,7 +219,9 @@ fn list_of<'a>(
     read: Result<&'a [Token], Fault>,
 ) -> Result<(tree::Operand, &'a [Token]), Fault>
     ensures shorter { (n : ℕ) → IfOk read.entry (λ rest. length rest.now < n) → IfOk result (λ x. length x.1.now < n) }
-    ensures gives { (r : Read (Tree (Many AFull))) → Gives (λ rest. (listed (map view_full parts.items), kinds rest.now)) read.entry r → Gives (λ x. (view_operand x.0, kinds x.1.now)) result (as_list at r) }
+    ensures gives { (r : Read (Tree (Many AFull)))
+        → Gives (λ rest. (listed (map view_full parts.items), kinds rest.now)) read.entry r
+        → Gives (λ x. (view_operand x.0, kinds x.1.now)) result (as_list at r) }
     ensures whole { IfOk read.entry (λ _. All IsWholeFull parts.items) → IfOk result (λ x. IsWholeOperand x.0) }
 {
     let rest = read?;

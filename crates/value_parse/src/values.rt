@@ -37,7 +37,8 @@ pub fn full(
     requires within { length tokens.now ≤ total }
     requires small { total < 2 ^ 32 }
     ensures shorter { IfOk result (λ x. length x.1.now < length tokens.now) }
-    ensures gives { Gives (λ x. (view_full x.0, kinds x.1.now)) result (full_by levels (places total) (kinds tokens.now)) }
+    ensures gives { Gives (λ x. (view_full x.0, kinds x.1.now)) result
+        (full_by levels (places total) (kinds tokens.now)) }
     ensures whole { IfOk result (λ x. IsWholeFull x.0) }
 {
     if levels == 0 {
@@ -62,7 +63,8 @@ pub fn full_step(
     requires within { length tokens.now ≤ total }
     requires small { total < 2 ^ 32 }
     ensures shorter { IfOk result (λ x. length x.1.now < length tokens.now) }
-    ensures gives { Gives (λ x. (view_full x.0, kinds x.1.now)) result (full_step loose (places total) (full_by levels (places total)) (kinds tokens.now)) }
+    ensures gives { Gives (λ x. (view_full x.0, kinds x.1.now)) result
+        (full_step loose (places total) (full_by levels (places total)) (kinds tokens.now)) }
     ensures whole { IfOk result (λ x. IsWholeFull x.0) }
 {
     match tokens {
@@ -92,7 +94,8 @@ pub fn full_box(
     requires within { length tokens.now ≤ total }
     requires small { total < 2 ^ 32 }
     ensures shorter { IfOk result (λ x. length x.1.now < length tokens.now) }
-    ensures gives { Gives (λ x. (view_full x.0.value, kinds x.1.now)) result (full_by levels (places total) (kinds tokens.now)) }
+    ensures gives { Gives (λ x. (view_full x.0.value, kinds x.1.now)) result
+        (full_by levels (places total) (kinds tokens.now)) }
     ensures whole { IfOk result (λ x. IsWholeFull x.0.value) }
 {
     boxed(alloc, full(alloc, total, levels, tokens))
@@ -110,7 +113,8 @@ fn plain(
     requires within { length tokens.now ≤ total }
     requires small { total < 2 ^ 32 }
     ensures shorter { IfOk result (λ x. length x.1.now < length tokens.now) }
-    ensures gives { Gives (λ x. (view_full x.0, kinds x.1.now)) result (plain loose (places total) (full_by levels (places total)) (kinds tokens.now)) }
+    ensures gives { Gives (λ x. (view_full x.0, kinds x.1.now)) result
+        (plain loose (places total) (full_by levels (places total)) (kinds tokens.now)) }
     ensures whole { IfOk result (λ x. IsWholeFull x.0) }
 {
     let (negated, inner) = token::perhaps(tokens, Class::Not);
@@ -145,10 +149,12 @@ fn plain_of<'a>(
     requires inside { length inner.now ≤ length tokens.now }
     requires lead { perhaps is_not (kinds tokens.now) ≡ Ok (negated, kinds inner.now) }
     requires shorter { IfOk read (λ x. length x.1.now < length inner.now) }
-    requires gives { Gives (λ x. (view_operand x.0, kinds x.1.now)) read (operand loose (places total) (full_by levels (places total)) (kinds inner.now)) }
+    requires gives { Gives (λ x. (view_operand x.0, kinds x.1.now)) read
+        (operand loose (places total) (full_by levels (places total)) (kinds inner.now)) }
     requires whole { IfOk read (λ x. IsWholeOperand x.0) }
     ensures shorter { IfOk result (λ x. length x.1.now < length tokens.now) }
-    ensures gives { Gives (λ x. (view_full x.0, kinds x.1.now)) result (plain loose (places total) (full_by levels (places total)) (kinds tokens.now)) }
+    ensures gives { Gives (λ x. (view_full x.0, kinds x.1.now)) result
+        (plain loose (places total) (full_by levels (places total)) (kinds tokens.now)) }
     ensures whole { IfOk result (λ x. IsWholeFull x.0) }
 {
     let (operand, rest) = read?;
@@ -190,7 +196,8 @@ pub fn lone(alloc: Global, negated: bool, operand: Operand) -> Full
 #[inline(never)]
 pub fn in_full<'a>(read: Result<(Expr, &'a [Token]), Fault>) -> Result<(Full, &'a [Token]), Fault>
     ensures shorter { (n : ℕ) → IfOk read.entry (λ x. length x.1.now < n) → IfOk result (λ x. length x.1.now < n) }
-    ensures gives { (r : Read (Tree AnExpr)) → Gives (λ x. (view_expr x.0, kinds x.1.now)) read.entry r → Gives (λ x. (view_full x.0, kinds x.1.now)) result (as_plain r) }
+    ensures gives { (r : Read (Tree AnExpr)) → Gives (λ x. (view_expr x.0, kinds x.1.now)) read.entry r
+        → Gives (λ x. (view_full x.0, kinds x.1.now)) result (as_plain r) }
     ensures whole { IfOk read.entry (λ x. IsWholeExpr x.0) → IfOk result (λ x. IsWholeFull x.0) }
 {
     let (expr, rest) = read?;
@@ -204,7 +211,8 @@ fn boxed<'a>(
     read: Result<(Full, &'a [Token]), Fault>,
 ) -> Result<(Box<Full>, &'a [Token]), Fault>
     ensures shorter { (n : ℕ) → IfOk read.entry (λ x. length x.1.now < n) → IfOk result (λ x. length x.1.now < n) }
-    ensures gives { (r : Read (Tree AFull)) → Gives (λ x. (view_full x.0, kinds x.1.now)) read.entry r → Gives (λ x. (view_full x.0.value, kinds x.1.now)) result r }
+    ensures gives { (r : Read (Tree AFull)) → Gives (λ x. (view_full x.0, kinds x.1.now)) read.entry r
+        → Gives (λ x. (view_full x.0.value, kinds x.1.now)) result r }
     ensures whole { IfOk read.entry (λ x. IsWholeFull x.0) → IfOk result (λ x. IsWholeFull x.0.value) }
 {
     let (value, rest) = read?;

@@ -7,7 +7,7 @@ use Rattle.byteorder.specs.Endian.{little_number}
 use Rattle.byteorder.specs.Numbers.{little_from-bytes}
 use Rattle.liq_base.specs.Kinds.{channels_of}
 use Rattle.liq_base.specs.declared.memory.Kind.{Kind}
-use Rattle.wav_io.specs.Header.{block_of, block_size, header_at, header_bytes, padded, four_bytes, two_bytes, wide_block, wide_header_bytes}
+use Rattle.wav_io.specs.Header.{block_align, block_size, header_at, header_bytes, padded, four_bytes, two_bytes, wide_block, wide_header_bytes}
 
 -- the 44 bytes, by their fields
 unfoldable pub fields_of : ℕ → ℕ → ℕ → ℕ → ℕ → ℕ → List ℕ
@@ -28,8 +28,8 @@ chosen false x y h = absurd (cc)
 -- a header is the bytes of its fields, and its sizes fit
 pub record IsHeader (wide : Bool) (kind : Kind) (rate samples : ℕ) (header : List ℕ) : Type 0 where
   pub whole : ℕ
-  pub is : header ≡ fields_of whole (channels_of kind) rate (block_of wide kind) (bits_of wide) (samples * block_of wide kind)
-  pub fits : samples * block_of wide kind < 2 ^ 32
+  pub is : header ≡ fields_of whole (channels_of kind) rate (block_align wide kind) (bits_of wide) (samples * block_align wide kind)
+  pub fits : samples * block_align wide kind < 2 ^ 32
 
 narrow_fields : (kind : Kind) (rate samples : ℕ)
     → header_bytes kind rate samples ≡ fields_of (36 + samples * block_size kind) (channels_of kind) rate (block_size kind) 16 (samples * block_size kind)

@@ -6,9 +6,9 @@ use Rattle.std.proofs.lemmas.Bool.{and_parts, ltb-true}
 use Rattle.std.proofs.lemmas.Bool.Decides.{nat_tests}
 use Rattle.std.proofs.lemmas.List.{length-take}
 use Rattle.liq_base.specs.declared.memory.Kind.{Kind}
-use Rattle.wav_io.specs.Chunks.{AreChunks, behind, before_named, chunks_of, first_named}
-use Rattle.wav_io.specs.Header.{block_of}
-use Rattle.wav_io.specs.Reading.{AreBlocks, Wav, body_of, checked_format, chunk_step, data_step, field, format_chunk, format_in, format_step, is_format_body, is_pcm, is_riff, is_width, kind_of, read_of, whole_blocks}
+use Rattle.wav_io.specs.Chunks.{AreChunks, place_behind, before_named, chunks_of, first_named}
+use Rattle.wav_io.specs.Header.{block_align}
+use Rattle.wav_io.specs.Reading.{AreBlocks, Wav, body_of, checked_format, chunk_step, data_step, field, format_chunk, format_in, format_step, is_format_body, is_pcm, is_riff, is_width, kind_by_channels, read_of, whole_blocks}
 use Rattle.wav_io.specs.declared.chunks.Chunk.{Chunk}
 use Rattle.wav_io.specs.declared.format.Format.{Format}
 use Rattle.wav_io.specs.declared.fault.WavFault.{WavFault}
@@ -44,9 +44,9 @@ HasBlocks (Err fault) = ⊥
 some_rate : (wide : Bool) (kind : Option Kind) (rate block : ℕ) (format : Format) → checked_format wide kind rate block ≡ Ok format → 0 < format.rate
 some_rate wide None rate block format is = absurd (cc)
 some_rate wide (Some kind) rate block format is =
-    let way = first_way (nat_lt 0 rate && nat_eq block (block_of wide kind)) _ _ format is in
+    let way = first_way (nat_lt 0 rate && nat_eq block (block_align wide kind)) _ _ format is in
     let same : rate ≡ format.rate = ap rate_in way.1 in
-    let some : 0 < rate = ltb-true 0 rate (and_parts (nat_lt 0 rate) (nat_eq block (block_of wide kind)) way.0).0 in
+    let some : 0 < rate = ltb-true 0 rate (and_parts (nat_lt 0 rate) (nat_eq block (block_align wide kind)) way.0).0 in
     omega arith
 
 long_body : (size : ℕ) → (nat_eq size 16 || nat_eq size 18 || nat_eq size 40) ≡ true → 16 ≤ size
@@ -61,7 +61,7 @@ known_format body size format is =
     let sized = first_way (is_format_body body size) _ _ format is in
     let pcm = first_way (is_width (field body 14 2) && is_pcm body) _ _ format sized.1 in
     record {
-      rate = some_rate (nat_eq (field body 14 2) 24) (kind_of (field body 2 2)) (field body 4 4) (field body 12 2) format pcm.1;
+      rate = some_rate (nat_eq (field body 14 2) 24) (kind_by_channels (field body 2 2)) (field body 4 4) (field body 12 2) format pcm.1;
       long = long_body size (and_parts (nat_eq size 16 || nat_eq size 18 || nat_eq size 40) (nat_eq (length body) size) sized.0).0;
     }
 
@@ -70,9 +70,9 @@ named_there : (bytes : List ℕ) (place : ℕ) (name : List ℕ) (chunks : List 
     → (place ≤ found.place) × (found.place + 8 ≤ length bytes)
 named_there bytes place name [] found are is = absurd (cc)
 named_there bytes place name (chunk ∷ chunks) found are is =
-    at_test (bytes_eq chunk.name name) is (λ later. named_there bytes (behind chunk) name chunks found are.2 later) where
+    at_test (bytes_eq chunk.name name) is (λ later. named_there bytes (place_behind chunk) name chunks found are.2 later) where
       at_test : (b : Bool) → cond b (Some chunk) (first_named name chunks) ≡ Some found
-          → (first_named name chunks ≡ Some found → (behind chunk ≤ found.place) × (found.place + 8 ≤ length bytes))
+          → (first_named name chunks ≡ Some found → (place_behind chunk ≤ found.place) × (found.place + 8 ≤ length bytes))
           → (place ≤ found.place) × (found.place + 8 ≤ length bytes)
       at_test true here later =
           let same : chunk ≡ found = cc in
@@ -90,15 +90,15 @@ data_behind : (bytes : List ℕ) (place : ℕ) (chunks : List Chunk) (format sam
     → first_named (codes "data") chunks ≡ Some samples → place + 8 + format.size ≤ samples.place
 data_behind bytes place [] format samples are is held = absurd (cc)
 data_behind bytes place (chunk ∷ chunks) format samples are is held =
-    at_data (bytes_eq chunk.name (codes "data")) is held (λ later there. data_behind bytes (behind chunk) chunks format samples are.2 later there) where
+    at_data (bytes_eq chunk.name (codes "data")) is held (λ later there. data_behind bytes (place_behind chunk) chunks format samples are.2 later there) where
       at_format : (b : Bool) → cond b (Some chunk) (format_chunk chunks) ≡ Some format → first_named (codes "data") chunks ≡ Some samples
-          → (format_chunk chunks ≡ Some format → first_named (codes "data") chunks ≡ Some samples → behind chunk + 8 + format.size ≤ samples.place)
+          → (format_chunk chunks ≡ Some format → first_named (codes "data") chunks ≡ Some samples → place_behind chunk + 8 + format.size ≤ samples.place)
           → place + 8 + format.size ≤ samples.place
       at_format true here there later =
           let same : chunk ≡ format = cc in
           let placed : chunk.place ≡ place = ap (λ (c : Chunk). c.place) are.1 in
           let size : chunk.size ≡ format.size = ap (λ (c : Chunk). c.size) same in
-          let rest = named_there bytes (behind chunk) (codes "data") chunks samples are.2 there in
+          let rest = named_there bytes (place_behind chunk) (codes "data") chunks samples are.2 there in
           omega (arith, rest.0, placed, size)
       at_format false next there later =
           let placed : chunk.place ≡ place = ap (λ (c : Chunk). c.place) are.1 in
@@ -107,7 +107,7 @@ data_behind bytes place (chunk ∷ chunks) format samples are is held =
 
       at_data : (b : Bool) → first_named (codes "fmt ") (cond b [] (chunk ∷ before_named (codes "data") chunks)) ≡ Some format
           → cond b (Some chunk) (first_named (codes "data") chunks) ≡ Some samples
-          → (format_chunk chunks ≡ Some format → first_named (codes "data") chunks ≡ Some samples → behind chunk + 8 + format.size ≤ samples.place)
+          → (format_chunk chunks ≡ Some format → first_named (codes "data") chunks ≡ Some samples → place_behind chunk + 8 + format.size ≤ samples.place)
           → place + 8 + format.size ≤ samples.place
       at_data true here there later = absurd (cc)
       at_data false here there later = at_format (bytes_eq chunk.name (codes "fmt ")) here there later

@@ -7,22 +7,28 @@ use Rattle.wav_io.specs.declared.chunks.Chunk.{Chunk}
 
 -- the chunk whose first byte stands at a place
 abbrev pub chunk_at : List ℕ → ℕ → Chunk
-chunk_at bytes place = record { name = take 4 (drop place bytes); size = little_number 4 (drop (place + 4) bytes); place = place }
+chunk_at bytes place = record {
+  name = take 4 (drop place bytes);
+  size = little_number 4 (drop (place + 4) bytes);
+  place = place;
+}
 
 -- the place behind a chunk and its pad byte
-abbrev pub behind : Chunk → ℕ
-behind chunk = chunk.place + 8 + chunk.size + chunk.size % 2
+abbrev pub place_behind : Chunk → ℕ
+place_behind chunk = chunk.place + 8 + chunk.size + chunk.size % 2
 
 -- these are the chunks from a place on: as long as eight bytes stand there, a chunk and those behind it
 abbrev pub AreChunks : List ℕ → ℕ → List Chunk → Type 0
 AreChunks bytes place [] = length bytes < place + 8
-AreChunks bytes place (chunk ∷ chunks) = (place + 8 ≤ length bytes) × (chunk ≡ chunk_at bytes place) × AreChunks bytes (behind chunk) chunks
+AreChunks bytes place (chunk ∷ chunks) = (place + 8 ≤ length bytes) × (chunk ≡ chunk_at bytes place)
+    × AreChunks bytes (place_behind chunk) chunks
 
 -- the chunks from a place on, at most so many
 unfoldable pub chunks_from : ℕ → List ℕ → ℕ → List Chunk
 chunks_from zero bytes place = []
 chunks_from (suc most) bytes place =
-    if nat_le (place + 8) (length bytes) then chunk_at bytes place ∷ chunks_from most bytes (behind (chunk_at bytes place)) else []
+    if nat_le (place + 8) (length bytes) then chunk_at bytes place
+    ∷ chunks_from most bytes (place_behind (chunk_at bytes place)) else []
 
 -- the chunks from a place on: there are fewer than bytes
 abbrev pub chunks_behind : List ℕ → ℕ → List Chunk

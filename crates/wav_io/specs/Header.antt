@@ -12,8 +12,8 @@ block_size kind = 2 * channels_of kind
 abbrev pub wide_block : Kind → ℕ
 wide_block kind = 3 * channels_of kind
 
-abbrev pub block_of : Bool → Kind → ℕ
-block_of wide kind = if wide then wide_block kind else block_size kind
+abbrev pub block_align : Bool → Kind → ℕ
+block_align wide kind = if wide then wide_block kind else block_size kind
 
 -- a number in four bytes and in two, the lowest byte first
 abbrev pub four_bytes : ℕ → List ℕ
@@ -50,7 +50,8 @@ wide_header_bytes kind rate samples =
 -- the wide header, where its sizes fit in four bytes
 abbrev pub wide_header_of : Kind → ℕ → ℕ → Option (List ℕ)
 wide_header_of kind rate samples =
-    if nat_lt (36 + padded (samples * wide_block kind)) (2 ^ 32) then Some (wide_header_bytes kind rate samples) else None
+    if nat_lt (36 + padded (samples * wide_block kind)) (2 ^ 32) then Some (wide_header_bytes kind rate samples)
+    else None
 
 -- the header of a file of either width
 abbrev pub header_at : Bool → Kind → ℕ → ℕ → Option (List ℕ)

@@ -4,7 +4,7 @@ use Rattle.std.specs.Str.{bytes_eq}
 use Rattle.byteorder.specs.Endian.{little_number}
 use Rattle.liq_base.specs.declared.memory.Kind.{Kind}
 use Rattle.liq_base.specs.declared.memory.Kind.TheVariants.{Mono, Stereo}
-use Rattle.wav_io.specs.Header.{block_of}
+use Rattle.wav_io.specs.Header.{block_align}
 use Rattle.wav_io.specs.Chunks.{chunks_of, first_named, before_named}
 use Rattle.wav_io.specs.declared.chunks.Chunk.{Chunk}
 use Rattle.wav_io.specs.declared.format.Format.{Format}
@@ -20,7 +20,8 @@ pub record Wav : Type 0 where
 
 -- `RIFF`, four bytes that are not looked at, and `WAVE`
 abbrev pub is_riff : List ℕ → Bool
-is_riff bytes = nat_le 12 (length bytes) && bytes_eq (take 4 bytes) (codes "RIFF") && bytes_eq (take 4 (drop 8 bytes)) (codes "WAVE")
+is_riff bytes = nat_le 12 (length bytes) && bytes_eq (take 4 bytes) (codes "RIFF")
+    && bytes_eq (take 4 (drop 8 bytes)) (codes "WAVE")
 
 -- the first `fmt ` chunk, unless a `data` stands before it
 abbrev pub format_chunk : List Chunk → Option Chunk
@@ -40,7 +41,8 @@ field body place width = little_number width (drop place body)
 
 -- the last 16 of 40 bytes, where they say that the samples are plain numbers
 abbrev pub pcm_guid : List ℕ
-pcm_guid = 0x01 ∷ 0x00 ∷ 0x00 ∷ 0x00 ∷ 0x00 ∷ 0x00 ∷ 0x10 ∷ 0x00 ∷ 0x80 ∷ 0x00 ∷ 0x00 ∷ 0xaa ∷ 0x00 ∷ 0x38 ∷ 0x9b ∷ 0x71 ∷ []
+pcm_guid = 0x01 ∷ 0x00 ∷ 0x00 ∷ 0x00 ∷ 0x00 ∷ 0x00 ∷ 0x10 ∷ 0x00 ∷ 0x80 ∷ 0x00 ∷ 0x00 ∷ 0xaa ∷ 0x00 ∷ 0x38 ∷ 0x9b ∷ 0x71
+    ∷ []
 
 abbrev pub has_pcm_guid : List ℕ → Bool
 has_pcm_guid body = nat_eq (length body) 40 && bytes_eq (drop 24 body) pcm_guid
@@ -50,8 +52,8 @@ abbrev pub is_pcm : List ℕ → Bool
 is_pcm body = nat_eq (field body 0 2) 1 || (nat_eq (field body 0 2) 0xFFFE && has_pcm_guid body)
 
 -- one channel or two
-abbrev pub kind_of : ℕ → Option Kind
-kind_of channels = if nat_eq channels 1 then Some Mono else if nat_eq channels 2 then Some Stereo else None
+abbrev pub kind_by_channels : ℕ → Option Kind
+kind_by_channels channels = if nat_eq channels 1 then Some Mono else if nat_eq channels 2 then Some Stereo else None
 
 -- 16 bits or 24
 abbrev pub is_width : ℕ → Bool
@@ -61,29 +63,40 @@ is_width bits = nat_eq bits 16 || nat_eq bits 24
 abbrev pub checked_format : Bool → Option Kind → ℕ → ℕ → Result Format WavFault
 checked_format wide None rate block = Err BadFormat
 checked_format wide (Some kind) rate block =
-    if nat_lt 0 rate && nat_eq block (block_of wide kind) then Ok (record { kind = kind; rate = rate; wide = wide }) else Err BadFormat
+    if nat_lt 0 rate && nat_eq block (block_align wide kind) then Ok (record {
+      kind = kind;
+      rate = rate;
+      wide = wide;
+    }) else Err BadFormat
 
 -- what the body of a `fmt ` chunk of this size says
 abbrev pub format_in : List ℕ → ℕ → Result Format WavFault
 format_in body size =
     if is_format_body body size then
-    if is_width (field body 14 2) && is_pcm body then checked_format (nat_eq (field body 14 2) 24) (kind_of (field body 2 2)) (field body 4 4) (field body 12 2)
+    if is_width (field body 14 2) && is_pcm body
+    then checked_format (nat_eq (field body 14 2) 24) (kind_by_channels (field body 2 2)) (field body 4 4)
+    (field body 12 2)
     else Err NotPcm
     else Err BadFormat
 
 -- the whole blocks at the front of a body
 abbrev pub whole_blocks : Bool → Kind → List ℕ → List ℕ
-whole_blocks wide kind body = take (length body / block_of wide kind * block_of wide kind) body
+whole_blocks wide kind body = take (length body / block_align wide kind * block_align wide kind) body
 
 -- whole blocks, and at least one
 pub record AreBlocks (wide : Bool) (kind : Kind) (body : List ℕ) : Type 0 where
   pub count : ℕ
   pub some : 0 < count
-  pub whole : length body ≡ count * block_of wide kind
+  pub whole : length body ≡ count * block_align wide kind
 
 -- the whole blocks, of which there is at least one
 abbrev pub with_blocks : Format → List ℕ → Result Wav WavFault
-with_blocks format blocks = if nat_eq (length blocks) 0 then Err Empty else Ok (record { kind = format.kind; rate = format.rate; wide = format.wide; body = blocks })
+with_blocks format blocks = if nat_eq (length blocks) 0 then Err Empty else Ok (record {
+  kind = format.kind;
+  rate = format.rate;
+  wide = format.wide;
+  body = blocks;
+})
 
 abbrev pub data_step : List ℕ → Format → Option Chunk → Result Wav WavFault
 data_step bytes format None = Err NoData
@@ -99,4 +112,6 @@ chunk_step bytes (Some chunk) samples = format_step bytes (format_in (body_of by
 
 -- the file, or the first fault that it has
 abbrev pub read_of : List ℕ → Result Wav WavFault
-read_of bytes = if is_riff bytes then chunk_step bytes (format_chunk (chunks_of bytes)) (first_named (codes "data") (chunks_of bytes)) else Err NotRiff
+read_of bytes = if is_riff bytes
+    then chunk_step bytes (format_chunk (chunks_of bytes)) (first_named (codes "data") (chunks_of bytes))
+    else Err NotRiff

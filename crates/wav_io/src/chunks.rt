@@ -1,7 +1,7 @@
 // The chunks of a RIFF file.
 ghost use Rattle.std.specs.Option.{SomeIff};
 ghost use Rattle.std.specs.Prelude.{◌≡◌, ◌≤◌, ◌<◌, ◌+◌, ◌^◌, length, codes, IfSome};
-ghost use Rattle.wav_io.specs.Chunks.{chunk_at, chunks_of, first_named, behind};
+ghost use Rattle.wav_io.specs.Chunks.{chunk_at, chunks_of, first_named, place_behind};
 ghost use Rattle.wav_io.specs.Reading.{format_chunk, body_of};
 
 use byteorder::{ByteOrder, LittleEndian};
@@ -84,7 +84,7 @@ fn read_chunk(bytes: &[u8], place: usize) -> Option<Chunk>
 /// The place behind a chunk, its body and the pad byte of an odd size.
 fn next_place(chunk: &Chunk) -> usize
     requires { chunk.now.place < 2 ^ 63 }
-    ensures behind { result ≡ behind chunk.now }
+    ensures behind { result ≡ place_behind chunk.now }
     ensures near { result < chunk.now.place + 2 ^ 33 }
 {
     let size = chunk.size as usize;

@@ -1,8 +1,8 @@
 // Why a file holds no sound that can be played.
 use thiserror::Error;
 
-/// Why bytes are not read as a WAV file of 16-bit or 24-bit samples. The faults are numbered as they stand. `docs/formats.md` says
-/// when each comes.
+/// Why bytes are not read as a WAV file of 16-bit or 24-bit samples. The faults are numbered as they stand.
+/// `docs/formats.md` says when each comes.
 #[derive(Clone, Copy, Debug, Error, PartialEq, Eq)]
 pub enum WavFault {
     /// Fault 1: fewer than 12 bytes, or no `RIFF` or `WAVE` at their places.

@@ -2,7 +2,7 @@
 ghost use Rattle.std.specs.Option.{SomeIff};
 ghost use Rattle.std.specs.Prelude.{◌≡◌, ◌≤◌, ◌<◌, ◌+◌, ◌*◌, ◌^◌, ◌++◌, codes};
 ghost use Rattle.liq_base.specs.Kinds.{channels_of};
-ghost use Rattle.wav_io.specs.Header.{header_of, wide_header_of, block_of, block_size, wide_block, padded, four_bytes, two_bytes};
+ghost use Rattle.wav_io.specs.Header.{header_of, wide_header_of, block_align, block_size, wide_block, padded, four_bytes, two_bytes};
 
 use byteorder::{ByteOrder, LittleEndian};
 use liq_base::Kind;
@@ -37,7 +37,7 @@ pub fn header_wide(kind: Kind, rate: u32, samples: u64) -> Option<[u8; 44]>
 
 /// The bytes of a block, which is one sample of each channel.
 pub(crate) fn block_len(wide: bool, kind: Kind) -> u16
-    ensures { result ≡ block_of wide kind }
+    ensures { result ≡ block_align wide kind }
 {
     if wide {
         3 * kind.channels()
@@ -64,8 +64,8 @@ fn wide_len(kind: Kind, samples: u64) -> Option<u32>
     u32::try_from(size).ok()
 }
 
-/// The header of so many channels, samples a second, bytes of a block, bits of a sample, bytes behind the file's size, and
-/// bytes of samples.
+/// The header of so many channels, samples a second, bytes of a block, bits of a sample, bytes behind the file's size,
+/// and bytes of samples.
 fn field_bytes(channels: u16, rate: u32, block: u16, bits: u16, whole: u32, size: u32) -> [u8; 44]
     requires block { block ≤ 6 }
     requires rate { rate ≤ MAX_RATE }

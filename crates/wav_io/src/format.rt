@@ -1,6 +1,6 @@
 // The body of a `fmt ` chunk.
 ghost use Rattle.std.specs.Prelude.{◌≡◌, ◌≤◌, length, IsTrue};
-ghost use Rattle.wav_io.specs.Reading.{format_in, is_pcm, has_pcm_guid, is_width, kind_of, checked_format, is_format_body};
+ghost use Rattle.wav_io.specs.Reading.{format_in, is_pcm, has_pcm_guid, is_width, kind_by_channels, checked_format, is_format_body};
 
 use crate::WavFault;
 use crate::fields::block_len;
@@ -84,7 +84,7 @@ fn has_guid(body: &[u8]) -> bool
 
 /// The kind of so many channels, of which there are one or two.
 fn kind_from(channels: u16) -> Option<Kind>
-    ensures { result ≡ kind_of channels }
+    ensures { result ≡ kind_by_channels channels }
 {
     match channels {
         1 => Some(Kind::Mono),

@@ -23,10 +23,15 @@ pub struct Wav<'a> {
     pub body: &'a [u8],
 }
 
-/// The kind, the rate in samples a second, the width of samples and the whole blocks of a WAV file, or the first fault of
-/// the table in `docs/formats.md`. It takes no memory, and what lies behind the first `data` chunk is not looked at.
+/// The kind, the rate in samples a second, the width of samples and the whole blocks of a WAV file, or the first fault
+/// of the table in `docs/formats.md`. It takes no memory, and what lies behind the first `data` chunk is not looked at.
 pub fn read_wav(bytes: &[u8]) -> Result<Wav<'_>, WavFault>
-    ensures read { MatchResult result (λ wav. read_of bytes.now ≡ Ok (record { kind = wav.kind; rate = wav.rate; wide = wav.wide; body = wav.body.now }))
+    ensures read { MatchResult result (λ wav. read_of bytes.now ≡ Ok (record {
+      kind = wav.kind;
+      rate = wav.rate;
+      wide = wav.wide;
+      body = wav.body.now;
+    }))
         (λ fault. read_of bytes.now ≡ Err fault) }
     ensures blocks { IfOk result (λ wav. AreBlocks wav.wide wav.kind wav.body.now) }
     ensures rate { IfOk result (λ wav. 0 < wav.rate) }

@@ -11,7 +11,10 @@ is_whole (span ∷ spans) = nat_eq span.from 0 && nat_le 604800 span.to
 
 -- a span that begins before an end, of the day or of the week, as far as that end, by its first and its last second
 abbrev pub round_before : (end : ℕ) → Span → List Round
-round_before end span = if nat_lt span.from end then record { from = span.from; last = min span.to end - 1 } ∷ [] else []
+round_before end span = if nat_lt span.from end then record {
+  from = span.from;
+  last = min span.to end - 1;
+} ∷ [] else []
 
 -- the spans that do
 abbrev pub rounds_before : (end : ℕ) → List Span → List Round
@@ -29,7 +32,8 @@ last_of rounds = get_or rounds (length rounds - 1) no_round
 
 -- there are two at least, the first one begins with the week or the day, and the last one goes as far as its end
 abbrev pub goes_round : (end : ℕ) → List Round → Bool
-goes_round end rounds = nat_le 2 (length rounds) && (nat_eq (first_of rounds).from 0 && nat_eq (last_of rounds).last (end - 1))
+goes_round end rounds = nat_le 2 (length rounds)
+    && (nat_eq (first_of rounds).from 0 && nat_eq (last_of rounds).last (end - 1))
 
 -- from the first second of the last one, round the end, up to the last second of the first one
 abbrev pub over_end : List Round → Round
@@ -37,7 +41,8 @@ over_end rounds = record { from = (last_of rounds).from; last = (first_of rounds
 
 -- the first and the last one are told as one where they go round the end: at the place of the last one
 abbrev pub joined : (end : ℕ) → List Round → List Round
-joined end rounds = if goes_round end rounds then drop 1 (slice_set rounds (length rounds - 1) (over_end rounds)) else rounds
+joined end rounds = if goes_round end rounds then drop 1 (slice_set rounds (length rounds - 1) (over_end rounds))
+    else rounds
 
 -- a comma before each but the first one
 abbrev pub comma : (k : ℕ) → List ℕ
@@ -56,7 +61,8 @@ more_text count = codes " and " ++ (decimal count ++ codes " more")
 abbrev pub rounds_text : (daily : Bool) → (k : ℕ) → List Round → List ℕ
 rounds_text daily k [] = []
 rounds_text daily k (round ∷ rounds) =
-    if nat_eq k 8 then more_text (length (round ∷ rounds)) else (comma k ++ round_text daily round) ++ rounds_text daily (k + 1) rounds
+    if nat_eq k 8 then more_text (length (round ∷ rounds))
+    else (comma k ++ round_text daily round) ++ rounds_text daily (k + 1) rounds
 
 -- where the day or the week ends
 abbrev pub end_of_round : (daily : Bool) → ℕ
@@ -69,4 +75,5 @@ every_text daily = if daily then codes ", every day" else []
 abbrev pub when_text : (daily : Bool) → List Span → List ℕ
 when_text daily spans =
     if is_whole spans then codes "at any time"
-    else rounds_text daily 0 (joined (end_of_round daily) (rounds_before (end_of_round daily) spans)) ++ every_text daily
+    else rounds_text daily 0 (joined (end_of_round daily) (rounds_before (end_of_round daily) spans))
+    ++ every_text daily

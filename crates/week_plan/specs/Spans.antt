@@ -43,10 +43,12 @@ with_span spans from to = if nat_lt from to then spans ++ record { from = from; 
 abbrev pub IsDaily : (ℕ → Bool) → Type 0
 IsDaily test = (at : ℕ) → at + 86400 < 604800 → test (at + 86400) ≡ test at
 
--- a second is reached from the beginning of the week in so many steps, over each of which what is told of a second stays
+-- a second is reached from the beginning of the week in so many steps, over each of which what is told of a second
+-- stays
 abbrev pub IsReached : (ℕ → Bool) → (steps at : ℕ) → Type 0
 IsReached test zero at = at ≡ 0
-IsReached test (suc steps) at = (from : ℕ) × IsReached test steps from × (from < at) × (at ≤ 604800) × IsFor test from at (test from)
+IsReached test (suc steps) at = (from : ℕ) × IsReached test steps from × (from < at) × (at ≤ 604800)
+    × IsFor test from at (test from)
 
 -- so many steps lead through the week, unless they are the most
 pub record AreSteps (test : ℕ → Bool) (steps most : ℕ) : Type 0 where

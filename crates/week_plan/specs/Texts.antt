@@ -12,11 +12,13 @@ seconds_part (suc n) = codes ":" ++ two_digits (suc n)
 
 -- a time of the day in hours, minutes and perhaps seconds; 24:00 is its end
 abbrev pub clock_text : ℕ → List ℕ
-clock_text second = two_digits (second / 3600) ++ (codes ":" ++ (two_digits (second / 60 % 60) ++ seconds_part (second % 60)))
+clock_text second = two_digits (second / 3600)
+    ++ (codes ":" ++ (two_digits (second / 60 % 60) ++ seconds_part (second % 60)))
 
 unfoldable pub day_text : ℕ → List ℕ
 day_text day =
-    if nat_eq day 0 then codes "Mon " else if nat_eq day 1 then codes "Tue " else if nat_eq day 2 then codes "Wed " else if nat_eq day 3 then codes "Thu "
+    if nat_eq day 0 then codes "Mon " else if nat_eq day 1 then codes "Tue " else if nat_eq day 2 then codes "Wed "
+    else if nat_eq day 3 then codes "Thu "
     else if nat_eq day 4 then codes "Fri " else if nat_eq day 5 then codes "Sat " else codes "Sun "
 
 -- the time at which a span ends whose last second is this: in the day of that second
@@ -37,7 +39,8 @@ end_day from last = if is_one_day from last then [] else day_text (last / 86400)
 
 -- a span of the week; it goes round the end of the week where its last second comes before its first
 abbrev pub weekly_text : (from last : ℕ) → List ℕ
-weekly_text from last = (day_text (from / 86400) ++ clock_text (from % 86400)) ++ (codes "-" ++ (end_day from last ++ end_text last))
+weekly_text from last = (day_text (from / 86400) ++ clock_text (from % 86400))
+    ++ (codes "-" ++ (end_day from last ++ end_text last))
 
 abbrev pub span_text : (daily : Bool) → (from last : ℕ) → List ℕ
 span_text true from last = daily_text from last

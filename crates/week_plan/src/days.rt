@@ -8,7 +8,8 @@ use time_pred::Pred;
 
 const DAY: u32 = 86_400;
 
-/// Whether each day is like the others: some predicate holds at a second of one day exactly where one does at that of the next.
+/// Whether each day is like the others: some predicate holds at a second of one day exactly where one does at that of
+/// the next.
 pub fn is_daily(preds: &[Pred]) -> bool
     ensures { (result ≡ true) ↔ IsDaily (some_case_holds (map view_pred preds.now)) }
 {

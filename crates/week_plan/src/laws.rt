@@ -5,5 +5,6 @@ ghost use Rattle.week_plan.specs.Spans.{AreSpansOf};
 
 /// Of what is told of each second of the week there is one list of spans alone.
 pub fn one_list()
-    ensures { (test : ℕ → Bool) (spans others : List Span) → AreSpansOf test spans → AreSpansOf test others → spans ≡ others }
+    ensures { (test : ℕ → Bool) (spans others : List Span) → AreSpansOf test spans → AreSpansOf test others
+        → spans ≡ others }
 {}

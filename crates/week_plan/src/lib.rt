@@ -1,5 +1,5 @@
-//! When in the week no case of a switch holds, and which of its cases is never chosen. `docs/language.md`, "Predicates and time",
-//! says when a predicate holds.
+//! When in the week no case of a switch holds, and which of its cases is never chosen. `docs/language.md`, "Predicates
+//! and time", says when a predicate holds.
 #![tactic(auto)]
 
 mod cases;

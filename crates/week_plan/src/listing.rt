@@ -14,15 +14,17 @@ const DAY: u32 = 86_400;
 /// How many spans are told.
 const MOST: usize = 8;
 
-/// A span by its first and its last second. Where the last one comes first, it goes round the end of the day or of the week.
+/// A span by its first and its last second. Where the last one comes first, it goes round the end of the day or of the
+/// week.
 #[derive(Clone, Copy, Debug, PartialEq, Eq)]
 struct Round {
     from: u32,
     last: u32,
 }
 
-/// Appends when the holes of a switch are, which are these spans, at least one: at any time, or the first 8 of them and how many more
-/// there are, on each day if `daily` says so. A hole that goes over midnight, or over the end of the week, is told as one.
+/// Appends when the holes of a switch are, which are these spans, at least one: at any time, or the first 8 of them and
+/// how many more there are, on each day if `daily` says so. A hole that goes over midnight, or over the end of the
+/// week, is told as one.
 pub fn push_when(
     alloc: Global,
     into: &mut Vec<u8>,

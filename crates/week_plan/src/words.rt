@@ -11,8 +11,8 @@ const HOUR: u32 = 3600;
 
 const DAY: u32 = 86_400;
 
-/// Appends a span by its first and its last second: with `daily` as a span of each day, else of the week, round whose end it goes where
-/// the last second comes before the first.
+/// Appends a span by its first and its last second: with `daily` as a span of each day, else of the week, round whose
+/// end it goes where the last second comes before the first.
 pub fn push_span_text(into: &mut Vec<u8>, daily: bool, from: u32, last: u32) -> Result<(), Memory>
     requires from { from < 604800 }
     requires last { last < 604800 }

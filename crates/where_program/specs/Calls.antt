@@ -29,7 +29,8 @@ role_of (kind.NameOpen name) = OpensCall
 role_of (kind.Symbol s) = symbol_role s
 role_of k = Neither
 
--- The texts of the calls that are closed, each whole and none within another, a line for each; and what stands open, the newest last.
+-- The texts of the calls that are closed, each whole and none within another, a line for each; and what stands open,
+-- the newest last.
 pub record Closed : Type 0 where
   pub texts : List ℕ
   pub brackets : List Bracket
@@ -57,7 +58,10 @@ brackets_behind token Neither texts brackets = brackets
 
 -- a token more
 abbrev pub behind : List ℕ → Closed → Token → Closed
-behind text s token = record { texts = texts_behind text token (role_of token.kind) s.texts s.brackets; brackets = brackets_behind token (role_of token.kind) s.texts s.brackets }
+behind text s token = record {
+  texts = texts_behind text token (role_of token.kind) s.texts s.brackets;
+  brackets = brackets_behind token (role_of token.kind) s.texts s.brackets;
+}
 
 unfoldable pub calls_from : List ℕ → Closed → List Token → Closed
 calls_from text s [] = s
@@ -67,7 +71,8 @@ calls_from text s (token ∷ tokens) = calls_from text (behind text s token) tok
 abbrev pub calls_of : List ℕ → List Token → Closed
 calls_of text tokens = calls_from text (record { texts = []; brackets = [] }) tokens
 
--- A call of these tokens tells what is wanted: behind a front and the calls that are closed before it the answer is no, and it is yes where this call takes the place of those of them that are its arguments. It begins at this byte.
+-- A call of these tokens tells what is wanted: behind a front and the calls that are closed before it the answer is no,
+-- and it is yes where this call takes the place of those of them that are its arguments. It begins at this byte.
 pub record IsCaller (Tells : List ℕ → Bool → Type 0) (text front : List ℕ) (tokens : List Token) (at : ℕ) : Type 0 where
   -- the call's last token
   pub number : ℕ

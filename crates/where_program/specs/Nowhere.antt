@@ -23,7 +23,8 @@ HasNoStatement text number = (script : Script) → Spells text script → first_
 
 -- the same of these tokens
 abbrev pub HasNoStatementAmong : List Token → (number : ℕ) → Type 0
-HasNoStatementAmong tokens number = (script : Script) → spelling script ≡ kinds tokens → IsPlaced 0 script → IsShallow (kinds tokens) → first_token script number ≡ None
+HasNoStatementAmong tokens number = (script : Script) → spelling script ≡ kinds tokens → IsPlaced 0 script
+    → IsShallow (kinds tokens) → first_token script number ≡ None
 
 -- none of its tokens is this text
 abbrev pub HasNoText : List ℕ → (name : List ℕ) → Type 0

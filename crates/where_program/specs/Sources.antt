@@ -37,7 +37,8 @@ first_of tokens script number = or_all tokens (first_token script number)
 
 -- the tokens of a statement: from its first one up to the first one of the next
 abbrev pub tokens_of : List Token → Script → ℕ → List Token
-tokens_of tokens script number = drop (first_of tokens script number) (take (first_of tokens script (number + 1)) tokens)
+tokens_of tokens script number = drop (first_of tokens script number)
+    (take (first_of tokens script (number + 1)) tokens)
 
 -- the word of a def
 abbrev pub is_def_word : Keyword → Bool
@@ -56,9 +57,11 @@ begins_def (token ∷ tokens) = is_def token.kind
 abbrev pub calling : List Token → List Token
 calling tokens = if begins_def tokens then drop 2 tokens else tokens
 
--- a byte of a statement: where it begins, or where a call of it begins that tells what is wanted behind the statements before
+-- a byte of a statement: where it begins, or where a call of it begins that tells what is wanted behind the statements
+-- before
 abbrev pub IsShown : (Tells : List ℕ → Bool → Type 0) → List ℕ → List Token → Script → ℕ → ℕ → Type 0
-IsShown Tells text tokens script number at = (at ≡ beginning text tokens script number) ⊎ IsCaller Tells text (before text tokens script number) (calling (tokens_of tokens script number)) at
+IsShown Tells text tokens script number at = (at ≡ beginning text tokens script number)
+    ⊎ IsCaller Tells text (before text tokens script number) (calling (tokens_of tokens script number)) at
 
 -- a statement of the script that the text's tokens spell, and a byte of it
 pub record IsInStatement (Tells : List ℕ → Bool → Type 0) (text : List ℕ) (number at : ℕ) : Type 0 where

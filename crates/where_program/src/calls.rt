@@ -37,8 +37,8 @@ pub enum Role {
     Neither,
 }
 
-/// The texts of the calls that are closed among some tokens, each whole and none within another, a line for each; and what
-/// stands open behind them.
+/// The texts of the calls that are closed among some tokens, each whole and none within another, a line for each; and
+/// what stands open behind them.
 #[derive(Drop)]
 pub struct Calls {
     pub texts: Vec<u8>,
@@ -186,7 +186,8 @@ fn found_at(
 
 // The call that ends here.
 fn closed_by(calls: Calls, end: usize) -> Option<Found>
-    ensures { IfSome result (λ found. (newest calls.brackets.items ≡ Some (bracket.Call found.start found.others)) × (found.texts.items ≡ calls.texts.items) × (found.end ≡ end)) }
+    ensures { IfSome result (λ found. (newest calls.brackets.items ≡ Some (bracket.Call found.start found.others))
+        × (found.texts.items ≡ calls.texts.items) × (found.end ≡ end)) }
 {
     match newest(&calls.brackets) {
         Some(Bracket::Call { start, others }) => Some(Found {
@@ -227,7 +228,10 @@ fn read_all(
     text: &[u8],
     tokens: &[Token],
 ) -> Result<(), Memory>
-    ensures { OnOk result (calls_from text.now (record { texts = texts.old.items; brackets = brackets.old.items }) tokens.now ≡ record { texts = texts.new.items; brackets = brackets.new.items }) }
+    ensures { OnOk result (calls_from text.now (record {
+      texts = texts.old.items;
+      brackets = brackets.old.items;
+    }) tokens.now ≡ record { texts = texts.new.items; brackets = brackets.new.items }) }
 {
     for token in tokens {
         read(texts, brackets, text, token)?;
@@ -242,8 +246,10 @@ fn read(
     text: &[u8],
     token: &Token,
 ) -> Result<(), Memory>
-    ensures texts { OnOk result (texts.new.items ≡ texts_behind text.now token.now (role_of token.now.kind) texts.old.items brackets.old.items) }
-    ensures brackets { OnOk result (brackets.new.items ≡ brackets_behind token.now (role_of token.now.kind) texts.old.items brackets.old.items) }
+    ensures texts { OnOk result (texts.new.items
+        ≡ texts_behind text.now token.now (role_of token.now.kind) texts.old.items brackets.old.items) }
+    ensures brackets { OnOk result (brackets.new.items
+        ≡ brackets_behind token.now (role_of token.now.kind) texts.old.items brackets.old.items) }
 {
     match role_of(&token.kind) {
         Role::OpensCall => brackets.push(Bracket::Call {

@@ -12,8 +12,9 @@ use plan_core::{Plan, SinkPlan};
 use script_plan::{laws, plan_of};
 use std::alloc::Global;
 
-/// The byte at which the call begins that makes the source which is to be mended so that an output never falls silent: down
-/// from the output's, as long as one source alone is needed. Nothing where the script has no plan or no such output.
+/// The byte at which the call begins that makes the source which is to be mended so that an output never falls silent:
+/// down from the output's, as long as one source alone is needed. Nothing where the script has no plan or no such
+/// output.
 pub fn cause_place(alloc: Global, text: &[u8], name: &[u8]) -> Result<Option<usize>, Memory>
     ensures place { IfOk result (λ at. IfSome at (IsCauseAt text.now name.now)) }
     ensures none { IfOk result (λ at. at ≡ None → HasNoOutput text.now name.now) }

@@ -15,8 +15,9 @@ use script_parse::parse;
 use script_places::{Named, first_token, start};
 use std::alloc::Global;
 
-/// The byte of a script at which what a line names begins. A token past the end is the end of the script. Nothing exactly
-/// where the script has no tokens, no such statement, source, text or output. `docs/faults.md` has the place of each line.
+/// The byte of a script at which what a line names begins. A token past the end is the end of the script. Nothing
+/// exactly where the script has no tokens, no such statement, source, text or output. `docs/faults.md` has the place of
+/// each line.
 pub fn place_of(
     alloc: Global,
     line: &[u8],

@@ -26,8 +26,8 @@ use script_places::first_token;
 use script_plan::{ScriptFault, laws, maker_of};
 use std::alloc::Global;
 
-/// The byte at which the call begins that makes the source of this number: where a call of a def makes it, that call; where
-/// no one call of the statement is found, the statement. Nothing where the script has no such source.
+/// The byte at which the call begins that makes the source of this number: where a call of a def makes it, that call;
+/// where no one call of the statement is found, the statement. Nothing where the script has no such source.
 pub fn source_place(alloc: Global, text: &[u8], source: u64) -> Result<Option<usize>, Memory>
     ensures place { IfOk result (λ at. IfSome at (IsSourceAt text.now source)) }
     ensures none { IfOk result (λ at. at ≡ None → (plan : Plan) → IsPlan text.now plan → length plan.nodes ≤ source) }
@@ -64,7 +64,8 @@ pub fn clash_place(alloc: Global, text: &[u8], statement: u64) -> Result<Option<
     place_in(alloc, text, statement, Wanted::Clash)
 }
 
-// The byte of a statement that is shown: where the call begins that tells what is wanted, or where the statement begins.
+// The byte of a statement that is shown: where the call begins that tells what is wanted, or where the statement
+// begins.
 fn place_in(
     alloc: Global,
     text: &[u8],

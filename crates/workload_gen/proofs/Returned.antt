@@ -9,11 +9,11 @@ use Rattle.std.proofs.lemmas.List.FromFn.{map-range_with_len_more}
 use Rattle.liq_base.specs.declared.limits.TheConstants.{MAX_RATE}
 use Rattle.liq_base.specs.declared.memory.Kind.{Kind}
 use Rattle.liq_base.specs.declared.memory.Kind.TheVariants.{Mono}
-use Rattle.frame_core.specs.Bytes.{sample_bytes, sample_in, samples_in}
+use Rattle.frame_core.specs.Bytes.{sample_bytes, sample_in, samples_from}
 use Rattle.seed_words.specs.Words.{word}
-use Rattle.wav_io.specs.Header.{block_of, header_at, header_bytes, header_of}
+use Rattle.wav_io.specs.Header.{block_align, header_at, header_bytes, header_of}
 use Rattle.wav_io.specs.Reading.{read_of}
-use Rattle.workload_gen.specs.Files.{File, begin_of, drawn, length_at, sample_of, track, tracks, workload}
+use Rattle.workload_gen.specs.Files.{File, begin_of, drawn_bytes, length_at, sample_of, track, tracks, workload}
 use Rattle.workload_gen.specs.Read.{IsTrack}
 
 -- a sample that is drawn fits in two bytes
@@ -23,34 +23,34 @@ near_fits a few = omega (arith, ints, few)
 drawn_fits : (w : ℕ) → FitsSigned w16 (sample_of w)
 drawn_fits w = near_fits (w % 20001) (omega arith)
 
-two_bytes_back : (x : ℤ) → FitsSigned w16 x → samples_in (sample_bytes x) ≡ x ∷ []
+two_bytes_back : (x : ℤ) → FitsSigned w16 x → samples_from (sample_bytes x) ≡ x ∷ []
 two_bytes_back x fit =
     let b = of_z w16 x in
     let small : b < 65536 = omega (arith, ints, fit) in
     let whole : b % 256 + 256 * (b / 256 % 256) ≡ b = omega (arith, small) in
     ap (λ n. to_z w16 n ∷ []) whole ∙ ap (λ y. y ∷ []) (to_z-of_z w16 x fit)
 
-samples_both : (n : ℕ) (xs ys : List ℕ) → length xs ≡ 2 * n → samples_in (xs ++ ys) ≡ samples_in xs ++ samples_in ys
+samples_both : (n : ℕ) (xs ys : List ℕ) → length xs ≡ 2 * n → samples_from (xs ++ ys) ≡ samples_from xs ++ samples_from ys
 samples_both n [] ys even = refl
 samples_both n (x ∷ []) ys even = absurd (omega (arith, even))
 samples_both zero (x ∷ y ∷ xs) ys even = absurd (omega (arith, even))
 samples_both (suc n) (x ∷ y ∷ xs) ys even = ap (λ l. sample_in x y ∷ l) (samples_both n xs ys (omega (arith, even)))
 
-length-drawn : (seed from count : ℕ) → length (drawn seed from count) ≡ 2 * count
+length-drawn : (seed from count : ℕ) → length (drawn_bytes seed from count) ≡ 2 * count
 length-drawn seed from zero = refl
 length-drawn seed from (suc count) =
-    let long = length-append (drawn seed from count) (sample_bytes (sample_of (word seed (from + count)))) in
+    let long = length-append (drawn_bytes seed from count) (sample_bytes (sample_of (word seed (from + count)))) in
     let before = length-drawn seed from count in
     omega (arith, long, before)
 
 -- the samples that are drawn stand in their bytes
-drawn_back : (seed from count : ℕ) → samples_in (drawn seed from count) ≡ map (λ k. sample_of (word seed (from + k))) (range_with_len 0 count)
+drawn_back : (seed from count : ℕ) → samples_from (drawn_bytes seed from count) ≡ map (λ k. sample_of (word seed (from + k))) (range_with_len 0 count)
 drawn_back seed from zero = refl
 drawn_back seed from (suc count) =
     let next = sample_of (word seed (from + count)) in
     let one : suc count ≡ count + 1 = omega arith in
-    samples_both count (drawn seed from count) (sample_bytes next) (length-drawn seed from count)
-    ∙ ap (λ l. l ++ samples_in (sample_bytes next)) (drawn_back seed from count)
+    samples_both count (drawn_bytes seed from count) (sample_bytes next) (length-drawn seed from count)
+    ∙ ap (λ l. l ++ samples_from (sample_bytes next)) (drawn_back seed from count)
     ∙ ap (λ l. map (λ k. sample_of (word seed (from + k))) (range_with_len 0 count) ++ l) (two_bytes_back next (drawn_fits _))
     ∙ sym (map-range_with_len_more (λ k. sample_of (word seed (from + k))) 0 count count (omega arith))
     ∙ ap (λ m. map (λ k. sample_of (word seed (from + k))) (range_with_len 0 m)) (sym one)
@@ -58,7 +58,7 @@ drawn_back seed from (suc count) =
 -- the law of `wav_io` that is cited
 abbrev pub OwnAreRead : Type 0
 OwnAreRead = (wide : Bool) (kind : Kind) (rate samples : ℕ) (header data_bytes pad : List ℕ) → 0 < rate → rate ≤ MAX_RATE → 0 < samples
-    → header_at wide kind rate samples ≡ Some header → length data_bytes ≡ samples * block_of wide kind
+    → header_at wide kind rate samples ≡ Some header → length data_bytes ≡ samples * block_align wide kind
     → length pad ≡ length data_bytes % 2
     → read_of (header ++ (data_bytes ++ pad)) ≡ Ok (record { kind = kind; rate = rate; wide = wide; body = data_bytes })
 
@@ -71,7 +71,7 @@ track_read own seed i =
     let begin = begin_of seed i in
     let count = length_at seed begin in
     let head = header_bytes Mono 8000 count in
-    let body = drawn seed (begin + 1) count in
+    let body = drawn_bytes seed (begin + 1) count in
     let few : count ≤ 4000 = omega arith in
     let some : 0 < count = omega arith in
     let long : length body ≡ count * 2 = let twice = length-drawn seed (begin + 1) count in omega (arith, twice) in

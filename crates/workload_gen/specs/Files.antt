@@ -28,9 +28,9 @@ begin_of seed zero = 0
 begin_of seed (suc i) = begin_of seed i + 1 + length_at seed (begin_of seed i)
 
 -- the bytes of so many samples, from word `from` on
-abbrev pub drawn : (seed from count : ℕ) → List ℕ
-drawn seed from zero = []
-drawn seed from (suc count) = drawn seed from count ++ sample_bytes (sample_of (word seed (from + count)))
+abbrev pub drawn_bytes : (seed from count : ℕ) → List ℕ
+drawn_bytes seed from zero = []
+drawn_bytes seed from (suc count) = drawn_bytes seed from count ++ sample_bytes (sample_of (word seed (from + count)))
 
 -- sample k of audio file i: each takes a word, behind the one for the length
 abbrev pub sample_at : (seed i k : ℕ) → ℤ
@@ -45,7 +45,8 @@ track_name i = codes "t" ++ decimal i ++ codes ".wav"
 
 -- the audio file that begins with this word: mono, 8000 samples a second
 abbrev pub track_bytes : (seed begin : ℕ) → List ℕ
-track_bytes seed begin = header_bytes Mono 8000 (length_at seed begin) ++ drawn seed (begin + 1) (length_at seed begin)
+track_bytes seed begin = header_bytes Mono 8000 (length_at seed begin)
+    ++ drawn_bytes seed (begin + 1) (length_at seed begin)
 
 abbrev pub track : (seed i : ℕ) → File
 track seed i = (track_name i, track_bytes seed (begin_of seed i))

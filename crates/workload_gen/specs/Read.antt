@@ -1,7 +1,7 @@
 -- What the audio files of a workload are read as.
 use Rattle.std.specs.Prelude.{◌≡◌, ℕ, ℤ, false, List, Ok}
 use Rattle.liq_base.specs.declared.memory.Kind.TheVariants.{Mono}
-use Rattle.frame_core.specs.Bytes.{samples_in}
+use Rattle.frame_core.specs.Bytes.{samples_from}
 use Rattle.wav_io.specs.Reading.{read_of}
 use Rattle.workload_gen.specs.Files.{File, samples_of, track_name}
 
@@ -9,7 +9,7 @@ use Rattle.workload_gen.specs.Files.{File, samples_of, track_name}
 pub record IsReadAs (samples : List ℤ) (bytes : List ℕ) : Type 0 where
   pub body : List ℕ
   pub read : read_of bytes ≡ Ok (record { kind = Mono; rate = 8000; wide = false; body = body })
-  pub holds : samples_in body ≡ samples
+  pub holds : samples_from body ≡ samples
 
 -- audio file i by its name, and by what its bytes are read as
 pub record IsTrack (seed i : ℕ) (file : File) : Type 0 where

@@ -71,7 +71,8 @@ fn push_players(alloc: Global, text: &mut String, last: u32) -> Result<(), Alloc
 
 // The statement that plays an audio file.
 fn push_player(alloc: Global, text: &mut String, number: u32) -> Result<(), AllocError>
-    ensures { OnOk result (string_bytes text.new ≡ string_bytes text.old ++ source_name number ++ codes " = amplify(0.5, single(\"" ++ track_name number ++ codes "\"))\n") }
+    ensures { OnOk result (string_bytes text.new ≡ string_bytes text.old ++ source_name number
+        ++ codes " = amplify(0.5, single(\"" ++ track_name number ++ codes "\"))\n") }
 {
     push_source_name(alloc, text, number)?;
     text.push_str(" = amplify(0.5, single(\"")?;

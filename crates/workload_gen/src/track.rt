@@ -2,7 +2,7 @@
 ghost use Rattle.std.specs.Prelude.{◌≡◌, ◌≤◌, ◌<◌, ◌+◌, ◌%◌, ◌++◌, ℕ, suc, IfOk, OnOk};
 ghost use Rattle.frame_core.specs.Bytes.{sample_bytes};
 ghost use Rattle.seed_words.specs.Words.{word, words_from};
-ghost use Rattle.workload_gen.specs.Files.{drawn, length_at, sample_of, track_bytes};
+ghost use Rattle.workload_gen.specs.Files.{drawn_bytes, length_at, sample_of, track_bytes};
 
 use liq_base::{Kind, Memory};
 use seed_words::SeedWords;
@@ -14,8 +14,10 @@ const RATE: u32 = 8000;
 
 /// The bytes of the next audio file: its length, from 1 to 4000 samples, takes one word, and so does each sample.
 pub fn track(alloc: Global, words: &mut SeedWords) -> Result<Vec<u8>, Memory>
-    ensures bytes { IfOk result (λ bytes. (seed begin : ℕ) → words.old ≡ words_from seed begin → bytes.items ≡ track_bytes seed begin) }
-    ensures words { OnOk result ((seed begin : ℕ) → words.old ≡ words_from seed begin → words.new ≡ words_from seed (begin + 1 + length_at seed begin)) }
+    ensures bytes { IfOk result (λ bytes. (seed begin : ℕ) → words.old ≡ words_from seed begin
+        → bytes.items ≡ track_bytes seed begin) }
+    ensures words { OnOk result ((seed begin : ℕ) → words.old ≡ words_from seed begin
+        → words.new ≡ words_from seed (begin + 1 + length_at seed begin)) }
 {
     let length = 1 + words.next_word() % 4000;
     let Some(head) = header(Kind::Mono, RATE, u64::from(length)) else {
@@ -29,8 +31,10 @@ pub fn track(alloc: Global, words: &mut SeedWords) -> Result<Vec<u8>, Memory>
 
 // So many samples more.
 fn draw(words: &mut SeedWords, count: u32, bytes: &mut Vec<u8>) -> Result<(), Memory>
-    ensures bytes { OnOk result ((seed from : ℕ) → words.old ≡ words_from seed from → bytes.new.items ≡ bytes.old.items ++ drawn seed from count) }
-    ensures words { OnOk result ((seed from : ℕ) → words.old ≡ words_from seed from → words.new ≡ words_from seed (from + count)) }
+    ensures bytes { OnOk result ((seed from : ℕ) → words.old ≡ words_from seed from
+        → bytes.new.items ≡ bytes.old.items ++ drawn_bytes seed from count) }
+    ensures words { OnOk result ((seed from : ℕ) → words.old ≡ words_from seed from
+        → words.new ≡ words_from seed (from + count)) }
 {
     for _ in 0..count {
         let sample = next_sample(words);

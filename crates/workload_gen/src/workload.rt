@@ -28,8 +28,10 @@ pub fn make(alloc: Global, seed: u64, size: u32) -> Result<Vec<(String, Vec<u8>)
 
 // The next audio file, with its name.
 fn next_file(alloc: Global, words: &mut SeedWords, number: u32) -> Result<(String, Vec<u8>), Memory>
-    ensures file { IfOk result (λ file. (seed : ℕ) → words.old ≡ words_from seed (begin_of seed number) → file_of file ≡ track seed number) }
-    ensures words { OnOk result ((seed : ℕ) → words.old ≡ words_from seed (begin_of seed number) → words.new ≡ words_from seed (begin_of seed (suc number))) }
+    ensures file { IfOk result (λ file. (seed : ℕ) → words.old ≡ words_from seed (begin_of seed number)
+        → file_of file ≡ track seed number) }
+    ensures words { OnOk result ((seed : ℕ) → words.old ≡ words_from seed (begin_of seed number)
+        → words.new ≡ words_from seed (begin_of seed (suc number))) }
 {
     let bytes = track(alloc, words)?;
     Ok((track_name(alloc, number)?, bytes))

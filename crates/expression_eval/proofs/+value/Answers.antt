@@ -21,13 +21,13 @@ use Rattle.script_values.specs.declared.fault.Fault.TheVariants.{Stuck}
 use Rattle.script_values.specs.declared.value.Value.{Value as AValue}
 use Rattle.script_values.specs.declared.machine.Machine.{Machine}
 use Rattle.script_values.specs.Gives.{Gives}
-use Rattle.script_values.specs.Machines.{count}
+use Rattle.script_values.specs.Machines.{count_work}
 use Rattle.script_values.specs.Numbers.{compared, opposite}
 use Rattle.script_values.specs.Slots.{Argument}
 use Rattle.typing_rules.specs.Uses.{use_at}
 use Rattle.expression_eval.specs.Steps.{after_count}
 use Rattle.eval_meaning.specs.Meaning as meaning
-use Rattle.eval_meaning.specs.Meaning.{joined}
+use Rattle.eval_meaning.specs.Meaning.{operator_applied}
 use Rattle.eval_scope.specs.Scopes.{scope_of, base_of, world_of}
 use Rattle.script_values.specs.Values.{Value}
 use Rattle.script_values.specs.View.{view_value}
@@ -129,40 +129,40 @@ pub arithmetic::compare-returns-in-None : goal.arithmetic::compare-returns-in-No
 arithmetic::compare-returns-in-None t c = gives_same c.sum.new.out c.sum.new.machine _ _ (alone_means (scope_of c.args.scope.now) c.args.node.now c.args.machine.now c.in-None.is) c.sum.ensures
 
 pub arithmetic::compare-returns-in-Some : goal.arithmetic::compare-returns-in-Some
-arithmetic::compare-returns-in-Some t c = goes_means c.sum.new.out c.compare_with.new.out c.sum.new.machine c.compare_with.new.machine _ (meaning.sum (scope_of c.args.scope.now) (view_sum (compare.out-Compare c.args.node.now).left) c.args.machine.now) (λ x. joined (compared (compared_.out-Compared c.in-Some.right).op) x.0 (meaning.sum (scope_of c.args.scope.now) (view_sum (compared_.out-Compared c.in-Some.right).sum) x.1)) (compared_means (scope_of c.args.scope.now) c.args.node.now c.in-Some.right c.args.machine.now c.in-Some.is) c.sum.ensures c.compare_with.ensures
+arithmetic::compare-returns-in-Some t c = goes_means c.sum.new.out c.compare_with.new.out c.sum.new.machine c.compare_with.new.machine _ (meaning.sum (scope_of c.args.scope.now) (view_sum (compare.out-Compare c.args.node.now).left) c.args.machine.now) (λ x. operator_applied (compared (compared_.out-Compared c.in-Some.right).op) x.0 (meaning.sum (scope_of c.args.scope.now) (view_sum (compared_.out-Compared c.in-Some.right).sum) x.1)) (compared_means (scope_of c.args.scope.now) c.args.node.now c.in-Some.right c.args.machine.now c.in-Some.is) c.sum.ensures c.compare_with.ensures
 
 pub arithmetic::compare-returns-then-is_err : goal.arithmetic::compare-returns-then-is_err
 arithmetic::compare-returns-then-is_err t c = compare_stops (scope_of c.args.scope.now) c.args.node.now c.args.machine.now c.sum.new.out c.sum.new.machine c.sum.ensures (sym c.if-is_err.ensures.value)
 
 pub operands::operand-returns-then-step : goal.operands::operand-returns-then-step
-operands::operand-returns-then-step t c = behind_gives c.put_call.new.out c.put_call.new.machine _ (count 1 c.args.machine.now) (meaning.call (scope_of c.args.scope.now) (view_call c.in-Call.inside)) c.step.new.machine (call_counted (scope_of c.args.scope.now) c.args.node.now c.in-Call.inside c.args.machine.now c.in-Call.is) c.if-step.ensures c.put_call.ensures
+operands::operand-returns-then-step t c = behind_gives c.put_call.new.out c.put_call.new.machine _ (count_work 1 c.args.machine.now) (meaning.call (scope_of c.args.scope.now) (view_call c.in-Call.inside)) c.step.new.machine (call_counted (scope_of c.args.scope.now) c.args.node.now c.in-Call.inside c.args.machine.now c.in-Call.is) c.if-step.ensures c.put_call.ensures
 
 pub operands::operand-returns-else-step : goal.operands::operand-returns-else-step
-operands::operand-returns-else-step t c = failed_means c.step.new.out c.step.new.machine _ (count 1 c.args.machine.now) (meaning.call (scope_of c.args.scope.now) (view_call c.in-Call.inside)) (call_counted (scope_of c.args.scope.now) c.args.node.now c.in-Call.inside c.args.machine.now c.in-Call.is) c.if-step.ensures
+operands::operand-returns-else-step t c = failed_means c.step.new.out c.step.new.machine _ (count_work 1 c.args.machine.now) (meaning.call (scope_of c.args.scope.now) (view_call c.in-Call.inside)) (call_counted (scope_of c.args.scope.now) c.args.node.now c.in-Call.inside c.args.machine.now c.in-Call.is) c.if-step.ensures
 
 pub operands::operand-returns-then-step-2 : goal.operands::operand-returns-then-step-2
-operands::operand-returns-then-step-2 t c = behind_gives c.put_choice.new.out c.put_choice.new.machine _ (count 1 c.args.machine.now) (meaning.choice (scope_of c.args.scope.now) (view_if c.in-If.inside)) c.step-in-If.new.machine (choice_counted (scope_of c.args.scope.now) c.args.node.now c.in-If.inside c.args.machine.now c.in-If.is) c.if-step-2.ensures c.put_choice.ensures
+operands::operand-returns-then-step-2 t c = behind_gives c.put_choice.new.out c.put_choice.new.machine _ (count_work 1 c.args.machine.now) (meaning.choice (scope_of c.args.scope.now) (view_if c.in-If.inside)) c.step-in-If.new.machine (choice_counted (scope_of c.args.scope.now) c.args.node.now c.in-If.inside c.args.machine.now c.in-If.is) c.if-step-2.ensures c.put_choice.ensures
 
 pub operands::operand-returns-else-step-2 : goal.operands::operand-returns-else-step-2
-operands::operand-returns-else-step-2 t c = failed_means c.step-in-If.new.out c.step-in-If.new.machine _ (count 1 c.args.machine.now) (meaning.choice (scope_of c.args.scope.now) (view_if c.in-If.inside)) (choice_counted (scope_of c.args.scope.now) c.args.node.now c.in-If.inside c.args.machine.now c.in-If.is) c.if-step-2.ensures
+operands::operand-returns-else-step-2 t c = failed_means c.step-in-If.new.out c.step-in-If.new.machine _ (count_work 1 c.args.machine.now) (meaning.choice (scope_of c.args.scope.now) (view_if c.in-If.inside)) (choice_counted (scope_of c.args.scope.now) c.args.node.now c.in-If.inside c.args.machine.now c.in-If.is) c.if-step-2.ensures
 
 pub operands::operand-returns-then-step-3 : goal.operands::operand-returns-then-step-3
-operands::operand-returns-then-step-3 t c = behind_gives c.put_full.new.out c.put_full.new.machine _ (count 1 c.args.machine.now) (meaning.full (scope_of c.args.scope.now) (view_full c.in-Paren.inside.value)) c.step-in-Paren.new.machine (paren_counted (scope_of c.args.scope.now) c.args.node.now c.in-Paren.inside c.args.machine.now c.in-Paren.is) c.if-step-3.ensures (full_same (scope_of c.args.scope.now) c.deref.result.now c.in-Paren.inside.value c.put_full.new.out c.step-in-Paren.new.machine c.put_full.new.machine c.deref.ensures c.put_full.ensures)
+operands::operand-returns-then-step-3 t c = behind_gives c.put_full.new.out c.put_full.new.machine _ (count_work 1 c.args.machine.now) (meaning.full (scope_of c.args.scope.now) (view_full c.in-Paren.inside.value)) c.step-in-Paren.new.machine (paren_counted (scope_of c.args.scope.now) c.args.node.now c.in-Paren.inside c.args.machine.now c.in-Paren.is) c.if-step-3.ensures (full_same (scope_of c.args.scope.now) c.deref.result.now c.in-Paren.inside.value c.put_full.new.out c.step-in-Paren.new.machine c.put_full.new.machine c.deref.ensures c.put_full.ensures)
 
 pub operands::operand-returns-else-step-3 : goal.operands::operand-returns-else-step-3
-operands::operand-returns-else-step-3 t c = failed_means c.step-in-Paren.new.out c.step-in-Paren.new.machine _ (count 1 c.args.machine.now) (meaning.full (scope_of c.args.scope.now) (view_full c.in-Paren.inside.value)) (paren_counted (scope_of c.args.scope.now) c.args.node.now c.in-Paren.inside c.args.machine.now c.in-Paren.is) c.if-step-3.ensures
+operands::operand-returns-else-step-3 t c = failed_means c.step-in-Paren.new.out c.step-in-Paren.new.machine _ (count_work 1 c.args.machine.now) (meaning.full (scope_of c.args.scope.now) (view_full c.in-Paren.inside.value)) (paren_counted (scope_of c.args.scope.now) c.args.node.now c.in-Paren.inside c.args.machine.now c.in-Paren.is) c.if-step-3.ensures
 
 pub operands::operand-returns-then-step-4 : goal.operands::operand-returns-then-step-4
-operands::operand-returns-then-step-4 t c = behind_gives c.grouped.new.out c.grouped.new.machine _ (count 1 c.args.machine.now) (meaning.grouped (scope_of c.args.scope.now) (listed (map view_full c.deref-then-step-4.result.now))) c.step-in-Tuple.new.machine (tuple_counted (scope_of c.args.scope.now) c.args.node.now c.in-Tuple.at c.in-Tuple.parts c.deref-then-step-4.result.now c.args.machine.now c.in-Tuple.is c.deref-then-step-4.ensures.value) c.if-step-4.ensures c.grouped.ensures
+operands::operand-returns-then-step-4 t c = behind_gives c.grouped.new.out c.grouped.new.machine _ (count_work 1 c.args.machine.now) (meaning.grouped (scope_of c.args.scope.now) (listed (map view_full c.deref-then-step-4.result.now))) c.step-in-Tuple.new.machine (tuple_counted (scope_of c.args.scope.now) c.args.node.now c.in-Tuple.at c.in-Tuple.parts c.deref-then-step-4.result.now c.args.machine.now c.in-Tuple.is c.deref-then-step-4.ensures.value) c.if-step-4.ensures c.grouped.ensures
 
 pub operands::operand-returns-else-step-4 : goal.operands::operand-returns-else-step-4
-operands::operand-returns-else-step-4 t c = failed_means c.step-in-Tuple.new.out c.step-in-Tuple.new.machine _ (count 1 c.args.machine.now) (meaning.grouped (scope_of c.args.scope.now) (listed (map view_full c.in-Tuple.parts.items))) (tuple_counted (scope_of c.args.scope.now) c.args.node.now c.in-Tuple.at c.in-Tuple.parts c.in-Tuple.parts.items c.args.machine.now c.in-Tuple.is refl) c.if-step-4.ensures
+operands::operand-returns-else-step-4 t c = failed_means c.step-in-Tuple.new.out c.step-in-Tuple.new.machine _ (count_work 1 c.args.machine.now) (meaning.grouped (scope_of c.args.scope.now) (listed (map view_full c.in-Tuple.parts.items))) (tuple_counted (scope_of c.args.scope.now) c.args.node.now c.in-Tuple.at c.in-Tuple.parts c.in-Tuple.parts.items c.args.machine.now c.in-Tuple.is refl) c.if-step-4.ensures
 
 pub operands::operand-returns-then-step-5 : goal.operands::operand-returns-then-step-5
-operands::operand-returns-then-step-5 t c = behind_gives c.list.new.out c.list.new.machine _ (count 1 c.args.machine.now) (meaning.all_of (scope_of c.args.scope.now) (listed (map view_full c.deref-then-step-5.result.now))) c.step-in-List.new.machine (list_counted (scope_of c.args.scope.now) c.args.node.now c.in-List.at c.in-List.parts c.deref-then-step-5.result.now c.args.machine.now c.in-List.is c.deref-then-step-5.ensures.value) c.if-step-5.ensures c.list.ensures
+operands::operand-returns-then-step-5 t c = behind_gives c.list.new.out c.list.new.machine _ (count_work 1 c.args.machine.now) (meaning.all_of (scope_of c.args.scope.now) (listed (map view_full c.deref-then-step-5.result.now))) c.step-in-List.new.machine (list_counted (scope_of c.args.scope.now) c.args.node.now c.in-List.at c.in-List.parts c.deref-then-step-5.result.now c.args.machine.now c.in-List.is c.deref-then-step-5.ensures.value) c.if-step-5.ensures c.list.ensures
 
 pub operands::operand-returns-else-step-5 : goal.operands::operand-returns-else-step-5
-operands::operand-returns-else-step-5 t c = failed_means c.step-in-List.new.out c.step-in-List.new.machine _ (count 1 c.args.machine.now) (meaning.all_of (scope_of c.args.scope.now) (listed (map view_full c.in-List.parts.items))) (list_counted (scope_of c.args.scope.now) c.args.node.now c.in-List.at c.in-List.parts c.in-List.parts.items c.args.machine.now c.in-List.is refl) c.if-step-5.ensures
+operands::operand-returns-else-step-5 t c = failed_means c.step-in-List.new.out c.step-in-List.new.machine _ (count_work 1 c.args.machine.now) (meaning.all_of (scope_of c.args.scope.now) (listed (map view_full c.in-List.parts.items))) (list_counted (scope_of c.args.scope.now) c.args.node.now c.in-List.at c.in-List.parts c.in-List.parts.items c.args.machine.now c.in-List.is refl) c.if-step-5.ensures
 
 pub conditionals::put_choice-returns-in-None : goal.conditionals::put_choice-returns-in-None
 conditionals::put_choice-returns-in-None t c = choice_fails (scope_of c.args.scope.now) c.args.node.now c.deref.result.now c.put_full.new.out c.truth.new.out c.args.machine.now c.put_full.new.machine c.deref.ensures c.put_full.ensures c.in-None.ensures

@@ -16,7 +16,7 @@ use Rattle.typing_rules.specs.declared.uses.Target.TheVariants as target
 use Rattle.type_terms.specs.Term.{Term, term_of, variable}
 use Rattle.type_terms.specs.declared.ty.Ty as ty
 use Rattle.type_terms.proofs.Views.{term_Bool, term_Format, term_Pred, term_Text, term_Unit}
-use Rattle.typing_rules.specs.Arguments.{Given}
+use Rattle.typing_rules.specs.Arguments.{GivenArgument}
 use Rattle.type_steps.specs.Flow.{Defines}
 use Rattle.type_terms.specs.declared.ty.Base.TheVariants as base
 use Rattle.name_scope.specs.Seen.{seen_parameter}
@@ -605,7 +605,7 @@ pub calls::type_args-loop-arg-preserved : goal.calls::type_args-loop-arg-preserv
 calls::type_args-loop-arg-preserved t c =
     let one = c.argument_of.ensures in
     let grown : map seen_argument c.push.new.self.items ≡ map seen_argument c.loop-arg.given.items ++ (c.arg-item.result.label, c.in-Some.var) ∷ [] =
-    ap (map seen_argument) c.in_ok-push-in-Some.ensures.items ∙ map-append seen_argument c.loop-arg.given.items (c.argument_of.result ∷ []) ∙ ap (λ (g : Given ℕ). map seen_argument c.loop-arg.given.items ++ g ∷ []) one in
+    ap (map seen_argument) c.in_ok-push-in-Some.ensures.items ∙ map-append seen_argument c.loop-arg.given.items (c.argument_of.result ∷ []) ∙ ap (λ (g : GivenArgument ℕ). map seen_argument c.loop-arg.given.items ++ g ∷ []) one in
     next_given c.args.args.now c.loop-arg.arg-index c.arg-item.result c.loop-arg-test.true c.arg-item.is c.args.subst.now c.loop-arg.subst c.type_full.new.subst c.args.names (map seen_argument c.loop-arg.given.items) (map seen_argument c.push.new.self.items) c.in-Some.var (founds c.args.uses.now.items) (founds c.loop-arg.uses.items) (founds c.type_full.new.uses.items) c.requires.seen.over grown c.loop-arg.invariant (rw c.in-Some.is at c.in_ok-type_full.ensures.typed) (rw c.in-Some.is at c.in_ok-type_full.ensures.order)
 
 pub values::type_operand-returns-in_ok-n-in-Literal-clause-typed : goal.values::type_operand-returns-in_ok-n-in-Literal-clause-typed

@@ -2,7 +2,7 @@ use Rattle.std.proofs.Common.{◌≡◌, ap, List, [], length, map}
 use Rattle.std.specs.List.{flat_map}
 use Rattle.type_terms.specs.Term.{source_term}
 use Rattle.type_terms.specs.declared.ty.KindTerm.{KindTerm}
-use Rattle.typing_rules.specs.Kinds.{counted}
+use Rattle.typing_rules.specs.Kinds.{numbered_on}
 use Rattle.general_types.specs.Numbering.{place_of}
 use Rattle.general_types.proofs.Ordering.{places_next}
 use Rattle.general_types.proofs.Places.{numbered_none}
@@ -14,7 +14,7 @@ loop-source-init c =
     let none : c.args.places.now.items ≡ [] = c.requires in
     record {
       numbered = λ ts. numbered_none ts _ _ (ap (map source_term) none);
-      next = ap (λ (cs : List KindTerm). counted (length c.args.kinds.now.keys) (flat_map place_of cs)) none;
+      next = ap (λ (cs : List KindTerm). numbered_on (length c.args.kinds.now.keys) (flat_map place_of cs)) none;
     }
 
 pub loop-source-preserved : goal.loop-source-preserved

@@ -1,6 +1,6 @@
 use Rattle.std.proofs.Common.{w16, w64}
 use Rattle.std.proofs.lemmas.Int.{to_z-of_z}
-use Rattle.resample.specs.Resampled.{between}
+use Rattle.resample.specs.Resampled.{interpolated}
 use Rattle.resample.proofs.Inverses.{added, added_fits, quotient_between, sum_of, sum_small}
 use Rattle.resample.proofs.Quotients.{between_fits}
 use Rattle.resample.proofs.midway.between_by.Goals as goal
@@ -26,4 +26,4 @@ pub returns : goal.returns
 returns c =
     let is = added c.weighted.result c.weighted-2.result c.args.before c.args.behind c.args.part c.args.whole c.weighted.ensures c.weighted-2.ensures c.ranges.before c.ranges.behind c.requires.within c.requires.short in
     rw (quotient_between c.quotient.result _ c.args.before c.args.behind c.args.part c.args.whole c.quotient.ensures is c.ranges.before c.ranges.behind c.requires.within c.requires.short)
-    (to_z-of_z w16 (between c.args.before c.args.behind c.args.part c.args.whole) (between_fits c.args.before c.args.behind c.args.part c.args.whole c.ranges.before c.ranges.behind c.requires.within))
+    (to_z-of_z w16 (interpolated c.args.before c.args.behind c.args.part c.args.whole) (between_fits c.args.before c.args.behind c.args.part c.args.whole c.ranges.before c.ranges.behind c.requires.within))

@@ -4,7 +4,7 @@ use Rattle.std.proofs.Math.Seq.{take-add}
 use Rattle.std.proofs.lemmas.Int.{to_z-of_z}
 use Rattle.std.proofs.lemmas.List.{length-set, length-take, take_more, take_more_set}
 use Rattle.std.proofs.lemmas.Simd.{length-put_chunk, length-chunk, take_more_put_chunk}
-use Rattle.frame_core.specs.Bytes.{sample_in, samples_in}
+use Rattle.frame_core.specs.Bytes.{sample_in, samples_from}
 use Rattle.sample_bytes.proofs.Woven.{samples-append, length-samples}
 use Rattle.sample_bytes.proofs.bytes.decode.Goals as goal
 
@@ -15,7 +15,7 @@ loop-into-preserved c =
     let bytes = c.args.bytes.now in
     let long = c.loop-into.invariant.0 in
     let room = c.requires.room in
-    let ys = samples_in (chunk (2 * at) 16 bytes) in
+    let ys = samples_from (chunk (2 * at) 16 bytes) in
     let long_bytes = length-chunk (2 * at) 16 bytes (omega (arith, long, room)) in
     let long_ys = length-samples 8 (chunk (2 * at) 16 bytes) (omega (arith, long_bytes)) in
     let front = length-take (2 * at) bytes in
@@ -27,8 +27,8 @@ loop-into-preserved c =
           ∙ take_more_put_chunk at into ys (at + 8) (omega (arith, long_ys)) (omega arith)
           ∙ ap (λ l. l ++ ys) c.loop-into.invariant.2
           ∙ sym (samples-append at (take (2 * at) bytes) (chunk (2 * at) 16 bytes) (omega (arith, front, long, room)))
-          ∙ ap samples_in (sym (take-add (2 * at) 16 bytes))
-          ∙ ap (λ m. samples_in (take m bytes)) (sym n),
+          ∙ ap samples_from (sym (take-add (2 * at) 16 bytes))
+          ∙ ap (λ m. samples_from (take m bytes)) (sym n),
     )
 
 pub loop-at-preserved : goal.loop-at-preserved
@@ -45,17 +45,17 @@ loop-at-preserved c =
     let front = length-take (2 * at) bytes in
     let bits : low + high * 256 ≡ low + 256 * high = omega arith in
     let n : 2 * (at + 1) ≡ 2 * at + 1 + 1 = omega arith in
-    let is : samples_in (take (2 * (at + 1)) bytes) ≡ samples_in (take (2 * at) bytes) ++ sample_in low high ∷ [] =
-    ap (λ m. samples_in (take m bytes)) n
-    ∙ ap samples_in (take_more bytes (2 * at + 1) 0 (omega (arith, long, room)))
-    ∙ ap (λ l. samples_in (l ++ high ∷ [])) (take_more bytes (2 * at) 0 (omega (arith, long, room)))
-    ∙ ap samples_in (append_assoc (take (2 * at) bytes) (low ∷ []) (high ∷ []))
+    let is : samples_from (take (2 * (at + 1)) bytes) ≡ samples_from (take (2 * at) bytes) ++ sample_in low high ∷ [] =
+    ap (λ m. samples_from (take m bytes)) n
+    ∙ ap samples_from (take_more bytes (2 * at + 1) 0 (omega (arith, long, room)))
+    ∙ ap (λ l. samples_from (l ++ high ∷ [])) (take_more bytes (2 * at) 0 (omega (arith, long, room)))
+    ∙ ap samples_from (append_assoc (take (2 * at) bytes) (low ∷ []) (high ∷ []))
     ∙ samples-append at (take (2 * at) bytes) (low ∷ high ∷ []) (omega (arith, front, long, room)) in (
       length-set into at sample ∙ long,
       take_more_set into at sample (omega (arith, long))
           ∙ ap (λ l. l ++ sample ∷ []) c.loop-at.invariant.1
-          ∙ ap (λ z. samples_in (take (2 * at) bytes) ++ z ∷ []) (to_z-of_z w16 c.from_le_bytes.result fits ∙ c.from_le_bytes.ensures)
-          ∙ ap (λ n. samples_in (take (2 * at) bytes) ++ to_z w16 n ∷ []) bits
+          ∙ ap (λ z. samples_from (take (2 * at) bytes) ++ z ∷ []) (to_z-of_z w16 c.from_le_bytes.result fits ∙ c.from_le_bytes.ensures)
+          ∙ ap (λ n. samples_from (take (2 * at) bytes) ++ to_z w16 n ∷ []) bits
           ∙ sym is,
     )
 
@@ -64,4 +64,4 @@ returns c =
     let long = c.loop-at.invariant.0 in
     sym (take_all c.loop-at.at c.loop-at.into (omega (arith, long)))
     ∙ c.loop-at.invariant.1
-    ∙ ap samples_in (take_all (2 * c.loop-at.at) c.args.bytes.now (omega (arith, long, c.requires.room)))
+    ∙ ap samples_from (take_all (2 * c.loop-at.at) c.args.bytes.now (omega (arith, long, c.requires.room)))

@@ -2,7 +2,7 @@ use Rattle.std.proofs.Common.{◌≡◌, length, refl, sym, ◌∙◌}
 use Rattle.std.proofs.lemmas.List.{length-map}
 use Rattle.script_grammar.specs.ReadScript.{def}
 use Rattle.script_grammar.specs.ReadValue.{call, choice, full_by}
-use Rattle.parse_base.specs.Gives.{kind_of, kinds, places}
+use Rattle.parse_base.specs.Gives.{token_kind, kinds, places}
 use Rattle.statement_parse.specs.Reads.{bind_part, def_part, call_part, if_part}
 use Rattle.statement_parse.proofs.Arms.{stmt_is, part_bind, part_def, part_call, part_if, part_other}
 use Rattle.statement_parse.proofs.Pushed.{by_part}
@@ -25,7 +25,7 @@ returns-then-next_is-3-clause-gives c =
     let w = kinds c.args.tokens.now in
     let size = length c.args.tokens.now in
     by_part c.keep_call.result c.args.items.now.items c.reserve.new.self.items c.keep_call.new.items.items (places c.args.total) w (call_part (places c.args.total) size w) c.reserve.ensures.items
-    (part_call (places c.args.total) w size (length-map c.args.tokens.now kind_of) (sym c.next_is-else-next_is-2.ensures ∙ c.if-next_is-3.true))
+    (part_call (places c.args.total) w size (length-map c.args.tokens.now token_kind) (sym c.next_is-else-next_is-2.ensures ∙ c.if-next_is-3.true))
     (c.keep_call.ensures.gives (call (places c.args.total) (full_by size (places c.args.total)) w) c.call.ensures.gives)
 
 pub returns-then-next_is-4-clause-gives : goal.returns-then-next_is-4-clause-gives
@@ -33,13 +33,13 @@ returns-then-next_is-4-clause-gives c =
     let w = kinds c.args.tokens.now in
     let size = length c.args.tokens.now in
     by_part c.keep_if.result c.args.items.now.items c.reserve.new.self.items c.keep_if.new.items.items (places c.args.total) w (if_part (places c.args.total) size w) c.reserve.ensures.items
-    (part_if (places c.args.total) w size (length-map c.args.tokens.now kind_of) (sym c.next_is-else-next_is-3.ensures ∙ c.if-next_is-4.true))
+    (part_if (places c.args.total) w size (length-map c.args.tokens.now token_kind) (sym c.next_is-else-next_is-3.ensures ∙ c.if-next_is-4.true))
     (c.keep_if.ensures.gives (choice (places c.args.total) (full_by size (places c.args.total)) w) c.choice.ensures.gives)
 
 pub returns-else-next_is-4-clause-gives : goal.returns-else-next_is-4-clause-gives
 returns-else-next_is-4-clause-gives c =
     let w = kinds c.args.tokens.now in
-    let size : length w ≡ length c.args.tokens.now = length-map c.args.tokens.now kind_of in
+    let size : length w ≡ length c.args.tokens.now = length-map c.args.tokens.now token_kind in
     let other = part_other (places c.args.total) w (sym c.next_is.ensures ∙ c.if-next_is.false) (sym c.next_is-else-next_is.ensures ∙ c.if-next_is-2.false) (sym c.next_is-else-next_is-2.ensures ∙ c.if-next_is-3.false) (sym c.next_is-else-next_is-3.ensures ∙ c.if-next_is-4.false) in
     rw (← size, stmt_is (places c.args.total) w, other) refl
 

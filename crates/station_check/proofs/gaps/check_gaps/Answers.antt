@@ -1,7 +1,7 @@
 use Rattle.std.proofs.Common.{◌≡◌, ◌∙◌, false, Some, ap, get_or, refl, subst, sym}
 use Rattle.std.proofs.lemmas.Option.{get_or_from_slice_get, slice_get_within}
 use Rattle.fallible_infer.specs.Infallible.{IsMarking, mark_at, refuses}
-use Rattle.stations.specs.Findings.{name_of}
+use Rattle.stations.specs.Findings.{sink_name}
 use Rattle.station_check.proofs.Firsts.{first_at, none_of}
 use Rattle.station_check.proofs.gaps.check_gaps.Goals as goal
 
@@ -17,7 +17,7 @@ returns-in-Err-clause-fault c =
       mark = mark_at c.deref.result.now;
       marking = subst (λ m. IsMarking c.args.plan.now.nodes (mark_at m)) (sym c.deref.ensures.value) c.in_ok-marks.ensures.exact;
       first = first_at (refuses (mark_at c.deref.result.now)) c.args.plan.now.sinks c.in-Err.fault.sink told.0 told.1 told.2 c.in-Err.ensures.first
-          ∙ ap (λ s. Some (name_of s)) (sym same) ∙ ap Some (sym c.in_ok-name.ensures);
+          ∙ ap (λ s. Some (sink_name s)) (sym same) ∙ ap Some (sym c.in_ok-name.ensures);
     }
 
 pub returns-clause-safe : goal.returns-clause-safe

@@ -1,5 +1,5 @@
 use Rattle.std.proofs.Common.{◌≡◌, ◌<◌, ◌≤◌, ◌+◌, ◌-◌, ◌%◌, ◌∙◌, max, arith, ap, sym}
-use Rattle.time_pred.specs.Marks.{is_within, period_of, value_of}
+use Rattle.time_pred.specs.Marks.{is_in_interval, period_of, value_of}
 use Rattle.time_pred.proofs.Steady.{both_wholes, later_is, within_same}
 use Rattle.time_pred.proofs.mark.steady_between.Goals as goal
 
@@ -11,7 +11,7 @@ returns-clause-stays c = λ j low.
     let left = c.until-left.ensures.within in
     let both = c.until.ensures.within in
     let less : x + j < max (period_of c.args.from) (period_of c.args.to) = omega (arith, low, left, both, since, period) in
-    ap (is_within (value_of c.args.from) (value_of c.args.to)) (later_is (max (period_of c.args.from) (period_of c.args.to)) c.args.at.second j (both_wholes c.args.from c.args.to) less)
+    ap (is_in_interval (value_of c.args.from) (value_of c.args.to)) (later_is (max (period_of c.args.from) (period_of c.args.to)) c.args.at.second j (both_wholes c.args.from c.args.to) less)
     ∙ within_same (value_of c.args.from) (value_of c.args.to) x j
     (λ ahead. let value = c.value.ensures in let before = c.until-left.ensures.before (omega (arith, ahead, since, value)) in omega (arith, low, both, before, since, value))
     (λ ahead. let value = c.value-2.ensures in let before = c.until.ensures.before (omega (arith, ahead, since, value)) in omega (arith, low, before, since, value))

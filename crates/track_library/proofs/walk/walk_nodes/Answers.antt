@@ -3,7 +3,7 @@ use Rattle.std.specs.Prelude.{Ok}
 use Rattle.std.proofs.lemmas.List.{at_drop_all}
 use Rattle.plan_core.specs.declared.node.Node.{Node}
 use Rattle.liq_base.proofs.Shelves.{read_then}
-use Rattle.track_library.specs.Walk.{Ends, load_of, leaf_of, leaf_added, nodes_walked, sounds_of}
+use Rattle.track_library.specs.Walk.{Ends, load_of, leaf_of, leaf_added, nodes_walked, sounds_or_fault}
 use Rattle.track_library.specs.Reads.{LeafReads, LoadReads}
 use Rattle.track_library.specs.States.{heard_of, walked_of}
 use Rattle.track_library.proofs.Ending.{ends_through}
@@ -26,7 +26,7 @@ returns-in_err-leaf-clause-fault g c =
     (λ files. load_of by files c.args.plan.now.nodes) c.in_err-leaf.field-0.0
     c.loop-node.invariant.0
     (λ files t e h.
-    ap sounds_of
+    ap sounds_or_fault
     (c.loop-node.invariant.2 files t
     ∙ next_node_of by files c.as_slice-node-items.result.now c.args.plan.now.nodes c.loop-node.node-index (walked_of c.loop-node.walk) leaves c.node-item.result
     c.as_slice-node-items.ensures c.loop-node-test.true c.node-item.is

@@ -2,7 +2,7 @@ use Rattle.std.proofs.Common.{◌≡◌, ◌∙◌, ◌+◌, ◌++◌, ap, map, 
 use Rattle.script_grammar.specs.View.{view_stmt}
 use Rattle.name_scope.specs.Noted.{resolved}
 use Rattle.name_scope.specs.Seen.{in_scope}
-use Rattle.typing_rules.specs.NameFaults.{faults_in, in_statement, told}
+use Rattle.typing_rules.specs.NameFaults.{faults_in, name_fault_in, reported_fault}
 use Rattle.type_infer.proofs.Fronting.{at_most_seen, below_seen, front_end, front_here, names_next, over_seen, scope_next, stmt_seen}
 use Rattle.type_infer.proofs.front.resolve_front.Goals as goal
 
@@ -13,7 +13,7 @@ returns-in-Err c =
     let x = c.stmt-item.result in
     front_here (map view_stmt xs) i c.loop-stmt.number (map resolved c.loop-stmt.all.items) (view_stmt x) (in_scope c.loop-stmt.scope) c.in-Err.fault
     c.loop-stmt.invariant.number_is c.loop-stmt.invariant.names_are (below_seen xs i c.loop-stmt-test.true) (stmt_seen xs i x c.loop-stmt-test.true c.stmt-item.is) c.loop-stmt.invariant.scope_is
-    (λ other. subst (λ n. option_map (in_statement (n + 1)) (told (faults_in (in_scope c.loop-stmt.scope) (view_stmt x))) ≡ Some c.in-Err.fault) c.loop-stmt.invariant.number_is (c.in-Err.ensures.told other))
+    (λ other. subst (λ n. option_map (name_fault_in (n + 1)) (reported_fault (faults_in (in_scope c.loop-stmt.scope) (view_stmt x))) ≡ Some c.in-Err.fault) c.loop-stmt.invariant.number_is (c.in-Err.ensures.told other))
 
 pub loop-stmt-preserved : goal.loop-stmt-preserved
 loop-stmt-preserved c =

@@ -3,7 +3,7 @@ use Rattle.type_terms.specs.Term.{term_of}
 use Rattle.name_scope.specs.Seen.{seen_label, seen_parameter}
 use Rattle.name_scope.specs.Labelled.{on}
 use Rattle.name_scope.specs.Seen.{left_of}
-use Rattle.typing_rules.specs.Arguments.{Given}
+use Rattle.typing_rules.specs.Arguments.{GivenArgument}
 use Rattle.type_steps.specs.Fitting.{left_given, seen_argument, var_at}
 use Rattle.type_steps.proofs.Fits.{Fitting, fitting_done, fitting_none, fitting_step, fitting_stops, inside_by, none_left, some_left}
 use Rattle.type_steps.proofs.arguments.fit_labelled.Goals as goal
@@ -11,7 +11,7 @@ use Rattle.type_steps.proofs.arguments.fit_labelled.Goals as goal
 pub loop-i-init : goal.loop-i-init
 loop-i-init c =
     let gs = c.args.given.now in
-    subst (λ (xs : List (Given ℕ)). Fitting c.args.subst.now c.args.subst.now (map seen_parameter c.args.params.now) (map seen_parameter c.args.params.now) (map term_of c.args.types.now) (map term_of c.args.types.now) (map seen_argument gs) xs)
+    subst (λ (xs : List (GivenArgument ℕ)). Fitting c.args.subst.now c.args.subst.now (map seen_parameter c.args.params.now) (map seen_parameter c.args.params.now) (map term_of c.args.types.now) (map term_of c.args.types.now) (map seen_argument gs) xs)
     (sym c.requires.all)
     (fitting_none c.args.subst.now (map seen_parameter c.args.params.now) (map term_of c.args.types.now) (map seen_argument gs) c.requires.inside c.requires.over)
 
