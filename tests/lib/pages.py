@@ -74,10 +74,11 @@ def refusals_that_differ(_program):
 
 
 def statements_that_differ(_program):
-    """The count of the theorem on the page of promises is that of the tool."""
+    """The count of the theorem on the page of promises is that of the tool, and no name of its definitions stands for two."""
     count = told_by("theorem", "--count").strip()
     told = count and count in text_of("docs/promises.md")
-    return [] if told else [f"docs/promises.md does not tell the count: {count}"]
+    found = [] if told else [f"docs/promises.md does not tell the count: {count}"]
+    return found + [f"two definitions have one name: {row}" for row in told_by("theorem", "--twice").splitlines() if row]
 
 
 def tools_that_fail(_program):
