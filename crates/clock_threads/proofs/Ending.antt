@@ -99,7 +99,7 @@ module _ {S R : Type 0} where
               });
           ended = inl (λ k h. ((l.going.clocks k h).gone.stand.runs, refl));
           runs = λ b low. (let g = going_runs told wires W N l.windows first now logs d l.going ready.places b low in
-              (g.0, run_more (wire_at wires b).capacity [] g.0 g.0 (windows_upto (wire_at wires b) l.going.clock_calls b W N l.windows) [] [] g.1 Legal.ended));
+              (g.0, run_more (wire_at wires b).capacity [] g.0 g.0 (windows_upto (wire_at wires b) l.going.clock_calls b W N l.windows) [] [] g.1 Legal.all_done));
           in_order = λ b low e. (let f = going_local told wires W N l.windows first now logs d l.going ready.places b low e in
               (f.0, subst (λ cs. Follows (wire_at wires b).capacity [] (on b cs) f.0) (sym (append-nil (joined_upto (l.going.clock_calls (wire_at wires b).from).calls (start W N l.windows)))) f.1));
         }

@@ -47,7 +47,7 @@ idle_begun setting clocks W N = record {
   whole = λ rest m. subst (λ n. IsBegin (joined_between (calls_in (setting_then setting (idle_run setting) rest) clocks (λ n t b. true) m) n 0) []) (sym (start_zero W N)) (begin_none []);
   begun = λ rest m. begin_none (joined_between (calls_in (setting_then setting (idle_run setting) rest) clocks (λ n t b. true) m) (start W N 0) 0);
   are = λ rest b less. listed_at (length setting.plan.buffers) idle_windows b [] less;
-  legal = λ b less. ([], subst (λ (ws : List Window). IsHistory (capacity_of setting b) [] ws []) (sym (listed_at (length setting.plan.buffers) idle_windows b [] less)) ([], Legal.ended, refl));
+  legal = λ b less. ([], subst (λ (ws : List Window). IsHistory (capacity_of setting b) [] ws []) (sym (listed_at (length setting.plan.buffers) idle_windows b [] less)) ([], Legal.all_done, refl));
   in_order = λ rest b less one. ([], subst (λ n. Follows (capacity_of setting b) [] (on b (joined_upto (calls_in (setting_then setting (idle_run setting) rest) clocks (λ n t b. true) (feeder setting b)) n ++ [])) []) (sym (start_zero W N)) refl);
 }
 

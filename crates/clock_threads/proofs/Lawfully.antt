@@ -32,7 +32,7 @@ leads_follows q (Given b chunk false ∷ cs) r l = (l.1.0, subst (λ (h : Held).
 
 -- a history in a given order is a legal window
 pub follows_legal : (C b : ℕ) (cs : List Call) (q r : List (List Cell)) → Follows C q (on b cs) r → Legal C r q (puts_to b cs) (takes_of b cs)
-follows_legal C b [] q r f = subst (λ l. Legal C r l [] []) (sym f) Legal.ended
+follows_legal C b [] q r f = subst (λ l. Legal C r l [] []) (sym f) Legal.all_done
 follows_legal C b (Took x o ∷ cs) q r f = go (b == x) o (λ q' g. follows_legal C b cs q' r g) f
   where
     go : (t : Bool) (o' : Option (List Cell)) → ((q' : List (List Cell)) → Follows C q' (on b cs) r → Legal C r q' (puts_to b cs) (takes_of b cs))
@@ -46,7 +46,7 @@ follows_legal C b (Given x c a ∷ cs) q r f = go (b == x) a (λ q' g. follows_l
         → Follows C q (if t then Given x c a' ∷ on b cs else on b cs) r → Legal C r q (if t then put_of c a' ∷ puts_to b cs else puts_to b cs) (takes_of b cs)
     go false a' rec g = rec q g
     go true true rec g = Legal.accepted g.0 (rec (q ++ c ∷ []) g.1)
-    go true false rec g = Legal.full g.0 (rec q g.1)
+    go true false rec g = Legal.put_refused g.0 (rec q g.1)
 
 pub flat_snoc : {A B : Type 0} (f : A → List B) (xs : List A) (y : A) → flat_map f (xs ++ y ∷ []) ≡ flat_map f xs ++ f y
 flat_snoc f [] y = append-nil (f y)

@@ -54,7 +54,7 @@ filled_is_lawful = record {
   whole = refl;
   tight = one_alone (λ j. start 2 2 j < 2) (omega arith);
   are = one_alone (λ b. windows_of filled b ≡ windows_in (setting_in unread filled) 1 first_only b 2 2 1) refl;
-  legal = one_alone (λ b. (rest : List (List Cell)) × IsHistory (capacity_of unread b) [] (windows_of filled b) rest) (one ∷ [], (one ∷ [], Legal.accepted (omega arith) (Legal.full refl Legal.ended), refl));
+  legal = one_alone (λ b. (rest : List (List Cell)) × IsHistory (capacity_of unread b) [] (windows_of filled b) rest) (one ∷ [], (one ∷ [], Legal.accepted (omega arith) (Legal.put_refused refl Legal.all_done), refl));
   in_order = one_alone (λ b. feeder unread b ≡ reader unread b → (rest : List (List Cell)) × Follows (capacity_of unread b) [] (on b (joined_upto (calls_in (setting_in unread filled) 1 first_only (feeder unread b)) 2)) rest)
       (λ e. zero_one e);
 }
@@ -76,7 +76,7 @@ late_is_lawful = record {
   tight = one_alone (λ j. start 2 2 j < 2) (omega arith);
   are = one_alone (λ b. windows_of late b ≡ windows_in (setting_in joined late) 2 first_only b 2 2 1) refl;
   legal = one_alone (λ b. (rest : List (List Cell)) × IsHistory (capacity_of joined b) [] (windows_of late b) rest)
-      ([], ([], Legal.empty (Legal.accepted (omega arith) (Legal.full refl (Legal.got Legal.ended))), refl));
+      ([], ([], Legal.empty (Legal.accepted (omega arith) (Legal.put_refused refl (Legal.got Legal.all_done))), refl));
   in_order = one_alone (λ b. feeder joined b ≡ reader joined b → (rest : List (List Cell)) × Follows (capacity_of joined b) [] (on b (joined_upto (calls_in (setting_in joined late) 2 first_only (feeder joined b)) 2)) rest)
       (λ e. zero_one e);
 }
@@ -115,7 +115,7 @@ windows_are = record {
   tight = two_alone (λ j. start 1 2 j < 2) (omega arith) (omega arith);
   are = one_alone (λ b. windows_of windows b ≡ windows_in (setting_in alone windows) 1 all b 1 2 2) refl;
   legal = one_alone (λ b. (rest : List (List Cell)) × IsHistory (capacity_of alone b) [] (windows_of windows b) rest)
-      (two ∷ [], (one ∷ [], Legal.empty (Legal.accepted (omega arith) Legal.ended), (two ∷ [], Legal.got (Legal.accepted (omega arith) Legal.ended), refl)));
+      (two ∷ [], (one ∷ [], Legal.empty (Legal.accepted (omega arith) Legal.all_done), (two ∷ [], Legal.got (Legal.accepted (omega arith) Legal.all_done), refl)));
   in_order = one_alone (λ b. feeder alone b ≡ reader alone b → (rest : List (List Cell)) × Follows (capacity_of alone b) [] (on b (joined_upto (calls_in (setting_in alone windows) 1 all (feeder alone b)) 2)) rest)
       (λ e. (two ∷ [], (refl, (omega arith, ([], refl, (omega arith, refl))))));
 }
@@ -187,7 +187,7 @@ turning chunk = record { buffers = ((Some chunk ∷ [], Some chunk ∷ []) ∷ [
 
 once : (chunk : List Cell) → (b : ℕ) → b < 2 → (rest : List (List Cell)) × IsHistory (capacity_of ring b) [] (windows_of (turning chunk) b) rest
 once chunk = two_alone (λ b. (rest : List (List Cell)) × IsHistory (capacity_of ring b) [] (windows_of (turning chunk) b) rest)
-    ([], ([], Legal.accepted (omega arith) (Legal.got Legal.ended), refl)) ([], ([], Legal.accepted (omega arith) (Legal.got Legal.ended), refl))
+    ([], ([], Legal.accepted (omega arith) (Legal.got Legal.all_done), refl)) ([], ([], Legal.accepted (omega arith) (Legal.got Legal.all_done), refl))
 
 turns : (chunk : List Cell) → ((b : ℕ) → b < 2 → windows_of (turning chunk) b ≡ windows_in (setting_in ring (turning chunk)) 2 first_only b 1 1 1) → AreWindows ring 2 1 1 (turning chunk)
 turns chunk are = record {
@@ -235,12 +235,12 @@ GetsNothing [] (put ∷ puts) takes = ⊤
 GetsNothing (x ∷ q) puts takes = ⊤
 
 gets_nothing : {C : ℕ} {rest q : List (List Cell)} {puts takes : List (Option (List Cell))} → Legal C rest q puts takes → GetsNothing q puts takes
-gets_nothing {q = []} Legal.ended = tt
-gets_nothing {q = x ∷ q} Legal.ended = tt
+gets_nothing {q = []} Legal.all_done = tt
+gets_nothing {q = x ∷ q} Legal.all_done = tt
 gets_nothing {q = []} (Legal.accepted low more) = tt
 gets_nothing {q = x ∷ q} (Legal.accepted low more) = tt
-gets_nothing {q = []} (Legal.full all more) = tt
-gets_nothing {q = x ∷ q} (Legal.full all more) = tt
+gets_nothing {q = []} (Legal.put_refused all more) = tt
+gets_nothing {q = x ∷ q} (Legal.put_refused all more) = tt
 gets_nothing (Legal.got more) = tt
 gets_nothing {puts = []} (Legal.empty more) = tt
 gets_nothing {puts = put ∷ puts} (Legal.empty more) = tt
@@ -284,7 +284,7 @@ narrow_keeps_pace : KeepPace 1 0 0 narrow
 narrow_keeps_pace = (omega arith, omega arith, 0, inl refl, (omega arith, omega arith, 0, inr (omega arith), omega arith))
 
 narrow_is_history : IsHistory 1 [] narrow []
-narrow_is_history = (one ∷ [], Legal.empty (Legal.accepted (omega arith) Legal.ended), ([], Legal.full refl (Legal.got Legal.ended), refl))
+narrow_is_history = (one ∷ [], Legal.empty (Legal.accepted (omega arith) Legal.all_done), ([], Legal.put_refused refl (Legal.got Legal.all_done), refl))
 
 narrow_refuses : has_none (flat_map (λ (window : Window). window.0) narrow) ≡ true
 narrow_refuses = refl

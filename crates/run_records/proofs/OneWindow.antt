@@ -22,7 +22,7 @@ use Rattle.run_records.proofs.Running.{own_in, rests_in, rounds_in}
 
 -- calls in their order make a legal window
 follows_legal : (C b : ℕ) (calls : List Call) (q r : List (List Cell)) → Follows C q (on b calls) r → Legal C r q (puts_to b calls) (takes_of b calls)
-follows_legal C b [] q r f = subst (λ l. Legal C r l [] []) (sym f) Legal.ended
+follows_legal C b [] q r f = subst (λ l. Legal C r l [] []) (sym f) Legal.all_done
 follows_legal C b (Took x o ∷ calls) q r f = by (nat_eq b x) o (λ q' g. follows_legal C b calls q' r g) f
   where
     by : (t : Bool) (o' : Option (List Cell)) → ((q' : List (List Cell)) → Follows C q' (on b calls) r → Legal C r q' (puts_to b calls) (takes_of b calls))
@@ -36,7 +36,7 @@ follows_legal C b (Given x c a ∷ calls) q r f = by (nat_eq b x) a (λ q' g. fo
         → Follows C q (cond t (Given x c a' ∷ on b calls) (on b calls)) r → Legal C r q (cond t (put_of c a' ∷ puts_to b calls) (puts_to b calls)) (takes_of b calls)
     by false a' rest g = rest q g
     by true true rest g = Legal.accepted g.0 (rest (q ++ c ∷ []) g.1)
-    by true false rest g = Legal.full g.0 (rest q g.1)
+    by true false rest g = Legal.put_refused g.0 (rest q g.1)
 
 -- what is told of each clock's calls, where only one of them tells something
 module _ {A : Type 0} (told : List Call → List A) (none : told [] ≡ []) (joins : (xs ys : List Call) → told (xs ++ ys) ≡ told xs ++ told ys) where

@@ -25,11 +25,11 @@ Inverted C r q (Some x ∷ puts) [] = (length q < C) × Legal C r (q ++ x ∷ []
 Inverted C r q (None ∷ puts) [] = (length q ≡ C) × Legal C r q puts []
 
 inverted : {C : ℕ} {r q : List (List Cell)} {puts takes : List (Option (List Cell))} → Legal C r q puts takes → Inverted C r q puts takes
-inverted Legal.ended = refl
+inverted Legal.all_done = refl
 inverted {takes = []} (Legal.accepted low rest) = (low, rest)
 inverted {takes = take ∷ takes} (Legal.accepted low rest) = tt
-inverted {takes = []} (Legal.full all rest) = (all, rest)
-inverted {takes = take ∷ takes} (Legal.full all rest) = tt
+inverted {takes = []} (Legal.put_refused all rest) = (all, rest)
+inverted {takes = take ∷ takes} (Legal.put_refused all rest) = tt
 inverted (Legal.got rest) = tt
 inverted (Legal.empty rest) = tt
 

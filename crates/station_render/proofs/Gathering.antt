@@ -135,7 +135,7 @@ not_begun setting clocks ticks (InWindows window) may = record {
         whole = λ rest m. subst (λ n. IsBegin (joined_between (calls_in (setting_then setting (run_of (length setting.plan.buffers) []) rest) clocks (λ m t buffer. true) m) n 0) []) (sym (start_zero window ticks)) (begin_none []);
         begun = λ rest m. begin_none _;
         are = λ rest. window_at (length setting.plan.buffers) [];
-        legal = λ buffer low. ([], subst (λ (ws : List Window). IsHistory (capacity_of setting buffer) [] ws []) (sym (window_at (length setting.plan.buffers) [] buffer low)) ([], Legal.ended, refl));
+        legal = λ buffer low. ([], subst (λ (ws : List Window). IsHistory (capacity_of setting buffer) [] ws []) (sym (window_at (length setting.plan.buffers) [] buffer low)) ([], Legal.all_done, refl));
         in_order = λ rest buffer low one. (
           [],
           subst (λ n. Follows (capacity_of setting buffer) [] (on buffer (joined_upto (calls_in (setting_then setting (run_of (length setting.plan.buffers) []) rest) clocks (λ m t buffer. true) (feeder setting buffer)) n ++ [])) [])
