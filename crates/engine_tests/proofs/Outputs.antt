@@ -1,5 +1,5 @@
 -- The outputs of a plan with one.
-use Rattle.std.proofs.Common.{◌≡◌, ◌∙◌, ℕ, suc, Bool, Some, List, [], ◌∷◌, length, slice_get, cond, ap}
+use Rattle.std.proofs.Common.{◌≡◌, ◌∙◌, ℕ, suc, Some, List, [], ◌∷◌, length, slice_get, cond, ap}
 use Rattle.std.proofs.lemmas.Option.{get_or_from_slice_get, none-some}
 use Rattle.plan_core.specs.declared.plan.Plan.{Plan}
 use Rattle.plan_core.specs.declared.sink.SinkPlan.{SinkPlan}
@@ -9,9 +9,8 @@ use Rattle.clock_infer.specs.declared.clock_map.ClockMap.{ClockMap}
 use Rattle.clock_infer.specs.declared.clock_map.NodeClock.TheVariants.{Main}
 use Rattle.frame_core.specs.Library.{Sounds}
 use Rattle.stream_meaning.specs.Instants.{same_clock}
-use Rattle.stream_meaning.specs.Sinks.{IsOutput}
 use Rattle.clock_ticks.specs.Engines.{outputs_from, outputs_of}
-use Rattle.engine_tests.specs.Joined.{setting_over}
+use Rattle.engine_tests.specs.SettingOver.{setting_over}
 
 module _ (plan : Plan) (library : Sounds) (clocks : ClockMap) (node : ℕ) (clock : slice_get clocks.of node ≡ Some (Main 0)) where
   abbrev outputs_among : (i : ℕ) → List SinkPlan → List (ℕ × ℕ)
@@ -31,13 +30,3 @@ module _ (plan : Plan) (library : Sounds) (clocks : ClockMap) (node : ℕ) (cloc
   -- the main clock 0 of a plan that writes one node, which lies in it, has one output
   pub one_output : sole_node plan.sinks ≡ Some node → length (outputs_of (setting_over plan library clocks) 0) ≡ 1
   one_output sinks = one_among plan.sinks 0 sinks
-
-  -- where sink 0 writes it, this is an output of the clock
-  pub is_output : (name : List ℕ) (fallible wide : Bool) → slice_get plan.sinks 0 ≡ Some (Output name node fallible wide) → IsOutput (setting_over plan library clocks) 0 0 node
-  is_output name fallible wide there = record {
-    name = name;
-    fallible = fallible;
-    wide = wide;
-    there = there;
-    in_clock = get_or_from_slice_get clocks.of node (Main 0) (Main 0) clock;
-  }

@@ -7,8 +7,6 @@ mod buffers_tests;
 #[cfg(test)]
 mod chunks;
 #[cfg(test)]
-mod cues_tests;
-#[cfg(test)]
 mod ends_tests;
 #[cfg(test)]
 mod frames_tests;
@@ -28,9 +26,3 @@ mod segments_tests;
 mod small_engines;
 #[cfg(test)]
 mod small_plans;
-#[cfg(test)]
-mod stopped_clock_tests;
-#[cfg(test)]
-mod ticks_tests;
-#[cfg(test)]
-mod trace_log_tests;

@@ -22,52 +22,43 @@ fn offered(left: i16, title: u32) -> Option<Cell> {
     })
 }
 
-// Each row: the child used last, if any, what the two children offer, with the titles 5 and 6, whether the first one is
-// eligible, the child that is used, and the title of its cell and whether it begins a track.
-fn check(
-    rt: &impl Abort,
-    rule: Rule,
-    rows: &[(Option<u32>, i16, i16, bool, Option<(u32, u32, bool)>)],
-) {
+/// The rule, the child used last, if any, what the two children offer, with the titles 5 and 6, whether the first one
+/// is eligible, the child that is used, and the title of its cell and whether it begins a track.
+type Row = (Rule, Option<u32>, i16, i16, bool, Option<(u32, u32, bool)>);
+
+const ROWS: &[Row] = &[
+    // A child is used until its track ends.
+    (MINDS, None, 0, 1, true, Some((1, 6, true))),
+    (MINDS, Some(1), 7, -2, true, Some((1, 6, false))),
+    (MINDS, Some(1), 7, 3, true, Some((0, 5, true))),
+    (MINDS, Some(0), -7, 9, false, Some((0, 5, false))),
+    (MINDS, Some(0), 7, 9, false, Some((1, 6, true))),
+    (MINDS, Some(0), 7, 0, false, None),
+    (FREE, Some(1), -7, -2, true, Some((0, 5, true))),
+    // A sequence goes on at the end of a track.
+    (Rule::Turns, None, 0, 5, true, Some((1, 6, true))),
+    (Rule::Turns, None, 1, 1, true, Some((0, 5, true))),
+    (Rule::Turns, Some(0), -2, -2, true, Some((0, 5, false))),
+    (Rule::Turns, Some(0), 1, 1, true, Some((1, 6, true))),
+    (Rule::Turns, Some(1), 4, -3, true, Some((1, 6, false))),
+    (Rule::Turns, Some(1), 4, 3, true, Some((1, 6, true))),
+    (Rule::Turns, Some(1), 4, 0, true, None),
+];
+
+fn check(rt: &impl Abort, rows: &[Row]) {
     for row in rows {
-        let (last, left, right, eligible, used) = *row;
+        let (rule, last, left, right, eligible, used) = *row;
         let mut state = SelectState::new(rule, 2);
         if let Some(child) = last {
             state.advance(child.min(1));
         }
         let slots = [offered(left, 5), offered(right, 6)];
         let picked = state.offer(&slots, &[eligible, true]);
-        assert_eq!(rt;
-            picked.map(|it| (it.child, it.cell.title, it.cell.first)),
-            used
-        );
+        assert!(rt; picked.map(|it| (it.child, it.cell.title, it.cell.first)) == used);
     }
 }
 
 #[test]
 fn a_child_is_used_until_its_track_ends(rt: HostRuntime) {
-    let rows = [
-        (None, 0, 1, true, Some((1, 6, true))),
-        (Some(1), 7, -2, true, Some((1, 6, false))),
-        (Some(1), 7, 3, true, Some((0, 5, true))),
-        (Some(0), -7, 9, false, Some((0, 5, false))),
-        (Some(0), 7, 9, false, Some((1, 6, true))),
-        (Some(0), 7, 0, false, None),
-    ];
-    check(&rt, MINDS, &rows);
-    check(&rt, FREE, &[(Some(1), -7, -2, true, Some((0, 5, true)))]);
-}
-
-#[test]
-fn a_sequence_goes_on_at_the_end_of_a_track(rt: HostRuntime) {
-    let rows = [
-        (None, 0, 5, true, Some((1, 6, true))),
-        (None, 1, 1, true, Some((0, 5, true))),
-        (Some(0), -2, -2, true, Some((0, 5, false))),
-        (Some(0), 1, 1, true, Some((1, 6, true))),
-        (Some(1), 4, -3, true, Some((1, 6, false))),
-        (Some(1), 4, 3, true, Some((1, 6, true))),
-        (Some(1), 4, 0, true, None),
-    ];
-    check(&rt, Rule::Turns, &rows);
+    check(&rt, ROWS);
 }

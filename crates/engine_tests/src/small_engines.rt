@@ -1,56 +1,35 @@
 //! Engines of plans with one output, and what ticks of them have to show. The file has the samples 1, 2 and 3.
-ghost use Rattle.std.specs.Prelude.{◌≡◌, ◌≤◌, [], Some, length, slice_get, false, IfOk};
+ghost use Rattle.std.specs.Prelude.{◌≡◌, Some, length, slice_get, IfOk};
 ghost use Rattle.plan_core.specs.Plans.{IsWellFormed};
 ghost use Rattle.plan_samples.specs.Stereos.{sole_node};
 ghost use Rattle.clock_infer.specs.Answers.{IsClockMap};
 ghost use Rattle.clock_infer.specs.declared.clock_map.NodeClock.TheVariants.{Main as InMain};
 ghost use Rattle.frame_core.specs.Library.{IsLibrary};
 ghost use Rattle.clock_ticks.specs.Engines.{setting_of};
-ghost use Rattle.engine_tests.specs.Joined.{setting_over};
+ghost use Rattle.engine_tests.specs.SettingOver.{setting_over};
 
-use crate::small_plans::{Row, lies_in, mono, one_of, output, plan_of};
+use crate::small_plans::{Row, lies_in, one_of, plan_of};
 use buffer_ends::LocalTaps;
 use clock_infer::{ClockMap, assign};
 use clock_ticks::{ClockEngine, TickFault};
 use fixed_text::WeekSecond;
 use frame_core::Library;
-use liq_base::{MemSink, Memory, Text};
-use plan_core::{Items, Op, Plan, SinkPlan};
+use liq_base::{MemSink, Memory};
+use plan_core::Plan;
 use std::alloc::{AllocError, Global};
 use std::process::Abort;
 use std::test::Fail;
 
-/// The file alone, played again and again, with so many samples a tick, and its output, wide or not.
-pub(crate) fn looped(alloc: Global, frame: u32, wide: bool) -> Result<Plan, AllocError>
-    requires some { 1 ≤ frame }
-    requires few { frame ≤ 65536 }
-    ensures well_formed { IfOk result IsWellFormed }
-    ensures size { IfOk result (λ plan. length plan.nodes ≡ 1) }
-    ensures sinks { IfOk result (λ plan. sole_node plan.sinks ≡ Some 0) }
-    ensures output { IfOk result (λ plan. slice_get plan.sinks 0 ≡ Some (SinkPlan.Output [] 0 false wide)) }
-{
-    let sinks = Items::from_vec(vec![in alloc; output(alloc, 0, wide)]?);
-    let file = Text::from_string(String::new(alloc));
-    let single = mono(Op::Single(file), Vec::new(alloc));
-    Ok(Plan {
-        rate: 8000,
-        frame,
-        nodes: Items::from_vec(vec![in alloc; single]?),
-        sinks,
-        buffers: Items::new(alloc),
-    })
-}
-
-/// A sink with ample room that fails so.
-pub(crate) fn one_sink(alloc: Global, fails: &[(u64, u64)]) -> Result<Vec<MemSink>, Fail>
+// A sink with ample room.
+fn one_sink(alloc: Global) -> Result<Vec<MemSink>, Fail>
     ensures { IfOk result (λ outs. length outs.items ≡ 1) }
 {
-    let out = MemSink::new(alloc, 40_000, Vec::from_slice(alloc, fails)?)?;
+    let out = MemSink::new(alloc, 40_000, Vec::new(alloc))?;
     Ok(Vec::from_array(alloc, [out])?)
 }
 
-/// The engine of the main clock 0, which writes this node alone, from the first second of the week on.
-pub(crate) fn begun<'a>(
+// The engine of the main clock 0, which writes this node alone, from the first second of the week on.
+fn begun<'a>(
     alloc: Global,
     plan: &'a Plan,
     clocks: &'a ClockMap,
@@ -73,8 +52,8 @@ pub(crate) fn begun<'a>(
     ClockEngine::new(alloc, plan, clocks, 0, library, outs, start)
 }
 
-/// Makes a tick of an engine that runs.
-pub(crate) fn tick(
+// Makes a tick of an engine that runs.
+fn tick(
     rt: &impl Abort,
     alloc: Global,
     engine: &mut ClockEngine<'_, MemSink>,
@@ -93,20 +72,17 @@ pub(crate) fn tick(
 /// What ticks have to show.
 #[derive(Clone, Copy)]
 pub(crate) struct Want {
-    /// How many are tried, at least one.
+    /// How many are made.
     pub(crate) ticks: u64,
 
-    /// How the last one ends.
-    pub(crate) ending: Result<(), TickFault>,
-
-    /// How many segments all have, where it is told.
-    pub(crate) segments: Option<u64>,
+    /// How many segments all have.
+    pub(crate) segments: u64,
 
     /// What the sink holds, where it is told.
     pub(crate) held: Option<&'static [u8]>,
 }
 
-// The ticks end so.
+// So many ticks are made, in so many segments.
 fn check_ticks(
     rt: &impl Abort,
     alloc: Global,
@@ -116,21 +92,11 @@ fn check_ticks(
 )
     requires buffers { length taps.old ≡ length (setting_of engine.old.parts).plan.buffers }
 {
-    let before = want.ticks.saturating_sub(1);
-    for _ in 0..before {
-        assert_eq!(rt; tick(rt, alloc, engine, taps), Ok(()));
+    for _ in 0..want.ticks {
+        assert!(rt; tick(rt, alloc, engine, taps).is_ok());
     }
-    assert_eq!(rt; tick(rt, alloc, engine, taps), want.ending);
-    assert_eq!(rt; engine.stopped(), want.ending.err());
-    let made = if want.ending.is_ok() {
-        want.ticks
-    } else {
-        before
-    };
-    assert_eq!(rt; engine.ticks(), made);
-    if let Some(segments) = want.segments {
-        assert_eq!(rt; engine.segments(), segments);
-    }
+    assert!(rt; engine.ticks() == want.ticks);
+    assert!(rt; engine.segments() == want.segments);
 }
 
 // One sink holds these bytes, where they are told.
@@ -143,7 +109,7 @@ fn check_held(rt: &impl Abort, outs: &[MemSink], held: Option<&[u8]>) {
     }
 }
 
-// Ticks of the clock 0 over these clocks, into a sink that fails so.
+// Ticks of the clock 0 over these clocks.
 fn check_clock(
     rt: &impl Abort,
     alloc: Global,
@@ -152,7 +118,6 @@ fn check_clock(
     node: u32,
     library: &Library,
     taps: &mut LocalTaps,
-    fails: &[(u64, u64)],
     want: Want,
 ) -> Result<(), Fail>
     requires plan { IsWellFormed plan.now }
@@ -163,7 +128,7 @@ fn check_clock(
     requires clock { slice_get clocks.now.of node ≡ Some (InMain 0) }
     requires buffers { length taps.old ≡ length plan.now.buffers }
 {
-    let outs = one_sink(alloc, fails)?;
+    let outs = one_sink(alloc)?;
     match begun(alloc, plan, clocks, node, library, outs) {
         Ok(mut engine) => {
             check_ticks(rt, alloc, &mut engine, taps, want);
@@ -181,7 +146,6 @@ fn check_library(
     plan: &Plan,
     node: u32,
     library: &Library,
-    fails: &[(u64, u64)],
     want: Want,
 ) -> Result<(), Fail>
     requires plan { IsWellFormed plan.now }
@@ -192,18 +156,15 @@ fn check_library(
     let clocks = assign(alloc, plan)?;
     assert!(rt; lies_in(&clocks, node, 0));
     let mut taps = LocalTaps::new(alloc, plan)?;
-    check_clock(
-        rt, alloc, plan, &clocks, node, library, &mut taps, fails, want,
-    )
+    check_clock(rt, alloc, plan, &clocks, node, library, &mut taps, want)
 }
 
-/// Ticks of a plan that writes this node, over the file, which its first node plays, into a sink that fails so.
-pub(crate) fn check_plan(
+// Ticks of a plan that writes this node, over the file, which its first node plays.
+fn check_plan(
     rt: &impl Abort,
     alloc: Global,
     plan: &Plan,
     node: u32,
-    fails: &[(u64, u64)],
     want: Want,
 ) -> Result<(), Fail>
     requires plan { IsWellFormed plan.now }
@@ -212,7 +173,7 @@ pub(crate) fn check_plan(
     let count = plan.nodes.len();
     assert!(rt; count >= 1 && count <= 5);
     let library = one_of(alloc, count)?;
-    check_library(rt, alloc, plan, node, &library, fails, want)
+    check_library(rt, alloc, plan, node, &library, want)
 }
 
 // The number of the last of these.
@@ -230,5 +191,5 @@ pub(crate) fn check_rows(
 ) -> Result<(), Fail> {
     let node = last(rows);
     let plan = plan_of(rt, alloc, frame, rows, node)?;
-    check_plan(rt, alloc, &plan, node, &[], want)
+    check_plan(rt, alloc, &plan, node, want)
 }

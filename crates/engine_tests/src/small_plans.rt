@@ -1,16 +1,16 @@
 //! Small plans, as tables of their nodes, the clocks of these, and the file that the first node plays. Its samples are
 //! 1, 2 and 3.
-ghost use Rattle.std.specs.Prelude.{◌≡◌, ◌<◌, ◌≤◌, [], Some, IfOk, length, slice_get, false, true};
+ghost use Rattle.std.specs.Prelude.{◌≡◌, ◌≤◌, [], Some, IfOk, length, slice_get, true};
 ghost use Rattle.plan_core.specs.Plans.{IsWellFormed};
 ghost use Rattle.plan_samples.specs.Stereos.{sole_node};
 ghost use Rattle.clock_infer.specs.declared.clock_map.NodeClock.TheVariants.{Main as InMain};
-ghost use Rattle.frame_core.specs.Library.{IsLibrary, tracks_of};
+ghost use Rattle.frame_core.specs.Library.{IsLibrary};
 
 use clock_infer::{ClockMap, NodeClock};
 use fixed_text::TimeMark;
 use frame_core::{Library, Track};
 use liq_base::{Kind, Text};
-use plan_core::{BufferPlan, Items, Node, Op, Plan, Preds, SinkPlan};
+use plan_core::{BufferPlan, Op, Plan, Preds};
 use plan_samples::CheckedDraft;
 use std::alloc::{AllocError, Global};
 use std::process::Abort;
@@ -142,7 +142,6 @@ pub(crate) fn one_of(alloc: Global, count: usize) -> Result<Library, AllocError>
     requires few { count ≤ 5 }
     ensures library { IfOk result (λ library. IsLibrary library) }
     ensures leaves { IfOk result (λ library. length library.leaves ≡ count) }
-    ensures one { IfOk result (λ library. length (tracks_of library 0) ≡ 1) }
 {
     let file = Track::new(Kind::Mono, Vec::from_slice(alloc, &[1, 2, 3])?);
     let first = Vec::from_slice(alloc, &[0])?;
@@ -158,31 +157,6 @@ pub(crate) fn one_of(alloc: Global, count: usize) -> Result<Library, AllocError>
     let files = Vec::from_array(alloc, [file])?;
     let names = Vec::from_array(alloc, [no_name(alloc)])?;
     Ok(Library::new(files, names, leaves))
-}
-
-/// A mono node.
-pub(crate) fn mono(op: Op, children: Vec<u32>) -> Node
-    ensures op { result.op ≡ op }
-    ensures kind { result.kind ≡ Kind.Mono }
-    ensures children { result.children ≡ children.items }
-{
-    Node {
-        op,
-        kind: Kind::Mono,
-        children: Items::from_vec(children),
-    }
-}
-
-/// An output of this node, without a name, wide or not.
-pub(crate) fn output(alloc: Global, node: u32, wide: bool) -> SinkPlan
-    ensures { result ≡ SinkPlan.Output [] node false wide }
-{
-    SinkPlan::Output {
-        name: no_name(alloc),
-        node,
-        fallible: false,
-        wide,
-    }
 }
 
 // Whether this is the main clock of this number.

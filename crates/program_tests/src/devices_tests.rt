@@ -1,17 +1,15 @@
 // Devices that fail: each call of a rendering of two ticks in turn, and each piece after every number of its bytes.
 // What is left is worked out by hand from the rules in `docs/outside.md` and `docs/formats.md`.
-use crate::threads_tests::{sink, words_of};
+use crate::calls::{
+    CARRIED, Failing, ONE_TWO_THREE, call, call_told, failing_sink, held, let_fail, shelf,
+    shelf_of, sink,
+};
 use liq_base::{FreeGate, MemShelf, MemSink};
-use liq_cli::liq;
-use std::alloc::Global;
+use std::alloc::{AllocError, Global};
 use std::process::Abort;
 use std::sync::Wait;
 use std::test::Fail;
 use std::thread::Threads;
-
-/// Mono, 8000 Hz, the samples 1 2 3.
-const ONE_TWO_THREE: &[u8] =
-    b"RIFF\x2a\0\0\0WAVEfmt \x10\0\0\0\x01\0\x01\0\x40\x1f\0\0\x80\x3e\0\0\x02\0\x10\0data\x06\0\0\0\x01\0\x02\0\x03\0";
 
 /// One output. A tick has 8 samples.
 const ONE: &str =
@@ -48,16 +46,6 @@ const LINES: &[&str] = &[
     "render f 2 --window=1",
     "render f 2 --one-thread",
 ];
-
-/// Which call of a device fails, each counted from 0, and for a piece after how many bytes.
-#[derive(Clone, Copy)]
-enum Failing {
-    Read(u64),
-    Creation(u64),
-    Piece(u32, u64, u64),
-    Closing(u64),
-    Report(u64),
-}
 
 /// What is left under the name of an output: what stood there before; or the front of the output, with a number of
 /// bytes that may lie between these two.
@@ -108,43 +96,49 @@ fn failed(first: Left, second: Left) -> Ending {
     }
 }
 
-// Adds a file.
-fn put(
-    alloc: Global,
-    files: &mut Vec<(String, Vec<u8>)>,
-    name: &str,
-    bytes: &[u8],
-) -> Result<(), Fail> {
-    files.push((String::from_str(alloc, name)?, bytes.to_vec(alloc)?))?;
-    Ok(())
-}
+const AUDIO_AND_OLD: &[(&str, &[u8])] = &[("B", ONE_TWO_THREE), ("A", OLD), ("C", OLD)];
 
 // A script, the audio file that it names, and perhaps old outputs.
-fn shelf(alloc: Global, script: &str, is_old: bool) -> Result<MemShelf, Fail> {
-    let mut files = Vec::new(alloc);
-    put(alloc, &mut files, "f", script.as_bytes())?;
-    put(alloc, &mut files, "B", ONE_TWO_THREE)?;
+fn shelf_over(alloc: Global, script: &str, is_old: bool) -> Result<MemShelf, AllocError> {
     if is_old {
-        put(alloc, &mut files, "A", OLD)?;
-        put(alloc, &mut files, "C", OLD)?;
+        shelf_of(alloc, script, AUDIO_AND_OLD)
+    } else {
+        shelf(alloc, script)
     }
-    Ok(MemShelf::new(alloc, files))
 }
 
-// Lets a call of the shelf fail, or answers so that an append to `out` fails.
-fn let_fail(
+// The sink of a report, which fails where it is told to.
+fn report_sink(alloc: Global, failing: Failing) -> Result<MemSink, Fail> {
+    match failing {
+        Failing::Report(call, taken) => failing_sink(alloc, call, taken),
+        _ => sink(alloc),
+    }
+}
+
+// What is left of the outputs and of the report.
+fn check_left(rt: &impl Abort, shelf: &MemShelf, told: &[u8], ending: Ending, is_old: bool) {
+    let before = if is_old { Some(OLD) } else { None };
+    assert!(rt; is_left(ending.first, shelf.get("A"), before));
+    assert!(rt; is_left(ending.second, shelf.get("C"), before));
+    assert!(rt; told.len() == ending.told && REPORT.starts_with(told));
+}
+
+// What a call of these words leaves on a shelf.
+fn check_shelf<R: Abort + Threads + Wait + Sync>(
+    rt: &R,
     alloc: Global,
+    line: &str,
     shelf: &mut MemShelf,
     failing: Failing,
-) -> Result<Vec<(u64, u64)>, Fail> {
-    match failing {
-        Failing::Read(call) => shelf.fail_read(call)?,
-        Failing::Creation(call) => shelf.fail_create(call)?,
-        Failing::Piece(output, call, taken) => shelf.fail_append(output, call, taken)?,
-        Failing::Closing(call) => shelf.fail_close(call)?,
-        Failing::Report(taken) => return Ok(vec![in alloc; (0, taken)]?),
-    }
-    Ok(Vec::new(alloc))
+    ending: Ending,
+    is_old: bool,
+) -> Result<(), Fail> {
+    let_fail(shelf, failing)?;
+    let mut out = report_sink(alloc, failing)?;
+    let found = call_told(rt, alloc, line, shelf, &mut out, &FreeGate)?;
+    assert!(rt; found == (ending.status, 0), "{line}");
+    check_left(rt, shelf, out.held(), ending, is_old);
+    Ok(())
 }
 
 // What a call of these words leaves, over old outputs or none.
@@ -157,19 +151,8 @@ fn check_over<R: Abort + Threads + Wait + Sync>(
     is_old: bool,
 ) -> Result<(), Fail> {
     let (script, line) = run;
-    let mut shelf = shelf(alloc, script, is_old)?;
-    let fails = let_fail(alloc, &mut shelf, failing)?;
-    let mut out = MemSink::new(alloc, 1000, fails)?;
-    let mut err = sink(alloc)?;
-    let words = words_of(alloc, line)?;
-    let status = liq(rt, alloc, &words, &mut shelf, &mut out, &mut err, &FreeGate);
-    let before = if is_old { Some(OLD) } else { None };
-    assert_eq!(rt; status, ending.status, "{line}");
-    assert!(rt; is_left(ending.first, shelf.get("A"), before));
-    assert!(rt; is_left(ending.second, shelf.get("C"), before));
-    assert!(rt; out.held().len() == ending.told && REPORT.starts_with(out.held()));
-    assert_eq!(rt; err.held(), b"".as_slice());
-    Ok(())
+    let mut shelf = shelf_over(alloc, script, is_old)?;
+    check_shelf(rt, alloc, line, &mut shelf, failing, ending, is_old)
 }
 
 // What a call of these words leaves.
@@ -215,7 +198,7 @@ fn check_reports<R: Abort + Threads + Wait + Sync>(
             second,
             told,
         };
-        check(rt, alloc, run, Failing::Report(told as u64), ending)?;
+        check(rt, alloc, run, Failing::Report(0, told as u64), ending)?;
     }
     Ok(())
 }
@@ -274,6 +257,7 @@ fn check_one<R: Abort + Threads + Wait + Sync>(
     check_no_more(rt, alloc, run, Failing::Read(2), Left::Before, 27)?;
     check_no_more(rt, alloc, run, Failing::Creation(1), Left::Before, 27)?;
     check_no_more(rt, alloc, run, Failing::Piece(0, 3, 0), Left::Before, 27)?;
+    check_no_more(rt, alloc, run, Failing::Report(1, 0), Left::Before, 27)?;
     check_no_more(rt, alloc, run, Failing::Closing(1), Left::Before, 27)
 }
 
@@ -385,77 +369,78 @@ fn the_other_clock_ends_its_window(rt: HostRuntime) -> Result<(), Fail> {
     check_apart_ticks(&rt, alloc, "render f 2 --one-thread", (44, 76, 76, 108))
 }
 
-/// A source in the clock `main`, and a buffer that carries it to the clock `b`.
-const CARRIED: &str =
-    "set(\"frame.audio.samplerate\", 8000)\nset(\"frame.duration\", 0.001)\ns = single(\"B\")\noutput.file(%wav, \"A\", s)\noutput.file(%wav, \"C\", clock(id=\"b\", mksafe(buffer(buffer=0.002, max=0.01, s))))\n";
-
 // Ten ticks in windows of two: the output of clock `b` fails at its tick 2, after so many bytes, and no window follows.
 fn check_third_append<R: Abort + Threads + Wait + Sync>(
     rt: &R,
     alloc: Global,
+    shelf: &mut MemShelf,
     taken: usize,
 ) -> Result<(), Fail> {
     assert!(rt; taken <= TICK);
-    let mut shelf = shelf(alloc, CARRIED, false)?;
-    shelf.fail_append(1, 3, taken as u64)?;
+    let_fail(shelf, Failing::Piece(1, 3, taken as u64))?;
     let mut out = sink(alloc)?;
-    let mut err = sink(alloc)?;
-    let words = words_of(alloc, "render f 10 --window=2")?;
-    let status = liq(rt, alloc, &words, &mut shelf, &mut out, &mut err, &FreeGate);
-    assert_eq!(rt; status, 4);
-    assert_eq!(rt;
-        shelf.get("A").map(|bytes| bytes.len()),
-        Some(HEADER + 4 * TICK)
-    );
-    assert_eq!(rt;
-        shelf.get("C").map(|bytes| bytes.len()),
-        Some(HEADER + 2 * TICK + taken)
-    );
-    assert_eq!(rt; out.held(), b"".as_slice());
-    assert_eq!(rt; err.held(), b"".as_slice());
+    let line = "render f 10 --window=2";
+    let ending = call_told(rt, alloc, line, shelf, &mut out, &FreeGate)?;
+    assert!(rt; ending == (4, 0) && out.held().is_empty());
+    assert!(rt; held(shelf, "A").len() == HEADER + 4 * TICK);
+    assert!(rt; held(shelf, "C").len() == HEADER + 2 * TICK + taken);
     Ok(())
 }
 
 #[test]
 fn one_clock_stops_and_the_other_ends_its_window(rt: HostRuntime) -> Result<(), Fail> {
     for taken in 0..TICK + 1 {
-        check_third_append(&rt, rt.alloc(), taken)?;
+        let mut shelf = shelf(rt.alloc(), CARRIED)?;
+        check_third_append(&rt, rt.alloc(), &mut shelf, taken)?;
     }
     Ok(())
 }
 
-// A call of these words has this line, which breaks off at each byte; no file is changed.
+// A call of these words tells this much of its line; no file is changed.
+fn check_front<R: Abort + Threads + Wait + Sync>(
+    rt: &R,
+    alloc: Global,
+    line: &str,
+    shelf: &mut MemShelf,
+    told: &[u8],
+    taken: usize,
+) -> Result<(), Fail> {
+    let mut out = sink(alloc)?;
+    let mut err = failing_sink(alloc, 0, taken as u64)?;
+    let status = call(rt, alloc, line, shelf, &mut out, &mut err, &FreeGate)?;
+    assert!(rt; status == 4 && out.held().is_empty(), "{line}");
+    assert!(rt; err.held().len() == taken && told.starts_with(err.held()));
+    assert!(rt; held(shelf, "A") == OLD);
+    Ok(())
+}
+
+// A call of these words has this line, which breaks off at each byte.
 fn check_line<R: Abort + Threads + Wait + Sync>(
     rt: &R,
     alloc: Global,
     line: &str,
     told: &[u8],
 ) -> Result<(), Fail> {
-    let mut shelf = shelf(alloc, ONE, true)?;
-    let words = words_of(alloc, line)?;
+    let mut shelf = shelf_over(alloc, ONE, true)?;
     for taken in 0..told.len() {
-        let mut out = sink(alloc)?;
-        let mut err = MemSink::new(alloc, 1000, vec![in alloc; (0, taken as u64)]?)?;
-        let status = liq(rt, alloc, &words, &mut shelf, &mut out, &mut err, &FreeGate);
-        assert_eq!(rt; status, 4, "{line}");
-        assert!(rt; err.held().len() == taken && told.starts_with(err.held()));
-        assert_eq!(rt; out.held(), b"".as_slice());
-        assert_eq!(rt; shelf.get("A"), Some(OLD));
+        check_front(rt, alloc, line, &mut shelf, told, taken)?;
     }
     Ok(())
 }
 
+/// Words, and their line.
+const TOLD: &[(&str, &[u8])] = &[
+    ("check g", b"E01 no script\n"),
+    ("render g 2", b"E01 no script\n"),
+    ("render g 2 --one-thread", b"E01 no script\n"),
+    ("render f 1 --trace=A", b"E18 two outputs A\n"),
+    ("render f 1000000000", b"E29 output too long A\n"),
+];
+
 #[test]
 fn a_line_breaks_off_at_each_byte(rt: HostRuntime) -> Result<(), Fail> {
-    let alloc = rt.alloc();
-    check_line(&rt, alloc, "check g", b"E01 no script\n")?;
-    check_line(&rt, alloc, "render g 2", b"E01 no script\n")?;
-    check_line(&rt, alloc, "render g 2 --one-thread", b"E01 no script\n")?;
-    check_line(&rt, alloc, "render f 1 --trace=A", b"E18 two outputs A\n")?;
-    check_line(
-        &rt,
-        alloc,
-        "render f 1000000000",
-        b"E29 output too long A\n",
-    )
+    for (line, told) in TOLD {
+        check_line(&rt, rt.alloc(), line, told)?;
+    }
+    Ok(())
 }

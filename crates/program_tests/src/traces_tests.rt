@@ -1,5 +1,7 @@
-// Traces that fail. What is left is worked out by hand from the rules in `docs/`.
-use crate::threads_tests::{ONE_TWO_THREE, call, shelf, sink, words_of};
+// Traces, replays and cue files that fail. What is left is worked out by hand from the rules in `docs/`.
+use crate::calls::{
+    CARRIED, Failing, ONE_TWO_THREE, call_told, held, let_fail, shelf, shelf_of, sink, words_of,
+};
 use liq_base::{FreeGate, MemShelf};
 use liq_cli::liq_alone;
 use std::alloc::Global;
@@ -8,136 +10,145 @@ use std::sync::Wait;
 use std::test::Fail;
 use std::thread::Threads;
 
-/// A source in the clock `main`, and a buffer that carries it to the clock `b` and waits for two chunks. A tick has 8
-/// samples.
-const CARRIED: &str =
-    "set(\"frame.audio.samplerate\", 8000)\nset(\"frame.duration\", 0.001)\ns = single(\"B\")\noutput.file(%wav, \"A\", s)\noutput.file(%wav, \"C\", clock(id=\"b\", mksafe(buffer(buffer=0.002, max=0.01, s))))\n";
+/// Two outputs, each of one track without a name. A tick has 8 samples.
+const TWO: &str =
+    "set(\"frame.audio.samplerate\", 8000)\nset(\"frame.duration\", 0.001)\ns = blank()\noutput.file(%wav, \"A\", s)\noutput.file(%wav, \"C\", s)\n";
+
+/// An output without a track.
+const NOTHING: &str =
+    "set(\"frame.audio.samplerate\", 8000)\nset(\"frame.duration\", 0.001)\noutput.file(%wav, fallible=true, \"A\", fail())\n";
 
 /// Bytes of an output of one tick.
 const OUTPUT_BYTES: usize = 76;
 
-// The status of a rendering of one tick with a trace.
-fn traced<R: Threads + Wait + Sync>(
+// The status of a call over the files of a script, of which one fails.
+fn status_of<R: Threads + Wait + Sync>(
     rt: &R,
     alloc: Global,
+    line: &str,
     shelf: &mut MemShelf,
+    failing: Failing,
 ) -> Result<u8, Fail> {
+    let_fail(shelf, failing)?;
     let mut out = sink(alloc)?;
-    call(
-        rt,
-        alloc,
-        "render f 1 --trace=T",
-        shelf,
-        &mut out,
-        &FreeGate,
-    )
+    let (status, _) = call_told(rt, alloc, line, shelf, &mut out, &FreeGate)?;
+    Ok(status)
 }
 
 // Both outputs are whole.
-fn check_outputs(rt: &impl Abort, shelf: &MemShelf) {
-    assert_eq!(rt; shelf.get("A").unwrap_or(&[]).len(), OUTPUT_BYTES);
-    assert_eq!(rt; shelf.get("C").unwrap_or(&[]).len(), OUTPUT_BYTES);
+fn are_whole(shelf: &MemShelf) -> bool {
+    held(shelf, "A").len() == OUTPUT_BYTES && held(shelf, "C").len() == OUTPUT_BYTES
 }
 
-/// Which call for the trace fails.
-#[derive(Clone, Copy)]
-enum Failing {
-    Creation,
-    Text,
-    Closing,
-}
-
-// Lets the call fail; creations 0 and 1 are those of the outputs.
-fn let_fail(shelf: &mut MemShelf, failing: Failing) -> Result<(), Fail> {
-    match failing {
-        Failing::Creation => shelf.fail_create(2)?,
-        Failing::Text => shelf.fail_append(2, 0, 7)?,
-        Failing::Closing => shelf.fail_close(2)?,
+// Whether the names behind the outputs hold this: the cue files, as far as they are asked for, and the trace.
+fn hold(shelf: &MemShelf, left: &[&str]) -> bool {
+    for (name, bytes) in ["T", "A.cue", "C.cue"].iter().zip(left.iter()) {
+        if held(shelf, name) != bytes.as_bytes() {
+            return false;
+        }
     }
-    Ok(())
+    true
 }
 
-/// What stands for a file that is not there.
-const NOTHING: &[u8] = b"nothing";
+/// A script, words, what fails, and what is left of the trace and of the cue files. Creations 0 and 1 are those of the
+/// outputs; cue files come behind the outputs and before the trace.
+type Row = (&'static str, &'static str, Failing, &'static [&'static str]);
 
-// What is left under the name of the trace where the call fails.
-fn check_failing<R: Abort + Threads + Wait + Sync>(
+const TRACED: &str = "render f 1 --trace=T";
+
+const BOTH: &str = "render f 1 --cues --trace=T";
+
+const ROWS: &[Row] = &[
+    (CARRIED, TRACED, Failing::Creation(2), &["none"]),
+    (CARRIED, TRACED, Failing::Piece(2, 0, 7), &["liq tra"]),
+    (CARRIED, TRACED, Failing::Closing(2), &["none"]),
+    (TWO, BOTH, Failing::Creation(2), &["none", "none", "none"]),
+    (TWO, BOTH, Failing::Piece(2, 0, 1), &["none", "0", "none"]),
+    (TWO, BOTH, Failing::Closing(2), &["none", "none", "none"]),
+    (TWO, BOTH, Failing::Creation(3), &["none", "0\n", "none"]),
+    (TWO, BOTH, Failing::Piece(3, 0, 1), &["none", "0\n", "0"]),
+    (TWO, BOTH, Failing::Creation(4), &["none", "0\n", "0\n"]),
+    (TWO, BOTH, Failing::Piece(4, 0, 1), &["l", "0\n", "0\n"]),
+];
+
+// A row over its shelf: the outputs are whole.
+fn check<R: Abort + Threads + Wait + Sync>(
     rt: &R,
     alloc: Global,
-    failing: Failing,
-    left: &[u8],
+    shelf: &mut MemShelf,
+    row: &Row,
 ) -> Result<(), Fail> {
-    let mut shelf = shelf(alloc, CARRIED)?;
-    let_fail(&mut shelf, failing)?;
-    let status = traced(rt, alloc, &mut shelf)?;
-    assert_eq!(rt; status, 4);
-    check_outputs(rt, &shelf);
-    assert_eq!(rt; shelf.get("T").unwrap_or(NOTHING), left);
+    let (_, line, failing, left) = *row;
+    let status = status_of(rt, alloc, line, shelf, failing)?;
+    assert!(rt; status == 4 && are_whole(shelf) && hold(shelf, left));
     Ok(())
 }
 
 #[test]
-fn a_trace_that_fails_leaves_the_outputs_whole(rt: HostRuntime) -> Result<(), Fail> {
-    check_failing(&rt, rt.alloc(), Failing::Creation, NOTHING)?;
-    check_failing(&rt, rt.alloc(), Failing::Text, b"liq tra")?;
-    check_failing(&rt, rt.alloc(), Failing::Closing, NOTHING)
+fn cue_files_and_traces_that_fail_leave_the_outputs_whole(rt: HostRuntime) -> Result<(), Fail> {
+    for row in ROWS {
+        let mut shelf = shelf(rt.alloc(), row.0)?;
+        check(&rt, rt.alloc(), &mut shelf, row)?;
+    }
+    Ok(())
 }
 
-/// A call of a replay that fails, each counted from 0; of the first output's tick five bytes are taken.
-#[derive(Clone, Copy)]
-enum FailingReplay {
-    Read(u64),
-    Creation(u64),
-    Tick,
-    Closing(u64),
+#[test]
+fn an_empty_cue_file_gets_no_piece(rt: HostRuntime) -> Result<(), Fail> {
+    let mut shelf = shelf(rt.alloc(), NOTHING)?;
+    let line = "render f 1 --cues";
+    let status = status_of(&rt, rt.alloc(), line, &mut shelf, Failing::Piece(1, 0, 1))?;
+    assert!(rt; status == 0 && held(&shelf, "A.cue").is_empty());
+    Ok(())
 }
 
 /// What fails of a replay of one tick, its status, and how many bytes its first output has then, if it is there.
-const REPLAYS: &[(FailingReplay, u8, Option<usize>)] = &[
-    (FailingReplay::Read(0), 3, None),
-    (FailingReplay::Read(1), 3, None),
-    (FailingReplay::Read(2), 3, None),
-    (FailingReplay::Read(3), 0, Some(76)),
-    (FailingReplay::Creation(0), 4, None),
-    (FailingReplay::Creation(1), 4, Some(44)),
-    (FailingReplay::Creation(2), 0, Some(76)),
-    (FailingReplay::Tick, 4, Some(49)),
-    (FailingReplay::Closing(0), 4, None),
-    (FailingReplay::Closing(1), 4, Some(76)),
-    (FailingReplay::Closing(2), 0, Some(76)),
+const REPLAYS: &[(Failing, u8, Option<usize>)] = &[
+    (Failing::Read(0), 3, None),
+    (Failing::Read(1), 3, None),
+    (Failing::Read(2), 3, None),
+    (Failing::Read(3), 0, Some(76)),
+    (Failing::Creation(0), 4, None),
+    (Failing::Creation(1), 4, Some(44)),
+    (Failing::Creation(2), 0, Some(76)),
+    (Failing::Piece(0, 1, 5), 4, Some(49)),
+    (Failing::Closing(0), 4, None),
+    (Failing::Closing(1), 4, Some(76)),
+    (Failing::Closing(2), 0, Some(76)),
 ];
 
 /// A trace of one tick, whose reader came later than the chunk.
 const TRACE: &[u8] = b"liq trace 1 1 16 1\nwindow 0 buffer 0 puts A takes GE\n";
 
-// The script, its audio file and the trace, with a call that fails.
-fn replayed_shelf(alloc: Global, failing: FailingReplay) -> Result<MemShelf, Fail> {
-    let script = (
-        String::from_str(alloc, "f")?,
-        CARRIED.as_bytes().to_vec(alloc)?,
-    );
-    let audio = (String::from_str(alloc, "B")?, ONE_TWO_THREE.to_vec(alloc)?);
-    let trace = (String::from_str(alloc, "T")?, TRACE.to_vec(alloc)?);
-    let mut shelf = MemShelf::new(alloc, vec![in alloc; script, audio, trace]?);
-    match failing {
-        FailingReplay::Read(number) => shelf.fail_read(number)?,
-        FailingReplay::Creation(number) => shelf.fail_create(number)?,
-        FailingReplay::Tick => shelf.fail_append(0, 1, 5)?,
-        FailingReplay::Closing(number) => shelf.fail_close(number)?,
-    }
-    Ok(shelf)
+const AUDIO_AND_TRACE: &[(&str, &[u8])] = &[("B", ONE_TWO_THREE), ("T", TRACE)];
+
+// The status of a replay.
+fn replayed(alloc: Global, words: &[String], shelf: &mut MemShelf) -> Result<Option<u8>, Fail> {
+    let mut out = sink(alloc)?;
+    let mut err = sink(alloc)?;
+    Ok(liq_alone(alloc, words, shelf, &mut out, &mut err))
+}
+
+// What a replay of which a call fails leaves.
+fn check_replay(
+    rt: &impl Abort,
+    alloc: Global,
+    words: &[String],
+    row: &(Failing, u8, Option<usize>),
+) -> Result<(), Fail> {
+    let (failing, status, left) = *row;
+    let mut shelf = shelf_of(alloc, CARRIED, AUDIO_AND_TRACE)?;
+    let_fail(&mut shelf, failing)?;
+    let found = replayed(alloc, words, &mut shelf)?;
+    assert!(rt; found == Some(status) && shelf.get("A").map(|bytes| bytes.len()) == left);
+    Ok(())
 }
 
 #[test]
 fn each_call_of_a_replay_fails(rt: HostRuntime) -> Result<(), Fail> {
     let words = words_of(rt.alloc(), "replay f 1 T")?;
-    for (failing, status, held) in REPLAYS {
-        let mut shelf = replayed_shelf(rt.alloc(), *failing)?;
-        let mut out = sink(rt.alloc())?;
-        let mut err = sink(rt.alloc())?;
-        let found = liq_alone(rt.alloc(), &words, &mut shelf, &mut out, &mut err);
-        assert!(rt; found == Some(*status));
-        assert_eq!(rt; shelf.get("A").map(|bytes| bytes.len()), *held);
+    for row in REPLAYS {
+        check_replay(&rt, rt.alloc(), &words, row)?;
     }
     Ok(())
 }

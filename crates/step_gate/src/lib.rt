@@ -3,7 +3,5 @@
 
 mod begun;
 mod step;
-#[cfg(test)]
-mod tests;
 
 pub use step::StepGate;
