@@ -11,9 +11,9 @@ use Rattle.node_states.specs.Passing.{passes}
 use Rattle.node_states.specs.Stretches.{LiesAhead}
 use Rattle.node_states.proofs.Ahead.{lies_less}
 use Rattle.clock_instants.specs.Held.{AllPassOn, gave_at}
-use Rattle.clock_instants.specs.Nodes.{IsFirst, lies_at}
+use Rattle.clock_nodes.specs.Nodes.{IsFirst, lies_at}
 use Rattle.clock_instants.specs.Stretches.{AllLieAhead}
-use Rattle.clock_instants.proofs.Places.{same_or_other}
+use Rattle.clock_nodes.proofs.Places.{same_or_other}
 
 -- no instant is asked
 pub lies_none : (library : Sounds) (state : NodeState) → LiesAhead library state 0

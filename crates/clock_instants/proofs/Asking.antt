@@ -11,8 +11,8 @@ use Rattle.stretch_laws.specs.Stretches.{IsNode}
 use Rattle.node_states.specs.declared.state.NodeState.{NodeState}
 use Rattle.node_states.specs.Passing.{asked, passes}
 use Rattle.clock_instants.specs.Held.{AllAsk}
-use Rattle.clock_instants.specs.Nodes.{IsFirst}
-use Rattle.clock_instants.proofs.Places.{same_or_other}
+use Rattle.clock_nodes.specs.Nodes.{IsFirst}
+use Rattle.clock_nodes.proofs.Places.{same_or_other}
 
 module _ (setting : Setting) (sub : ℕ → ℕ → List Slot) (clock : NodeClock) (past : List Moment) (filled : ℕ → ℕ) (states : List NodeState) where
   pub asks_none : (count : ℕ) → AllAsk setting sub clock past filled states 0 count

@@ -15,10 +15,10 @@ use Rattle.stream_meaning.proofs.Answering.{after_calls-then, answers_first, ans
 use Rattle.node_states.specs.declared.state.NodeState.{NodeState}
 use Rattle.node_states.specs.States.{StateStands, reading_by, reads, reads_at, reads_in}
 use Rattle.node_states.proofs.Chunks.{adds_none, adds_then}
-use Rattle.clock_instants.specs.Nodes.{IsFirst}
-use Rattle.clock_instants.specs.States.{ClockStands, IsIn, over}
+use Rattle.clock_nodes.specs.Nodes.{IsFirst}
+use Rattle.clock_nodes.specs.States.{ClockStands, IsIn, over}
 use Rattle.clock_instants.specs.Takes.{HasBegun, HasOwnReaders, HaveBegun, HaveTaken, HaveTakenSome, NodeBegan, NodeTookSome, begun_by, begun_in, takes_below}
-use Rattle.clock_instants.proofs.Places.{same_or_other, slice_get-set_other, slice_get-set_same}
+use Rattle.clock_nodes.proofs.Places.{same_or_other, slice_get-set_other, slice_get-set_same}
 
 -- the readers of a clock below node i have begun, by these calls
 pub record AreBegunBelow (setting : Setting) (sub : ℕ → ℕ → List Slot) (clock : NodeClock) (past : List Moment) (filled : ℕ → ℕ) (front : ℕ → List Answer)

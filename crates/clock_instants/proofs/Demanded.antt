@@ -6,7 +6,7 @@ use Rattle.plan_core.specs.declared.node.Node.{Node}
 use Rattle.stream_meaning.specs.declared.part.Part.{Part}
 use Rattle.stream_meaning.specs.Instants.{Setting, Moment, demands_from, is_root, lies_in, moment_after, uses_from}
 use Rattle.clock_instants.specs.Demands.{PicksOffer}
-use Rattle.clock_instants.specs.States.{AreRoots}
+use Rattle.clock_nodes.specs.States.{AreRoots}
 use Rattle.clock_instants.proofs.Picks.{picks_offer}
 
 -- the demands of nodes, with roots that are the same at those nodes

@@ -21,13 +21,13 @@ use Rattle.node_states.specs.declared.state.NodeState.{NodeState}
 use Rattle.node_states.specs.Passing.{passes}
 use Rattle.node_states.specs.Stretches.{GoesOn, filled_on}
 use Rattle.node_states.specs.States.{StateStands, reads, reads_at, reads_in}
-use Rattle.clock_instants.specs.Nodes.{IsFirst}
+use Rattle.clock_nodes.specs.Nodes.{IsFirst}
 use Rattle.node_states.proofs.Running.{kept_stands}
 use Rattle.clock_instants.specs.Held.{goes_through}
 use Rattle.clock_instants.specs.Stretches.{HasGoneOn, IsGoing, NodeGivesOn, NodeHasGone, begun_on}
-use Rattle.clock_instants.specs.States.{ClockStands, IsIn}
+use Rattle.clock_nodes.specs.States.{ClockStands, IsIn}
 use Rattle.clock_instants.proofs.Samples.{samples_none}
-use Rattle.clock_instants.proofs.Places.{item_there, same_or_other, slice_get-set_other, slice_get-set_same}
+use Rattle.clock_nodes.proofs.Places.{item_there, same_or_other, slice_get-set_other, slice_get-set_same}
 
 begun_none : (more : Bool) (filled : ℕ) → filled_on more 0 filled ≡ filled
 begun_none true filled = omega arith

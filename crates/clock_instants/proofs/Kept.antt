@@ -10,10 +10,10 @@ use Rattle.stream_meaning.specs.Instants.{Setting, Moment, demanded, gives, lies
 use Rattle.node_states.specs.Passing.{given_part}
 use Rattle.node_states.proofs.Hearing.{given_no}
 use Rattle.clock_instants.specs.Held.{IsHeld, gave_at, given_by}
-use Rattle.clock_instants.specs.Nodes.{IsFirst, lies_at}
+use Rattle.clock_nodes.specs.Nodes.{IsFirst, lies_at}
 use Rattle.clock_instants.proofs.Gone.{gives_in}
-use Rattle.clock_instants.proofs.Places.{same_or_other}
-use Rattle.clock_instants.proofs.Walking.{not_here}
+use Rattle.clock_nodes.proofs.Places.{same_or_other}
+use Rattle.clock_nodes.proofs.Walking.{not_here}
 
 some_by : (part : Part) (b : Bool) → is_some part.slot ≡ b → is_some (cond b part silent).slot ≡ b
 some_by part true e = e

@@ -1,12 +1,7 @@
-pub mod Places
-pub mod Linking
-pub mod Parts
-pub mod Walking
 pub mod Picks
 pub mod Marking
 pub mod Unmarked
 pub mod Demanded
-pub mod Going
 pub mod Beginning
 pub mod Reading
 mod Steadying

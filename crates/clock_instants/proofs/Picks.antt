@@ -12,9 +12,9 @@ use Rattle.stream_meaning.specs.declared.part.Part.{Part}
 use Rattle.stream_meaning.specs.Operators.{Work, Plays, Picks, Mixes, Fades, Reads, child_used, marks_at}
 use Rattle.stream_meaning.specs.Instants.{Setting, Moment, child_at, choices, last_pick, lies_in, offering, part_at, part_by, parts_upto, picked_part, second_at, silent, slots_at, work_at}
 use Rattle.clock_instants.specs.Demands.{PicksOffer}
-use Rattle.clock_instants.specs.States.{IsIn}
-use Rattle.clock_instants.proofs.Parts.{part_in-inside, parts_are, parts_long}
-use Rattle.clock_instants.proofs.Walking.{part_silent}
+use Rattle.clock_nodes.specs.States.{IsIn}
+use Rattle.clock_nodes.proofs.Parts.{part_in-inside, parts_are, parts_long}
+use Rattle.clock_nodes.proofs.Walking.{part_silent}
 
 picked-none : (slots : List Slot) (last : Option ℕ) (place : ℕ) → slot_at slots place ≡ None → picked slots last (Some place) ≡ None
 picked-none slots last place at = rw at refl

@@ -20,7 +20,7 @@ use Rattle.node_states.specs.States.{StateStands, reading_by, reads}
 use Rattle.node_states.specs.Takes.{HasBegunAt, HasTakenSome}
 use Rattle.node_states.specs.Takes as node
 use Rattle.node_states.proofs.Chunks.{adds_none, map-append}
-use Rattle.clock_instants.specs.States.{over}
+use Rattle.clock_nodes.specs.States.{over}
 use Rattle.clock_instants.specs.Takes.{HasBegun, NodeBegan, NodeTookSome, begun_by}
 
 no_reads : (rate i : ℕ) (kind : Kind) (op : Op) → IsNoReader op → reads (work_of rate i kind op) ≡ false

@@ -6,7 +6,7 @@ use Rattle.std.specs.Option.{option_map_or}
 use Rattle.std.proofs.lemmas.Bool.{le-ltb}
 use Rattle.std.proofs.lemmas.List.{length-append}
 use Rattle.op_mix.specs.Stretches.{HasLane, Lanes, heard_of, lane_at, samples_of}
-use Rattle.clock_instants.proofs.Places.{same_or_other, slice_get-set_other, slice_get-set_same}
+use Rattle.clock_nodes.proofs.Places.{same_or_other, slice_get-set_other, slice_get-set_same}
 
 pub take_front : {A : Type 0} (n : ℕ) (new rest : List A) → length new ≡ n → take n (new ++ rest) ≡ new
 take_front zero [] rest long = refl

@@ -21,9 +21,9 @@ use Rattle.stretch_laws.specs.Stretches.{IsNode, IsStretch, KeepsTitle, NodeGoes
 use Rattle.stretch_laws.proofs.Parts.{own_part, part_stays}
 use Rattle.stretch_laws.proofs.Following.{AreBelow, below_from}
 use Rattle.node_states.specs.declared.time.WeekTime.{WeekTime}
-use Rattle.clock_instants.specs.Nodes.{IsFirst}
+use Rattle.clock_nodes.specs.Nodes.{IsFirst}
 use Rattle.clock_instants.specs.Resting.{IsSameTick, NodeStretches, begins_at}
-use Rattle.clock_instants.proofs.Places.{same_or_other}
+use Rattle.clock_nodes.proofs.Places.{same_or_other}
 
 pick_some : (slots : List Slot) (last pick : Option ℕ) → is_some (picked_part (picked slots last pick)).slot ≡ true → is_some pick ≡ true
 pick_some slots last None e = absurd (false≢true e)

@@ -11,7 +11,7 @@ use Rattle.clock_instants.specs.declared.demand.Demand.{Demand}
 use Rattle.clock_instants.specs.declared.demand.Demand.TheVariants.{Nothing, Picked, Offering}
 use Rattle.clock_instants.specs.Demands.{uses_in}
 use Rattle.clock_instants.proofs.Marking.{Marked, Marked-unused}
-use Rattle.clock_instants.proofs.Places.{same_or_other}
+use Rattle.clock_nodes.proofs.Places.{same_or_other}
 
 module _ (parts : List Part) (j : ℕ) (none : part_at parts j ≡ silent) where
   other_child : (child : ℕ) (same : Bool) → nat_eq j child ≡ same → is_some (part_at parts child).slot ≡ true → (rest : Bool) → rest ≡ false → (same || rest) ≡ false

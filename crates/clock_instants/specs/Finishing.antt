@@ -6,10 +6,10 @@ use Rattle.stream_meaning.specs.declared.part.Part.{Part}
 use Rattle.stream_meaning.specs.Instants.{Setting, Moment, moment_after, second_at}
 use Rattle.node_states.specs.declared.state.NodeState.{NodeState}
 use Rattle.node_states.specs.States.{AreLong}
-use Rattle.clock_instants.specs.declared.shape.Shape.{Shape}
+use Rattle.clock_nodes.specs.declared.scene.Scene.{Scene}
 use Rattle.clock_instants.specs.Held.{IsHeld}
-use Rattle.clock_instants.specs.Shapes.{setting_over}
-use Rattle.clock_instants.specs.States.{AreRoots, AreSettled, ClockStands}
+use Rattle.clock_nodes.specs.Scenes.{setting_over}
+use Rattle.clock_nodes.specs.States.{AreRoots, AreSettled, ClockStands}
 
 -- the instant after these lies in this second, the states stand for these, the items of the clock's crossfades are
 -- settled, and `own` tells which of its nodes it demands of themselves
@@ -31,8 +31,8 @@ pub record HasFinished (setting : Setting) (sub : ℕ → ℕ
   pub stands : ClockStands setting sub clock (moment_after setting sub clock past ∷ past) filled states
 
 -- an instant of a clock was made in this second, whatever instants the states stood for
-pub record InstantFinished (shape : Shape) (own : List Bool) (clock : NodeClock) (second : ℕ) (old new : List NodeState)
+pub record InstantFinished (scene : Scene) (own : List Bool) (clock : NodeClock) (second : ℕ) (old new : List NodeState)
     (parts held : List Part) : Type 0 where
   pub made : (other : Setting) (sub : ℕ → ℕ → List Slot) (past : List Moment) (filled : ℕ → ℕ) →
-      let setting = setting_over shape other in
+      let setting = setting_over scene other in
       CanFinish setting sub clock past filled own second old → HasFinished setting sub clock past filled new parts held

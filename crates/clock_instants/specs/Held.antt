@@ -12,8 +12,8 @@ use Rattle.stretch_laws.specs.Stretches.{AreFilled, IsNode}
 use Rattle.op_mix.specs.Stretches.{Lanes, samples_of}
 use Rattle.node_states.specs.declared.state.NodeState.{NodeState}
 use Rattle.node_states.specs.Passing.{LaneFills, asked, given_part, passes}
-use Rattle.clock_instants.specs.declared.shape.Shape.{Shape}
-use Rattle.clock_instants.specs.Nodes.{lies_at}
+use Rattle.clock_nodes.specs.declared.scene.Scene.{Scene}
+use Rattle.clock_nodes.specs.Nodes.{lies_at}
 
 -- a part that was given: of a node that is demanded and offers a cell
 abbrev pub given_by : (demanded : Bool) → Part → Part
@@ -55,9 +55,9 @@ pub record AllPassOn (clocks : List NodeClock) (clock : NodeClock) (held : List 
       → gave_at held i ≡ true → passes state ≡ true → count ≤ slice_index_or rests i 0
 
 -- the same of all crossfades of a clock
-abbrev pub AllPassOnOver : Shape → NodeClock → List Part → List NodeState → (rests : List ℕ) → (count : ℕ) → Type 0
-AllPassOnOver shape clock held states rests count = AllPassOn shape.clocks.now clock held states rests
-    (length shape.clocks.now) count
+abbrev pub AllPassOnOver : Scene → NodeClock → List Part → List NodeState → (rests : List ℕ) → (count : ℕ) → Type 0
+AllPassOnOver scene clock held states rests count = AllPassOn scene.clocks.now clock held states rests
+    (length scene.clocks.now) count
 
 -- of the crossfades of a clock below this node, those that gave at the instant after these ask for this in so many
 -- instants that go on: where cells pass one slot for each, else none

@@ -1,9 +1,7 @@
-pub mod States
 pub mod Takes
 pub mod Demands
-pub mod Nodes
 pub mod Resting
 pub mod Held
 pub mod Stretches
-pub mod Shapes
 pub mod Finishing
+pub mod Instants

@@ -19,8 +19,8 @@ use Rattle.node_states.specs.Passing.{asked, passes}
 use Rattle.node_states.specs.States.{AreLong, StateStands}
 use Rattle.node_states.specs.Times.{TimeStands}
 use Rattle.node_states.specs.declared.time.WeekTime.{WeekTime}
-use Rattle.clock_instants.specs.declared.shape.Shape.{Shape}
-use Rattle.clock_instants.specs.Shapes.{setting_over}
+use Rattle.clock_nodes.specs.declared.scene.Scene.{Scene}
+use Rattle.clock_nodes.specs.Scenes.{setting_over}
 
 -- the child at a place begins a track
 abbrev pub begins_at : List Part → List ℕ → Option ℕ → Bool
@@ -74,11 +74,11 @@ pub record IsSameTick (setting : Setting) (n tick : ℕ) : Type 0 where
 
 -- node i, which has this part and gave this, goes on for so many instants, whatever instants its state stood for; and
 -- where it is a crossfade, it asks for one slot in each of them where cells pass, else for none
-pub record NodeGoesOn (shape : Shape) (i : ℕ) (parts : List Part) (held : Part) (state : NodeState)
+pub record NodeGoesOn (scene : Scene) (i : ℕ) (parts : List Part) (held : Part) (state : NodeState)
     (below below_title : ℕ) (time : WeekTime) (tick rest : ℕ) : Type 0 where
   pub goes : (other : Setting) (sub : ℕ → ℕ
       → List Slot) (clock : NodeClock) (past : List Moment) (filled : ℕ) (node : Node) →
-      let setting = setting_over shape other in
+      let setting = setting_over scene other in
       AreLong sub → IsNode setting clock i node → StateStands setting sub (moment_after setting sub clock past
       ∷ past) filled i (work_at setting i node) state
       → parts ≡ (moment_after setting sub clock past).parts

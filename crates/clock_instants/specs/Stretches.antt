@@ -18,12 +18,12 @@ use Rattle.node_states.specs.States.{AreLong, StateStands, reads, reads_at}
 use Rattle.node_states.specs.Times.{TimeStands}
 use Rattle.clock_instants.specs.declared.stretch_room.StretchRoom.{StretchRoom}
 use Rattle.clock_instants.specs.declared.stretch_room.Spare.{Spare}
-use Rattle.clock_instants.specs.declared.shape.Shape.{Shape}
+use Rattle.clock_nodes.specs.declared.scene.Scene.{Scene}
 use Rattle.clock_instants.specs.Held.{AllAsk, AreFilledOn, AreSupplied, IsHeld, gave_at, goes_through}
-use Rattle.clock_instants.specs.Nodes.{lies_at}
+use Rattle.clock_nodes.specs.Nodes.{lies_at}
 use Rattle.clock_instants.specs.Resting.{AreReadTo}
-use Rattle.clock_instants.specs.Shapes.{setting_over}
-use Rattle.clock_instants.specs.States.{ClockStands}
+use Rattle.clock_nodes.specs.Scenes.{setting_over}
+use Rattle.clock_nodes.specs.States.{ClockStands}
 
 -- node i has a lane on each side, with room for any stretch
 pub record HasLanes (left right : Lanes) (i : ℕ) : Type 0 where
@@ -60,9 +60,9 @@ pub record AllLieAhead (library : Sounds) (clocks : List NodeClock) (clock : Nod
       → gave_at held i ≡ true → LiesAhead library state count
 
 -- the same of all nodes of a clock
-abbrev pub AllLieAheadOver : Shape → NodeClock → List Part → List NodeState → (count : ℕ) → Type 0
-AllLieAheadOver shape clock held states count = AllLieAhead shape.library.now shape.clocks.now clock held states
-    (length shape.clocks.now) count
+abbrev pub AllLieAheadOver : Scene → NodeClock → List Part → List NodeState → (count : ℕ) → Type 0
+AllLieAheadOver scene clock held states count = AllLieAhead scene.library.now scene.clocks.now clock held states
+    (length scene.clocks.now) count
 
 -- the latest instant of a clock is the one after these, at this time: these are its parts, what was given there is
 -- held, and the states stand for it too; and sub-clocks go on for so long
@@ -79,16 +79,16 @@ pub record IsBehind (setting : Setting) (sub : ℕ → ℕ → List Slot) (clock
 
 -- so many instants go on as the latest one of a clock did, whatever instants the states stood for: they are a stretch
 -- with it, and for them each crossfade that gave asks for a slot an instant where cells pass, else for none
-pub record ClockGoesOn (shape : Shape) (clock : NodeClock) (time : WeekTime) (parts held : List Part)
+pub record ClockGoesOn (scene : Scene) (clock : NodeClock) (time : WeekTime) (parts held : List Part)
     (states : List NodeState) (rests : List ℕ)
     (rest : ℕ) : Type 0 where
   pub stretch : (other : Setting) (sub : ℕ → ℕ → List Slot) (past : List Moment) (filled : ℕ → ℕ) →
-      let setting = setting_over shape other in
+      let setting = setting_over scene other in
       IsBehind setting sub clock past filled time parts held states rests → IsStretch setting sub clock past (suc rest)
   pub asks : (other : Setting) (sub : ℕ → ℕ → List Slot) (past : List Moment) (filled : ℕ → ℕ) →
-      let setting = setting_over shape other in
+      let setting = setting_over scene other in
       IsBehind setting sub clock past filled time parts held states rests
-      → AllAsk setting sub clock past filled states (length shape.clocks.now) rest
+      → AllAsk setting sub clock past filled states (length scene.clocks.now) rest
 
 -- what was given at the instant after these is held, with which so many instants are a stretch, the states stand for it
 -- too, the nodes of the clock have lanes, and the crossfades through which cells pass have the samples of their
@@ -178,30 +178,30 @@ pub record HasRoomToRun (nodes : ℕ) (held parts : List Part) (left right : Lan
   pub in_spare : IsSpare spare
 
 -- the nodes of a clock have made so many instants that go on as its latest one, whatever instants the states stood for
-pub record NodesRun (shape : Shape) (clock : NodeClock) (many : ℕ) (held : List Part) (old : List NodeState)
+pub record NodesRun (scene : Scene) (clock : NodeClock) (many : ℕ) (held : List Part) (old : List NodeState)
     (left_old right_old left right : Lanes)
     (states : List NodeState) : Type 0 where
   pub run : (other : Setting) (sub : ℕ → ℕ → List Slot) (past : List Moment) (filled : ℕ → ℕ) →
-      let setting = setting_over shape other in
+      let setting = setting_over scene other in
       IsGoing setting sub clock past many filled held old left_old right_old
       → HasGoneOn setting sub clock past many filled old left right states
 
 -- node i has made them, whatever instants its state stood for
-pub record NodeRun (shape : Shape) (i many : ℕ) (held parts : List Part) (old : NodeState)
+pub record NodeRun (scene : Scene) (i many : ℕ) (held parts : List Part) (old : NodeState)
     (left_old right_old left right : Lanes)
     (state : NodeState) : Type 0 where
   pub run : (other : Setting) (sub : ℕ → ℕ
       → List Slot) (clock : NodeClock) (past : List Moment) (filled : ℕ) (node : Node) →
-      let setting = setting_over shape other in
+      let setting = setting_over scene other in
       NodeGivesOn setting sub clock past many filled i node held parts left_old right_old old
       → NodeHasGone setting sub clock past many filled i node old left right state
 
 -- node i, which gave, has made these samples of them
-pub record NodeMade (shape : Shape) (i many : ℕ) (held parts : List Part) (old : NodeState) (left_old right_old : Lanes)
+pub record NodeMade (scene : Scene) (i many : ℕ) (held parts : List Part) (old : NodeState) (left_old right_old : Lanes)
     (left right : List ℤ)
     (state : NodeState) : Type 0 where
   pub made : (other : Setting) (sub : ℕ → ℕ
       → List Slot) (clock : NodeClock) (past : List Moment) (filled : ℕ) (node : Node) →
-      let setting = setting_over shape other in
+      let setting = setting_over scene other in
       NodeGivesOn setting sub clock past many filled i node held parts left_old right_old old
       → NodeHasMade setting sub clock past many filled i node old left right state

@@ -13,8 +13,8 @@ use Rattle.stream_meaning.specs.Instants.{Setting, Moment, lies_in, reading_afte
 use Rattle.stream_meaning.specs.Calls.{HasAnswers, IsBegin, after_calls, answers_in, joined_upto, takes_by, takes_in}
 use Rattle.node_states.specs.declared.state.NodeState.{NodeState}
 use Rattle.node_states.specs.States.{StateStands, reading_by, reads_at, reads}
-use Rattle.clock_instants.specs.declared.shape.Shape.{Shape}
-use Rattle.clock_instants.specs.States.{ClockStands, IsIn, over}
+use Rattle.clock_nodes.specs.declared.scene.Scene.{Scene}
+use Rattle.clock_nodes.specs.States.{ClockStands, IsIn, over}
 
 -- node i of a plan reads a buffer
 pub record IsReader (plan : Plan) (i : ℕ) : Type 0 where
@@ -88,11 +88,11 @@ pub record NodeBegan {T : Type 0} (stands : T → List Call
       → (reading_after setting i buffer past).taken ≡ length (front buffer))
       → HasBegun setting sub past filled i (work_at setting i node) front more new
 
--- the same over a shape
-abbrev pub NodeBeganOver : {T : Type 0} → (T → List Call → Type 0) → Shape → (i : ℕ) → NodeState → NodeState → T → T
+-- the same over a scene
+abbrev pub NodeBeganOver : {T : Type 0} → (T → List Call → Type 0) → Scene → (i : ℕ) → NodeState → NodeState → T → T
     → Type 0
-NodeBeganOver stands shape i old new taps_old taps_new = NodeBegan stands shape.plan.now shape.library.now
-    shape.clocks.now i old new taps_old taps_new
+NodeBeganOver stands scene i old new taps_old taps_new = NodeBegan stands scene.plan.now scene.library.now
+    scene.clocks.now i old new taps_old taps_new
 
 -- some of these calls were made
 pub record NodeTookSome {T : Type 0} (stands : T → List Call
@@ -110,10 +110,10 @@ pub record NodeTookSome {T : Type 0} (stands : T → List Call
       → (reading_after setting i buffer past).taken ≡ length (front buffer))
       → IsBegin made (takes_in setting true past i (Some node))
 
--- the same over a shape
-abbrev pub NodeTookSomeOver : {T : Type 0} → (T → List Call → Type 0) → Shape → (i : ℕ) → NodeState → T → T → Type 0
-NodeTookSomeOver stands shape i old taps_old taps_new = NodeTookSome stands shape.plan.now shape.library.now
-    shape.clocks.now i old taps_old taps_new
+-- the same over a scene
+abbrev pub NodeTookSomeOver : {T : Type 0} → (T → List Call → Type 0) → Scene → (i : ℕ) → NodeState → T → T → Type 0
+NodeTookSomeOver stands scene i old taps_old taps_new = NodeTookSome stands scene.plan.now scene.library.now
+    scene.clocks.now i old taps_old taps_new
 
 -- the calls of the readers of a clock, node by node
 abbrev pub takes_below : Setting → NodeClock → List Moment → (n : ℕ) → List Call
@@ -144,11 +144,11 @@ pub record HaveBegun {T : Type 0} (stands : T → List Call
       → ClockStands setting sub clock past filled old → HaveTaken setting clock past filled front
       → AreBegun setting sub clock past filled front more new
 
--- the same over a shape
-abbrev pub HaveBegunOver : {T : Type 0} → (T → List Call → Type 0) → Shape → NodeClock → List NodeState → List NodeState
+-- the same over a scene
+abbrev pub HaveBegunOver : {T : Type 0} → (T → List Call → Type 0) → Scene → NodeClock → List NodeState → List NodeState
     → T → T → Type 0
-HaveBegunOver stands shape clock old new taps_old taps_new = HaveBegun stands shape.plan.now shape.library.now
-    shape.clocks.now clock old new taps_old taps_new
+HaveBegunOver stands scene clock old new taps_old taps_new = HaveBegun stands scene.plan.now scene.library.now
+    scene.clocks.now clock old new taps_old taps_new
 
 pub record HaveTakenSome {T : Type 0} (stands : T → List Call
     → Type 0) (plan : Plan) (library : Sounds) (clocks : List NodeClock) (clock : NodeClock)
@@ -163,8 +163,8 @@ pub record HaveTakenSome {T : Type 0} (stands : T → List Call
       → ClockStands setting sub clock past filled old → HaveTaken setting clock past filled front
       → IsBegin made (takes_below setting clock past (length setting.plan.nodes))
 
--- the same over a shape
-abbrev pub HaveTakenSomeOver : {T : Type 0} → (T → List Call → Type 0) → Shape → NodeClock → List NodeState → T → T
+-- the same over a scene
+abbrev pub HaveTakenSomeOver : {T : Type 0} → (T → List Call → Type 0) → Scene → NodeClock → List NodeState → T → T
     → Type 0
-HaveTakenSomeOver stands shape clock old taps_old taps_new = HaveTakenSome stands shape.plan.now shape.library.now
-    shape.clocks.now clock old taps_old taps_new
+HaveTakenSomeOver stands scene clock old taps_old taps_new = HaveTakenSome stands scene.plan.now scene.library.now
+    scene.clocks.now clock old taps_old taps_new

@@ -7,12 +7,12 @@ ghost use Rattle.frame_core.specs.Library.{Sounds};
 ghost use Rattle.stream_meaning.specs.Operators.{work_of};
 ghost use Rattle.stream_meaning.specs.Instants.{Setting, child_at, demands_from, offering, part_at, silent, uses_by, uses_from};
 ghost use Rattle.clock_instants.specs.Demands.{PicksOffer, uses_in};
-ghost use Rattle.clock_instants.specs.Nodes.{AreNodesOf, lies_at};
-ghost use Rattle.clock_instants.specs.Shapes.{IsShape};
-ghost use Rattle.clock_instants.specs.States.{over};
+ghost use Rattle.clock_nodes.specs.Nodes.{AreNodesOf, lies_at};
+ghost use Rattle.clock_nodes.specs.Scenes.{IsScene};
+ghost use Rattle.clock_nodes.specs.States.{over};
 
-use crate::{ClockNodes, Shape};
 use clock_infer::NodeClock;
+use clock_nodes::{ClockNodes, Scene};
 use plan_core::Op;
 use stream_meaning::Part;
 
@@ -27,27 +27,27 @@ pub enum Demand {
 /// Finds the demanded nodes of a clock, over those that are demanded of themselves. Nodes of other clocks do nothing,
 /// and are not demanded.
 pub fn find_demanded(
-    shape: &Shape<'_>,
+    scene: &Scene<'_>,
     nodes: &ClockNodes,
     clock: NodeClock,
     parts: &[Part],
     demanded: &mut [bool],
 )
-    requires shape { IsShape shape.now }
-    requires chains { AreNodesOf shape.now.clocks.now nodes.now }
-    requires in_parts { length parts.now ≡ length shape.now.plan.now.nodes }
-    requires in_demanded { length demanded.old ≡ length shape.now.plan.now.nodes }
-    requires parts { (j : ℕ) → lies_at shape.now.clocks.now clock j ≡ false → part_at parts.now j ≡ silent }
-    requires demanded { (j : ℕ) → lies_at shape.now.clocks.now clock j ≡ false
+    requires scene { IsScene scene.now }
+    requires chains { AreNodesOf scene.now.clocks.now nodes.now }
+    requires in_parts { length parts.now ≡ length scene.now.plan.now.nodes }
+    requires in_demanded { length demanded.old ≡ length scene.now.plan.now.nodes }
+    requires parts { (j : ℕ) → lies_at scene.now.clocks.now clock j ≡ false → part_at parts.now j ≡ silent }
+    requires demanded { (j : ℕ) → lies_at scene.now.clocks.now clock j ≡ false
         → slice_index_or demanded.old j false ≡ false }
-    ensures others { (j : ℕ) → lies_at shape.now.clocks.now clock j ≡ false
+    ensures others { (j : ℕ) → lies_at scene.now.clocks.now clock j ≡ false
         → slice_index_or demanded.new j false ≡ false }
     ensures demands { (library : Sounds) (clocks : List Clock) (setting : Setting)
-        → PicksOffer shape.now.plan.now.nodes parts.now
+        → PicksOffer scene.now.plan.now.nodes parts.now
         → demanded.new ≡ demands_from (λ j. slice_index_or demanded.old j false) 0
-        (uses_from (over shape.now.plan.now library clocks setting) parts.now 0 shape.now.plan.now.nodes) }
+        (uses_from (over scene.now.plan.now library clocks setting) parts.now 0 scene.now.plan.now.nodes) }
 {
-    let all = shape.plan.nodes.as_slice();
+    let all = scene.plan.nodes.as_slice();
     let mut i = nodes.end(clock);
     while i > 0 {
         let at = i - 1;

@@ -2,32 +2,32 @@
 ghost use Rattle.std.specs.Prelude.{◌≡◌, ◌<◌, ℕ, true, false, length, slice_index_or};
 ghost use Rattle.stream_meaning.specs.Instants.{part_at};
 ghost use Rattle.clock_instants.specs.Held.{given_by};
-ghost use Rattle.clock_instants.specs.Nodes.{AreNodesOf, lies_at};
+ghost use Rattle.clock_nodes.specs.Nodes.{AreNodesOf, lies_at};
 
-use crate::{ClockNodes, Shape};
 use clock_infer::NodeClock;
+use clock_nodes::{ClockNodes, Scene};
 use node_states::gives;
 use stream_meaning::Part;
 
 /// Holds what the nodes of a clock gave at an instant at which they had these parts and demands.
 pub fn hold(
-    shape: &Shape<'_>,
+    scene: &Scene<'_>,
     nodes: &ClockNodes,
     clock: NodeClock,
     parts: &[Part],
     demanded: &[bool],
     held: &mut [Part],
 )
-    requires chains { AreNodesOf shape.now.clocks.now nodes.now }
-    requires in_parts { length parts.now ≡ length shape.now.clocks.now }
-    requires in_demanded { length demanded.now ≡ length shape.now.clocks.now }
-    requires in_held { length held.old ≡ length shape.now.clocks.now }
-    ensures given { (i : ℕ) → i < length shape.now.clocks.now → lies_at shape.now.clocks.now clock i ≡ true
+    requires chains { AreNodesOf scene.now.clocks.now nodes.now }
+    requires in_parts { length parts.now ≡ length scene.now.clocks.now }
+    requires in_demanded { length demanded.now ≡ length scene.now.clocks.now }
+    requires in_held { length held.old ≡ length scene.now.clocks.now }
+    ensures given { (i : ℕ) → i < length scene.now.clocks.now → lies_at scene.now.clocks.now clock i ≡ true
         → part_at held.new i ≡ given_by (slice_index_or demanded.now i false) (part_at parts.now i) }
-    ensures kept { (i : ℕ) → lies_at shape.now.clocks.now clock i ≡ false → part_at held.new i ≡ part_at held.old i }
+    ensures kept { (i : ℕ) → lies_at scene.now.clocks.now clock i ≡ false → part_at held.new i ≡ part_at held.old i }
 {
     let mut i = nodes.first(clock);
-    while i < shape.clocks.len() {
+    while i < scene.clocks.len() {
         held[i] = given(parts[i], demanded[i]);
         i = nodes.after(i);
     }

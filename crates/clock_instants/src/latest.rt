@@ -2,17 +2,17 @@
 ghost use Rattle.std.specs.Prelude.{◌≡◌, ℕ, false, length, slice_get, slice_index_or};
 ghost use Rattle.stream_meaning.specs.Instants.{part_at, silent};
 ghost use Rattle.clock_instants.specs.Finishing.{InstantFinished};
-ghost use Rattle.clock_instants.specs.Nodes.{AreNodesOf, IsLatest, lies_at};
-ghost use Rattle.clock_instants.specs.Shapes.{AllFitOver, IsShape};
-ghost use Rattle.clock_instants.specs.States.{HasRoomFor};
+ghost use Rattle.clock_nodes.specs.Nodes.{AreNodesOf, lies_at};
+ghost use Rattle.clock_instants.specs.Instants.{IsLatest};
+ghost use Rattle.clock_nodes.specs.Scenes.{AllFitOver, IsScene};
+ghost use Rattle.clock_nodes.specs.States.{HasRoomFor};
 
-use crate::advance::advance_all;
 use crate::demand::find_demanded;
 use crate::holding::hold;
 use crate::offers::make_parts;
 use crate::roots::demand_roots;
-use crate::{ClockNodes, Shape};
 use clock_infer::NodeClock;
+use clock_nodes::{ClockNodes, Scene, advance_all};
 use fixed_text::WeekSecond;
 use node_states::{Desk, NodeState};
 use stream_meaning::Part;
@@ -34,7 +34,7 @@ impl Latest {
     /// the states stood for, they stand for one more.
     pub fn finish_instant(
         &mut self,
-        shape: &Shape<'_>,
+        scene: &Scene<'_>,
         nodes: &ClockNodes,
         clock: NodeClock,
         at: WeekSecond,
@@ -43,58 +43,58 @@ impl Latest {
         held: &mut [Part],
         desk: &mut Desk,
     )
-        requires shape { IsShape shape.now }
-        requires chains { AreNodesOf shape.now.clocks.now nodes.now }
-        requires in_own { length own.now ≡ length shape.now.plan.now.nodes }
-        requires latest { IsLatest shape.now.clocks.now self.old }
-        requires fit { AllFitOver shape.now states.old }
-        requires room { HasRoomFor shape.now.plan.now desk.old }
-        requires in_held { length held.old ≡ length shape.now.plan.now.nodes }
+        requires scene { IsScene scene.now }
+        requires chains { AreNodesOf scene.now.clocks.now nodes.now }
+        requires in_own { length own.now ≡ length scene.now.plan.now.nodes }
+        requires latest { IsLatest scene.now.clocks.now self.old }
+        requires fit { AllFitOver scene.now states.old }
+        requires room { HasRoomFor scene.now.plan.now desk.old }
+        requires in_held { length held.old ≡ length scene.now.plan.now.nodes }
         ensures room { desk.new ≡ desk.old }
-        ensures latest { IsLatest shape.now.clocks.now self.new }
-        ensures fit { AllFitOver shape.now states.new }
-        ensures others { (i : ℕ) → lies_at shape.now.clocks.now clock i ≡ false
+        ensures latest { IsLatest scene.now.clocks.now self.new }
+        ensures fit { AllFitOver scene.now states.new }
+        ensures others { (i : ℕ) → lies_at scene.now.clocks.now clock i ≡ false
             → slice_get states.new i ≡ slice_get states.old i }
-        ensures kept { (i : ℕ) → lies_at shape.now.clocks.now clock i ≡ false
+        ensures kept { (i : ℕ) → lies_at scene.now.clocks.now clock i ≡ false
             → part_at held.new i ≡ part_at held.old i }
-        ensures finished { InstantFinished shape.now own.now clock at.second states.old states.new self.new.parts.items
+        ensures finished { InstantFinished scene.now own.now clock at.second states.old states.new self.new.parts.items
             held.new }
     {
         clear(
-            shape,
+            scene,
             nodes,
             self.clock,
             &mut self.parts,
             &mut self.demanded,
         );
         self.clock = clock;
-        make_parts(shape, nodes, clock, states, at, &mut self.parts, desk);
-        demand_roots(shape, nodes, clock, own, &mut self.demanded);
-        find_demanded(shape, nodes, clock, &self.parts, &mut self.demanded);
-        hold(shape, nodes, clock, &self.parts, &self.demanded, held);
-        advance_all(shape, nodes, clock, &self.parts, &self.demanded, states);
+        make_parts(scene, nodes, clock, states, at, &mut self.parts, desk);
+        demand_roots(scene, nodes, clock, own, &mut self.demanded);
+        find_demanded(scene, nodes, clock, &self.parts, &mut self.demanded);
+        hold(scene, nodes, clock, &self.parts, &self.demanded, held);
+        advance_all(scene, nodes, clock, &self.parts, &self.demanded, states);
     }
 }
 
 // Takes back what the nodes of a clock did, where no other node did anything.
 fn clear(
-    shape: &Shape<'_>,
+    scene: &Scene<'_>,
     nodes: &ClockNodes,
     clock: NodeClock,
     parts: &mut [Part],
     demanded: &mut [bool],
 )
-    requires chains { AreNodesOf shape.now.clocks.now nodes.now }
-    requires in_parts { length parts.old ≡ length shape.now.clocks.now }
-    requires in_demanded { length demanded.old ≡ length shape.now.clocks.now }
-    requires parts { (j : ℕ) → lies_at shape.now.clocks.now clock j ≡ false → part_at parts.old j ≡ silent }
-    requires demanded { (j : ℕ) → lies_at shape.now.clocks.now clock j ≡ false
+    requires chains { AreNodesOf scene.now.clocks.now nodes.now }
+    requires in_parts { length parts.old ≡ length scene.now.clocks.now }
+    requires in_demanded { length demanded.old ≡ length scene.now.clocks.now }
+    requires parts { (j : ℕ) → lies_at scene.now.clocks.now clock j ≡ false → part_at parts.old j ≡ silent }
+    requires demanded { (j : ℕ) → lies_at scene.now.clocks.now clock j ≡ false
         → slice_index_or demanded.old j false ≡ false }
     ensures parts { (j : ℕ) → part_at parts.new j ≡ silent }
     ensures demanded { (j : ℕ) → slice_index_or demanded.new j false ≡ false }
 {
     let mut i = nodes.first(clock);
-    while i < shape.clocks.len() {
+    while i < scene.clocks.len() {
         parts[i] = Part {
             slot: None,
             pick: None,

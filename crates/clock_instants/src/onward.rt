@@ -5,13 +5,14 @@ ghost use Rattle.stream_meaning.specs.Instants.{part_at, silent};
 ghost use Rattle.op_mix.specs.Stretches.{HasLane, samples_of};
 ghost use Rattle.node_states.specs.Stretches.{LiesAhead};
 ghost use Rattle.node_states.specs.States.{Fits};
-ghost use Rattle.clock_instants.specs.Nodes.{AreNodesOf, lies_at};
+ghost use Rattle.clock_nodes.specs.Nodes.{AreNodesOf, lies_at};
 ghost use Rattle.clock_instants.specs.Stretches.{AllLieAheadOver, AreAtOnce, HasKeptSamples, HasLanes, HasRoomToRun, HasStretchRoom, IsSpare, NodeMade, NodeRun, NodesRun};
-ghost use Rattle.clock_instants.specs.Shapes.{AllFitOver, IsShape};
+ghost use Rattle.clock_nodes.specs.Scenes.{AllFitOver, IsScene};
 
 use crate::held::title_below;
-use crate::{ClockNodes, Shape, Spare, StretchRoom};
+use crate::{Spare, StretchRoom};
 use clock_infer::NodeClock;
+use clock_nodes::{ClockNodes, Scene};
 use node_states::{NodeState, gives};
 use op_mix::{Before, MAX_STRETCH, Sums};
 use std::mem;
@@ -21,37 +22,37 @@ use stream_meaning::Part;
 /// cells pass have gone on by as many already, and left the samples of the crossfades' children in `stretch_room`. The
 /// states of the clock's nodes go on, and each that gives leaves its samples there.
 pub fn run_nodes(
-    shape: &Shape<'_>,
+    scene: &Scene<'_>,
     nodes: &ClockNodes,
     clock: NodeClock,
     states: &mut [NodeState],
     stretch_room: &mut StretchRoom,
     many: u32,
 )
-    requires shape { IsShape shape.now }
-    requires chains { AreNodesOf shape.now.clocks.now nodes.now }
-    requires room { HasStretchRoom (length shape.now.plan.now.nodes) stretch_room.old }
+    requires scene { IsScene scene.now }
+    requires chains { AreNodesOf scene.now.clocks.now nodes.now }
+    requires room { HasStretchRoom (length scene.now.plan.now.nodes) stretch_room.old }
     requires some { 0 < many }
     requires short { many ≤ 2048 }
-    requires fit { AllFitOver shape.now states.old }
-    requires ahead { AllLieAheadOver shape.now clock stretch_room.old.held.items states.old many }
-    ensures fit { AllFitOver shape.now states.new }
-    ensures room { HasStretchRoom (length shape.now.plan.now.nodes) stretch_room.new }
+    requires fit { AllFitOver scene.now states.old }
+    requires ahead { AllLieAheadOver scene.now clock stretch_room.old.held.items states.old many }
+    ensures fit { AllFitOver scene.now states.new }
+    ensures room { HasStretchRoom (length scene.now.plan.now.nodes) stretch_room.new }
     ensures held { stretch_room.new.held ≡ stretch_room.old.held }
     ensures rests { stretch_room.new.rests ≡ stretch_room.old.rests }
-    ensures others { (i : ℕ) → lies_at shape.now.clocks.now clock i ≡ false
+    ensures others { (i : ℕ) → lies_at scene.now.clocks.now clock i ≡ false
         → slice_get states.new i ≡ slice_get states.old i }
-    ensures left { (i : ℕ) → lies_at shape.now.clocks.now clock i ≡ false
+    ensures left { (i : ℕ) → lies_at scene.now.clocks.now clock i ≡ false
         → samples_of stretch_room.new.left.items i many ≡ samples_of stretch_room.old.left.items i many }
-    ensures right { (i : ℕ) → lies_at shape.now.clocks.now clock i ≡ false
+    ensures right { (i : ℕ) → lies_at scene.now.clocks.now clock i ≡ false
         → samples_of stretch_room.new.right.items i many ≡ samples_of stretch_room.old.right.items i many }
     ensures laned { (i : ℕ) → HasLanes stretch_room.old.left.items stretch_room.old.right.items i
         → HasLanes stretch_room.new.left.items stretch_room.new.right.items i }
-    ensures run { NodesRun shape.now clock many stretch_room.old.held.items states.old stretch_room.old.left.items
+    ensures run { NodesRun scene.now clock many stretch_room.old.held.items states.old stretch_room.old.left.items
         stretch_room.old.right.items stretch_room.new.left.items stretch_room.new.right.items states.new }
 {
     run_each(
-        shape,
+        scene,
         nodes,
         clock,
         &stretch_room.held,
@@ -62,12 +63,12 @@ pub fn run_nodes(
         &mut stretch_room.spare,
         many,
     );
-    forget(shape, nodes, clock, &mut stretch_room.parts);
+    forget(scene, nodes, clock, &mut stretch_room.parts);
 }
 
 // The same, over the parts of no node, which become those of the clock's nodes.
 fn run_each(
-    shape: &Shape<'_>,
+    scene: &Scene<'_>,
     nodes: &ClockNodes,
     clock: NodeClock,
     held: &[Part],
@@ -78,27 +79,27 @@ fn run_each(
     spare: &mut Spare,
     many: u32,
 )
-    requires shape { IsShape shape.now }
-    requires chains { AreNodesOf shape.now.clocks.now nodes.now }
-    requires room { HasRoomToRun (length shape.now.plan.now.nodes) held.now parts.old left.old right.old spare.old }
+    requires scene { IsScene scene.now }
+    requires chains { AreNodesOf scene.now.clocks.now nodes.now }
+    requires room { HasRoomToRun (length scene.now.plan.now.nodes) held.now parts.old left.old right.old spare.old }
     requires many { AreAtOnce many }
-    requires fit { AllFitOver shape.now states.old }
-    requires ahead { AllLieAheadOver shape.now clock held.now states.old many }
-    ensures fit { AllFitOver shape.now states.new }
-    ensures outside { (j : ℕ) → lies_at shape.now.clocks.now clock j ≡ false → part_at parts.new j ≡ silent }
-    ensures others { (i : ℕ) → lies_at shape.now.clocks.now clock i ≡ false
+    requires fit { AllFitOver scene.now states.old }
+    requires ahead { AllLieAheadOver scene.now clock held.now states.old many }
+    ensures fit { AllFitOver scene.now states.new }
+    ensures outside { (j : ℕ) → lies_at scene.now.clocks.now clock j ≡ false → part_at parts.new j ≡ silent }
+    ensures others { (i : ℕ) → lies_at scene.now.clocks.now clock i ≡ false
         → slice_get states.new i ≡ slice_get states.old i }
-    ensures samples { (i : ℕ) → lies_at shape.now.clocks.now clock i ≡ false
+    ensures samples { (i : ℕ) → lies_at scene.now.clocks.now clock i ≡ false
         → HasKeptSamples left.old right.old left.new right.new many i }
     ensures laned { (i : ℕ) → HasLanes left.old right.old i → HasLanes left.new right.new i }
     ensures spare { IsSpare spare.new }
-    ensures run { NodesRun shape.now clock many held.now states.old left.old right.old left.new right.new states.new }
+    ensures run { NodesRun scene.now clock many held.now states.old left.old right.old left.new right.new states.new }
 {
     let mut i = nodes.first(clock);
-    while i < shape.clocks.len() {
+    while i < scene.clocks.len() {
         parts[i] = held[i];
         run_node(
-            shape,
+            scene,
             i,
             held,
             parts,
@@ -116,7 +117,7 @@ fn run_each(
 // samples are made in the spare lanes, which are then exchanged with its own. A node without lanes is not of the clocks
 // that the engine drives.
 fn run_node(
-    shape: &Shape<'_>,
+    scene: &Scene<'_>,
     i: usize,
     held: &[Part],
     parts: &[Part],
@@ -126,22 +127,22 @@ fn run_node(
     spare: &mut Spare,
     count: usize,
 )
-    requires shape { IsShape shape.now }
-    requires within { i < length shape.now.plan.now.nodes }
-    requires in_parts { length parts.now ≡ length shape.now.plan.now.nodes }
-    requires in_left { length left.old ≡ length shape.now.plan.now.nodes }
-    requires in_right { length right.old ≡ length shape.now.plan.now.nodes }
+    requires scene { IsScene scene.now }
+    requires within { i < length scene.now.plan.now.nodes }
+    requires in_parts { length parts.now ≡ length scene.now.plan.now.nodes }
+    requires in_left { length left.old ≡ length scene.now.plan.now.nodes }
+    requires in_right { length right.old ≡ length scene.now.plan.now.nodes }
     requires spare { IsSpare spare.old }
     requires count { AreAtOnce count }
-    requires fits { (node : PlanNode) → slice_get shape.now.plan.now.nodes i ≡ Some node
-        → Fits shape.now.library.now (length node.children) state.old }
-    requires ahead { is_some (part_at parts.now i).slot ≡ true → LiesAhead shape.now.library.now state.old count }
-    ensures fits { (node : PlanNode) → slice_get shape.now.plan.now.nodes i ≡ Some node
-        → Fits shape.now.library.now (length node.children) state.new }
+    requires fits { (node : PlanNode) → slice_get scene.now.plan.now.nodes i ≡ Some node
+        → Fits scene.now.library.now (length node.children) state.old }
+    requires ahead { is_some (part_at parts.now i).slot ≡ true → LiesAhead scene.now.library.now state.old count }
+    ensures fits { (node : PlanNode) → slice_get scene.now.plan.now.nodes i ≡ Some node
+        → Fits scene.now.library.now (length node.children) state.new }
     ensures samples { (k : ℕ) → (k ≡ i → ⊥) → HasKeptSamples left.old right.old left.new right.new count k }
     ensures laned { (k : ℕ) → HasLanes left.old right.old k → HasLanes left.new right.new k }
     ensures spare { IsSpare spare.new }
-    ensures run { NodeRun shape.now i count held.now parts.now state.old left.old right.old left.new right.new
+    ensures run { NodeRun scene.now i count held.now parts.now state.old left.old right.old left.new right.new
         state.new }
 {
     let part = parts[i];
@@ -155,7 +156,7 @@ fn run_node(
         return;
     }
     make_samples(
-        shape,
+        scene,
         i,
         held,
         parts,
@@ -173,7 +174,7 @@ fn run_node(
 
 // Makes so many instants more of node i, which gave: its samples are made at the front of `own_left` and `own_right`.
 fn make_samples(
-    shape: &Shape<'_>,
+    scene: &Scene<'_>,
     i: usize,
     held: &[Part],
     parts: &[Part],
@@ -185,29 +186,29 @@ fn make_samples(
     own_right: &mut [i16],
     count: usize,
 )
-    requires shape { IsShape shape.now }
-    requires within { i < length shape.now.plan.now.nodes }
-    requires in_parts { length parts.now ≡ length shape.now.plan.now.nodes }
+    requires scene { IsScene scene.now }
+    requires within { i < length scene.now.plan.now.nodes }
+    requires in_parts { length parts.now ≡ length scene.now.plan.now.nodes }
     requires own_left { 2048 ≤ length own_left.old }
     requires own_right { 2048 ≤ length own_right.old }
     requires count { AreAtOnce count }
-    requires fits { (node : PlanNode) → slice_get shape.now.plan.now.nodes i ≡ Some node
-        → Fits shape.now.library.now (length node.children) state.old }
+    requires fits { (node : PlanNode) → slice_get scene.now.plan.now.nodes i ≡ Some node
+        → Fits scene.now.library.now (length node.children) state.old }
     requires gave { is_some (part_at parts.now i).slot ≡ true }
-    requires ahead { LiesAhead shape.now.library.now state.old count }
-    ensures fits { (node : PlanNode) → slice_get shape.now.plan.now.nodes i ≡ Some node
-        → Fits shape.now.library.now (length node.children) state.new }
-    ensures made { NodeMade shape.now i count held.now parts.now state.old left.now right.now (take count own_left.new)
+    requires ahead { LiesAhead scene.now.library.now state.old count }
+    ensures fits { (node : PlanNode) → slice_get scene.now.plan.now.nodes i ≡ Some node
+        → Fits scene.now.library.now (length node.children) state.new }
+    ensures made { NodeMade scene.now i count held.now parts.now state.old left.now right.now (take count own_left.new)
         (take count own_right.new) state.new }
 {
-    let below = title_below(shape.plan.nodes.as_slice(), held, i);
-    let node = &shape.plan.nodes.as_slice()[i];
+    let below = title_below(scene.plan.nodes.as_slice(), held, i);
+    let node = &scene.plan.nodes.as_slice()[i];
     state.run(
         node,
         parts[i].pick,
         &Before { parts, left, right },
         below,
-        shape.library,
+        scene.library,
         sums,
         &mut own_left[..count],
         &mut own_right[..count],
@@ -224,14 +225,14 @@ fn has_lane(lanes: &[Vec<i16>], i: usize) -> bool
 }
 
 // Takes back the parts of a clock's nodes, where no other node has any.
-fn forget(shape: &Shape<'_>, nodes: &ClockNodes, clock: NodeClock, parts: &mut [Part])
-    requires chains { AreNodesOf shape.now.clocks.now nodes.now }
-    requires in_parts { length parts.old ≡ length shape.now.clocks.now }
-    requires outside { (j : ℕ) → lies_at shape.now.clocks.now clock j ≡ false → part_at parts.old j ≡ silent }
+fn forget(scene: &Scene<'_>, nodes: &ClockNodes, clock: NodeClock, parts: &mut [Part])
+    requires chains { AreNodesOf scene.now.clocks.now nodes.now }
+    requires in_parts { length parts.old ≡ length scene.now.clocks.now }
+    requires outside { (j : ℕ) → lies_at scene.now.clocks.now clock j ≡ false → part_at parts.old j ≡ silent }
     ensures { (j : ℕ) → part_at parts.new j ≡ silent }
 {
     let mut i = nodes.first(clock);
-    while i < shape.clocks.len() {
+    while i < scene.clocks.len() {
         parts[i] = Part {
             slot: None,
             pick: None,

@@ -7,14 +7,14 @@ ghost use Rattle.node_states.specs.Passing.{passes};
 ghost use Rattle.node_states.specs.Stretches.{LiesAhead};
 ghost use Rattle.node_states.specs.States.{Fits};
 ghost use Rattle.clock_instants.specs.Held.{AllPassOnOver};
-ghost use Rattle.clock_instants.specs.Nodes.{AreNodesOf};
+ghost use Rattle.clock_nodes.specs.Nodes.{AreNodesOf};
 ghost use Rattle.clock_instants.specs.Resting.{MarksStay, NodeGoesOn, begins_at};
 ghost use Rattle.clock_instants.specs.Stretches.{AllLieAheadOver, ClockGoesOn};
-ghost use Rattle.clock_instants.specs.Shapes.{AllFitOver, IsShape};
+ghost use Rattle.clock_nodes.specs.Scenes.{AllFitOver, IsScene};
 
 use crate::held::title_below;
-use crate::{ClockNodes, Shape};
 use clock_infer::NodeClock;
+use clock_nodes::{ClockNodes, Scene};
 use node_states::{NodeState, WeekTime, steady_seconds};
 use plan_core::Op;
 use stream_meaning::Part;
@@ -23,7 +23,7 @@ use stream_meaning::Part;
 /// its nodes had these parts and gave what is held: they are a stretch with it. `time` is its time. A crossfade goes on
 /// for the items that it has ready, or where cells pass for as long as its sub-clock does, by `rests`.
 pub fn rest_of(
-    shape: &Shape<'_>,
+    scene: &Scene<'_>,
     nodes: &ClockNodes,
     clock: NodeClock,
     parts: &[Part],
@@ -33,27 +33,27 @@ pub fn rest_of(
     time: WeekTime,
     most: u32,
 ) -> u32
-    requires shape { IsShape shape.now }
-    requires rate { time.rate ≡ shape.now.plan.now.rate }
-    requires frame { time.frame ≡ shape.now.plan.now.frame }
-    requires chains { AreNodesOf shape.now.clocks.now nodes.now }
-    requires in_parts { length parts.now ≡ length shape.now.plan.now.nodes }
-    requires in_held { length held.now ≡ length shape.now.plan.now.nodes }
-    requires in_rests { length rests.now ≡ length shape.now.plan.now.nodes }
-    requires fit { AllFitOver shape.now states.now }
+    requires scene { IsScene scene.now }
+    requires rate { time.rate ≡ scene.now.plan.now.rate }
+    requires frame { time.frame ≡ scene.now.plan.now.frame }
+    requires chains { AreNodesOf scene.now.clocks.now nodes.now }
+    requires in_parts { length parts.now ≡ length scene.now.plan.now.nodes }
+    requires in_held { length held.now ≡ length scene.now.plan.now.nodes }
+    requires in_rests { length rests.now ≡ length scene.now.plan.now.nodes }
+    requires fit { AllFitOver scene.now states.now }
     ensures within { result ≤ most }
     ensures later { result ≤ time.rate }
-    ensures ahead { AllLieAheadOver shape.now clock held.now states.now result }
-    ensures through { AllPassOnOver shape.now clock held.now states.now rests.now result }
-    ensures goes { ClockGoesOn shape.now clock time parts.now held.now states.now rests.now result }
+    ensures ahead { AllLieAheadOver scene.now clock held.now states.now result }
+    ensures through { AllPassOnOver scene.now clock held.now states.now rests.now result }
+    ensures goes { ClockGoesOn scene.now clock time parts.now held.now states.now rests.now result }
 {
     let tick = time.tick_left();
     let mut rest = most.min(time.rate);
     let mut i = nodes.first(clock);
-    while i < shape.clocks.len() {
-        let below_title = title_below(shape.plan.nodes.as_slice(), held, i);
+    while i < scene.clocks.len() {
+        let below_title = title_below(scene.plan.nodes.as_slice(), held, i);
         rest = node_rest(
-            shape,
+            scene,
             parts,
             held[i],
             &states[i],
@@ -72,7 +72,7 @@ pub fn rest_of(
 // How many of these instants node i goes on, which has this state and gave this; and its sub-clock goes on for so many,
 // under the title `below_title`.
 fn node_rest(
-    shape: &Shape<'_>,
+    scene: &Scene<'_>,
     parts: &[Part],
     held: Part,
     state: &NodeState,
@@ -83,18 +83,18 @@ fn node_rest(
     tick: u32,
     most: u32,
 ) -> u32
-    requires shape { IsShape shape.now }
-    requires rate { time.rate ≡ shape.now.plan.now.rate }
-    requires in_parts { length parts.now ≡ length shape.now.plan.now.nodes }
-    requires within { i < length shape.now.plan.now.nodes }
-    requires fits { (node : PlanNode) → slice_get shape.now.plan.now.nodes i ≡ Some node
-        → Fits shape.now.library.now (length node.children) state.now }
+    requires scene { IsScene scene.now }
+    requires rate { time.rate ≡ scene.now.plan.now.rate }
+    requires in_parts { length parts.now ≡ length scene.now.plan.now.nodes }
+    requires within { i < length scene.now.plan.now.nodes }
+    requires fits { (node : PlanNode) → slice_get scene.now.plan.now.nodes i ≡ Some node
+        → Fits scene.now.library.now (length node.children) state.now }
     ensures within { result ≤ most }
-    ensures ahead { is_some held.slot ≡ true → LiesAhead shape.now.library.now state.now result }
+    ensures ahead { is_some held.slot ≡ true → LiesAhead scene.now.library.now state.now result }
     ensures through { is_some held.slot ≡ true → passes state.now ≡ true → result ≤ below }
-    ensures goes { NodeGoesOn shape.now i parts.now held state.now below below_title time tick result }
+    ensures goes { NodeGoesOn scene.now i parts.now held state.now below below_title time tick result }
 {
-    let node = &shape.plan.nodes.as_slice()[i];
+    let node = &scene.plan.nodes.as_slice()[i];
     let gave = held.slot.is_some();
     let begins = begins(parts, node.children.as_slice(), state.last());
     let bound = border(&node.op, time, tick, most).min(most);
@@ -102,7 +102,7 @@ fn node_rest(
         parts[i],
         gave,
         begins,
-        shape.library,
+        scene.library,
         below,
         below_title,
         bound,

@@ -4,12 +4,12 @@ ghost use Rattle.plan_core.specs.declared.node.Node.{Node as PlanNode};
 ghost use Rattle.plan_core.specs.declared.node.Op.TheVariants.{Buffer};
 ghost use Rattle.plan_core.specs.Plans.{IsNoReader};
 ghost use Rattle.node_states.specs.States.{Fits};
-ghost use Rattle.clock_instants.specs.Nodes.{AreNodesOf, lies_at};
-ghost use Rattle.clock_instants.specs.Shapes.{AllFitOver, IsShape};
+ghost use Rattle.clock_nodes.specs.Nodes.{AreNodesOf, lies_at};
+ghost use Rattle.clock_nodes.specs.Scenes.{AllFitOver, IsScene};
 ghost use Rattle.clock_instants.specs.Takes.{HasReader, HaveBegunOver, HaveTakenSomeOver, IsReader, NodeBeganOver, NodeTookSomeOver, ReadersAreIn};
 
-use crate::{ClockNodes, Shape};
 use clock_infer::NodeClock;
+use clock_nodes::{ClockNodes, Scene};
 use frame_core::Taps;
 use liq_base::Memory;
 use node_states::NodeState;
@@ -18,28 +18,28 @@ use plan_core::Op;
 /// Lets the readers of a clock take, in node order, at an instant that begins a tick of it. Where memory is refused
 /// some of these takes were made.
 pub fn begin_readers<T: Taps>(
-    shape: &Shape<'_>,
+    scene: &Scene<'_>,
     nodes: &ClockNodes,
     clock: NodeClock,
     states: &mut [NodeState],
     taps: &mut T,
 ) -> Result<(), Memory>
-    requires shape { IsShape shape.now }
-    requires chains { AreNodesOf shape.now.clocks.now nodes.now }
-    requires fit { AllFitOver shape.now states.old }
-    requires readers { ReadersAreIn shape.now.plan.now (T.buffers taps.old) }
+    requires scene { IsScene scene.now }
+    requires chains { AreNodesOf scene.now.clocks.now nodes.now }
+    requires fit { AllFitOver scene.now states.old }
+    requires readers { ReadersAreIn scene.now.plan.now (T.buffers taps.old) }
     ensures buffers { T.buffers taps.new ≡ T.buffers taps.old }
     ensures same { T.same taps.old taps.new }
-    ensures fit { AllFitOver shape.now states.new }
-    ensures others { (i : ℕ) → lies_at shape.now.clocks.now clock i ≡ false
+    ensures fit { AllFitOver scene.now states.new }
+    ensures others { (i : ℕ) → lies_at scene.now.clocks.now clock i ≡ false
         → slice_get states.new i ≡ slice_get states.old i }
-    ensures begun { OnOk result (HaveBegunOver T.stands shape.now clock states.old states.new taps.old taps.new) }
-    ensures stopped { OnErr result (HaveTakenSomeOver T.stands shape.now clock states.old taps.old taps.new) }
-    ensures reads { OnErr result (HasReader shape.now.plan.now shape.now.clocks.now clock) }
+    ensures begun { OnOk result (HaveBegunOver T.stands scene.now clock states.old states.new taps.old taps.new) }
+    ensures stopped { OnErr result (HaveTakenSomeOver T.stands scene.now clock states.old taps.old taps.new) }
+    ensures reads { OnErr result (HasReader scene.now.plan.now scene.now.clocks.now clock) }
 {
     let mut i = nodes.first(clock);
-    while i < shape.clocks.len() {
-        take_at(shape, i, &mut states[i], taps)?;
+    while i < scene.clocks.len() {
+        take_at(scene, i, &mut states[i], taps)?;
         i = nodes.after(i);
     }
     Ok(())
@@ -47,23 +47,23 @@ pub fn begin_readers<T: Taps>(
 
 // Lets node i take, if it is a reader.
 fn take_at<T: Taps>(
-    shape: &Shape<'_>,
+    scene: &Scene<'_>,
     i: usize,
     state: &mut NodeState,
     taps: &mut T,
 ) -> Result<(), Memory>
-    requires within { i < length shape.now.plan.now.nodes }
-    requires readers { ReadersAreIn shape.now.plan.now (T.buffers taps.old) }
+    requires within { i < length scene.now.plan.now.nodes }
+    requires readers { ReadersAreIn scene.now.plan.now (T.buffers taps.old) }
     ensures buffers { T.buffers taps.new ≡ T.buffers taps.old }
     ensures same { T.same taps.old taps.new }
-    ensures fits { (node : PlanNode) → slice_get shape.now.plan.now.nodes i ≡ Some node
-        → Fits shape.now.library.now (length node.children) state.old
-        → Fits shape.now.library.now (length node.children) state.new }
-    ensures begun { OnOk result (NodeBeganOver T.stands shape.now i state.old state.new taps.old taps.new) }
-    ensures stopped { OnErr result (NodeTookSomeOver T.stands shape.now i state.old taps.old taps.new) }
-    ensures reads { OnErr result (IsReader shape.now.plan.now i) }
+    ensures fits { (node : PlanNode) → slice_get scene.now.plan.now.nodes i ≡ Some node
+        → Fits scene.now.library.now (length node.children) state.old
+        → Fits scene.now.library.now (length node.children) state.new }
+    ensures begun { OnOk result (NodeBeganOver T.stands scene.now i state.old state.new taps.old taps.new) }
+    ensures stopped { OnErr result (NodeTookSomeOver T.stands scene.now i state.old taps.old taps.new) }
+    ensures reads { OnErr result (IsReader scene.now.plan.now i) }
 {
-    match buffer_of(&shape.plan.nodes.as_slice()[i].op) {
+    match buffer_of(&scene.plan.nodes.as_slice()[i].op) {
         Some(buffer) => {
             state.take(buffer, taps)?;
             Ok(())

@@ -18,7 +18,7 @@ use Rattle.clock_ticks.specs.contracts.fault.TickFault
 use Rattle.clock_ticks.specs.contracts.engine.ClockEngine
 use Rattle.clock_ticks.specs.contracts.engine.ClockEngine.TheInside as Fields
 use Rattle.clock_ticks.specs.contracts.engine.EngineParts
-use Rattle.clock_instants.specs.contracts.shape.Shape
+use Rattle.clock_nodes.specs.contracts.scene.Scene
 use Rattle.clock_ticks.proofs.clock_state.ClockState.TheSendSync as ClockStateSent
 use Rattle.clock_ticks.proofs.cues.Cues.TheSendSync as CuesSent
 use Rattle.clock_outputs.proofs.port.Port.TheSendSync as PortSent
@@ -44,8 +44,8 @@ use Rattle.std.proofs.vec.Vec.TheSendSync as VecSent
 pub vec_send : (R : RattleType) → IsSend R → IsSend (Vec.the_row R Global.the_row TheImpl.ghosts)
 vec_send R s = VecSent.the_send R Global.the_row TheImpl.ghosts s GlobalSent.the_send AllocatorSent.the_frees
 
-pub shape_send : (a : NamedLft) → IsSend (Shape.the_field a).row
-shape_send a = Send.struct_send (Declared.shape (Shape.the_type a)) (
+pub scene_send : (a : NamedLft) → IsSend (Scene.the_field a).row
+scene_send a = Send.struct_send (Declared.shape (Scene.the_type a)) (
   search (
     Crossing.crosses,
     TheKnot.crosses_both,
@@ -74,7 +74,7 @@ shape_send a = Send.struct_send (Declared.shape (Shape.the_type a)) (
 
 pub parts_send : (a : NamedLft) → IsSend (EngineParts.the_field a).row
 parts_send a = Send.struct_send (Declared.shape (EngineParts.the_type a)) (
-  shape_send a,
+  scene_send a,
   (
     Send.plain_send _ _ _ _ _,
     (

@@ -119,7 +119,7 @@ module _ {S T : Type 0} (told : S → SinkTold) (stands : T → List Call → Ty
     pub running_broke : (whole : ℕ) → count < whole → same x.taps s → buffers s ≡ buffers y.taps
         → HasFailed told stands y.engine.parts e.parts y.engine.outs e.outs y.taps s → GotSomePieces told y.engine.outs e.outs
         → (fault : TickFault) → e.parts.stopped ≡ Some fault → ((sink : ℕ) → fault ≡ Write sink → IsWriteFault told y.engine.parts y.engine.outs e.outs fault)
-        → ((y.engine.parts.cues.keeping ≡ true → ⊥) → fault ≡ OutOfMemory → 0 < length y.engine.parts.shape.plan.now.buffers)
+        → ((y.engine.parts.cues.keeping ≡ true → ⊥) → fault ≡ OutOfMemory → 0 < length y.engine.parts.scene.plan.now.buffers)
         → WasRun told stands buffers same whole x (record { engine = e; taps = s })
     running_broke whole fewer taps many failed some fault stopped cause memory = record {
       clock = same_then told x.engine y.engine e running.clock same_clock;

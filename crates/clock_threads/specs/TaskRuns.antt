@@ -39,7 +39,7 @@ pub record DoesStand {S : Type 0} (e : ClockEngine S) : Type 0 where
 
 -- it may make so many ticks
 pub record CanRun {S T : Type 0} (told : S → SinkTold) (buffers : T → ℕ) (count : ℕ) (x : Task S T) : Type 0 where
-  pub many : buffers x.taps ≡ length x.engine.parts.shape.plan.now.buffers
+  pub many : buffers x.taps ≡ length x.engine.parts.scene.plan.now.buffers
   pub stands : DoesStand x.engine
   pub few : x.engine.parts.ticks + count ≤ 1000000000
   pub rooms : HaveTicksRoom told x.engine.parts x.engine.outs count
@@ -99,4 +99,4 @@ pub record WasRun {S T : Type 0} (told : S → SinkTold) (stands : T → List Ca
       → HaveTicksRoom told old.engine.parts old.engine.outs (n + count)
       → HaveTicksRoom told new.engine.parts new.engine.outs n
   pub memory : (old.engine.parts.cues.keeping ≡ true → ⊥) → new.engine.parts.stopped ≡ Some OutOfMemory
-      → 0 < length old.engine.parts.shape.plan.now.buffers
+      → 0 < length old.engine.parts.scene.plan.now.buffers

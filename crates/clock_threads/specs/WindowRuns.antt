@@ -31,7 +31,7 @@ pub record IsReady {S R : Type 0} (told : S
   pub places : (b : ℕ) → b < length wires → (wire_at wires b).from < length tasks
       × ((wire_at wires b).to < length tasks)
   pub buffers : (k : ℕ) (d : Task S (ThreadTaps R)) → k < length tasks
-      → length (slice_index_or tasks k d).engine.parts.shape.plan.now.buffers ≡ length wires
+      → length (slice_index_or tasks k d).engine.parts.scene.plan.now.buffers ≡ length wires
   pub begun : (d : Task S (ThreadTaps R)) → Going told wires W N 0 tasks tasks logs d
 
 -- all ticks were made

@@ -119,6 +119,6 @@ feeds_some parts other feeds some =
     inr (inl (omega (arith, long, same, some)))
 
 -- an engine with a reader, or that keeps marks
-pub needs_ends : (parts : EngineParts) → HasReader parts.shape.plan.now parts.shape.clocks.now (Main parts.clock) ⊎ (parts.cues.keeping ≡ true) → HasEnds parts
+pub needs_ends : (parts : EngineParts) → HasReader parts.scene.plan.now parts.scene.clocks.now (Main parts.clock) ⊎ (parts.cues.keeping ≡ true) → HasEnds parts
 needs_ends parts (inl reads) = inl reads
 needs_ends parts (inr keeping) = inr (inr keeping)

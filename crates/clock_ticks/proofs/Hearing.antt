@@ -23,7 +23,7 @@ use Rattle.clock_outputs.specs.declared.feed.FeedPort.{FeedPort}
 use Rattle.clock_outputs.specs.Feeds.{with_slots_from}
 use Rattle.clock_outputs.proofs.Gives.{adds_more, adds_nothing}
 use Rattle.clock_outputs.specs.Ports.{AllHaveRoomLeft, HasRoomLeft, after_slot, after_slots, emptied}
-use Rattle.clock_instants.specs.States.{over}
+use Rattle.clock_nodes.specs.States.{over}
 use Rattle.nested_instants.specs.declared.clock_states.ClockStates.{ClockStates}
 use Rattle.clock_ticks.specs.declared.clock_state.ClockState.{ClockState}
 use Rattle.clock_ticks.specs.Standing.{ClockStateStands}
@@ -32,7 +32,7 @@ use Rattle.clock_ticks.specs.declared.cues.Cues.{Cues}
 use Rattle.clock_ticks.specs.Cues.{HasGrown, HasKept, HasMarked, marks_if}
 use Rattle.clock_ticks.proofs.Cueing.{marked_more, marked_some, marks_more, marks_none}
 use Rattle.clock_ticks.proofs.Numbered.{got_mapped}
-use Rattle.clock_ticks.specs.Hearings.{HasMadeInstants, Heard, HeardSome, IsMeant, Scene, SegmentBroken, SegmentMade, calls_from, feed_key, segment_of, slot_in, tapped, with_slots}
+use Rattle.clock_ticks.specs.Hearings.{HasMadeInstants, Heard, HeardSome, IsMeant, Hearing, SegmentBroken, SegmentMade, calls_from, feed_key, segment_of, slot_in, tapped, with_slots}
 
 pub after_slots-append : (port : Port) (slots more : List Slot) → after_slots port (slots ++ more) ≡ after_slots (after_slots port slots) more
 after_slots-append port [] more = refl
@@ -229,7 +229,7 @@ module _ {T : Type 0} (stands : T → List Call → Type 0) (plan : Plan) (libra
   }
 
   -- a segment more
-  module _ (count many upto : ℕ) (before mid after : Scene T) (sum : upto ≡ count + suc many) (one : SegmentMade stands plan library clocks clock own many (tapped mid.state mid.taps) (tapped after.state after.taps))
+  module _ (count many upto : ℕ) (before mid after : Hearing T) (sum : upto ≡ count + suc many) (one : SegmentMade stands plan library clocks clock own many (tapped mid.state mid.taps) (tapped after.state after.taps))
       (is : after.ports ≡ map (λ port. after_slots port (segment_of after.state.clocks many port.node)) mid.ports)
       (heard : Heard stands plan library clocks clock own count before mid) where
     ports_now : after.ports ≡ map (λ port. after_slots (emptied port) (more_slots heard.slots after.state.clocks many port.node)) before.ports
@@ -318,7 +318,7 @@ module _ {T : Type 0} (stands : T → List Call → Type 0) (plan : Plan) (libra
           (begin_upto (λ j. calls_of S sub clock (first_instants S sub clock (n + j))) upto total low);
     }
 
-  pub heard_broken : (count total : ℕ) (before mid after : Scene T) → count < total → SegmentBroken stands plan library clocks clock own mid.state mid.taps after.taps → after.ports ≡ mid.ports
+  pub heard_broken : (count total : ℕ) (before mid after : Hearing T) → count < total → SegmentBroken stands plan library clocks clock own mid.state mid.taps after.taps → after.ports ≡ mid.ports
       → after.cues ≡ mid.cues
       → ((k : ℕ) (old : CueList) → slice_get before.cues.lists.items k ≡ Some old → (port : Port) × (slice_get before.ports k ≡ Some port))
       → Heard stands plan library clocks clock own count before mid → HeardSome stands plan library clocks clock own total before after

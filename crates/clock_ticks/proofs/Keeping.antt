@@ -6,7 +6,7 @@ use Rattle.clock_ticks.specs.Engines.{EngineStands}
 
 abbrev pub keeping : EngineParts → EngineParts
 keeping parts = record {
-  shape = parts.shape;
+  scene = parts.scene;
   clock = parts.clock;
   start = parts.start;
   own = parts.own;

@@ -28,7 +28,7 @@ use Rattle.clock_ticks.specs.Cues.{mark_of, marks_if, marks_of}
 use Rattle.clock_ticks.proofs.Cueing.{AreHeld, its_port, taken_before, there_is}
 use Rattle.clock_ticks.specs.declared.engine.EngineParts.{EngineParts}
 use Rattle.clock_ticks.specs.declared.fault.TickFault.{TickFault}
-use Rattle.clock_ticks.specs.Engines.{AreParts, EngineStands, EngineStopped, after_tick, feed_of, feeds_of, held_in, output_of, outputs_of, scene_of, setting_of}
+use Rattle.clock_ticks.specs.Engines.{AreParts, EngineStands, EngineStopped, after_tick, feed_of, feeds_of, held_in, output_of, outputs_of, hearing_of, setting_of}
 use Rattle.clock_ticks.specs.Ticks.{HasFailed, HaveTickRoom, HaveTicksRoom, TookTick, piece_size}
 use Rattle.clock_ticks.proofs.Giving.{gives_are, gives_flat}
 use Rattle.clock_ticks.proofs.Filling.{filled_before, filled_kind, filled_long, filled_room, filled_sink, filled_wide}
@@ -64,7 +64,7 @@ not_false false none = absurd (none refl)
 
 -- what is left of the marks
 pub held_of_heard : {T : Type 0} (stands_for : T → List Call → Type 0) (parts other : EngineParts) (a b : T) → AreParts parts
-    → Heard stands_for parts.shape.plan.now parts.shape.library.now parts.shape.clocks.now (Main parts.clock) parts.own.items parts.shape.plan.now.frame (scene_of parts a) (scene_of other b)
+    → Heard stands_for parts.scene.plan.now parts.scene.library.now parts.scene.clocks.now (Main parts.clock) parts.own.items parts.scene.plan.now.frame (hearing_of parts a) (hearing_of other b)
     → AreHeld parts.cues other.cues
 held_of_heard stands_for parts other a b fit heard = record {
   keeping = heard.keeping;
@@ -75,13 +75,13 @@ held_of_heard stands_for parts other a b fit heard = record {
 }
 
 pub held_of_some : {T : Type 0} (stands_for : T → List Call → Type 0) (parts other : EngineParts) (a b : T)
-    → HeardSome stands_for parts.shape.plan.now parts.shape.library.now parts.shape.clocks.now (Main parts.clock) parts.own.items parts.shape.plan.now.frame (scene_of parts a) (scene_of other b)
+    → HeardSome stands_for parts.scene.plan.now parts.scene.library.now parts.scene.clocks.now (Main parts.clock) parts.own.items parts.scene.plan.now.frame (hearing_of parts a) (hearing_of other b)
     → AreHeld parts.cues other.cues
 held_of_some stands_for parts other a b heard = record { keeping = heard.keeping; lists = heard.lists; some = heard.cues_are }
 
 -- an engine whose outputs heard some slots of their nodes
 module _ (parts other : EngineParts) (fit : AreParts parts)
-    (state_is : IsClockState parts.shape.plan.now parts.shape.library.now parts.shape.clocks.now other.state)
+    (state_is : IsClockState parts.scene.plan.now parts.scene.library.now parts.scene.clocks.now other.state)
     (slots : ℕ → List Slot) (ports_are : other.ports.items ≡ map (λ port. after_slots (emptied port) (slots port.node)) parts.ports.items) where
   -- an output that has heard its node in the tick
   abbrev hear : Port → Port
@@ -97,7 +97,7 @@ module _ (parts other : EngineParts) (fit : AreParts parts)
       within k h = let same = ap length ports_are ∙ length-map parts.ports.items hear in omega (arith, same, h)
 
   pub parts_after : (ticks : ℕ) (stopped : Option TickFault) → map feed_of other.feeds.items ≡ map feed_of parts.feeds.items
-      → All (λ feed. length feed.frame ≡ parts.shape.plan.now.frame) other.feeds.items → length other.cues.lists.items ≡ length parts.cues.lists.items
+      → All (λ feed. length feed.frame ≡ parts.scene.plan.now.frame) other.feeds.items → length other.cues.lists.items ≡ length parts.cues.lists.items
       → AreParts (after_tick parts other ticks stopped)
   parts_after ticks stopped same_feeds frames lists = record {
     plan = fit.plan;
@@ -114,11 +114,11 @@ module _ (parts other : EngineParts) (fit : AreParts parts)
         (λ port is. filled_kind (emptied port) (slots port.node) ∙ is ∙ ap (kind_of (setting_of parts)) (sym (after_slots-node (emptied port) (slots port.node)))) fit.kinds;
     widths = kept (λ port. port.wide ≡ is_wide (setting_of parts) port.sink)
         (λ port is. filled_wide (emptied port) (slots port.node) ∙ is ∙ ap (is_wide (setting_of parts)) (sym (filled_sink (emptied port) (slots port.node)))) fit.widths;
-    rooms = kept (λ port. parts.shape.plan.now.frame * block_length port.wide port.kind ≤ port.piece.room)
+    rooms = kept (λ port. parts.scene.plan.now.frame * block_length port.wide port.kind ≤ port.piece.room)
         (λ port is.
-        let kind : parts.shape.plan.now.frame * block_length (hear port).wide (hear port).kind ≡ parts.shape.plan.now.frame * block_length port.wide port.kind =
-        ap (λ w. parts.shape.plan.now.frame * block_length w (hear port).kind) (filled_wide (emptied port) (slots port.node))
-        ∙ ap (λ k. parts.shape.plan.now.frame * block_length port.wide k) (filled_kind (emptied port) (slots port.node)) in
+        let kind : parts.scene.plan.now.frame * block_length (hear port).wide (hear port).kind ≡ parts.scene.plan.now.frame * block_length port.wide port.kind =
+        ap (λ w. parts.scene.plan.now.frame * block_length w (hear port).kind) (filled_wide (emptied port) (slots port.node))
+        ∙ ap (λ k. parts.scene.plan.now.frame * block_length port.wide k) (filled_kind (emptied port) (slots port.node)) in
         let room = filled_room (emptied port) (slots port.node) in
         omega (arith, is, kind, room)) fit.rooms;
     feeds = same_feeds ∙ fit.feeds;
@@ -187,13 +187,13 @@ module _ (parts other : EngineParts) (fit : AreParts parts)
   pub as_many : length other.ports.items ≡ length parts.ports.items
   as_many = ap length ports_are ∙ length-map parts.ports.items hear
 
-  module _ (long : (i : ℕ) → length (slots i) ≡ parts.shape.plan.now.frame) where
+  module _ (long : (i : ℕ) → length (slots i) ≡ parts.scene.plan.now.frame) where
     -- the length of a piece
     size_is : (k : ℕ) (port : Port) → slice_get parts.ports.items k ≡ Some port → length (hear port).piece.bytes ≡ piece_size (setting_of parts) port.sink port.node
     size_is k port at =
-        filled_long (emptied port) (slots port.node) parts.shape.plan.now.frame refl (long port.node)
-        ∙ ap (λ w. parts.shape.plan.now.frame * block_length w port.kind) (all_at (λ p. p.wide ≡ is_wide (setting_of parts) p.sink) parts.ports.items fit.widths k port at)
-        ∙ ap (λ q. parts.shape.plan.now.frame * block_length (is_wide (setting_of parts) port.sink) q) (all_at (λ p. p.kind ≡ kind_of (setting_of parts) p.node) parts.ports.items fit.kinds k port at)
+        filled_long (emptied port) (slots port.node) parts.scene.plan.now.frame refl (long port.node)
+        ∙ ap (λ w. parts.scene.plan.now.frame * block_length w port.kind) (all_at (λ p. p.wide ≡ is_wide (setting_of parts) p.sink) parts.ports.items fit.widths k port at)
+        ∙ ap (λ q. parts.scene.plan.now.frame * block_length (is_wide (setting_of parts) port.sink) q) (all_at (λ p. p.kind ≡ kind_of (setting_of parts) p.node) parts.ports.items fit.kinds k port at)
 
     -- the pieces have room where pieces of a tick have
     pub have_room : {S : Type 0} (told : S → SinkTold) (outs : List S) → HaveTickRoom told parts outs → HaveRoom told other.ports.items outs
@@ -292,14 +292,14 @@ meant_by parts fit answers rest =
     }
 
 module _ (parts other : EngineParts) (fit : AreParts parts) {T : Type 0} (stands_for : T → List Call → Type 0) (a b : T)
-    (heard : Heard stands_for parts.shape.plan.now parts.shape.library.now parts.shape.clocks.now (Main parts.clock) parts.own.items parts.shape.plan.now.frame (scene_of parts a) (scene_of other b))
+    (heard : Heard stands_for parts.scene.plan.now parts.scene.library.now parts.scene.clocks.now (Main parts.clock) parts.own.items parts.scene.plan.now.frame (hearing_of parts a) (hearing_of other b))
     (t : ℕ) (answers : ℕ → List Answer) (stands : EngineStands parts t answers) (few : parts.ticks < 1000000000) where
   module _ (rest : ℕ → List Answer) (has : HasAnswers (with_rest (setting_of parts) answers rest) (after_calls answers heard.more)) where
     abbrev S : Setting
     S = with_rest (setting_of parts) answers rest
 
-    ran : HasMadeInstants S (sub_of S) parts.own.items (Main parts.clock) (t * parts.shape.plan.now.frame) parts.shape.plan.now.frame heard.slots answers heard.more other.state
-    ran = heard.run S (sub_of S) (t * parts.shape.plan.now.frame) answers (meant_by parts fit answers rest) has (stands.state rest)
+    ran : HasMadeInstants S (sub_of S) parts.own.items (Main parts.clock) (t * parts.scene.plan.now.frame) parts.scene.plan.now.frame heard.slots answers heard.more other.state
+    ran = heard.run S (sub_of S) (t * parts.scene.plan.now.frame) answers (meant_by parts fit answers rest) has (stands.state rest)
 
     slots_are : (i : ℕ) → clock_of S i ≡ Main parts.clock → get_or parts.own.items i false ≡ true → heard.slots i ≡ tick_slots S i t
     slots_are i inside root = tick_heard S parts.clock t i (heard.slots i) inside (ran.slots_are i root)
@@ -333,10 +333,10 @@ module _ (parts other : EngineParts) (fit : AreParts parts) {T : Type 0} (stands
         let same = heard.lists in
         let old = there_is parts.cues.lists.items k (omega (arith, within, same)) in
         let node : found.0.node ≡ port.node = sym (after_slots-node (emptied found.0) (heard.slots found.0.node)) ∙ ap (λ p. p.node) found.2 in
-        let start = t * parts.shape.plan.now.frame in
+        let start = t * parts.scene.plan.now.frame in
         (heard.cues_are k found.0 old.0 list found.1 old.1 at_list).marks
-        ∙ ap (λ (b : Bool). old.0.marks.items ++ marks_if b (parts.ticks * parts.shape.plan.now.frame) (heard.slots found.0.node)) keeping
-        ∙ ap (λ n. old.0.marks.items ++ marks_of (n * parts.shape.plan.now.frame) (heard.slots found.0.node)) stands.made
+        ∙ ap (λ (b : Bool). old.0.marks.items ++ marks_if b (parts.ticks * parts.scene.plan.now.frame) (heard.slots found.0.node)) keeping
+        ∙ ap (λ n. old.0.marks.items ++ marks_of (n * parts.scene.plan.now.frame) (heard.slots found.0.node)) stands.made
         ∙ ap (λ slots. old.0.marks.items ++ marks_of start slots) (output_slots k found.0 found.1)
         ∙ ap (λ marks. marks ++ marks_of start (tick_slots S found.0.node t)) (stands.cues_are (λ e. absurd (true≢false (sym keeping ∙ e))) rest k found.0 old.0 found.1 old.1)
         ∙ sym (map-append mark_of (cues S found.0.node t) (tick_cues S found.0.node t))
@@ -355,8 +355,8 @@ module _ (parts other : EngineParts) (fit : AreParts parts) {T : Type 0} (stands
         ∙ ap (λ i. tick_bytes S found.0.wide i t) its
         ∙ ap (λ w. tick_bytes S w node t) width
 
-    pub state_after : ClockStateStands S (sub_of S) (Main parts.clock) (suc t * parts.shape.plan.now.frame) (after_calls answers heard.more) other.state
-    state_after = subst (λ n. ClockStateStands S (sub_of S) (Main parts.clock) n (after_calls answers heard.more) other.state) (sym (suc-mul t parts.shape.plan.now.frame)) ran.state_stands
+    pub state_after : ClockStateStands S (sub_of S) (Main parts.clock) (suc t * parts.scene.plan.now.frame) (after_calls answers heard.more) other.state
+    state_after = subst (λ n. ClockStateStands S (sub_of S) (Main parts.clock) n (after_calls answers heard.more) other.state) (sym (suc-mul t parts.scene.plan.now.frame)) ran.state_stands
 
     pub takes_are : heard.more ≡ takes_of_tick S parts.clock t
     takes_are = ran.calls
@@ -366,7 +366,7 @@ module _ (parts other : EngineParts) (fit : AreParts parts) {T : Type 0} (stands
     feed_cells_are k feed at =
         let found = from_mapped (λ f. with_slots f (heard.slots f.node)) parts.feeds.items k feed (sym (ap (λ xs. slice_get xs k) heard.feeds_are) ∙ at) in
         let inside = feed_inside (setting_of parts) parts.clock parts.feeds.items fit.feeds k found.0 found.1 in
-        let size = all_at (λ f. length f.frame ≡ parts.shape.plan.now.frame) parts.feeds.items fit.frames k found.0 found.1 in
+        let size = all_at (λ f. length f.frame ≡ parts.scene.plan.now.frame) parts.feeds.items fit.frames k found.0 found.1 in
         ap (λ f. cells_of f.frame) (sym found.2)
         ∙ ap cells_of (filled_whole (heard.slots found.0.node) found.0.frame (heard.long found.0.node ∙ sym size) ∙ slots_are found.0.node inside (feed_root parts fit k found.0 found.1).1)
         ∙ ap (λ i. feed_cells S i t) (ap (λ f. f.node) found.2)
@@ -425,9 +425,9 @@ module _ (parts other : EngineParts) (fit : AreParts parts) {T : Type 0} (stands
       runs = stands.runs;
       others = λ buffer unread. none_unread buffer (record { none = unread.none });
       state = λ rest.
-          subst (λ W. ClockStateStands W (sub_of W) (Main parts.clock) (suc t * parts.shape.plan.now.frame) (after_calls answers all_calls) other.state) (world_is (setting_of parts) answers all_calls rest)
+          subst (λ W. ClockStateStands W (sub_of W) (Main parts.clock) (suc t * parts.scene.plan.now.frame) (after_calls answers all_calls) other.state) (world_is (setting_of parts) answers all_calls rest)
           (subst (λ (f : ℕ → List Answer). ClockStateStands (with_rest (setting_of parts) answers (behind_calls all_calls rest)) (sub_of (with_rest (setting_of parts) answers (behind_calls all_calls rest))) (Main parts.clock)
-          (suc t * parts.shape.plan.now.frame) f other.state) front_is (state_after (behind_calls all_calls rest) (has_first rest)));
+          (suc t * parts.scene.plan.now.frame) f other.state) front_is (state_after (behind_calls all_calls rest) (has_first rest)));
       gaps_are = λ rest k port at.
           gaps_after (behind_calls all_calls rest) (has_first rest) k port at ∙ ap (λ W. gaps W port.node (suc t)) (world_is (setting_of parts) answers all_calls rest);
       cues_are = λ new rest k port list at_port at_list.
@@ -508,7 +508,7 @@ module _ (parts other : EngineParts) (fit : AreParts parts) {T : Type 0} (stands
 
 -- memory was refused within the instants: no output has grown
 pub has_broken : (parts other : EngineParts) (fit : AreParts parts) {T : Type 0} (stands_for : T → List Call → Type 0) (a b : T)
-    (heard : HeardSome stands_for parts.shape.plan.now parts.shape.library.now parts.shape.clocks.now (Main parts.clock) parts.own.items parts.shape.plan.now.frame (scene_of parts a) (scene_of other b))
+    (heard : HeardSome stands_for parts.scene.plan.now parts.scene.library.now parts.scene.clocks.now (Main parts.clock) parts.own.items parts.scene.plan.now.frame (hearing_of parts a) (hearing_of other b))
     (t : ℕ) (answers : ℕ → List Answer) → EngineStands parts t answers → {X : Type 0} (told : X → SinkTold) (outs : List X)
     → HasStopped (setting_of parts) parts.clock t answers heard.made (held_in told (outputs_of (setting_of parts) parts.clock) outs) (held_in told (outputs_of (setting_of parts) parts.clock) outs)
 has_broken parts other fit stands_for a b heard t answers stands told outs = record {
@@ -517,7 +517,7 @@ has_broken parts other fit stands_for a b heard t answers stands told outs = rec
       let S = with_rest (setting_of parts) answers (behind_calls heard.made rest) in
       subst (λ W. IsBegin heard.made (calls_of_tick W (λ buffer. true) parts.clock t)) (world_is (setting_of parts) answers heard.made rest)
       (begin_more heard.made (takes_of_tick S parts.clock t) (flat_map (give_by S (λ buffer. true) parts.clock t) S.plan.sinks)
-      (heard.begins S (sub_of S) (t * parts.shape.plan.now.frame) answers (meant_by parts fit answers (behind_calls heard.made rest)) (world_has (setting_of parts) answers heard.made rest) (stands.state (behind_calls heard.made rest))));
+      (heard.begins S (sub_of S) (t * parts.scene.plan.now.frame) answers (meant_by parts fit answers (behind_calls heard.made rest)) (world_has (setting_of parts) answers heard.made rest) (stands.state (behind_calls heard.made rest))));
   part = λ rest sink node output. (
     [],
     record { rest = tick_bytes (with_rest (setting_of parts) (after_calls answers heard.made) rest) output.wide node t; whole_is = refl },

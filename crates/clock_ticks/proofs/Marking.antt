@@ -3,7 +3,7 @@ use Rattle.std.proofs.Common.{◌≡◌, ◌<◌, ◌≤◌, ◌∙◌, ℕ, suc
 use Rattle.std.proofs.lemmas.Bool.{cases_lt}
 use Rattle.std.proofs.lemmas.Option.{slice_get_within}
 use Rattle.std.proofs.Math.ListN.{length-set}
-use Rattle.clock_instants.proofs.Places.{same_or_other, slice_get-set_other, slice_get-set_same}
+use Rattle.clock_nodes.proofs.Places.{same_or_other, slice_get-set_other, slice_get-set_same}
 use Rattle.clock_ticks.specs.declared.cues.CueList.{CueList}
 use Rattle.clock_ticks.specs.Cues.{HasGrown, HasKept}
 

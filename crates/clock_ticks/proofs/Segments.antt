@@ -19,7 +19,7 @@ use Rattle.op_mix.specs.Stretches.{samples_of}
 use Rattle.op_mix.proofs.Heard.{samples_long}
 use Rattle.node_states.specs.Times.{TimeStands}
 use Rattle.clock_instants.specs.Held.{IsHeld}
-use Rattle.clock_instants.specs.States.{over}
+use Rattle.clock_nodes.specs.States.{over}
 use Rattle.nested_instants.specs.Clocks.{InstantMade, IsWorld}
 use Rattle.nested_instants.specs.Stretches.{StretchMade}
 use Rattle.nested_instants.specs.declared.clock_states.ClockStates.{ClockStates}

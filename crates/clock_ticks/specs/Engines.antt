@@ -18,7 +18,7 @@ use Rattle.clock_outputs.specs.declared.port.Port.{Port}
 use Rattle.clock_outputs.specs.declared.feed.FeedPort.{FeedPort}
 use Rattle.nested_instants.specs.Clocks.{AreOwnRoots}
 use Rattle.clock_ticks.specs.Standing.{IsClockState, ClockStateStands}
-use Rattle.clock_ticks.specs.Hearings.{Scene}
+use Rattle.clock_ticks.specs.Hearings.{Hearing}
 use Rattle.clock_ticks.specs.Cues.{mark_of}
 use Rattle.clock_ticks.specs.declared.cues.CueList.{CueList}
 use Rattle.clock_ticks.specs.declared.fault.TickFault.{TickFault}
@@ -27,9 +27,9 @@ use Rattle.clock_ticks.specs.declared.engine.EngineParts.{EngineParts}
 -- the plan of an engine, with its clocks, its files and its start second, and no answers
 abbrev pub setting_of : EngineParts → Setting
 setting_of parts = record {
-  plan = parts.shape.plan.now;
-  library = parts.shape.library.now;
-  clocks = parts.shape.clocks.now;
+  plan = parts.scene.plan.now;
+  library = parts.scene.library.now;
+  clocks = parts.scene.clocks.now;
   start = parts.start.second;
   answers = λ buffer. [];
 }
@@ -66,7 +66,7 @@ feed_of feed = (feed.buffer, feed.node)
 -- an engine with the state, outputs and feeds of another one
 abbrev pub after_tick : EngineParts → (other : EngineParts) → (ticks : ℕ) → Option TickFault → EngineParts
 after_tick parts other ticks stopped = record {
-  shape = parts.shape;
+  scene = parts.scene;
   clock = parts.clock;
   start = parts.start;
   own = parts.own;
@@ -86,22 +86,22 @@ pub record AreClocksOf (plan : Plan) (clocks : List NodeClock) : Type 0 where
 
 -- the parts of an engine of main clock m fit together
 pub record AreParts (parts : EngineParts) : Type 0 where
-  pub plan : IsWellFormed parts.shape.plan.now
-  pub nodes : AreNodes parts.shape.plan.now.nodes
-  pub frame : parts.shape.plan.now.frame ≤ 65536
-  pub few : length parts.shape.plan.now.nodes ≤ MAX_NODES
-  pub in_clocks : length parts.shape.clocks.now ≡ length parts.shape.plan.now.nodes
-  pub clocks : AreClocksOf parts.shape.plan.now parts.shape.clocks.now
-  pub state : IsClockState parts.shape.plan.now parts.shape.library.now parts.shape.clocks.now parts.state
-  pub in_own : length parts.own.items ≡ length parts.shape.plan.now.nodes
+  pub plan : IsWellFormed parts.scene.plan.now
+  pub nodes : AreNodes parts.scene.plan.now.nodes
+  pub frame : parts.scene.plan.now.frame ≤ 65536
+  pub few : length parts.scene.plan.now.nodes ≤ MAX_NODES
+  pub in_clocks : length parts.scene.clocks.now ≡ length parts.scene.plan.now.nodes
+  pub clocks : AreClocksOf parts.scene.plan.now parts.scene.clocks.now
+  pub state : IsClockState parts.scene.plan.now parts.scene.library.now parts.scene.clocks.now parts.state
+  pub in_own : length parts.own.items ≡ length parts.scene.plan.now.nodes
   pub own : AreOwnRoots (setting_of parts) parts.own.items
   pub outputs : map output_of parts.ports.items ≡ outputs_of (setting_of parts) parts.clock
   pub kinds : All (λ port. port.kind ≡ kind_of (setting_of parts) port.node) parts.ports.items
   pub widths : All (λ port. port.wide ≡ is_wide (setting_of parts) port.sink) parts.ports.items
-  pub rooms : All (λ port. parts.shape.plan.now.frame * block_length port.wide port.kind
+  pub rooms : All (λ port. parts.scene.plan.now.frame * block_length port.wide port.kind
       ≤ port.piece.room) parts.ports.items
   pub feeds : map feed_of parts.feeds.items ≡ feeds_of (setting_of parts) parts.clock
-  pub frames : All (λ feed. length feed.frame ≡ parts.shape.plan.now.frame) parts.feeds.items
+  pub frames : All (λ feed. length feed.frame ≡ parts.scene.plan.now.frame) parts.feeds.items
   pub lists : length parts.cues.lists.items ≡ length parts.ports.items
 
 -- an engine, as contracts see it: its parts, and the sinks of its outputs
@@ -124,7 +124,7 @@ pub record EngineStands (parts : EngineParts) (ticks : ℕ) (answers : ℕ → L
   pub state : (rest : ℕ → List Answer)
       → ClockStateStands (with_rest (setting_of parts) answers rest)
       (sub_of (with_rest (setting_of parts) answers rest)) (Main parts.clock)
-      (ticks * parts.shape.plan.now.frame) answers parts.state
+      (ticks * parts.scene.plan.now.frame) answers parts.state
   pub gaps_are : (rest : ℕ → List Answer) (k : ℕ) (port : Port) → slice_get parts.ports.items k ≡ Some port
       → port.gaps ≡ gaps (with_rest (setting_of parts) answers rest) port.node ticks
   pub cues_are : (parts.cues.keeping ≡ false → ticks ≡ 0)
@@ -161,12 +161,12 @@ abbrev pub held_of : {S : Type 0} → (S → SinkTold) → Engine S → ℕ → 
 held_of told engine = held_in told (outputs_of (setting_of engine.parts) engine.parts.clock) engine.outs
 
 -- what changes in a tick
-abbrev pub scene_of : {T : Type 0} → EngineParts → T → Scene T
-scene_of parts taps = record {
+abbrev pub hearing_of : {T : Type 0} → EngineParts → T → Hearing T
+hearing_of parts taps = record {
   state = parts.state;
   ports = parts.ports.items;
   feeds = parts.feeds.items;
   cues = parts.cues;
-  start = parts.ticks * parts.shape.plan.now.frame;
+  start = parts.ticks * parts.scene.plan.now.frame;
   taps = taps;
 }

@@ -12,8 +12,8 @@ use Rattle.clock_outputs.specs.declared.port.Port.{Port}
 use Rattle.clock_outputs.specs.declared.feed.FeedPort.{FeedPort}
 use Rattle.clock_outputs.specs.Ports.{AllHaveRoomLeft, after_slots, emptied}
 use Rattle.clock_outputs.specs.Segments.{segment_slots}
-use Rattle.clock_instants.specs.declared.shape.Shape.{Shape}
-use Rattle.clock_instants.specs.States.{over}
+use Rattle.clock_nodes.specs.declared.scene.Scene.{Scene}
+use Rattle.clock_nodes.specs.States.{over}
 use Rattle.clock_instants.specs.Takes.{HasOwnReaders}
 use Rattle.op_mix.specs.Stretches.{samples_of}
 use Rattle.nested_instants.specs.Clocks.{AreOwnRoots}
@@ -63,7 +63,7 @@ pub record HasMadeInstants (setting : Setting) (sub : ℕ → ℕ
   pub calls : more ≡ calls_from setting sub clock n count
 
 -- the states, the outputs, the feeds and the marks of a clock, the first instant of the tick, and its taps
-pub record Scene (T : Type 0) : Type 0 where
+pub record Hearing (T : Type 0) : Type 0 where
   pub state : ClockState
   pub ports : List Port
   pub feeds : List FeedPort
@@ -71,9 +71,9 @@ pub record Scene (T : Type 0) : Type 0 where
   pub start : ℕ
   pub taps : T
 
--- such a scene
-abbrev pub scene : {T : Type 0} → ClockState → List Port → List FeedPort → Cues → (start : ℕ) → T → Scene T
-scene state ports feeds cues start taps = record {
+-- such a hearing
+abbrev pub hearing_by : {T : Type 0} → ClockState → List Port → List FeedPort → Cues → (start : ℕ) → T → Hearing T
+hearing_by state ports feeds cues start taps = record {
   state = state;
   ports = ports;
   feeds = feeds;
@@ -84,20 +84,20 @@ scene state ports feeds cues start taps = record {
 
 -- the outputs and feeds of a clock have room for a tick that begins at this instant, are of nodes of the plan, and each
 -- output has its marks
-pub record CanHear (shape : Shape) (ports : List Port) (feeds : List FeedPort) (cues : Cues) (start : ℕ) : Type 0 where
-  pub heard : All (λ port. port.node < length shape.plan.now.nodes) ports
-  pub fed : All (λ feed. feed.node < length shape.plan.now.nodes) feeds
-  pub room : AllHaveRoomLeft shape.plan.now.frame (map emptied ports)
-  pub frames : All (λ feed. length feed.frame ≡ shape.plan.now.frame) feeds
+pub record CanHear (scene : Scene) (ports : List Port) (feeds : List FeedPort) (cues : Cues) (start : ℕ) : Type 0 where
+  pub heard : All (λ port. port.node < length scene.plan.now.nodes) ports
+  pub fed : All (λ feed. feed.node < length scene.plan.now.nodes) feeds
+  pub room : AllHaveRoomLeft scene.plan.now.frame (map emptied ports)
+  pub frames : All (λ feed. length feed.frame ≡ scene.plan.now.frame) feeds
   pub marks : length cues.lists.items ≡ length ports
-  pub late : start + shape.plan.now.frame < 2 ^ 64
+  pub late : start + scene.plan.now.frame < 2 ^ 64
 
 -- so many instants of a tick were made, by these calls, and the outputs, feeds and marks have heard the slots of their
 -- nodes; whatever instants the states stood for, these are the next ones
 pub record Heard {T : Type 0} (stands : T → List Call
     → Type 0) (plan : Plan) (library : Sounds) (clocks : List NodeClock) (clock : NodeClock) (own : List Bool)
     (count : ℕ)
-    (before after : Scene T) : Type 0 where
+    (before after : Hearing T) : Type 0 where
   pub slots : ℕ → List Slot
   pub long : (i : ℕ) → length (slots i) ≡ count
   pub ports_are : after.ports ≡ map (λ port. after_slots (emptied port) (slots port.node)) before.ports
@@ -116,17 +116,17 @@ pub record Heard {T : Type 0} (stands : T → List Call
       → ClockStateStands (over plan library clocks other) sub clock n front before.state
       → HasMadeInstants (over plan library clocks other) sub own clock n count slots front more after.state
 
--- the same over a shape
-abbrev pub HeardOver : {T : Type 0} → (T → List Call → Type 0) → Shape → NodeClock → List Bool → (count : ℕ)
-    → (before after : Scene T) → Type 0
-HeardOver stands shape clock own count before after = Heard stands shape.plan.now shape.library.now shape.clocks.now
+-- the same over a scene
+abbrev pub HeardOver : {T : Type 0} → (T → List Call → Type 0) → Scene → NodeClock → List Bool → (count : ℕ)
+    → (before after : Hearing T) → Type 0
+HeardOver stands scene clock own count before after = Heard stands scene.plan.now scene.library.now scene.clocks.now
     clock own count before after
 
 -- memory was refused within a tick of so many instants: these are its first calls
 pub record HeardSome {T : Type 0} (stands : T → List Call
     → Type 0) (plan : Plan) (library : Sounds) (clocks : List NodeClock) (clock : NodeClock) (own : List Bool)
     (total : ℕ)
-    (before after : Scene T) : Type 0 where
+    (before after : Hearing T) : Type 0 where
   pub slots : ℕ → List Slot
   pub ports_are : after.ports ≡ map (λ port. after_slots (emptied port) (slots port.node)) before.ports
   pub keeping : after.cues.keeping ≡ before.cues.keeping
@@ -141,11 +141,11 @@ pub record HeardSome {T : Type 0} (stands : T → List Call
       → ClockStateStands (over plan library clocks other) sub clock n front before.state
       → IsBegin made (calls_from (over plan library clocks other) sub clock n total)
 
--- the same over a shape
-abbrev pub HeardSomeOver : {T : Type 0} → (T → List Call → Type 0) → Shape → NodeClock → List Bool → (total : ℕ)
-    → (before after : Scene T) → Type 0
-HeardSomeOver stands shape clock own total before after = HeardSome stands shape.plan.now shape.library.now
-    shape.clocks.now clock own total before after
+-- the same over a scene
+abbrev pub HeardSomeOver : {T : Type 0} → (T → List Call → Type 0) → Scene → NodeClock → List Bool → (total : ℕ)
+    → (before after : Hearing T) → Type 0
+HeardSomeOver stands scene clock own total before after = HeardSome stands scene.plan.now scene.library.now
+    scene.clocks.now clock own total before after
 
 -- the slots of node i in the latest segment, which had so many instants behind its first one
 abbrev pub segment_of : ClockStates → (many i : ℕ) → List Slot
@@ -175,11 +175,11 @@ pub record SegmentMade {T : Type 0} (stands : T → List Call
       → HasMadeInstants (over plan library clocks other) sub own clock n (suc many) (segment_of after.state.clocks many)
       front more after.state
 
--- the same over a shape
-abbrev pub SegmentRunOver : {T : Type 0} → (T → List Call → Type 0) → Shape → NodeClock → List Bool → (many : ℕ)
+-- the same over a scene
+abbrev pub SegmentRunOver : {T : Type 0} → (T → List Call → Type 0) → Scene → NodeClock → List Bool → (many : ℕ)
     → (old new : ClockState) → (taps_old taps_new : T) → Type 0
-SegmentRunOver stands shape clock own many old new taps_old taps_new = SegmentMade stands shape.plan.now
-    shape.library.now shape.clocks.now clock own many (tapped old taps_old) (tapped new taps_new)
+SegmentRunOver stands scene clock own many old new taps_old taps_new = SegmentMade stands scene.plan.now
+    scene.library.now scene.clocks.now clock own many (tapped old taps_old) (tapped new taps_new)
 
 -- memory was refused in its first instant
 pub record SegmentBroken {T : Type 0} (stands : T → List Call
@@ -194,8 +194,8 @@ pub record SegmentBroken {T : Type 0} (stands : T → List Call
       → IsBegin made (calls_of (over plan library clocks other) sub clock
       (first_instants (over plan library clocks other) sub clock n))
 
--- the same over a shape
-abbrev pub SegmentBrokenOver : {T : Type 0} → (T → List Call → Type 0) → Shape → NodeClock → List Bool → ClockState
+-- the same over a scene
+abbrev pub SegmentBrokenOver : {T : Type 0} → (T → List Call → Type 0) → Scene → NodeClock → List Bool → ClockState
     → (taps_old taps_new : T) → Type 0
-SegmentBrokenOver stands shape clock own old taps_old taps_new = SegmentBroken stands shape.plan.now shape.library.now
-    shape.clocks.now clock own old taps_old taps_new
+SegmentBrokenOver stands scene clock own old taps_old taps_new = SegmentBroken stands scene.plan.now scene.library.now
+    scene.clocks.now clock own old taps_old taps_new

@@ -8,8 +8,8 @@ use Rattle.frame_core.specs.Library.{Sounds}
 use Rattle.frame_core.specs.Calls.{Answer}
 use Rattle.stream_meaning.specs.Instants.{Setting}
 use Rattle.node_states.specs.Times.{TimeStands}
-use Rattle.clock_instants.specs.declared.shape.Shape.{Shape}
-use Rattle.clock_instants.specs.Shapes.{IsShape}
+use Rattle.clock_nodes.specs.declared.scene.Scene.{Scene}
+use Rattle.clock_nodes.specs.Scenes.{IsScene}
 use Rattle.nested_instants.specs.Clocks.{AreClockStates, HasLevels, HasRanks, RanAsNeeded, Stand}
 use Rattle.clock_ticks.specs.declared.clock_state.ClockState.{ClockState}
 
@@ -23,18 +23,18 @@ pub record IsClockState (plan : Plan) (library : Sounds) (clocks : List NodeCloc
   pub rate : state.time.rate ≡ plan.rate
   pub frame : state.time.frame ≡ plan.frame
 
--- the same over a shape
-abbrev pub IsClockStateOver : Shape → ClockState → Type 0
-IsClockStateOver shape state = IsClockState shape.plan.now shape.library.now shape.clocks.now state
+-- the same over a scene
+abbrev pub IsClockStateOver : Scene → ClockState → Type 0
+IsClockStateOver scene state = IsClockState scene.plan.now scene.library.now scene.clocks.now state
 
 -- a clock can make instants: these are the states of the nodes, it is no sub-clock, sub-clocks nest no deeper than
 -- there are nodes, and it is told of each node whether its own clock demands it of itself
-pub record CanMake (shape : Shape) (clock : NodeClock) (own : List Bool) (state : ClockState) : Type 0 where
-  pub shape_is : IsShape shape
-  pub in_own : length own ≡ length shape.plan.now.nodes
+pub record CanMake (scene : Scene) (clock : NodeClock) (own : List Bool) (state : ClockState) : Type 0 where
+  pub shape_is : IsScene scene
+  pub in_own : length own ≡ length scene.plan.now.nodes
   pub main : IsMain clock
-  pub levels : HasLevels shape.clocks.now clock (length shape.plan.now.nodes)
-  pub state_is : IsClockStateOver shape state
+  pub levels : HasLevels scene.clocks.now clock (length scene.plan.now.nodes)
+  pub state_is : IsClockStateOver scene state
 
 -- they stand for the first n instants of a clock, and for as many of the sub-clocks below it as its crossfades asked
 -- for; all readers have taken these answers by them

@@ -15,7 +15,7 @@ use Rattle.clock_ticks.specs.declared.fault.TickFault.TheVariants.{Write}
 
 -- an engine with a reader in its clock or below it, or with a feed, or that keeps marks
 abbrev pub HasEnds : EngineParts → Type 0
-HasEnds parts = HasReader parts.shape.plan.now parts.shape.clocks.now (Main parts.clock)
+HasEnds parts = HasReader parts.scene.plan.now parts.scene.clocks.now (Main parts.clock)
     ⊎ ((0 < length (feeds_of (setting_of parts) parts.clock)) ⊎ (parts.cues.keeping ≡ true))
 
 -- the length of the piece of a tick, of an output with this number and node

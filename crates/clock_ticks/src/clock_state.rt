@@ -5,7 +5,7 @@ ghost use Rattle.clock_ticks.specs.Standing.{CanMake, IsClockStateOver};
 ghost use Rattle.clock_ticks.specs.Hearings.{SegmentBrokenOver, SegmentRunOver};
 
 use clock_infer::NodeClock;
-use clock_instants::Shape;
+use clock_nodes::Scene;
 use frame_core::Taps;
 use liq_base::Memory;
 use nested_instants::{ClockStates, make_instant, make_stretch};
@@ -26,29 +26,29 @@ pub struct ClockState {
 /// how many these are. `own` tells of each node whether its own clock demands it of itself. Whatever instants the
 /// states stood for, they stand for those of the segment too.
 pub fn make_segment<T: Taps>(
-    shape: &Shape<'_>,
+    scene: &Scene<'_>,
     clock: NodeClock,
     own: &[bool],
     state: &mut ClockState,
     most: u32,
     taps: &mut T,
 ) -> Result<u32, Memory>
-    requires makes { CanMake shape.now clock own.now state.old }
+    requires makes { CanMake scene.now clock own.now state.old }
     requires short { most ≤ 2048 }
-    requires readers { ReadersAreIn shape.now.plan.now (T.buffers taps.old) }
-    ensures state { IsClockStateOver shape.now state.new }
+    requires readers { ReadersAreIn scene.now.plan.now (T.buffers taps.old) }
+    ensures state { IsClockStateOver scene.now state.new }
     ensures buffers { T.buffers taps.new ≡ T.buffers taps.old }
     ensures same { T.same taps.old taps.new }
     ensures within { IfOk result (λ many. many ≤ most) }
     ensures run { IfOk result
-        (λ many. SegmentRunOver T.stands shape.now clock own.now many state.old state.new taps.old taps.new) }
-    ensures broken { OnErr result (SegmentBrokenOver T.stands shape.now clock own.now state.old taps.old taps.new) }
-    ensures reads { OnErr result (HasReader shape.now.plan.now shape.now.clocks.now clock) }
+        (λ many. SegmentRunOver T.stands scene.now clock own.now many state.old state.new taps.old taps.new) }
+    ensures broken { OnErr result (SegmentBrokenOver T.stands scene.now clock own.now state.old taps.old taps.new) }
+    ensures reads { OnErr result (HasReader scene.now.plan.now scene.now.clocks.now clock) }
 {
     let time = state.time;
-    let levels = shape.plan.nodes.len();
-    make_instant(shape, own, &mut state.clocks, clock, time, levels, taps)?;
-    let many = make_stretch(shape, &mut state.clocks, clock, time, most, levels);
+    let levels = scene.plan.nodes.len();
+    make_instant(scene, own, &mut state.clocks, clock, time, levels, taps)?;
+    let many = make_stretch(scene, &mut state.clocks, clock, time, most, levels);
     state.time = time.next().later(many);
     state.segments = state.segments.saturating_add(1);
     Ok(many)

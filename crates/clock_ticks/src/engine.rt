@@ -10,7 +10,7 @@ ghost use Rattle.frame_core.specs.Library.{IsLibrary};
 ghost use Rattle.clock_ticks.specs.Standing.{IsClockStateOver};
 ghost use Rattle.clock_ticks.specs.Hearings.{HeardOver, HeardSomeOver};
 ghost use Rattle.clock_infer.specs.declared.clock_map.NodeClock.TheVariants.{Main as InMain};
-ghost use Rattle.clock_ticks.specs.Engines.{AreClocksOf, AreParts, EngineStands, EngineStopped, IsWhole, after_tick, feed_of, outputs_of, scene_of, setting_of};
+ghost use Rattle.clock_ticks.specs.Engines.{AreClocksOf, AreParts, EngineStands, EngineStopped, IsWhole, after_tick, feed_of, outputs_of, hearing_of, setting_of};
 ghost use Rattle.clock_ticks.specs.Pieces.{GotSomePieces};
 ghost use Rattle.stream_meaning.specs.Sinks.{cues, gaps, IsOutput};
 ghost use Rattle.clock_ticks.specs.Cues.{mark_of};
@@ -25,7 +25,7 @@ use crate::outputs::{feeds_of, ports_of};
 use crate::parts::{clocks_of, is_main, own_roots};
 use crate::run::run_tick;
 use clock_infer::{ClockMap, NodeClock};
-use clock_instants::Shape;
+use clock_nodes::Scene;
 use clock_outputs::{FeedPort, Port, append_all, give_all};
 use fixed_text::WeekSecond;
 use frame_core::{Library, Taps};
@@ -38,7 +38,7 @@ use std::marker::Model;
 /// What an engine runs over and what changes from tick to tick, but for its sinks.
 #[derive(Drop)]
 pub struct EngineParts<'a> {
-    pub shape: Shape<'a>,
+    pub scene: Scene<'a>,
 
     /// The number of its main clock.
     pub clock: u32,
@@ -86,20 +86,20 @@ impl<'a, O> Model for ClockEngine<'a, O> {
 // The parts of a new engine.
 fn make_parts<'a>(
     alloc: Global,
-    shape: Shape<'a>,
+    scene: Scene<'a>,
     clock: u32,
     start: WeekSecond,
 ) -> Result<EngineParts<'a>, Memory>
-    requires plan { IsWellFormed shape.plan.now }
-    requires in_clocks { length shape.clocks.now ≡ length shape.plan.now.nodes }
-    requires clocks { AreClocksOf shape.plan.now shape.clocks.now }
-    requires library { IsLibrary shape.library.now }
-    requires leaves { length shape.library.now.leaves ≡ length shape.plan.now.nodes }
+    requires plan { IsWellFormed scene.plan.now }
+    requires in_clocks { length scene.clocks.now ≡ length scene.plan.now.nodes }
+    requires clocks { AreClocksOf scene.plan.now scene.clocks.now }
+    requires library { IsLibrary scene.library.now }
+    requires leaves { length scene.library.now.leaves ≡ length scene.plan.now.nodes }
     ensures parts { IfOk result AreParts }
     ensures setting { IfOk result (λ parts. setting_of parts ≡ record {
-      plan = shape.entry.plan.now;
-      library = shape.entry.library.now;
-      clocks = shape.entry.clocks.now;
+      plan = scene.entry.plan.now;
+      library = scene.entry.library.now;
+      clocks = scene.entry.clocks.now;
       start = start.second;
       answers = λ buffer. [];
     }) }
@@ -107,14 +107,14 @@ fn make_parts<'a>(
     ensures stands { IfOk result (λ parts. EngineStands parts 0 (λ buffer. [])) }
     ensures keeps { IfOk result (λ parts. parts.cues.keeping ≡ false) }
 {
-    let time = WeekTime::new(start, shape.plan.rate, shape.plan.frame);
-    let clocks = clocks_of(alloc, &shape, clock, time)?;
-    let own = own_roots(alloc, &shape)?;
-    let ports = ports_of(alloc, &shape, clock)?;
-    let feeds = feeds_of(alloc, &shape, clock)?;
+    let time = WeekTime::new(start, scene.plan.rate, scene.plan.frame);
+    let clocks = clocks_of(alloc, &scene, clock, time)?;
+    let own = own_roots(alloc, &scene)?;
+    let ports = ports_of(alloc, &scene, clock)?;
+    let feeds = feeds_of(alloc, &scene, clock)?;
     let cues = cues_of(alloc, ports.len())?;
     Ok(EngineParts {
-        shape,
+        scene,
         clock,
         start,
         own,
@@ -135,28 +135,28 @@ fn make_parts<'a>(
 fn run_parts<T: Taps>(parts: &mut EngineParts<'_>, taps: &mut T) -> Result<(), Memory>
     requires parts { AreParts parts.old }
     requires few { parts.old.ticks < 1000000000 }
-    requires buffers { T.buffers taps.old ≡ length parts.old.shape.plan.now.buffers }
+    requires buffers { T.buffers taps.old ≡ length parts.old.scene.plan.now.buffers }
     ensures kept { parts.new ≡ after_tick parts.old parts.new parts.old.ticks parts.old.stopped }
-    ensures state { IsClockStateOver parts.old.shape parts.new.state }
-    ensures frames { All (λ feed. length feed.frame ≡ parts.old.shape.plan.now.frame) parts.new.feeds.items }
+    ensures state { IsClockStateOver parts.old.scene parts.new.state }
+    ensures frames { All (λ feed. length feed.frame ≡ parts.old.scene.plan.now.frame) parts.new.feeds.items }
     ensures feeds { map feed_of parts.new.feeds.items ≡ map feed_of parts.old.feeds.items }
     ensures buffers { T.buffers taps.new ≡ T.buffers taps.old }
     ensures same { T.same taps.old taps.new }
     ensures heard { OnOk result
-        (HeardOver T.stands parts.old.shape (InMain parts.old.clock) parts.old.own.items parts.old.shape.plan.now.frame
-        (scene_of parts.old taps.old) (scene_of parts.new taps.new)) }
+        (HeardOver T.stands parts.old.scene (InMain parts.old.clock) parts.old.own.items parts.old.scene.plan.now.frame
+        (hearing_of parts.old taps.old) (hearing_of parts.new taps.new)) }
     ensures stopped { OnErr result
-        (HeardSomeOver T.stands parts.old.shape (InMain parts.old.clock) parts.old.own.items
-        parts.old.shape.plan.now.frame
-        (scene_of parts.old taps.old) (scene_of parts.new taps.new)) }
+        (HeardSomeOver T.stands parts.old.scene (InMain parts.old.clock) parts.old.own.items
+        parts.old.scene.plan.now.frame
+        (hearing_of parts.old taps.old) (hearing_of parts.new taps.new)) }
     ensures cues { parts.new.cues.keeping ≡ parts.old.cues.keeping }
-    ensures needs { OnErr result (HasReader parts.old.shape.plan.now parts.old.shape.clocks.now (InMain parts.old.clock)
+    ensures needs { OnErr result (HasReader parts.old.scene.plan.now parts.old.scene.clocks.now (InMain parts.old.clock)
         ⊎ (parts.old.cues.keeping ≡ true)) }
 {
     let clock = NodeClock::Main(parts.clock);
-    let start = parts.ticks * parts.shape.plan.frame as u64;
+    let start = parts.ticks * parts.scene.plan.frame as u64;
     run_tick(
-        &parts.shape,
+        &parts.scene,
         clock,
         &parts.own,
         &mut parts.state,
@@ -172,24 +172,24 @@ fn run_parts<T: Taps>(parts: &mut EngineParts<'_>, taps: &mut T) -> Result<(), M
 fn run_or_stop<T: Taps>(parts: &mut EngineParts<'_>, taps: &mut T) -> Result<(), TickFault>
     requires parts { AreParts parts.old }
     requires few { parts.old.ticks < 1000000000 }
-    requires buffers { T.buffers taps.old ≡ length parts.old.shape.plan.now.buffers }
+    requires buffers { T.buffers taps.old ≡ length parts.old.scene.plan.now.buffers }
     ensures kept { OnOk result (parts.new ≡ after_tick parts.old parts.new parts.old.ticks parts.old.stopped) }
     ensures ended { IfErr result (λ fault. (fault ≡ OutOfMemory)
         × (parts.new ≡ after_tick parts.old parts.new parts.old.ticks (Some OutOfMemory))) }
-    ensures state { IsClockStateOver parts.old.shape parts.new.state }
-    ensures frames { All (λ feed. length feed.frame ≡ parts.old.shape.plan.now.frame) parts.new.feeds.items }
+    ensures state { IsClockStateOver parts.old.scene parts.new.state }
+    ensures frames { All (λ feed. length feed.frame ≡ parts.old.scene.plan.now.frame) parts.new.feeds.items }
     ensures feeds { map feed_of parts.new.feeds.items ≡ map feed_of parts.old.feeds.items }
     ensures buffers { T.buffers taps.new ≡ T.buffers taps.old }
     ensures same { T.same taps.old taps.new }
     ensures heard { OnOk result
-        (HeardOver T.stands parts.old.shape (InMain parts.old.clock) parts.old.own.items parts.old.shape.plan.now.frame
-        (scene_of parts.old taps.old) (scene_of parts.new taps.new)) }
+        (HeardOver T.stands parts.old.scene (InMain parts.old.clock) parts.old.own.items parts.old.scene.plan.now.frame
+        (hearing_of parts.old taps.old) (hearing_of parts.new taps.new)) }
     ensures stopped { OnErr result
-        (HeardSomeOver T.stands parts.old.shape (InMain parts.old.clock) parts.old.own.items
-        parts.old.shape.plan.now.frame
-        (scene_of parts.old taps.old) (scene_of parts.new taps.new)) }
+        (HeardSomeOver T.stands parts.old.scene (InMain parts.old.clock) parts.old.own.items
+        parts.old.scene.plan.now.frame
+        (hearing_of parts.old taps.old) (hearing_of parts.new taps.new)) }
     ensures cues { parts.new.cues.keeping ≡ parts.old.cues.keeping }
-    ensures needs { OnErr result (HasReader parts.old.shape.plan.now parts.old.shape.clocks.now (InMain parts.old.clock)
+    ensures needs { OnErr result (HasReader parts.old.scene.plan.now parts.old.scene.clocks.now (InMain parts.old.clock)
         ⊎ (parts.old.cues.keeping ≡ true)) }
 {
     match run_parts(parts, taps) {
@@ -275,12 +275,12 @@ impl<'a, O: Sink> ClockEngine<'a, O> {
         ensures keeps { IfOk result (λ engine. engine.parts.cues.keeping ≡ false) }
         ensures back { IfErr result (λ refused. refused.0.items ≡ outs.items) }
     {
-        let shape = Shape {
+        let scene = Scene {
             plan,
             library,
             clocks: clocks.of.as_slice(),
         };
-        match make_parts(alloc, shape, clock, start) {
+        match make_parts(alloc, scene, clock, start) {
             Ok(parts) => Ok(ClockEngine { parts, outs }),
             Err(refused) => Err((outs, refused)),
         }
@@ -292,7 +292,7 @@ impl<'a, O: Sink> ClockEngine<'a, O> {
         requires runs { self.old.parts.stopped ≡ None }
         requires few { self.old.parts.ticks < 1000000000 }
         requires room { HaveTickRoom O.told self.old.parts self.old.outs }
-        requires buffers { T.buffers taps.old ≡ length self.old.parts.shape.plan.now.buffers }
+        requires buffers { T.buffers taps.old ≡ length self.old.parts.scene.plan.now.buffers }
         ensures whole { IsWhole self.old }
         ensures outs { length self.new.outs ≡ length self.old.outs }
         ensures setting { setting_of self.new.parts ≡ setting_of self.old.parts }
@@ -424,7 +424,7 @@ impl<'a, O> ClockEngine<'a, O> {
     /// nothing of another node. Who asks may go by it, and is told by the answers of the takes whether it was so: no
     /// clause says it.
     pub fn missing(&self, node: u32) -> Option<u64> {
-        let of = *self.parts.shape.clocks.get(node as usize)?;
+        let of = *self.parts.scene.clocks.get(node as usize)?;
         if !is_main(of, self.parts.clock) {
             return None;
         }

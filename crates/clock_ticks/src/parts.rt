@@ -9,15 +9,16 @@ ghost use Rattle.stream_meaning.specs.Instants.{Setting, is_root, same_clock};
 ghost use Rattle.node_states.specs.declared.state.NodeState.{NodeState as State};
 ghost use Rattle.node_states.specs.declared.state.NodeState.TheVariants.{Idle};
 ghost use Rattle.node_states.specs.declared.time.WeekTime.{WeekTime as Time};
-ghost use Rattle.clock_instants.specs.Nodes.{IsLatest};
-ghost use Rattle.clock_instants.specs.States.{HasRoomFor};
+ghost use Rattle.clock_instants.specs.Instants.{IsLatest};
+ghost use Rattle.clock_nodes.specs.States.{HasRoomFor};
 ghost use Rattle.clock_instants.specs.Takes.{IsUnder};
 ghost use Rattle.nested_instants.specs.Clocks.{AreClockStatesOver, AreOwnRoots, laned_at, rest_at};
 ghost use Rattle.clock_ticks.specs.Beginnings.{AreNewStates, IsNewState};
-ghost use Rattle.clock_instants.specs.Shapes.{setting_over};
+ghost use Rattle.clock_nodes.specs.Scenes.{setting_over};
 
 use clock_infer::NodeClock;
-use clock_instants::{ClockNodes, Latest, Shape, StretchRoom};
+use clock_instants::{Latest, StretchRoom};
+use clock_nodes::{ClockNodes, Scene};
 use liq_base::Memory;
 use nested_instants::{ClockStates, child_of};
 use node_states::{Desk, NodeState, WeekTime};
@@ -29,30 +30,30 @@ use stream_meaning::Part;
 /// the main clock of this number does not drive are idle.
 pub fn clocks_of(
     alloc: Global,
-    shape: &Shape<'_>,
+    scene: &Scene<'_>,
     clock: u32,
     time: WeekTime,
 ) -> Result<ClockStates, Memory>
-    requires plan { IsWellFormed shape.now.plan.now }
-    requires in_clocks { length shape.now.clocks.now ≡ length shape.now.plan.now.nodes }
-    requires library { IsLibrary shape.now.library.now }
-    requires leaves { length shape.now.library.now.leaves ≡ length shape.now.plan.now.nodes }
-    requires rate { time.rate ≡ shape.now.plan.now.rate }
-    requires frame { time.frame ≡ shape.now.plan.now.frame }
-    ensures clocks { IfOk result (AreClockStatesOver shape.now) }
+    requires plan { IsWellFormed scene.now.plan.now }
+    requires in_clocks { length scene.now.clocks.now ≡ length scene.now.plan.now.nodes }
+    requires library { IsLibrary scene.now.library.now }
+    requires leaves { length scene.now.library.now.leaves ≡ length scene.now.plan.now.nodes }
+    requires rate { time.rate ≡ scene.now.plan.now.rate }
+    requires frame { time.frame ≡ scene.now.plan.now.frame }
+    ensures clocks { IfOk result (AreClockStatesOver scene.now) }
     ensures states { IfOk result
-        (λ all. AreNewStates shape.now.plan.now shape.now.clocks.now clock (length shape.now.plan.now.nodes)
+        (λ all. AreNewStates scene.now.plan.now scene.now.clocks.now clock (length scene.now.plan.now.nodes)
         all.states.items) }
     ensures times { IfOk result (λ all. (k : ℕ) (one : Time) → slice_get all.times.items k ≡ Some one → one ≡ time) }
     ensures none { IfOk result (λ all. (k : ℕ) → rest_at all k ≡ 0) }
     ensures laned { IfOk result (λ all. (i : ℕ) (state : State) → slice_get all.states.items i ≡ Some state
         → (state ≡ Idle → ⊥) → laned_at all i) }
 {
-    let states = states_of(alloc, shape, clock)?;
+    let states = states_of(alloc, scene, clock)?;
     let times = times_of(alloc, time, states.len())?;
-    let latest = latest_of(alloc, shape, clock)?;
-    let nodes = ClockNodes::new(alloc, shape.clocks)?;
-    let desk = Desk::new(alloc, most_children(shape.plan))?;
+    let latest = latest_of(alloc, scene, clock)?;
+    let nodes = ClockNodes::new(alloc, scene.clocks)?;
+    let desk = Desk::new(alloc, most_children(scene.plan))?;
     let room = StretchRoom::new(alloc, &states)?;
     Ok(ClockStates {
         states,
@@ -65,15 +66,15 @@ pub fn clocks_of(
 }
 
 // What is kept of the latest instant, before the first one: no node offers anything, and none is demanded.
-fn latest_of(alloc: Global, shape: &Shape<'_>, clock: u32) -> Result<Latest, Memory>
-    ensures { IfOk result (IsLatest shape.now.clocks.now) }
+fn latest_of(alloc: Global, scene: &Scene<'_>, clock: u32) -> Result<Latest, Memory>
+    ensures { IfOk result (IsLatest scene.now.clocks.now) }
 {
     let silent = Part {
         slot: None,
         pick: None,
     };
-    let parts = vec![in alloc; silent; shape.clocks.len()]?;
-    let demanded = vec![in alloc; false; shape.clocks.len()]?;
+    let parts = vec![in alloc; silent; scene.clocks.len()]?;
+    let demanded = vec![in alloc; false; scene.clocks.len()]?;
     Ok(Latest {
         clock: NodeClock::Main(clock),
         parts,
@@ -83,17 +84,17 @@ fn latest_of(alloc: Global, shape: &Shape<'_>, clock: u32) -> Result<Latest, Mem
 
 // The states of the nodes before the first instant, where those that the main clock of this number does not drive are
 // idle.
-fn states_of(alloc: Global, shape: &Shape<'_>, clock: u32) -> Result<Vec<NodeState>, Memory>
-    requires rate { 0 < shape.now.plan.now.rate }
-    requires nodes { AreNodes shape.now.plan.now.nodes }
-    requires few { length shape.now.plan.now.nodes ≤ MAX_NODES }
-    ensures { IfOk result (λ states. AreNewStates shape.now.plan.now shape.now.clocks.now clock
-        (length shape.now.plan.now.nodes) states.items) }
+fn states_of(alloc: Global, scene: &Scene<'_>, clock: u32) -> Result<Vec<NodeState>, Memory>
+    requires rate { 0 < scene.now.plan.now.rate }
+    requires nodes { AreNodes scene.now.plan.now.nodes }
+    requires few { length scene.now.plan.now.nodes ≤ MAX_NODES }
+    ensures { IfOk result (λ states. AreNewStates scene.now.plan.now scene.now.clocks.now clock
+        (length scene.now.plan.now.nodes) states.items) }
 {
-    let nodes = shape.plan.nodes.as_slice();
+    let nodes = scene.plan.nodes.as_slice();
     let mut states = Vec::with_capacity(alloc, nodes.len())?;
     for i in 0..nodes.len() {
-        states.push(state_of(alloc, shape, clock, &nodes[i], i as u32)?)?;
+        states.push(state_of(alloc, scene, clock, &nodes[i], i as u32)?)?;
     }
     Ok(states)
 }
@@ -109,14 +110,14 @@ pub fn is_main(of: NodeClock, clock: u32) -> bool
 }
 
 /// For each node, whether its own clock demands it of itself.
-pub fn own_roots(alloc: Global, shape: &Shape<'_>) -> Result<Vec<bool>, Memory>
-    requires in_clocks { length shape.now.clocks.now ≡ length shape.now.plan.now.nodes }
-    requires sinks { All (λ sink. sink_node sink < length shape.now.plan.now.nodes) shape.now.plan.now.sinks }
-    ensures size { IfOk result (λ own. length own.items ≡ length shape.now.plan.now.nodes) }
-    ensures roots { IfOk result (λ own. (other : Setting) → AreOwnRoots (setting_over shape.now other) own.items) }
+pub fn own_roots(alloc: Global, scene: &Scene<'_>) -> Result<Vec<bool>, Memory>
+    requires in_clocks { length scene.now.clocks.now ≡ length scene.now.plan.now.nodes }
+    requires sinks { All (λ sink. sink_node sink < length scene.now.plan.now.nodes) scene.now.plan.now.sinks }
+    ensures size { IfOk result (λ own. length own.items ≡ length scene.now.plan.now.nodes) }
+    ensures roots { IfOk result (λ own. (other : Setting) → AreOwnRoots (setting_over scene.now other) own.items) }
 {
-    let mut own = vec![in alloc; false; shape.clocks.len()]?;
-    demand_roots(shape, &mut own);
+    let mut own = vec![in alloc; false; scene.clocks.len()]?;
+    demand_roots(scene, &mut own);
     Ok(own)
 }
 
@@ -143,18 +144,18 @@ fn most_children(plan: &Plan) -> usize
 // The state of node i. One that the clock does not drive takes no memory.
 fn state_of(
     alloc: Global,
-    shape: &Shape<'_>,
+    scene: &Scene<'_>,
     clock: u32,
     node: &Node,
     i: u32,
 ) -> Result<NodeState, Memory>
-    requires rate { 0 < shape.now.plan.now.rate }
+    requires rate { 0 < scene.now.plan.now.rate }
     requires range { IsInRange node.now.op }
     requires few { length node.now.children ≤ MAX_CHILDREN }
-    ensures { IfOk result (λ state. IsNewState shape.now.plan.now shape.now.clocks.now clock i node.now state) }
+    ensures { IfOk result (λ state. IsNewState scene.now.plan.now scene.now.clocks.now clock i node.now state) }
 {
-    if is_driven(shape.clocks, clock, i) {
-        return NodeState::new(alloc, shape.plan, node, i);
+    if is_driven(scene.clocks, clock, i) {
+        return NodeState::new(alloc, scene.plan, node, i);
     }
     Ok(NodeState::Idle)
 }
@@ -195,16 +196,16 @@ fn node_of(sink: &SinkPlan) -> u32
 }
 
 // The same, where no node is demanded before.
-fn demand_roots(shape: &Shape<'_>, own: &mut [bool])
-    requires in_clocks { length shape.now.clocks.now ≡ length own.old }
-    requires sinks { All (λ sink. sink_node sink < length own.old) shape.now.plan.now.sinks }
+fn demand_roots(scene: &Scene<'_>, own: &mut [bool])
+    requires in_clocks { length scene.now.clocks.now ≡ length own.old }
+    requires sinks { All (λ sink. sink_node sink < length own.old) scene.now.plan.now.sinks }
     requires none { (i : ℕ) → slice_index_or own.old i false ≡ false }
     ensures { (other : Setting) (i : ℕ) → i < length own.old
         → slice_index_or own.new i false
-        ≡ is_root (setting_over shape.now other) (slice_index_or shape.now.clocks.now i (InMain 0)) i }
+        ≡ is_root (setting_over scene.now other) (slice_index_or scene.now.clocks.now i (InMain 0)) i }
 {
-    demand_sinks(shape.plan.sinks.as_slice(), own);
-    keep_roots(shape, own);
+    demand_sinks(scene.plan.sinks.as_slice(), own);
+    keep_roots(scene, own);
 }
 
 // Demands the nodes of sinks.
@@ -219,26 +220,26 @@ fn demand_sinks(sinks: &[SinkPlan], demanded: &mut [bool])
 }
 
 // Where the nodes of sinks are demanded, demands those that each node's own clock demands of itself.
-fn keep_roots(shape: &Shape<'_>, own: &mut [bool])
-    requires in_clocks { length shape.now.clocks.now ≡ length own.old }
+fn keep_roots(scene: &Scene<'_>, own: &mut [bool])
+    requires in_clocks { length scene.now.clocks.now ≡ length own.old }
     requires demanded { (i : ℕ) → slice_index_or own.old i false
-        ≡ list_any (λ sink. nat_eq (sink_node sink) i) shape.now.plan.now.sinks }
+        ≡ list_any (λ sink. nat_eq (sink_node sink) i) scene.now.plan.now.sinks }
     ensures { (other : Setting) (i : ℕ) → i < length own.old
         → slice_index_or own.new i false
-        ≡ is_root (setting_over shape.now other) (slice_index_or shape.now.clocks.now i (InMain 0)) i }
+        ≡ is_root (setting_over scene.now other) (slice_index_or scene.now.clocks.now i (InMain 0)) i }
 {
-    for i in 0..shape.clocks.len() {
-        own[i] = is_own_root(shape, shape.clocks[i], i, own[i]);
+    for i in 0..scene.clocks.len() {
+        own[i] = is_own_root(scene, scene.clocks[i], i, own[i]);
     }
 }
 
 // Whether its own clock demands node i of itself: a main clock the nodes of sinks, a sub-clock its crossfade's child.
-fn is_own_root(shape: &Shape<'_>, of: NodeClock, i: usize, has_sink: bool) -> bool
-    requires { has_sink ≡ list_any (λ sink. nat_eq (sink_node sink) i) shape.now.plan.now.sinks }
-    ensures { (other : Setting) → result ≡ is_root (setting_over shape.now other) of i }
+fn is_own_root(scene: &Scene<'_>, of: NodeClock, i: usize, has_sink: bool) -> bool
+    requires { has_sink ≡ list_any (λ sink. nat_eq (sink_node sink) i) scene.now.plan.now.sinks }
+    ensures { (other : Setting) → result ≡ is_root (setting_over scene.now other) of i }
 {
     match of {
         NodeClock::Main(_) => has_sink,
-        NodeClock::Sub(k) => child_of(shape.plan.nodes.as_slice(), k) as usize == i,
+        NodeClock::Sub(k) => child_of(scene.plan.nodes.as_slice(), k) as usize == i,
     }
 }

@@ -2,13 +2,13 @@
 ghost use Rattle.std.specs.Prelude.{◌≡◌, ◌<◌, ◌+◌, ◌⊎◌, true, All, length, map, OnOk, OnErr};
 ghost use Rattle.clock_instants.specs.Takes.{HasReader, ReadersAreIn};
 ghost use Rattle.clock_ticks.specs.Standing.{CanMake, IsClockStateOver};
-ghost use Rattle.clock_ticks.specs.Hearings.{CanHear, HeardOver, HeardSomeOver, feed_key, scene};
+ghost use Rattle.clock_ticks.specs.Hearings.{CanHear, HeardOver, HeardSomeOver, feed_key, hearing_by};
 
 use crate::clock_state::{ClockState, make_segment};
 use crate::cues::{Cues, begin_cues, mark_all};
 use crate::heard::{feed_all, hear_all};
 use clock_infer::NodeClock;
-use clock_instants::Shape;
+use clock_nodes::Scene;
 use clock_outputs::{FeedPort, Port, begin_tick};
 use frame_core::Taps;
 use liq_base::Memory;
@@ -17,7 +17,7 @@ use op_mix::MAX_STRETCH;
 /// Makes the instants of a tick of a clock, segment by segment, and lets its outputs and feeds hear their nodes; its
 /// first instant is `start`. Where memory is refused some of the takes of the tick were made, from the first on.
 pub fn run_tick<T: Taps>(
-    shape: &Shape<'_>,
+    scene: &Scene<'_>,
     clock: NodeClock,
     own: &[bool],
     state: &mut ClockState,
@@ -27,31 +27,31 @@ pub fn run_tick<T: Taps>(
     start: u64,
     taps: &mut T,
 ) -> Result<(), Memory>
-    requires makes { CanMake shape.now clock own.now state.old }
-    requires hearing { CanHear shape.now ports.old.items feeds.old.items cues.old start }
-    requires readers { ReadersAreIn shape.now.plan.now (T.buffers taps.old) }
-    ensures state { IsClockStateOver shape.now state.new }
-    ensures frames { All (λ feed. length feed.frame ≡ shape.now.plan.now.frame) feeds.new.items }
+    requires makes { CanMake scene.now clock own.now state.old }
+    requires hearing { CanHear scene.now ports.old.items feeds.old.items cues.old start }
+    requires readers { ReadersAreIn scene.now.plan.now (T.buffers taps.old) }
+    ensures state { IsClockStateOver scene.now state.new }
+    ensures frames { All (λ feed. length feed.frame ≡ scene.now.plan.now.frame) feeds.new.items }
     ensures keys { map feed_key feeds.new.items ≡ map feed_key feeds.old.items }
     ensures keeping { cues.new.keeping ≡ cues.old.keeping }
     ensures buffers { T.buffers taps.new ≡ T.buffers taps.old }
     ensures same { T.same taps.old taps.new }
-    ensures heard { OnOk result (HeardOver T.stands shape.now clock own.now shape.now.plan.now.frame
-        (scene state.old ports.old.items feeds.old.items cues.old start taps.old)
-        (scene state.new ports.new.items feeds.new.items cues.new start taps.new)) }
-    ensures stopped { OnErr result (HeardSomeOver T.stands shape.now clock own.now shape.now.plan.now.frame
-        (scene state.old ports.old.items feeds.old.items cues.old start taps.old)
-        (scene state.new ports.new.items feeds.new.items cues.new start taps.new)) }
-    ensures needs { OnErr result (HasReader shape.now.plan.now shape.now.clocks.now clock ⊎ (cues.old.keeping ≡ true)) }
+    ensures heard { OnOk result (HeardOver T.stands scene.now clock own.now scene.now.plan.now.frame
+        (hearing_by state.old ports.old.items feeds.old.items cues.old start taps.old)
+        (hearing_by state.new ports.new.items feeds.new.items cues.new start taps.new)) }
+    ensures stopped { OnErr result (HeardSomeOver T.stands scene.now clock own.now scene.now.plan.now.frame
+        (hearing_by state.old ports.old.items feeds.old.items cues.old start taps.old)
+        (hearing_by state.new ports.new.items feeds.new.items cues.new start taps.new)) }
+    ensures needs { OnErr result (HasReader scene.now.plan.now scene.now.clocks.now clock ⊎ (cues.old.keeping ≡ true)) }
 {
-    let frame = shape.plan.frame;
-    let nodes = shape.plan.nodes.len();
+    let frame = scene.plan.frame;
+    let nodes = scene.plan.nodes.len();
     begin_tick(ports);
     begin_cues(cues);
     let mut instant = 0;
     while instant < frame {
         let most = (frame - instant - 1).min(MAX_STRETCH);
-        let many = make_segment(shape, clock, own, state, most, taps)?;
+        let many = make_segment(scene, clock, own, state, most, taps)?;
         hear_all(ports, &state.clocks, many, nodes);
         feed_all(feeds, instant, &state.clocks, many, nodes);
         mark_all(cues, ports, start + instant as u64, &state.clocks)?;

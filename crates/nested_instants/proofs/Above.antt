@@ -12,7 +12,7 @@ use Rattle.stream_meaning.proofs.Existence.{same_clock-true}
 use Rattle.node_states.specs.declared.state.NodeState.{NodeState}
 use Rattle.node_states.specs.Passing.{passes}
 use Rattle.clock_instants.specs.Held.{AllPassOn, gave_at, passes_at}
-use Rattle.clock_instants.specs.Nodes.{lies_at}
+use Rattle.clock_nodes.specs.Nodes.{lies_at}
 use Rattle.clock_instants.specs.Stretches.{AllLieAhead}
 use Rattle.clock_instants.proofs.Ahead.{ahead_same}
 use Rattle.nested_instants.specs.declared.clock_states.ClockStates.{ClockStates}

@@ -36,7 +36,7 @@ use Rattle.node_states.proofs.Chunks.{reading_closed, reading_open, reading_stay
 use Rattle.node_states.proofs.Running.{filled_none, needed_kept}
 use Rattle.clock_instants.specs.Held.{IsHeld, goes_through, passes_at}
 use Rattle.clock_instants.specs.Stretches.{HasGoneOn, IsBehind, IsGoing, begun_on}
-use Rattle.clock_instants.specs.States.{ClockStands}
+use Rattle.clock_nodes.specs.States.{ClockStands}
 use Rattle.clock_instants.proofs.Samples.{samples_none}
 use Rattle.nested_instants.specs.declared.clock_states.ClockStates.{ClockStates}
 use Rattle.nested_instants.specs.Clocks.{laned_at}

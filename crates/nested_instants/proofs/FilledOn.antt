@@ -16,7 +16,7 @@ use Rattle.node_states.specs.States.{StateStands}
 use Rattle.node_states.specs.Times.{TimeStands}
 use Rattle.nested_instants.specs.declared.clock_states.ClockStates.{ClockStates}
 use Rattle.nested_instants.proofs.Levels.{lanes_same}
-use Rattle.clock_instants.proofs.Places.{same_or_other}
+use Rattle.clock_nodes.proofs.Places.{same_or_other}
 use Rattle.nested_instants.specs.Clocks.{AreLeft, AreOwnRoots, GoesOnFor, HasRanks, IsFilling, IsOpen, fade_at, is_in, is_none, rest_at}
 use Rattle.nested_instants.proofs.Kept.{goes_kept, open_kept}
 use Rattle.nested_instants.specs.Stretches.{HasMadeOn}

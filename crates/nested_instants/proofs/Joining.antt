@@ -12,8 +12,8 @@ use Rattle.stream_meaning.specs.Calls.{IsBegin, after_calls, fades_by, fades_in,
 use Rattle.stream_meaning.proofs.Answering.{after_calls-then, begin_joined, between_none, joined_skip}
 use Rattle.node_states.specs.States.{IsSettled, reads_at}
 use Rattle.node_states.specs.Ticks.{past_of}
-use Rattle.clock_instants.specs.Nodes.{IsFirst}
-use Rattle.clock_instants.proofs.Places.{below_or_same}
+use Rattle.clock_nodes.specs.Nodes.{IsFirst}
+use Rattle.clock_nodes.proofs.Places.{below_or_same}
 use Rattle.nested_instants.specs.declared.clock_states.ClockStates.{ClockStates}
 use Rattle.nested_instants.specs.Clocks.{AreFilled, AreReady, HasItem, IsFilling, IsFillingStopped, Stand, calls_below, calls_upto, is_fade, is_node, is_upto}
 use Rattle.nested_instants.proofs.Equal.{are_same, item_at, not_same}

@@ -19,7 +19,7 @@ use Rattle.node_states.specs.States.{IsSettled, StateStands, reading_by, reads_a
 use Rattle.node_states.proofs.Chunks.{reading_closed, reading_open}
 use Rattle.node_states.specs.Ticks.{past_of}
 use Rattle.node_states.specs.Times.{TimeStands}
-use Rattle.clock_instants.specs.States.{AreRoots, AreSettled, ClockStands}
+use Rattle.clock_nodes.specs.States.{AreRoots, AreSettled, ClockStands}
 use Rattle.nested_instants.specs.declared.clock_states.ClockStates.{ClockStates}
 use Rattle.nested_instants.specs.Clocks.{laned_at}
 use Rattle.clock_instants.specs.Takes.{begun_by, begun_in}

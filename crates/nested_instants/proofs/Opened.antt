@@ -18,8 +18,8 @@ use Rattle.node_states.specs.States.{StateStands, reading_by, reads, reads_at, r
 use Rattle.node_states.specs.Ticks.{past_of}
 use Rattle.node_states.specs.Times.{TimeStands}
 use Rattle.node_states.proofs.Chunks.{reading_closed, reading_stays}
-use Rattle.clock_instants.specs.Nodes.{lies_at}
-use Rattle.clock_instants.specs.States.{ClockStands, IsIn, over}
+use Rattle.clock_nodes.specs.Nodes.{lies_at}
+use Rattle.clock_nodes.specs.States.{ClockStands, IsIn, over}
 use Rattle.clock_instants.specs.Takes.{HasOwnReaders, HaveBegun, HaveTaken, HaveTakenSome, begun_by, begun_in, takes_below}
 use Rattle.nested_instants.specs.declared.clock_states.ClockStates.{ClockStates}
 use Rattle.clock_instants.specs.Stretches.{HasLanes}

@@ -9,7 +9,7 @@ use Rattle.stream_meaning.proofs.Existence.{same_clock-true}
 use Rattle.clock_instants.specs.Held.{AllPassOn}
 use Rattle.clock_instants.specs.Stretches.{AllLieAhead}
 use Rattle.clock_instants.proofs.Ahead.{ahead_same, through_same}
-use Rattle.clock_instants.proofs.Places.{same_or_other}
+use Rattle.clock_nodes.proofs.Places.{same_or_other}
 use Rattle.nested_instants.specs.declared.clock_states.ClockStates.{ClockStates}
 use Rattle.nested_instants.specs.Clocks.{AreResting, HasRanks, IsIdle, clock_at, rest_at}
 use Rattle.nested_instants.proofs.Equal.{they_differ}

@@ -17,10 +17,10 @@ use Rattle.node_states.specs.declared.time.WeekTime.{WeekTime}
 use Rattle.node_states.specs.States.{AreLong, FadesOn, IsSettled, StateStands}
 use Rattle.node_states.proofs.Begun.{as_many}
 use Rattle.node_states.proofs.Chunks.{adds_none, adds_then}
-use Rattle.clock_instants.specs.Nodes.{IsFirst, lies_at}
+use Rattle.clock_nodes.specs.Nodes.{IsFirst, lies_at}
 use Rattle.stream_meaning.specs.declared.part.Part.{Part}
 use Rattle.clock_instants.specs.Held.{IsHeld}
-use Rattle.clock_instants.specs.States.{over}
+use Rattle.clock_nodes.specs.States.{over}
 use Rattle.clock_instants.specs.Takes.{begun_in}
 use Rattle.nested_instants.specs.declared.clock_states.ClockStates.{ClockStates}
 use Rattle.nested_instants.specs.Stretches.{FilledOn}

@@ -19,7 +19,7 @@ use Rattle.std.specs.Prelude.{Vec}
 use Rattle.std.specs.declared.alloc.Global.{Global}
 use Rattle.node_states.specs.Passing.{LaneFills}
 use Rattle.node_states.specs.Times.{TimeStands}
-use Rattle.clock_instants.proofs.Places.{same_or_other as same_place}
+use Rattle.clock_nodes.proofs.Places.{same_or_other as same_place}
 use Rattle.nested_instants.specs.declared.clock_states.ClockStates.{ClockStates}
 use Rattle.nested_instants.proofs.Levels.{lanes_same}
 use Rattle.clock_instants.specs.Stretches.{HasLanes}

@@ -13,9 +13,9 @@ use Rattle.node_states.specs.declared.time.WeekTime.{WeekTime}
 use Rattle.node_states.specs.Passing.{passes}
 use Rattle.node_states.specs.Times.{TimeStands}
 use Rattle.clock_instants.specs.Held.{AllPassOn, gave_at, goes_through, passes_at}
-use Rattle.clock_instants.specs.Nodes.{IsFirst, lies_at}
+use Rattle.clock_nodes.specs.Nodes.{IsFirst, lies_at}
 use Rattle.clock_instants.specs.Stretches.{AllLieAhead}
-use Rattle.clock_instants.specs.States.{over}
+use Rattle.clock_nodes.specs.States.{over}
 use Rattle.clock_instants.proofs.Ahead.{ahead_less, ahead_same, through_less, through_same}
 use Rattle.clock_instants.proofs.Kept.{held_gives}
 use Rattle.nested_instants.specs.declared.clock_states.ClockStates.{ClockStates}

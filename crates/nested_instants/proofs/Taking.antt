@@ -18,7 +18,7 @@ use Rattle.node_states.specs.declared.time.WeekTime.{WeekTime}
 use Rattle.node_states.specs.States.{FadesOn, IsSettled, StateStands, reading_by, reads_at}
 use Rattle.node_states.specs.Ticks.{past_of}
 use Rattle.node_states.specs.Times.{TimeStands}
-use Rattle.clock_instants.proofs.Places.{same_or_other}
+use Rattle.clock_nodes.proofs.Places.{same_or_other}
 use Rattle.nested_instants.specs.declared.clock_states.ClockStates.{ClockStates}
 use Rattle.clock_instants.specs.Stretches.{HasLanes}
 use Rattle.nested_instants.specs.Clocks.{AreLeft, HasItem, HasRanks, IsFilling, IsFillingStopped, IsOpen, IsReached, RanAsNeeded, Stand, calls_below, fade_at, is_in, is_node, is_none, rest_at}

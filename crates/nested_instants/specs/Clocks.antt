@@ -21,11 +21,12 @@ use Rattle.node_states.specs.declared.time.WeekTime.{WeekTime}
 use Rattle.node_states.specs.States.{IsSettled, StateStands, left, reading_by, reads_at, room, wants}
 use Rattle.node_states.specs.Ticks.{past_of}
 use Rattle.node_states.specs.Times.{TimeStands}
-use Rattle.clock_instants.specs.declared.shape.Shape.{Shape}
-use Rattle.clock_instants.specs.Nodes.{AreNodesOf, IsLatest}
+use Rattle.clock_nodes.specs.declared.scene.Scene.{Scene}
+use Rattle.clock_nodes.specs.Nodes.{AreNodesOf}
+use Rattle.clock_instants.specs.Instants.{IsLatest}
 use Rattle.clock_instants.specs.Held.{AllAsk, AllPassOn, IsHeld}
 use Rattle.clock_instants.specs.Stretches.{AllLieAhead, HasLanes, HasStretchRoom}
-use Rattle.clock_instants.specs.States.{AllFit, HasRoomFor, over}
+use Rattle.clock_nodes.specs.States.{AllFit, HasRoomFor, over}
 use Rattle.clock_instants.specs.Takes.{HasOwnReaders, begun_in}
 use Rattle.nested_instants.specs.declared.clock_states.ClockStates.{ClockStates}
 
@@ -75,9 +76,9 @@ pub record AreClockStates (plan : Plan) (library : Sounds) (clocks : List NodeCl
   pub rates : (k : ℕ) (time : WeekTime) → slice_get all.times.items k ≡ Some time → time.rate ≡ plan.rate
   pub frames : (k : ℕ) (time : WeekTime) → slice_get all.times.items k ≡ Some time → time.frame ≡ plan.frame
 
--- the same over a shape
-abbrev pub AreClockStatesOver : Shape → ClockStates → Type 0
-AreClockStatesOver shape all = AreClockStates shape.plan.now shape.library.now shape.clocks.now all
+-- the same over a scene
+abbrev pub AreClockStatesOver : Scene → ClockStates → Type 0
+AreClockStatesOver scene all = AreClockStates scene.plan.now scene.library.now scene.clocks.now all
 
 -- these tell of each node whether its own clock demands it of itself
 pub record AreOwnRoots (setting : Setting) (own : List Bool) : Type 0 where
@@ -272,11 +273,11 @@ pub record InstantMade {T : Type 0} (stands : T → List Call
       → TimeStands setting.start (ran clock) time
       → HasMadeInstant setting sub rank clock ran filled front more new
 
--- the same over a shape
-abbrev pub InstantMadeOver : {T : Type 0} → (T → List Call → Type 0) → Shape → List Bool → NodeClock → WeekTime
+-- the same over a scene
+abbrev pub InstantMadeOver : {T : Type 0} → (T → List Call → Type 0) → Scene → List Bool → NodeClock → WeekTime
     → (old new : ClockStates) → (taps_old taps_new : T) → Type 0
-InstantMadeOver stands shape own clock time old new taps_old taps_new = InstantMade stands shape.plan.now
-    shape.library.now shape.clocks.now own clock time old new taps_old taps_new
+InstantMadeOver stands scene own clock time old new taps_old taps_new = InstantMade stands scene.plan.now
+    scene.library.now scene.clocks.now own clock time old new taps_old taps_new
 
 -- memory was refused: these are the first calls of the instant
 pub record InstantStopped {T : Type 0} (stands : T → List Call
@@ -292,11 +293,11 @@ pub record InstantStopped {T : Type 0} (stands : T → List Call
       → TimeStands setting.start (ran clock) time
       → IsBegin made (calls_of setting sub clock (first_instants setting sub clock (ran clock)))
 
--- the same over a shape
-abbrev pub InstantStoppedOver : {T : Type 0} → (T → List Call → Type 0) → Shape → List Bool → NodeClock → WeekTime
+-- the same over a scene
+abbrev pub InstantStoppedOver : {T : Type 0} → (T → List Call → Type 0) → Scene → List Bool → NodeClock → WeekTime
     → ClockStates → (taps_old taps_new : T) → Type 0
-InstantStoppedOver stands shape own clock time old taps_old taps_new = InstantStopped stands shape.plan.now
-    shape.library.now shape.clocks.now own clock time old taps_old taps_new
+InstantStoppedOver stands scene own clock time old taps_old taps_new = InstantStopped stands scene.plan.now
+    scene.library.now scene.clocks.now own clock time old taps_old taps_new
 
 -- the readers of a clock have begun, if its instant begins a tick
 pub record Opened (setting : Setting) (sub : ℕ → ℕ → List Slot) (rank : NodeClock
@@ -318,11 +319,11 @@ pub record ClockOpened {T : Type 0} (stands : T → List Call
       → TimeStands setting.start (ran clock) time
       → Opened setting sub rank clock ran filled front more new
 
--- the same over a shape
-abbrev pub ClockOpenedOver : {T : Type 0} → (T → List Call → Type 0) → Shape → NodeClock → WeekTime
+-- the same over a scene
+abbrev pub ClockOpenedOver : {T : Type 0} → (T → List Call → Type 0) → Scene → NodeClock → WeekTime
     → (old new : ClockStates) → (taps_old taps_new : T) → Type 0
-ClockOpenedOver stands shape clock time old new taps_old taps_new = ClockOpened stands shape.plan.now shape.library.now
-    shape.clocks.now clock time old new taps_old taps_new
+ClockOpenedOver stands scene clock time old new taps_old taps_new = ClockOpened stands scene.plan.now scene.library.now
+    scene.clocks.now clock time old new taps_old taps_new
 
 pub record OpeningStopped {T : Type 0} (stands : T → List Call
     → Type 0) (plan : Plan) (library : Sounds) (clocks : List NodeClock)
@@ -337,11 +338,11 @@ pub record OpeningStopped {T : Type 0} (stands : T → List Call
       → TimeStands setting.start (ran clock) time
       → IsBegin made (takes_at setting clock (first_instants setting sub clock (ran clock)))
 
--- the same over a shape
-abbrev pub OpeningStoppedOver : {T : Type 0} → (T → List Call → Type 0) → Shape → NodeClock → WeekTime → ClockStates
+-- the same over a scene
+abbrev pub OpeningStoppedOver : {T : Type 0} → (T → List Call → Type 0) → Scene → NodeClock → WeekTime → ClockStates
     → (taps_old taps_new : T) → Type 0
-OpeningStoppedOver stands shape clock time old taps_old taps_new = OpeningStopped stands shape.plan.now
-    shape.library.now shape.clocks.now clock time old taps_old taps_new
+OpeningStoppedOver stands scene clock time old taps_old taps_new = OpeningStopped stands scene.plan.now
+    scene.library.now scene.clocks.now clock time old taps_old taps_new
 
 -- node k has its item, by these calls
 pub record NodeSettled {T : Type 0} (stands : T → List Call
@@ -357,11 +358,11 @@ pub record NodeSettled {T : Type 0} (stands : T → List Call
       → (reads_at setting k ≡ true → filled k ≡ suc (ran (clock_at clocks k)))
       → IsFilling setting sub rank (rank (clock_at clocks k)) k (is_node k) ran filled front more new
 
--- the same over a shape
-abbrev pub NodeSettledOver : {T : Type 0} → (T → List Call → Type 0) → Shape → List Bool → (k : ℕ)
+-- the same over a scene
+abbrev pub NodeSettledOver : {T : Type 0} → (T → List Call → Type 0) → Scene → List Bool → (k : ℕ)
     → (old new : ClockStates) → (taps_old taps_new : T) → Type 0
-NodeSettledOver stands shape own k old new taps_old taps_new = NodeSettled stands shape.plan.now shape.library.now
-    shape.clocks.now own k old new taps_old taps_new
+NodeSettledOver stands scene own k old new taps_old taps_new = NodeSettled stands scene.plan.now scene.library.now
+    scene.clocks.now own k old new taps_old taps_new
 
 -- memory was refused: these are the first calls for the item of node k, which is a crossfade
 pub record IsFillingStopped (setting : Setting) (sub : ℕ → ℕ → List Slot) (ran : NodeClock → ℕ) (filled : ℕ
@@ -386,11 +387,11 @@ pub record NodeStopped {T : Type 0} (stands : T → List Call
       → Stand setting sub rank (rank (clock_at clocks k)) ran filled front old
       → IsFillingStopped setting sub ran filled k made
 
--- the same over a shape
-abbrev pub NodeStoppedOver : {T : Type 0} → (T → List Call → Type 0) → Shape → List Bool → (k : ℕ) → ClockStates
+-- the same over a scene
+abbrev pub NodeStoppedOver : {T : Type 0} → (T → List Call → Type 0) → Scene → List Bool → (k : ℕ) → ClockStates
     → (taps_old taps_new : T) → Type 0
-NodeStoppedOver stands shape own k old taps_old taps_new = NodeStopped stands shape.plan.now shape.library.now
-    shape.clocks.now own k old taps_old taps_new
+NodeStoppedOver stands scene own k old taps_old taps_new = NodeStopped stands scene.plan.now scene.library.now
+    scene.clocks.now own k old taps_old taps_new
 
 -- the crossfades of a clock below a node have their items, by the calls of the instants that their sub-clocks made for
 -- them
@@ -422,11 +423,11 @@ pub record AllSettled {T : Type 0} (stands : T → List Call
       → Stand setting sub rank (rank clock) ran filled front old → AreReady setting sub clock ran filled
       → AreFilled setting sub rank clock below ran filled front more new
 
--- the same over a shape
-abbrev pub AllSettledOver : {T : Type 0} → (T → List Call → Type 0) → Shape → List Bool → NodeClock → (below : ℕ)
+-- the same over a scene
+abbrev pub AllSettledOver : {T : Type 0} → (T → List Call → Type 0) → Scene → List Bool → NodeClock → (below : ℕ)
     → (old new : ClockStates) → (taps_old taps_new : T) → Type 0
-AllSettledOver stands shape own clock below old new taps_old taps_new = AllSettled stands shape.plan.now
-    shape.library.now shape.clocks.now own clock below old new taps_old taps_new
+AllSettledOver stands scene own clock below old new taps_old taps_new = AllSettled stands scene.plan.now
+    scene.library.now scene.clocks.now own clock below old new taps_old taps_new
 
 pub record SettlingStopped {T : Type 0} (stands : T → List Call
     → Type 0) (plan : Plan) (library : Sounds) (clocks : List NodeClock) (own : List Bool)
@@ -440,8 +441,8 @@ pub record SettlingStopped {T : Type 0} (stands : T → List Call
       → Stand setting sub rank (rank clock) ran filled front old → AreReady setting sub clock ran filled
       → IsBegin made (calls_upto setting sub clock (first_instants setting sub clock (ran clock)) (length plan.nodes))
 
--- the same over a shape
-abbrev pub SettlingStoppedOver : {T : Type 0} → (T → List Call → Type 0) → Shape → List Bool → NodeClock → ClockStates
+-- the same over a scene
+abbrev pub SettlingStoppedOver : {T : Type 0} → (T → List Call → Type 0) → Scene → List Bool → NodeClock → ClockStates
     → (taps_old taps_new : T) → Type 0
-SettlingStoppedOver stands shape own clock old taps_old taps_new = SettlingStopped stands shape.plan.now
-    shape.library.now shape.clocks.now own clock old taps_old taps_new
+SettlingStoppedOver stands scene own clock old taps_old taps_new = SettlingStopped stands scene.plan.now
+    scene.library.now scene.clocks.now own clock old taps_old taps_new

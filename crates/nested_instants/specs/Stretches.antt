@@ -12,8 +12,8 @@ use Rattle.stream_meaning.specs.Calls.{calls_of}
 use Rattle.op_mix.specs.Stretches.{samples_of}
 use Rattle.node_states.specs.declared.time.WeekTime.{WeekTime}
 use Rattle.node_states.specs.Times.{TimeStands}
-use Rattle.clock_instants.specs.declared.shape.Shape.{Shape}
-use Rattle.clock_instants.specs.States.{over}
+use Rattle.clock_nodes.specs.declared.scene.Scene.{Scene}
+use Rattle.clock_nodes.specs.States.{over}
 use Rattle.nested_instants.specs.declared.clock_states.ClockStates.{ClockStates}
 use Rattle.clock_instants.specs.Held.{IsHeld, gave_at, goes_through, passes_at}
 use Rattle.node_states.specs.Passing.{LaneFills}
@@ -66,9 +66,9 @@ pub record ClockMade (plan : Plan) (library : Sounds) (clocks : List NodeClock) 
       CanGoOn setting sub rank own clock n many ran filled front old
       → HasMadeOn setting sub rank own clock n many ran filled front new
 
--- the same over a shape
-abbrev pub ClockRunOver : Shape → NodeClock → (many : ℕ) → (old new : ClockStates) → Type 0
-ClockRunOver shape clock many old new = ClockMade shape.plan.now shape.library.now shape.clocks.now clock many old new
+-- the same over a scene
+abbrev pub ClockRunOver : Scene → NodeClock → (many : ℕ) → (old new : ClockStates) → Type 0
+ClockRunOver scene clock many old new = ClockMade scene.plan.now scene.library.now scene.clocks.now clock many old new
 
 -- so many instants were made behind the latest one, which was at this time
 pub record StretchMade (plan : Plan) (library : Sounds) (clocks : List NodeClock) (clock : NodeClock) (time : WeekTime)
@@ -85,9 +85,9 @@ pub record StretchMade (plan : Plan) (library : Sounds) (clocks : List NodeClock
       → TimeStands setting.start n time
       → HasMadeOn setting sub rank own clock n many ran filled front new
 
--- the same over a shape
-abbrev pub InstantsRunOver : Shape → NodeClock → WeekTime → (many : ℕ) → (old new : ClockStates) → Type 0
-InstantsRunOver shape clock time many old new = StretchMade shape.plan.now shape.library.now shape.clocks.now clock time
+-- the same over a scene
+abbrev pub InstantsRunOver : Scene → NodeClock → WeekTime → (many : ℕ) → (old new : ClockStates) → Type 0
+InstantsRunOver scene clock time many old new = StretchMade scene.plan.now scene.library.now scene.clocks.now clock time
     many old new
 
 -- behind an instant of its sub-clock, which was at this time, crossfade k was filled more slots, without a call:
@@ -105,9 +105,9 @@ pub record FilledOn (plan : Plan) (library : Sounds) (clocks : List NodeClock) (
       → TimeStands setting.start n time
       → IsFilling setting sub rank (rank (clock_at clocks k)) k is_none ran filled front more new
 
--- the same over a shape
-abbrev pub FedOnOver : Shape → (k : ℕ) → WeekTime → (old new : ClockStates) → Type 0
-FedOnOver shape k time old new = FilledOn shape.plan.now shape.library.now shape.clocks.now k time old new
+-- the same over a scene
+abbrev pub FedOnOver : Scene → (k : ℕ) → WeekTime → (old new : ClockStates) → Type 0
+FedOnOver scene k time old new = FilledOn scene.plan.now scene.library.now scene.clocks.now k time old new
 
 -- of the crossfades of a clock below this node, the sub-clocks of those through which cells pass have made so many
 -- instants more, without a call, and left the samples of the crossfades' children
@@ -152,9 +152,9 @@ pub record SubClocksMade (plan : Plan) (library : Sounds) (clocks : List NodeClo
       (goes_through (moment_after setting sub clock (first_instants setting sub clock n)) old.states.items) below ran
       filled front new
 
--- the same over a shape
-abbrev pub SubClocksRunOver : Shape → NodeClock → (many below : ℕ) → (old new : ClockStates) → Type 0
-SubClocksRunOver shape clock many below old new = SubClocksMade shape.plan.now shape.library.now shape.clocks.now clock
+-- the same over a scene
+abbrev pub SubClocksRunOver : Scene → NodeClock → (many below : ℕ) → (old new : ClockStates) → Type 0
+SubClocksRunOver scene clock many below old new = SubClocksMade scene.plan.now scene.library.now scene.clocks.now clock
     many below old new
 
 -- the same for the sub-clock of node i, if it is a crossfade through which cells pass, behind those below it
@@ -167,9 +167,9 @@ pub record SubClockMade (plan : Plan) (library : Sounds) (clocks : List NodeCloc
       → SubsMade setting sub rank (clock_at clocks i) many through i ran filled front old
       → SubsMade setting sub rank (clock_at clocks i) many through (suc i) ran filled front new
 
--- the same over a shape
-abbrev pub SubClockRunOver : Shape → (i many : ℕ) → (old new : ClockStates) → Type 0
-SubClockRunOver shape i many old new = SubClockMade shape.plan.now shape.library.now shape.clocks.now i many old new
+-- the same over a scene
+abbrev pub SubClockRunOver : Scene → (i many : ℕ) → (old new : ClockStates) → Type 0
+SubClockRunOver scene i many old new = SubClockMade scene.plan.now scene.library.now scene.clocks.now i many old new
 
 -- but for some nodes, those in clocks of this rank or a lower one have the samples that they had
 pub record AreSamplesLeft (clocks : List NodeClock) (rank : NodeClock → ℕ) (level : ℕ) (touched : ℕ

@@ -1,5 +1,6 @@
 // What changes from instant to instant.
-use clock_instants::{ClockNodes, Latest, StretchRoom};
+use clock_instants::{Latest, StretchRoom};
+use clock_nodes::ClockNodes;
 use node_states::{Desk, NodeState, WeekTime};
 
 /// What changes from instant to instant in a clock and in the sub-clocks below it: for each node of the plan its state,

@@ -4,7 +4,7 @@ ghost use Rattle.clock_infer.specs.declared.clock_map.NodeClock.{NodeClock as Cl
 ghost use Rattle.clock_infer.specs.declared.clock_map.NodeClock.TheVariants.{Main as InMain};
 ghost use Rattle.clock_instants.specs.Takes.{HasReader, ReadersAreIn};
 ghost use Rattle.nested_instants.specs.Clocks.{AllSettledOver, AreClockStatesOver, AreLeft, HasLevels, HasRanks, InstantMadeOver, InstantStoppedOver, IsIdle, NodeSettledOver, NodeStoppedOver, SettlingStoppedOver, is_in, is_node};
-ghost use Rattle.clock_instants.specs.Shapes.{IsShape};
+ghost use Rattle.clock_nodes.specs.Scenes.{IsScene};
 
 use crate::ClockStates;
 use crate::filling::{fill_child, fill_on};
@@ -12,7 +12,7 @@ use crate::finishing::finish;
 use crate::keeping::keep;
 use crate::opening::begin_clock;
 use clock_infer::NodeClock;
-use clock_instants::Shape;
+use clock_nodes::Scene;
 use frame_core::Taps;
 use liq_base::Memory;
 use node_states::WeekTime;
@@ -24,7 +24,7 @@ use node_states::WeekTime;
 /// made, from the first on.
 #[cycle(clocks)]
 pub fn make_instant<T: Taps>(
-    shape: &Shape<'_>,
+    scene: &Scene<'_>,
     own: &[bool],
     clocks: &mut ClockStates,
     clock: NodeClock,
@@ -32,65 +32,65 @@ pub fn make_instant<T: Taps>(
     levels: usize,
     taps: &mut T,
 ) -> Result<(), Memory>
-    requires shape { IsShape shape.now }
-    requires in_own { length own.now ≡ length shape.now.plan.now.nodes }
-    requires clocks { AreClockStatesOver shape.now clocks.old }
-    requires levels { HasLevels shape.now.clocks.now clock levels }
+    requires scene { IsScene scene.now }
+    requires in_own { length own.now ≡ length scene.now.plan.now.nodes }
+    requires clocks { AreClockStatesOver scene.now clocks.old }
+    requires levels { HasLevels scene.now.clocks.now clock levels }
     requires idle { IsIdle clock clocks.old }
-    requires rate { time.rate ≡ shape.now.plan.now.rate }
-    requires frame { time.frame ≡ shape.now.plan.now.frame }
-    requires readers { ReadersAreIn shape.now.plan.now (T.buffers taps.old) }
-    ensures clocks { AreClockStatesOver shape.now clocks.new }
+    requires rate { time.rate ≡ scene.now.plan.now.rate }
+    requires frame { time.frame ≡ scene.now.plan.now.frame }
+    requires readers { ReadersAreIn scene.now.plan.now (T.buffers taps.old) }
+    ensures clocks { AreClockStatesOver scene.now clocks.new }
     ensures buffers { T.buffers taps.new ≡ T.buffers taps.old }
     ensures same { T.same taps.old taps.new }
-    ensures left { OnOk result ((rank : Clock → ℕ) → HasRanks shape.now.clocks.now rank
-        → AreLeft shape.now.clocks.now rank (rank clock) (is_in shape.now.clocks.now clock) clocks.old clocks.new) }
+    ensures left { OnOk result ((rank : Clock → ℕ) → HasRanks scene.now.clocks.now rank
+        → AreLeft scene.now.clocks.now rank (rank clock) (is_in scene.now.clocks.now clock) clocks.old clocks.new) }
     ensures made { OnOk result
-        (InstantMadeOver T.stands shape.now own.now clock time clocks.old clocks.new taps.old taps.new) }
+        (InstantMadeOver T.stands scene.now own.now clock time clocks.old clocks.new taps.old taps.new) }
     ensures stopped { OnErr result
-        (InstantStoppedOver T.stands shape.now own.now clock time clocks.old taps.old taps.new) }
-    ensures reads { OnErr result (HasReader shape.now.plan.now shape.now.clocks.now clock) }
+        (InstantStoppedOver T.stands scene.now own.now clock time clocks.old taps.old taps.new) }
+    ensures reads { OnErr result (HasReader scene.now.plan.now scene.now.clocks.now clock) }
 {
-    begin_clock(shape, clocks, clock, time, taps)?;
-    settle_all(shape, own, clocks, clock, levels, taps)?;
-    finish(shape, own, clocks, clock, time.second);
+    begin_clock(scene, clocks, clock, time, taps)?;
+    settle_all(scene, own, clocks, clock, levels, taps)?;
+    finish(scene, own, clocks, clock, time.second);
     Ok(())
 }
 
 // Feeds node k, if it is a crossfade, until its item is settled.
 #[cycle(clocks)]
 fn settle<T: Taps>(
-    shape: &Shape<'_>,
+    scene: &Scene<'_>,
     own: &[bool],
     clocks: &mut ClockStates,
     k: u32,
     levels: usize,
     taps: &mut T,
 ) -> Result<(), Memory>
-    requires shape { IsShape shape.now }
-    requires in_own { length own.now ≡ length shape.now.plan.now.nodes }
-    requires clocks { AreClockStatesOver shape.now clocks.old }
-    requires levels { HasLevels shape.now.clocks.now (slice_index_or shape.now.clocks.now k (InMain 0)) levels }
-    requires idle { IsIdle (slice_index_or shape.now.clocks.now k (InMain 0)) clocks.old }
-    requires within { k < length shape.now.plan.now.nodes }
-    requires readers { ReadersAreIn shape.now.plan.now (T.buffers taps.old) }
-    ensures clocks { AreClockStatesOver shape.now clocks.new }
+    requires scene { IsScene scene.now }
+    requires in_own { length own.now ≡ length scene.now.plan.now.nodes }
+    requires clocks { AreClockStatesOver scene.now clocks.old }
+    requires levels { HasLevels scene.now.clocks.now (slice_index_or scene.now.clocks.now k (InMain 0)) levels }
+    requires idle { IsIdle (slice_index_or scene.now.clocks.now k (InMain 0)) clocks.old }
+    requires within { k < length scene.now.plan.now.nodes }
+    requires readers { ReadersAreIn scene.now.plan.now (T.buffers taps.old) }
+    ensures clocks { AreClockStatesOver scene.now clocks.new }
     ensures buffers { T.buffers taps.new ≡ T.buffers taps.old }
     ensures same { T.same taps.old taps.new }
-    ensures left { OnOk result ((rank : Clock → ℕ) → HasRanks shape.now.clocks.now rank
-        → AreLeft shape.now.clocks.now rank (rank (slice_index_or shape.now.clocks.now k (InMain 0))) (is_node k)
+    ensures left { OnOk result ((rank : Clock → ℕ) → HasRanks scene.now.clocks.now rank
+        → AreLeft scene.now.clocks.now rank (rank (slice_index_or scene.now.clocks.now k (InMain 0))) (is_node k)
         clocks.old clocks.new) }
     ensures settled { OnOk result
-        (NodeSettledOver T.stands shape.now own.now k clocks.old clocks.new taps.old taps.new) }
-    ensures stopped { OnErr result (NodeStoppedOver T.stands shape.now own.now k clocks.old taps.old taps.new) }
+        (NodeSettledOver T.stands scene.now own.now k clocks.old clocks.new taps.old taps.new) }
+    ensures stopped { OnErr result (NodeStoppedOver T.stands scene.now own.now k clocks.old taps.old taps.new) }
     ensures reads { OnErr result
-        (HasReader shape.now.plan.now shape.now.clocks.now (slice_index_or shape.now.clocks.now k (InMain 0))) }
+        (HasReader scene.now.plan.now scene.now.clocks.now (slice_index_or scene.now.clocks.now k (InMain 0))) }
 {
     while clocks.states[k as usize].wants() {
         let time = clocks.times[k as usize];
-        keep(shape, clocks, k, 0);
+        keep(scene, clocks, k, 0);
         make_instant(
-            shape,
+            scene,
             own,
             clocks,
             NodeClock::Sub(k),
@@ -98,8 +98,8 @@ fn settle<T: Taps>(
             levels - 1,
             taps,
         )?;
-        fill_child(shape, clocks, k);
-        fill_on(shape, clocks, k, time, levels);
+        fill_child(scene, clocks, k);
+        fill_on(scene, clocks, k, time, levels);
     }
     Ok(())
 }
@@ -107,33 +107,33 @@ fn settle<T: Taps>(
 // Settles the items of all crossfades of a clock.
 #[cycle(clocks)]
 fn settle_all<T: Taps>(
-    shape: &Shape<'_>,
+    scene: &Scene<'_>,
     own: &[bool],
     clocks: &mut ClockStates,
     clock: NodeClock,
     levels: usize,
     taps: &mut T,
 ) -> Result<(), Memory>
-    requires shape { IsShape shape.now }
-    requires in_own { length own.now ≡ length shape.now.plan.now.nodes }
-    requires clocks { AreClockStatesOver shape.now clocks.old }
-    requires levels { HasLevels shape.now.clocks.now clock levels }
+    requires scene { IsScene scene.now }
+    requires in_own { length own.now ≡ length scene.now.plan.now.nodes }
+    requires clocks { AreClockStatesOver scene.now clocks.old }
+    requires levels { HasLevels scene.now.clocks.now clock levels }
     requires idle { IsIdle clock clocks.old }
-    requires readers { ReadersAreIn shape.now.plan.now (T.buffers taps.old) }
-    ensures clocks { AreClockStatesOver shape.now clocks.new }
+    requires readers { ReadersAreIn scene.now.plan.now (T.buffers taps.old) }
+    ensures clocks { AreClockStatesOver scene.now clocks.new }
     ensures buffers { T.buffers taps.new ≡ T.buffers taps.old }
     ensures same { T.same taps.old taps.new }
-    ensures left { OnOk result ((rank : Clock → ℕ) → HasRanks shape.now.clocks.now rank
-        → AreLeft shape.now.clocks.now rank (rank clock) (is_in shape.now.clocks.now clock) clocks.old clocks.new) }
+    ensures left { OnOk result ((rank : Clock → ℕ) → HasRanks scene.now.clocks.now rank
+        → AreLeft scene.now.clocks.now rank (rank clock) (is_in scene.now.clocks.now clock) clocks.old clocks.new) }
     ensures settled { OnOk result
-        (AllSettledOver T.stands shape.now own.now clock (length shape.now.plan.now.nodes) clocks.old clocks.new
+        (AllSettledOver T.stands scene.now own.now clock (length scene.now.plan.now.nodes) clocks.old clocks.new
         taps.old taps.new) }
-    ensures stopped { OnErr result (SettlingStoppedOver T.stands shape.now own.now clock clocks.old taps.old taps.new) }
-    ensures reads { OnErr result (HasReader shape.now.plan.now shape.now.clocks.now clock) }
+    ensures stopped { OnErr result (SettlingStoppedOver T.stands scene.now own.now clock clocks.old taps.old taps.new) }
+    ensures reads { OnErr result (HasReader scene.now.plan.now scene.now.clocks.now clock) }
 {
     let mut i = clocks.nodes.first(clock);
-    while i < shape.clocks.len() {
-        settle(shape, own, clocks, i as u32, levels, taps)?;
+    while i < scene.clocks.len() {
+        settle(scene, own, clocks, i as u32, levels, taps)?;
         i = clocks.nodes.after(i);
     }
     Ok(())

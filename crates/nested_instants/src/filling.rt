@@ -16,13 +16,14 @@ ghost use Rattle.clock_instants.specs.Held.{AllPassOnOver};
 ghost use Rattle.clock_instants.specs.Stretches.{AllLieAheadOver, IsBehind};
 ghost use Rattle.nested_instants.specs.Clocks.{AreClockStatesOver, AreLeft, GoesOnFor, HasLevels, HasRanks, IsIdle, is_node, left_at, rest_at, room_at, wants_at};
 ghost use Rattle.nested_instants.specs.Stretches.{FedOnOver};
-ghost use Rattle.clock_instants.specs.Shapes.{IsShape, setting_over};
+ghost use Rattle.clock_nodes.specs.Scenes.{IsScene, setting_over};
 
 use crate::ClockStates;
 use crate::keeping::{keep, rest_for};
 use crate::onward::run_clock;
 use clock_infer::NodeClock;
-use clock_instants::{Shape, StretchRoom};
+use clock_instants::StretchRoom;
+use clock_nodes::Scene;
 use frame_core::title_of;
 use node_states::{NodeState, WeekTime};
 use op_mix::MAX_STRETCH;
@@ -41,12 +42,12 @@ pub fn child_of(nodes: &[Node], k: u32) -> u32
 
 /// Feeds crossfade k, which wants it, the slot that its child has at the instant that its sub-clock made, and takes the
 /// time of the sub-clock on.
-pub fn fill_child(shape: &Shape<'_>, clocks: &mut ClockStates, k: u32)
-    requires clocks { AreClockStatesOver shape.now clocks.old }
-    requires within { k < length shape.now.plan.now.nodes }
-    requires idle { IsIdle (slice_index_or shape.now.clocks.now k (InMain 0)) clocks.old }
+pub fn fill_child(scene: &Scene<'_>, clocks: &mut ClockStates, k: u32)
+    requires clocks { AreClockStatesOver scene.now clocks.old }
+    requires within { k < length scene.now.plan.now.nodes }
+    requires idle { IsIdle (slice_index_or scene.now.clocks.now k (InMain 0)) clocks.old }
     requires wants { wants_at clocks.old.states.items k ≡ true }
-    ensures clocks { AreClockStatesOver shape.now clocks.new }
+    ensures clocks { AreClockStatesOver scene.now clocks.new }
     ensures latest { clocks.new.latest ≡ clocks.old.latest }
     ensures room { clocks.new.room ≡ clocks.old.room }
     ensures states { (i : ℕ) → (i ≡ k → ⊥) → slice_get clocks.new.states.items i ≡ slice_get clocks.old.states.items i }
@@ -57,12 +58,12 @@ pub fn fill_child(shape: &Shape<'_>, clocks: &mut ClockStates, k: u32)
         → slice_get clocks.old.states.items k ≡ Some before → slice_get clocks.new.states.items k ≡ Some after
         → StateStands setting sub past filled k work before
         → sub k (suc filled) ≡ sub k filled
-        ++ (part_at clocks.old.latest.parts.items (crossfaded shape.now.plan.now.nodes k)).slot ∷ []
+        ++ (part_at clocks.old.latest.parts.items (crossfaded scene.now.plan.now.nodes k)).slot ∷ []
         → StateStands setting sub past (suc filled) k work after }
     ensures time { (start n : ℕ) (before after : Time) → slice_get clocks.old.times.items k ≡ Some before
         → slice_get clocks.new.times.items k ≡ Some after → TimeStands start n before → TimeStands start (suc n) after }
 {
-    let child = child_of(shape.plan.nodes.as_slice(), k);
+    let child = child_of(scene.plan.nodes.as_slice(), k);
     let slot = slot_of(&clocks.latest.parts, child);
     let at = k as usize;
     clocks.states[at].feed(slot);
@@ -73,59 +74,59 @@ pub fn fill_child(shape: &Shape<'_>, clocks: &mut ClockStates, k: u32)
 /// where it wants them: so many are made, and no more. Where it wants none, it is kept how many go on. `time` is that
 /// of the latest instant, whose slot it was filled, and `levels` bounds how deep sub-clocks nest below the crossfade's
 /// clock.
-pub fn fill_on(shape: &Shape<'_>, clocks: &mut ClockStates, k: u32, time: WeekTime, levels: usize)
-    requires shape { IsShape shape.now }
-    requires clocks { AreClockStatesOver shape.now clocks.old }
-    requires within { k < length shape.now.plan.now.nodes }
-    requires levels { HasLevels shape.now.clocks.now (slice_index_or shape.now.clocks.now k (InMain 0)) levels }
-    requires idle { IsIdle (slice_index_or shape.now.clocks.now k (InMain 0)) clocks.old }
+pub fn fill_on(scene: &Scene<'_>, clocks: &mut ClockStates, k: u32, time: WeekTime, levels: usize)
+    requires scene { IsScene scene.now }
+    requires clocks { AreClockStatesOver scene.now clocks.old }
+    requires within { k < length scene.now.plan.now.nodes }
+    requires levels { HasLevels scene.now.clocks.now (slice_index_or scene.now.clocks.now k (InMain 0)) levels }
+    requires idle { IsIdle (slice_index_or scene.now.clocks.now k (InMain 0)) clocks.old }
     requires none { rest_at clocks.old k ≡ 0 }
-    requires rate { time.rate ≡ shape.now.plan.now.rate }
-    requires frame { time.frame ≡ shape.now.plan.now.frame }
-    ensures clocks { AreClockStatesOver shape.now clocks.new }
+    requires rate { time.rate ≡ scene.now.plan.now.rate }
+    requires frame { time.frame ≡ scene.now.plan.now.frame }
+    ensures clocks { AreClockStatesOver scene.now clocks.new }
     ensures no_more { left_at clocks.new.states.items k ≤ left_at clocks.old.states.items k }
-    ensures left { (rank : Clock → ℕ) → HasRanks shape.now.clocks.now rank
-        → AreLeft shape.now.clocks.now rank (rank (slice_index_or shape.now.clocks.now k (InMain 0))) (is_node k)
+    ensures left { (rank : Clock → ℕ) → HasRanks scene.now.clocks.now rank
+        → AreLeft scene.now.clocks.now rank (rank (slice_index_or scene.now.clocks.now k (InMain 0))) (is_node k)
         clocks.old clocks.new }
-    ensures filled { FedOnOver shape.now k time clocks.old clocks.new }
+    ensures filled { FedOnOver scene.now k time clocks.old clocks.new }
 {
-    let rest = goes_for(shape, clocks, k, time);
+    let rest = goes_for(scene, clocks, k, time);
     let many = wanted(clocks, k, rest);
     if many == 0 {
-        keep(shape, clocks, k, rest);
+        keep(scene, clocks, k, rest);
         return;
     }
-    run_clock(shape, clocks, NodeClock::Sub(k), many, levels - 1);
-    fill_lane(shape, clocks, k, many);
+    run_clock(scene, clocks, NodeClock::Sub(k), many, levels - 1);
+    fill_lane(scene, clocks, k, many);
 }
 
 // How many instants of the sub-clock of crossfade k go on as its latest one did, at this time, if the child gave; no
 // more than the crossfade can use.
-fn goes_for(shape: &Shape<'_>, clocks: &ClockStates, k: u32, time: WeekTime) -> u32
-    requires shape { IsShape shape.now }
-    requires clocks { AreClockStatesOver shape.now clocks.now }
-    requires within { k < length shape.now.plan.now.nodes }
-    requires rate { time.rate ≡ shape.now.plan.now.rate }
-    requires frame { time.frame ≡ shape.now.plan.now.frame }
+fn goes_for(scene: &Scene<'_>, clocks: &ClockStates, k: u32, time: WeekTime) -> u32
+    requires scene { IsScene scene.now }
+    requires clocks { AreClockStatesOver scene.now clocks.now }
+    requires within { k < length scene.now.plan.now.nodes }
+    requires rate { time.rate ≡ scene.now.plan.now.rate }
+    requires frame { time.frame ≡ scene.now.plan.now.frame }
     ensures later { result ≤ time.rate }
-    ensures ahead { AllLieAheadOver shape.now (InSub k) clocks.now.room.held.items clocks.now.states.items result }
-    ensures through { AllPassOnOver shape.now (InSub k) clocks.now.room.held.items clocks.now.states.items
+    ensures ahead { AllLieAheadOver scene.now (InSub k) clocks.now.room.held.items clocks.now.states.items result }
+    ensures through { AllPassOnOver scene.now (InSub k) clocks.now.room.held.items clocks.now.states.items
         clocks.now.room.rests.items result }
     ensures gave { 0 < result
-        → is_some (part_at clocks.now.latest.parts.items (crossfaded shape.now.plan.now.nodes k)).slot ≡ true }
+        → is_some (part_at clocks.now.latest.parts.items (crossfaded scene.now.plan.now.nodes k)).slot ≡ true }
     ensures goes { (other : Setting) (sub : ℕ → ℕ → List Slot) (past : List Moment) (filled : ℕ → ℕ) →
-        let setting = setting_over shape.now other in
+        let setting = setting_over scene.now other in
         IsBehind setting sub (InSub k) past filled time clocks.now.latest.parts.items clocks.now.room.held.items
         clocks.now.states.items clocks.now.room.rests.items
         → 0 < result → GoesOnFor setting sub (InSub k) past result filled clocks.now.room.held.items
         clocks.now.states.items }
 {
-    let child = child_of(shape.plan.nodes.as_slice(), k);
+    let child = child_of(scene.plan.nodes.as_slice(), k);
     if slot_of(&clocks.latest.parts, child).is_none() {
         return 0;
     }
     let most = most_used(clocks, k);
-    rest_for(shape, clocks, NodeClock::Sub(k), time, most)
+    rest_for(scene, clocks, NodeClock::Sub(k), time, most)
 }
 
 // How many of its sub-clock's instants that go on crossfade k can use at once, at most: as many as it takes where it
@@ -153,16 +154,16 @@ fn wanted(clocks: &ClockStates, k: u32, rest: u32) -> u32
 
 // Feeds crossfade k, which takes them, the samples of its child in the latest stretch, which had so many instants,
 // under its title at the latest instant, and takes the time of the sub-clock on.
-fn fill_lane(shape: &Shape<'_>, clocks: &mut ClockStates, k: u32, many: u32)
-    requires shape { IsShape shape.now }
-    requires clocks { AreClockStatesOver shape.now clocks.old }
-    requires within { k < length shape.now.plan.now.nodes }
+fn fill_lane(scene: &Scene<'_>, clocks: &mut ClockStates, k: u32, many: u32)
+    requires scene { IsScene scene.now }
+    requires clocks { AreClockStatesOver scene.now clocks.old }
+    requires within { k < length scene.now.plan.now.nodes }
     requires some { 0 < many }
     requires short { many ≤ 2048 }
     requires room { many ≤ room_at clocks.old.states.items k }
-    requires later { many ≤ shape.now.plan.now.rate }
-    requires idle { IsIdle (slice_index_or shape.now.clocks.now k (InMain 0)) clocks.old }
-    ensures clocks { AreClockStatesOver shape.now clocks.new }
+    requires later { many ≤ scene.now.plan.now.rate }
+    requires idle { IsIdle (slice_index_or scene.now.clocks.now k (InMain 0)) clocks.old }
+    ensures clocks { AreClockStatesOver scene.now clocks.new }
     ensures stretch_room { clocks.new.room ≡ clocks.old.room }
     ensures states { (i : ℕ) → (i ≡ k → ⊥) → slice_get clocks.new.states.items i ≡ slice_get clocks.old.states.items i }
     ensures times { (i : ℕ) → (i ≡ k → ⊥) → slice_get clocks.new.times.items i ≡ slice_get clocks.old.times.items i }
@@ -171,17 +172,17 @@ fn fill_lane(shape: &Shape<'_>, clocks: &mut ClockStates, k: u32, many: u32)
         → List Slot) (past : List Moment) (filled : ℕ) (work : Work) (slots : ℕ → Slot) (before after : State)
         → slice_get clocks.old.states.items k ≡ Some before → slice_get clocks.new.states.items k ≡ Some after
         → StateStands setting sub past filled k work before
-        → IsLane slots many (samples_of clocks.old.room.left.items (crossfaded shape.now.plan.now.nodes k) many)
-        (samples_of clocks.old.room.right.items (crossfaded shape.now.plan.now.nodes k) many)
+        → IsLane slots many (samples_of clocks.old.room.left.items (crossfaded scene.now.plan.now.nodes k) many)
+        (samples_of clocks.old.room.right.items (crossfaded scene.now.plan.now.nodes k) many)
         → AreTitled slots many (title_of
-        (part_at clocks.old.latest.parts.items (crossfaded shape.now.plan.now.nodes k)).slot)
+        (part_at clocks.old.latest.parts.items (crossfaded scene.now.plan.now.nodes k)).slot)
         → ((m : ℕ) → m < many → sub k (suc (filled + m)) ≡ sub k (filled + m) ++ slots m ∷ [])
         → StateStands setting sub past (filled + many) k work after }
     ensures time { (start n : ℕ) (before after : Time) → slice_get clocks.old.times.items k ≡ Some before
         → slice_get clocks.new.times.items k ≡ Some after → TimeStands start n before
         → TimeStands start (n + many) after }
 {
-    let child = child_of(shape.plan.nodes.as_slice(), k);
+    let child = child_of(scene.plan.nodes.as_slice(), k);
     let at = k as usize;
     let title = title_of(slot_of(&clocks.latest.parts, child));
     fill_samples(

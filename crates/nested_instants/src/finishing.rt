@@ -4,39 +4,39 @@ ghost use Rattle.clock_infer.specs.declared.clock_map.NodeClock.TheVariants.{Mai
 ghost use Rattle.stream_meaning.specs.Instants.{part_at, same_clock};
 ghost use Rattle.nested_instants.specs.Clocks.{AreClockStatesOver, IsIdle};
 ghost use Rattle.clock_instants.specs.Finishing.{InstantFinished};
-ghost use Rattle.clock_instants.specs.Shapes.{IsShape};
+ghost use Rattle.clock_nodes.specs.Scenes.{IsScene};
 
 use crate::ClockStates;
 use clock_infer::NodeClock;
-use clock_instants::Shape;
+use clock_nodes::Scene;
 use fixed_text::WeekSecond;
 
 /// Makes the parts of an instant of a clock whose crossfades are settled, and takes the states of its nodes on.
 pub fn finish(
-    shape: &Shape<'_>,
+    scene: &Scene<'_>,
     own: &[bool],
     clocks: &mut ClockStates,
     clock: NodeClock,
     at: WeekSecond,
 )
-    requires shape { IsShape shape.now }
-    requires in_own { length own.now ≡ length shape.now.plan.now.nodes }
-    requires clocks { AreClockStatesOver shape.now clocks.old }
+    requires scene { IsScene scene.now }
+    requires in_own { length own.now ≡ length scene.now.plan.now.nodes }
+    requires clocks { AreClockStatesOver scene.now clocks.old }
     requires idle { IsIdle clock clocks.old }
-    ensures clocks { AreClockStatesOver shape.now clocks.new }
-    ensures kept { (i : ℕ) → same_clock (slice_index_or shape.now.clocks.now i (InMain 0)) clock ≡ false
+    ensures clocks { AreClockStatesOver scene.now clocks.new }
+    ensures kept { (i : ℕ) → same_clock (slice_index_or scene.now.clocks.now i (InMain 0)) clock ≡ false
         → part_at clocks.new.room.held.items i ≡ part_at clocks.old.room.held.items i }
     ensures rests { clocks.new.room.rests ≡ clocks.old.room.rests }
     ensures left { clocks.new.room.left ≡ clocks.old.room.left }
     ensures right { clocks.new.room.right ≡ clocks.old.room.right }
-    ensures others { (i : ℕ) → same_clock (slice_index_or shape.now.clocks.now i (InMain 0)) clock ≡ false
+    ensures others { (i : ℕ) → same_clock (slice_index_or scene.now.clocks.now i (InMain 0)) clock ≡ false
         → slice_get clocks.new.states.items i ≡ slice_get clocks.old.states.items i }
     ensures times { clocks.new.times.items ≡ clocks.old.times.items }
-    ensures finished { InstantFinished shape.now own.now clock at.second clocks.old.states.items clocks.new.states.items
+    ensures finished { InstantFinished scene.now own.now clock at.second clocks.old.states.items clocks.new.states.items
         clocks.new.latest.parts.items clocks.new.room.held.items }
 {
     clocks.latest.finish_instant(
-        shape,
+        scene,
         &clocks.nodes,
         clock,
         at,

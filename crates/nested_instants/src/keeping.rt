@@ -9,26 +9,27 @@ ghost use Rattle.node_states.specs.Times.{TimeStands};
 ghost use Rattle.clock_instants.specs.Held.{AllPassOnOver};
 ghost use Rattle.clock_instants.specs.Stretches.{AllLieAheadOver, IsBehind};
 ghost use Rattle.nested_instants.specs.Clocks.{AreClockStatesOver, GoesOnFor, HasRanks, IsIdle, rest_at};
-ghost use Rattle.clock_instants.specs.Shapes.{IsShape, setting_over};
+ghost use Rattle.clock_nodes.specs.Scenes.{IsScene, setting_over};
 
 use crate::ClockStates;
 use clock_infer::NodeClock;
-use clock_instants::{Shape, rest_of};
+use clock_instants::rest_of;
+use clock_nodes::Scene;
 use node_states::WeekTime;
 
 /// Keeps that so many instants of the sub-clock of crossfade k go on as its latest one.
-pub fn keep(shape: &Shape<'_>, clocks: &mut ClockStates, k: u32, rest: u32)
-    requires shape { IsShape shape.now }
-    requires ranks { (rank : Clock → ℕ) × HasRanks shape.now.clocks.now rank }
-    requires clocks { AreClockStatesOver shape.now clocks.old }
-    requires within { k < length shape.now.plan.now.nodes }
-    requires idle { IsIdle (slice_index_or shape.now.clocks.now k (InMain 0)) clocks.old }
+pub fn keep(scene: &Scene<'_>, clocks: &mut ClockStates, k: u32, rest: u32)
+    requires scene { IsScene scene.now }
+    requires ranks { (rank : Clock → ℕ) × HasRanks scene.now.clocks.now rank }
+    requires clocks { AreClockStatesOver scene.now clocks.old }
+    requires within { k < length scene.now.plan.now.nodes }
+    requires idle { IsIdle (slice_index_or scene.now.clocks.now k (InMain 0)) clocks.old }
     requires ahead { 0 < rest
-        → AllLieAheadOver shape.now (InSub k) clocks.old.room.held.items clocks.old.states.items rest }
+        → AllLieAheadOver scene.now (InSub k) clocks.old.room.held.items clocks.old.states.items rest }
     requires through { 0 < rest
-        → AllPassOnOver shape.now (InSub k) clocks.old.room.held.items clocks.old.states.items
+        → AllPassOnOver scene.now (InSub k) clocks.old.room.held.items clocks.old.states.items
         clocks.old.room.rests.items rest }
-    ensures clocks { AreClockStatesOver shape.now clocks.new }
+    ensures clocks { AreClockStatesOver scene.now clocks.new }
     ensures kept { rest_at clocks.new k ≡ rest }
     ensures others { (i : ℕ) → (i ≡ k → ⊥) → rest_at clocks.new i ≡ rest_at clocks.old i }
     ensures states { clocks.new.states ≡ clocks.old.states }
@@ -43,29 +44,29 @@ pub fn keep(shape: &Shape<'_>, clocks: &mut ClockStates, k: u32, rest: u32)
 
 /// How many instants of a clock, at most so many, go on as its latest one did, which was at this time.
 pub fn rest_for(
-    shape: &Shape<'_>,
+    scene: &Scene<'_>,
     clocks: &ClockStates,
     clock: NodeClock,
     time: WeekTime,
     most: u32,
 ) -> u32
-    requires shape { IsShape shape.now }
-    requires clocks { AreClockStatesOver shape.now clocks.now }
-    requires rate { time.rate ≡ shape.now.plan.now.rate }
-    requires frame { time.frame ≡ shape.now.plan.now.frame }
+    requires scene { IsScene scene.now }
+    requires clocks { AreClockStatesOver scene.now clocks.now }
+    requires rate { time.rate ≡ scene.now.plan.now.rate }
+    requires frame { time.frame ≡ scene.now.plan.now.frame }
     ensures within { result ≤ most }
     ensures later { result ≤ time.rate }
-    ensures ahead { AllLieAheadOver shape.now clock clocks.now.room.held.items clocks.now.states.items result }
-    ensures through { AllPassOnOver shape.now clock clocks.now.room.held.items clocks.now.states.items
+    ensures ahead { AllLieAheadOver scene.now clock clocks.now.room.held.items clocks.now.states.items result }
+    ensures through { AllPassOnOver scene.now clock clocks.now.room.held.items clocks.now.states.items
         clocks.now.room.rests.items result }
     ensures goes { (other : Setting) (sub : ℕ → ℕ → List Slot) (past : List Moment) (filled : ℕ → ℕ) →
-        let setting = setting_over shape.now other in
+        let setting = setting_over scene.now other in
         IsBehind setting sub clock past filled time clocks.now.latest.parts.items clocks.now.room.held.items
         clocks.now.states.items clocks.now.room.rests.items
         → GoesOnFor setting sub clock past result filled clocks.now.room.held.items clocks.now.states.items }
 {
     rest_of(
-        shape,
+        scene,
         &clocks.nodes,
         clock,
         &clocks.latest.parts,
@@ -78,11 +79,11 @@ pub fn rest_for(
 }
 
 /// Takes the time of the sub-clock of crossfade k on by so many instants.
-pub fn take_on(shape: &Shape<'_>, clocks: &mut ClockStates, k: u32, many: u32)
-    requires clocks { AreClockStatesOver shape.now clocks.old }
-    requires within { k < length shape.now.plan.now.nodes }
-    requires later { many ≤ shape.now.plan.now.rate }
-    ensures clocks { AreClockStatesOver shape.now clocks.new }
+pub fn take_on(scene: &Scene<'_>, clocks: &mut ClockStates, k: u32, many: u32)
+    requires clocks { AreClockStatesOver scene.now clocks.old }
+    requires within { k < length scene.now.plan.now.nodes }
+    requires later { many ≤ scene.now.plan.now.rate }
+    ensures clocks { AreClockStatesOver scene.now clocks.new }
     ensures states { clocks.new.states ≡ clocks.old.states }
     ensures latest { clocks.new.latest ≡ clocks.old.latest }
     ensures room { clocks.new.room ≡ clocks.old.room }

@@ -9,106 +9,107 @@ ghost use Rattle.clock_instants.specs.Held.{AllPassOnOver, gave_at, passes_at};
 ghost use Rattle.clock_instants.specs.Stretches.{AllLieAheadOver, HasGoneOn, IsGoing};
 ghost use Rattle.nested_instants.specs.Clocks.{AreClockStatesOver, AreLeft, HasLevels, HasRanks, IsIdle, is_in, is_node, is_none, laned_at, rest_at};
 ghost use Rattle.nested_instants.specs.Stretches.{AreAbove, AreSamplesLeft, ClockRunOver, SubClocksRunOver, SubClockRunOver};
-ghost use Rattle.clock_instants.specs.Shapes.{IsShape, setting_over};
+ghost use Rattle.clock_nodes.specs.Scenes.{IsScene, setting_over};
 
 use crate::ClockStates;
 use crate::keeping::{keep, take_on};
 use clock_infer::NodeClock;
-use clock_instants::{Shape, run_nodes};
+use clock_instants::run_nodes;
+use clock_nodes::Scene;
 
 /// Makes so many instants of a clock, which go on as its latest one did: first those of the sub-clocks of its
 /// crossfades through which cells pass, and then what its own nodes do. `levels` bounds how deep sub-clocks nest below
 /// the clock.
 #[cycle(onward)]
 pub fn run_clock(
-    shape: &Shape<'_>,
+    scene: &Scene<'_>,
     clocks: &mut ClockStates,
     clock: NodeClock,
     many: u32,
     levels: usize,
 )
-    requires shape { IsShape shape.now }
-    requires clocks { AreClockStatesOver shape.now clocks.old }
-    requires levels { HasLevels shape.now.clocks.now clock levels }
+    requires scene { IsScene scene.now }
+    requires clocks { AreClockStatesOver scene.now clocks.old }
+    requires levels { HasLevels scene.now.clocks.now clock levels }
     requires idle { IsIdle clock clocks.old }
     requires some { 0 < many }
     requires short { many ≤ 2048 }
-    requires later { many ≤ shape.now.plan.now.rate }
-    requires ahead { AllLieAheadOver shape.now clock clocks.old.room.held.items clocks.old.states.items many }
-    requires through { AllPassOnOver shape.now clock clocks.old.room.held.items clocks.old.states.items
+    requires later { many ≤ scene.now.plan.now.rate }
+    requires ahead { AllLieAheadOver scene.now clock clocks.old.room.held.items clocks.old.states.items many }
+    requires through { AllPassOnOver scene.now clock clocks.old.room.held.items clocks.old.states.items
         clocks.old.room.rests.items many }
-    ensures clocks { AreClockStatesOver shape.now clocks.new }
+    ensures clocks { AreClockStatesOver scene.now clocks.new }
     ensures latest { clocks.new.latest ≡ clocks.old.latest }
     ensures held { clocks.new.room.held ≡ clocks.old.room.held }
-    ensures left { (rank : Clock → ℕ) → HasRanks shape.now.clocks.now rank
-        → AreLeft shape.now.clocks.now rank (rank clock) (is_in shape.now.clocks.now clock) clocks.old clocks.new }
-    ensures samples { (rank : Clock → ℕ) → HasRanks shape.now.clocks.now rank
-        → AreSamplesLeft shape.now.clocks.now rank (rank clock) (is_in shape.now.clocks.now clock) many clocks.old
+    ensures left { (rank : Clock → ℕ) → HasRanks scene.now.clocks.now rank
+        → AreLeft scene.now.clocks.now rank (rank clock) (is_in scene.now.clocks.now clock) clocks.old clocks.new }
+    ensures samples { (rank : Clock → ℕ) → HasRanks scene.now.clocks.now rank
+        → AreSamplesLeft scene.now.clocks.now rank (rank clock) (is_in scene.now.clocks.now clock) many clocks.old
         clocks.new }
-    ensures run { ClockRunOver shape.now clock many clocks.old clocks.new }
+    ensures run { ClockRunOver scene.now clock many clocks.old clocks.new }
 {
-    run_subs(shape, clocks, clock, many, levels);
-    run_own(shape, clocks, clock, many);
+    run_subs(scene, clocks, clock, many, levels);
+    run_own(scene, clocks, clock, many);
 }
 
 // Makes those of the sub-clocks of its crossfades through which cells pass.
 #[cycle(onward)]
-fn run_subs(shape: &Shape<'_>, clocks: &mut ClockStates, clock: NodeClock, many: u32, levels: usize)
-    requires shape { IsShape shape.now }
-    requires clocks { AreClockStatesOver shape.now clocks.old }
-    requires levels { HasLevels shape.now.clocks.now clock levels }
+fn run_subs(scene: &Scene<'_>, clocks: &mut ClockStates, clock: NodeClock, many: u32, levels: usize)
+    requires scene { IsScene scene.now }
+    requires clocks { AreClockStatesOver scene.now clocks.old }
+    requires levels { HasLevels scene.now.clocks.now clock levels }
     requires idle { IsIdle clock clocks.old }
     requires some { 0 < many }
     requires short { many ≤ 2048 }
-    requires later { many ≤ shape.now.plan.now.rate }
-    requires through { AllPassOnOver shape.now clock clocks.old.room.held.items clocks.old.states.items
+    requires later { many ≤ scene.now.plan.now.rate }
+    requires through { AllPassOnOver scene.now clock clocks.old.room.held.items clocks.old.states.items
         clocks.old.room.rests.items many }
-    ensures clocks { AreClockStatesOver shape.now clocks.new }
+    ensures clocks { AreClockStatesOver scene.now clocks.new }
     ensures latest { clocks.new.latest ≡ clocks.old.latest }
     ensures held { clocks.new.room.held ≡ clocks.old.room.held }
-    ensures above { (rank : Clock → ℕ) → HasRanks shape.now.clocks.now rank
-        → AreAbove shape.now.clocks.now rank (rank clock) (is_in shape.now.clocks.now clock) clocks.old clocks.new }
-    ensures samples { (rank : Clock → ℕ) → HasRanks shape.now.clocks.now rank
-        → AreSamplesLeft shape.now.clocks.now rank (rank clock) is_none many clocks.old clocks.new }
-    ensures run { SubClocksRunOver shape.now clock many (length shape.now.plan.now.nodes) clocks.old clocks.new }
+    ensures above { (rank : Clock → ℕ) → HasRanks scene.now.clocks.now rank
+        → AreAbove scene.now.clocks.now rank (rank clock) (is_in scene.now.clocks.now clock) clocks.old clocks.new }
+    ensures samples { (rank : Clock → ℕ) → HasRanks scene.now.clocks.now rank
+        → AreSamplesLeft scene.now.clocks.now rank (rank clock) is_none many clocks.old clocks.new }
+    ensures run { SubClocksRunOver scene.now clock many (length scene.now.plan.now.nodes) clocks.old clocks.new }
 {
     let mut i = clocks.nodes.first(clock);
-    while i < shape.clocks.len() {
-        run_sub(shape, clocks, i as u32, many, levels);
+    while i < scene.clocks.len() {
+        run_sub(scene, clocks, i as u32, many, levels);
         i = clocks.nodes.after(i);
     }
 }
 
 // Makes those of the sub-clock of node i, if it is such a crossfade, and takes the sub-clock's time on.
 #[cycle(onward)]
-fn run_sub(shape: &Shape<'_>, clocks: &mut ClockStates, i: u32, many: u32, levels: usize)
-    requires shape { IsShape shape.now }
-    requires clocks { AreClockStatesOver shape.now clocks.old }
-    requires within { i < length shape.now.plan.now.nodes }
-    requires levels { HasLevels shape.now.clocks.now (slice_index_or shape.now.clocks.now i (InMain 0)) levels }
-    requires idle { IsIdle (slice_index_or shape.now.clocks.now i (InMain 0)) clocks.old }
+fn run_sub(scene: &Scene<'_>, clocks: &mut ClockStates, i: u32, many: u32, levels: usize)
+    requires scene { IsScene scene.now }
+    requires clocks { AreClockStatesOver scene.now clocks.old }
+    requires within { i < length scene.now.plan.now.nodes }
+    requires levels { HasLevels scene.now.clocks.now (slice_index_or scene.now.clocks.now i (InMain 0)) levels }
+    requires idle { IsIdle (slice_index_or scene.now.clocks.now i (InMain 0)) clocks.old }
     requires some { 0 < many }
     requires short { many ≤ 2048 }
-    requires later { many ≤ shape.now.plan.now.rate }
+    requires later { many ≤ scene.now.plan.now.rate }
     requires through { (gave_at clocks.old.room.held.items i && passes_at clocks.old.states.items i) ≡ true
         → many ≤ rest_at clocks.old i }
-    ensures clocks { AreClockStatesOver shape.now clocks.new }
+    ensures clocks { AreClockStatesOver scene.now clocks.new }
     ensures latest { clocks.new.latest ≡ clocks.old.latest }
     ensures held { clocks.new.room.held ≡ clocks.old.room.held }
-    ensures above { (rank : Clock → ℕ) → HasRanks shape.now.clocks.now rank
-        → AreAbove shape.now.clocks.now rank (rank (slice_index_or shape.now.clocks.now i (InMain 0))) (is_node i)
+    ensures above { (rank : Clock → ℕ) → HasRanks scene.now.clocks.now rank
+        → AreAbove scene.now.clocks.now rank (rank (slice_index_or scene.now.clocks.now i (InMain 0))) (is_node i)
         clocks.old clocks.new }
-    ensures samples { (rank : Clock → ℕ) → HasRanks shape.now.clocks.now rank
-        → AreSamplesLeft shape.now.clocks.now rank (rank (InSub i)) (is_in shape.now.clocks.now (InSub i)) many
+    ensures samples { (rank : Clock → ℕ) → HasRanks scene.now.clocks.now rank
+        → AreSamplesLeft scene.now.clocks.now rank (rank (InSub i)) (is_in scene.now.clocks.now (InSub i)) many
         clocks.old clocks.new }
-    ensures run { SubClockRunOver shape.now i many clocks.old clocks.new }
+    ensures run { SubClockRunOver scene.now i many clocks.old clocks.new }
 {
     if !passes_on(clocks, i) {
         return;
     }
-    keep(shape, clocks, i, 0);
-    run_clock(shape, clocks, NodeClock::Sub(i), many, levels - 1);
-    take_on(shape, clocks, i, many);
+    keep(scene, clocks, i, 0);
+    run_clock(scene, clocks, NodeClock::Sub(i), many, levels - 1);
+    take_on(scene, clocks, i, many);
 }
 
 // Whether node i gave at the latest instant of its clock, and cells pass through it.
@@ -124,34 +125,34 @@ fn passes_on(clocks: &ClockStates, i: u32) -> bool
 }
 
 // Makes what a clock's own nodes do at these instants.
-fn run_own(shape: &Shape<'_>, clocks: &mut ClockStates, clock: NodeClock, many: u32)
-    requires shape { IsShape shape.now }
-    requires clocks { AreClockStatesOver shape.now clocks.old }
+fn run_own(scene: &Scene<'_>, clocks: &mut ClockStates, clock: NodeClock, many: u32)
+    requires scene { IsScene scene.now }
+    requires clocks { AreClockStatesOver scene.now clocks.old }
     requires idle { IsIdle clock clocks.old }
     requires some { 0 < many }
     requires short { many ≤ 2048 }
-    requires ahead { AllLieAheadOver shape.now clock clocks.old.room.held.items clocks.old.states.items many }
-    ensures clocks { AreClockStatesOver shape.now clocks.new }
+    requires ahead { AllLieAheadOver scene.now clock clocks.old.room.held.items clocks.old.states.items many }
+    ensures clocks { AreClockStatesOver scene.now clocks.new }
     ensures latest { clocks.new.latest ≡ clocks.old.latest }
     ensures times { clocks.new.times ≡ clocks.old.times }
     ensures held { clocks.new.room.held ≡ clocks.old.room.held }
     ensures rests { clocks.new.room.rests ≡ clocks.old.room.rests }
-    ensures others { (i : ℕ) → same_clock (slice_index_or shape.now.clocks.now i (InMain 0)) clock ≡ false
+    ensures others { (i : ℕ) → same_clock (slice_index_or scene.now.clocks.now i (InMain 0)) clock ≡ false
         → slice_get clocks.new.states.items i ≡ slice_get clocks.old.states.items i }
-    ensures left { (i : ℕ) → same_clock (slice_index_or shape.now.clocks.now i (InMain 0)) clock ≡ false
+    ensures left { (i : ℕ) → same_clock (slice_index_or scene.now.clocks.now i (InMain 0)) clock ≡ false
         → samples_of clocks.new.room.left.items i many ≡ samples_of clocks.old.room.left.items i many }
-    ensures right { (i : ℕ) → same_clock (slice_index_or shape.now.clocks.now i (InMain 0)) clock ≡ false
+    ensures right { (i : ℕ) → same_clock (slice_index_or scene.now.clocks.now i (InMain 0)) clock ≡ false
         → samples_of clocks.new.room.right.items i many ≡ samples_of clocks.old.room.right.items i many }
     ensures laned { (i : ℕ) → laned_at clocks.old i → laned_at clocks.new i }
     ensures run { (other : Setting) (sub : ℕ → ℕ → List TheSlot) (past : List Moment) (filled : ℕ → ℕ) →
-        let setting = setting_over shape.now other in
+        let setting = setting_over scene.now other in
         IsGoing setting sub clock past many filled clocks.old.room.held.items clocks.old.states.items
         clocks.old.room.left.items clocks.old.room.right.items
         → HasGoneOn setting sub clock past many filled clocks.old.states.items clocks.new.room.left.items
         clocks.new.room.right.items clocks.new.states.items }
 {
     run_nodes(
-        shape,
+        scene,
         &clocks.nodes,
         clock,
         &mut clocks.states,

@@ -4,42 +4,43 @@ ghost use Rattle.clock_infer.specs.declared.clock_map.NodeClock.TheVariants.{Mai
 ghost use Rattle.stream_meaning.specs.Instants.{same_clock};
 ghost use Rattle.clock_instants.specs.Takes.{HasReader, ReadersAreIn};
 ghost use Rattle.nested_instants.specs.Clocks.{AreClockStatesOver, ClockOpenedOver, IsIdle, OpeningStoppedOver};
-ghost use Rattle.clock_instants.specs.Shapes.{IsShape};
+ghost use Rattle.clock_nodes.specs.Scenes.{IsScene};
 
 use crate::ClockStates;
 use clock_infer::NodeClock;
-use clock_instants::{Shape, begin_readers};
+use clock_instants::begin_readers;
+use clock_nodes::Scene;
 use frame_core::Taps;
 use liq_base::Memory;
 use node_states::WeekTime;
 
 /// Lets the readers of a clock take, where its instant begins a tick.
 pub fn begin_clock<T: Taps>(
-    shape: &Shape<'_>,
+    scene: &Scene<'_>,
     clocks: &mut ClockStates,
     clock: NodeClock,
     time: WeekTime,
     taps: &mut T,
 ) -> Result<(), Memory>
-    requires shape { IsShape shape.now }
-    requires clocks { AreClockStatesOver shape.now clocks.old }
+    requires scene { IsScene scene.now }
+    requires clocks { AreClockStatesOver scene.now clocks.old }
     requires idle { IsIdle clock clocks.old }
-    requires frame { time.frame ≡ shape.now.plan.now.frame }
-    requires readers { ReadersAreIn shape.now.plan.now (T.buffers taps.old) }
-    ensures clocks { AreClockStatesOver shape.now clocks.new }
+    requires frame { time.frame ≡ scene.now.plan.now.frame }
+    requires readers { ReadersAreIn scene.now.plan.now (T.buffers taps.old) }
+    ensures clocks { AreClockStatesOver scene.now clocks.new }
     ensures buffers { T.buffers taps.new ≡ T.buffers taps.old }
     ensures same { T.same taps.old taps.new }
-    ensures others { (i : ℕ) → same_clock (slice_index_or shape.now.clocks.now i (InMain 0)) clock ≡ false
+    ensures others { (i : ℕ) → same_clock (slice_index_or scene.now.clocks.now i (InMain 0)) clock ≡ false
         → slice_get clocks.new.states.items i ≡ slice_get clocks.old.states.items i }
     ensures times { clocks.new.times.items ≡ clocks.old.times.items }
     ensures room { clocks.new.room ≡ clocks.old.room }
     ensures opened { OnOk result
-        (ClockOpenedOver T.stands shape.now clock time clocks.old clocks.new taps.old taps.new) }
-    ensures stopped { OnErr result (OpeningStoppedOver T.stands shape.now clock time clocks.old taps.old taps.new) }
-    ensures reads { OnErr result (HasReader shape.now.plan.now shape.now.clocks.now clock) }
+        (ClockOpenedOver T.stands scene.now clock time clocks.old clocks.new taps.old taps.new) }
+    ensures stopped { OnErr result (OpeningStoppedOver T.stands scene.now clock time clocks.old taps.old taps.new) }
+    ensures reads { OnErr result (HasReader scene.now.plan.now scene.now.clocks.now clock) }
 {
     if time.begins_tick() {
-        return begin_readers(shape, &clocks.nodes, clock, &mut clocks.states, taps);
+        return begin_readers(scene, &clocks.nodes, clock, &mut clocks.states, taps);
     }
     Ok(())
 }

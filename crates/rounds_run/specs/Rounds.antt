@@ -159,4 +159,4 @@ pub record KeepNone {S : Type 0} (engines : List (ClockEngine S)) : Type 0 where
 -- there are as many buffers as each engine's plan has
 pub record HaveBuffers {S : Type 0} (buffers : ℕ) (engines : List (ClockEngine S)) : Type 0 where
   pub each : (k : ℕ) (engine : ClockEngine S) → slice_get engines k ≡ Some engine
-      → buffers ≡ length engine.parts.shape.plan.now.buffers
+      → buffers ≡ length engine.parts.scene.plan.now.buffers

@@ -3,18 +3,18 @@ use Rattle.clock_infer.specs.declared.clock_map.NodeClock.{NodeClock}
 use Rattle.frame_core.specs.Library.{Sounds}
 use Rattle.stream_meaning.specs.Instants.{Setting}
 use Rattle.clock_instants.specs.Demands.{PicksOffer}
-use Rattle.clock_instants.specs.Nodes.{lies_at}
-use Rattle.clock_instants.specs.States.{over}
+use Rattle.clock_nodes.specs.Nodes.{lies_at}
+use Rattle.clock_nodes.specs.States.{over}
 use Rattle.clock_instants.proofs.Marking.{Marked}
 use Rattle.clock_instants.proofs.demand.find_demanded.Given as goal
 
 abbrev pub invariant-loop-i : goal.invariant-loop-i
 invariant-loop-i l = record {
   within : l.i ≤ length l.all;
-  own : (j : ℕ) → l.i ≡ suc j → lies_at l.shape.clocks.now l.fn.clock j ≡ true;
-  others : (j : ℕ) → lies_at l.shape.clocks.now l.fn.clock j ≡ false → get_or l.demanded j false ≡ false;
-  marked : (library : Sounds) (clocks : List NodeClock) (setting : Setting) → PicksOffer l.shape.plan.now.nodes l.parts
-      → Marked (over l.shape.plan.now library clocks setting) (λ j. get_or l.initial.demanded j false) l.all l.parts l.demanded l.i;
+  own : (j : ℕ) → l.i ≡ suc j → lies_at l.scene.clocks.now l.fn.clock j ≡ true;
+  others : (j : ℕ) → lies_at l.scene.clocks.now l.fn.clock j ≡ false → get_or l.demanded j false ≡ false;
+  marked : (library : Sounds) (clocks : List NodeClock) (setting : Setting) → PicksOffer l.scene.plan.now.nodes l.parts
+      → Marked (over l.scene.plan.now library clocks setting) (λ j. get_or l.initial.demanded j false) l.all l.parts l.demanded l.i;
 }
 
 abbrev pub decreases-loop-i : goal.decreases-loop-i

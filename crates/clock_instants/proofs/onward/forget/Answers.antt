@@ -1,10 +1,10 @@
 use Rattle.std.proofs.Common.{◌<◌, length, arith}
-use Rattle.clock_instants.proofs.Walking.{cleared_all, cleared_first, cleared_next, next_own}
+use Rattle.clock_nodes.proofs.Walking.{cleared_all, cleared_first, cleared_next, next_own}
 use Rattle.clock_instants.proofs.onward.forget.Goals as goal
 
 pub loop-i-init : goal.loop-i-init
 loop-i-init c =
-    let first = c.first-i.ensures c.args.shape.now.clocks.now c.requires.chains in
+    let first = c.first-i.ensures c.args.scene.now.clocks.now c.requires.chains in
     record {
       high = first.high;
       own = first.own;
@@ -13,14 +13,14 @@ loop-i-init c =
 
 pub loop-i-smaller : goal.loop-i-smaller
 loop-i-smaller c =
-    let next = c.after-i.ensures c.args.shape.now.clocks.now c.requires.chains in
+    let next = c.after-i.ensures c.args.scene.now.clocks.now c.requires.chains in
     let low = next.low in
     omega (arith, low, c.loop-i-test.true)
 
 pub loop-i-preserved : goal.loop-i-preserved
 loop-i-preserved c =
     let inside = c.loop-i.invariant.own c.loop-i-test.true in
-    let next = next_own c.args.shape.now.clocks.now c.args.clock c.loop-i.i c.after-i.result inside (c.after-i.ensures c.args.shape.now.clocks.now c.requires.chains) in
+    let next = next_own c.args.scene.now.clocks.now c.args.clock c.loop-i.i c.after-i.result inside (c.after-i.ensures c.args.scene.now.clocks.now c.requires.chains) in
     let in_parts : c.loop-i.i < length c.loop-i.parts = omega (arith, c.requires.in_parts, c.loop-i-test.true) in
     record {
       high = next.high;

@@ -1,15 +1,15 @@
 use Rattle.std.proofs.Common.{◌≡◌, ◌<◌, ◌≤◌, ◌-◌, true, length}
 use Rattle.stream_meaning.specs.Instants.{silent}
-use Rattle.clock_instants.specs.Nodes.{lies_at}
-use Rattle.clock_instants.proofs.Walking.{AreCleared}
+use Rattle.clock_nodes.specs.Nodes.{lies_at}
+use Rattle.clock_nodes.proofs.Walking.{AreCleared}
 use Rattle.clock_instants.proofs.onward.forget.Given as goal
 
 abbrev pub invariant-loop-i : goal.invariant-loop-i
 invariant-loop-i l = record {
-  high : l.i ≤ length l.shape.clocks.now;
-  own : l.i < length l.shape.clocks.now → lies_at l.shape.clocks.now l.fn.clock l.i ≡ true;
-  parts : AreCleared l.shape.clocks.now l.fn.clock silent l.parts l.i;
+  high : l.i ≤ length l.scene.clocks.now;
+  own : l.i < length l.scene.clocks.now → lies_at l.scene.clocks.now l.fn.clock l.i ≡ true;
+  parts : AreCleared l.scene.clocks.now l.fn.clock silent l.parts l.i;
 }
 
 abbrev pub decreases-loop-i : goal.decreases-loop-i
-decreases-loop-i l = length l.shape.clocks.now - l.i
+decreases-loop-i l = length l.scene.clocks.now - l.i

@@ -9,7 +9,7 @@ use Rattle.stream_meaning.specs.Instants.{crossfaded, gives, moment_after, part_
 use Rattle.node_states.specs.States.{Fits}
 use Rattle.op_mix.specs.Stretches.{samples_of}
 use Rattle.clock_instants.specs.Stretches.{NodeGivesOn, NodeHasMade}
-use Rattle.clock_instants.specs.States.{over}
+use Rattle.clock_nodes.specs.States.{over}
 use Rattle.node_states.specs.Passing.{ChildFills, LaneFills, passes}
 use Rattle.node_states.proofs.Hearing.{given_yes}
 use Rattle.clock_instants.proofs.Gone.{child_low, goes_on}
@@ -20,29 +20,29 @@ use Rattle.clock_instants.proofs.onward.make_samples.Goals as goal
 
 pub run-requires-clause-fits : goal.run-requires-clause-fits
 run-requires-clause-fits c =
-    let found : slice_get c.args.shape.now.plan.now.nodes c.args.i ≡ Some c.index-as_slice-i.result =
+    let found : slice_get c.args.scene.now.plan.now.nodes c.args.i ≡ Some c.index-as_slice-i.result =
     slice_get_read _ _ _ _ refl c.requires.within (c.index-as_slice-i.is ∙ ap (λ nodes. get_or nodes c.args.i c.index-as_slice-i.result) c.as_slice-2.ensures) in
     c.requires.fits c.index-as_slice-i.result found
 
 pub run-requires-clause-few : goal.run-requires-clause-few
 run-requires-clause-few c =
-    let found : slice_get c.args.shape.now.plan.now.nodes c.args.i ≡ Some c.index-as_slice-i.result =
+    let found : slice_get c.args.scene.now.plan.now.nodes c.args.i ≡ Some c.index-as_slice-i.result =
     slice_get_read _ _ _ _ refl c.requires.within (c.index-as_slice-i.is ∙ ap (λ nodes. get_or nodes c.args.i c.index-as_slice-i.result) c.as_slice-2.ensures) in
-    (c.requires.shape.nodes c.args.i c.index-as_slice-i.result found).few
+    (c.requires.scene.nodes c.args.i c.index-as_slice-i.result found).few
 
 pub returns-clause-fits : goal.returns-clause-fits
 returns-clause-fits c = λ node at.
-    let found : slice_get c.args.shape.now.plan.now.nodes c.args.i ≡ Some c.index-as_slice-i.result =
+    let found : slice_get c.args.scene.now.plan.now.nodes c.args.i ≡ Some c.index-as_slice-i.result =
     slice_get_read _ _ _ _ refl c.requires.within (c.index-as_slice-i.is ∙ ap (λ nodes. get_or nodes c.args.i c.index-as_slice-i.result) c.as_slice-2.ensures) in
     let one : Some c.index-as_slice-i.result ≡ Some node = sym found ∙ at in
     let same : c.index-as_slice-i.result ≡ node = cc in
-    subst (λ (n : Node). Fits c.args.shape.now.library.now (length n.children) c.run.new.self) same c.run.ensures.fits
+    subst (λ (n : Node). Fits c.args.scene.now.library.now (length n.children) c.run.new.self) same c.run.ensures.fits
 
 pub returns-clause-made : goal.returns-clause-made
 returns-clause-made c = record {
   made = λ other sub clock past filled node before.
-      let S = over c.args.shape.now.plan.now c.args.shape.now.library.now c.args.shape.now.clocks.now other in
-      let found : slice_get c.args.shape.now.plan.now.nodes c.args.i ≡ Some c.index-as_slice-i.result =
+      let S = over c.args.scene.now.plan.now c.args.scene.now.library.now c.args.scene.now.clocks.now other in
+      let found : slice_get c.args.scene.now.plan.now.nodes c.args.i ≡ Some c.index-as_slice-i.result =
       slice_get_read _ _ _ _ refl c.requires.within (c.index-as_slice-i.is ∙ ap (λ nodes. get_or nodes c.args.i c.index-as_slice-i.result) c.as_slice-2.ensures) in
       let one : Some c.index-as_slice-i.result ≡ Some node = sym found ∙ before.is.there in
       let same : node ≡ c.index-as_slice-i.result = cc in
@@ -58,16 +58,16 @@ returns-clause-made c = record {
       subst (λ (n : Node). NodeGivesOn S sub clock past c.args.count filled c.args.i n c.args.held.now c.args.parts.now c.args.left.now c.args.right.now c.args.state.now) same before in
       let there : NodeGivesOn S sub clock past (length (take c.args.count c.args.own_left.now)) filled c.args.i c.index-as_slice-i.result c.args.held.now c.args.parts.now c.args.left.now c.args.right.now c.args.state.now =
       subst (λ m. NodeGivesOn S sub clock past m filled c.args.i c.index-as_slice-i.result c.args.held.now c.args.parts.now c.args.left.now c.args.right.now c.args.state.now) many_is now in
-      let goes = goes_on S sub clock past (length (take c.args.count c.args.own_left.now)) filled c.args.i c.index-as_slice-i.result c.args.held.now c.args.parts.now c.args.left.now c.args.right.now c.args.state.now c.requires.shape.nodes there gave in
-      let title_is : title_of (part_at c.args.held.now (crossfaded c.args.shape.now.plan.now.nodes c.args.i)).slot ≡ c.title_below-below.result =
+      let goes = goes_on S sub clock past (length (take c.args.count c.args.own_left.now)) filled c.args.i c.index-as_slice-i.result c.args.held.now c.args.parts.now c.args.left.now c.args.right.now c.args.state.now c.requires.scene.nodes there gave in
+      let title_is : title_of (part_at c.args.held.now (crossfaded c.args.scene.now.plan.now.nodes c.args.i)).slot ≡ c.title_below-below.result =
       ap (λ ns. title_of (part_at c.args.held.now (crossfaded ns c.args.i)).slot) (sym c.as_slice.ensures) ∙ sym c.title_below-below.ensures in
       let fills : passes c.args.state.now ≡ true → ChildFills (sub c.args.i) filled (length (take c.args.count c.args.own_left.now)) c.title_below-below.result c.index-as_slice-i.result.children c.args.left.now c.args.right.now =
-      λ through. child_fills S sub (moment_after S sub clock past ∷ past) (length (take c.args.count c.args.own_left.now)) filled c.args.i c.title_below-below.result c.index-as_slice-i.result c.args.state.now c.args.left.now c.args.right.now c.requires.shape.nodes found there.stands through
-      (subst (λ t. LaneFills (sub c.args.i) filled (length (take c.args.count c.args.own_left.now)) t (samples_of c.args.left.now (crossfaded c.args.shape.now.plan.now.nodes c.args.i) (length (take c.args.count c.args.own_left.now)))
-      (samples_of c.args.right.now (crossfaded c.args.shape.now.plan.now.nodes c.args.i) (length (take c.args.count c.args.own_left.now)))) title_is (there.supplied gave through)) in
+      λ through. child_fills S sub (moment_after S sub clock past ∷ past) (length (take c.args.count c.args.own_left.now)) filled c.args.i c.title_below-below.result c.index-as_slice-i.result c.args.state.now c.args.left.now c.args.right.now c.requires.scene.nodes found there.stands through
+      (subst (λ t. LaneFills (sub c.args.i) filled (length (take c.args.count c.args.own_left.now)) t (samples_of c.args.left.now (crossfaded c.args.scene.now.plan.now.nodes c.args.i) (length (take c.args.count c.args.own_left.now)))
+      (samples_of c.args.right.now (crossfaded c.args.scene.now.plan.now.nodes c.args.i) (length (take c.args.count c.args.own_left.now)))) title_is (there.supplied gave through)) in
       let stands = c.run.ensures.stands S sub clock past filled c.args.i (record { library = refl; goes_on = goes; begun = there.begun; supplied = fills; stands = there.stands }) in
       let pick_is = ap (λ (p : Part). p.pick) (sym (get_or_default _ _ silent _ in_parts) ∙ there.given c.args.i (omega arith) ∙ given_yes (moment_after S sub clock past) c.args.i gave) in
-      let low : (k : ℕ) → list_any (nat_eq k) c.index-as_slice-i.result.children ≡ true → k < c.args.i = λ k among. child_low S sub clock past c.args.i k c.index-as_slice-i.result c.requires.shape.nodes found among in
+      let low : (k : ℕ) → list_any (nat_eq k) c.index-as_slice-i.result.children ≡ true → k < c.args.i = λ k among. child_low S sub clock past c.args.i k c.index-as_slice-i.result c.requires.scene.nodes found among in
       let lane_is = c.run.ensures.lane S sub clock past filled c.args.i (record { library = refl; goes_on = goes; begun = there.begun; supplied = fills; stands = there.stands }) (record {
         given = λ k among. there.given k (let under = low k among in omega (arith, under));
         used = pick_is;

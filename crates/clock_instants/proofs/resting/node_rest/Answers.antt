@@ -6,13 +6,13 @@ use Rattle.stream_meaning.specs.Instants.{moment_after, part_at, silent, work_at
 use Rattle.stream_meaning.specs.Operators.{work_of}
 use Rattle.node_states.specs.States.{StateStands}
 use Rattle.clock_instants.specs.Resting.{begins_at}
-use Rattle.clock_instants.specs.States.{over}
+use Rattle.clock_nodes.specs.States.{over}
 use Rattle.clock_instants.proofs.Stretched.{marks_are, node_stretches}
 use Rattle.clock_instants.proofs.resting.node_rest.Goals as goal
 
 pub rest-requires : goal.rest-requires
 rest-requires c =
-    let found : slice_get c.args.shape.now.plan.now.nodes c.args.i ≡ Some c.index-as_slice-i.result =
+    let found : slice_get c.args.scene.now.plan.now.nodes c.args.i ≡ Some c.index-as_slice-i.result =
     slice_get_read _ _ _ _ refl c.requires.within (c.index-as_slice-i.is ∙ ap (λ nodes. get_or nodes c.args.i c.index-as_slice-i.result) c.as_slice.ensures) in
     record { fits = (length c.index-as_slice-i.result.children, c.requires.fits c.index-as_slice-i.result found) }
 
@@ -28,8 +28,8 @@ returns-clause-through c = λ gave through. c.rest.ensures.through (c.is_some-ga
 pub returns-clause-goes : goal.returns-clause-goes
 returns-clause-goes c = record {
   goes = λ other sub clock past filled node long is stands parts gave begun are time_is within.
-      let setting = over c.args.shape.now.plan.now c.args.shape.now.library.now c.args.shape.now.clocks.now other in
-      let found : slice_get c.args.shape.now.plan.now.nodes c.args.i ≡ Some c.index-as_slice-i.result =
+      let setting = over c.args.scene.now.plan.now c.args.scene.now.library.now c.args.scene.now.clocks.now other in
+      let found : slice_get c.args.scene.now.plan.now.nodes c.args.i ≡ Some c.index-as_slice-i.result =
       slice_get_read _ _ _ _ refl c.requires.within (c.index-as_slice-i.is ∙ ap (λ nodes. get_or nodes c.args.i c.index-as_slice-i.result) c.as_slice.ensures) in
       let one : Some c.index-as_slice-i.result ≡ Some node = sym found ∙ is.there in
       let read : c.index-as_slice-i.result ≡ node = cc in
@@ -37,7 +37,7 @@ returns-clause-goes c = record {
       let children : c.as_slice-2.result.now ≡ node.children = c.as_slice-2.ensures ∙ ap (λ (n : Node). n.children) read in
       let first = moment_after setting sub clock past in
       let part_is = ap (λ ps. part_at ps c.args.i) (sym parts) ∙ get_or_default _ _ silent _ in_parts in
-      node_stretches setting sub clock past c.args.i node c.requires.shape.nodes is c.begins-begins.result c.last.result c.rest.result c.rest.result c.args.tick
+      node_stretches setting sub clock past c.args.i node c.requires.scene.nodes is c.begins-begins.result c.last.result c.rest.result c.rest.result c.args.tick
       (omega arith)
       (c.rest.ensures.goes setting sub past first filled c.args.i (work_at setting c.args.i node) refl long stands begun part_is (gave ∙ sym c.is_some-gave.ensures)
       (λ yes through. are (sym c.is_some-gave.ensures ∙ yes) through))

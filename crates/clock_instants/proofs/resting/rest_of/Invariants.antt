@@ -2,29 +2,29 @@ use Rattle.std.proofs.Common.{◌≡◌, ◌<◌, ◌≤◌, ◌-◌, ℕ, List,
 use Rattle.frame_core.specs.Slots.{Slot}
 use Rattle.stream_meaning.specs.Instants.{Setting, Moment}
 use Rattle.clock_instants.specs.Held.{AllAsk, AllPassOn}
-use Rattle.clock_instants.specs.Nodes.{lies_at}
+use Rattle.clock_nodes.specs.Nodes.{lies_at}
 use Rattle.clock_instants.specs.Stretches.{AllLieAhead, IsBehind}
-use Rattle.clock_instants.specs.States.{over}
+use Rattle.clock_nodes.specs.States.{over}
 use Rattle.clock_instants.proofs.Stretched.{GoOn}
 use Rattle.clock_instants.proofs.resting.rest_of.Given as goal
 
 abbrev pub invariant-loop-i : goal.invariant-loop-i
 invariant-loop-i l = record {
-  high : l.i ≤ length l.shape.clocks.now;
-  own : l.i < length l.shape.clocks.now → lies_at l.shape.clocks.now l.fn.clock l.i ≡ true;
+  high : l.i ≤ length l.scene.clocks.now;
+  own : l.i < length l.scene.clocks.now → lies_at l.scene.clocks.now l.fn.clock l.i ≡ true;
   within : l.rest ≤ l.most;
   later : l.rest ≤ l.fn.time.rate;
-  ahead : AllLieAhead l.shape.library.now l.shape.clocks.now l.fn.clock l.held l.states l.i l.rest;
-  through : AllPassOn l.shape.clocks.now l.fn.clock l.held l.states l.rests l.i l.rest;
+  ahead : AllLieAhead l.scene.library.now l.scene.clocks.now l.fn.clock l.held l.states l.i l.rest;
+  through : AllPassOn l.scene.clocks.now l.fn.clock l.held l.states l.rests l.i l.rest;
   done : (other : Setting) (sub : ℕ → ℕ → List Slot) (past : List Moment) (filled : ℕ → ℕ) →
-      let setting = over l.shape.plan.now l.shape.library.now l.shape.clocks.now other in
+      let setting = over l.scene.plan.now l.scene.library.now l.scene.clocks.now other in
       IsBehind setting sub l.fn.clock past filled l.fn.time l.parts l.held l.states l.rests →
       GoOn setting sub l.fn.clock past l.i l.rest;
   asks : (other : Setting) (sub : ℕ → ℕ → List Slot) (past : List Moment) (filled : ℕ → ℕ) →
-      let setting = over l.shape.plan.now l.shape.library.now l.shape.clocks.now other in
+      let setting = over l.scene.plan.now l.scene.library.now l.scene.clocks.now other in
       IsBehind setting sub l.fn.clock past filled l.fn.time l.parts l.held l.states l.rests →
       AllAsk setting sub l.fn.clock past filled l.states l.i l.rest;
 }
 
 abbrev pub decreases-loop-i : goal.decreases-loop-i
-decreases-loop-i l = length l.shape.clocks.now - l.i
+decreases-loop-i l = length l.scene.clocks.now - l.i

@@ -8,7 +8,7 @@ use Rattle.clock_instants.proofs.takes.take_at.Goals as goal
 
 pub take-requires : goal.take-requires
 take-requires g c =
-    let found : slice_get c.args.shape.now.plan.now.nodes c.args.i ≡ Some c.index-as_slice-i.result =
+    let found : slice_get c.args.scene.now.plan.now.nodes c.args.i ≡ Some c.index-as_slice-i.result =
     slice_get_read _ _ _ _ refl c.requires.within (c.index-as_slice-i.is ∙ ap (λ nodes. get_or nodes c.args.i c.index-as_slice-i.result) c.as_slice.ensures) in
     c.requires.readers.each c.args.i c.in-Some.buffer c.index-as_slice-i.result found (ap (λ (n : Node). n.op) c.index-as_slice-i.is ∙ c.in-Some.ensures.reads)
 
@@ -20,30 +20,30 @@ returns-in_ok-take-in-Some-clause-fits g c node found fits = c.take.ensures.fits
 
 pub returns-in_err-take-in-Some-clause-stopped : goal.returns-in_err-take-in-Some-clause-stopped
 returns-in_err-take-in-Some-clause-stopped g c =
-    let found : slice_get c.args.shape.now.plan.now.nodes c.args.i ≡ Some c.index-as_slice-i.result =
+    let found : slice_get c.args.scene.now.plan.now.nodes c.args.i ≡ Some c.index-as_slice-i.result =
     slice_get_read _ _ _ _ refl c.requires.within (c.index-as_slice-i.is ∙ ap (λ nodes. get_or nodes c.args.i c.index-as_slice-i.result) c.as_slice.ensures) in
-    on_err c.from_residual.result (node_some g.T.Taps.stands c.args.shape.now.plan.now c.args.shape.now.library.now c.args.shape.now.clocks.now c.args.i c.in-Some.buffer
+    on_err c.from_residual.result (node_some g.T.Taps.stands c.args.scene.now.plan.now c.args.scene.now.library.now c.args.scene.now.clocks.now c.args.i c.in-Some.buffer
     (λ node at. let one : Some c.index-as_slice-i.result ≡ Some node = sym found ∙ at in let same : c.index-as_slice-i.result ≡ node = cc in ap (λ (n : Node). n.op) (sym same ∙ c.index-as_slice-i.is) ∙ c.in-Some.ensures.reads)
     c.args.state.now c.args.taps.now c.take.new.taps c.in_err-take-in-Some.ensures.stopped)
 
 pub returns-in_ok-take-in-Some-clause-begun : goal.returns-in_ok-take-in-Some-clause-begun
 returns-in_ok-take-in-Some-clause-begun g c =
-    let found : slice_get c.args.shape.now.plan.now.nodes c.args.i ≡ Some c.index-as_slice-i.result =
+    let found : slice_get c.args.scene.now.plan.now.nodes c.args.i ≡ Some c.index-as_slice-i.result =
     slice_get_read _ _ _ _ refl c.requires.within (c.index-as_slice-i.is ∙ ap (λ nodes. get_or nodes c.args.i c.index-as_slice-i.result) c.as_slice.ensures) in
-    node_reader g.T.Taps.stands c.args.shape.now.plan.now c.args.shape.now.library.now c.args.shape.now.clocks.now c.args.i c.in-Some.buffer
+    node_reader g.T.Taps.stands c.args.scene.now.plan.now c.args.scene.now.library.now c.args.scene.now.clocks.now c.args.i c.in-Some.buffer
     (λ node at. let one : Some c.index-as_slice-i.result ≡ Some node = sym found ∙ at in let same : c.index-as_slice-i.result ≡ node = cc in ap (λ (n : Node). n.op) (sym same ∙ c.index-as_slice-i.is) ∙ c.in-Some.ensures.reads)
     c.args.state.now c.args.taps.now c.take.new.taps c.take.new.self c.in_ok-take-in-Some.ensures.took
 
 pub returns-in-None-clause-begun : goal.returns-in-None-clause-begun
 returns-in-None-clause-begun g c =
-    let found : slice_get c.args.shape.now.plan.now.nodes c.args.i ≡ Some c.index-as_slice-i.result =
+    let found : slice_get c.args.scene.now.plan.now.nodes c.args.i ≡ Some c.index-as_slice-i.result =
     slice_get_read _ _ _ _ refl c.requires.within (c.index-as_slice-i.is ∙ ap (λ nodes. get_or nodes c.args.i c.index-as_slice-i.result) c.as_slice.ensures) in
-    node_other g.T.Taps.stands c.args.shape.now.plan.now c.args.shape.now.library.now c.args.shape.now.clocks.now c.args.i c.args.state.now c.args.taps.now
+    node_other g.T.Taps.stands c.args.scene.now.plan.now c.args.scene.now.library.now c.args.scene.now.clocks.now c.args.i c.args.state.now c.args.taps.now
     (λ node at. let one : Some c.index-as_slice-i.result ≡ Some node = sym found ∙ at in let same : c.index-as_slice-i.result ≡ node = cc in subst (λ (n : Node). IsNoReader n.op) (sym c.index-as_slice-i.is ∙ same) (c.in-None.ensures.none refl))
 
 pub returns-in_err-take-in-Some-clause-reads : goal.returns-in_err-take-in-Some-clause-reads
 returns-in_err-take-in-Some-clause-reads g c =
-    let found : slice_get c.args.shape.now.plan.now.nodes c.args.i ≡ Some c.index-as_slice-i.result =
+    let found : slice_get c.args.scene.now.plan.now.nodes c.args.i ≡ Some c.index-as_slice-i.result =
     slice_get_read _ _ _ _ refl c.requires.within (c.index-as_slice-i.is ∙ ap (λ nodes. get_or nodes c.args.i c.index-as_slice-i.result) c.as_slice.ensures) in
     on_err c.from_residual.result (record {
       buffer = c.in-Some.buffer;

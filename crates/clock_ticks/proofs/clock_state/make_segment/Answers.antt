@@ -3,7 +3,7 @@ use Rattle.stream_meaning.specs.Instants.{first_instants}
 use Rattle.stream_meaning.specs.Calls.{IsBegin, calls_of}
 use Rattle.node_states.specs.Times.{TimeStands}
 use Rattle.node_states.proofs.Chunks.{on_err}
-use Rattle.clock_instants.specs.States.{over}
+use Rattle.clock_nodes.specs.States.{over}
 use Rattle.clock_ticks.proofs.Segments.{segment_made}
 use Rattle.clock_ticks.proofs.clock_state.make_segment.Goals as goal
 
@@ -22,7 +22,7 @@ returns-in_err-make_instant-clause-broken g c =
       made = one.made;
       taps = one.taps;
       begins = λ setting sub n front meant has stand.
-          let S = over c.args.shape.now.plan.now c.args.shape.now.library.now c.args.shape.now.clocks.now setting in
+          let S = over c.args.scene.now.plan.now c.args.scene.now.library.now c.args.scene.now.clocks.now setting in
           subst (λ m. IsBegin one.made (calls_of S sub c.args.clock (first_instants S sub c.args.clock m))) stand.made
           (one.begins setting sub stand.rank stand.ran stand.fed front (record { ranks = stand.ranks; meaning = meant.meaning; down = meant.down; readers = meant.readers; roots = meant.roots }) has stand.stand stand.needed
           (subst (λ m. TimeStands setting.start m c.args.state.now.time) (sym stand.made) stand.time));

@@ -8,7 +8,7 @@ use Rattle.clock_ticks.proofs.engine.make_parts.Goals as goal
 
 pub returns-clause-parts : goal.returns-clause-parts
 returns-clause-parts c =
-    let S : Setting = record { plan = c.args.shape.plan.now; library = c.args.shape.library.now; clocks = c.args.shape.clocks.now; start = c.args.start.second; answers = λ buffer. [] } in
+    let S : Setting = record { plan = c.args.scene.plan.now; library = c.args.scene.library.now; clocks = c.args.scene.clocks.now; start = c.args.start.second; answers = λ buffer. [] } in
     record {
       plan = c.requires.plan;
       nodes = c.requires.plan.nodes;
@@ -30,12 +30,12 @@ returns-clause-parts c =
 
 pub returns-clause-stands : goal.returns-clause-stands
 returns-clause-stands c =
-    let S : Setting = record { plan = c.args.shape.plan.now; library = c.args.shape.library.now; clocks = c.args.shape.clocks.now; start = c.args.start.second; answers = λ buffer. [] } in
+    let S : Setting = record { plan = c.args.scene.plan.now; library = c.args.scene.library.now; clocks = c.args.scene.clocks.now; start = c.args.start.second; answers = λ buffer. [] } in
     record {
       made = refl;
       runs = refl;
       others = λ buffer unread. refl;
-      state = λ rest. new_stand (with_rest S (λ buffer. []) rest) c.args.clock _ (length c.args.shape.plan.now.nodes) _ (has_ranks c.args.shape.plan.now c.args.shape.clocks.now c.requires.clocks c.requires.in_clocks) (rank_low c.args.shape.plan.now c.args.shape.clocks.now c.requires.clocks c.requires.in_clocks) c.in_ok-clocks.ensures.states c.new-time.ensures.stands c.in_ok-clocks.ensures.times c.in_ok-clocks.ensures.none refl
+      state = λ rest. new_stand (with_rest S (λ buffer. []) rest) c.args.clock _ (length c.args.scene.plan.now.nodes) _ (has_ranks c.args.scene.plan.now c.args.scene.clocks.now c.requires.clocks c.requires.in_clocks) (rank_low c.args.scene.plan.now c.args.scene.clocks.now c.requires.clocks c.requires.in_clocks) c.in_ok-clocks.ensures.states c.new-time.ensures.stands c.in_ok-clocks.ensures.times c.in_ok-clocks.ensures.none refl
           c.in_ok-clocks.ensures.laned;
       gaps_are = λ rest k port at. (all_at (IsNewPort S) c.in_ok-ports.ports.items (c.in_ok-ports.ensures.new S) k port at).gaps;
       cues_are = λ new rest k port list at_port at_list. c.in_ok-cues.ensures.none k list at_list;

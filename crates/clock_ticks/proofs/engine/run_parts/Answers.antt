@@ -12,7 +12,7 @@ run_tick-requires-clause-makes g c = record {
   shape_is = record { nodes = c.requires.parts.plan.nodes; few = c.requires.parts.few; in_clocks = c.requires.parts.in_clocks };
   in_own = search rules;
   main = main_is c.args.parts.now.clock;
-  levels = has_levels c.args.parts.now.shape.plan.now c.args.parts.now.shape.clocks.now c.requires.parts.clocks c.requires.parts.in_clocks c.args.parts.now.clock;
+  levels = has_levels c.args.parts.now.scene.plan.now c.args.parts.now.scene.clocks.now c.requires.parts.clocks c.requires.parts.in_clocks c.args.parts.now.clock;
   state_is = c.requires.parts.state;
 }
 
@@ -23,10 +23,10 @@ run_tick-requires-clause-hearing g c = record {
   room = λ k d h.
       let within : k < length c.args.parts.now.ports.items = (let long = length-map c.args.parts.now.ports.items emptied in omega (arith, long, h)) in
       let room = c.requires.parts.rooms k d within in
-      subst (λ p. HasRoomLeft c.args.parts.now.shape.plan.now.frame p) (sym (get_or-map emptied c.args.parts.now.ports.items k d d within)) (omega (arith, room));
+      subst (λ p. HasRoomLeft c.args.parts.now.scene.plan.now.frame p) (sym (get_or-map emptied c.args.parts.now.ports.items k d d within)) (omega (arith, room));
   frames = c.requires.parts.frames;
   marks = c.requires.parts.lists;
-  late = (let bound = times_few c.args.parts.now.ticks c.args.parts.now.shape.plan.now.frame c.requires.few c.requires.parts.frame in omega (arith, bound, c.requires.parts.frame));
+  late = (let bound = times_few c.args.parts.now.ticks c.args.parts.now.scene.plan.now.frame c.requires.few c.requires.parts.frame in omega (arith, bound, c.requires.parts.frame));
 }
 
 pub run_tick-requires-clause-readers : goal.run_tick-requires-clause-readers

@@ -7,7 +7,7 @@ use Rattle.clock_ticks.proofs.outputs.port_of.Goals as goal
 
 pub returns-clause-new : goal.returns-clause-new
 returns-clause-new c =
-    let nodes = c.args.shape.now.plan.now.nodes in
+    let nodes = c.args.scene.now.plan.now.nodes in
     let within : c.args.node < length c.as_slice.result.now = subst (λ xs. c.args.node < length xs) (sym c.as_slice.ensures) c.requires.within in
     let read : slice_get nodes c.args.node ≡ Some c.index-as_slice-node.result =
     ap (λ xs. slice_get xs c.args.node) (sym c.as_slice.ensures) ∙ slice_get_read _ _ _ _ refl within c.index-as_slice-node.is in
@@ -16,6 +16,6 @@ returns-clause-new c =
     λ other. record {
       kind = ap (λ (node : Node). node.kind) (sym c.index-as_slice-node.is) ∙ sym kind;
       wide = c.requires.width other;
-      room = (let block = ap (λ n. c.args.shape.now.plan.now.frame * n) c.block_size.ensures in let room = ap (λ p. p.room) c.in_ok-piece.ensures in omega (arith, block, room));
+      room = (let block = ap (λ n. c.args.scene.now.plan.now.frame * n) c.block_size.ensures in let room = ap (λ p. p.room) c.in_ok-piece.ensures in omega (arith, block, room));
       gaps = refl;
     }

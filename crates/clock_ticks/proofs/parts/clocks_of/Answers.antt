@@ -7,8 +7,8 @@ pub returns-clause-clocks : goal.returns-clause-clocks
 returns-clause-clocks c = record {
   fit = record {
     size = c.in_ok-states.ensures.size;
-    each = λ i node state found stored. (c.in_ok-states.ensures.each i node state found stored).fits c.args.shape.now.library.now c.requires.library
-        (let within = slice_get_within c.args.shape.now.plan.now.nodes i node found in omega (arith, within, c.requires.leaves));
+    each = λ i node state found stored. (c.in_ok-states.ensures.each i node state found stored).fits c.args.scene.now.library.now c.requires.library
+        (let within = slice_get_within c.args.scene.now.plan.now.nodes i node found in omega (arith, within, c.requires.leaves));
   };
   in_times = search rules;
   chains = c.in_ok-nodes.ensures;

@@ -2,8 +2,8 @@ use Rattle.std.proofs.Common.{◌<◌, ◌∙◌, false, length, get_or, set, ar
 use Rattle.std.proofs.lemmas.List.{get_or-set_other, get_or-set_same, get_or_default, length-set}
 use Rattle.clock_infer.specs.declared.clock_map.NodeClock.TheVariants.{Main}
 use Rattle.stream_meaning.specs.Instants.{is_root}
-use Rattle.clock_instants.specs.States.{over}
-use Rattle.clock_instants.proofs.Places.{below_or_same}
+use Rattle.clock_nodes.specs.States.{over}
+use Rattle.clock_nodes.proofs.Places.{below_or_same}
 use Rattle.clock_ticks.proofs.parts.keep_roots.Goals as goal
 
 pub is_own_root-requires : goal.is_own_root-requires
@@ -14,7 +14,7 @@ is_own_root-requires c =
 pub loop-i-preserved : goal.loop-i-preserved
 loop-i-preserved c =
     let within : c.loop-i.i < length c.loop-i.own = omega (arith, c.loop-i-test.true, c.loop-i.invariant.size, c.requires.in_clocks) in
-    let here : c.loop-i.i < length c.args.shape.now.clocks.now = omega (arith, c.loop-i-test.true) in
+    let here : c.loop-i.i < length c.args.scene.now.clocks.now = omega (arith, c.loop-i-test.true) in
     record {
       size = length-set c.loop-i.own c.loop-i.i c.is_own_root.result ∙ c.loop-i.invariant.size;
       done = λ j below other. elim (below_or_same j c.loop-i.i below) [
@@ -22,8 +22,8 @@ loop-i-preserved c =
         | inr same ↦ ap (λ k. get_or (set c.loop-i.own c.loop-i.i c.is_own_root.result) k false) same
             ∙ get_or-set_same c.loop-i.own c.loop-i.i c.is_own_root.result false within
             ∙ c.is_own_root.ensures other
-            ∙ ap (λ of. is_root (over c.args.shape.now.plan.now c.args.shape.now.library.now c.args.shape.now.clocks.now other) of c.loop-i.i) (sym (get_or_default _ c.loop-i.i (Main 0) _ here))
-            ∙ ap (λ k. is_root (over c.args.shape.now.plan.now c.args.shape.now.library.now c.args.shape.now.clocks.now other) (get_or c.args.shape.now.clocks.now k (Main 0)) k) (sym same)
+            ∙ ap (λ of. is_root (over c.args.scene.now.plan.now c.args.scene.now.library.now c.args.scene.now.clocks.now other) of c.loop-i.i) (sym (get_or_default _ c.loop-i.i (Main 0) _ here))
+            ∙ ap (λ k. is_root (over c.args.scene.now.plan.now c.args.scene.now.library.now c.args.scene.now.clocks.now other) (get_or c.args.scene.now.clocks.now k (Main 0)) k) (sym same)
       ];
       left = λ j high. get_or-set_other c.loop-i.own c.loop-i.i j c.is_own_root.result false (λ e. omega (arith, high, e)) ∙ c.loop-i.invariant.left j (omega (arith, high));
     }

@@ -16,9 +16,9 @@ pub loop-instant-init : goal.loop-instant-init
 loop-instant-init g c = record {
   low = omega arith;
   state = c.requires.makes.state_is;
-  room = (let all : c.args.shape.now.plan.now.frame ≡ c.args.shape.now.plan.now.frame - 0 = omega arith in
+  room = (let all : c.args.scene.now.plan.now.frame ≡ c.args.scene.now.plan.now.frame - 0 = omega arith in
       subst (λ n. AllHaveRoomLeft n c.begin_tick.new.ports.items) all
-      (subst (λ ports. AllHaveRoomLeft c.args.shape.now.plan.now.frame ports) (sym c.begin_tick.ensures) c.requires.hearing.room));
+      (subst (λ ports. AllHaveRoomLeft c.args.scene.now.plan.now.frame ports) (sym c.begin_tick.ensures) c.requires.hearing.room));
   frames = c.requires.hearing.frames;
   keys = refl;
   buffers = refl;
@@ -30,36 +30,36 @@ loop-instant-init g c = record {
 pub hear_all-requires-clause-within : goal.hear_all-requires-clause-within
 hear_all-requires-clause-within g c =
     subst (λ n. All (λ port. port.node < n) c.loop-instant.ports.items) (sym c.len-nodes.ensures)
-    (ports_within (length c.args.shape.now.plan.now.nodes) c.loop-instant.invariant.heard.slots c.args.ports.now.items c.loop-instant.ports.items c.loop-instant.invariant.heard.ports_are c.requires.hearing.heard)
+    (ports_within (length c.args.scene.now.plan.now.nodes) c.loop-instant.invariant.heard.slots c.args.ports.now.items c.loop-instant.ports.items c.loop-instant.invariant.heard.ports_are c.requires.hearing.heard)
 
 pub hear_all-requires-clause-room : goal.hear_all-requires-clause-room
 hear_all-requires-clause-room g c =
     let many = c.in_ok-many.many in
-    let short : many ≤ c.args.shape.now.plan.now.frame - c.loop-instant.instant - 1 = omega (arith, c.in_ok-many.ensures.within, c.min-most.ensures) in
-    let less : suc many ≤ c.args.shape.now.plan.now.frame - c.loop-instant.instant = omega (arith, short, c.loop-instant-test.true) in
-    room_less (suc many) (c.args.shape.now.plan.now.frame - c.loop-instant.instant) c.loop-instant.ports.items less c.loop-instant.invariant.room
+    let short : many ≤ c.args.scene.now.plan.now.frame - c.loop-instant.instant - 1 = omega (arith, c.in_ok-many.ensures.within, c.min-most.ensures) in
+    let less : suc many ≤ c.args.scene.now.plan.now.frame - c.loop-instant.instant = omega (arith, short, c.loop-instant-test.true) in
+    room_less (suc many) (c.args.scene.now.plan.now.frame - c.loop-instant.instant) c.loop-instant.ports.items less c.loop-instant.invariant.room
 
 pub feed_all-requires-clause-within : goal.feed_all-requires-clause-within
 feed_all-requires-clause-within g c =
     subst (λ n. All (λ feed. feed.node < n) c.loop-instant.feeds.items) (sym c.len-nodes.ensures)
-    (feeds_within (length c.args.shape.now.plan.now.nodes) c.loop-instant.invariant.heard.slots c.args.feeds.now.items c.loop-instant.feeds.items c.loop-instant.invariant.heard.feeds_are c.requires.hearing.fed)
+    (feeds_within (length c.args.scene.now.plan.now.nodes) c.loop-instant.invariant.heard.slots c.args.feeds.now.items c.loop-instant.feeds.items c.loop-instant.invariant.heard.feeds_are c.requires.hearing.fed)
 
 pub feed_all-requires-clause-there : goal.feed_all-requires-clause-there
 feed_all-requires-clause-there g c =
     let many = c.in_ok-many.many in
-    let short : many ≤ c.args.shape.now.plan.now.frame - c.loop-instant.instant - 1 = omega (arith, c.in_ok-many.ensures.within, c.min-most.ensures) in
-    all_low c.args.shape.now.plan.now.frame (c.loop-instant.instant + suc many) c.loop-instant.feeds.items (omega (arith, short, c.loop-instant-test.true)) c.loop-instant.invariant.frames
+    let short : many ≤ c.args.scene.now.plan.now.frame - c.loop-instant.instant - 1 = omega (arith, c.in_ok-many.ensures.within, c.min-most.ensures) in
+    all_low c.args.scene.now.plan.now.frame (c.loop-instant.instant + suc many) c.loop-instant.feeds.items (omega (arith, short, c.loop-instant-test.true)) c.loop-instant.invariant.frames
 
 pub feed_all-requires-clause-fits : goal.feed_all-requires-clause-fits
 feed_all-requires-clause-fits g c =
     let many = c.in_ok-many.many in
-    let short : many ≤ c.args.shape.now.plan.now.frame - c.loop-instant.instant - 1 = omega (arith, c.in_ok-many.ensures.within, c.min-most.ensures) in
-    let fits : Fits w32 c.args.shape.now.plan.now.frame = search rules in
+    let short : many ≤ c.args.scene.now.plan.now.frame - c.loop-instant.instant - 1 = omega (arith, c.in_ok-many.ensures.within, c.min-most.ensures) in
+    let fits : Fits w32 c.args.scene.now.plan.now.frame = search rules in
     omega (arith, short, c.loop-instant-test.true, fits)
 
 pub loop-instant-preserved : goal.loop-instant-preserved
 loop-instant-preserved g c =
-    let frame = c.args.shape.now.plan.now.frame in
+    let frame = c.args.scene.now.plan.now.frame in
     let many = c.in_ok-many.many in
     let instant = c.loop-instant.instant in
     let short : many ≤ frame - instant - 1 = omega (arith, c.in_ok-many.ensures.within, c.min-most.ensures) in
@@ -88,13 +88,13 @@ loop-instant-preserved g c =
 
 pub returns-in_err-many-clause-stopped : goal.returns-in_err-many-clause-stopped
 returns-in_err-many-clause-stopped g c =
-    on_err c.from_residual.result (heard_broken g.T.Taps.stands _ _ _ _ _ c.loop-instant.instant c.args.shape.now.plan.now.frame _ _ _ c.loop-instant-test.true c.in_err-many.ensures.broken refl refl
+    on_err c.from_residual.result (heard_broken g.T.Taps.stands _ _ _ _ _ c.loop-instant.instant c.args.scene.now.plan.now.frame _ _ _ c.loop-instant-test.true c.in_err-many.ensures.broken refl refl
     (λ k list at. its_port c.args.cues.now.lists.items c.args.ports.now.items c.requires.hearing.marks k list at) c.loop-instant.invariant.heard)
 
 pub returns-clause-heard : goal.returns-clause-heard
 returns-clause-heard g c =
-    let all : c.loop-instant.instant ≡ c.args.shape.now.plan.now.frame = omega (arith, c.loop-instant.invariant.low, c.loop-instant-test.false) in
-    subst (λ n. Heard g.T.Taps.stands c.args.shape.now.plan.now c.args.shape.now.library.now c.args.shape.now.clocks.now c.args.clock c.args.own.now n
+    let all : c.loop-instant.instant ≡ c.args.scene.now.plan.now.frame = omega (arith, c.loop-instant.invariant.low, c.loop-instant-test.false) in
+    subst (λ n. Heard g.T.Taps.stands c.args.scene.now.plan.now c.args.scene.now.library.now c.args.scene.now.clocks.now c.args.clock c.args.own.now n
     (record { state = c.args.state.now; ports = c.args.ports.now.items; feeds = c.args.feeds.now.items; cues = c.args.cues.now; start = c.args.start; taps = c.args.taps.now })
     (record { state = c.loop-instant.state; ports = c.loop-instant.ports.items; feeds = c.loop-instant.feeds.items; cues = c.loop-instant.cues; start = c.args.start; taps = c.loop-instant.taps })) all c.loop-instant.invariant.heard
 
@@ -112,7 +112,7 @@ mark_all-requires g c =
 
 pub returns-in_err-mark_all-clause-stopped : goal.returns-in_err-mark_all-clause-stopped
 returns-in_err-mark_all-clause-stopped g c =
-    let frame = c.args.shape.now.plan.now.frame in
+    let frame = c.args.scene.now.plan.now.frame in
     let many = c.in_ok-many.many in
     let instant = c.loop-instant.instant in
     let short : many ≤ frame - instant - 1 = omega (arith, c.in_ok-many.ensures.within, c.min-most.ensures) in
@@ -129,8 +129,8 @@ pub returns-in_err-mark_all-clause-frames : goal.returns-in_err-mark_all-clause-
 returns-in_err-mark_all-clause-frames g c =
     let slots : ℕ → List Slot = segment_of c.make_segment.new.state.clocks c.in_ok-many.many in
     let filled : c.feed_all.new.feeds.items ≡ map (λ (feed : FeedPort). with_slots_from c.loop-instant.instant (slots feed.node) feed) c.loop-instant.feeds.items = c.feed_all.ensures in
-    subst (λ feeds. All (λ feed. length feed.frame ≡ c.args.shape.now.plan.now.frame) feeds) (sym filled)
-    (frames_filled c.args.shape.now.plan.now.frame c.loop-instant.instant (λ feed. slots feed.node) c.loop-instant.feeds.items c.loop-instant.invariant.frames)
+    subst (λ feeds. All (λ feed. length feed.frame ≡ c.args.scene.now.plan.now.frame) feeds) (sym filled)
+    (frames_filled c.args.scene.now.plan.now.frame c.loop-instant.instant (λ feed. slots feed.node) c.loop-instant.feeds.items c.loop-instant.invariant.frames)
 
 pub returns-in_err-mark_all-clause-keys : goal.returns-in_err-mark_all-clause-keys
 returns-in_err-mark_all-clause-keys g c =

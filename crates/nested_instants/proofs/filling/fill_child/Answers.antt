@@ -5,8 +5,8 @@ use Rattle.std.proofs.Math.ListN.{length-set}
 use Rattle.stream_meaning.specs.Instants.{crossfaded, part_at}
 use Rattle.node_states.specs.States.{StateStands, left}
 use Rattle.node_states.specs.Times.{TimeStands}
-use Rattle.clock_instants.proofs.Going.{fit_set}
-use Rattle.clock_instants.proofs.Places.{same_or_other, slice_get-set_other, slice_get-set_same}
+use Rattle.clock_nodes.proofs.Going.{fit_set}
+use Rattle.clock_nodes.proofs.Places.{same_or_other, slice_get-set_other, slice_get-set_same}
 use Rattle.nested_instants.specs.Clocks.{clock_at}
 use Rattle.nested_instants.proofs.Equal.{not_same}
 use Rattle.nested_instants.proofs.Restful.{resting_own}
@@ -26,10 +26,10 @@ returns-clause-clocks c =
       latest = c.requires.clocks.latest;
       room = c.requires.clocks.room;
       stretch_room = c.requires.clocks.stretch_room;
-      resting = resting_own c.args.shape.now.library.now c.args.shape.now.clocks.now c.args.clocks.now _ c.requires.clocks.resting (clock_at c.args.shape.now.clocks.now c.args.k) c.requires.idle
+      resting = resting_own c.args.scene.now.library.now c.args.scene.now.clocks.now c.args.clocks.now _ c.requires.clocks.resting (clock_at c.args.scene.now.clocks.now c.args.k) c.requires.idle
           (λ i. refl)
           (λ i outside. slice_get-set_other c.args.clocks.now.states.items c.args.k i c.feed.new.self
-          (λ e. not_same (clock_at c.args.shape.now.clocks.now i) (clock_at c.args.shape.now.clocks.now c.args.k) outside (ap (clock_at c.args.shape.now.clocks.now) (sym e))))
+          (λ e. not_same (clock_at c.args.scene.now.clocks.now i) (clock_at c.args.scene.now.clocks.now c.args.k) outside (ap (clock_at c.args.scene.now.clocks.now) (sym e))))
           (λ i outside. refl);
       rates = λ j time stored. elim (same_or_other c.args.k j) [
         | inl same ↦ (let put : Some c.next.result ≡ Some time = sym (slice_get-set_same c.args.clocks.now.times.items c.args.k c.next.result in_times)

@@ -8,8 +8,8 @@ use Rattle.stream_meaning.specs.Instants.{crossfaded, part_at}
 use Rattle.op_mix.specs.Stretches.{samples_of}
 use Rattle.node_states.specs.States.{StateStands, left, room}
 use Rattle.node_states.specs.Times.{TimeStands}
-use Rattle.clock_instants.proofs.Going.{fit_set}
-use Rattle.clock_instants.proofs.Places.{same_or_other, slice_get-set_other, slice_get-set_same}
+use Rattle.clock_nodes.proofs.Going.{fit_set}
+use Rattle.clock_nodes.proofs.Places.{same_or_other, slice_get-set_other, slice_get-set_same}
 use Rattle.nested_instants.specs.Clocks.{clock_at}
 use Rattle.nested_instants.proofs.Equal.{not_same}
 use Rattle.nested_instants.proofs.Restful.{resting_own}
@@ -43,10 +43,10 @@ returns-clause-clocks c =
       latest = c.requires.clocks.latest;
       room = c.requires.clocks.room;
       stretch_room = c.requires.clocks.stretch_room;
-      resting = resting_own c.args.shape.now.library.now c.args.shape.now.clocks.now c.args.clocks.now _ c.requires.clocks.resting (clock_at c.args.shape.now.clocks.now c.args.k) c.requires.idle
+      resting = resting_own c.args.scene.now.library.now c.args.scene.now.clocks.now c.args.clocks.now _ c.requires.clocks.resting (clock_at c.args.scene.now.clocks.now c.args.k) c.requires.idle
           (λ i. refl)
           (λ i outside. slice_get-set_other c.args.clocks.now.states.items c.args.k i c.fill_samples.new.state
-          (λ e. not_same (clock_at c.args.shape.now.clocks.now i) (clock_at c.args.shape.now.clocks.now c.args.k) outside (ap (clock_at c.args.shape.now.clocks.now) (sym e))))
+          (λ e. not_same (clock_at c.args.scene.now.clocks.now i) (clock_at c.args.scene.now.clocks.now c.args.k) outside (ap (clock_at c.args.scene.now.clocks.now) (sym e))))
           (λ i outside. refl);
       rates = λ j time stored. elim (same_or_other c.args.k j) [
         | inl same ↦ (let put : Some c.later.result ≡ Some time = sym (slice_get-set_same c.args.clocks.now.times.items c.args.k c.later.result in_times)
@@ -86,8 +86,8 @@ returns-clause-filled c setting sub past filled work slots before after was is s
     let old : c.index_mut.result.now ≡ before = cc in
     let two : Some c.fill_samples.new.state ≡ Some after = sym (slice_get-set_same c.args.clocks.now.states.items c.args.k c.fill_samples.new.state in_states) ∙ is in
     let new : c.fill_samples.new.state ≡ after = cc in
-    let child : crossfaded c.args.shape.now.plan.now.nodes c.args.k ≡ c.child_of-child.result = sym (c.child_of-child.ensures ∙ ap (λ ns. crossfaded ns c.args.k) c.as_slice.ensures) in
-    let title : title_of (part_at c.args.clocks.now.latest.parts.items (crossfaded c.args.shape.now.plan.now.nodes c.args.k)).slot ≡ c.title_of-title.result =
+    let child : crossfaded c.args.scene.now.plan.now.nodes c.args.k ≡ c.child_of-child.result = sym (c.child_of-child.ensures ∙ ap (λ ns. crossfaded ns c.args.k) c.as_slice.ensures) in
+    let title : title_of (part_at c.args.clocks.now.latest.parts.items (crossfaded c.args.scene.now.plan.now.nodes c.args.k)).slot ≡ c.title_of-title.result =
     ap (λ (i : ℕ). title_of (part_at c.args.clocks.now.latest.parts.items i).slot) child ∙ sym (c.title_of-title.ensures ∙ ap title_of (c.slot_of.ensures ∙ ap (λ ps. (part_at ps c.child_of-child.result).slot) c.deref.ensures.value)) in
     subst (λ s. StateStands setting sub past (filled + c.args.many) c.args.k work s) new
     (c.fill_samples.ensures.filled setting sub past filled c.args.k work slots (subst (λ s. StateStands setting sub past filled c.args.k work s) (sym old) stands)

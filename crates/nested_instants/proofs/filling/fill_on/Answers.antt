@@ -4,7 +4,7 @@ use Rattle.clock_infer.specs.declared.clock_map.NodeClock.TheVariants.{Main, Sub
 use Rattle.stream_meaning.specs.Instants.{first_instants}
 use Rattle.stream_meaning.specs.Calls.{after_calls}
 use Rattle.node_states.specs.States.{left, room}
-use Rattle.clock_instants.specs.States.{over}
+use Rattle.clock_nodes.specs.States.{over}
 use Rattle.clock_instants.proofs.Ahead.{ahead_less, through_less}
 use Rattle.nested_instants.specs.Clocks.{clock_at, is_in, is_node}
 use Rattle.nested_instants.proofs.Behind.{are_behind}
@@ -22,54 +22,54 @@ keep-requires-clause-ranks c = (c.requires.levels.rank, c.requires.levels.ranks)
 
 pub returns-then-many-eq0-clause-left : goal.returns-then-many-eq0-clause-left
 returns-then-many-eq0-clause-left c rank ranks =
-    left_kept c.args.shape.now.clocks.now rank (rank (get_or c.args.shape.now.clocks.now c.args.k (Main 0))) c.args.k c.args.clocks.now c.keep.new.clocks c.keep.ensures.states c.keep.ensures.times c.keep.ensures.held c.keep.ensures.others c.keep.ensures.left c.keep.ensures.right
+    left_kept c.args.scene.now.clocks.now rank (rank (get_or c.args.scene.now.clocks.now c.args.k (Main 0))) c.args.k c.args.clocks.now c.keep.new.clocks c.keep.ensures.states c.keep.ensures.times c.keep.ensures.held c.keep.ensures.others c.keep.ensures.left c.keep.ensures.right
 
 pub returns-then-many-eq0-clause-filled : goal.returns-then-many-eq0-clause-filled
 returns-then-many-eq0-clause-filled c = record {
   filled = λ other sub rank ran filled front more own n world fades before at parts held time.
-      let S = over c.args.shape.now.plan.now c.args.shape.now.library.now c.args.shape.now.clocks.now other in
-      filled_kept S sub rank world.ranks c.requires.shape.in_clocks c.args.k c.requires.within ran filled front more c.args.clocks.now c.keep.new.clocks c.goes_for-rest.result
+      let S = over c.args.scene.now.plan.now c.args.scene.now.library.now c.args.scene.now.clocks.now other in
+      filled_kept S sub rank world.ranks c.requires.scene.in_clocks c.args.k c.requires.within ran filled front more c.args.clocks.now c.keep.new.clocks c.goes_for-rest.result
       c.keep.ensures.states c.keep.ensures.times c.keep.ensures.held c.keep.ensures.kept c.keep.ensures.others c.keep.ensures.left c.keep.ensures.right before
       (λ some. record {
         n = n;
         at = at;
         gave = child_gave S sub c.args.k (first_instants S sub (Sub c.args.k) n) own c.args.clocks.now.latest.parts.items world.roots parts (c.goes_for-rest.ensures.gave some);
         goes = c.goes_for-rest.ensures.goes other sub (first_instants S sub (Sub c.args.k) n) before.reached.filled_now
-            (are_behind S sub rank (Sub c.args.k) n before.reached.ran_now before.reached.filled_now (after_calls front more) c.args.clocks.now c.args.time world.ranks c.requires.shape.in_clocks c.requires.shape.nodes world.meaning
-            (stand_under S sub rank world.ranks c.requires.shape.in_clocks c.args.k c.requires.within ran filled front more c.args.clocks.now before)
-            (needed_under S sub rank world.ranks c.requires.shape.in_clocks c.args.k c.requires.within ran filled front more c.args.clocks.now before) at parts held time) some;
+            (are_behind S sub rank (Sub c.args.k) n before.reached.ran_now before.reached.filled_now (after_calls front more) c.args.clocks.now c.args.time world.ranks c.requires.scene.in_clocks c.requires.scene.nodes world.meaning
+            (stand_under S sub rank world.ranks c.requires.scene.in_clocks c.args.k c.requires.within ran filled front more c.args.clocks.now before)
+            (needed_under S sub rank world.ranks c.requires.scene.in_clocks c.args.k c.requires.within ran filled front more c.args.clocks.now before) at parts held time) some;
       });
 }
 
 pub run_clock-requires-clause-levels : goal.run_clock-requires-clause-levels
 run_clock-requires-clause-levels c =
-    let in_clocks : c.args.k < length c.args.shape.now.clocks.now = omega (arith, c.requires.within, c.requires.shape.in_clocks) in
-    levels_under c.args.shape.now.clocks.now c.args.k c.args.levels in_clocks c.requires.levels
+    let in_clocks : c.args.k < length c.args.scene.now.clocks.now = omega (arith, c.requires.within, c.requires.scene.in_clocks) in
+    levels_under c.args.scene.now.clocks.now c.args.k c.args.levels in_clocks c.requires.levels
 
 pub run_clock-requires-clause-idle : goal.run_clock-requires-clause-idle
 run_clock-requires-clause-idle c = sub_idle c.args.k c.args.clocks.now c.requires.none
 
 pub returns-clause-left : goal.returns-clause-left
 returns-clause-left c rank ranks =
-    let in_clocks : c.args.k < length c.args.shape.now.clocks.now = omega (arith, c.requires.within, c.requires.shape.in_clocks) in
-    left_filled c.args.shape.now.clocks.now rank c.args.k c.args.clocks.now c.args.clocks.now c.run_clock.new.clocks c.fill_lane.new.clocks ranks in_clocks
-    (left_none c.args.shape.now.clocks.now rank (rank (get_or c.args.shape.now.clocks.now c.args.k (Main 0))) (is_node c.args.k) c.args.clocks.now)
+    let in_clocks : c.args.k < length c.args.scene.now.clocks.now = omega (arith, c.requires.within, c.requires.scene.in_clocks) in
+    left_filled c.args.scene.now.clocks.now rank c.args.k c.args.clocks.now c.args.clocks.now c.run_clock.new.clocks c.fill_lane.new.clocks ranks in_clocks
+    (left_none c.args.scene.now.clocks.now rank (rank (get_or c.args.scene.now.clocks.now c.args.k (Main 0))) (is_node c.args.k) c.args.clocks.now)
     (c.run_clock.ensures.left rank ranks)
     c.fill_lane.ensures.states c.fill_lane.ensures.times c.fill_lane.ensures.stretch_room
 
 pub fill_lane-requires-clause-idle : goal.fill_lane-requires-clause-idle
 fill_lane-requires-clause-idle c =
-    idle_left c.args.shape.now.clocks.now c.requires.levels.rank (clock_at c.args.shape.now.clocks.now c.args.k) (is_in c.args.shape.now.clocks.now (Sub c.args.k)) (c.requires.levels.rank (Sub c.args.k))
-    c.args.clocks.now c.run_clock.new.clocks (length c.args.shape.now.plan.now.nodes) c.requires.levels.ranks (sym c.requires.shape.in_clocks) c.run_clock.ensures.clocks.stretch_room.in_rests
-    (let in_clocks : c.args.k < length c.args.shape.now.clocks.now = omega (arith, c.requires.within, c.requires.shape.in_clocks) in let up = c.requires.levels.ranks.deeper c.args.k in_clocks in omega (arith, up))
-    (λ i inside. let in_clocks : c.args.k < length c.args.shape.now.clocks.now = omega (arith, c.requires.within, c.requires.shape.in_clocks) in let up = c.requires.levels.ranks.deeper c.args.k in_clocks in
-    let e : c.requires.levels.rank (clock_at c.args.shape.now.clocks.now i) ≡ c.requires.levels.rank (Sub c.args.k) = ap c.requires.levels.rank inside in omega (arith, e, up))
+    idle_left c.args.scene.now.clocks.now c.requires.levels.rank (clock_at c.args.scene.now.clocks.now c.args.k) (is_in c.args.scene.now.clocks.now (Sub c.args.k)) (c.requires.levels.rank (Sub c.args.k))
+    c.args.clocks.now c.run_clock.new.clocks (length c.args.scene.now.plan.now.nodes) c.requires.levels.ranks (sym c.requires.scene.in_clocks) c.run_clock.ensures.clocks.stretch_room.in_rests
+    (let in_clocks : c.args.k < length c.args.scene.now.clocks.now = omega (arith, c.requires.within, c.requires.scene.in_clocks) in let up = c.requires.levels.ranks.deeper c.args.k in_clocks in omega (arith, up))
+    (λ i inside. let in_clocks : c.args.k < length c.args.scene.now.clocks.now = omega (arith, c.requires.within, c.requires.scene.in_clocks) in let up = c.requires.levels.ranks.deeper c.args.k in_clocks in
+    let e : c.requires.levels.rank (clock_at c.args.scene.now.clocks.now i) ≡ c.requires.levels.rank (Sub c.args.k) = ap c.requires.levels.rank inside in omega (arith, e, up))
     (c.run_clock.ensures.left c.requires.levels.rank c.requires.levels.ranks) c.requires.idle
 
 pub returns-clause-no_more : goal.returns-clause-no_more
 returns-clause-no_more c =
-    let in_clocks : c.args.k < length c.args.shape.now.clocks.now = omega (arith, c.requires.within, c.requires.shape.in_clocks) in
-    let kept = kept_at c.args.shape.now.clocks.now c.requires.levels.rank c.args.k c.args.clocks.now c.run_clock.new.clocks c.requires.levels.ranks in_clocks
+    let in_clocks : c.args.k < length c.args.scene.now.clocks.now = omega (arith, c.requires.within, c.requires.scene.in_clocks) in
+    let kept = kept_at c.args.scene.now.clocks.now c.requires.levels.rank c.args.k c.args.clocks.now c.run_clock.new.clocks c.requires.levels.ranks in_clocks
     (c.run_clock.ensures.left c.requires.levels.rank c.requires.levels.ranks) in
     let same = ap (λ s. option_map_or left s 0) kept in
     omega (arith, same, c.fill_lane.ensures.no_more)
@@ -77,20 +77,20 @@ returns-clause-no_more c =
 pub returns-clause-filled : goal.returns-clause-filled
 returns-clause-filled c = record {
   filled = λ other sub rank ran filled front more own n world fades before at parts held time.
-      let S = over c.args.shape.now.plan.now c.args.shape.now.library.now c.args.shape.now.clocks.now other in
+      let S = over c.args.scene.now.plan.now c.args.scene.now.library.now c.args.scene.now.clocks.now other in
       let some : 0 < c.goes_for-rest.result = omega (arith, c.if-many-eq0.false, c.wanted-many.ensures.rest) in
-      filled_on S sub rank world.ranks c.requires.shape.in_clocks c.args.k c.requires.within ran filled front more c.args.clocks.now before fades world.meaning own world.roots n
+      filled_on S sub rank world.ranks c.requires.scene.in_clocks c.args.k c.requires.within ran filled front more c.args.clocks.now before fades world.meaning own world.roots n
       c.wanted-many.result c.run_clock.new.clocks c.fill_lane.new.clocks
       (c.run_clock.ensures.run.run other sub rank before.reached.ran_now before.reached.filled_now (after_calls front more) own n (record {
         world = world;
-        stand = stand_under S sub rank world.ranks c.requires.shape.in_clocks c.args.k c.requires.within ran filled front more c.args.clocks.now before;
-        needed = needed_under S sub rank world.ranks c.requires.shape.in_clocks c.args.k c.requires.within ran filled front more c.args.clocks.now before;
+        stand = stand_under S sub rank world.ranks c.requires.scene.in_clocks c.args.k c.requires.within ran filled front more c.args.clocks.now before;
+        needed = needed_under S sub rank world.ranks c.requires.scene.in_clocks c.args.k c.requires.within ran filled front more c.args.clocks.now before;
         at = at;
         goes = goes_fewer S sub (Sub c.args.k) (first_instants S sub (Sub c.args.k) n) c.goes_for-rest.result c.wanted-many.result before.reached.filled_now c.args.clocks.now.room.held.items c.args.clocks.now.states.items c.wanted-many.ensures.rest
             (c.goes_for-rest.ensures.goes other sub (first_instants S sub (Sub c.args.k) n) before.reached.filled_now
-            (are_behind S sub rank (Sub c.args.k) n before.reached.ran_now before.reached.filled_now (after_calls front more) c.args.clocks.now c.args.time world.ranks c.requires.shape.in_clocks c.requires.shape.nodes world.meaning
-            (stand_under S sub rank world.ranks c.requires.shape.in_clocks c.args.k c.requires.within ran filled front more c.args.clocks.now before)
-            (needed_under S sub rank world.ranks c.requires.shape.in_clocks c.args.k c.requires.within ran filled front more c.args.clocks.now before) at parts held time) some);
+            (are_behind S sub rank (Sub c.args.k) n before.reached.ran_now before.reached.filled_now (after_calls front more) c.args.clocks.now c.args.time world.ranks c.requires.scene.in_clocks c.requires.scene.nodes world.meaning
+            (stand_under S sub rank world.ranks c.requires.scene.in_clocks c.args.k c.requires.within ran filled front more c.args.clocks.now before)
+            (needed_under S sub rank world.ranks c.requires.scene.in_clocks c.args.k c.requires.within ran filled front more c.args.clocks.now before) at parts held time) some);
       }))
       (child_gave S sub c.args.k (first_instants S sub (Sub c.args.k) n) own c.args.clocks.now.latest.parts.items world.roots parts (c.goes_for-rest.ensures.gave some))
       (record {
@@ -105,18 +105,18 @@ returns-clause-filled c = record {
 
 pub run_clock-requires-clause-ahead : goal.run_clock-requires-clause-ahead
 run_clock-requires-clause-ahead c =
-    ahead_less c.args.shape.now.library.now c.args.shape.now.clocks.now (Sub c.args.k) c.args.clocks.now.room.held.items c.args.clocks.now.states.items (length c.args.shape.now.clocks.now)
+    ahead_less c.args.scene.now.library.now c.args.scene.now.clocks.now (Sub c.args.k) c.args.clocks.now.room.held.items c.args.clocks.now.states.items (length c.args.scene.now.clocks.now)
     c.goes_for-rest.result c.wanted-many.result c.wanted-many.ensures.rest c.goes_for-rest.ensures.ahead
 
 pub run_clock-requires-clause-through : goal.run_clock-requires-clause-through
 run_clock-requires-clause-through c =
-    through_less c.args.shape.now.clocks.now (Sub c.args.k) c.args.clocks.now.room.held.items c.args.clocks.now.states.items c.args.clocks.now.room.rests.items (length c.args.shape.now.clocks.now)
+    through_less c.args.scene.now.clocks.now (Sub c.args.k) c.args.clocks.now.room.held.items c.args.clocks.now.states.items c.args.clocks.now.room.rests.items (length c.args.scene.now.clocks.now)
     c.goes_for-rest.result c.wanted-many.result c.wanted-many.ensures.rest c.goes_for-rest.ensures.through
 
 pub fill_lane-requires-clause-room : goal.fill_lane-requires-clause-room
 fill_lane-requires-clause-room c =
-    let in_clocks : c.args.k < length c.args.shape.now.clocks.now = omega (arith, c.requires.within, c.requires.shape.in_clocks) in
-    let kept = kept_at c.args.shape.now.clocks.now c.requires.levels.rank c.args.k c.args.clocks.now c.run_clock.new.clocks c.requires.levels.ranks in_clocks
+    let in_clocks : c.args.k < length c.args.scene.now.clocks.now = omega (arith, c.requires.within, c.requires.scene.in_clocks) in
+    let kept = kept_at c.args.scene.now.clocks.now c.requires.levels.rank c.args.k c.args.clocks.now c.run_clock.new.clocks c.requires.levels.ranks in_clocks
     (c.run_clock.ensures.left c.requires.levels.rank c.requires.levels.ranks) in
     let same = ap (λ s. option_map_or room s 0) kept in
     omega (arith, same, c.wanted-many.ensures.room)

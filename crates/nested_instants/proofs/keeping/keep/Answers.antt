@@ -6,7 +6,7 @@ use Rattle.nested_instants.proofs.keeping.keep.Goals as goal
 
 pub returns-clause-clocks : goal.returns-clause-clocks
 returns-clause-clocks c =
-    let in_clocks : c.args.k < length c.args.shape.now.clocks.now = omega (arith, c.requires.within, c.requires.shape.in_clocks) in
+    let in_clocks : c.args.k < length c.args.scene.now.clocks.now = omega (arith, c.requires.within, c.requires.scene.in_clocks) in
     let in_rests : c.args.k < length c.args.clocks.now.room.rests.items = omega (arith, c.requires.clocks.stretch_room.in_rests, c.requires.within) in
     record {
       fit = c.requires.clocks.fit;
@@ -23,7 +23,7 @@ returns-clause-clocks c =
         in_parts = c.requires.clocks.stretch_room.in_parts;
         clear = c.requires.clocks.stretch_room.clear;
       };
-      resting = resting_kept c.args.shape.now.library.now c.args.shape.now.clocks.now c.args.clocks.now _ c.requires.clocks.resting c.requires.ranks.0 c.args.k c.args.rest c.requires.ranks.1 in_clocks
+      resting = resting_kept c.args.scene.now.library.now c.args.scene.now.clocks.now c.args.clocks.now _ c.requires.clocks.resting c.requires.ranks.0 c.args.k c.args.rest c.requires.ranks.1 in_clocks
           c.requires.idle (get_or-set_same c.args.clocks.now.room.rests.items c.args.k c.args.rest 0 in_rests)
           (λ i other. get_or-set_other c.args.clocks.now.room.rests.items c.args.k i c.args.rest 0 other) refl refl c.requires.ahead c.requires.through;
       rates = c.requires.clocks.rates;

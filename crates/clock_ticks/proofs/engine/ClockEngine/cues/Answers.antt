@@ -5,7 +5,7 @@ use Rattle.stream_meaning.specs.Sinks.{cues, IsOutput}
 use Rattle.stream_meaning.specs.Instants.{with_rest}
 use Rattle.clock_ticks.specs.Cues.{mark_of}
 use Rattle.clock_ticks.specs.Engines.{EngineStands, EngineStopped, setting_of}
-use Rattle.clock_instants.proofs.Places.{below_or_same}
+use Rattle.clock_nodes.proofs.Places.{below_or_same}
 use Rattle.clock_ticks.proofs.Numbered.{port_found, port_node}
 use Rattle.clock_ticks.proofs.engine.ClockEngine.cues.Goals as goal
 

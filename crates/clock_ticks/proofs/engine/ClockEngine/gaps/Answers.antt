@@ -3,7 +3,7 @@ use Rattle.std.proofs.lemmas.Option.{slice_get_read, slice_get_within}
 use Rattle.stream_meaning.specs.Sinks.{gaps, IsOutput}
 use Rattle.stream_meaning.specs.Instants.{with_rest}
 use Rattle.clock_ticks.specs.Engines.{EngineStands, EngineStopped, setting_of}
-use Rattle.clock_instants.proofs.Places.{below_or_same}
+use Rattle.clock_nodes.proofs.Places.{below_or_same}
 use Rattle.clock_ticks.proofs.Numbered.{port_found, port_node}
 use Rattle.clock_ticks.proofs.engine.ClockEngine.gaps.Goals as goal
 

@@ -180,7 +180,7 @@ returns-clause-room g c ticks all =
 
 pub give_or_stop-requires : goal.give_or_stop-requires
 give_or_stop-requires g c =
-    let buffers = subst (λ w. g.T.Taps.buffers c.args.taps.now ≡ length w.parts.shape.plan.now.buffers) (sym c.self.view_is) c.requires.buffers in
+    let buffers = subst (λ w. g.T.Taps.buffers c.args.taps.now ≡ length w.parts.scene.plan.now.buffers) (sym c.self.view_is) c.requires.buffers in
     feeds_within (setting_of c.self.inside.parts) c.self.inside.parts.clock (g.T.Taps.buffers c.run_or_stop.new.taps) c.self.invariant.parts.plan (c.run_or_stop.ensures.buffers ∙ buffers)
     c.run_or_stop.new.parts.feeds.items (c.run_or_stop.ensures.feeds ∙ c.self.invariant.parts.feeds)
 

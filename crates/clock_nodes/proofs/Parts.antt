@@ -8,8 +8,8 @@ use Rattle.clock_infer.specs.declared.clock_map.NodeClock.{NodeClock}
 use Rattle.frame_core.specs.Slots.{Slot}
 use Rattle.stream_meaning.specs.declared.part.Part.{Part}
 use Rattle.stream_meaning.specs.Instants.{Setting, Moment, lies_in, part_at, part_by, part_in, parts_upto, silent, slots_at, work_at}
-use Rattle.clock_instants.specs.States.{IsIn}
-use Rattle.clock_instants.proofs.Places.{below_or_same}
+use Rattle.clock_nodes.specs.States.{IsIn}
+use Rattle.clock_nodes.proofs.Places.{below_or_same}
 
 pub parts_step : (setting : Setting) (sub : ℕ → ℕ → List Slot) (clock : NodeClock) (past : List Moment) (parts : List Part) (i : ℕ) (part : Part)
     → i < length parts → take i parts ≡ parts_upto setting sub clock past i

@@ -7,8 +7,8 @@ use Rattle.clock_infer.specs.declared.clock_map.NodeClock.{NodeClock}
 use Rattle.clock_infer.specs.declared.clock_map.NodeClock.TheVariants.{Main, Sub}
 use Rattle.stream_meaning.specs.Instants.{same_clock}
 use Rattle.stream_meaning.proofs.Existence.{same_clock-true}
-use Rattle.clock_instants.specs.Nodes.{IsEnd, IsFirst, lies_at, number_of}
-use Rattle.clock_instants.proofs.Places.{below_or_same, same_or_other}
+use Rattle.clock_nodes.specs.Nodes.{IsEnd, IsFirst, lies_at, number_of}
+use Rattle.clock_nodes.proofs.Places.{below_or_same, same_or_other}
 
 one_number : (a b : NodeClock) → number_of a ≡ number_of b → same_clock a b ≡ true
 one_number (Main m) (Main n) e = eq-eqb m n (omega (arith, e))

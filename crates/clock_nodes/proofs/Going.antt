@@ -13,10 +13,10 @@ use Rattle.stream_meaning.specs.declared.part.Part.{Part}
 use Rattle.stream_meaning.specs.Instants.{Setting, Moment, demanded, part_at, part_by, parts_upto, slots_at, work_at}
 use Rattle.node_states.specs.declared.state.NodeState.{NodeState}
 use Rattle.node_states.specs.States.{Fits, IsSettled, StateStands}
-use Rattle.clock_instants.specs.Nodes.{IsFirst}
-use Rattle.clock_instants.specs.States.{AllFit, AreSettled, ClockStands, IsIn}
-use Rattle.clock_instants.proofs.Parts.{own_part}
-use Rattle.clock_instants.proofs.Places.{same_or_other, slice_get-set_other, slice_get-set_same}
+use Rattle.clock_nodes.specs.Nodes.{IsFirst}
+use Rattle.clock_nodes.specs.States.{AllFit, AreSettled, ClockStands, IsIn}
+use Rattle.clock_nodes.proofs.Parts.{own_part}
+use Rattle.clock_nodes.proofs.Places.{same_or_other, slice_get-set_other, slice_get-set_same}
 
 -- the nodes below `below` have gone on by this moment
 pub record IsGoneOn (setting : Setting) (sub : ℕ → ℕ → List Slot) (clock : NodeClock) (past : List Moment) (moment : Moment) (filled : ℕ → ℕ)

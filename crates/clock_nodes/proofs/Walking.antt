@@ -9,8 +9,8 @@ use Rattle.frame_core.specs.Slots.{Slot}
 use Rattle.stream_meaning.specs.declared.part.Part.{Part}
 use Rattle.stream_meaning.specs.Instants.{Setting, Moment, lies_in, part_at, part_in, parts_upto, silent}
 use Rattle.stream_meaning.proofs.Existence.{same_clock-true}
-use Rattle.clock_instants.specs.Nodes.{IsEnd, IsFirst, lies_at}
-use Rattle.clock_instants.proofs.Places.{same_or_other}
+use Rattle.clock_nodes.specs.Nodes.{IsEnd, IsFirst, lies_at}
+use Rattle.clock_nodes.proofs.Places.{same_or_other}
 
 -- the next node of a clock's node is the clock's next one
 pub next_own : (clocks : List NodeClock) (clock : NodeClock) (i n : ℕ) → lies_at clocks clock i ≡ true → IsFirst clocks (get_or clocks i (Main 0)) (suc i) n

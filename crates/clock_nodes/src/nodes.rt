@@ -3,7 +3,7 @@ ghost use Rattle.std.specs.Prelude.{◌≡◌, ◌<◌, ◌≤◌, ℕ, suc, Lis
 ghost use Rattle.liq_base.specs.declared.limits.TheConstants.{MAX_NODES};
 ghost use Rattle.clock_infer.specs.declared.clock_map.NodeClock.{NodeClock as Clock};
 ghost use Rattle.clock_infer.specs.declared.clock_map.NodeClock.TheVariants.{Main as InMain};
-ghost use Rattle.clock_instants.specs.Nodes.{AreNodesOf, IsEnd, IsFirst, number_of};
+ghost use Rattle.clock_nodes.specs.Nodes.{AreNodesOf, IsEnd, IsFirst, number_of};
 
 use clock_infer::NodeClock;
 use liq_base::Memory;

@@ -2,9 +2,8 @@
 use Rattle.std.specs.Prelude.{◌≡◌, ◌<◌, ◌≤◌, ◌+◌, ◌*◌, ℕ, Bool, suc, true, false, List, length, slice_index_or}
 use Rattle.clock_infer.specs.declared.clock_map.NodeClock.{NodeClock}
 use Rattle.clock_infer.specs.declared.clock_map.NodeClock.TheVariants.{Main, Sub}
-use Rattle.stream_meaning.specs.Instants.{part_at, same_clock, silent}
-use Rattle.clock_instants.specs.declared.latest.Latest.{Latest}
-use Rattle.clock_instants.specs.declared.nodes.ClockNodes.{ClockNodes}
+use Rattle.stream_meaning.specs.Instants.{same_clock}
+use Rattle.clock_nodes.specs.declared.nodes.ClockNodes.{ClockNodes}
 
 -- whether node i lies in a clock
 abbrev pub lies_at : List NodeClock → NodeClock → ℕ → Bool
@@ -40,10 +39,3 @@ pub record AreNodesOf (clocks : List NodeClock) (nodes : ClockNodes) : Type 0 wh
       → IsEnd clocks clock (length clocks) (slice_index_or nodes.ends.items (number_of clock) 0)
   pub before : (i : ℕ) → i < length clocks
       → IsEnd clocks (slice_index_or clocks i (Main 0)) i (slice_index_or nodes.befores.items i 0)
-
--- what no node of another clock than the latest instant's does: it offers nothing, and is not demanded
-pub record IsLatest (clocks : List NodeClock) (latest : Latest) : Type 0 where
-  pub in_parts : length latest.parts.items ≡ length clocks
-  pub in_demanded : length latest.demanded.items ≡ length clocks
-  pub parts : (j : ℕ) → lies_at clocks latest.clock j ≡ false → part_at latest.parts.items j ≡ silent
-  pub demanded : (j : ℕ) → lies_at clocks latest.clock j ≡ false → slice_index_or latest.demanded.items j false ≡ false

@@ -5,7 +5,7 @@ use plan_core::Plan;
 
 /// A plan with its files and the clock of each node.
 #[derive(Clone, Copy)]
-pub struct Shape<'a> {
+pub struct Scene<'a> {
     pub plan: &'a Plan,
     pub library: &'a Library,
     pub clocks: &'a [NodeClock],

@@ -1,8 +1,8 @@
 use Rattle.std.proofs.Common.{◌<◌, ◌≤◌, ℕ, suc, length, get_or}
 use Rattle.clock_infer.specs.declared.clock_map.NodeClock.{NodeClock}
 use Rattle.clock_infer.specs.declared.clock_map.NodeClock.TheVariants.{Main}
-use Rattle.clock_instants.specs.Nodes.{IsFirst, number_of}
-use Rattle.clock_instants.proofs.nodes.link_on.Given as goal
+use Rattle.clock_nodes.specs.Nodes.{IsFirst, number_of}
+use Rattle.clock_nodes.proofs.nodes.link_on.Given as goal
 
 abbrev pub invariant-loop-i : goal.invariant-loop-i
 invariant-loop-i l = record {

@@ -1,8 +1,8 @@
 use Rattle.std.proofs.Common.{◌≡◌, ◌∙◌, suc, length, get_or, arith, ap, subst, sym}
 use Rattle.std.proofs.lemmas.List.{with_items_is}
 use Rattle.clock_infer.specs.declared.clock_map.NodeClock.TheVariants.{Main}
-use Rattle.clock_instants.specs.Nodes.{IsEnd, IsFirst, number_of}
-use Rattle.clock_instants.proofs.nodes.ClockNodes.new.Goals as goal
+use Rattle.clock_nodes.specs.Nodes.{IsEnd, IsFirst, number_of}
+use Rattle.clock_nodes.proofs.nodes.ClockNodes.new.Goals as goal
 
 pub returns : goal.returns
 returns c =

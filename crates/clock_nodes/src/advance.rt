@@ -4,44 +4,44 @@ ghost use Rattle.clock_infer.specs.declared.clock_map.NodeClock.TheVariants.{Mai
 ghost use Rattle.frame_core.specs.Slots.{Slot as TheSlot};
 ghost use Rattle.stream_meaning.specs.Instants.{Setting, Moment, parts_upto, same_clock};
 ghost use Rattle.node_states.specs.States.{AreLong};
-ghost use Rattle.clock_instants.specs.Nodes.{AreNodesOf};
-ghost use Rattle.clock_instants.specs.Shapes.{AllFitOver, IsShape, setting_over};
-ghost use Rattle.clock_instants.specs.States.{AreSettled, ClockStands};
+ghost use Rattle.clock_nodes.specs.Nodes.{AreNodesOf};
+ghost use Rattle.clock_nodes.specs.Scenes.{AllFitOver, IsScene, setting_over};
+ghost use Rattle.clock_nodes.specs.States.{AreSettled, ClockStands};
 
-use crate::{ClockNodes, Shape};
+use crate::{ClockNodes, Scene};
 use clock_infer::NodeClock;
 use node_states::NodeState;
 use stream_meaning::Part;
 
 /// Takes the nodes of a clock on by an instant at which they did this and these were demanded.
 pub fn advance_all(
-    shape: &Shape<'_>,
+    scene: &Scene<'_>,
     nodes: &ClockNodes,
     clock: NodeClock,
     parts: &[Part],
     demanded: &[bool],
     states: &mut [NodeState],
 )
-    requires shape { IsShape shape.now }
-    requires chains { AreNodesOf shape.now.clocks.now nodes.now }
-    requires in_parts { length parts.now ≡ length shape.now.plan.now.nodes }
-    requires in_demanded { length demanded.now ≡ length shape.now.plan.now.nodes }
-    requires fit { AllFitOver shape.now states.old }
-    ensures fit { AllFitOver shape.now states.new }
-    ensures others { (i : ℕ) → same_clock (slice_index_or shape.now.clocks.now i (InMain 0)) clock ≡ false
+    requires scene { IsScene scene.now }
+    requires chains { AreNodesOf scene.now.clocks.now nodes.now }
+    requires in_parts { length parts.now ≡ length scene.now.plan.now.nodes }
+    requires in_demanded { length demanded.now ≡ length scene.now.plan.now.nodes }
+    requires fit { AllFitOver scene.now states.old }
+    ensures fit { AllFitOver scene.now states.new }
+    ensures others { (i : ℕ) → same_clock (slice_index_or scene.now.clocks.now i (InMain 0)) clock ≡ false
         → slice_get states.new i ≡ slice_get states.old i }
     ensures stand { (setting : Setting) (sub : ℕ → ℕ → List TheSlot) (past : List Moment) (moment : Moment) (filled : ℕ
         → ℕ) →
-        let setting = setting_over shape.now setting in
+        let setting = setting_over scene.now setting in
         AreLong sub → ClockStands setting sub clock past filled states.old → AreSettled setting sub clock past filled
-        → parts.now ≡ parts_upto setting sub clock past (length shape.now.plan.now.nodes)
+        → parts.now ≡ parts_upto setting sub clock past (length scene.now.plan.now.nodes)
         → moment.parts ≡ parts.now → moment.demands ≡ demanded.now
         → ClockStands setting sub clock (moment ∷ past) filled states.new }
 {
     let mut i = nodes.first(clock);
-    while i < shape.clocks.len() {
-        let children = shape.plan.nodes.as_slice()[i].children.len();
-        states[i].next(parts[i], demanded[i], shape.library, children);
+    while i < scene.clocks.len() {
+        let children = scene.plan.nodes.as_slice()[i].children.len();
+        states[i].next(parts[i], demanded[i], scene.library, children);
         i = nodes.after(i);
     }
 }

@@ -1,8 +1,8 @@
 use Rattle.std.proofs.Common.{◌<◌, ℕ, get_or}
 use Rattle.clock_infer.specs.declared.clock_map.NodeClock.{NodeClock}
 use Rattle.clock_infer.specs.declared.clock_map.NodeClock.TheVariants.{Main}
-use Rattle.clock_instants.specs.Nodes.{IsEnd, number_of}
-use Rattle.clock_instants.proofs.nodes.link_back.Given as goal
+use Rattle.clock_nodes.specs.Nodes.{IsEnd, number_of}
+use Rattle.clock_nodes.proofs.nodes.link_back.Given as goal
 
 abbrev pub invariant-loop-i : goal.invariant-loop-i
 invariant-loop-i l = record {

@@ -1,0 +1,5 @@
+pub mod Places
+pub mod Linking
+pub mod Parts
+pub mod Walking
+pub mod Going

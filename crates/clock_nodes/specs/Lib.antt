@@ -1,0 +1,3 @@
+pub mod Nodes
+pub mod Scenes
+pub mod States
