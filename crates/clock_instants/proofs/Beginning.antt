@@ -3,10 +3,8 @@ use Rattle.std.proofs.Common.{◌≡◌, ◌<◌, ◌∙◌, ◌&&◌, ◌++◌,
 use Rattle.std.proofs.lemmas.Bool.{cases_lt, true≢false}
 use Rattle.std.proofs.lemmas.Option.{slice_get_within}
 use Rattle.plan_core.specs.declared.node.Node.{Node}
-use Rattle.plan_core.specs.declared.plan.Plan.{Plan}
 use Rattle.clock_infer.specs.declared.clock_map.NodeClock.{NodeClock}
 use Rattle.frame_core.specs.Slots.{Slot}
-use Rattle.frame_core.specs.Library.{Sounds}
 use Rattle.frame_core.specs.Calls.{Adds, Call, Answer}
 use Rattle.stream_meaning.specs.Operators.{Reads}
 use Rattle.stream_meaning.specs.Instants.{Setting, Moment, lies_in, reading_after, work_at}
@@ -15,8 +13,10 @@ use Rattle.stream_meaning.proofs.Answering.{after_calls-then, answers_first, ans
 use Rattle.node_states.specs.declared.state.NodeState.{NodeState}
 use Rattle.node_states.specs.States.{StateStands, reading_by, reads, reads_at, reads_in}
 use Rattle.node_states.proofs.Chunks.{adds_none, adds_then}
+use Rattle.clock_nodes.specs.declared.scene.Scene.{Scene}
 use Rattle.clock_nodes.specs.Nodes.{IsFirst}
-use Rattle.clock_nodes.specs.States.{ClockStands, IsIn, over}
+use Rattle.clock_nodes.specs.Scenes.{setting_over}
+use Rattle.clock_nodes.specs.States.{ClockStands, IsIn}
 use Rattle.clock_instants.specs.Takes.{HasBegun, HasOwnReaders, HaveBegun, HaveTaken, HaveTakenSome, NodeBegan, NodeTookSome, begun_by, begun_in, takes_below}
 use Rattle.clock_nodes.proofs.Places.{same_or_other, slice_get-set_other, slice_get-set_same}
 
@@ -30,12 +30,12 @@ pub record AreBegunBelow (setting : Setting) (sub : ℕ → ℕ → List Slot) (
       → (reading_by setting j buffer past (suc (length past))).taken ≡ length (after_calls front more buffer)
   pub others : (buffer : ℕ) → ((j : ℕ) (node : Node) → j < i → IsIn setting clock j node → work_at setting j node ≡ Reads buffer → ⊥) → answers_in buffer more ≡ []
 
-pub record Beginning {T : Type 0} (stands : T → List Call → Type 0) (plan : Plan) (library : Sounds) (clocks : List NodeClock) (clock : NodeClock)
+pub record Beginning {T : Type 0} (stands : T → List Call → Type 0) (scene : Scene) (clock : NodeClock)
     (old now : List NodeState) (taps_old taps_now : T) (i : ℕ) : Type 0 where
   pub more : List Call
   pub taps : Adds stands taps_old taps_now more
   pub begun : (other : Setting) (sub : ℕ → ℕ → List Slot) (past : List Moment) (filled : ℕ → ℕ) (front : ℕ → List Answer) →
-      let setting = over plan library clocks other in
+      let setting = setting_over scene other in
       HasOwnReaders setting → nat_eq (length past % setting.plan.frame) 0 ≡ true → HasAnswers setting (after_calls front more)
       → ClockStands setting sub clock past filled old → HaveTaken setting clock past filled front
       → AreBegunBelow setting sub clock past filled front more i now
@@ -126,13 +126,13 @@ module _ (setting : Setting) (sub : ℕ → ℕ → List Slot) (clock : NodeCloc
             ∙ step.others buffer (λ work. none i node (omega arith) inside work);
       }
 
-module _ {T : Type 0} (stands : T → List Call → Type 0) (plan : Plan) (library : Sounds) (clocks : List NodeClock) (clock : NodeClock) (old : List NodeState) (a : T) where
-  pub beginning_none : (n : ℕ) → IsFirst clocks clock 0 n → Beginning stands plan library clocks clock old old a a n
+module _ {T : Type 0} (stands : T → List Call → Type 0) (scene : Scene) (clock : NodeClock) (old : List NodeState) (a : T) where
+  pub beginning_none : (n : ℕ) → IsFirst scene.clocks.now clock 0 n → Beginning stands scene clock old old a a n
   beginning_none n first = record {
     more = [];
     taps = adds_none stands a;
     begun = λ other sub past filled front own starts has stand had.
-        skip (over plan library clocks other) sub clock past filled front [] 0 n old first (record {
+        skip (setting_over scene other) sub clock past filled front [] 0 n old first (record {
           below = λ j node state low inside found. absurd (omega (arith, low));
           calls = refl;
           taken = λ j buffer node low inside work. absurd (omega (arith, low));
@@ -142,15 +142,15 @@ module _ {T : Type 0} (stands : T → List Call → Type 0) (plan : Plan) (libra
 
   -- one node more has begun
   pub beginning_more : (now : List NodeState) (b c : T) (i n : ℕ) (node : Node) (state new : NodeState)
-      → slice_get plan.nodes i ≡ Some node → ((other : Setting) → lies_in (over plan library clocks other) clock i ≡ true) → i < length now
-      → slice_get now i ≡ Some state → slice_get now i ≡ slice_get old i → IsFirst clocks clock (suc i) n
-      → NodeBegan stands plan library clocks i state new b c
-      → Beginning stands plan library clocks clock old now a b i → Beginning stands plan library clocks clock old (set now i new) a c n
+      → slice_get scene.plan.now.nodes i ≡ Some node → ((other : Setting) → lies_in (setting_over scene other) clock i ≡ true) → i < length now
+      → slice_get now i ≡ Some state → slice_get now i ≡ slice_get old i → IsFirst scene.clocks.now clock (suc i) n
+      → NodeBegan stands scene i state new b c
+      → Beginning stands scene clock old now a b i → Beginning stands scene clock old (set now i new) a c n
   beginning_more now b c i n node state new found lies within at left first one so = record {
     more = so.more ++ one.more;
     taps = adds_then stands a b c so.more one.more so.taps one.taps;
     begun = λ other sub past filled front own starts has stand had.
-        let S = over plan library clocks other in
+        let S = setting_over scene other in
         let inside : IsIn S clock i node = record { there = found; inside = lies other } in
         let before = so.begun other sub past filled front own starts (answers_first S front so.more one.more has) stand had in
         skip S sub clock past filled front (so.more ++ one.more) (suc i) n (set now i new) first
@@ -161,14 +161,14 @@ module _ {T : Type 0} (stands : T → List Call → Type 0) (plan : Plan) (libra
         (taken_here S sub clock past filled front own had so.more one.more i node now new inside before)));
   }
 
-  pub beginning_all : (now : List NodeState) (b : T) (i : ℕ) → i ≡ length plan.nodes → Beginning stands plan library clocks clock old now a b i → HaveBegun stands plan library clocks clock old now a b
+  pub beginning_all : (now : List NodeState) (b : T) (i : ℕ) → i ≡ length scene.plan.now.nodes → Beginning stands scene clock old now a b i → HaveBegun stands scene clock old now a b
   beginning_all now b i all so = record {
     more = so.more;
     taps = so.taps;
     begun = λ other sub past filled front own starts has stand had.
-        let S = over plan library clocks other in
+        let S = setting_over scene other in
         let done = so.begun other sub past filled front own starts has stand had in
-        let low : (j : ℕ) (node : Node) → IsIn S clock j node → j < i = λ j node inside. (let below = slice_get_within plan.nodes j node inside.there in omega (arith, below, all)) in
+        let low : (j : ℕ) (node : Node) → IsIn S clock j node → j < i = λ j node inside. (let below = slice_get_within scene.plan.now.nodes j node inside.there in omega (arith, below, all)) in
         record {
           stand = record { each = λ j node state inside found. done.below j node state (low j node inside) inside found };
           calls = done.calls ∙ ap (takes_below S clock past) all;
@@ -178,22 +178,22 @@ module _ {T : Type 0} (stands : T → List Call → Type 0) (plan : Plan) (libra
   }
 
   pub beginning_stopped : (now : List NodeState) (b c : T) (i : ℕ) (node : Node) (state : NodeState)
-      → slice_get plan.nodes i ≡ Some node → ((other : Setting) → lies_in (over plan library clocks other) clock i ≡ true)
+      → slice_get scene.plan.now.nodes i ≡ Some node → ((other : Setting) → lies_in (setting_over scene other) clock i ≡ true)
       → slice_get now i ≡ Some state → slice_get now i ≡ slice_get old i
-      → NodeTookSome stands plan library clocks i state b c
-      → Beginning stands plan library clocks clock old now a b i → HaveTakenSome stands plan library clocks clock old a c
+      → NodeTookSome stands scene i state b c
+      → Beginning stands scene clock old now a b i → HaveTakenSome stands scene clock old a c
   beginning_stopped now b c i node state found lies at left one so = record {
     made = so.more ++ one.made;
     taps = adds_then stands a b c so.more one.made so.taps one.taps;
     begins = λ other sub past filled front own starts has stand had.
-        let S = over plan library clocks other in
+        let S = setting_over scene other in
         let inside : IsIn S clock i node = record { there = found; inside = lies other } in
         let before = so.begun other sub past filled front own starts (answers_first S front so.more one.made has) stand had in
         let begins = one.begins other sub past (filled i) node (after_calls front so.more) found (answers_then S front so.more one.made has)
         (stand.each i node state inside (sym left ∙ at))
         (even_here S sub clock past filled front own had so.more one.made i node now state inside before)
         (taken_here S sub clock past filled front own had so.more one.made i node now state inside before) in
-        subst (λ (cs : List Call). IsBegin (cs ++ one.made) (takes_below S clock past (length plan.nodes))) (sym before.calls)
-        (begin_joined (λ j. takes_in S (lies_in S clock j) past j (slice_get plan.nodes j)) i (length plan.nodes) one.made (slice_get_within plan.nodes i node found)
+        subst (λ (cs : List Call). IsBegin (cs ++ one.made) (takes_below S clock past (length scene.plan.now.nodes))) (sym before.calls)
+        (begin_joined (λ j. takes_in S (lies_in S clock j) past j (slice_get scene.plan.now.nodes j)) i (length scene.plan.now.nodes) one.made (slice_get_within scene.plan.now.nodes i node found)
         (subst (λ (cs : List Call). IsBegin one.made cs) (own_in S clock past i node inside) begins));
   }

@@ -5,11 +5,8 @@ use Rattle.liq_base.specs.declared.memory.Kind.{Kind}
 use Rattle.plan_core.specs.declared.node.Node.{Node}
 use Rattle.plan_core.specs.declared.node.Op.{Op}
 use Rattle.plan_core.specs.declared.node.Op.TheVariants.{Single, Playlist, Blank, Square, Fail, Fallback, Switch, Sequence, Rotate, Random, Add, Amplify, Mean, Stereo, Crossfade, Buffer, Clock}
-use Rattle.plan_core.specs.declared.plan.Plan.{Plan}
 use Rattle.plan_core.specs.Plans.{IsNoReader}
-use Rattle.clock_infer.specs.declared.clock_map.NodeClock.{NodeClock}
 use Rattle.frame_core.specs.Slots.{Slot}
-use Rattle.frame_core.specs.Library.{Sounds}
 use Rattle.frame_core.specs.Calls.{Call, Took, Answer}
 use Rattle.stream_meaning.specs.Operators.{Work, Plays, Picks, Mixes, Fades, Reads, work_of}
 use Rattle.stream_meaning.specs.Instants.{Setting, Moment, work_at}
@@ -20,7 +17,8 @@ use Rattle.node_states.specs.States.{StateStands, reading_by, reads}
 use Rattle.node_states.specs.Takes.{HasBegunAt, HasTakenSome}
 use Rattle.node_states.specs.Takes as node
 use Rattle.node_states.proofs.Chunks.{adds_none, map-append}
-use Rattle.clock_nodes.specs.States.{over}
+use Rattle.clock_nodes.specs.declared.scene.Scene.{Scene}
+use Rattle.clock_nodes.specs.Scenes.{setting_over}
 use Rattle.clock_instants.specs.Takes.{HasBegun, NodeBegan, NodeTookSome, begun_by}
 
 no_reads : (rate i : ℕ) (kind : Kind) (op : Op) → IsNoReader op → reads (work_of rate i kind op) ≡ false
@@ -85,25 +83,25 @@ answers_of_one : (setting : Setting) (front : ℕ → List Answer) (buffer : ℕ
 answers_of_one setting front buffer more has =
     has.are buffer ∙ ap (λ (answers : List Answer). (front buffer ++ answers) ++ has.rest buffer) (answers_in-own buffer more)
 
-module _ {T : Type 0} (stands : T → List Call → Type 0) (plan : Plan) (library : Sounds) (clocks : List NodeClock) (i : ℕ) where
-  pub node_other : (state : NodeState) (a : T) → ((node : Node) → slice_get plan.nodes i ≡ Some node → IsNoReader node.op) → NodeBegan stands plan library clocks i state state a a
+module _ {T : Type 0} (stands : T → List Call → Type 0) (scene : Scene) (i : ℕ) where
+  pub node_other : (state : NodeState) (a : T) → ((node : Node) → slice_get scene.plan.now.nodes i ≡ Some node → IsNoReader node.op) → NodeBegan stands scene i state state a a
   node_other state a none = record {
     more = [];
     taps = adds_none stands a;
     begun = λ other sub past filled node front found starts has stand even taken.
-        other_began (over plan library clocks other) sub past filled i (work_at (over plan library clocks other) i node) front state (no_reads plan.rate i node.kind node.op (none node found)) stand;
+        other_began (setting_over scene other) sub past filled i (work_at (setting_over scene other) i node) front state (no_reads scene.plan.now.rate i node.kind node.op (none node found)) stand;
   }
 
-  module _ (buffer : ℕ) (reader : (node : Node) → slice_get plan.nodes i ≡ Some node → node.op ≡ Buffer buffer) (old : NodeState) (a b : T) where
-    work_is : (other : Setting) (node : Node) → slice_get plan.nodes i ≡ Some node → work_at (over plan library clocks other) i node ≡ Reads buffer
-    work_is other node found = ap (work_of plan.rate i node.kind) (reader node found)
+  module _ (buffer : ℕ) (reader : (node : Node) → slice_get scene.plan.now.nodes i ≡ Some node → node.op ≡ Buffer buffer) (old : NodeState) (a b : T) where
+    work_is : (other : Setting) (node : Node) → slice_get scene.plan.now.nodes i ≡ Some node → work_at (setting_over scene other) i node ≡ Reads buffer
+    work_is other node found = ap (work_of scene.plan.now.rate i node.kind) (reader node found)
 
-    pub node_reader : (new : NodeState) → node.HasBegun stands buffer old new a b → NodeBegan stands plan library clocks i old new a b
+    pub node_reader : (new : NodeState) → node.HasBegun stands buffer old new a b → NodeBegan stands scene i old new a b
     node_reader new has = record {
       more = map (Took buffer) has.more;
       taps = has.taps;
       begun = λ other sub past filled node front found starts answers stand even taken.
-          let S = over plan library clocks other in
+          let S = setting_over scene other in
           let work = work_is other node found in
           let same : filled ≡ length past = even (ap reads work) in
           subst (λ (w : Work). HasBegun S sub past filled i w front (map (Took buffer) has.more) new) (sym work)
@@ -113,12 +111,12 @@ module _ {T : Type 0} (stands : T → List Call → Type 0) (plan : Plan) (libra
           starts (answers_of_one S front buffer has.more answers) (taken buffer work)));
     }
 
-    pub node_some : node.HasTakenSome stands buffer old a b → NodeTookSome stands plan library clocks i old a b
+    pub node_some : node.HasTakenSome stands buffer old a b → NodeTookSome stands scene i old a b
     node_some has = record {
       made = map (Took buffer) has.more;
       taps = has.taps;
       begins = λ other sub past filled node front found answers stand even taken.
-          let S = over plan library clocks other in
+          let S = setting_over scene other in
           let work = work_is other node found in
           let same : filled ≡ length past = even (ap reads work) in
           let left = has.begins S sub past i (front buffer) (answers.rest buffer)

@@ -47,17 +47,12 @@ pub record AreFilledOn (setting : Setting) (sub : ℕ → ℕ
       → AreFilled setting sub k (filled k) (slice_index_or rests k 0)
       (title_of (part_at held (crossfaded setting.plan.nodes k)).slot)
 
--- of the crossfades of a clock below this node, those that gave and through which cells pass go on no longer than their
--- sub-clocks
-pub record AllPassOn (clocks : List NodeClock) (clock : NodeClock) (held : List Part) (states : List NodeState)
-    (rests : List ℕ) (below count : ℕ) : Type 0 where
-  pub each : (i : ℕ) (state : NodeState) → i < below → lies_at clocks clock i ≡ true → slice_get states i ≡ Some state
-      → gave_at held i ≡ true → passes state ≡ true → count ≤ slice_index_or rests i 0
-
--- the same of all crossfades of a clock
-abbrev pub AllPassOnOver : Scene → NodeClock → List Part → List NodeState → (rests : List ℕ) → (count : ℕ) → Type 0
-AllPassOnOver scene clock held states rests count = AllPassOn scene.clocks.now clock held states rests
-    (length scene.clocks.now) count
+-- the crossfades of a clock that gave and through which cells pass go on no longer than their sub-clocks
+pub record AllPassOn (scene : Scene) (clock : NodeClock) (held : List Part) (states : List NodeState) (rests : List ℕ)
+    (count : ℕ) : Type 0 where
+  pub each : (i : ℕ) (state : NodeState) → i < length scene.clocks.now → lies_at scene.clocks.now clock i ≡ true
+      → slice_get states i ≡ Some state → gave_at held i ≡ true → passes state ≡ true
+      → count ≤ slice_index_or rests i 0
 
 -- of the crossfades of a clock below this node, those that gave at the instant after these ask for this in so many
 -- instants that go on: where cells pass one slot for each, else none

@@ -3,7 +3,6 @@ use Rattle.std.specs.Prelude.{◌≡◌, ◌<◌, ◌≤◌, ◌&&◌, ◌||◌,
 use Rattle.plan_core.specs.declared.node.Node.{Node}
 use Rattle.clock_infer.specs.declared.clock_map.NodeClock.{NodeClock}
 use Rattle.frame_core.specs.Slots.{Slot, title_of}
-use Rattle.frame_core.specs.Library.{Sounds}
 use Rattle.op_leaf.specs.Lanes.{IsLane}
 use Rattle.stream_meaning.specs.declared.part.Part.{Part}
 use Rattle.stream_meaning.specs.Instants.{Setting, Moment, crossfaded, gives, lies_in, moment_after, part_at, silent, work_at}
@@ -51,18 +50,11 @@ pub record HaveLanes (states : List NodeState) (count : ℕ) (lanes : Lanes) : T
   pub each : (i : ℕ) (state : NodeState) → i < count → slice_get states i ≡ Some state → (state ≡ Idle → ⊥)
       → HasLane lanes i
 
--- so many cells or items of each node of a clock that gave, of those below this one, are there and begin no track, but
--- where cells pass
-pub record AllLieAhead (library : Sounds) (clocks : List NodeClock) (clock : NodeClock) (held : List Part)
-    (states : List NodeState)
-    (below count : ℕ) : Type 0 where
-  pub each : (i : ℕ) (state : NodeState) → i < below → lies_at clocks clock i ≡ true → slice_get states i ≡ Some state
-      → gave_at held i ≡ true → LiesAhead library state count
-
--- the same of all nodes of a clock
-abbrev pub AllLieAheadOver : Scene → NodeClock → List Part → List NodeState → (count : ℕ) → Type 0
-AllLieAheadOver scene clock held states count = AllLieAhead scene.library.now scene.clocks.now clock held states
-    (length scene.clocks.now) count
+-- so many cells or items of each node of a clock that gave are there and begin no track, but where cells pass
+pub record AllLieAhead (scene : Scene) (clock : NodeClock) (held : List Part) (states : List NodeState)
+    (count : ℕ) : Type 0 where
+  pub each : (i : ℕ) (state : NodeState) → i < length scene.clocks.now → lies_at scene.clocks.now clock i ≡ true
+      → slice_get states i ≡ Some state → gave_at held i ≡ true → LiesAhead scene.library.now state count
 
 -- the latest instant of a clock is the one after these, at this time: these are its parts, what was given there is
 -- held, and the states stand for it too; and sub-clocks go on for so long

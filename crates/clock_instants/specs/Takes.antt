@@ -6,7 +6,6 @@ use Rattle.plan_core.specs.declared.plan.Plan.{Plan}
 use Rattle.clock_infer.specs.declared.clock_map.NodeClock.{NodeClock}
 use Rattle.clock_infer.specs.declared.clock_map.NodeClock.TheVariants.{Main, Sub}
 use Rattle.frame_core.specs.Slots.{Slot}
-use Rattle.frame_core.specs.Library.{Sounds}
 use Rattle.frame_core.specs.Calls.{Adds, Call, Answer}
 use Rattle.stream_meaning.specs.Operators.{Work, Reads}
 use Rattle.stream_meaning.specs.Instants.{Setting, Moment, lies_in, reading_after, work_at}
@@ -14,7 +13,8 @@ use Rattle.stream_meaning.specs.Calls.{HasAnswers, IsBegin, after_calls, answers
 use Rattle.node_states.specs.declared.state.NodeState.{NodeState}
 use Rattle.node_states.specs.States.{StateStands, reading_by, reads_at, reads}
 use Rattle.clock_nodes.specs.declared.scene.Scene.{Scene}
-use Rattle.clock_nodes.specs.States.{ClockStands, IsIn, over}
+use Rattle.clock_nodes.specs.Scenes.{setting_over}
+use Rattle.clock_nodes.specs.States.{ClockStands, IsIn}
 
 -- node i of a plan reads a buffer
 pub record IsReader (plan : Plan) (i : ℕ) : Type 0 where
@@ -73,14 +73,14 @@ pub record HasBegun (setting : Setting) (sub : ℕ → ℕ
 
 -- node i, whatever it stood for where a tick begins, has begun
 pub record NodeBegan {T : Type 0} (stands : T → List Call
-    → Type 0) (plan : Plan) (library : Sounds) (clocks : List NodeClock) (i : ℕ)
+    → Type 0) (scene : Scene) (i : ℕ)
     (old new : NodeState) (taps_old taps_new : T) : Type 0 where
   pub more : List Call
   pub taps : Adds stands taps_old taps_new more
   pub begun : (other : Setting) (sub : ℕ → ℕ → List Slot) (past : List Moment) (filled : ℕ) (node : Node) (front : ℕ
       → List Answer) →
-      let setting = over plan library clocks other in
-      slice_get plan.nodes i ≡ Some node → nat_eq (length past % setting.plan.frame) 0 ≡ true
+      let setting = setting_over scene other in
+      slice_get scene.plan.now.nodes i ≡ Some node → nat_eq (length past % setting.plan.frame) 0 ≡ true
       → HasAnswers setting (after_calls front more)
       → StateStands setting sub past filled i (work_at setting i node) old
       → (reads (work_at setting i node) ≡ true → filled ≡ length past)
@@ -88,32 +88,21 @@ pub record NodeBegan {T : Type 0} (stands : T → List Call
       → (reading_after setting i buffer past).taken ≡ length (front buffer))
       → HasBegun setting sub past filled i (work_at setting i node) front more new
 
--- the same over a scene
-abbrev pub NodeBeganOver : {T : Type 0} → (T → List Call → Type 0) → Scene → (i : ℕ) → NodeState → NodeState → T → T
-    → Type 0
-NodeBeganOver stands scene i old new taps_old taps_new = NodeBegan stands scene.plan.now scene.library.now
-    scene.clocks.now i old new taps_old taps_new
-
 -- some of these calls were made
 pub record NodeTookSome {T : Type 0} (stands : T → List Call
-    → Type 0) (plan : Plan) (library : Sounds) (clocks : List NodeClock) (i : ℕ)
+    → Type 0) (scene : Scene) (i : ℕ)
     (old : NodeState) (taps_old taps_new : T) : Type 0 where
   pub made : List Call
   pub taps : Adds stands taps_old taps_new made
   pub begins : (other : Setting) (sub : ℕ → ℕ → List Slot) (past : List Moment) (filled : ℕ) (node : Node) (front : ℕ
       → List Answer) →
-      let setting = over plan library clocks other in
-      slice_get plan.nodes i ≡ Some node → HasAnswers setting (after_calls front made)
+      let setting = setting_over scene other in
+      slice_get scene.plan.now.nodes i ≡ Some node → HasAnswers setting (after_calls front made)
       → StateStands setting sub past filled i (work_at setting i node) old
       → (reads (work_at setting i node) ≡ true → filled ≡ length past)
       → ((buffer : ℕ) → work_at setting i node ≡ Reads buffer
       → (reading_after setting i buffer past).taken ≡ length (front buffer))
       → IsBegin made (takes_in setting true past i (Some node))
-
--- the same over a scene
-abbrev pub NodeTookSomeOver : {T : Type 0} → (T → List Call → Type 0) → Scene → (i : ℕ) → NodeState → T → T → Type 0
-NodeTookSomeOver stands scene i old taps_old taps_new = NodeTookSome stands scene.plan.now scene.library.now
-    scene.clocks.now i old taps_old taps_new
 
 -- the calls of the readers of a clock, node by node
 abbrev pub takes_below : Setting → NodeClock → List Moment → (n : ℕ) → List Call
@@ -132,39 +121,27 @@ pub record AreBegun (setting : Setting) (sub : ℕ → ℕ → List Slot) (clock
       → ⊥) → answers_in buffer more ≡ []
 
 pub record HaveBegun {T : Type 0} (stands : T → List Call
-    → Type 0) (plan : Plan) (library : Sounds) (clocks : List NodeClock) (clock : NodeClock)
+    → Type 0) (scene : Scene) (clock : NodeClock)
     (old new : List NodeState) (taps_old taps_new : T) : Type 0 where
   pub more : List Call
   pub taps : Adds stands taps_old taps_new more
   pub begun : (other : Setting) (sub : ℕ → ℕ → List Slot) (past : List Moment) (filled : ℕ → ℕ) (front : ℕ
       → List Answer) →
-      let setting = over plan library clocks other in
+      let setting = setting_over scene other in
       HasOwnReaders setting → nat_eq (length past % setting.plan.frame) 0 ≡ true
       → HasAnswers setting (after_calls front more)
       → ClockStands setting sub clock past filled old → HaveTaken setting clock past filled front
       → AreBegun setting sub clock past filled front more new
 
--- the same over a scene
-abbrev pub HaveBegunOver : {T : Type 0} → (T → List Call → Type 0) → Scene → NodeClock → List NodeState → List NodeState
-    → T → T → Type 0
-HaveBegunOver stands scene clock old new taps_old taps_new = HaveBegun stands scene.plan.now scene.library.now
-    scene.clocks.now clock old new taps_old taps_new
-
 pub record HaveTakenSome {T : Type 0} (stands : T → List Call
-    → Type 0) (plan : Plan) (library : Sounds) (clocks : List NodeClock) (clock : NodeClock)
+    → Type 0) (scene : Scene) (clock : NodeClock)
     (old : List NodeState) (taps_old taps_new : T) : Type 0 where
   pub made : List Call
   pub taps : Adds stands taps_old taps_new made
   pub begins : (other : Setting) (sub : ℕ → ℕ → List Slot) (past : List Moment) (filled : ℕ → ℕ) (front : ℕ
       → List Answer) →
-      let setting = over plan library clocks other in
+      let setting = setting_over scene other in
       HasOwnReaders setting → nat_eq (length past % setting.plan.frame) 0 ≡ true
       → HasAnswers setting (after_calls front made)
       → ClockStands setting sub clock past filled old → HaveTaken setting clock past filled front
       → IsBegin made (takes_below setting clock past (length setting.plan.nodes))
-
--- the same over a scene
-abbrev pub HaveTakenSomeOver : {T : Type 0} → (T → List Call → Type 0) → Scene → NodeClock → List NodeState → T → T
-    → Type 0
-HaveTakenSomeOver stands scene clock old taps_old taps_new = HaveTakenSome stands scene.plan.now scene.library.now
-    scene.clocks.now clock old taps_old taps_new

@@ -2,14 +2,11 @@
 ghost use Rattle.std.specs.Prelude.{◌≡◌, ◌<◌, ◌||◌, ℕ, List, Option, None, All, nat_eq, length, false, slice_index_or};
 ghost use Rattle.std.specs.List.{list_any};
 ghost use Rattle.liq_base.specs.declared.memory.Kind.{Kind as TheKind};
-ghost use Rattle.clock_infer.specs.declared.clock_map.NodeClock.{NodeClock as Clock};
-ghost use Rattle.frame_core.specs.Library.{Sounds};
 ghost use Rattle.stream_meaning.specs.Operators.{work_of};
 ghost use Rattle.stream_meaning.specs.Instants.{Setting, child_at, demands_from, offering, part_at, silent, uses_by, uses_from};
 ghost use Rattle.clock_instants.specs.Demands.{PicksOffer, uses_in};
 ghost use Rattle.clock_nodes.specs.Nodes.{AreNodesOf, lies_at};
-ghost use Rattle.clock_nodes.specs.Scenes.{IsScene};
-ghost use Rattle.clock_nodes.specs.States.{over};
+ghost use Rattle.clock_nodes.specs.Scenes.{IsScene, setting_over};
 
 use clock_infer::NodeClock;
 use clock_nodes::{ClockNodes, Scene};
@@ -42,10 +39,10 @@ pub fn find_demanded(
         → slice_index_or demanded.old j false ≡ false }
     ensures others { (j : ℕ) → lies_at scene.now.clocks.now clock j ≡ false
         → slice_index_or demanded.new j false ≡ false }
-    ensures demands { (library : Sounds) (clocks : List Clock) (setting : Setting)
+    ensures demands { (setting : Setting)
         → PicksOffer scene.now.plan.now.nodes parts.now
         → demanded.new ≡ demands_from (λ j. slice_index_or demanded.old j false) 0
-        (uses_from (over scene.now.plan.now library clocks setting) parts.now 0 scene.now.plan.now.nodes) }
+        (uses_from (setting_over scene.now setting) parts.now 0 scene.now.plan.now.nodes) }
 {
     let all = scene.plan.nodes.as_slice();
     let mut i = nodes.end(clock);

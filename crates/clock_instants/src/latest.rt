@@ -4,8 +4,8 @@ ghost use Rattle.stream_meaning.specs.Instants.{part_at, silent};
 ghost use Rattle.clock_instants.specs.Finishing.{InstantFinished};
 ghost use Rattle.clock_nodes.specs.Nodes.{AreNodesOf, lies_at};
 ghost use Rattle.clock_instants.specs.Instants.{IsLatest};
-ghost use Rattle.clock_nodes.specs.Scenes.{AllFitOver, IsScene};
-ghost use Rattle.clock_nodes.specs.States.{HasRoomFor};
+ghost use Rattle.clock_nodes.specs.Scenes.{IsScene};
+ghost use Rattle.clock_nodes.specs.States.{AllFit, HasRoomFor};
 
 use crate::demand::find_demanded;
 use crate::holding::hold;
@@ -47,12 +47,12 @@ impl Latest {
         requires chains { AreNodesOf scene.now.clocks.now nodes.now }
         requires in_own { length own.now ≡ length scene.now.plan.now.nodes }
         requires latest { IsLatest scene.now.clocks.now self.old }
-        requires fit { AllFitOver scene.now states.old }
+        requires fit { AllFit scene.now states.old }
         requires room { HasRoomFor scene.now.plan.now desk.old }
         requires in_held { length held.old ≡ length scene.now.plan.now.nodes }
         ensures room { desk.new ≡ desk.old }
         ensures latest { IsLatest scene.now.clocks.now self.new }
-        ensures fit { AllFitOver scene.now states.new }
+        ensures fit { AllFit scene.now states.new }
         ensures others { (i : ℕ) → lies_at scene.now.clocks.now clock i ≡ false
             → slice_get states.new i ≡ slice_get states.old i }
         ensures kept { (i : ℕ) → lies_at scene.now.clocks.now clock i ≡ false

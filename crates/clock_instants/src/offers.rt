@@ -6,8 +6,8 @@ ghost use Rattle.frame_core.specs.Slots.{Slot as TheSlot};
 ghost use Rattle.stream_meaning.specs.Instants.{Setting, Moment, lies_in, part_at, part_in, parts_upto, second_at, silent, work_at};
 ghost use Rattle.node_states.specs.States.{AreLong, Fits, IsSettled, StateStands};
 ghost use Rattle.clock_nodes.specs.Nodes.{AreNodesOf, lies_at};
-ghost use Rattle.clock_nodes.specs.Scenes.{AllFitOver, IsScene, setting_over};
-ghost use Rattle.clock_nodes.specs.States.{AreSettled, ClockStands, HasRoomFor, IsIn};
+ghost use Rattle.clock_nodes.specs.Scenes.{IsScene, setting_over};
+ghost use Rattle.clock_nodes.specs.States.{AllFit, AreSettled, ClockStands, HasRoomFor, IsIn};
 
 use clock_infer::NodeClock;
 use clock_nodes::{ClockNodes, Scene};
@@ -29,7 +29,7 @@ pub fn make_parts(
     requires chains { AreNodesOf scene.now.clocks.now nodes.now }
     requires in_parts { length parts.old ≡ length scene.now.plan.now.nodes }
     requires none { (j : ℕ) → part_at parts.old j ≡ silent }
-    requires fit { AllFitOver scene.now states.now }
+    requires fit { AllFit scene.now states.now }
     requires room { HasRoomFor scene.now.plan.now desk.old }
     ensures room { desk.new ≡ desk.old }
     ensures others { (j : ℕ) → lies_at scene.now.clocks.now clock j ≡ false → part_at parts.new j ≡ silent }

@@ -6,8 +6,9 @@ ghost use Rattle.op_mix.specs.Stretches.{HasLane, samples_of};
 ghost use Rattle.node_states.specs.Stretches.{LiesAhead};
 ghost use Rattle.node_states.specs.States.{Fits};
 ghost use Rattle.clock_nodes.specs.Nodes.{AreNodesOf, lies_at};
-ghost use Rattle.clock_instants.specs.Stretches.{AllLieAheadOver, AreAtOnce, HasKeptSamples, HasLanes, HasRoomToRun, HasStretchRoom, IsSpare, NodeMade, NodeRun, NodesRun};
-ghost use Rattle.clock_nodes.specs.Scenes.{AllFitOver, IsScene};
+ghost use Rattle.clock_instants.specs.Stretches.{AllLieAhead, AreAtOnce, HasKeptSamples, HasLanes, HasRoomToRun, HasStretchRoom, IsSpare, NodeMade, NodeRun, NodesRun};
+ghost use Rattle.clock_nodes.specs.Scenes.{IsScene};
+ghost use Rattle.clock_nodes.specs.States.{AllFit};
 
 use crate::held::title_below;
 use crate::{Spare, StretchRoom};
@@ -34,9 +35,9 @@ pub fn run_nodes(
     requires room { HasStretchRoom (length scene.now.plan.now.nodes) stretch_room.old }
     requires some { 0 < many }
     requires short { many ≤ 2048 }
-    requires fit { AllFitOver scene.now states.old }
-    requires ahead { AllLieAheadOver scene.now clock stretch_room.old.held.items states.old many }
-    ensures fit { AllFitOver scene.now states.new }
+    requires fit { AllFit scene.now states.old }
+    requires ahead { AllLieAhead scene.now clock stretch_room.old.held.items states.old many }
+    ensures fit { AllFit scene.now states.new }
     ensures room { HasStretchRoom (length scene.now.plan.now.nodes) stretch_room.new }
     ensures held { stretch_room.new.held ≡ stretch_room.old.held }
     ensures rests { stretch_room.new.rests ≡ stretch_room.old.rests }
@@ -83,9 +84,9 @@ fn run_each(
     requires chains { AreNodesOf scene.now.clocks.now nodes.now }
     requires room { HasRoomToRun (length scene.now.plan.now.nodes) held.now parts.old left.old right.old spare.old }
     requires many { AreAtOnce many }
-    requires fit { AllFitOver scene.now states.old }
-    requires ahead { AllLieAheadOver scene.now clock held.now states.old many }
-    ensures fit { AllFitOver scene.now states.new }
+    requires fit { AllFit scene.now states.old }
+    requires ahead { AllLieAhead scene.now clock held.now states.old many }
+    ensures fit { AllFit scene.now states.new }
     ensures outside { (j : ℕ) → lies_at scene.now.clocks.now clock j ≡ false → part_at parts.new j ≡ silent }
     ensures others { (i : ℕ) → lies_at scene.now.clocks.now clock i ≡ false
         → slice_get states.new i ≡ slice_get states.old i }

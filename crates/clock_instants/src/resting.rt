@@ -6,11 +6,12 @@ ghost use Rattle.stream_meaning.specs.Operators.{Reads, work_of};
 ghost use Rattle.node_states.specs.Passing.{passes};
 ghost use Rattle.node_states.specs.Stretches.{LiesAhead};
 ghost use Rattle.node_states.specs.States.{Fits};
-ghost use Rattle.clock_instants.specs.Held.{AllPassOnOver};
+ghost use Rattle.clock_instants.specs.Held.{AllPassOn};
 ghost use Rattle.clock_nodes.specs.Nodes.{AreNodesOf};
 ghost use Rattle.clock_instants.specs.Resting.{MarksStay, NodeGoesOn, begins_at};
-ghost use Rattle.clock_instants.specs.Stretches.{AllLieAheadOver, ClockGoesOn};
-ghost use Rattle.clock_nodes.specs.Scenes.{AllFitOver, IsScene};
+ghost use Rattle.clock_instants.specs.Stretches.{AllLieAhead, ClockGoesOn};
+ghost use Rattle.clock_nodes.specs.Scenes.{IsScene};
+ghost use Rattle.clock_nodes.specs.States.{AllFit};
 
 use crate::held::title_below;
 use clock_infer::NodeClock;
@@ -40,11 +41,11 @@ pub fn rest_of(
     requires in_parts { length parts.now ≡ length scene.now.plan.now.nodes }
     requires in_held { length held.now ≡ length scene.now.plan.now.nodes }
     requires in_rests { length rests.now ≡ length scene.now.plan.now.nodes }
-    requires fit { AllFitOver scene.now states.now }
+    requires fit { AllFit scene.now states.now }
     ensures within { result ≤ most }
     ensures later { result ≤ time.rate }
-    ensures ahead { AllLieAheadOver scene.now clock held.now states.now result }
-    ensures through { AllPassOnOver scene.now clock held.now states.now rests.now result }
+    ensures ahead { AllLieAhead scene.now clock held.now states.now result }
+    ensures through { AllPassOn scene.now clock held.now states.now rests.now result }
     ensures goes { ClockGoesOn scene.now clock time parts.now held.now states.now rests.now result }
 {
     let tick = time.tick_left();

@@ -5,8 +5,9 @@ ghost use Rattle.plan_core.specs.declared.node.Op.TheVariants.{Buffer};
 ghost use Rattle.plan_core.specs.Plans.{IsNoReader};
 ghost use Rattle.node_states.specs.States.{Fits};
 ghost use Rattle.clock_nodes.specs.Nodes.{AreNodesOf, lies_at};
-ghost use Rattle.clock_nodes.specs.Scenes.{AllFitOver, IsScene};
-ghost use Rattle.clock_instants.specs.Takes.{HasReader, HaveBegunOver, HaveTakenSomeOver, IsReader, NodeBeganOver, NodeTookSomeOver, ReadersAreIn};
+ghost use Rattle.clock_nodes.specs.Scenes.{IsScene};
+ghost use Rattle.clock_nodes.specs.States.{AllFit};
+ghost use Rattle.clock_instants.specs.Takes.{HasReader, HaveBegun, HaveTakenSome, IsReader, NodeBegan, NodeTookSome, ReadersAreIn};
 
 use clock_infer::NodeClock;
 use clock_nodes::{ClockNodes, Scene};
@@ -26,15 +27,15 @@ pub fn begin_readers<T: Taps>(
 ) -> Result<(), Memory>
     requires scene { IsScene scene.now }
     requires chains { AreNodesOf scene.now.clocks.now nodes.now }
-    requires fit { AllFitOver scene.now states.old }
+    requires fit { AllFit scene.now states.old }
     requires readers { ReadersAreIn scene.now.plan.now (T.buffers taps.old) }
     ensures buffers { T.buffers taps.new ≡ T.buffers taps.old }
     ensures same { T.same taps.old taps.new }
-    ensures fit { AllFitOver scene.now states.new }
+    ensures fit { AllFit scene.now states.new }
     ensures others { (i : ℕ) → lies_at scene.now.clocks.now clock i ≡ false
         → slice_get states.new i ≡ slice_get states.old i }
-    ensures begun { OnOk result (HaveBegunOver T.stands scene.now clock states.old states.new taps.old taps.new) }
-    ensures stopped { OnErr result (HaveTakenSomeOver T.stands scene.now clock states.old taps.old taps.new) }
+    ensures begun { OnOk result (HaveBegun T.stands scene.now clock states.old states.new taps.old taps.new) }
+    ensures stopped { OnErr result (HaveTakenSome T.stands scene.now clock states.old taps.old taps.new) }
     ensures reads { OnErr result (HasReader scene.now.plan.now scene.now.clocks.now clock) }
 {
     let mut i = nodes.first(clock);
@@ -59,8 +60,8 @@ fn take_at<T: Taps>(
     ensures fits { (node : PlanNode) → slice_get scene.now.plan.now.nodes i ≡ Some node
         → Fits scene.now.library.now (length node.children) state.old
         → Fits scene.now.library.now (length node.children) state.new }
-    ensures begun { OnOk result (NodeBeganOver T.stands scene.now i state.old state.new taps.old taps.new) }
-    ensures stopped { OnErr result (NodeTookSomeOver T.stands scene.now i state.old taps.old taps.new) }
+    ensures begun { OnOk result (NodeBegan T.stands scene.now i state.old state.new taps.old taps.new) }
+    ensures stopped { OnErr result (NodeTookSome T.stands scene.now i state.old taps.old taps.new) }
     ensures reads { OnErr result (IsReader scene.now.plan.now i) }
 {
     match buffer_of(&scene.plan.nodes.as_slice()[i].op) {

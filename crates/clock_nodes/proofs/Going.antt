@@ -4,8 +4,6 @@ use Rattle.std.proofs.lemmas.Bool.{cases_lt, true≢false}
 use Rattle.std.proofs.lemmas.List.{length-map}
 use Rattle.std.proofs.lemmas.Option.{slice_get_within}
 use Rattle.std.proofs.Math.ListN.{length-set}
-use Rattle.plan_core.specs.declared.plan.Plan.{Plan}
-use Rattle.frame_core.specs.Library.{Sounds}
 use Rattle.plan_core.specs.declared.node.Node.{Node}
 use Rattle.clock_infer.specs.declared.clock_map.NodeClock.{NodeClock}
 use Rattle.frame_core.specs.Slots.{Slot}
@@ -14,6 +12,7 @@ use Rattle.stream_meaning.specs.Instants.{Setting, Moment, demanded, part_at, pa
 use Rattle.node_states.specs.declared.state.NodeState.{NodeState}
 use Rattle.node_states.specs.States.{Fits, IsSettled, StateStands}
 use Rattle.clock_nodes.specs.Nodes.{IsFirst}
+use Rattle.clock_nodes.specs.declared.scene.Scene.{Scene}
 use Rattle.clock_nodes.specs.States.{AllFit, AreSettled, ClockStands, IsIn}
 use Rattle.clock_nodes.proofs.Parts.{own_part}
 use Rattle.clock_nodes.proofs.Places.{same_or_other, slice_get-set_other, slice_get-set_same}
@@ -82,19 +81,19 @@ goes_on setting sub clock past moment filled i node parts marks states old new p
     (ap (λ ms. get_or ms i false) same_marks ∙ mark_is)
 
 -- a state that fits in the place of one that did
-pub fit_set : (plan : Plan) (library : Sounds) (states : List NodeState) (i : ℕ) (new : NodeState) → i < length states
-    → ((node : Node) → slice_get plan.nodes i ≡ Some node → Fits library (length node.children) new)
-    → AllFit plan library states → AllFit plan library (set states i new)
-fit_set plan library states i new within fits all = record {
+pub fit_set : (scene : Scene) (states : List NodeState) (i : ℕ) (new : NodeState) → i < length states
+    → ((node : Node) → slice_get scene.plan.now.nodes i ≡ Some node → Fits scene.library.now (length node.children) new)
+    → AllFit scene states → AllFit scene (set states i new)
+fit_set scene states i new within fits all = record {
   size = length-set _ _ _ ∙ all.size;
   each = λ k node state found stored. elim (same_or_other i k) [
-    | inl same ↦ subst (λ j. slice_get plan.nodes j ≡ Some node → slice_get (set states i new) j ≡ Some state → Fits library (length node.children) state) same (here node state) found stored
+    | inl same ↦ subst (λ j. slice_get scene.plan.now.nodes j ≡ Some node → slice_get (set states i new) j ≡ Some state → Fits scene.library.now (length node.children) state) same (here node state) found stored
     | inr apart ↦ all.each k node state found (sym (slice_get-set_other states i k new apart) ∙ stored)
   ];
 }
   where
-    here : (node : Node) (state : NodeState) → slice_get plan.nodes i ≡ Some node → slice_get (set states i new) i ≡ Some state → Fits library (length node.children) state
+    here : (node : Node) (state : NodeState) → slice_get scene.plan.now.nodes i ≡ Some node → slice_get (set states i new) i ≡ Some state → Fits scene.library.now (length node.children) state
     here node state found stored =
         let put : Some new ≡ Some state = sym (slice_get-set_same states i new within) ∙ stored in
         let same : new ≡ state = cc in
-        subst (λ s. Fits library (length node.children) s) same (fits node found)
+        subst (λ s. Fits scene.library.now (length node.children) s) same (fits node found)

@@ -1,11 +1,9 @@
 -- What an engine runs over: a plan with its files and the clock of each node.
-use Rattle.std.specs.Prelude.{◌≡◌, ◌≤◌, List, length}
+use Rattle.std.specs.Prelude.{◌≡◌, ◌≤◌, length}
 use Rattle.liq_base.specs.declared.limits.TheConstants.{MAX_NODES}
 use Rattle.plan_core.specs.Plans.{AreNodes}
 use Rattle.stream_meaning.specs.Instants.{Setting}
-use Rattle.node_states.specs.declared.state.NodeState.{NodeState}
 use Rattle.clock_nodes.specs.declared.scene.Scene.{Scene}
-use Rattle.clock_nodes.specs.States.{AllFit, over}
 
 -- each node stands over nodes before it, there are no more than a plan has, and each has its clock
 pub record IsScene (scene : Scene) : Type 0 where
@@ -15,8 +13,10 @@ pub record IsScene (scene : Scene) : Type 0 where
 
 -- a setting over a scene, and all else as in another one
 abbrev pub setting_over : Scene → Setting → Setting
-setting_over scene other = over scene.plan.now scene.library.now scene.clocks.now other
-
--- each state is one of its node
-abbrev pub AllFitOver : Scene → List NodeState → Type 0
-AllFitOver scene states = AllFit scene.plan.now scene.library.now states
+setting_over scene other = record {
+  plan = scene.plan.now;
+  library = scene.library.now;
+  clocks = scene.clocks.now;
+  start = other.start;
+  answers = other.answers;
+}

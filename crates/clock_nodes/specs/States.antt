@@ -4,20 +4,10 @@ use Rattle.plan_core.specs.declared.node.Node.{Node}
 use Rattle.plan_core.specs.declared.plan.Plan.{Plan}
 use Rattle.clock_infer.specs.declared.clock_map.NodeClock.{NodeClock}
 use Rattle.frame_core.specs.Slots.{Slot}
-use Rattle.frame_core.specs.Library.{Sounds}
 use Rattle.stream_meaning.specs.Instants.{Setting, Moment, lies_in, is_root, work_at}
 use Rattle.node_states.specs.declared.state.NodeState.{NodeState}
 use Rattle.node_states.specs.States.{Fits, IsSettled, StateStands}
-
--- a setting with this plan, these files and these clocks, and all else as in another one
-abbrev pub over : Plan → Sounds → List NodeClock → Setting → Setting
-over plan library clocks setting = record {
-  plan = plan;
-  library = library;
-  clocks = clocks;
-  start = setting.start;
-  answers = setting.answers;
-}
+use Rattle.clock_nodes.specs.declared.scene.Scene.{Scene}
 
 -- a node of this clock
 pub record IsIn (setting : Setting) (clock : NodeClock) (i : ℕ) (node : Node) : Type 0 where
@@ -37,12 +27,11 @@ pub record AreSettled (setting : Setting) (sub : ℕ → ℕ → List Slot) (clo
   pub each : (i : ℕ) (node : Node) → IsIn setting clock i node
       → IsSettled sub past (filled i) i (work_at setting i node)
 
--- each state is one of its node of a plan
-pub record AllFit (plan : Plan) (library : Sounds) (states : List NodeState) : Type 0 where
-  pub size : length states ≡ length plan.nodes
-  pub each : (i : ℕ) (node : Node) (state : NodeState) → slice_get plan.nodes i ≡ Some node
-      → slice_get states i ≡ Some state
-      → Fits library (length node.children) state
+-- each state is one of its node
+pub record AllFit (scene : Scene) (states : List NodeState) : Type 0 where
+  pub size : length states ≡ length scene.plan.now.nodes
+  pub each : (i : ℕ) (node : Node) (state : NodeState) → slice_get scene.plan.now.nodes i ≡ Some node
+      → slice_get states i ≡ Some state → Fits scene.library.now (length node.children) state
 
 -- there is room for the children of each node of a plan
 pub record HasRoomFor (plan : Plan) (room : ℕ) : Type 0 where

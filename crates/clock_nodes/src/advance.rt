@@ -5,8 +5,8 @@ ghost use Rattle.frame_core.specs.Slots.{Slot as TheSlot};
 ghost use Rattle.stream_meaning.specs.Instants.{Setting, Moment, parts_upto, same_clock};
 ghost use Rattle.node_states.specs.States.{AreLong};
 ghost use Rattle.clock_nodes.specs.Nodes.{AreNodesOf};
-ghost use Rattle.clock_nodes.specs.Scenes.{AllFitOver, IsScene, setting_over};
-ghost use Rattle.clock_nodes.specs.States.{AreSettled, ClockStands};
+ghost use Rattle.clock_nodes.specs.Scenes.{IsScene, setting_over};
+ghost use Rattle.clock_nodes.specs.States.{AllFit, AreSettled, ClockStands};
 
 use crate::{ClockNodes, Scene};
 use clock_infer::NodeClock;
@@ -26,8 +26,8 @@ pub fn advance_all(
     requires chains { AreNodesOf scene.now.clocks.now nodes.now }
     requires in_parts { length parts.now ≡ length scene.now.plan.now.nodes }
     requires in_demanded { length demanded.now ≡ length scene.now.plan.now.nodes }
-    requires fit { AllFitOver scene.now states.old }
-    ensures fit { AllFitOver scene.now states.new }
+    requires fit { AllFit scene.now states.old }
+    ensures fit { AllFit scene.now states.new }
     ensures others { (i : ℕ) → same_clock (slice_index_or scene.now.clocks.now i (InMain 0)) clock ≡ false
         → slice_get states.new i ≡ slice_get states.old i }
     ensures stand { (setting : Setting) (sub : ℕ → ℕ → List TheSlot) (past : List Moment) (moment : Moment) (filled : ℕ

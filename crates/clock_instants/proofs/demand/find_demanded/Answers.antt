@@ -4,7 +4,7 @@ use Rattle.std.proofs.lemmas.Option.{slice_get_read}
 use Rattle.stream_meaning.specs.Instants.{part_at, silent}
 use Rattle.clock_instants.specs.Demands.{uses_in}
 use Rattle.clock_nodes.specs.Nodes.{lies_at}
-use Rattle.clock_nodes.specs.States.{over}
+use Rattle.clock_nodes.specs.Scenes.{setting_over}
 use Rattle.clock_instants.proofs.Marking.{Marked-all, Marked-used, Marked-unused}
 use Rattle.clock_instants.proofs.Unmarked.{Marked-over, not_used, stays_unmarked}
 use Rattle.clock_nodes.proofs.Walking.{end_own}
@@ -46,10 +46,10 @@ loop-i-init c =
       within = omega (arith, high, all, c.requires.scene.in_clocks);
       own = end.own;
       others = c.requires.demanded;
-      marked = λ library clocks setting picks.
-          Marked-over (over c.args.scene.now.plan.now library clocks setting) _ _ _ _ (length c.args.scene.now.clocks.now) c.end-i.result many (omega (arith, all, c.requires.scene.in_clocks)) high
+      marked = λ setting picks.
+          Marked-over (setting_over c.args.scene.now setting) _ _ _ _ (length c.args.scene.now.clocks.now) c.end-i.result many (omega (arith, all, c.requires.scene.in_clocks)) high
           (λ j from upto. c.requires.demanded j (end.skips j from upto))
-          (Marked-all (over c.args.scene.now.plan.now library clocks setting) _ _ _ (length c.args.scene.now.clocks.now) (omega (arith, c.requires.in_demanded, c.requires.scene.in_clocks)) (omega (arith, all, c.requires.scene.in_clocks)));
+          (Marked-all (setting_over c.args.scene.now setting) _ _ _ (length c.args.scene.now.clocks.now) (omega (arith, c.requires.in_demanded, c.requires.scene.in_clocks)) (omega (arith, all, c.requires.scene.in_clocks)));
     }
 
 pub loop-i-smaller : goal.loop-i-smaller
@@ -83,15 +83,15 @@ loop-i-preserved-then-demanded-at c =
       within = omega (arith, high, within, next);
       own = end.own;
       others = others;
-      marked = λ library clocks setting picks.
-          Marked-over (over c.args.scene.now.plan.now library clocks setting) _ _ _ _ (c.loop-i.i - 1) c.before-i.result many (omega (arith, in_nodes)) high
+      marked = λ setting picks.
+          Marked-over (setting_over c.args.scene.now setting) _ _ _ _ (c.loop-i.i - 1) c.before-i.result many (omega (arith, in_nodes)) high
           (λ j from upto. others j (end.skips j from upto))
-          (Marked-used (over c.args.scene.now.plan.now library clocks setting) _ _ _ _ _ _ _ _ in_nodes in_demanded c.index-all-at.is
+          (Marked-used (setting_over c.args.scene.now setting) _ _ _ _ _ _ _ _ in_nodes in_demanded c.index-all-at.is
           (c.demand_of.ensures c.args.scene.now.plan.now.rate (c.loop-i.i - 1) c.index-all-at.result.kind c.args.parts.now c.index-all-at.result.children (part_at c.args.parts.now (c.loop-i.i - 1)).pick
           (picks.each (c.loop-i.i - 1) c.index-all-at.result found)
           ∙ ap (λ xs. uses_in c.demand_of.result c.args.parts.now xs (part_at c.args.parts.now (c.loop-i.i - 1)).pick) (sym same)
           ∙ ap (λ p. uses_in c.demand_of.result c.args.parts.now c.as_slice.result.now p.pick) (get_or_default _ _ silent _ in_parts))
-          _ next (c.loop-i.invariant.marked library clocks setting picks) c.if-demanded-at.true long c.demand_used.ensures);
+          _ next (c.loop-i.invariant.marked setting picks) c.if-demanded-at.true long c.demand_used.ensures);
     }
 
 pub loop-i-preserved : goal.loop-i-preserved
@@ -108,8 +108,8 @@ loop-i-preserved c =
       within = omega (arith, high, within, next);
       own = end.own;
       others = c.loop-i.invariant.others;
-      marked = λ library clocks setting picks.
-          Marked-over (over c.args.scene.now.plan.now library clocks setting) _ _ _ _ (c.loop-i.i - 1) c.before-i.result many (omega (arith, in_nodes)) high
+      marked = λ setting picks.
+          Marked-over (setting_over c.args.scene.now setting) _ _ _ _ (c.loop-i.i - 1) c.before-i.result many (omega (arith, in_nodes)) high
           (λ j from upto. c.loop-i.invariant.others j (end.skips j from upto))
-          (Marked-unused (over c.args.scene.now.plan.now library clocks setting) _ _ _ _ _ in_nodes in_demanded _ next (c.loop-i.invariant.marked library clocks setting picks) c.if-demanded-at.false);
+          (Marked-unused (setting_over c.args.scene.now setting) _ _ _ _ _ in_nodes in_demanded _ next (c.loop-i.invariant.marked setting picks) c.if-demanded-at.false);
     }

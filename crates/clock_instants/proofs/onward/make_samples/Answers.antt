@@ -9,7 +9,7 @@ use Rattle.stream_meaning.specs.Instants.{crossfaded, gives, moment_after, part_
 use Rattle.node_states.specs.States.{Fits}
 use Rattle.op_mix.specs.Stretches.{samples_of}
 use Rattle.clock_instants.specs.Stretches.{NodeGivesOn, NodeHasMade}
-use Rattle.clock_nodes.specs.States.{over}
+use Rattle.clock_nodes.specs.Scenes.{setting_over}
 use Rattle.node_states.specs.Passing.{ChildFills, LaneFills, passes}
 use Rattle.node_states.proofs.Hearing.{given_yes}
 use Rattle.clock_instants.proofs.Gone.{child_low, goes_on}
@@ -41,7 +41,7 @@ returns-clause-fits c = λ node at.
 pub returns-clause-made : goal.returns-clause-made
 returns-clause-made c = record {
   made = λ other sub clock past filled node before.
-      let S = over c.args.scene.now.plan.now c.args.scene.now.library.now c.args.scene.now.clocks.now other in
+      let S = setting_over c.args.scene.now other in
       let found : slice_get c.args.scene.now.plan.now.nodes c.args.i ≡ Some c.index-as_slice-i.result =
       slice_get_read _ _ _ _ refl c.requires.within (c.index-as_slice-i.is ∙ ap (λ nodes. get_or nodes c.args.i c.index-as_slice-i.result) c.as_slice-2.ensures) in
       let one : Some c.index-as_slice-i.result ≡ Some node = sym found ∙ before.is.there in

@@ -8,7 +8,7 @@ use Rattle.stream_meaning.specs.declared.part.Part.{Part}
 use Rattle.stream_meaning.specs.Instants.{crossfaded, part_at, silent, work_at}
 use Rattle.op_mix.specs.Stretches.{samples_of}
 use Rattle.node_states.specs.Passing.{LaneFills}
-use Rattle.clock_nodes.specs.States.{over}
+use Rattle.clock_nodes.specs.Scenes.{setting_over}
 use Rattle.clock_nodes.proofs.Going.{fit_set}
 use Rattle.clock_instants.proofs.Gone.{reads_begun, run_all, run_none, run_skip, run_step}
 use Rattle.clock_instants.proofs.Kept.{laid_none, laid_skip, laid_step, parts_given}
@@ -35,8 +35,8 @@ loop-i-init c =
       left_kept = λ k outside. refl;
       right_kept = λ k outside. refl;
       done = λ other sub past filled going.
-          run_skip (over c.args.scene.now.plan.now c.args.scene.now.library.now c.args.scene.now.clocks.now other) sub c.args.clock past c.args.many filled c.args.states.now 0 c.first-i.result c.args.left.now c.args.right.now c.args.states.now first
-          (run_none (over c.args.scene.now.plan.now c.args.scene.now.library.now c.args.scene.now.clocks.now other) sub c.args.clock past c.args.many filled c.args.states.now c.args.left.now c.args.right.now c.args.states.now);
+          run_skip (setting_over c.args.scene.now other) sub c.args.clock past c.args.many filled c.args.states.now 0 c.first-i.result c.args.left.now c.args.right.now c.args.states.now first
+          (run_none (setting_over c.args.scene.now other) sub c.args.clock past c.args.many filled c.args.states.now c.args.left.now c.args.right.now c.args.states.now);
     }
 
 pub loop-i-smaller : goal.loop-i-smaller
@@ -79,7 +79,7 @@ loop-i-preserved c =
     record {
       high = after.high;
       own = after.own;
-      fit = fit_set _ _ _ _ _ in_states (λ node found. c.run_node.ensures.fits node found) c.loop-i.invariant.fit;
+      fit = fit_set _ _ _ _ in_states (λ node found. c.run_node.ensures.fits node found) c.loop-i.invariant.fit;
       laid = laid_skip c.args.scene.now.clocks.now c.args.clock (part_at c.args.held.now) (λ k. silent) _ (suc c.loop-i.i) c.after-i.result after laid;
       in_parts = length-set _ _ _ ∙ c.loop-i.invariant.in_parts;
       in_left = search rules;
@@ -93,10 +93,10 @@ loop-i-preserved c =
       left_kept = λ k outside. (c.run_node.ensures.samples k (not_here c.args.scene.now.clocks.now c.args.clock c.loop-i.i k inside outside)).on_left ∙ c.loop-i.invariant.left_kept k outside;
       right_kept = λ k outside. (c.run_node.ensures.samples k (not_here c.args.scene.now.clocks.now c.args.clock c.loop-i.i k inside outside)).on_right ∙ c.loop-i.invariant.right_kept k outside;
       done = λ other sub past filled going.
-          let S = over c.args.scene.now.plan.now c.args.scene.now.library.now c.args.scene.now.clocks.now other in
+          let S = setting_over c.args.scene.now other in
           let before = c.loop-i.invariant.done other sub past filled going in
-          run_skip (over c.args.scene.now.plan.now c.args.scene.now.library.now c.args.scene.now.clocks.now other) sub c.args.clock past c.args.many filled c.args.states.now (suc c.loop-i.i) c.after-i.result c.run_node.new.left c.run_node.new.right _ after
-          (run_step (over c.args.scene.now.plan.now c.args.scene.now.library.now c.args.scene.now.clocks.now other) sub c.args.clock past c.args.many filled c.args.states.now c.loop-i.i c.loop-i.left c.loop-i.right c.run_node.new.left c.run_node.new.right c.loop-i.states c.run_node.new.state in_states
+          run_skip (setting_over c.args.scene.now other) sub c.args.clock past c.args.many filled c.args.states.now (suc c.loop-i.i) c.after-i.result c.run_node.new.left c.run_node.new.right _ after
+          (run_step (setting_over c.args.scene.now other) sub c.args.clock past c.args.many filled c.args.states.now c.loop-i.i c.loop-i.left c.loop-i.right c.run_node.new.left c.run_node.new.right c.loop-i.states c.run_node.new.state in_states
           (λ k low. (c.run_node.ensures.samples k (λ e. omega (arith, low, e))).on_left) (λ k low. (c.run_node.ensures.samples k (λ e. omega (arith, low, e))).on_right)
           node.0 _ (record { there = node.1; inside = inside }) was
           (c.run_node.ensures.run.run other sub c.args.clock past (filled c.loop-i.i) node.0 (record {
@@ -123,7 +123,7 @@ returns-clause-samples c i outside = record { on_left = c.loop-i.invariant.left_
 pub returns-clause-run : goal.returns-clause-run
 returns-clause-run c = record {
   run = λ other sub past filled going.
-      run_all (over c.args.scene.now.plan.now c.args.scene.now.library.now c.args.scene.now.clocks.now other) sub c.args.clock past c.args.many filled c.args.states.now c.loop-i.i c.loop-i.left c.loop-i.right c.loop-i.states
+      run_all (setting_over c.args.scene.now other) sub c.args.clock past c.args.many filled c.args.states.now c.loop-i.i c.loop-i.left c.loop-i.right c.loop-i.states
       (let high = c.loop-i.invariant.high in omega (arith, high, c.requires.scene.in_clocks, c.loop-i-test.false))
       (c.loop-i.invariant.done other sub past filled going);
 }

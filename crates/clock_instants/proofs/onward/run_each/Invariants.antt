@@ -4,7 +4,8 @@ use Rattle.stream_meaning.specs.Instants.{Setting, Moment, part_at, silent}
 use Rattle.op_mix.specs.Stretches.{samples_of}
 use Rattle.clock_nodes.specs.Nodes.{lies_at}
 use Rattle.clock_instants.specs.Stretches.{HasLanes, IsGoing, IsSpare}
-use Rattle.clock_nodes.specs.States.{AllFit, over}
+use Rattle.clock_nodes.specs.Scenes.{setting_over}
+use Rattle.clock_nodes.specs.States.{AllFit}
 use Rattle.clock_instants.proofs.Gone.{HaveGone}
 use Rattle.clock_instants.proofs.Kept.{AreLaid}
 use Rattle.clock_instants.proofs.onward.run_each.Given as goal
@@ -13,7 +14,7 @@ abbrev pub invariant-loop-i : goal.invariant-loop-i
 invariant-loop-i l = record {
   high : l.i ≤ length l.scene.clocks.now;
   own : l.i < length l.scene.clocks.now → lies_at l.scene.clocks.now l.fn.clock l.i ≡ true;
-  fit : AllFit l.scene.plan.now l.scene.library.now l.states;
+  fit : AllFit l.scene l.states;
   laid : AreLaid l.scene.clocks.now l.fn.clock (part_at l.held) (λ k. silent) l.parts l.i;
   in_parts : length l.parts ≡ length l.initial.parts;
   in_left : length l.left ≡ length l.initial.left;
@@ -25,7 +26,7 @@ invariant-loop-i l = record {
   left_kept : (k : ℕ) → lies_at l.scene.clocks.now l.fn.clock k ≡ false → samples_of l.left k l.many ≡ samples_of l.initial.left k l.many;
   right_kept : (k : ℕ) → lies_at l.scene.clocks.now l.fn.clock k ≡ false → samples_of l.right k l.many ≡ samples_of l.initial.right k l.many;
   done : (other : Setting) (sub : ℕ → ℕ → List Slot) (past : List Moment) (filled : ℕ → ℕ) →
-      let setting = over l.scene.plan.now l.scene.library.now l.scene.clocks.now other in
+      let setting = setting_over l.scene other in
       IsGoing setting sub l.fn.clock past l.many filled l.held l.initial.states l.initial.left l.initial.right →
       HaveGone setting sub l.fn.clock past l.many filled l.initial.states l.i l.left l.right l.states;
 }

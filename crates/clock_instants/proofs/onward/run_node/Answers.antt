@@ -4,7 +4,7 @@ use Rattle.std.specs.declared.alloc.Global.{Global}
 use Rattle.std.proofs.lemmas.List.{get_or_default, length-take-le, take-append-drop, with_items_is}
 use Rattle.stream_meaning.specs.declared.part.Part.{Part}
 use Rattle.stream_meaning.specs.Instants.{moment_after, silent}
-use Rattle.clock_nodes.specs.States.{over}
+use Rattle.clock_nodes.specs.Scenes.{setting_over}
 use Rattle.clock_instants.proofs.Gone.{has_run, kept_run}
 use Rattle.clock_instants.proofs.Kept.{gives_now}
 use Rattle.clock_instants.proofs.Samples.{samples_own}
@@ -13,7 +13,7 @@ use Rattle.clock_instants.proofs.onward.run_node.Goals as goal
 pub returns-then-not-gives-clause-run : goal.returns-then-not-gives-clause-run
 returns-then-not-gives-clause-run c = record {
   run = λ other sub clock past filled node before.
-      let S = over c.args.scene.now.plan.now c.args.scene.now.library.now c.args.scene.now.clocks.now other in
+      let S = setting_over c.args.scene.now other in
       let in_parts : c.args.i < length c.args.parts.now = omega (arith, c.requires.in_parts, c.requires.within) in
       kept_run S sub clock past c.args.count filled c.args.i node c.args.state.now c.args.left.now c.args.right.now c.requires.scene.nodes c.requires.count.some before.stretch before.is
       (gives_now (moment_after S sub clock past) c.args.parts.now c.args.i (before.given c.args.i (omega arith))
@@ -34,7 +34,7 @@ make_samples-requires-clause-ahead c =
 pub returns-clause-run : goal.returns-clause-run
 returns-clause-run c = record {
   run = λ other sub clock past filled node before.
-      let S = over c.args.scene.now.plan.now c.args.scene.now.library.now c.args.scene.now.clocks.now other in
+      let S = setting_over c.args.scene.now other in
       let in_left : c.args.i < length c.args.left.now = omega (arith, c.requires.in_left, c.requires.within) in
       let in_right : c.args.i < length c.args.right.now = omega (arith, c.requires.in_right, c.requires.within) in
       let made = c.make_samples.ensures.made.made other sub clock past filled node before in

@@ -6,7 +6,7 @@ use Rattle.stream_meaning.specs.Instants.{moment_after, part_at, silent, work_at
 use Rattle.stream_meaning.specs.Operators.{work_of}
 use Rattle.node_states.specs.States.{StateStands}
 use Rattle.clock_instants.specs.Resting.{begins_at}
-use Rattle.clock_nodes.specs.States.{over}
+use Rattle.clock_nodes.specs.Scenes.{setting_over}
 use Rattle.clock_instants.proofs.Stretched.{marks_are, node_stretches}
 use Rattle.clock_instants.proofs.resting.node_rest.Goals as goal
 
@@ -28,7 +28,7 @@ returns-clause-through c = λ gave through. c.rest.ensures.through (c.is_some-ga
 pub returns-clause-goes : goal.returns-clause-goes
 returns-clause-goes c = record {
   goes = λ other sub clock past filled node long is stands parts gave begun are time_is within.
-      let setting = over c.args.scene.now.plan.now c.args.scene.now.library.now c.args.scene.now.clocks.now other in
+      let setting = setting_over c.args.scene.now other in
       let found : slice_get c.args.scene.now.plan.now.nodes c.args.i ≡ Some c.index-as_slice-i.result =
       slice_get_read _ _ _ _ refl c.requires.within (c.index-as_slice-i.is ∙ ap (λ nodes. get_or nodes c.args.i c.index-as_slice-i.result) c.as_slice.ensures) in
       let one : Some c.index-as_slice-i.result ≡ Some node = sym found ∙ is.there in

@@ -10,7 +10,7 @@ use Rattle.node_states.specs.Passing.{asked, passes}
 use Rattle.node_states.specs.Stretches.{LiesAhead}
 use Rattle.node_states.specs.States.{StateStands}
 use Rattle.op_cross.specs.Runs.{run_of}
-use Rattle.clock_nodes.specs.States.{over}
+use Rattle.clock_nodes.specs.Scenes.{setting_over}
 use Rattle.clock_instants.proofs.Ahead.{ahead_all, ahead_none, ahead_skip, ahead_step, through_all, through_none, through_skip, through_step}
 use Rattle.clock_instants.proofs.Asking.{asks_all, asks_none, asks_skip, asks_step}
 use Rattle.clock_instants.proofs.Kept.{held_gives}
@@ -26,16 +26,16 @@ loop-i-init c =
       own = first.own;
       within = omega (arith, c.min-rest.ensures);
       later = omega (arith, c.min-rest.ensures);
-      ahead = ahead_skip c.args.scene.now.library.now c.args.scene.now.clocks.now c.args.clock c.args.held.now c.args.states.now 0 c.first-i.result c.min-rest.result first
-          (ahead_none c.args.scene.now.library.now c.args.scene.now.clocks.now c.args.clock c.args.held.now c.args.states.now c.min-rest.result);
-      through = through_skip c.args.scene.now.clocks.now c.args.clock c.args.held.now c.args.states.now c.args.rests.now 0 c.first-i.result c.min-rest.result first
-          (through_none c.args.scene.now.clocks.now c.args.clock c.args.held.now c.args.states.now c.args.rests.now c.min-rest.result);
+      ahead = ahead_skip c.args.scene.now c.args.clock c.args.held.now c.args.states.now 0 c.first-i.result c.min-rest.result first
+          (ahead_none c.args.scene.now c.args.clock c.args.held.now c.args.states.now c.min-rest.result);
+      through = through_skip c.args.scene.now c.args.clock c.args.held.now c.args.states.now c.args.rests.now 0 c.first-i.result c.min-rest.result first
+          (through_none c.args.scene.now c.args.clock c.args.held.now c.args.states.now c.args.rests.now c.min-rest.result);
       done = λ other sub past filled behind.
-          on_skip (over c.args.scene.now.plan.now c.args.scene.now.library.now c.args.scene.now.clocks.now other) sub c.args.clock past 0 c.first-i.result c.min-rest.result first
-          (on_none (over c.args.scene.now.plan.now c.args.scene.now.library.now c.args.scene.now.clocks.now other) sub c.args.clock past c.min-rest.result);
+          on_skip (setting_over c.args.scene.now other) sub c.args.clock past 0 c.first-i.result c.min-rest.result first
+          (on_none (setting_over c.args.scene.now other) sub c.args.clock past c.min-rest.result);
       asks = λ other sub past filled behind.
-          asks_skip (over c.args.scene.now.plan.now c.args.scene.now.library.now c.args.scene.now.clocks.now other) sub c.args.clock past filled c.args.states.now 0 c.first-i.result c.min-rest.result first
-          (asks_none (over c.args.scene.now.plan.now c.args.scene.now.library.now c.args.scene.now.clocks.now other) sub c.args.clock past filled c.args.states.now c.min-rest.result);
+          asks_skip (setting_over c.args.scene.now other) sub c.args.clock past filled c.args.states.now 0 c.first-i.result c.min-rest.result first
+          (asks_none (setting_over c.args.scene.now other) sub c.args.clock past filled c.args.states.now c.min-rest.result);
     }
 
 pub loop-i-smaller : goal.loop-i-smaller
@@ -63,16 +63,16 @@ loop-i-preserved c =
       own = after.own;
       within = omega (arith, w, c.loop-i.invariant.within);
       later = omega (arith, w, c.loop-i.invariant.later);
-      ahead = ahead_skip c.args.scene.now.library.now c.args.scene.now.clocks.now c.args.clock c.args.held.now c.args.states.now (suc c.loop-i.i) c.after-i.result c.node_rest-rest.result after
-          (ahead_step c.args.scene.now.library.now c.args.scene.now.clocks.now c.args.clock c.args.held.now c.args.states.now c.loop-i.i c.loop-i.rest c.node_rest-rest.result w
+      ahead = ahead_skip c.args.scene.now c.args.clock c.args.held.now c.args.states.now (suc c.loop-i.i) c.after-i.result c.node_rest-rest.result after
+          (ahead_step c.args.scene.now c.args.clock c.args.held.now c.args.states.now c.loop-i.i c.loop-i.rest c.node_rest-rest.result w
           (λ state at gave.
           let one : Some c.index-states-i.result ≡ Some state = sym found ∙ at in
           let same : c.index-states-i.result ≡ state = cc in
           subst (λ s. LiesAhead c.args.scene.now.library.now s c.node_rest-rest.result) same
           (c.node_rest-rest.ensures.ahead (sym held_is ∙ gave)))
           c.loop-i.invariant.ahead);
-      through = through_skip c.args.scene.now.clocks.now c.args.clock c.args.held.now c.args.states.now c.args.rests.now (suc c.loop-i.i) c.after-i.result c.node_rest-rest.result after
-          (through_step c.args.scene.now.clocks.now c.args.clock c.args.held.now c.args.states.now c.args.rests.now c.loop-i.i c.loop-i.rest c.node_rest-rest.result w
+      through = through_skip c.args.scene.now c.args.clock c.args.held.now c.args.states.now c.args.rests.now (suc c.loop-i.i) c.after-i.result c.node_rest-rest.result after
+          (through_step c.args.scene.now c.args.clock c.args.held.now c.args.states.now c.args.rests.now c.loop-i.i c.loop-i.rest c.node_rest-rest.result w
           (λ state at gave through.
           let one : Some c.index-states-i.result ≡ Some state = sym found ∙ at in
           let same : c.index-states-i.result ≡ state = cc in
@@ -80,9 +80,9 @@ loop-i-preserved c =
           omega (arith, l, rest_is))
           c.loop-i.invariant.through);
       done = λ other sub past filled behind.
-          let S = over c.args.scene.now.plan.now c.args.scene.now.library.now c.args.scene.now.clocks.now other in
-          on_skip (over c.args.scene.now.plan.now c.args.scene.now.library.now c.args.scene.now.clocks.now other) sub c.args.clock past (suc c.loop-i.i) c.after-i.result c.node_rest-rest.result after
-          (on_step (over c.args.scene.now.plan.now c.args.scene.now.library.now c.args.scene.now.clocks.now other) sub c.args.clock past c.loop-i.i c.loop-i.rest c.node_rest-rest.result w
+          let S = setting_over c.args.scene.now other in
+          on_skip (setting_over c.args.scene.now other) sub c.args.clock past (suc c.loop-i.i) c.after-i.result c.node_rest-rest.result after
+          (on_step (setting_over c.args.scene.now other) sub c.args.clock past c.loop-i.i c.loop-i.rest c.node_rest-rest.result w
           (λ node is.
           let gave_is = sym (held_gives S sub c.args.clock past c.args.held.now c.loop-i.i behind.held_are in_nodes is.inside) ∙ held_is in
           c.node_rest-rest.ensures.goes.goes other sub c.args.clock past (filled c.loop-i.i) node behind.long is
@@ -91,13 +91,13 @@ loop-i-preserved c =
           (λ buffer at. behind.begun.each c.loop-i.i node buffer is at)
           (λ gave through. subst (λ n. AreFilled S sub c.loop-i.i (filled c.loop-i.i) n c.title_below-below_title.result) rest_is (subst (λ t. AreFilled S sub c.loop-i.i (filled c.loop-i.i) (get_or c.args.rests.now c.loop-i.i 0) t) title_is (behind.filled_on.each c.loop-i.i node _ is found (gave_is ∙ gave) through)))
           behind.time_is
-          (tick_is (over c.args.scene.now.plan.now c.args.scene.now.library.now c.args.scene.now.clocks.now other) (length past) c.args.time c.tick_left-tick.result
+          (tick_is (setting_over c.args.scene.now other) (length past) c.args.time c.tick_left-tick.result
           c.requires.frame (λ j. c.tick_left-tick.ensures other.start (length past) j behind.time_is)))
           (c.loop-i.invariant.done other sub past filled behind));
       asks = λ other sub past filled behind.
-          let S = over c.args.scene.now.plan.now c.args.scene.now.library.now c.args.scene.now.clocks.now other in
-          asks_skip (over c.args.scene.now.plan.now c.args.scene.now.library.now c.args.scene.now.clocks.now other) sub c.args.clock past filled c.args.states.now (suc c.loop-i.i) c.after-i.result c.node_rest-rest.result after
-          (asks_step (over c.args.scene.now.plan.now c.args.scene.now.library.now c.args.scene.now.clocks.now other) sub c.args.clock past filled c.args.states.now c.loop-i.i c.loop-i.rest c.node_rest-rest.result w
+          let S = setting_over c.args.scene.now other in
+          asks_skip (setting_over c.args.scene.now other) sub c.args.clock past filled c.args.states.now (suc c.loop-i.i) c.after-i.result c.node_rest-rest.result after
+          (asks_step (setting_over c.args.scene.now other) sub c.args.clock past filled c.args.states.now c.loop-i.i c.loop-i.rest c.node_rest-rest.result w
           (λ overlap j node state is at there gave less.
           let one : Some c.index-states-i.result ≡ Some state = sym found ∙ there in
           let same : c.index-states-i.result ≡ state = cc in
@@ -115,24 +115,24 @@ pub returns-clause-ahead : goal.returns-clause-ahead
 returns-clause-ahead c =
     let high = c.loop-i.invariant.high in
     let all : c.loop-i.i ≡ length c.args.scene.now.clocks.now = omega (arith, high, c.loop-i-test.false) in
-    ahead_all c.args.scene.now.library.now c.args.scene.now.clocks.now c.args.clock c.args.held.now c.args.states.now c.loop-i.i c.loop-i.rest all c.loop-i.invariant.ahead
+    ahead_all c.args.scene.now c.args.clock c.args.held.now c.args.states.now c.loop-i.i c.loop-i.rest all c.loop-i.invariant.ahead
 
 pub returns-clause-through : goal.returns-clause-through
 returns-clause-through c =
     let high = c.loop-i.invariant.high in
     let all : c.loop-i.i ≡ length c.args.scene.now.clocks.now = omega (arith, high, c.loop-i-test.false) in
-    through_all c.args.scene.now.clocks.now c.args.clock c.args.held.now c.args.states.now c.args.rests.now c.loop-i.i c.loop-i.rest all c.loop-i.invariant.through
+    through_all c.args.scene.now c.args.clock c.args.held.now c.args.states.now c.args.rests.now c.loop-i.i c.loop-i.rest all c.loop-i.invariant.through
 
 pub returns-clause-goes : goal.returns-clause-goes
 returns-clause-goes c =
     let high = c.loop-i.invariant.high in
     record {
       stretch = λ other sub past filled behind.
-          on_all (over c.args.scene.now.plan.now c.args.scene.now.library.now c.args.scene.now.clocks.now other) sub c.args.clock past c.loop-i.i c.loop-i.rest
+          on_all (setting_over c.args.scene.now other) sub c.args.clock past c.loop-i.i c.loop-i.rest
           (omega (arith, high, c.requires.scene.in_clocks, c.loop-i-test.false))
           (c.loop-i.invariant.done other sub past filled behind);
       asks = λ other sub past filled behind.
-          asks_all (over c.args.scene.now.plan.now c.args.scene.now.library.now c.args.scene.now.clocks.now other) sub c.args.clock past filled c.args.states.now c.loop-i.i (length c.args.scene.now.clocks.now) c.loop-i.rest
+          asks_all (setting_over c.args.scene.now other) sub c.args.clock past filled c.args.states.now c.loop-i.i (length c.args.scene.now.clocks.now) c.loop-i.rest
           (omega (arith, high, c.loop-i-test.false))
           (c.loop-i.invariant.asks other sub past filled behind);
     }

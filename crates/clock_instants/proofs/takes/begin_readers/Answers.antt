@@ -20,7 +20,7 @@ loop-i-init g c =
       left = λ k high. refl;
       buffers = refl;
       same = g.met.T.Taps.same_refl c.args.taps.now;
-      beginning = beginning_none g.T.Taps.stands c.args.scene.now.plan.now c.args.scene.now.library.now c.args.scene.now.clocks.now c.args.clock c.args.states.now c.args.taps.now c.first-i.result first;
+      beginning = beginning_none g.T.Taps.stands c.args.scene.now c.args.clock c.args.states.now c.args.taps.now c.first-i.result first;
     }
 
 pub loop-i-smaller : goal.loop-i-smaller
@@ -33,7 +33,7 @@ pub returns-in_err-take_at-clause-fit : goal.returns-in_err-take_at-clause-fit
 returns-in_err-take_at-clause-fit g c =
     let in_nodes : c.loop-i.i < length c.args.scene.now.plan.now.nodes = omega (arith, c.requires.scene.in_clocks, c.loop-i-test.true) in
     let in_states : c.loop-i.i < length c.loop-i.states = omega (arith, c.loop-i.invariant.fit.size, in_nodes) in
-    fit_set _ _ _ _ _ in_states (λ node at. c.take_at.ensures.fits node at (c.loop-i.invariant.fit.each c.loop-i.i node _ at (slice_get-get_or _ _ _ in_states))) c.loop-i.invariant.fit
+    fit_set _ _ _ _ in_states (λ node at. c.take_at.ensures.fits node at (c.loop-i.invariant.fit.each c.loop-i.i node _ at (slice_get-get_or _ _ _ in_states))) c.loop-i.invariant.fit
 
 pub returns-in_err-take_at-clause-others : goal.returns-in_err-take_at-clause-others
 returns-in_err-take_at-clause-others g c j outside =
@@ -45,7 +45,7 @@ returns-in_err-take_at-clause-stopped g c =
     let in_nodes : c.loop-i.i < length c.args.scene.now.plan.now.nodes = omega (arith, c.requires.scene.in_clocks, c.loop-i-test.true) in
     let in_states : c.loop-i.i < length c.loop-i.states = omega (arith, c.loop-i.invariant.fit.size, in_nodes) in
     let node = item_there c.args.scene.now.plan.now.nodes c.loop-i.i in_nodes in
-    on_err c.from_residual.result (beginning_stopped g.T.Taps.stands c.args.scene.now.plan.now c.args.scene.now.library.now c.args.scene.now.clocks.now c.args.clock c.args.states.now c.args.taps.now
+    on_err c.from_residual.result (beginning_stopped g.T.Taps.stands c.args.scene.now c.args.clock c.args.states.now c.args.taps.now
     c.loop-i.states c.loop-i.taps c.take_at.new.taps c.loop-i.i node.0 _ node.1 (λ other. c.loop-i.invariant.own c.loop-i-test.true)
     (slice_get-get_or _ _ _ in_states) (c.loop-i.invariant.left c.loop-i.i (omega arith)) c.in_err-take_at.ensures.stopped c.loop-i.invariant.beginning)
 
@@ -59,7 +59,7 @@ loop-i-preserved g c =
     record {
       high = after.high;
       own = after.own;
-      fit = fit_set _ _ _ _ _ in_states (λ node at. c.take_at.ensures.fits node at (c.loop-i.invariant.fit.each c.loop-i.i node _ at (slice_get-get_or _ _ _ in_states))) c.loop-i.invariant.fit;
+      fit = fit_set _ _ _ _ in_states (λ node at. c.take_at.ensures.fits node at (c.loop-i.invariant.fit.each c.loop-i.i node _ at (slice_get-get_or _ _ _ in_states))) c.loop-i.invariant.fit;
       others = λ j outside.
           slice_get-set_other c.loop-i.states c.loop-i.i j c.take_at.new.state (λ same. not_here c.args.scene.now.clocks.now c.args.clock c.loop-i.i j inside outside (sym same))
           ∙ c.loop-i.invariant.others j outside;
@@ -67,14 +67,14 @@ loop-i-preserved g c =
           ∙ c.loop-i.invariant.left j (let low = after.low in omega (arith, low, high));
       buffers = c.take_at.ensures.buffers ∙ c.loop-i.invariant.buffers;
       same = g.met.T.Taps.same_trans c.args.taps.now c.loop-i.taps c.take_at.new.taps c.loop-i.invariant.same c.take_at.ensures.same;
-      beginning = beginning_more g.T.Taps.stands c.args.scene.now.plan.now c.args.scene.now.library.now c.args.scene.now.clocks.now c.args.clock c.args.states.now c.args.taps.now
+      beginning = beginning_more g.T.Taps.stands c.args.scene.now c.args.clock c.args.states.now c.args.taps.now
           c.loop-i.states c.loop-i.taps c.take_at.new.taps c.loop-i.i c.after-i.result node.0 _ c.take_at.new.state node.1 (λ other. inside) in_states
           (slice_get-get_or _ _ _ in_states) (c.loop-i.invariant.left c.loop-i.i (omega arith)) after c.in_ok-take_at.ensures.begun c.loop-i.invariant.beginning;
     }
 
 pub returns-clause-begun : goal.returns-clause-begun
 returns-clause-begun g c =
-    beginning_all g.T.Taps.stands c.args.scene.now.plan.now c.args.scene.now.library.now c.args.scene.now.clocks.now c.args.clock c.args.states.now c.args.taps.now c.loop-i.states c.loop-i.taps c.loop-i.i
+    beginning_all g.T.Taps.stands c.args.scene.now c.args.clock c.args.states.now c.args.taps.now c.loop-i.states c.loop-i.taps c.loop-i.i
     (let high = c.loop-i.invariant.high in omega (arith, high, c.requires.scene.in_clocks, c.loop-i-test.false)) c.loop-i.invariant.beginning
 
 pub returns-in_err-take_at-clause-reads : goal.returns-in_err-take_at-clause-reads

@@ -22,7 +22,7 @@ pub returns-in_err-take-in-Some-clause-stopped : goal.returns-in_err-take-in-Som
 returns-in_err-take-in-Some-clause-stopped g c =
     let found : slice_get c.args.scene.now.plan.now.nodes c.args.i ≡ Some c.index-as_slice-i.result =
     slice_get_read _ _ _ _ refl c.requires.within (c.index-as_slice-i.is ∙ ap (λ nodes. get_or nodes c.args.i c.index-as_slice-i.result) c.as_slice.ensures) in
-    on_err c.from_residual.result (node_some g.T.Taps.stands c.args.scene.now.plan.now c.args.scene.now.library.now c.args.scene.now.clocks.now c.args.i c.in-Some.buffer
+    on_err c.from_residual.result (node_some g.T.Taps.stands c.args.scene.now c.args.i c.in-Some.buffer
     (λ node at. let one : Some c.index-as_slice-i.result ≡ Some node = sym found ∙ at in let same : c.index-as_slice-i.result ≡ node = cc in ap (λ (n : Node). n.op) (sym same ∙ c.index-as_slice-i.is) ∙ c.in-Some.ensures.reads)
     c.args.state.now c.args.taps.now c.take.new.taps c.in_err-take-in-Some.ensures.stopped)
 
@@ -30,7 +30,7 @@ pub returns-in_ok-take-in-Some-clause-begun : goal.returns-in_ok-take-in-Some-cl
 returns-in_ok-take-in-Some-clause-begun g c =
     let found : slice_get c.args.scene.now.plan.now.nodes c.args.i ≡ Some c.index-as_slice-i.result =
     slice_get_read _ _ _ _ refl c.requires.within (c.index-as_slice-i.is ∙ ap (λ nodes. get_or nodes c.args.i c.index-as_slice-i.result) c.as_slice.ensures) in
-    node_reader g.T.Taps.stands c.args.scene.now.plan.now c.args.scene.now.library.now c.args.scene.now.clocks.now c.args.i c.in-Some.buffer
+    node_reader g.T.Taps.stands c.args.scene.now c.args.i c.in-Some.buffer
     (λ node at. let one : Some c.index-as_slice-i.result ≡ Some node = sym found ∙ at in let same : c.index-as_slice-i.result ≡ node = cc in ap (λ (n : Node). n.op) (sym same ∙ c.index-as_slice-i.is) ∙ c.in-Some.ensures.reads)
     c.args.state.now c.args.taps.now c.take.new.taps c.take.new.self c.in_ok-take-in-Some.ensures.took
 
@@ -38,7 +38,7 @@ pub returns-in-None-clause-begun : goal.returns-in-None-clause-begun
 returns-in-None-clause-begun g c =
     let found : slice_get c.args.scene.now.plan.now.nodes c.args.i ≡ Some c.index-as_slice-i.result =
     slice_get_read _ _ _ _ refl c.requires.within (c.index-as_slice-i.is ∙ ap (λ nodes. get_or nodes c.args.i c.index-as_slice-i.result) c.as_slice.ensures) in
-    node_other g.T.Taps.stands c.args.scene.now.plan.now c.args.scene.now.library.now c.args.scene.now.clocks.now c.args.i c.args.state.now c.args.taps.now
+    node_other g.T.Taps.stands c.args.scene.now c.args.i c.args.state.now c.args.taps.now
     (λ node at. let one : Some c.index-as_slice-i.result ≡ Some node = sym found ∙ at in let same : c.index-as_slice-i.result ≡ node = cc in subst (λ (n : Node). IsNoReader n.op) (sym c.index-as_slice-i.is ∙ same) (c.in-None.ensures.none refl))
 
 pub returns-in_err-take-in-Some-clause-reads : goal.returns-in_err-take-in-Some-clause-reads

@@ -3,7 +3,7 @@ use Rattle.std.proofs.lemmas.List.{get_or_default}
 use Rattle.std.proofs.lemmas.Option.{slice_get_read, slice_get-get_or}
 use Rattle.stream_meaning.specs.Instants.{silent, work_at}
 use Rattle.node_states.specs.States.{Fits}
-use Rattle.clock_nodes.specs.States.{over}
+use Rattle.clock_nodes.specs.Scenes.{setting_over}
 use Rattle.clock_nodes.proofs.Going.{fit_set, goes_on, gone_all, gone_none, gone_skip, gone_step}
 use Rattle.clock_nodes.proofs.Places.{slice_get-set_other}
 use Rattle.clock_nodes.proofs.Walking.{next_own, not_here}
@@ -19,8 +19,8 @@ loop-i-init c =
       others = λ k outside. refl;
       left = λ k high. refl;
       done = λ other sub past moment filled long stands settled parts same_parts same_demands.
-          gone_skip (over c.args.scene.now.plan.now c.args.scene.now.library.now c.args.scene.now.clocks.now other) sub c.args.clock past moment filled 0 c.first-i.result c.args.states.now first
-          (gone_none (over c.args.scene.now.plan.now c.args.scene.now.library.now c.args.scene.now.clocks.now other) sub c.args.clock past moment filled c.args.states.now);
+          gone_skip (setting_over c.args.scene.now other) sub c.args.clock past moment filled 0 c.first-i.result c.args.states.now first
+          (gone_none (setting_over c.args.scene.now other) sub c.args.clock past moment filled c.args.states.now);
     }
 
 pub loop-i-smaller : goal.loop-i-smaller
@@ -55,7 +55,7 @@ loop-i-preserved c =
     record {
       high = after.high;
       own = after.own;
-      fit = fit_set _ _ _ _ _ in_states
+      fit = fit_set _ _ _ _ in_states
           (λ node at.
           let one : Some c.index-as_slice-i.result ≡ Some node = sym found ∙ at in
           let same : c.index-as_slice-i.result ≡ node = cc in
@@ -66,15 +66,15 @@ loop-i-preserved c =
       left = λ k high. slice_get-set_other c.loop-i.states c.loop-i.i k c.next.new.self (λ e. (let low = after.low in omega (arith, high, low, e)))
           ∙ c.loop-i.invariant.left k (let low = after.low in omega (arith, high, low));
       done = λ other sub past moment filled long stands settled parts same_parts same_demands.
-          gone_skip (over c.args.scene.now.plan.now c.args.scene.now.library.now c.args.scene.now.clocks.now other) sub c.args.clock past moment filled (suc c.loop-i.i) c.after-i.result _ after
-          (gone_step (over c.args.scene.now.plan.now c.args.scene.now.library.now c.args.scene.now.clocks.now other) sub c.args.clock past moment filled c.loop-i.i c.loop-i.states c.next.new.self in_states
+          gone_skip (setting_over c.args.scene.now other) sub c.args.clock past moment filled (suc c.loop-i.i) c.after-i.result _ after
+          (gone_step (setting_over c.args.scene.now other) sub c.args.clock past moment filled c.loop-i.i c.loop-i.states c.next.new.self in_states
           (λ node is.
           let one : Some c.index-as_slice-i.result ≡ Some node = sym found ∙ is.there in
           let same : c.index-as_slice-i.result ≡ node = cc in
-          goes_on (over c.args.scene.now.plan.now c.args.scene.now.library.now c.args.scene.now.clocks.now other) sub c.args.clock past moment filled c.loop-i.i node c.args.parts.now c.args.demanded.now c.args.states.now
+          goes_on (setting_over c.args.scene.now other) sub c.args.clock past moment filled c.loop-i.i node c.args.parts.now c.args.demanded.now c.args.states.now
           _ c.next.new.self _ _ c.len-children.result
-          (λ slots. c.next.ensures.stands (over c.args.scene.now.plan.now c.args.scene.now.library.now c.args.scene.now.clocks.now other) sub past moment (filled c.loop-i.i) c.loop-i.i
-          (work_at (over c.args.scene.now.plan.now c.args.scene.now.library.now c.args.scene.now.clocks.now other) c.loop-i.i node) slots refl long)
+          (λ slots. c.next.ensures.stands (setting_over c.args.scene.now other) sub past moment (filled c.loop-i.i) c.loop-i.i
+          (work_at (setting_over c.args.scene.now other) c.loop-i.i node) slots refl long)
           (ap (λ x. length x.children) (sym same) ∙ many)
           (sym (c.loop-i.invariant.left c.loop-i.i (omega arith)) ∙ slice_get-get_or _ _ _ in_states)
           (get_or_default _ _ silent _ in_parts) (get_or_default _ _ false _ in_demanded)
@@ -84,5 +84,5 @@ loop-i-preserved c =
 
 pub returns-clause-stand : goal.returns-clause-stand
 returns-clause-stand c setting sub past moment filled long stands settled parts same_parts same_demands =
-    gone_all (over c.args.scene.now.plan.now c.args.scene.now.library.now c.args.scene.now.clocks.now setting) sub c.args.clock past moment filled c.loop-i.i c.loop-i.states (let high = c.loop-i.invariant.high in omega (arith, high, c.requires.scene.in_clocks, c.loop-i-test.false))
+    gone_all (setting_over c.args.scene.now setting) sub c.args.clock past moment filled c.loop-i.i c.loop-i.states (let high = c.loop-i.invariant.high in omega (arith, high, c.requires.scene.in_clocks, c.loop-i-test.false))
     (c.loop-i.invariant.done setting sub past moment filled long stands settled parts same_parts same_demands)

@@ -3,7 +3,7 @@ use Rattle.std.specs.Vec.{with_items}
 use Rattle.std.proofs.lemmas.List.{with_items_is}
 use Rattle.stream_meaning.specs.Instants.{moment_after, part_at}
 use Rattle.clock_instants.specs.Held.{given_by}
-use Rattle.clock_nodes.specs.States.{over}
+use Rattle.clock_nodes.specs.Scenes.{setting_over}
 use Rattle.clock_instants.proofs.Demanded.{demands_are}
 use Rattle.clock_instants.proofs.latest.Latest.finish_instant.Goals as goal
 
@@ -20,13 +20,13 @@ returns-clause-finished c =
     let demanded_are = with_items_is rooted c.find_demanded.new.demanded demands in
     record {
       made = λ other sub past filled can.
-          let S = over c.args.scene.now.plan.now c.args.scene.now.library.now c.args.scene.now.clocks.now other in
+          let S = setting_over c.args.scene.now other in
           let moment = moment_after S sub c.args.clock past in
           let parts : c.make_parts.new.parts ≡ moment.parts = c.make_parts.ensures.parts other sub past filled can.at can.long can.stands can.settled in
           let demanded : c.find_demanded.new.demanded ≡ moment.demands = demands_are S sub c.args.clock past c.args.own.now c.deref_mut-5.result.now c.find_demanded.new.demanded c.deref.result.now
           (c.deref.ensures.value ∙ parts_are ∙ parts) can.roots
           (λ j low. ap (λ ms. get_or ms j false) (c.deref_mut-5.ensures.value ∙ roots_are) ∙ c.demand_roots.ensures.roots j (omega (arith, low, c.requires.scene.in_clocks)))
-          (λ picks. c.find_demanded.ensures.demands c.args.scene.now.library.now c.args.scene.now.clocks.now other picks) in
+          (λ picks. c.find_demanded.ensures.demands other picks) in
           let went = c.deref-4.ensures.value ∙ parts_are ∙ parts in
           let asked = c.deref-5.ensures.value ∙ demanded_are ∙ demanded in
           record {
