@@ -6,7 +6,6 @@ use Rattle.std.proofs.lemmas.Bool.{cases_lt, false≢true}
 use Rattle.std.proofs.lemmas.List.{get_or_past}
 use Rattle.clock_infer.specs.declared.clock_map.NodeClock.{NodeClock}
 use Rattle.clock_infer.specs.declared.clock_map.NodeClock.TheVariants.{Sub}
-use Rattle.frame_core.specs.Library.{Sounds}
 use Rattle.stream_meaning.specs.Instants.{part_at, same_clock}
 use Rattle.stream_meaning.proofs.Existence.{same_clock-true}
 use Rattle.node_states.specs.declared.state.NodeState.{NodeState}
@@ -15,6 +14,7 @@ use Rattle.clock_instants.specs.Held.{AllPassOn, gave_at, passes_at}
 use Rattle.clock_nodes.specs.Nodes.{lies_at}
 use Rattle.clock_instants.specs.Stretches.{AllLieAhead}
 use Rattle.clock_instants.proofs.Ahead.{ahead_same}
+use Rattle.clock_nodes.specs.declared.scene.Scene.{Scene}
 use Rattle.nested_instants.specs.declared.clock_states.ClockStates.{ClockStates}
 use Rattle.nested_instants.specs.Clocks.{AreLeft, HasRanks, IsIdle, clock_at, is_in, laned_at, rest_at}
 use Rattle.nested_instants.specs.Stretches.{AreAbove, AreSamplesLeft}
@@ -80,14 +80,14 @@ left_above clocks rank clock a b c above states times held rests laned = record 
 }
 
 -- what a clock's nodes have ahead
-pub ahead_above : (library : Sounds) (clocks : List NodeClock) (rank : NodeClock → ℕ) (clock : NodeClock) (touched : ℕ → Type 0) (a b : ClockStates) (count : ℕ) → AreAbove clocks rank (rank clock) touched a b
-    → AllLieAhead library clocks clock a.room.held.items a.states.items (length clocks) count → AllLieAhead library clocks clock b.room.held.items b.states.items (length clocks) count
-ahead_above library clocks rank clock touched a b count above ahead =
-    ahead_same library clocks clock a.room.held.items b.room.held.items a.states.items b.states.items (length clocks) count
+pub ahead_above : (scene : Scene) (rank : NodeClock → ℕ) (clock : NodeClock) (touched : ℕ → Type 0) (a b : ClockStates) (count : ℕ) → AreAbove scene.clocks.now rank (rank clock) touched a b
+    → AllLieAhead scene clock a.room.held.items a.states.items count → AllLieAhead scene clock b.room.held.items b.states.items count
+ahead_above scene rank clock touched a b count above ahead =
+    ahead_same scene clock a.room.held.items b.room.held.items a.states.items b.states.items count
     (λ i inside. ap (λ p. is_some p.slot) (above.held i (low i inside))) (λ i inside. above.states i (low i inside)) ahead
   where
-    low : (i : ℕ) → lies_at clocks clock i ≡ true → rank (clock_at clocks i) ≤ rank clock
-    low i inside = let e : rank (clock_at clocks i) ≡ rank clock = ap rank (same_clock-true (clock_at clocks i) clock inside) in omega (arith, e)
+    low : (i : ℕ) → lies_at scene.clocks.now clock i ≡ true → rank (clock_at scene.clocks.now i) ≤ rank clock
+    low i inside = let e : rank (clock_at scene.clocks.now i) ≡ rank clock = ap rank (same_clock-true (clock_at scene.clocks.now i) clock inside) in omega (arith, e)
 
 and_left : (a b : Bool) → (a && b) ≡ true → a ≡ true
 and_left true b e = refl
@@ -98,12 +98,12 @@ and_right true b e = e
 and_right false b e = absurd (false≢true e)
 
 -- how long a crossfade through which cells pass goes on
-pub pass_above : (clocks : List NodeClock) (rank : NodeClock → ℕ) (clock : NodeClock) (touched : ℕ → Type 0) (a b : ClockStates) (i count : ℕ) → clock_at clocks i ≡ clock → lies_at clocks clock i ≡ true → i < length clocks
-    → i < length b.states.items → (touched i → ⊥) → AreAbove clocks rank (rank clock) touched a b
-    → AllPassOn clocks clock a.room.held.items a.states.items a.room.rests.items (length clocks) count → (gave_at b.room.held.items i && passes_at b.states.items i) ≡ true → count ≤ rest_at b i
-pass_above clocks rank clock touched a b i count here inside within in_states other above on so =
-    let e : rank (clock_at clocks i) ≡ rank clock = ap rank here in
-    let low : rank (clock_at clocks i) ≤ rank clock = omega (arith, e) in
+pub pass_above : (scene : Scene) (rank : NodeClock → ℕ) (clock : NodeClock) (touched : ℕ → Type 0) (a b : ClockStates) (i count : ℕ) → clock_at scene.clocks.now i ≡ clock → lies_at scene.clocks.now clock i ≡ true → i < length scene.clocks.now
+    → i < length b.states.items → (touched i → ⊥) → AreAbove scene.clocks.now rank (rank clock) touched a b
+    → AllPassOn scene clock a.room.held.items a.states.items a.room.rests.items count → (gave_at b.room.held.items i && passes_at b.states.items i) ≡ true → count ≤ rest_at b i
+pass_above scene rank clock touched a b i count here inside within in_states other above on so =
+    let e : rank (clock_at scene.clocks.now i) ≡ rank clock = ap rank here in
+    let low : rank (clock_at scene.clocks.now i) ≤ rank clock = omega (arith, e) in
     let state = item_at b.states.items i in_states in
     let gave = and_left (gave_at b.room.held.items i) (passes_at b.states.items i) so in
     let through = and_right (gave_at b.room.held.items i) (passes_at b.states.items i) so in

@@ -19,13 +19,13 @@ use Rattle.node_states.specs.Ticks.{past_of}
 use Rattle.node_states.specs.Times.{TimeStands}
 use Rattle.node_states.proofs.Chunks.{reading_closed, reading_stays}
 use Rattle.clock_nodes.specs.Nodes.{lies_at}
-use Rattle.clock_nodes.specs.States.{ClockStands, IsIn, over}
+use Rattle.clock_nodes.specs.States.{ClockStands, IsIn}
 use Rattle.clock_instants.specs.Takes.{HasOwnReaders, HaveBegun, HaveTaken, HaveTakenSome, begun_by, begun_in, takes_below}
+use Rattle.clock_nodes.specs.Scenes.{setting_over}
+use Rattle.clock_nodes.specs.declared.scene.Scene.{Scene}
 use Rattle.nested_instants.specs.declared.clock_states.ClockStates.{ClockStates}
 use Rattle.clock_instants.specs.Stretches.{HasLanes}
 use Rattle.nested_instants.specs.Clocks.{ClockOpened, HasRanks, IsOpen, OpeningStopped, RanAsNeeded, Stand, rest_at}
-use Rattle.plan_core.specs.declared.plan.Plan.{Plan}
-use Rattle.frame_core.specs.Library.{Sounds}
 use Rattle.nested_instants.proofs.Kept.{open_kept}
 use Rattle.nested_instants.proofs.Equal.{they_differ}
 use Rattle.nested_instants.proofs.Fading.{fade_reads}
@@ -213,17 +213,17 @@ takes_start setting clock past starts = sym (ap (λ (b : Bool). cond b (takes_be
 pub takes_within : (setting : Setting) (clock : NodeClock) (past : List Moment) → nat_eq (length past % setting.plan.frame) 0 ≡ false → [] ≡ takes_at setting clock past
 takes_within setting clock past starts = sym (ap (λ (b : Bool). cond b (takes_below setting clock past (length setting.plan.nodes)) []) starts)
 
-module _ {T : Type 0} (stands : T → List Call → Type 0) (plan : Plan) (library : Sounds) (clocks : List NodeClock) (clock : NodeClock) (time : WeekTime) (frame : time.frame ≡ plan.frame)
+module _ {T : Type 0} (stands : T → List Call → Type 0) (scene : Scene) (clock : NodeClock) (time : WeekTime) (frame : time.frame ≡ scene.plan.now.frame)
     (tick : true ≡ nat_eq time.place 0) (old : ClockStates) (states : List NodeState) (a b : T) (were : states ≡ old.states.items) where
   -- the readers have begun
-  pub opened_by : length clocks ≡ length plan.nodes → (new : ClockStates) (states_new : List NodeState) → new.states.items ≡ states_new → new.times.items ≡ old.times.items → new.room ≡ old.room
-      → ((i : ℕ) → lies_at clocks clock i ≡ false → slice_get states_new i ≡ slice_get states i)
-      → HaveBegun stands plan library clocks clock states states_new a b → ClockOpened stands plan library clocks clock time old new a b
+  pub opened_by : length scene.clocks.now ≡ length scene.plan.now.nodes → (new : ClockStates) (states_new : List NodeState) → new.states.items ≡ states_new → new.times.items ≡ old.times.items → new.room ≡ old.room
+      → ((i : ℕ) → lies_at scene.clocks.now clock i ≡ false → slice_get states_new i ≡ slice_get states i)
+      → HaveBegun stands scene clock states states_new a b → ClockOpened stands scene clock time old new a b
   opened_by in_clocks new states_new are times room others has = record {
     more = has.more;
     taps = has.taps;
     opened = λ other sub rank ran filled front ranks own answers stand needed at.
-        let S = over plan library clocks other in
+        let S = setting_over scene other in
         let past = first_instants S sub clock (ran clock) in
         let starts = starts_at S sub clock (ran clock) time true frame at tick in
         let begun = has.begun other sub past filled front own starts answers
@@ -238,12 +238,12 @@ module _ {T : Type 0} (stands : T → List Call → Type 0) (plan : Plan) (libra
   }
 
   -- some of them have
-  pub opening_some : HaveTakenSome stands plan library clocks clock states a b → OpeningStopped stands plan library clocks clock time old a b
+  pub opening_some : HaveTakenSome stands scene clock states a b → OpeningStopped stands scene clock time old a b
   opening_some has = record {
     made = has.made;
     taps = has.taps;
     begins = λ other sub rank ran filled front own answers stand needed at.
-        let S = over plan library clocks other in
+        let S = setting_over scene other in
         let past = first_instants S sub clock (ran clock) in
         let starts = starts_at S sub clock (ran clock) time true frame at tick in
         subst (λ (cs : List Call). IsBegin has.made cs) (takes_start S clock past starts)

@@ -1,10 +1,8 @@
 -- The calls by which crossfades get their items, whatever the states stood for.
 use Rattle.std.proofs.Common.{◌≡◌, ◌<◌, ◌∙◌, ◌++◌, ℕ, suc, Bool, true, Some, List, [], length, slice_get, arith, ap, sym, subst}
-use Rattle.plan_core.specs.declared.plan.Plan.{Plan}
 use Rattle.clock_infer.specs.declared.clock_map.NodeClock.{NodeClock}
 use Rattle.clock_infer.specs.declared.clock_map.NodeClock.TheVariants.{Sub}
 use Rattle.frame_core.specs.Slots.{Slot}
-use Rattle.frame_core.specs.Library.{Sounds}
 use Rattle.frame_core.specs.Calls.{Adds, Call, Answer}
 use Rattle.op_cross.specs.Runs.{run_of}
 use Rattle.stream_meaning.specs.Operators.{Work, Fades, Reads}
@@ -20,8 +18,9 @@ use Rattle.node_states.proofs.Chunks.{adds_none, adds_then}
 use Rattle.clock_nodes.specs.Nodes.{IsFirst, lies_at}
 use Rattle.stream_meaning.specs.declared.part.Part.{Part}
 use Rattle.clock_instants.specs.Held.{IsHeld}
-use Rattle.clock_nodes.specs.States.{over}
 use Rattle.clock_instants.specs.Takes.{begun_in}
+use Rattle.clock_nodes.specs.Scenes.{setting_over}
+use Rattle.clock_nodes.specs.declared.scene.Scene.{Scene}
 use Rattle.nested_instants.specs.declared.clock_states.ClockStates.{ClockStates}
 use Rattle.nested_instants.specs.Stretches.{FilledOn}
 use Rattle.nested_instants.specs.Clocks.{AllSettled, AreLeft, ClockOpened, HasRanks, InstantMade, InstantStopped, IsFilling, IsWorld, NodeSettled, NodeStopped, OpeningStopped, SettlingStopped, Stand, calls_upto, clock_at, fade_at, is_fade, is_in, is_none, rest_at}
@@ -33,52 +32,52 @@ use Rattle.nested_instants.proofs.Gone.{gone_once}
 use Rattle.nested_instants.proofs.Taking.{filled_stopped, filling_none, needed_under, reached_fading, reached_item, stand_under, taken, taken_at, time_under}
 
 -- node k was filled some slots, by these calls
-pub record NodeFilling {T : Type 0} (stands : T → List Call → Type 0) (plan : Plan) (library : Sounds) (clocks : List NodeClock) (own : List Bool)
+pub record NodeFilling {T : Type 0} (stands : T → List Call → Type 0) (scene : Scene) (own : List Bool)
     (k : ℕ) (old now : ClockStates) (taps_old taps_now : T) : Type 0 where
   pub more : List Call
   pub taps : Adds stands taps_old taps_now more
   pub filling : (other : Setting) (sub : ℕ → ℕ → List Slot) (rank ran : NodeClock → ℕ) (filled : ℕ → ℕ) (front : ℕ → List Answer) →
-      let setting = over plan library clocks other in
+      let setting = setting_over scene other in
       IsWorld setting sub rank own → HasAnswers setting (after_calls front more)
-      → Stand setting sub rank (rank (clock_at clocks k)) ran filled front old
-      → IsFilling setting sub rank (rank (clock_at clocks k)) k is_none ran filled front more now
+      → Stand setting sub rank (rank (clock_at scene.clocks.now k)) ran filled front old
+      → IsFilling setting sub rank (rank (clock_at scene.clocks.now k)) k is_none ran filled front more now
 
-module _ {T : Type 0} (stands : T → List Call → Type 0) (plan : Plan) (library : Sounds) (clocks : List NodeClock) (own : List Bool)
-    (in_clocks : length clocks ≡ length plan.nodes) (old : ClockStates) (a : T) where
+module _ {T : Type 0} (stands : T → List Call → Type 0) (scene : Scene) (own : List Bool)
+    (in_clocks : length scene.clocks.now ≡ length scene.plan.now.nodes) (old : ClockStates) (a : T) where
   module _ (k : ℕ) where
-    pub node_none : NodeFilling stands plan library clocks own k old old a a
+    pub node_none : NodeFilling stands scene own k old old a a
     node_none = record {
       more = [];
       taps = adds_none stands a;
-      filling = λ other sub rank ran filled front world has stand. filling_none (over plan library clocks other) sub rank (rank (clock_at clocks k)) k ran filled front old stand;
+      filling = λ other sub rank ran filled front world has stand. filling_none (setting_over scene other) sub rank (rank (clock_at scene.clocks.now k)) k ran filled front old stand;
     }
 
     -- no instants of the sub-clock are kept any more
-    pub node_closed : (within : k < length plan.nodes) (all kept : ClockStates) (b : T) → kept.states ≡ all.states → kept.times ≡ all.times → kept.room.held ≡ all.room.held
+    pub node_closed : (within : k < length scene.plan.now.nodes) (all kept : ClockStates) (b : T) → kept.states ≡ all.states → kept.times ≡ all.times → kept.room.held ≡ all.room.held
         → rest_at kept k ≡ 0 → ((i : ℕ) → (i ≡ k → ⊥) → rest_at kept i ≡ rest_at all i) → kept.room.left ≡ all.room.left → kept.room.right ≡ all.room.right
-        → NodeFilling stands plan library clocks own k old all a b → NodeFilling stands plan library clocks own k old kept a b
+        → NodeFilling stands scene own k old all a b → NodeFilling stands scene own k old kept a b
     node_closed within all kept b states times held none others left right so = record {
       more = so.more;
       taps = so.taps;
       filling = λ other sub rank ran filled front world has stand.
-          filled_kept (over plan library clocks other) sub rank world.ranks in_clocks k within ran filled front so.more all kept 0 states times held none others left right
+          filled_kept (setting_over scene other) sub rank world.ranks in_clocks k within ran filled front so.more all kept 0 states times held none others left right
           (so.filling other sub rank ran filled front world has stand) (λ some. absurd (omega (arith, some)));
     }
 
-    module _ (within : k < length plan.nodes) (all : ClockStates) (b : T) (state : NodeState) (at : slice_get all.states.items k ≡ Some state)
-        (so : NodeFilling stands plan library clocks own k old all a b) where
+    module _ (within : k < length scene.plan.now.nodes) (all : ClockStates) (b : T) (state : NodeState) (at : slice_get all.states.items k ≡ Some state)
+        (so : NodeFilling stands scene own k old all a b) where
       module _ (fades : (setting : Setting) (sub : ℕ → ℕ → List Slot) (past : List Moment) (filled i : ℕ) (work : Work) → AreLong sub → StateStands setting sub past filled i work state → FadesOn sub past filled i work)
           (c : T) (time : WeekTime) (timed : slice_get all.times.items k ≡ Some time) where
-        pub node_more : rest_at all k ≡ 0 → (made slotted new : ClockStates) → ((rank : NodeClock → ℕ) → HasRanks clocks rank → AreLeft clocks rank (rank (Sub k)) (is_in clocks (Sub k)) all made)
-            → length made.states.items ≡ length plan.nodes → length made.times.items ≡ length plan.nodes
-            → ((other : Setting) (sub : ℕ → ℕ → List Slot) → TakesSlot (over plan library clocks other) sub k made slotted) → slotted.latest ≡ made.latest → slotted.room ≡ made.room
-            → InstantMade stands plan library clocks own (Sub k) time all made b c → FilledOn plan library clocks k time slotted new
-            → NodeFilling stands plan library clocks own k old new a c
+        pub node_more : rest_at all k ≡ 0 → (made slotted new : ClockStates) → ((rank : NodeClock → ℕ) → HasRanks scene.clocks.now rank → AreLeft scene.clocks.now rank (rank (Sub k)) (is_in scene.clocks.now (Sub k)) all made)
+            → length made.states.items ≡ length scene.plan.now.nodes → length made.times.items ≡ length scene.plan.now.nodes
+            → ((other : Setting) (sub : ℕ → ℕ → List Slot) → TakesSlot (setting_over scene other) sub k made slotted) → slotted.latest ≡ made.latest → slotted.room ≡ made.room
+            → InstantMade stands scene own (Sub k) time all made b c → FilledOn scene k time slotted new
+            → NodeFilling stands scene own k old new a c
         node_more idle made slotted new left in_states in_times takes latest room one on = record {
           more = so.more ++ one.more;
           taps = adds_then stands a b c so.more one.more so.taps one.taps;
           filling = λ other sub rank ran filled front world has stand.
-              let S = over plan library clocks other in
+              let S = setting_over scene other in
               let f = so.filling other sub rank ran filled front world (answers_first S front so.more one.more has) stand in
               let n = reached_fading S sub rank k ran filled front so.more all state within at (λ past n work stands. fades S sub past n k work (as_many S sub world.meaning) stands) f in
               let fading : fade_at S k ≡ true = fade_of S k n.0 n.2 ∙ ap is_fade n.3 in
@@ -95,12 +94,12 @@ module _ {T : Type 0} (stands : T → List Call → Type 0) (plan : Plan) (libra
               (subst (λ (ps : List Part). IsHeld S sub (Sub k) (first_instants S sub (Sub k) (f.reached.ran_now (Sub k))) ps) (sym (ap (λ it. it.held.items) room)) m.keeps) now;
         }
 
-        pub node_stopped : InstantStopped stands plan library clocks own (Sub k) time all b c → NodeStopped stands plan library clocks own k old a c
+        pub node_stopped : InstantStopped stands scene own (Sub k) time all b c → NodeStopped stands scene own k old a c
         node_stopped one = record {
           made = so.more ++ one.made;
           taps = adds_then stands a b c so.more one.made so.taps one.taps;
           begins = λ other sub rank ran filled front world has stand.
-              let S = over plan library clocks other in
+              let S = setting_over scene other in
               let f = so.filling other sub rank ran filled front world (answers_first S front so.more one.made has) stand in
               let n = reached_fading S sub rank k ran filled front so.more all state within at (λ past n work stands. fades S sub past n k work (as_many S sub world.meaning) stands) f in
               let fading : fade_at S k ≡ true = fade_of S k n.0 n.2 ∙ ap is_fade n.3 in
@@ -114,35 +113,35 @@ module _ {T : Type 0} (stands : T → List Call → Type 0) (plan : Plan) (libra
       pub node_settled : ((setting : Setting) (sub : ℕ → ℕ → List Slot) (past : List Moment) (filled i : ℕ) (work : Work) → StateStands setting sub past filled i work state
           → ((buffer : ℕ) → work ≡ Reads buffer → filled ≡ suc (length past)) → IsSettled sub past filled i work)
           → ((setting : Setting) (sub : ℕ → ℕ → List Slot) (past : List Moment) (filled i overlap : ℕ) → AreLong sub → StateStands setting sub past filled i (Fades overlap) state → run_of overlap (sub i) (position past i) ≡ filled)
-          → NodeSettled stands plan library clocks own k old all a b
+          → NodeSettled stands scene own k old all a b
       node_settled settles runs = record {
         more = so.more;
         taps = so.taps;
         settled = λ other sub rank ran filled front world has stand begun.
-            let S = over plan library clocks other in
+            let S = setting_over scene other in
             reached_item S sub rank k ran filled front so.more all state at (λ past n work stands begun. settles S sub past n k work stands begun)
             (λ past n overlap stands. runs S sub past n k overlap (as_many S sub world.meaning) stands) begun (so.filling other sub rank ran filled front world has stand);
       }
 
   module _ (clock : NodeClock) where
-    pub all_none : (n : ℕ) → IsFirst clocks clock 0 n → AllSettled stands plan library clocks own clock n old old a a
+    pub all_none : (n : ℕ) → IsFirst scene.clocks.now clock 0 n → AllSettled stands scene own clock n old old a a
     all_none n first = record {
       more = [];
       taps = adds_none stands a;
       settled = λ other sub rank ran filled front world has stand ready.
-          passed (over plan library clocks other) sub rank clock 0 n ran filled front [] old first (filled_none (over plan library clocks other) sub rank clock ran filled front old stand);
+          passed (setting_over scene other) sub rank clock 0 n ran filled front [] old first (filled_none (setting_over scene other) sub rank clock ran filled front old stand);
     }
 
-    module _ (i : ℕ) (within : i < length plan.nodes) (inside : lies_at clocks clock i ≡ true) (all : ClockStates) (b c : T) (so : AllSettled stands plan library clocks own clock i old all a b) where
-      here : clock_at clocks i ≡ clock
-      here = same_clock-true (clock_at clocks i) clock inside
+    module _ (i : ℕ) (within : i < length scene.plan.now.nodes) (inside : lies_at scene.clocks.now clock i ≡ true) (all : ClockStates) (b c : T) (so : AllSettled stands scene own clock i old all a b) where
+      here : clock_at scene.clocks.now i ≡ clock
+      here = same_clock-true (clock_at scene.clocks.now i) clock inside
 
-      pub all_more : (new : ClockStates) (n : ℕ) → IsFirst clocks clock (suc i) n → NodeSettled stands plan library clocks own i all new b c → AllSettled stands plan library clocks own clock n old new a c
+      pub all_more : (new : ClockStates) (n : ℕ) → IsFirst scene.clocks.now clock (suc i) n → NodeSettled stands scene own i all new b c → AllSettled stands scene own clock n old new a c
       all_more new n first one = record {
         more = so.more ++ one.more;
         taps = adds_then stands a b c so.more one.more so.taps one.taps;
         settled = λ other sub rank ran filled front world has stand ready.
-            let S = over plan library clocks other in
+            let S = setting_over scene other in
             let u = so.settled other sub rank ran filled front world (answers_first S front so.more one.more has) stand ready in
             passed S sub rank clock (suc i) n ran filled front (so.more ++ one.more) new first
             (joined S sub rank clock i ran filled front so.more all u ready here one.more new within
@@ -150,12 +149,12 @@ module _ {T : Type 0} (stands : T → List Call → Type 0) (plan : Plan) (libra
             (stand_here S sub rank clock i ran filled front so.more all u ready here) (begun_here S sub rank clock i ran filled front so.more all u ready here)));
       }
 
-      pub all_stopped : NodeStopped stands plan library clocks own i all b c → SettlingStopped stands plan library clocks own clock old a c
+      pub all_stopped : NodeStopped stands scene own i all b c → SettlingStopped stands scene own clock old a c
       all_stopped one = record {
         made = so.more ++ one.made;
         taps = adds_then stands a b c so.more one.made so.taps one.taps;
         begins = λ other sub rank ran filled front world has stand ready.
-            let S = over plan library clocks other in
+            let S = setting_over scene other in
             let u = so.settled other sub rank ran filled front world (answers_first S front so.more one.made has) stand ready in
             joined_stopped S sub rank clock i ran filled front so.more all u ready here one.made within
             (one.begins other sub rank u.reached.ran_now u.reached.filled_now (after_calls front so.more) world (answers_then S front so.more one.made has)
@@ -163,30 +162,30 @@ module _ {T : Type 0} (stands : T → List Call → Type 0) (plan : Plan) (libra
       }
 
     -- the first calls of an instant: some takes
-    pub opening_stopped : (time : WeekTime) (b : T) → OpeningStopped stands plan library clocks clock time old a b → InstantStopped stands plan library clocks own clock time old a b
+    pub opening_stopped : (time : WeekTime) (b : T) → OpeningStopped stands scene clock time old a b → InstantStopped stands scene own clock time old a b
     opening_stopped time b one = record {
       made = one.made;
       taps = one.taps;
       begins = λ other sub rank ran filled front world has stand needed at.
-          let S = over plan library clocks other in
+          let S = setting_over scene other in
           let past = first_instants S sub clock (ran clock) in
           subst (λ (cs : List Call). IsBegin one.made cs) (sym (world.down.each clock past))
-          (begin_more one.made (takes_at S clock past) (calls_upto S sub clock past (length plan.nodes)) (one.begins other sub rank ran filled front world.readers has stand needed at));
+          (begin_more one.made (takes_at S clock past) (calls_upto S sub clock past (length scene.plan.now.nodes)) (one.begins other sub rank ran filled front world.readers has stand needed at));
     }
 
     -- the takes, and some calls of sub-clocks
-    pub settling_stopped : (time : WeekTime) (all : ClockStates) (b c : T) → ClockOpened stands plan library clocks clock time old all a b → SettlingStopped stands plan library clocks own clock all b c
-        → InstantStopped stands plan library clocks own clock time old a c
+    pub settling_stopped : (time : WeekTime) (all : ClockStates) (b c : T) → ClockOpened stands scene clock time old all a b → SettlingStopped stands scene own clock all b c
+        → InstantStopped stands scene own clock time old a c
     settling_stopped time all b c opened one = record {
       made = opened.more ++ one.made;
       taps = adds_then stands a b c opened.more one.made opened.taps one.taps;
       begins = λ other sub rank ran filled front world has stand needed at.
-          let S = over plan library clocks other in
+          let S = setting_over scene other in
           let past = first_instants S sub clock (ran clock) in
           let o = opened.opened other sub rank ran filled front world.ranks world.readers (answers_first S front opened.more one.made has) stand needed at in
           subst (λ (cs : List Call). IsBegin (opened.more ++ one.made) cs) (sym (world.down.each clock past))
-          (subst (λ (cs : List Call). IsBegin (cs ++ one.made) (takes_at S clock past ++ calls_upto S sub clock past (length plan.nodes))) (sym o.calls)
-          (begin_behind (takes_at S clock past) one.made (calls_upto S sub clock past (length plan.nodes))
+          (subst (λ (cs : List Call). IsBegin (cs ++ one.made) (takes_at S clock past ++ calls_upto S sub clock past (length scene.plan.now.nodes))) (sym o.calls)
+          (begin_behind (takes_at S clock past) one.made (calls_upto S sub clock past (length scene.plan.now.nodes))
           (one.begins other sub rank ran (begun_in S clock filled) (after_calls front opened.more) world (answers_then S front opened.more one.made has) o.stand
           (are_ready S sub rank clock ran filled front old stand needed))));
     }

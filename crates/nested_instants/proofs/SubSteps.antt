@@ -3,10 +3,8 @@ use Rattle.std.proofs.Common.{◌≡◌, ◌<◌, ◌≤◌, ◌+◌, ◌&&◌, 
 use Rattle.std.specs.Prelude.{is_some, slice_index_or}
 use Rattle.std.specs.Option.{option_map_or}
 use Rattle.std.proofs.lemmas.Bool.{true≢false}
-use Rattle.plan_core.specs.declared.plan.Plan.{Plan}
 use Rattle.clock_infer.specs.declared.clock_map.NodeClock.{NodeClock}
 use Rattle.clock_infer.specs.declared.clock_map.NodeClock.TheVariants.{Main, Sub}
-use Rattle.frame_core.specs.Library.{Sounds}
 use Rattle.stream_meaning.specs.Instants.{gives, first_instants, moment_after, part_at}
 use Rattle.stream_meaning.proofs.Existence.{same_clock-true}
 use Rattle.node_states.specs.declared.time.WeekTime.{WeekTime}
@@ -15,9 +13,10 @@ use Rattle.node_states.specs.Times.{TimeStands}
 use Rattle.clock_instants.specs.Held.{AllPassOn, gave_at, goes_through, passes_at}
 use Rattle.clock_nodes.specs.Nodes.{IsFirst, lies_at}
 use Rattle.clock_instants.specs.Stretches.{AllLieAhead}
-use Rattle.clock_nodes.specs.States.{over}
 use Rattle.clock_instants.proofs.Ahead.{ahead_less, ahead_same, through_less, through_same}
 use Rattle.clock_instants.proofs.Kept.{held_gives}
+use Rattle.clock_nodes.specs.Scenes.{setting_over}
+use Rattle.clock_nodes.specs.declared.scene.Scene.{Scene}
 use Rattle.nested_instants.specs.declared.clock_states.ClockStates.{ClockStates}
 use Rattle.nested_instants.proofs.Levels.{lanes_same}
 use Rattle.clock_instants.specs.Stretches.{HasLanes}
@@ -36,85 +35,85 @@ above_step clocks rank clock i n a b c here next one two =
     above_then clocks rank (rank clock) (rank (clock_at clocks i)) (is_upto clocks clock n) (is_upto clocks clock i) (is_node i) a b c (let e : rank (clock_at clocks i) ≡ rank clock = ap rank here in omega (arith, e))
     (λ j level upto. let less = upto.0 in (omega (arith, less, low), upto.1)) (λ j level same. (omega (arith, same, low), ap (clock_at clocks) same ∙ here)) one two
 
-module _ (plan : Plan) (library : Sounds) (clocks : List NodeClock) (in_clocks : length clocks ≡ length plan.nodes) (clock : NodeClock) (many : ℕ) (first : ClockStates) where
-  pub subs_start : (n : ℕ) → IsFirst clocks clock 0 n → SubClocksMade plan library clocks clock many n first first
+module _ (scene : Scene) (in_clocks : length scene.clocks.now ≡ length scene.plan.now.nodes) (clock : NodeClock) (many : ℕ) (first : ClockStates) where
+  pub subs_start : (n : ℕ) → IsFirst scene.clocks.now clock 0 n → SubClocksMade scene clock many n first first
   subs_start n start = record {
     run = λ other sub rank ran filled front own m can.
-        let S = over plan library clocks other in
+        let S = setting_over scene other in
         let T = goes_through (moment_after S sub clock (first_instants S sub clock m)) first.states.items in
         subs_upto S sub rank own can.world in_clocks clock many T ran filled front 0 n first (omega arith)
-        (λ k up low inside. true≢false (sym (are_same (clock_at clocks k) clock inside) ∙ start.skips k up low))
+        (λ k up low inside. true≢false (sym (are_same (clock_at scene.clocks.now k) clock inside) ∙ start.skips k up low))
         (subs_none S sub rank own can.world in_clocks clock many T ran filled front first can.stand);
   }
 
-  pub subs_next : (old new : ClockStates) (i n : ℕ) → i < length plan.nodes → clock_at clocks i ≡ clock → IsFirst clocks clock (suc i) n
-      → ((rank : NodeClock → ℕ) → HasRanks clocks rank → AreAbove clocks rank (rank clock) (is_upto clocks clock i) first old)
-      → SubClocksMade plan library clocks clock many i first old → SubClockMade plan library clocks i many old new → SubClocksMade plan library clocks clock many n first new
+  pub subs_next : (old new : ClockStates) (i n : ℕ) → i < length scene.plan.now.nodes → clock_at scene.clocks.now i ≡ clock → IsFirst scene.clocks.now clock (suc i) n
+      → ((rank : NodeClock → ℕ) → HasRanks scene.clocks.now rank → AreAbove scene.clocks.now rank (rank clock) (is_upto scene.clocks.now clock i) first old)
+      → SubClocksMade scene clock many i first old → SubClockMade scene i many old new → SubClocksMade scene clock many n first new
   subs_next old new i n within here next above before one = record {
     run = λ other sub rank ran filled front own m can.
-        let S = over plan library clocks other in
+        let S = setting_over scene other in
         let T = goes_through (moment_after S sub clock (first_instants S sub clock m)) first.states.items in
         let s = before.run other sub rank ran filled front own m can in
         let a = above rank can.world.ranks in
-        let low : rank (clock_at clocks i) ≤ rank clock = (let e : rank (clock_at clocks i) ≡ rank clock = ap rank here in omega (arith, e)) in
+        let low : rank (clock_at scene.clocks.now i) ≤ rank clock = (let e : rank (clock_at scene.clocks.now i) ≡ rank clock = ap rank here in omega (arith, e)) in
         let gave : gives (moment_after S sub clock (first_instants S sub clock m)) i ≡ gave_at old.room.held.items i =
-        sym (held_gives S sub clock (first_instants S sub clock m) first.room.held.items i can.goes.held_is within (are_same (clock_at clocks i) clock here))
+        sym (held_gives S sub clock (first_instants S sub clock m) first.room.held.items i can.goes.held_is within (are_same (clock_at scene.clocks.now i) clock here))
         ∙ sym (ap (λ p. is_some p.slot) (a.held i low)) in
         let test : T i ≡ (gave_at old.room.held.items i && passes_at old.states.items i) =
         ap (λ (b : Bool). b && passes_at first.states.items i) gave ∙ ap (λ found. gave_at old.room.held.items i && option_map_or passes found false) (sym (a.states i low)) in
         subs_upto S sub rank own can.world in_clocks clock many T ran filled front (suc i) n new next.low
-        (λ k up less inside. true≢false (sym (are_same (clock_at clocks k) clock inside) ∙ next.skips k up less))
+        (λ k up less inside. true≢false (sym (are_same (clock_at scene.clocks.now k) clock inside) ∙ next.skips k up less))
         (subst (λ c. SubsMade S sub rank c many T (suc i) ran filled front new) here
         (one.step other sub rank ran filled front own T can.world test
         (subst (λ c. SubsMade S sub rank c many T i ran filled front old) (sym here) s)));
   }
 
-module _ (plan : Plan) (library : Sounds) (clocks : List NodeClock) (in_clocks : length clocks ≡ length plan.nodes) (i many : ℕ) (within : i < length plan.nodes) where
+module _ (scene : Scene) (in_clocks : length scene.clocks.now ≡ length scene.plan.now.nodes) (i many : ℕ) (within : i < length scene.plan.now.nodes) where
   -- node i is no such crossfade
-  pub sub_skipped : (all : ClockStates) → (gave_at all.room.held.items i && passes_at all.states.items i) ≡ false → SubClockMade plan library clocks i many all all
+  pub sub_skipped : (all : ClockStates) → (gave_at all.room.held.items i && passes_at all.states.items i) ≡ false → SubClockMade scene i many all all
   sub_skipped all not = record {
     step = λ other sub rank ran filled front own through world is s.
-        subs_skip (over plan library clocks other) sub rank own world in_clocks (clock_at clocks i) many through ran filled front i all (λ inside. is ∙ not) s;
+        subs_skip (setting_over scene other) sub rank own world in_clocks (clock_at scene.clocks.now i) many through ran filled front i all (λ inside. is ∙ not) s;
   }
 
   -- it is one
   pub sub_run : (all kept mid new : ClockStates) → (gave_at all.room.held.items i && passes_at all.states.items i) ≡ true → 0 < many → many ≤ rest_at all i
       → kept.states ≡ all.states → kept.times ≡ all.times → kept.room.held ≡ all.room.held → kept.room.left ≡ all.room.left → kept.room.right ≡ all.room.right
       → rest_at kept i ≡ 0 → ((k : ℕ) → (k ≡ i → ⊥) → rest_at kept k ≡ rest_at all k)
-      → ClockMade plan library clocks (Sub i) many kept mid → mid.room.held ≡ kept.room.held
-      → ((rank : NodeClock → ℕ) → HasRanks clocks rank → AreLeft clocks rank (rank (Sub i)) (is_in clocks (Sub i)) kept mid)
-      → ((rank : NodeClock → ℕ) → HasRanks clocks rank → AreSamplesLeft clocks rank (rank (Sub i)) (is_in clocks (Sub i)) many kept mid)
+      → ClockMade scene (Sub i) many kept mid → mid.room.held ≡ kept.room.held
+      → ((rank : NodeClock → ℕ) → HasRanks scene.clocks.now rank → AreLeft scene.clocks.now rank (rank (Sub i)) (is_in scene.clocks.now (Sub i)) kept mid)
+      → ((rank : NodeClock → ℕ) → HasRanks scene.clocks.now rank → AreSamplesLeft scene.clocks.now rank (rank (Sub i)) (is_in scene.clocks.now (Sub i)) many kept mid)
       → new.states ≡ mid.states → new.room ≡ mid.room → ((k : ℕ) → (k ≡ i → ⊥) → slice_get new.times.items k ≡ slice_get mid.times.items k)
       → ((start n : ℕ) (before after : WeekTime) → slice_get mid.times.items i ≡ Some before → slice_get new.times.items i ≡ Some after → TimeStands start n before → TimeStands start (n + many) after)
-      → length mid.times.items ≡ length plan.nodes → length new.times.items ≡ length plan.nodes → SubClockMade plan library clocks i many all new
+      → length mid.times.items ≡ length scene.plan.now.nodes → length new.times.items ≡ length scene.plan.now.nodes → SubClockMade scene i many all new
   sub_run all kept mid new so some rest states times held left right none others run held_mid leaves samples new_states new_runs new_times later in_mid in_new = record {
     step = λ other sub rank ran filled front own through world is s.
-        let S = over plan library clocks other in
-        subs_step S sub rank own world in_clocks (clock_at clocks i) many through ran filled front i within refl (is ∙ so) some all kept mid new s rest states times held left right none others
+        let S = setting_over scene other in
+        subs_step S sub rank own world in_clocks (clock_at scene.clocks.now i) many through ran filled front i within refl (is ∙ so) some all kept mid new s rest states times held left right none others
         (λ n can. run.run other sub rank s.ran_now s.filled_now front own n can) held_mid (leaves rank world.ranks) (samples rank world.ranks) new_states new_runs new_times (later S.start) in_mid in_new;
   }
 
 -- what the sub-clock's stretch asks of the states of which no instants of it are kept any more
-module _ (library : Sounds) (clocks : List NodeClock) (i many : ℕ) (all kept : ClockStates) (resting : AreResting library clocks all) (some : 0 < many) (rest : many ≤ rest_at all i)
+module _ (scene : Scene) (i many : ℕ) (all kept : ClockStates) (resting : AreResting scene all) (some : 0 < many) (rest : many ≤ rest_at all i)
     (states : kept.states ≡ all.states) (held : kept.room.held ≡ all.room.held) where
-  pub sub_ahead : AllLieAhead library clocks (Sub i) kept.room.held.items kept.states.items (length clocks) many
+  pub sub_ahead : AllLieAhead scene (Sub i) kept.room.held.items kept.states.items many
   sub_ahead =
-      ahead_same library clocks (Sub i) all.room.held.items kept.room.held.items all.states.items kept.states.items (length clocks) many
+      ahead_same scene (Sub i) all.room.held.items kept.room.held.items all.states.items kept.states.items many
       (λ k inside. ap (λ ps. is_some (part_at ps.items k).slot) held) (λ k inside. ap (λ xs. slice_get xs.items k) states)
-      (ahead_less library clocks (Sub i) all.room.held.items all.states.items (length clocks) (rest_at all i) many rest (resting.ahead i (omega (arith, some, rest))))
+      (ahead_less scene (Sub i) all.room.held.items all.states.items (rest_at all i) many rest (resting.ahead i (omega (arith, some, rest))))
 
-  pub sub_through : (rank : NodeClock → ℕ) → HasRanks clocks rank → i < length clocks → ((k : ℕ) → (k ≡ i → ⊥) → rest_at kept k ≡ rest_at all k)
-      → AllPassOn clocks (Sub i) kept.room.held.items kept.states.items kept.room.rests.items (length clocks) many
+  pub sub_through : (rank : NodeClock → ℕ) → HasRanks scene.clocks.now rank → i < length scene.clocks.now → ((k : ℕ) → (k ≡ i → ⊥) → rest_at kept k ≡ rest_at all k)
+      → AllPassOn scene (Sub i) kept.room.held.items kept.states.items kept.room.rests.items many
   sub_through rank ranks within others =
-      through_same clocks (Sub i) all.room.held.items kept.room.held.items all.states.items kept.states.items all.room.rests.items kept.room.rests.items (length clocks) many
+      through_same scene (Sub i) all.room.held.items kept.room.held.items all.states.items kept.states.items all.room.rests.items kept.room.rests.items many
       (λ k inside. ap (λ ps. is_some (part_at ps.items k).slot) held) (λ k inside. ap (λ xs. slice_get xs.items k) states)
       (λ k inside. others k (λ e. absurd (apart k inside e)))
-      (through_less clocks (Sub i) all.room.held.items all.states.items all.room.rests.items (length clocks) (rest_at all i) many rest (resting.through i (omega (arith, some, rest))))
+      (through_less scene (Sub i) all.room.held.items all.states.items all.room.rests.items (rest_at all i) many rest (resting.through i (omega (arith, some, rest))))
     where
-      apart : (k : ℕ) → lies_at clocks (Sub i) k ≡ true → k ≡ i → ⊥
+      apart : (k : ℕ) → lies_at scene.clocks.now (Sub i) k ≡ true → k ≡ i → ⊥
       apart k inside e =
-          let here = sym (same_clock-true (clock_at clocks k) (Sub i) inside) ∙ ap (clock_at clocks) e in
-          let up = ranks.deeper i within in let same : rank (Sub i) ≡ rank (clock_at clocks i) = ap rank here in omega (arith, up, same)
+          let here = sym (same_clock-true (clock_at scene.clocks.now k) (Sub i) inside) ∙ ap (clock_at scene.clocks.now) e in
+          let up = ranks.deeper i within in let same : rank (Sub i) ≡ rank (clock_at scene.clocks.now i) = ap rank here in omega (arith, up, same)
 
 -- and its clock
 pub sub_idle : (i : ℕ) (kept : ClockStates) → rest_at kept i ≡ 0 → IsIdle (Sub i) kept

@@ -4,10 +4,8 @@ use Rattle.std.specs.Prelude.{◌≡◌, ◌<◌, ◌≤◌, ◌+◌, ℕ, suc, 
 use Rattle.std.specs.Option.{option_map_or}
 use Rattle.plan_core.specs.declared.node.Node.{Node}
 use Rattle.plan_core.specs.declared.node.Op.TheVariants.{Crossfade}
-use Rattle.plan_core.specs.declared.plan.Plan.{Plan}
 use Rattle.clock_infer.specs.declared.clock_map.NodeClock.{NodeClock}
 use Rattle.clock_infer.specs.declared.clock_map.NodeClock.TheVariants.{Main, Sub}
-use Rattle.frame_core.specs.Library.{Sounds}
 use Rattle.frame_core.specs.Slots.{Slot}
 use Rattle.frame_core.specs.Calls.{Adds, Call, Answer}
 use Rattle.op_cross.specs.Runs.{run_of}
@@ -26,7 +24,8 @@ use Rattle.clock_nodes.specs.Nodes.{AreNodesOf}
 use Rattle.clock_instants.specs.Instants.{IsLatest}
 use Rattle.clock_instants.specs.Held.{AllAsk, AllPassOn, IsHeld}
 use Rattle.clock_instants.specs.Stretches.{AllLieAhead, HasLanes, HasStretchRoom}
-use Rattle.clock_nodes.specs.States.{AllFit, HasRoomFor, over}
+use Rattle.clock_nodes.specs.Scenes.{setting_over}
+use Rattle.clock_nodes.specs.States.{AllFit, HasRoomFor}
 use Rattle.clock_instants.specs.Takes.{HasOwnReaders, begun_in}
 use Rattle.nested_instants.specs.declared.clock_states.ClockStates.{ClockStates}
 
@@ -53,32 +52,27 @@ abbrev pub rest_at : ClockStates → ℕ → ℕ
 rest_at all k = slice_index_or all.room.rests.items k 0
 
 -- the states of a sub-clock's nodes can go on for as many instants as are kept
-pub record AreResting (library : Sounds) (clocks : List NodeClock) (all : ClockStates) : Type 0 where
+pub record AreResting (scene : Scene) (all : ClockStates) : Type 0 where
   pub ahead : (k : ℕ) → 0 < rest_at all k
-      → AllLieAhead library clocks (Sub k) all.room.held.items all.states.items (length clocks) (rest_at all k)
+      → AllLieAhead scene (Sub k) all.room.held.items all.states.items (rest_at all k)
   pub through : (k : ℕ) → 0 < rest_at all k
-      → AllPassOn clocks (Sub k) all.room.held.items all.states.items all.room.rests.items (length clocks)
-      (rest_at all k)
+      → AllPassOn scene (Sub k) all.room.held.items all.states.items all.room.rests.items (rest_at all k)
 
 -- no instants are kept of a clock
 pub record IsIdle (clock : NodeClock) (all : ClockStates) : Type 0 where
   pub none : (k : ℕ) → clock ≡ Sub k → rest_at all k ≡ 0
 
 -- states for the nodes of this plan, with these files and these clocks of its nodes
-pub record AreClockStates (plan : Plan) (library : Sounds) (clocks : List NodeClock) (all : ClockStates) : Type 0 where
-  pub fit : AllFit plan library all.states.items
-  pub in_times : length all.times.items ≡ length plan.nodes
-  pub chains : AreNodesOf clocks all.nodes
-  pub latest : IsLatest clocks all.latest
-  pub room : HasRoomFor plan all.desk
-  pub stretch_room : HasStretchRoom (length plan.nodes) all.room
-  pub resting : AreResting library clocks all
-  pub rates : (k : ℕ) (time : WeekTime) → slice_get all.times.items k ≡ Some time → time.rate ≡ plan.rate
-  pub frames : (k : ℕ) (time : WeekTime) → slice_get all.times.items k ≡ Some time → time.frame ≡ plan.frame
-
--- the same over a scene
-abbrev pub AreClockStatesOver : Scene → ClockStates → Type 0
-AreClockStatesOver scene all = AreClockStates scene.plan.now scene.library.now scene.clocks.now all
+pub record AreClockStates (scene : Scene) (all : ClockStates) : Type 0 where
+  pub fit : AllFit scene all.states.items
+  pub in_times : length all.times.items ≡ length scene.plan.now.nodes
+  pub chains : AreNodesOf scene.clocks.now all.nodes
+  pub latest : IsLatest scene.clocks.now all.latest
+  pub room : HasRoomFor scene.plan.now all.desk
+  pub stretch_room : HasStretchRoom (length scene.plan.now.nodes) all.room
+  pub resting : AreResting scene all
+  pub rates : (k : ℕ) (time : WeekTime) → slice_get all.times.items k ≡ Some time → time.rate ≡ scene.plan.now.rate
+  pub frames : (k : ℕ) (time : WeekTime) → slice_get all.times.items k ≡ Some time → time.frame ≡ scene.plan.now.frame
 
 -- these tell of each node whether its own clock demands it of itself
 pub record AreOwnRoots (setting : Setting) (own : List Bool) : Type 0 where
@@ -111,8 +105,8 @@ is_upto clocks clock below i = (i < below) × (clock_at clocks i ≡ clock)
 
 -- but for some nodes, those in clocks of this rank or a lower one have the states that they had, what is kept of their
 -- latest instant, and their sub-clocks the times and the instants that are kept
-pub record AreLeft (clocks : List NodeClock) (rank : NodeClock → ℕ) (level : ℕ) (touched : ℕ
-    → Type 0) (old new : ClockStates) : Type 0 where
+pub record AreLeft (clocks : List NodeClock) (rank : NodeClock → ℕ) (level : ℕ) (touched : ℕ → Type 0)
+    (old new : ClockStates) : Type 0 where
   pub states : (i : ℕ) → (touched i → ⊥) → rank (clock_at clocks i) ≤ level
       → slice_get new.states.items i ≡ slice_get old.states.items i
   pub times : (i : ℕ) → (touched i → ⊥) → rank (clock_at clocks i) ≤ level
@@ -142,8 +136,8 @@ fade_at setting k = fade_in setting k (slice_get setting.plan.nodes k)
 -- each sub-clock of a crossfade whose clock has this rank or a deeper one has made exactly as many instants as settle
 -- the crossfade's latest item, and no instant more; and each reader in such a clock has begun the instants that its
 -- clock has made, and no instant more
-pub record RanAsNeeded (setting : Setting) (sub : ℕ → ℕ → List Slot) (rank : NodeClock → ℕ) (level : ℕ) (ran : NodeClock
-    → ℕ) (filled : ℕ → ℕ) : Type 0 where
+pub record RanAsNeeded (setting : Setting) (sub : ℕ → ℕ → List Slot) (rank : NodeClock → ℕ) (level : ℕ)
+    (ran : NodeClock → ℕ) (filled : ℕ → ℕ) : Type 0 where
   pub each : (k overlap : ℕ) (node : Node) → slice_get setting.plan.nodes k ≡ Some node → node.op ≡ Crossfade overlap
       → level ≤ rank (clock_of setting k) → ran (Sub k) ≡ ran_by sub k overlap (past_of setting sub ran k)
   pub begun : (i : ℕ) → reads_at setting i ≡ true → level ≤ rank (clock_of setting i)
@@ -151,16 +145,15 @@ pub record RanAsNeeded (setting : Setting) (sub : ℕ → ℕ → List Slot) (ra
 
 -- so many instants go on as the one after these did, of which this is kept; and for them each crossfade of the clock
 -- through which cells pass asks for a slot an instant, and any other one for none
-pub record GoesOnFor (setting : Setting) (sub : ℕ → ℕ
-    → List Slot) (clock : NodeClock) (past : List Moment) (rest : ℕ) (filled : ℕ → ℕ) (held : List Part)
-    (states : List NodeState) : Type 0 where
+pub record GoesOnFor (setting : Setting) (sub : ℕ → ℕ → List Slot) (clock : NodeClock) (past : List Moment) (rest : ℕ)
+    (filled : ℕ → ℕ) (held : List Part) (states : List NodeState) : Type 0 where
   pub stretch : IsStretch setting sub clock past (suc rest)
   pub held_is : IsHeld setting sub clock past held
   pub asks : AllAsk setting sub clock past filled states (length setting.clocks) rest
 
 -- so many instants of the sub-clock of crossfade k go on as its latest one did, at which the child gave
-pub record IsOpen (setting : Setting) (sub : ℕ → ℕ → List Slot) (k rest : ℕ) (ran : NodeClock → ℕ) (filled : ℕ
-    → ℕ) (all : ClockStates) : Type 0 where
+pub record IsOpen (setting : Setting) (sub : ℕ → ℕ → List Slot) (k rest : ℕ) (ran : NodeClock → ℕ) (filled : ℕ → ℕ)
+    (all : ClockStates) : Type 0 where
   pub n : ℕ
   pub at : ran (Sub k) ≡ suc n
   pub gave : gives (moment_after setting sub (Sub k) (first_instants setting sub (Sub k) n))
@@ -172,9 +165,8 @@ pub record IsOpen (setting : Setting) (sub : ℕ → ℕ → List Slot) (k rest 
 -- the clocks have made, each crossfade was filled what its sub-clock made, and the sub-clock's time is that of its next
 -- instant; and clocks deeper than this ran as needed; and their nodes have lanes. `filled i` is also how many instants
 -- reader i has begun. Of states in lower clocks nothing is said: such may be idle
-pub record Stand (setting : Setting) (sub : ℕ → ℕ → List Slot) (rank : NodeClock → ℕ) (level : ℕ) (ran : NodeClock
-    → ℕ) (filled : ℕ → ℕ)
-    (front : ℕ → List Answer) (all : ClockStates) : Type 0 where
+pub record Stand (setting : Setting) (sub : ℕ → ℕ → List Slot) (rank : NodeClock → ℕ) (level : ℕ) (ran : NodeClock → ℕ)
+    (filled : ℕ → ℕ) (front : ℕ → List Answer) (all : ClockStates) : Type 0 where
   pub stand : (i : ℕ) (node : Node) (state : NodeState) → slice_get setting.plan.nodes i ≡ Some node
       → slice_get all.states.items i ≡ Some state
       → level ≤ rank (clock_of setting i)
@@ -191,18 +183,17 @@ pub record Stand (setting : Setting) (sub : ℕ → ℕ → List Slot) (rank : N
   pub laned : (i : ℕ) → i < length setting.plan.nodes → level ≤ rank (clock_of setting i) → laned_at all i
 
 -- the item of node k is settled, if it is a crossfade, by no more slots than it takes
-pub record HasItem (setting : Setting) (sub : ℕ → ℕ → List Slot) (ran : NodeClock → ℕ) (filled : ℕ
-    → ℕ) (k : ℕ) (node : Node) : Type 0 where
+pub record HasItem (setting : Setting) (sub : ℕ → ℕ → List Slot) (ran : NodeClock → ℕ) (filled : ℕ → ℕ) (k : ℕ)
+    (node : Node) : Type 0 where
   pub settled : IsSettled sub (past_of setting sub ran k) (filled k) k (work_at setting k node)
   pub run : (overlap : ℕ) → work_at setting k node ≡ Fades overlap
       → run_of overlap (sub k) (position (past_of setting sub ran k) k) ≡ filled k
 
 -- some nodes were filled, by these calls, and some of these have their items; no clock of this rank or a lower one has
 -- made an instant
-pub record IsReached (setting : Setting) (sub : ℕ → ℕ → List Slot) (rank : NodeClock → ℕ) (level : ℕ) (touched done : ℕ
-    → Type 0)
-    (ran : NodeClock → ℕ) (filled : ℕ → ℕ) (front : ℕ
-    → List Answer) (more : List Call) (all : ClockStates) : Type 0 where
+pub record IsReached (setting : Setting) (sub : ℕ → ℕ → List Slot) (rank : NodeClock → ℕ) (level : ℕ)
+    (touched done : ℕ → Type 0) (ran : NodeClock → ℕ) (filled : ℕ → ℕ) (front : ℕ → List Answer) (more : List Call)
+    (all : ClockStates) : Type 0 where
   pub ran_now : NodeClock → ℕ
   pub filled_now : ℕ → ℕ
   pub stand : Stand setting sub rank level ran_now filled_now (after_calls front more) all
@@ -218,10 +209,9 @@ abbrev pub calls_below : Setting → (sub : ℕ → ℕ → List Slot) → (k m 
 calls_below setting sub k m = calls_of setting sub (Sub k) (first_instants setting sub (Sub k) m)
 
 -- node k was filled some slots, by the calls of the instants that its sub-clock made for it
-pub record IsFilling (setting : Setting) (sub : ℕ → ℕ → List Slot) (rank : NodeClock → ℕ) (level k : ℕ) (done : ℕ
-    → Type 0)
-    (ran : NodeClock → ℕ) (filled : ℕ → ℕ) (front : ℕ
-    → List Answer) (more : List Call) (all : ClockStates) : Type 0 where
+pub record IsFilling (setting : Setting) (sub : ℕ → ℕ → List Slot) (rank : NodeClock → ℕ) (level k : ℕ)
+    (done : ℕ → Type 0) (ran : NodeClock → ℕ) (filled : ℕ → ℕ) (front : ℕ → List Answer) (more : List Call)
+    (all : ClockStates) : Type 0 where
   pub reached : IsReached setting sub rank level (is_node k) done ran filled front more all
   pub low : filled k ≤ reached.filled_now k
   pub calls : more ≡ joined_between (calls_below setting sub k) (filled k) (reached.filled_now k)
@@ -234,9 +224,9 @@ calls_upto setting sub clock past n =
 
 -- a clock has made one instant more, by its calls, and no other clock of its rank or a lower one has; below it no clock
 -- has made more than its crossfade asks for
-pub record HasMadeInstant (setting : Setting) (sub : ℕ → ℕ → List Slot) (rank : NodeClock
-    → ℕ) (clock : NodeClock) (ran : NodeClock → ℕ) (filled : ℕ → ℕ)
-    (front : ℕ → List Answer) (more : List Call) (all : ClockStates) : Type 0 where
+pub record HasMadeInstant (setting : Setting) (sub : ℕ → ℕ → List Slot) (rank : NodeClock → ℕ) (clock : NodeClock)
+    (ran : NodeClock → ℕ) (filled : ℕ → ℕ) (front : ℕ → List Answer) (more : List Call) (all : ClockStates)
+    : Type 0 where
   pub ran_now : NodeClock → ℕ
   pub filled_now : ℕ → ℕ
   pub stand : Stand setting sub rank (rank clock) ran_now filled_now (after_calls front more) all
@@ -260,113 +250,78 @@ pub record IsWorld (setting : Setting) (sub : ℕ → ℕ → List Slot) (rank :
 
 -- a clock's instant was made, by these calls: whatever instants the states stood for, and whatever answers come behind
 -- those of the calls
-pub record InstantMade {T : Type 0} (stands : T → List Call
-    → Type 0) (plan : Plan) (library : Sounds) (clocks : List NodeClock) (own : List Bool)
+pub record InstantMade {T : Type 0} (stands : T → List Call → Type 0) (scene : Scene) (own : List Bool)
     (clock : NodeClock) (time : WeekTime) (old new : ClockStates) (taps_old taps_new : T) : Type 0 where
   pub more : List Call
   pub taps : Adds stands taps_old taps_new more
   pub made : (other : Setting) (sub : ℕ → ℕ → List Slot) (rank ran : NodeClock → ℕ) (filled : ℕ → ℕ) (front : ℕ
       → List Answer) →
-      let setting = over plan library clocks other in
+      let setting = setting_over scene other in
       IsWorld setting sub rank own → HasAnswers setting (after_calls front more)
       → Stand setting sub rank (rank clock) ran filled front old → RanAsNeeded setting sub rank (rank clock) ran filled
       → TimeStands setting.start (ran clock) time
       → HasMadeInstant setting sub rank clock ran filled front more new
 
--- the same over a scene
-abbrev pub InstantMadeOver : {T : Type 0} → (T → List Call → Type 0) → Scene → List Bool → NodeClock → WeekTime
-    → (old new : ClockStates) → (taps_old taps_new : T) → Type 0
-InstantMadeOver stands scene own clock time old new taps_old taps_new = InstantMade stands scene.plan.now
-    scene.library.now scene.clocks.now own clock time old new taps_old taps_new
-
 -- memory was refused: these are the first calls of the instant
-pub record InstantStopped {T : Type 0} (stands : T → List Call
-    → Type 0) (plan : Plan) (library : Sounds) (clocks : List NodeClock) (own : List Bool)
+pub record InstantStopped {T : Type 0} (stands : T → List Call → Type 0) (scene : Scene) (own : List Bool)
     (clock : NodeClock) (time : WeekTime) (old : ClockStates) (taps_old taps_new : T) : Type 0 where
   pub made : List Call
   pub taps : Adds stands taps_old taps_new made
   pub begins : (other : Setting) (sub : ℕ → ℕ → List Slot) (rank ran : NodeClock → ℕ) (filled : ℕ → ℕ) (front : ℕ
       → List Answer) →
-      let setting = over plan library clocks other in
+      let setting = setting_over scene other in
       IsWorld setting sub rank own → HasAnswers setting (after_calls front made)
       → Stand setting sub rank (rank clock) ran filled front old → RanAsNeeded setting sub rank (rank clock) ran filled
       → TimeStands setting.start (ran clock) time
       → IsBegin made (calls_of setting sub clock (first_instants setting sub clock (ran clock)))
 
--- the same over a scene
-abbrev pub InstantStoppedOver : {T : Type 0} → (T → List Call → Type 0) → Scene → List Bool → NodeClock → WeekTime
-    → ClockStates → (taps_old taps_new : T) → Type 0
-InstantStoppedOver stands scene own clock time old taps_old taps_new = InstantStopped stands scene.plan.now
-    scene.library.now scene.clocks.now own clock time old taps_old taps_new
-
 -- the readers of a clock have begun, if its instant begins a tick
-pub record Opened (setting : Setting) (sub : ℕ → ℕ → List Slot) (rank : NodeClock
-    → ℕ) (clock : NodeClock) (ran : NodeClock → ℕ) (filled : ℕ → ℕ)
-    (front : ℕ → List Answer) (more : List Call) (all : ClockStates) : Type 0 where
+pub record Opened (setting : Setting) (sub : ℕ → ℕ → List Slot) (rank : NodeClock → ℕ) (clock : NodeClock)
+    (ran : NodeClock → ℕ) (filled : ℕ → ℕ) (front : ℕ → List Answer) (more : List Call) (all : ClockStates)
+    : Type 0 where
   pub stand : Stand setting sub rank (rank clock) ran (begun_in setting clock filled) (after_calls front more) all
   pub calls : more ≡ takes_at setting clock (first_instants setting sub clock (ran clock))
 
-pub record ClockOpened {T : Type 0} (stands : T → List Call
-    → Type 0) (plan : Plan) (library : Sounds) (clocks : List NodeClock)
-    (clock : NodeClock) (time : WeekTime) (old new : ClockStates) (taps_old taps_new : T) : Type 0 where
+pub record ClockOpened {T : Type 0} (stands : T → List Call → Type 0) (scene : Scene) (clock : NodeClock)
+    (time : WeekTime) (old new : ClockStates) (taps_old taps_new : T) : Type 0 where
   pub more : List Call
   pub taps : Adds stands taps_old taps_new more
   pub opened : (other : Setting) (sub : ℕ → ℕ → List Slot) (rank ran : NodeClock → ℕ) (filled : ℕ → ℕ) (front : ℕ
       → List Answer) →
-      let setting = over plan library clocks other in
-      HasRanks clocks rank → HasOwnReaders setting → HasAnswers setting (after_calls front more)
+      let setting = setting_over scene other in
+      HasRanks scene.clocks.now rank → HasOwnReaders setting → HasAnswers setting (after_calls front more)
       → Stand setting sub rank (rank clock) ran filled front old → RanAsNeeded setting sub rank (rank clock) ran filled
       → TimeStands setting.start (ran clock) time
       → Opened setting sub rank clock ran filled front more new
 
--- the same over a scene
-abbrev pub ClockOpenedOver : {T : Type 0} → (T → List Call → Type 0) → Scene → NodeClock → WeekTime
-    → (old new : ClockStates) → (taps_old taps_new : T) → Type 0
-ClockOpenedOver stands scene clock time old new taps_old taps_new = ClockOpened stands scene.plan.now scene.library.now
-    scene.clocks.now clock time old new taps_old taps_new
-
-pub record OpeningStopped {T : Type 0} (stands : T → List Call
-    → Type 0) (plan : Plan) (library : Sounds) (clocks : List NodeClock)
-    (clock : NodeClock) (time : WeekTime) (old : ClockStates) (taps_old taps_new : T) : Type 0 where
+pub record OpeningStopped {T : Type 0} (stands : T → List Call → Type 0) (scene : Scene) (clock : NodeClock)
+    (time : WeekTime) (old : ClockStates) (taps_old taps_new : T) : Type 0 where
   pub made : List Call
   pub taps : Adds stands taps_old taps_new made
   pub begins : (other : Setting) (sub : ℕ → ℕ → List Slot) (rank ran : NodeClock → ℕ) (filled : ℕ → ℕ) (front : ℕ
       → List Answer) →
-      let setting = over plan library clocks other in
+      let setting = setting_over scene other in
       HasOwnReaders setting → HasAnswers setting (after_calls front made)
       → Stand setting sub rank (rank clock) ran filled front old → RanAsNeeded setting sub rank (rank clock) ran filled
       → TimeStands setting.start (ran clock) time
       → IsBegin made (takes_at setting clock (first_instants setting sub clock (ran clock)))
 
--- the same over a scene
-abbrev pub OpeningStoppedOver : {T : Type 0} → (T → List Call → Type 0) → Scene → NodeClock → WeekTime → ClockStates
-    → (taps_old taps_new : T) → Type 0
-OpeningStoppedOver stands scene clock time old taps_old taps_new = OpeningStopped stands scene.plan.now
-    scene.library.now scene.clocks.now clock time old taps_old taps_new
-
 -- node k has its item, by these calls
-pub record NodeSettled {T : Type 0} (stands : T → List Call
-    → Type 0) (plan : Plan) (library : Sounds) (clocks : List NodeClock) (own : List Bool)
-    (k : ℕ) (old new : ClockStates) (taps_old taps_new : T) : Type 0 where
+pub record NodeSettled {T : Type 0} (stands : T → List Call → Type 0) (scene : Scene) (own : List Bool) (k : ℕ)
+    (old new : ClockStates) (taps_old taps_new : T) : Type 0 where
   pub more : List Call
   pub taps : Adds stands taps_old taps_new more
   pub settled : (other : Setting) (sub : ℕ → ℕ → List Slot) (rank ran : NodeClock → ℕ) (filled : ℕ → ℕ) (front : ℕ
       → List Answer) →
-      let setting = over plan library clocks other in
+      let setting = setting_over scene other in
       IsWorld setting sub rank own → HasAnswers setting (after_calls front more)
-      → Stand setting sub rank (rank (clock_at clocks k)) ran filled front old
-      → (reads_at setting k ≡ true → filled k ≡ suc (ran (clock_at clocks k)))
-      → IsFilling setting sub rank (rank (clock_at clocks k)) k (is_node k) ran filled front more new
-
--- the same over a scene
-abbrev pub NodeSettledOver : {T : Type 0} → (T → List Call → Type 0) → Scene → List Bool → (k : ℕ)
-    → (old new : ClockStates) → (taps_old taps_new : T) → Type 0
-NodeSettledOver stands scene own k old new taps_old taps_new = NodeSettled stands scene.plan.now scene.library.now
-    scene.clocks.now own k old new taps_old taps_new
+      → Stand setting sub rank (rank (clock_at scene.clocks.now k)) ran filled front old
+      → (reads_at setting k ≡ true → filled k ≡ suc (ran (clock_at scene.clocks.now k)))
+      → IsFilling setting sub rank (rank (clock_at scene.clocks.now k)) k (is_node k) ran filled front more new
 
 -- memory was refused: these are the first calls for the item of node k, which is a crossfade
-pub record IsFillingStopped (setting : Setting) (sub : ℕ → ℕ → List Slot) (ran : NodeClock → ℕ) (filled : ℕ
-    → ℕ) (k : ℕ) (made : List Call) : Type 0 where
+pub record IsFillingStopped (setting : Setting) (sub : ℕ → ℕ → List Slot) (ran : NodeClock → ℕ) (filled : ℕ → ℕ) (k : ℕ)
+    (made : List Call) : Type 0 where
   pub overlap : ℕ
   pub node : Node
   pub there : slice_get setting.plan.nodes k ≡ Some node
@@ -375,74 +330,54 @@ pub record IsFillingStopped (setting : Setting) (sub : ℕ → ℕ → List Slot
       (joined_between (calls_below setting sub k) (filled k)
       (run_of overlap (sub k) (position (past_of setting sub ran k) k)))
 
-pub record NodeStopped {T : Type 0} (stands : T → List Call
-    → Type 0) (plan : Plan) (library : Sounds) (clocks : List NodeClock) (own : List Bool)
-    (k : ℕ) (old : ClockStates) (taps_old taps_new : T) : Type 0 where
+pub record NodeStopped {T : Type 0} (stands : T → List Call → Type 0) (scene : Scene) (own : List Bool) (k : ℕ)
+    (old : ClockStates) (taps_old taps_new : T) : Type 0 where
   pub made : List Call
   pub taps : Adds stands taps_old taps_new made
   pub begins : (other : Setting) (sub : ℕ → ℕ → List Slot) (rank ran : NodeClock → ℕ) (filled : ℕ → ℕ) (front : ℕ
       → List Answer) →
-      let setting = over plan library clocks other in
+      let setting = setting_over scene other in
       IsWorld setting sub rank own → HasAnswers setting (after_calls front made)
-      → Stand setting sub rank (rank (clock_at clocks k)) ran filled front old
+      → Stand setting sub rank (rank (clock_at scene.clocks.now k)) ran filled front old
       → IsFillingStopped setting sub ran filled k made
-
--- the same over a scene
-abbrev pub NodeStoppedOver : {T : Type 0} → (T → List Call → Type 0) → Scene → List Bool → (k : ℕ) → ClockStates
-    → (taps_old taps_new : T) → Type 0
-NodeStoppedOver stands scene own k old taps_old taps_new = NodeStopped stands scene.plan.now scene.library.now
-    scene.clocks.now own k old taps_old taps_new
 
 -- the crossfades of a clock below a node have their items, by the calls of the instants that their sub-clocks made for
 -- them
-pub record AreFilled (setting : Setting) (sub : ℕ → ℕ → List Slot) (rank : NodeClock
-    → ℕ) (clock : NodeClock) (below : ℕ) (ran : NodeClock → ℕ) (filled : ℕ → ℕ)
-    (front : ℕ → List Answer) (more : List Call) (all : ClockStates) : Type 0 where
+pub record AreFilled (setting : Setting) (sub : ℕ → ℕ → List Slot) (rank : NodeClock → ℕ) (clock : NodeClock)
+    (below : ℕ) (ran : NodeClock → ℕ) (filled : ℕ → ℕ) (front : ℕ → List Answer) (more : List Call) (all : ClockStates)
+    : Type 0 where
   pub reached : IsReached setting sub rank (rank clock) (is_upto setting.clocks clock below)
       (is_upto setting.clocks clock below) ran filled front more all
   pub calls : more ≡ calls_upto setting sub clock (first_instants setting sub clock (ran clock)) below
 
 -- before the crossfades of a clock are settled: they have the items that the instants before took, and the readers have
 -- begun
-pub record AreReady (setting : Setting) (sub : ℕ → ℕ → List Slot) (clock : NodeClock) (ran : NodeClock → ℕ) (filled : ℕ
-    → ℕ) : Type 0 where
+pub record AreReady (setting : Setting) (sub : ℕ → ℕ → List Slot) (clock : NodeClock) (ran : NodeClock → ℕ)
+    (filled : ℕ → ℕ) : Type 0 where
   pub each : (k overlap : ℕ) (node : Node) → slice_get setting.plan.nodes k ≡ Some node
       → work_at setting k node ≡ Fades overlap
       → clock_of setting k ≡ clock → filled k ≡ ran_by sub k overlap (first_instants setting sub clock (ran clock))
   pub begun : (i : ℕ) → reads_at setting i ≡ true → clock_of setting i ≡ clock → filled i ≡ suc (ran clock)
 
-pub record AllSettled {T : Type 0} (stands : T → List Call
-    → Type 0) (plan : Plan) (library : Sounds) (clocks : List NodeClock) (own : List Bool)
+pub record AllSettled {T : Type 0} (stands : T → List Call → Type 0) (scene : Scene) (own : List Bool)
     (clock : NodeClock) (below : ℕ) (old new : ClockStates) (taps_old taps_new : T) : Type 0 where
   pub more : List Call
   pub taps : Adds stands taps_old taps_new more
   pub settled : (other : Setting) (sub : ℕ → ℕ → List Slot) (rank ran : NodeClock → ℕ) (filled : ℕ → ℕ) (front : ℕ
       → List Answer) →
-      let setting = over plan library clocks other in
+      let setting = setting_over scene other in
       IsWorld setting sub rank own → HasAnswers setting (after_calls front more)
       → Stand setting sub rank (rank clock) ran filled front old → AreReady setting sub clock ran filled
       → AreFilled setting sub rank clock below ran filled front more new
 
--- the same over a scene
-abbrev pub AllSettledOver : {T : Type 0} → (T → List Call → Type 0) → Scene → List Bool → NodeClock → (below : ℕ)
-    → (old new : ClockStates) → (taps_old taps_new : T) → Type 0
-AllSettledOver stands scene own clock below old new taps_old taps_new = AllSettled stands scene.plan.now
-    scene.library.now scene.clocks.now own clock below old new taps_old taps_new
-
-pub record SettlingStopped {T : Type 0} (stands : T → List Call
-    → Type 0) (plan : Plan) (library : Sounds) (clocks : List NodeClock) (own : List Bool)
+pub record SettlingStopped {T : Type 0} (stands : T → List Call → Type 0) (scene : Scene) (own : List Bool)
     (clock : NodeClock) (old : ClockStates) (taps_old taps_new : T) : Type 0 where
   pub made : List Call
   pub taps : Adds stands taps_old taps_new made
   pub begins : (other : Setting) (sub : ℕ → ℕ → List Slot) (rank ran : NodeClock → ℕ) (filled : ℕ → ℕ) (front : ℕ
       → List Answer) →
-      let setting = over plan library clocks other in
+      let setting = setting_over scene other in
       IsWorld setting sub rank own → HasAnswers setting (after_calls front made)
       → Stand setting sub rank (rank clock) ran filled front old → AreReady setting sub clock ran filled
-      → IsBegin made (calls_upto setting sub clock (first_instants setting sub clock (ran clock)) (length plan.nodes))
-
--- the same over a scene
-abbrev pub SettlingStoppedOver : {T : Type 0} → (T → List Call → Type 0) → Scene → List Bool → NodeClock → ClockStates
-    → (taps_old taps_new : T) → Type 0
-SettlingStoppedOver stands scene own clock old taps_old taps_new = SettlingStopped stands scene.plan.now
-    scene.library.now scene.clocks.now own clock old taps_old taps_new
+      → IsBegin made
+      (calls_upto setting sub clock (first_instants setting sub clock (ran clock)) (length scene.plan.now.nodes))

@@ -1,11 +1,9 @@
 -- Instants of a clock that go on as its latest one did, made at once.
 use Rattle.std.specs.Prelude.{◌≡◌, ◌<◌, ◌≤◌, ◌+◌, ◌&&◌, Bool, true, false, None, Some, List, [], ℕ, ℤ, suc, is_some, length, slice_get, slice_index_or}
-use Rattle.plan_core.specs.declared.plan.Plan.{Plan}
 use Rattle.clock_infer.specs.declared.clock_map.NodeClock.{NodeClock}
 use Rattle.clock_infer.specs.declared.clock_map.NodeClock.TheVariants.{Sub}
 use Rattle.frame_core.specs.Calls.{Call, Answer}
 use Rattle.frame_core.specs.Slots.{Slot, title_of}
-use Rattle.frame_core.specs.Library.{Sounds}
 use Rattle.op_leaf.specs.Lanes.{AreTitled, IsLane}
 use Rattle.stream_meaning.specs.Instants.{Setting, clock_of, crossfaded, first_instants, moment_after, offer, part_at}
 use Rattle.stream_meaning.specs.Calls.{calls_of}
@@ -13,7 +11,7 @@ use Rattle.op_mix.specs.Stretches.{samples_of}
 use Rattle.node_states.specs.declared.time.WeekTime.{WeekTime}
 use Rattle.node_states.specs.Times.{TimeStands}
 use Rattle.clock_nodes.specs.declared.scene.Scene.{Scene}
-use Rattle.clock_nodes.specs.States.{over}
+use Rattle.clock_nodes.specs.Scenes.{setting_over}
 use Rattle.nested_instants.specs.declared.clock_states.ClockStates.{ClockStates}
 use Rattle.clock_instants.specs.Held.{IsHeld, gave_at, goes_through, passes_at}
 use Rattle.node_states.specs.Passing.{LaneFills}
@@ -28,9 +26,9 @@ pub record IsStretchOf (slots : ℕ → Slot) (many : ℕ) (first : Slot) (left 
 
 -- a clock has made so many instants more behind instant n, without a call, and no other clock of its rank or a lower
 -- one has; and the nodes that it demands of themselves have left their samples
-pub record HasMadeOn (setting : Setting) (sub : ℕ → ℕ → List Slot) (rank : NodeClock
-    → ℕ) (own : List Bool) (clock : NodeClock) (n many : ℕ)
-    (ran : NodeClock → ℕ) (filled : ℕ → ℕ) (front : ℕ → List Answer) (all : ClockStates) : Type 0 where
+pub record HasMadeOn (setting : Setting) (sub : ℕ → ℕ → List Slot) (rank : NodeClock → ℕ) (own : List Bool)
+    (clock : NodeClock) (n many : ℕ) (ran : NodeClock → ℕ) (filled : ℕ → ℕ) (front : ℕ → List Answer)
+    (all : ClockStates) : Type 0 where
   pub ran_now : NodeClock → ℕ
   pub filled_now : ℕ → ℕ
   pub stand : Stand setting sub rank (rank clock) ran_now filled_now front all
@@ -47,9 +45,9 @@ pub record HasMadeOn (setting : Setting) (sub : ℕ → ℕ → List Slot) (rank
       (samples_of all.room.left.items i many) (samples_of all.room.right.items i many)
 
 -- what a stretch of a clock asks of the states before it
-pub record CanGoOn (setting : Setting) (sub : ℕ → ℕ → List Slot) (rank : NodeClock
-    → ℕ) (own : List Bool) (clock : NodeClock) (n many : ℕ) (ran : NodeClock → ℕ) (filled : ℕ → ℕ)
-    (front : ℕ → List Answer) (all : ClockStates) : Type 0 where
+pub record CanGoOn (setting : Setting) (sub : ℕ → ℕ → List Slot) (rank : NodeClock → ℕ) (own : List Bool)
+    (clock : NodeClock) (n many : ℕ) (ran : NodeClock → ℕ) (filled : ℕ → ℕ) (front : ℕ → List Answer)
+    (all : ClockStates) : Type 0 where
   pub world : IsWorld setting sub rank own
   pub stand : Stand setting sub rank (rank clock) ran filled front all
   pub needed : RanAsNeeded setting sub rank (rank clock) ran filled
@@ -58,25 +56,19 @@ pub record CanGoOn (setting : Setting) (sub : ℕ → ℕ → List Slot) (rank :
       all.states.items
 
 -- so many instants of a clock were made, which go on as its latest one: whatever instants the states stood for
-pub record ClockMade (plan : Plan) (library : Sounds) (clocks : List NodeClock) (clock : NodeClock) (many : ℕ)
-    (old new : ClockStates) : Type 0 where
+pub record ClockMade (scene : Scene) (clock : NodeClock) (many : ℕ) (old new : ClockStates) : Type 0 where
   pub run : (other : Setting) (sub : ℕ → ℕ → List Slot) (rank ran : NodeClock → ℕ) (filled : ℕ → ℕ) (front : ℕ
       → List Answer) (own : List Bool) (n : ℕ) →
-      let setting = over plan library clocks other in
+      let setting = setting_over scene other in
       CanGoOn setting sub rank own clock n many ran filled front old
       → HasMadeOn setting sub rank own clock n many ran filled front new
 
--- the same over a scene
-abbrev pub ClockRunOver : Scene → NodeClock → (many : ℕ) → (old new : ClockStates) → Type 0
-ClockRunOver scene clock many old new = ClockMade scene.plan.now scene.library.now scene.clocks.now clock many old new
-
 -- so many instants were made behind the latest one, which was at this time
-pub record StretchMade (plan : Plan) (library : Sounds) (clocks : List NodeClock) (clock : NodeClock) (time : WeekTime)
-    (many : ℕ)
-    (old new : ClockStates) : Type 0 where
+pub record StretchMade (scene : Scene) (clock : NodeClock) (time : WeekTime) (many : ℕ) (old new : ClockStates)
+    : Type 0 where
   pub run : (other : Setting) (sub : ℕ → ℕ → List Slot) (rank ran : NodeClock → ℕ) (filled : ℕ → ℕ) (front : ℕ
       → List Answer) (own : List Bool) (n : ℕ) →
-      let setting = over plan library clocks other in
+      let setting = setting_over scene other in
       IsWorld setting sub rank own → Stand setting sub rank (rank clock) ran filled front old
       → RanAsNeeded setting sub rank (rank clock) ran filled
       → ran clock ≡ suc n → old.latest.parts.items
@@ -85,35 +77,25 @@ pub record StretchMade (plan : Plan) (library : Sounds) (clocks : List NodeClock
       → TimeStands setting.start n time
       → HasMadeOn setting sub rank own clock n many ran filled front new
 
--- the same over a scene
-abbrev pub InstantsRunOver : Scene → NodeClock → WeekTime → (many : ℕ) → (old new : ClockStates) → Type 0
-InstantsRunOver scene clock time many old new = StretchMade scene.plan.now scene.library.now scene.clocks.now clock time
-    many old new
-
 -- behind an instant of its sub-clock, which was at this time, crossfade k was filled more slots, without a call:
 -- whatever it was filled
-pub record FilledOn (plan : Plan) (library : Sounds) (clocks : List NodeClock) (k : ℕ) (time : WeekTime)
-    (old new : ClockStates) : Type 0 where
+pub record FilledOn (scene : Scene) (k : ℕ) (time : WeekTime) (old new : ClockStates) : Type 0 where
   pub filled : (other : Setting) (sub : ℕ → ℕ → List Slot) (rank ran : NodeClock → ℕ) (filled : ℕ → ℕ) (front : ℕ
       → List Answer) (more : List Call) (own : List Bool) (n : ℕ) →
-      let setting = over plan library clocks other in
+      let setting = setting_over scene other in
       IsWorld setting sub rank own → fade_at setting k ≡ true
-      → (before : IsFilling setting sub rank (rank (clock_at clocks k)) k is_none ran filled front more old)
+      → (before : IsFilling setting sub rank (rank (clock_at scene.clocks.now k)) k is_none ran filled front more old)
       → before.reached.ran_now (Sub k) ≡ suc n → old.latest.parts.items
       ≡ (moment_after setting sub (Sub k) (first_instants setting sub (Sub k) n)).parts
       → IsHeld setting sub (Sub k) (first_instants setting sub (Sub k) n) old.room.held.items
       → TimeStands setting.start n time
-      → IsFilling setting sub rank (rank (clock_at clocks k)) k is_none ran filled front more new
-
--- the same over a scene
-abbrev pub FedOnOver : Scene → (k : ℕ) → WeekTime → (old new : ClockStates) → Type 0
-FedOnOver scene k time old new = FilledOn scene.plan.now scene.library.now scene.clocks.now k time old new
+      → IsFilling setting sub rank (rank (clock_at scene.clocks.now k)) k is_none ran filled front more new
 
 -- of the crossfades of a clock below this node, the sub-clocks of those through which cells pass have made so many
 -- instants more, without a call, and left the samples of the crossfades' children
-pub record SubsMade (setting : Setting) (sub : ℕ → ℕ → List Slot) (rank : NodeClock
-    → ℕ) (clock : NodeClock) (many : ℕ) (through : ℕ → Bool) (below : ℕ)
-    (ran : NodeClock → ℕ) (filled : ℕ → ℕ) (front : ℕ → List Answer) (all : ClockStates) : Type 0 where
+pub record SubsMade (setting : Setting) (sub : ℕ → ℕ → List Slot) (rank : NodeClock → ℕ) (clock : NodeClock) (many : ℕ)
+    (through : ℕ → Bool) (below : ℕ) (ran : NodeClock → ℕ) (filled : ℕ → ℕ) (front : ℕ → List Answer)
+    (all : ClockStates) : Type 0 where
   pub ran_now : NodeClock → ℕ
   pub filled_now : ℕ → ℕ
   pub stand : Stand setting sub rank (suc (rank clock)) ran_now filled_now front all
@@ -142,38 +124,27 @@ pub record SubsMade (setting : Setting) (sub : ℕ → ℕ → List Slot) (rank 
       → clock_of setting (crossfaded setting.plan.nodes k) ≡ Sub k
 
 -- the same for the sub-clocks below a node, whatever instants the states stood for
-pub record SubClocksMade (plan : Plan) (library : Sounds) (clocks : List NodeClock) (clock : NodeClock) (many below : ℕ)
-    (old new : ClockStates) : Type 0 where
+pub record SubClocksMade (scene : Scene) (clock : NodeClock) (many below : ℕ) (old new : ClockStates) : Type 0 where
   pub run : (other : Setting) (sub : ℕ → ℕ → List Slot) (rank ran : NodeClock → ℕ) (filled : ℕ → ℕ) (front : ℕ
       → List Answer) (own : List Bool) (n : ℕ) →
-      let setting = over plan library clocks other in
+      let setting = setting_over scene other in
       CanGoOn setting sub rank own clock n many ran filled front old
       → SubsMade setting sub rank clock many
       (goes_through (moment_after setting sub clock (first_instants setting sub clock n)) old.states.items) below ran
       filled front new
 
--- the same over a scene
-abbrev pub SubClocksRunOver : Scene → NodeClock → (many below : ℕ) → (old new : ClockStates) → Type 0
-SubClocksRunOver scene clock many below old new = SubClocksMade scene.plan.now scene.library.now scene.clocks.now clock
-    many below old new
-
 -- the same for the sub-clock of node i, if it is a crossfade through which cells pass, behind those below it
-pub record SubClockMade (plan : Plan) (library : Sounds) (clocks : List NodeClock) (i many : ℕ)
-    (old new : ClockStates) : Type 0 where
+pub record SubClockMade (scene : Scene) (i many : ℕ) (old new : ClockStates) : Type 0 where
   pub step : (other : Setting) (sub : ℕ → ℕ → List Slot) (rank ran : NodeClock → ℕ) (filled : ℕ → ℕ) (front : ℕ
       → List Answer) (own : List Bool) (through : ℕ → Bool) →
-      let setting = over plan library clocks other in
+      let setting = setting_over scene other in
       IsWorld setting sub rank own → through i ≡ (gave_at old.room.held.items i && passes_at old.states.items i)
-      → SubsMade setting sub rank (clock_at clocks i) many through i ran filled front old
-      → SubsMade setting sub rank (clock_at clocks i) many through (suc i) ran filled front new
-
--- the same over a scene
-abbrev pub SubClockRunOver : Scene → (i many : ℕ) → (old new : ClockStates) → Type 0
-SubClockRunOver scene i many old new = SubClockMade scene.plan.now scene.library.now scene.clocks.now i many old new
+      → SubsMade setting sub rank (clock_at scene.clocks.now i) many through i ran filled front old
+      → SubsMade setting sub rank (clock_at scene.clocks.now i) many through (suc i) ran filled front new
 
 -- but for some nodes, those in clocks of this rank or a lower one have the samples that they had
-pub record AreSamplesLeft (clocks : List NodeClock) (rank : NodeClock → ℕ) (level : ℕ) (touched : ℕ
-    → Type 0) (many : ℕ) (old new : ClockStates) : Type 0 where
+pub record AreSamplesLeft (clocks : List NodeClock) (rank : NodeClock → ℕ) (level : ℕ) (touched : ℕ → Type 0) (many : ℕ)
+    (old new : ClockStates) : Type 0 where
   pub left : (i : ℕ) → (touched i → ⊥) → rank (clock_at clocks i) ≤ level
       → samples_of new.room.left.items i many ≡ samples_of old.room.left.items i many
   pub right : (i : ℕ) → (touched i → ⊥) → rank (clock_at clocks i) ≤ level
@@ -181,8 +152,8 @@ pub record AreSamplesLeft (clocks : List NodeClock) (rank : NodeClock → ℕ) (
 
 -- nodes in clocks of this rank or a lower one have the states that they had, and what is kept of them; and but for some
 -- nodes their sub-clocks have the times and the instants that are kept; and each node keeps its lanes
-pub record AreAbove (clocks : List NodeClock) (rank : NodeClock → ℕ) (level : ℕ) (touched : ℕ
-    → Type 0) (old new : ClockStates) : Type 0 where
+pub record AreAbove (clocks : List NodeClock) (rank : NodeClock → ℕ) (level : ℕ) (touched : ℕ → Type 0)
+    (old new : ClockStates) : Type 0 where
   pub states : (i : ℕ) → rank (clock_at clocks i) ≤ level → slice_get new.states.items i ≡ slice_get old.states.items i
   pub held : (i : ℕ) → rank (clock_at clocks i) ≤ level → part_at new.room.held.items i ≡ part_at old.room.held.items i
   pub times : (i : ℕ) → (touched i → ⊥) → rank (clock_at clocks i) ≤ level

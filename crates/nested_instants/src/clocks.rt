@@ -3,7 +3,7 @@ ghost use Rattle.std.specs.Prelude.{◌≡◌, ◌<◌, ℕ, length, slice_index
 ghost use Rattle.clock_infer.specs.declared.clock_map.NodeClock.{NodeClock as Clock};
 ghost use Rattle.clock_infer.specs.declared.clock_map.NodeClock.TheVariants.{Main as InMain};
 ghost use Rattle.clock_instants.specs.Takes.{HasReader, ReadersAreIn};
-ghost use Rattle.nested_instants.specs.Clocks.{AllSettledOver, AreClockStatesOver, AreLeft, HasLevels, HasRanks, InstantMadeOver, InstantStoppedOver, IsIdle, NodeSettledOver, NodeStoppedOver, SettlingStoppedOver, is_in, is_node};
+ghost use Rattle.nested_instants.specs.Clocks.{AllSettled, AreClockStates, AreLeft, HasLevels, HasRanks, InstantMade, InstantStopped, IsIdle, NodeSettled, NodeStopped, SettlingStopped, is_in, is_node};
 ghost use Rattle.clock_nodes.specs.Scenes.{IsScene};
 
 use crate::ClockStates;
@@ -34,21 +34,21 @@ pub fn make_instant<T: Taps>(
 ) -> Result<(), Memory>
     requires scene { IsScene scene.now }
     requires in_own { length own.now ≡ length scene.now.plan.now.nodes }
-    requires clocks { AreClockStatesOver scene.now clocks.old }
+    requires clocks { AreClockStates scene.now clocks.old }
     requires levels { HasLevels scene.now.clocks.now clock levels }
     requires idle { IsIdle clock clocks.old }
     requires rate { time.rate ≡ scene.now.plan.now.rate }
     requires frame { time.frame ≡ scene.now.plan.now.frame }
     requires readers { ReadersAreIn scene.now.plan.now (T.buffers taps.old) }
-    ensures clocks { AreClockStatesOver scene.now clocks.new }
+    ensures clocks { AreClockStates scene.now clocks.new }
     ensures buffers { T.buffers taps.new ≡ T.buffers taps.old }
     ensures same { T.same taps.old taps.new }
     ensures left { OnOk result ((rank : Clock → ℕ) → HasRanks scene.now.clocks.now rank
         → AreLeft scene.now.clocks.now rank (rank clock) (is_in scene.now.clocks.now clock) clocks.old clocks.new) }
     ensures made { OnOk result
-        (InstantMadeOver T.stands scene.now own.now clock time clocks.old clocks.new taps.old taps.new) }
+        (InstantMade T.stands scene.now own.now clock time clocks.old clocks.new taps.old taps.new) }
     ensures stopped { OnErr result
-        (InstantStoppedOver T.stands scene.now own.now clock time clocks.old taps.old taps.new) }
+        (InstantStopped T.stands scene.now own.now clock time clocks.old taps.old taps.new) }
     ensures reads { OnErr result (HasReader scene.now.plan.now scene.now.clocks.now clock) }
 {
     begin_clock(scene, clocks, clock, time, taps)?;
@@ -69,20 +69,20 @@ fn settle<T: Taps>(
 ) -> Result<(), Memory>
     requires scene { IsScene scene.now }
     requires in_own { length own.now ≡ length scene.now.plan.now.nodes }
-    requires clocks { AreClockStatesOver scene.now clocks.old }
+    requires clocks { AreClockStates scene.now clocks.old }
     requires levels { HasLevels scene.now.clocks.now (slice_index_or scene.now.clocks.now k (InMain 0)) levels }
     requires idle { IsIdle (slice_index_or scene.now.clocks.now k (InMain 0)) clocks.old }
     requires within { k < length scene.now.plan.now.nodes }
     requires readers { ReadersAreIn scene.now.plan.now (T.buffers taps.old) }
-    ensures clocks { AreClockStatesOver scene.now clocks.new }
+    ensures clocks { AreClockStates scene.now clocks.new }
     ensures buffers { T.buffers taps.new ≡ T.buffers taps.old }
     ensures same { T.same taps.old taps.new }
     ensures left { OnOk result ((rank : Clock → ℕ) → HasRanks scene.now.clocks.now rank
         → AreLeft scene.now.clocks.now rank (rank (slice_index_or scene.now.clocks.now k (InMain 0))) (is_node k)
         clocks.old clocks.new) }
     ensures settled { OnOk result
-        (NodeSettledOver T.stands scene.now own.now k clocks.old clocks.new taps.old taps.new) }
-    ensures stopped { OnErr result (NodeStoppedOver T.stands scene.now own.now k clocks.old taps.old taps.new) }
+        (NodeSettled T.stands scene.now own.now k clocks.old clocks.new taps.old taps.new) }
+    ensures stopped { OnErr result (NodeStopped T.stands scene.now own.now k clocks.old taps.old taps.new) }
     ensures reads { OnErr result
         (HasReader scene.now.plan.now scene.now.clocks.now (slice_index_or scene.now.clocks.now k (InMain 0))) }
 {
@@ -116,19 +116,19 @@ fn settle_all<T: Taps>(
 ) -> Result<(), Memory>
     requires scene { IsScene scene.now }
     requires in_own { length own.now ≡ length scene.now.plan.now.nodes }
-    requires clocks { AreClockStatesOver scene.now clocks.old }
+    requires clocks { AreClockStates scene.now clocks.old }
     requires levels { HasLevels scene.now.clocks.now clock levels }
     requires idle { IsIdle clock clocks.old }
     requires readers { ReadersAreIn scene.now.plan.now (T.buffers taps.old) }
-    ensures clocks { AreClockStatesOver scene.now clocks.new }
+    ensures clocks { AreClockStates scene.now clocks.new }
     ensures buffers { T.buffers taps.new ≡ T.buffers taps.old }
     ensures same { T.same taps.old taps.new }
     ensures left { OnOk result ((rank : Clock → ℕ) → HasRanks scene.now.clocks.now rank
         → AreLeft scene.now.clocks.now rank (rank clock) (is_in scene.now.clocks.now clock) clocks.old clocks.new) }
     ensures settled { OnOk result
-        (AllSettledOver T.stands scene.now own.now clock (length scene.now.plan.now.nodes) clocks.old clocks.new
+        (AllSettled T.stands scene.now own.now clock (length scene.now.plan.now.nodes) clocks.old clocks.new
         taps.old taps.new) }
-    ensures stopped { OnErr result (SettlingStoppedOver T.stands scene.now own.now clock clocks.old taps.old taps.new) }
+    ensures stopped { OnErr result (SettlingStopped T.stands scene.now own.now clock clocks.old taps.old taps.new) }
     ensures reads { OnErr result (HasReader scene.now.plan.now scene.now.clocks.now clock) }
 {
     let mut i = clocks.nodes.first(clock);

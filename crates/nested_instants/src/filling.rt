@@ -12,10 +12,10 @@ ghost use Rattle.node_states.specs.declared.state.NodeState.{NodeState as State}
 ghost use Rattle.node_states.specs.declared.time.WeekTime.{WeekTime as Time};
 ghost use Rattle.node_states.specs.States.{Fits, StateStands, left, room};
 ghost use Rattle.node_states.specs.Times.{TimeStands};
-ghost use Rattle.clock_instants.specs.Held.{AllPassOnOver};
-ghost use Rattle.clock_instants.specs.Stretches.{AllLieAheadOver, IsBehind};
-ghost use Rattle.nested_instants.specs.Clocks.{AreClockStatesOver, AreLeft, GoesOnFor, HasLevels, HasRanks, IsIdle, is_node, left_at, rest_at, room_at, wants_at};
-ghost use Rattle.nested_instants.specs.Stretches.{FedOnOver};
+ghost use Rattle.clock_instants.specs.Held.{AllPassOn};
+ghost use Rattle.clock_instants.specs.Stretches.{AllLieAhead, IsBehind};
+ghost use Rattle.nested_instants.specs.Clocks.{AreClockStates, AreLeft, GoesOnFor, HasLevels, HasRanks, IsIdle, is_node, left_at, rest_at, room_at, wants_at};
+ghost use Rattle.nested_instants.specs.Stretches.{FilledOn};
 ghost use Rattle.clock_nodes.specs.Scenes.{IsScene, setting_over};
 
 use crate::ClockStates;
@@ -43,11 +43,11 @@ pub fn child_of(nodes: &[Node], k: u32) -> u32
 /// Feeds crossfade k, which wants it, the slot that its child has at the instant that its sub-clock made, and takes the
 /// time of the sub-clock on.
 pub fn fill_child(scene: &Scene<'_>, clocks: &mut ClockStates, k: u32)
-    requires clocks { AreClockStatesOver scene.now clocks.old }
+    requires clocks { AreClockStates scene.now clocks.old }
     requires within { k < length scene.now.plan.now.nodes }
     requires idle { IsIdle (slice_index_or scene.now.clocks.now k (InMain 0)) clocks.old }
     requires wants { wants_at clocks.old.states.items k ≡ true }
-    ensures clocks { AreClockStatesOver scene.now clocks.new }
+    ensures clocks { AreClockStates scene.now clocks.new }
     ensures latest { clocks.new.latest ≡ clocks.old.latest }
     ensures room { clocks.new.room ≡ clocks.old.room }
     ensures states { (i : ℕ) → (i ≡ k → ⊥) → slice_get clocks.new.states.items i ≡ slice_get clocks.old.states.items i }
@@ -76,19 +76,19 @@ pub fn fill_child(scene: &Scene<'_>, clocks: &mut ClockStates, k: u32)
 /// clock.
 pub fn fill_on(scene: &Scene<'_>, clocks: &mut ClockStates, k: u32, time: WeekTime, levels: usize)
     requires scene { IsScene scene.now }
-    requires clocks { AreClockStatesOver scene.now clocks.old }
+    requires clocks { AreClockStates scene.now clocks.old }
     requires within { k < length scene.now.plan.now.nodes }
     requires levels { HasLevels scene.now.clocks.now (slice_index_or scene.now.clocks.now k (InMain 0)) levels }
     requires idle { IsIdle (slice_index_or scene.now.clocks.now k (InMain 0)) clocks.old }
     requires none { rest_at clocks.old k ≡ 0 }
     requires rate { time.rate ≡ scene.now.plan.now.rate }
     requires frame { time.frame ≡ scene.now.plan.now.frame }
-    ensures clocks { AreClockStatesOver scene.now clocks.new }
+    ensures clocks { AreClockStates scene.now clocks.new }
     ensures no_more { left_at clocks.new.states.items k ≤ left_at clocks.old.states.items k }
     ensures left { (rank : Clock → ℕ) → HasRanks scene.now.clocks.now rank
         → AreLeft scene.now.clocks.now rank (rank (slice_index_or scene.now.clocks.now k (InMain 0))) (is_node k)
         clocks.old clocks.new }
-    ensures filled { FedOnOver scene.now k time clocks.old clocks.new }
+    ensures filled { FilledOn scene.now k time clocks.old clocks.new }
 {
     let rest = goes_for(scene, clocks, k, time);
     let many = wanted(clocks, k, rest);
@@ -104,13 +104,13 @@ pub fn fill_on(scene: &Scene<'_>, clocks: &mut ClockStates, k: u32, time: WeekTi
 // more than the crossfade can use.
 fn goes_for(scene: &Scene<'_>, clocks: &ClockStates, k: u32, time: WeekTime) -> u32
     requires scene { IsScene scene.now }
-    requires clocks { AreClockStatesOver scene.now clocks.now }
+    requires clocks { AreClockStates scene.now clocks.now }
     requires within { k < length scene.now.plan.now.nodes }
     requires rate { time.rate ≡ scene.now.plan.now.rate }
     requires frame { time.frame ≡ scene.now.plan.now.frame }
     ensures later { result ≤ time.rate }
-    ensures ahead { AllLieAheadOver scene.now (InSub k) clocks.now.room.held.items clocks.now.states.items result }
-    ensures through { AllPassOnOver scene.now (InSub k) clocks.now.room.held.items clocks.now.states.items
+    ensures ahead { AllLieAhead scene.now (InSub k) clocks.now.room.held.items clocks.now.states.items result }
+    ensures through { AllPassOn scene.now (InSub k) clocks.now.room.held.items clocks.now.states.items
         clocks.now.room.rests.items result }
     ensures gave { 0 < result
         → is_some (part_at clocks.now.latest.parts.items (crossfaded scene.now.plan.now.nodes k)).slot ≡ true }
@@ -156,14 +156,14 @@ fn wanted(clocks: &ClockStates, k: u32, rest: u32) -> u32
 // under its title at the latest instant, and takes the time of the sub-clock on.
 fn fill_lane(scene: &Scene<'_>, clocks: &mut ClockStates, k: u32, many: u32)
     requires scene { IsScene scene.now }
-    requires clocks { AreClockStatesOver scene.now clocks.old }
+    requires clocks { AreClockStates scene.now clocks.old }
     requires within { k < length scene.now.plan.now.nodes }
     requires some { 0 < many }
     requires short { many ≤ 2048 }
     requires room { many ≤ room_at clocks.old.states.items k }
     requires later { many ≤ scene.now.plan.now.rate }
     requires idle { IsIdle (slice_index_or scene.now.clocks.now k (InMain 0)) clocks.old }
-    ensures clocks { AreClockStatesOver scene.now clocks.new }
+    ensures clocks { AreClockStates scene.now clocks.new }
     ensures stretch_room { clocks.new.room ≡ clocks.old.room }
     ensures states { (i : ℕ) → (i ≡ k → ⊥) → slice_get clocks.new.states.items i ≡ slice_get clocks.old.states.items i }
     ensures times { (i : ℕ) → (i ≡ k → ⊥) → slice_get clocks.new.times.items i ≡ slice_get clocks.old.times.items i }

@@ -2,7 +2,7 @@
 ghost use Rattle.std.specs.Prelude.{◌≡◌, ℕ, false, length, slice_get, slice_index_or};
 ghost use Rattle.clock_infer.specs.declared.clock_map.NodeClock.TheVariants.{Main as InMain};
 ghost use Rattle.stream_meaning.specs.Instants.{part_at, same_clock};
-ghost use Rattle.nested_instants.specs.Clocks.{AreClockStatesOver, IsIdle};
+ghost use Rattle.nested_instants.specs.Clocks.{AreClockStates, IsIdle};
 ghost use Rattle.clock_instants.specs.Finishing.{InstantFinished};
 ghost use Rattle.clock_nodes.specs.Scenes.{IsScene};
 
@@ -21,9 +21,9 @@ pub fn finish(
 )
     requires scene { IsScene scene.now }
     requires in_own { length own.now ≡ length scene.now.plan.now.nodes }
-    requires clocks { AreClockStatesOver scene.now clocks.old }
+    requires clocks { AreClockStates scene.now clocks.old }
     requires idle { IsIdle clock clocks.old }
-    ensures clocks { AreClockStatesOver scene.now clocks.new }
+    ensures clocks { AreClockStates scene.now clocks.new }
     ensures kept { (i : ℕ) → same_clock (slice_index_or scene.now.clocks.now i (InMain 0)) clock ≡ false
         → part_at clocks.new.room.held.items i ≡ part_at clocks.old.room.held.items i }
     ensures rests { clocks.new.room.rests ≡ clocks.old.room.rests }

@@ -6,9 +6,9 @@ ghost use Rattle.frame_core.specs.Slots.{Slot};
 ghost use Rattle.stream_meaning.specs.Instants.{Setting, Moment};
 ghost use Rattle.node_states.specs.declared.time.WeekTime.{WeekTime as Time};
 ghost use Rattle.node_states.specs.Times.{TimeStands};
-ghost use Rattle.clock_instants.specs.Held.{AllPassOnOver};
-ghost use Rattle.clock_instants.specs.Stretches.{AllLieAheadOver, IsBehind};
-ghost use Rattle.nested_instants.specs.Clocks.{AreClockStatesOver, GoesOnFor, HasRanks, IsIdle, rest_at};
+ghost use Rattle.clock_instants.specs.Held.{AllPassOn};
+ghost use Rattle.clock_instants.specs.Stretches.{AllLieAhead, IsBehind};
+ghost use Rattle.nested_instants.specs.Clocks.{AreClockStates, GoesOnFor, HasRanks, IsIdle, rest_at};
 ghost use Rattle.clock_nodes.specs.Scenes.{IsScene, setting_over};
 
 use crate::ClockStates;
@@ -21,15 +21,15 @@ use node_states::WeekTime;
 pub fn keep(scene: &Scene<'_>, clocks: &mut ClockStates, k: u32, rest: u32)
     requires scene { IsScene scene.now }
     requires ranks { (rank : Clock → ℕ) × HasRanks scene.now.clocks.now rank }
-    requires clocks { AreClockStatesOver scene.now clocks.old }
+    requires clocks { AreClockStates scene.now clocks.old }
     requires within { k < length scene.now.plan.now.nodes }
     requires idle { IsIdle (slice_index_or scene.now.clocks.now k (InMain 0)) clocks.old }
     requires ahead { 0 < rest
-        → AllLieAheadOver scene.now (InSub k) clocks.old.room.held.items clocks.old.states.items rest }
+        → AllLieAhead scene.now (InSub k) clocks.old.room.held.items clocks.old.states.items rest }
     requires through { 0 < rest
-        → AllPassOnOver scene.now (InSub k) clocks.old.room.held.items clocks.old.states.items
+        → AllPassOn scene.now (InSub k) clocks.old.room.held.items clocks.old.states.items
         clocks.old.room.rests.items rest }
-    ensures clocks { AreClockStatesOver scene.now clocks.new }
+    ensures clocks { AreClockStates scene.now clocks.new }
     ensures kept { rest_at clocks.new k ≡ rest }
     ensures others { (i : ℕ) → (i ≡ k → ⊥) → rest_at clocks.new i ≡ rest_at clocks.old i }
     ensures states { clocks.new.states ≡ clocks.old.states }
@@ -51,13 +51,13 @@ pub fn rest_for(
     most: u32,
 ) -> u32
     requires scene { IsScene scene.now }
-    requires clocks { AreClockStatesOver scene.now clocks.now }
+    requires clocks { AreClockStates scene.now clocks.now }
     requires rate { time.rate ≡ scene.now.plan.now.rate }
     requires frame { time.frame ≡ scene.now.plan.now.frame }
     ensures within { result ≤ most }
     ensures later { result ≤ time.rate }
-    ensures ahead { AllLieAheadOver scene.now clock clocks.now.room.held.items clocks.now.states.items result }
-    ensures through { AllPassOnOver scene.now clock clocks.now.room.held.items clocks.now.states.items
+    ensures ahead { AllLieAhead scene.now clock clocks.now.room.held.items clocks.now.states.items result }
+    ensures through { AllPassOn scene.now clock clocks.now.room.held.items clocks.now.states.items
         clocks.now.room.rests.items result }
     ensures goes { (other : Setting) (sub : ℕ → ℕ → List Slot) (past : List Moment) (filled : ℕ → ℕ) →
         let setting = setting_over scene.now other in
@@ -80,10 +80,10 @@ pub fn rest_for(
 
 /// Takes the time of the sub-clock of crossfade k on by so many instants.
 pub fn take_on(scene: &Scene<'_>, clocks: &mut ClockStates, k: u32, many: u32)
-    requires clocks { AreClockStatesOver scene.now clocks.old }
+    requires clocks { AreClockStates scene.now clocks.old }
     requires within { k < length scene.now.plan.now.nodes }
     requires later { many ≤ scene.now.plan.now.rate }
-    ensures clocks { AreClockStatesOver scene.now clocks.new }
+    ensures clocks { AreClockStates scene.now clocks.new }
     ensures states { clocks.new.states ≡ clocks.old.states }
     ensures latest { clocks.new.latest ≡ clocks.old.latest }
     ensures room { clocks.new.room ≡ clocks.old.room }

@@ -5,10 +5,10 @@ ghost use Rattle.clock_infer.specs.declared.clock_map.NodeClock.TheVariants.{Mai
 ghost use Rattle.frame_core.specs.Slots.{Slot as TheSlot};
 ghost use Rattle.stream_meaning.specs.Instants.{Setting, Moment, same_clock};
 ghost use Rattle.op_mix.specs.Stretches.{samples_of};
-ghost use Rattle.clock_instants.specs.Held.{AllPassOnOver, gave_at, passes_at};
-ghost use Rattle.clock_instants.specs.Stretches.{AllLieAheadOver, HasGoneOn, IsGoing};
-ghost use Rattle.nested_instants.specs.Clocks.{AreClockStatesOver, AreLeft, HasLevels, HasRanks, IsIdle, is_in, is_node, is_none, laned_at, rest_at};
-ghost use Rattle.nested_instants.specs.Stretches.{AreAbove, AreSamplesLeft, ClockRunOver, SubClocksRunOver, SubClockRunOver};
+ghost use Rattle.clock_instants.specs.Held.{AllPassOn, gave_at, passes_at};
+ghost use Rattle.clock_instants.specs.Stretches.{AllLieAhead, HasGoneOn, IsGoing};
+ghost use Rattle.nested_instants.specs.Clocks.{AreClockStates, AreLeft, HasLevels, HasRanks, IsIdle, is_in, is_node, is_none, laned_at, rest_at};
+ghost use Rattle.nested_instants.specs.Stretches.{AreAbove, AreSamplesLeft, ClockMade, SubClocksMade, SubClockMade};
 ghost use Rattle.clock_nodes.specs.Scenes.{IsScene, setting_over};
 
 use crate::ClockStates;
@@ -29,16 +29,16 @@ pub fn run_clock(
     levels: usize,
 )
     requires scene { IsScene scene.now }
-    requires clocks { AreClockStatesOver scene.now clocks.old }
+    requires clocks { AreClockStates scene.now clocks.old }
     requires levels { HasLevels scene.now.clocks.now clock levels }
     requires idle { IsIdle clock clocks.old }
     requires some { 0 < many }
     requires short { many ≤ 2048 }
     requires later { many ≤ scene.now.plan.now.rate }
-    requires ahead { AllLieAheadOver scene.now clock clocks.old.room.held.items clocks.old.states.items many }
-    requires through { AllPassOnOver scene.now clock clocks.old.room.held.items clocks.old.states.items
+    requires ahead { AllLieAhead scene.now clock clocks.old.room.held.items clocks.old.states.items many }
+    requires through { AllPassOn scene.now clock clocks.old.room.held.items clocks.old.states.items
         clocks.old.room.rests.items many }
-    ensures clocks { AreClockStatesOver scene.now clocks.new }
+    ensures clocks { AreClockStates scene.now clocks.new }
     ensures latest { clocks.new.latest ≡ clocks.old.latest }
     ensures held { clocks.new.room.held ≡ clocks.old.room.held }
     ensures left { (rank : Clock → ℕ) → HasRanks scene.now.clocks.now rank
@@ -46,7 +46,7 @@ pub fn run_clock(
     ensures samples { (rank : Clock → ℕ) → HasRanks scene.now.clocks.now rank
         → AreSamplesLeft scene.now.clocks.now rank (rank clock) (is_in scene.now.clocks.now clock) many clocks.old
         clocks.new }
-    ensures run { ClockRunOver scene.now clock many clocks.old clocks.new }
+    ensures run { ClockMade scene.now clock many clocks.old clocks.new }
 {
     run_subs(scene, clocks, clock, many, levels);
     run_own(scene, clocks, clock, many);
@@ -56,22 +56,22 @@ pub fn run_clock(
 #[cycle(onward)]
 fn run_subs(scene: &Scene<'_>, clocks: &mut ClockStates, clock: NodeClock, many: u32, levels: usize)
     requires scene { IsScene scene.now }
-    requires clocks { AreClockStatesOver scene.now clocks.old }
+    requires clocks { AreClockStates scene.now clocks.old }
     requires levels { HasLevels scene.now.clocks.now clock levels }
     requires idle { IsIdle clock clocks.old }
     requires some { 0 < many }
     requires short { many ≤ 2048 }
     requires later { many ≤ scene.now.plan.now.rate }
-    requires through { AllPassOnOver scene.now clock clocks.old.room.held.items clocks.old.states.items
+    requires through { AllPassOn scene.now clock clocks.old.room.held.items clocks.old.states.items
         clocks.old.room.rests.items many }
-    ensures clocks { AreClockStatesOver scene.now clocks.new }
+    ensures clocks { AreClockStates scene.now clocks.new }
     ensures latest { clocks.new.latest ≡ clocks.old.latest }
     ensures held { clocks.new.room.held ≡ clocks.old.room.held }
     ensures above { (rank : Clock → ℕ) → HasRanks scene.now.clocks.now rank
         → AreAbove scene.now.clocks.now rank (rank clock) (is_in scene.now.clocks.now clock) clocks.old clocks.new }
     ensures samples { (rank : Clock → ℕ) → HasRanks scene.now.clocks.now rank
         → AreSamplesLeft scene.now.clocks.now rank (rank clock) is_none many clocks.old clocks.new }
-    ensures run { SubClocksRunOver scene.now clock many (length scene.now.plan.now.nodes) clocks.old clocks.new }
+    ensures run { SubClocksMade scene.now clock many (length scene.now.plan.now.nodes) clocks.old clocks.new }
 {
     let mut i = clocks.nodes.first(clock);
     while i < scene.clocks.len() {
@@ -84,7 +84,7 @@ fn run_subs(scene: &Scene<'_>, clocks: &mut ClockStates, clock: NodeClock, many:
 #[cycle(onward)]
 fn run_sub(scene: &Scene<'_>, clocks: &mut ClockStates, i: u32, many: u32, levels: usize)
     requires scene { IsScene scene.now }
-    requires clocks { AreClockStatesOver scene.now clocks.old }
+    requires clocks { AreClockStates scene.now clocks.old }
     requires within { i < length scene.now.plan.now.nodes }
     requires levels { HasLevels scene.now.clocks.now (slice_index_or scene.now.clocks.now i (InMain 0)) levels }
     requires idle { IsIdle (slice_index_or scene.now.clocks.now i (InMain 0)) clocks.old }
@@ -93,7 +93,7 @@ fn run_sub(scene: &Scene<'_>, clocks: &mut ClockStates, i: u32, many: u32, level
     requires later { many ≤ scene.now.plan.now.rate }
     requires through { (gave_at clocks.old.room.held.items i && passes_at clocks.old.states.items i) ≡ true
         → many ≤ rest_at clocks.old i }
-    ensures clocks { AreClockStatesOver scene.now clocks.new }
+    ensures clocks { AreClockStates scene.now clocks.new }
     ensures latest { clocks.new.latest ≡ clocks.old.latest }
     ensures held { clocks.new.room.held ≡ clocks.old.room.held }
     ensures above { (rank : Clock → ℕ) → HasRanks scene.now.clocks.now rank
@@ -102,7 +102,7 @@ fn run_sub(scene: &Scene<'_>, clocks: &mut ClockStates, i: u32, many: u32, level
     ensures samples { (rank : Clock → ℕ) → HasRanks scene.now.clocks.now rank
         → AreSamplesLeft scene.now.clocks.now rank (rank (InSub i)) (is_in scene.now.clocks.now (InSub i)) many
         clocks.old clocks.new }
-    ensures run { SubClockRunOver scene.now i many clocks.old clocks.new }
+    ensures run { SubClockMade scene.now i many clocks.old clocks.new }
 {
     if !passes_on(clocks, i) {
         return;
@@ -127,12 +127,12 @@ fn passes_on(clocks: &ClockStates, i: u32) -> bool
 // Makes what a clock's own nodes do at these instants.
 fn run_own(scene: &Scene<'_>, clocks: &mut ClockStates, clock: NodeClock, many: u32)
     requires scene { IsScene scene.now }
-    requires clocks { AreClockStatesOver scene.now clocks.old }
+    requires clocks { AreClockStates scene.now clocks.old }
     requires idle { IsIdle clock clocks.old }
     requires some { 0 < many }
     requires short { many ≤ 2048 }
-    requires ahead { AllLieAheadOver scene.now clock clocks.old.room.held.items clocks.old.states.items many }
-    ensures clocks { AreClockStatesOver scene.now clocks.new }
+    requires ahead { AllLieAhead scene.now clock clocks.old.room.held.items clocks.old.states.items many }
+    ensures clocks { AreClockStates scene.now clocks.new }
     ensures latest { clocks.new.latest ≡ clocks.old.latest }
     ensures times { clocks.new.times ≡ clocks.old.times }
     ensures held { clocks.new.room.held ≡ clocks.old.room.held }

@@ -3,7 +3,7 @@ ghost use Rattle.std.specs.Prelude.{◌≡◌, ℕ, false, slice_get, slice_inde
 ghost use Rattle.clock_infer.specs.declared.clock_map.NodeClock.TheVariants.{Main as InMain};
 ghost use Rattle.stream_meaning.specs.Instants.{same_clock};
 ghost use Rattle.clock_instants.specs.Takes.{HasReader, ReadersAreIn};
-ghost use Rattle.nested_instants.specs.Clocks.{AreClockStatesOver, ClockOpenedOver, IsIdle, OpeningStoppedOver};
+ghost use Rattle.nested_instants.specs.Clocks.{AreClockStates, ClockOpened, IsIdle, OpeningStopped};
 ghost use Rattle.clock_nodes.specs.Scenes.{IsScene};
 
 use crate::ClockStates;
@@ -23,11 +23,11 @@ pub fn begin_clock<T: Taps>(
     taps: &mut T,
 ) -> Result<(), Memory>
     requires scene { IsScene scene.now }
-    requires clocks { AreClockStatesOver scene.now clocks.old }
+    requires clocks { AreClockStates scene.now clocks.old }
     requires idle { IsIdle clock clocks.old }
     requires frame { time.frame ≡ scene.now.plan.now.frame }
     requires readers { ReadersAreIn scene.now.plan.now (T.buffers taps.old) }
-    ensures clocks { AreClockStatesOver scene.now clocks.new }
+    ensures clocks { AreClockStates scene.now clocks.new }
     ensures buffers { T.buffers taps.new ≡ T.buffers taps.old }
     ensures same { T.same taps.old taps.new }
     ensures others { (i : ℕ) → same_clock (slice_index_or scene.now.clocks.now i (InMain 0)) clock ≡ false
@@ -35,8 +35,8 @@ pub fn begin_clock<T: Taps>(
     ensures times { clocks.new.times.items ≡ clocks.old.times.items }
     ensures room { clocks.new.room ≡ clocks.old.room }
     ensures opened { OnOk result
-        (ClockOpenedOver T.stands scene.now clock time clocks.old clocks.new taps.old taps.new) }
-    ensures stopped { OnErr result (OpeningStoppedOver T.stands scene.now clock time clocks.old taps.old taps.new) }
+        (ClockOpened T.stands scene.now clock time clocks.old clocks.new taps.old taps.new) }
+    ensures stopped { OnErr result (OpeningStopped T.stands scene.now clock time clocks.old taps.old taps.new) }
     ensures reads { OnErr result (HasReader scene.now.plan.now scene.now.clocks.now clock) }
 {
     if time.begins_tick() {

@@ -1,7 +1,7 @@
 // Instants of a clock that go on as its latest one did, made at once.
 ghost use Rattle.std.specs.Prelude.{◌≡◌, ◌≤◌};
-ghost use Rattle.nested_instants.specs.Clocks.{AreClockStatesOver, HasLevels, IsIdle};
-ghost use Rattle.nested_instants.specs.Stretches.{InstantsRunOver};
+ghost use Rattle.nested_instants.specs.Clocks.{AreClockStates, HasLevels, IsIdle};
+ghost use Rattle.nested_instants.specs.Stretches.{StretchMade};
 ghost use Rattle.clock_nodes.specs.Scenes.{IsScene};
 
 use crate::ClockStates;
@@ -24,17 +24,17 @@ pub fn make_stretch(
     levels: usize,
 ) -> u32
     requires scene { IsScene scene.now }
-    requires clocks { AreClockStatesOver scene.now clocks.old }
+    requires clocks { AreClockStates scene.now clocks.old }
     requires levels { HasLevels scene.now.clocks.now clock levels }
     requires idle { IsIdle clock clocks.old }
     requires rate { time.rate ≡ scene.now.plan.now.rate }
     requires frame { time.frame ≡ scene.now.plan.now.frame }
     requires short { most ≤ 2048 }
-    ensures clocks { AreClockStatesOver scene.now clocks.new }
+    ensures clocks { AreClockStates scene.now clocks.new }
     ensures within { result ≤ most }
     ensures later { result ≤ time.rate }
     ensures latest { clocks.new.latest ≡ clocks.old.latest }
-    ensures run { InstantsRunOver scene.now clock time result clocks.old clocks.new }
+    ensures run { StretchMade scene.now clock time result clocks.old clocks.new }
 {
     let many = rest_for(scene, clocks, clock, time, most);
     if many == 0 {

@@ -3,6 +3,7 @@ use Rattle.std.specs.Prelude.{slice_index_or}
 use Rattle.std.specs.Option.{option_map_or}
 use Rattle.std.proofs.lemmas.Option.{slice_get_read}
 use Rattle.clock_infer.specs.declared.clock_map.NodeClock.TheVariants.{Main}
+use Rattle.clock_nodes.specs.Scenes.{setting_over}
 use Rattle.nested_instants.specs.Clocks.{AllSettled}
 use Rattle.stream_meaning.specs.Instants.{first_instants, moment_after, part_at, second_at}
 use Rattle.stream_meaning.proofs.Answering.{answers_first, answers_then}
@@ -10,7 +11,6 @@ use Rattle.stream_meaning.proofs.Existence.{same_clock-true}
 use Rattle.node_states.specs.States.{left, wants}
 use Rattle.node_states.proofs.Begun.{as_many}
 use Rattle.node_states.proofs.Chunks.{adds_then, on_err}
-use Rattle.clock_nodes.specs.States.{over}
 use Rattle.clock_instants.specs.Takes.{HasReader, ReadersAreIn, begun_in}
 use Rattle.stream_meaning.specs.Calls.{after_calls}
 use Rattle.clock_nodes.proofs.Walking.{next_own}
@@ -32,7 +32,7 @@ settle-loop-clocks-init g t c = record {
   buffers = refl;
   same = g.met.T.Taps.same_refl c.args.taps.now;
   left = λ rank ranks. left_none c.args.scene.now.clocks.now rank (rank (get_or c.args.scene.now.clocks.now c.args.k (Main 0))) (is_node c.args.k) c.args.clocks.now;
-  filling = node_none g.T.Taps.stands c.args.scene.now.plan.now c.args.scene.now.library.now c.args.scene.now.clocks.now c.args.own.now c.requires.scene.in_clocks c.args.clocks.now c.args.taps.now c.args.k;
+  filling = node_none g.T.Taps.stands c.args.scene.now c.args.own.now c.requires.scene.in_clocks c.args.clocks.now c.args.taps.now c.args.k;
 }
 
 pub settle-keep-requires-clause-idle : goal.settle-keep-requires-clause-idle
@@ -113,9 +113,9 @@ settle-loop-clocks-preserved g t c =
           (left_kept c.args.scene.now.clocks.now rank (rank (get_or c.args.scene.now.clocks.now c.args.k (Main 0))) c.args.k c.loop-clocks.clocks c.keep.new.clocks c.keep.ensures.states c.keep.ensures.times c.keep.ensures.held c.keep.ensures.others c.keep.ensures.left c.keep.ensures.right))
           (c.in_ok-make_instant.ensures.left rank ranks) c.fill_child.ensures.states c.fill_child.ensures.times c.fill_child.ensures.room)
           (c.fill_on.ensures.left rank ranks);
-      filling = node_more g.T.Taps.stands c.args.scene.now.plan.now c.args.scene.now.library.now c.args.scene.now.clocks.now c.args.own.now c.requires.scene.in_clocks c.args.clocks.now c.args.taps.now c.args.k
+      filling = node_more g.T.Taps.stands c.args.scene.now c.args.own.now c.requires.scene.in_clocks c.args.clocks.now c.args.taps.now c.args.k
           c.requires.within c.keep.new.clocks c.loop-clocks.taps c.index.result.now at
-          (node_closed g.T.Taps.stands c.args.scene.now.plan.now c.args.scene.now.library.now c.args.scene.now.clocks.now c.args.own.now c.requires.scene.in_clocks c.args.clocks.now c.args.taps.now c.args.k
+          (node_closed g.T.Taps.stands c.args.scene.now c.args.own.now c.requires.scene.in_clocks c.args.clocks.now c.args.taps.now c.args.k
           c.requires.within c.loop-clocks.clocks c.keep.new.clocks c.loop-clocks.taps c.keep.ensures.states c.keep.ensures.times c.keep.ensures.held c.keep.ensures.kept c.keep.ensures.others c.keep.ensures.left c.keep.ensures.right c.loop-clocks.invariant.filling)
           (λ setting sub past filled i work long stands. c.wants.ensures.more setting sub past filled i work long stands c.loop-clocks-test.true)
           c.make_instant.new.taps c.index-time.result.now timed c.keep.ensures.kept c.make_instant.new.clocks c.fill_child.new.clocks c.fill_on.new.clocks
@@ -124,7 +124,7 @@ settle-loop-clocks-preserved g t c =
             states = c.fill_child.ensures.states;
             times = c.fill_child.ensures.times;
             room = c.fill_child.ensures.room;
-            filled = λ past n work before after was is stands grows. c.fill_child.ensures.filled (over c.args.scene.now.plan.now c.args.scene.now.library.now c.args.scene.now.clocks.now other) sub past n work before after was is stands grows;
+            filled = λ past n work before after was is stands grows. c.fill_child.ensures.filled (setting_over c.args.scene.now other) sub past n work before after was is stands grows;
             time = λ n before after was is stands. c.fill_child.ensures.time other.start n before after was is stands;
           })
           c.fill_child.ensures.latest c.fill_child.ensures.room c.in_ok-make_instant.ensures.made c.fill_on.ensures.filled;
@@ -136,9 +136,9 @@ settle-returns-in_err-make_instant-clause-stopped g t c =
     let timed : slice_get c.keep.new.clocks.times.items c.args.k ≡ Some c.index-time.result.now = ap (λ xs. slice_get xs.items c.args.k) c.keep.ensures.times ∙ slice_get_read _ _ _ _ refl in_times c.index-time.ensures in
     let in_states : c.args.k < length c.loop-clocks.clocks.states.items = omega (arith, c.loop-clocks.invariant.clocks.fit.size, c.requires.within) in
     let at : slice_get c.keep.new.clocks.states.items c.args.k ≡ Some c.index.result.now = ap (λ xs. slice_get xs.items c.args.k) c.keep.ensures.states ∙ slice_get_read _ _ _ _ refl in_states c.index.ensures in
-    on_err c.from_residual.result (node_stopped g.T.Taps.stands c.args.scene.now.plan.now c.args.scene.now.library.now c.args.scene.now.clocks.now c.args.own.now c.requires.scene.in_clocks c.args.clocks.now c.args.taps.now c.args.k
+    on_err c.from_residual.result (node_stopped g.T.Taps.stands c.args.scene.now c.args.own.now c.requires.scene.in_clocks c.args.clocks.now c.args.taps.now c.args.k
     c.requires.within c.keep.new.clocks c.loop-clocks.taps c.index.result.now at
-    (node_closed g.T.Taps.stands c.args.scene.now.plan.now c.args.scene.now.library.now c.args.scene.now.clocks.now c.args.own.now c.requires.scene.in_clocks c.args.clocks.now c.args.taps.now c.args.k
+    (node_closed g.T.Taps.stands c.args.scene.now c.args.own.now c.requires.scene.in_clocks c.args.clocks.now c.args.taps.now c.args.k
     c.requires.within c.loop-clocks.clocks c.keep.new.clocks c.loop-clocks.taps c.keep.ensures.states c.keep.ensures.times c.keep.ensures.held c.keep.ensures.kept c.keep.ensures.others c.keep.ensures.left c.keep.ensures.right c.loop-clocks.invariant.filling)
     (λ setting sub past filled i work long stands. c.wants.ensures.more setting sub past filled i work long stands c.loop-clocks-test.true)
     c.make_instant.new.taps c.index-time.result.now timed c.in_err-make_instant.ensures.stopped)
@@ -147,7 +147,7 @@ pub settle-returns-clause-settled : goal.settle-returns-clause-settled
 settle-returns-clause-settled g t c =
     let in_states : c.args.k < length c.loop-clocks.clocks.states.items = omega (arith, c.loop-clocks.invariant.clocks.fit.size, c.requires.within) in
     let at : slice_get c.loop-clocks.clocks.states.items c.args.k ≡ Some c.index.result.now = slice_get_read _ _ _ _ refl in_states c.index.ensures in
-    node_settled g.T.Taps.stands c.args.scene.now.plan.now c.args.scene.now.library.now c.args.scene.now.clocks.now c.args.own.now c.requires.scene.in_clocks c.args.clocks.now c.args.taps.now c.args.k
+    node_settled g.T.Taps.stands c.args.scene.now c.args.own.now c.requires.scene.in_clocks c.args.clocks.now c.args.taps.now c.args.k
     c.requires.within c.loop-clocks.clocks c.loop-clocks.taps c.index.result.now at c.loop-clocks.invariant.filling
     (λ setting sub past filled i work stands begun. c.wants.ensures.settled setting sub past filled i work stands c.loop-clocks-test.false begun)
     (λ setting sub past filled i overlap long stands. c.wants.ensures.run setting sub past filled i overlap long stands c.loop-clocks-test.false)
@@ -162,7 +162,7 @@ settle_all-loop-i-init g t c =
       buffers = refl;
       same = g.met.T.Taps.same_refl c.args.taps.now;
       left = λ rank ranks. left_none c.args.scene.now.clocks.now rank (rank c.args.clock) (is_in c.args.scene.now.clocks.now c.args.clock) c.args.clocks.now;
-      settled = all_none g.T.Taps.stands c.args.scene.now.plan.now c.args.scene.now.library.now c.args.scene.now.clocks.now c.args.own.now c.requires.scene.in_clocks c.args.clocks.now c.args.taps.now c.args.clock c.first-i.result first;
+      settled = all_none g.T.Taps.stands c.args.scene.now c.args.own.now c.requires.scene.in_clocks c.args.clocks.now c.args.taps.now c.args.clock c.first-i.result first;
     }
 
 pub settle_all-loop-i-smaller : goal.settle_all-loop-i-smaller
@@ -185,31 +185,31 @@ settle_all-loop-i-preserved g t c =
       same = g.met.T.Taps.same_trans c.args.taps.now c.loop-i.taps c.settle.new.taps c.loop-i.invariant.same c.settle.ensures.same;
       left = λ rank ranks. left_settled c.args.scene.now.clocks.now rank c.args.clock c.loop-i.i c.args.clocks.now c.loop-i.clocks c.settle.new.clocks own_clock
           (c.loop-i.invariant.left rank ranks) (c.in_ok-settle.ensures.left rank ranks);
-      settled = all_more g.T.Taps.stands c.args.scene.now.plan.now c.args.scene.now.library.now c.args.scene.now.clocks.now c.args.own.now c.requires.scene.in_clocks c.args.clocks.now c.args.taps.now c.args.clock
+      settled = all_more g.T.Taps.stands c.args.scene.now c.args.own.now c.requires.scene.in_clocks c.args.clocks.now c.args.taps.now c.args.clock
           c.loop-i.i within inside c.loop-i.clocks c.loop-i.taps c.settle.new.taps c.loop-i.invariant.settled c.settle.new.clocks c.after-i.result next c.in_ok-settle.ensures.settled;
     }
 
 pub settle_all-returns-in_err-settle-clause-stopped : goal.settle_all-returns-in_err-settle-clause-stopped
 settle_all-returns-in_err-settle-clause-stopped g t c =
     let within : c.loop-i.i < length c.args.scene.now.plan.now.nodes = omega (arith, c.requires.scene.in_clocks, c.loop-i-test.true) in
-    on_err c.from_residual.result (all_stopped g.T.Taps.stands c.args.scene.now.plan.now c.args.scene.now.library.now c.args.scene.now.clocks.now c.args.own.now c.requires.scene.in_clocks c.args.clocks.now c.args.taps.now c.args.clock
+    on_err c.from_residual.result (all_stopped g.T.Taps.stands c.args.scene.now c.args.own.now c.requires.scene.in_clocks c.args.clocks.now c.args.taps.now c.args.clock
     c.loop-i.i within (c.loop-i.invariant.own c.loop-i-test.true) c.loop-i.clocks c.loop-i.taps c.settle.new.taps c.loop-i.invariant.settled c.in_err-settle.ensures.stopped)
 
 pub settle_all-returns-clause-settled : goal.settle_all-returns-clause-settled
 settle_all-returns-clause-settled g t c =
     let high = c.loop-i.invariant.high in
     let all : c.loop-i.i ≡ length c.args.scene.now.plan.now.nodes = omega (arith, high, c.requires.scene.in_clocks, c.loop-i-test.false) in
-    subst (λ n. AllSettled g.T.Taps.stands c.args.scene.now.plan.now c.args.scene.now.library.now c.args.scene.now.clocks.now c.args.own.now c.args.clock n c.args.clocks.now c.loop-i.clocks c.args.taps.now c.loop-i.taps) all
+    subst (λ n. AllSettled g.T.Taps.stands c.args.scene.now c.args.own.now c.args.clock n c.args.clocks.now c.loop-i.clocks c.args.taps.now c.loop-i.taps) all
     c.loop-i.invariant.settled
 
 pub make_instant-returns-in_err-begin_clock-clause-stopped : goal.make_instant-returns-in_err-begin_clock-clause-stopped
 make_instant-returns-in_err-begin_clock-clause-stopped g t c =
-    on_err c.from_residual.result (opening_stopped g.T.Taps.stands c.args.scene.now.plan.now c.args.scene.now.library.now c.args.scene.now.clocks.now c.args.own.now c.requires.scene.in_clocks c.args.clocks.now c.args.taps.now c.args.clock
+    on_err c.from_residual.result (opening_stopped g.T.Taps.stands c.args.scene.now c.args.own.now c.requires.scene.in_clocks c.args.clocks.now c.args.taps.now c.args.clock
     c.args.time c.begin_clock.new.taps c.in_err-begin_clock.ensures.stopped)
 
 pub make_instant-returns-in_err-settle_all-clause-stopped : goal.make_instant-returns-in_err-settle_all-clause-stopped
 make_instant-returns-in_err-settle_all-clause-stopped g t c =
-    on_err c.from_residual-in_err-settle_all.result (settling_stopped g.T.Taps.stands c.args.scene.now.plan.now c.args.scene.now.library.now c.args.scene.now.clocks.now c.args.own.now c.requires.scene.in_clocks c.args.clocks.now c.args.taps.now c.args.clock
+    on_err c.from_residual-in_err-settle_all.result (settling_stopped g.T.Taps.stands c.args.scene.now c.args.own.now c.requires.scene.in_clocks c.args.clocks.now c.args.taps.now c.args.clock
     c.args.time c.begin_clock.new.clocks c.begin_clock.new.taps c.settle_all.new.taps c.in_ok-begin_clock.ensures.opened c.in_err-settle_all.ensures.stopped)
 
 pub make_instant-returns-clause-left : goal.make_instant-returns-clause-left
@@ -231,27 +231,27 @@ make_instant-returns-clause-made g t c =
       more = opened.more ++ settled.more;
       taps = adds_then g.T.Taps.stands c.args.taps.now c.begin_clock.new.taps c.settle_all.new.taps opened.more settled.more opened.taps settled.taps;
       made = λ other sub rank ran filled front world has stand needed at.
-          let o = opened.opened other sub rank ran filled front world.ranks world.readers (answers_first (over c.args.scene.now.plan.now c.args.scene.now.library.now c.args.scene.now.clocks.now other) front opened.more settled.more has) stand needed at in
-          let u = settled.settled other sub rank ran (begun_in (over c.args.scene.now.plan.now c.args.scene.now.library.now c.args.scene.now.clocks.now other) c.args.clock filled) (after_calls front opened.more) world
-          (answers_then (over c.args.scene.now.plan.now c.args.scene.now.library.now c.args.scene.now.clocks.now other) front opened.more settled.more has) o.stand
-          (are_ready (over c.args.scene.now.plan.now c.args.scene.now.library.now c.args.scene.now.clocks.now other) sub rank c.args.clock ran filled front c.args.clocks.now stand needed) in
-          let past = first_instants (over c.args.scene.now.plan.now c.args.scene.now.library.now c.args.scene.now.clocks.now other) sub c.args.clock (u.reached.ran_now c.args.clock) in
-          let same = ran_is (over c.args.scene.now.plan.now c.args.scene.now.library.now c.args.scene.now.clocks.now other) sub rank c.args.clock ran filled front opened.more settled.more c.settle_all.new.clocks u in
-          let second = second_of (over c.args.scene.now.plan.now c.args.scene.now.library.now c.args.scene.now.clocks.now other) (ran c.args.clock) c.args.time c.requires.rate at
-          ∙ ap (second_at (over c.args.scene.now.plan.now c.args.scene.now.library.now c.args.scene.now.clocks.now other)) (sym same ∙ long_first_instants (over c.args.scene.now.plan.now c.args.scene.now.library.now c.args.scene.now.clocks.now other) sub c.args.clock (u.reached.ran_now c.args.clock)) in
-          let long = as_many (over c.args.scene.now.plan.now c.args.scene.now.library.now c.args.scene.now.clocks.now other) sub world.meaning in
-          let clocked = clock_stands (over c.args.scene.now.plan.now c.args.scene.now.library.now c.args.scene.now.clocks.now other) sub rank c.args.clock ran filled front opened.more settled.more c.settle_all.new.clocks u in
-          let roots = roots_are (over c.args.scene.now.plan.now c.args.scene.now.library.now c.args.scene.now.clocks.now other) c.args.clock c.args.own.now world.roots in
-          let items = are_settled (over c.args.scene.now.plan.now c.args.scene.now.library.now c.args.scene.now.clocks.now other) sub rank c.args.clock ran filled front opened.more settled.more c.settle_all.new.clocks u in
+          let o = opened.opened other sub rank ran filled front world.ranks world.readers (answers_first (setting_over c.args.scene.now other) front opened.more settled.more has) stand needed at in
+          let u = settled.settled other sub rank ran (begun_in (setting_over c.args.scene.now other) c.args.clock filled) (after_calls front opened.more) world
+          (answers_then (setting_over c.args.scene.now other) front opened.more settled.more has) o.stand
+          (are_ready (setting_over c.args.scene.now other) sub rank c.args.clock ran filled front c.args.clocks.now stand needed) in
+          let past = first_instants (setting_over c.args.scene.now other) sub c.args.clock (u.reached.ran_now c.args.clock) in
+          let same = ran_is (setting_over c.args.scene.now other) sub rank c.args.clock ran filled front opened.more settled.more c.settle_all.new.clocks u in
+          let second = second_of (setting_over c.args.scene.now other) (ran c.args.clock) c.args.time c.requires.rate at
+          ∙ ap (second_at (setting_over c.args.scene.now other)) (sym same ∙ long_first_instants (setting_over c.args.scene.now other) sub c.args.clock (u.reached.ran_now c.args.clock)) in
+          let long = as_many (setting_over c.args.scene.now other) sub world.meaning in
+          let clocked = clock_stands (setting_over c.args.scene.now other) sub rank c.args.clock ran filled front opened.more settled.more c.settle_all.new.clocks u in
+          let roots = roots_are (setting_over c.args.scene.now other) c.args.clock c.args.own.now world.roots in
+          let items = are_settled (setting_over c.args.scene.now other) sub rank c.args.clock ran filled front opened.more settled.more c.settle_all.new.clocks u in
           let f = c.finish.ensures.finished.made other sub past u.reached.filled_now (record { at = second; long = long; stands = clocked; settled = items; roots = roots }) in
-          made (over c.args.scene.now.plan.now c.args.scene.now.library.now c.args.scene.now.clocks.now other) sub rank c.args.clock ran filled front opened.more settled.more c.settle_all.new.clocks u
+          made (setting_over c.args.scene.now other) sub rank c.args.clock ran filled front opened.more settled.more c.settle_all.new.clocks u
           world.ranks c.requires.scene.in_clocks c.args.clocks.now c.finish.new.clocks stand needed
           f.stands
           c.finish.ensures.others c.finish.ensures.times c.finish.ensures.kept (λ i. ap (λ xs. slice_index_or xs.items i 0) c.finish.ensures.rests)
           (lanes_same c.settle_all.new.clocks c.finish.new.clocks c.finish.ensures.left c.finish.ensures.right) c.settle_all.ensures.clocks.in_times world.down o.calls
           (f.parts_are
-          ∙ ap (λ n. (moment_after (over c.args.scene.now.plan.now c.args.scene.now.library.now c.args.scene.now.clocks.now other) sub c.args.clock (first_instants (over c.args.scene.now.plan.now c.args.scene.now.library.now c.args.scene.now.clocks.now other) sub c.args.clock n)).parts) same)
-          (subst (λ n. IsHeld (over c.args.scene.now.plan.now c.args.scene.now.library.now c.args.scene.now.clocks.now other) sub c.args.clock (first_instants (over c.args.scene.now.plan.now c.args.scene.now.library.now c.args.scene.now.clocks.now other) sub c.args.clock n) c.finish.new.clocks.room.held.items) same
+          ∙ ap (λ n. (moment_after (setting_over c.args.scene.now other) sub c.args.clock (first_instants (setting_over c.args.scene.now other) sub c.args.clock n)).parts) same)
+          (subst (λ n. IsHeld (setting_over c.args.scene.now other) sub c.args.clock (first_instants (setting_over c.args.scene.now other) sub c.args.clock n) c.finish.new.clocks.room.held.items) same
           f.held_are);
     }
 

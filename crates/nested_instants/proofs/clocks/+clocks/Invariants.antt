@@ -17,12 +17,12 @@ decreases-make_instant g l = 3 * l.levels + 2
 
 abbrev pub invariant-settle-loop-clocks : goal.invariant-settle-loop-clocks
 invariant-settle-loop-clocks g l = record {
-  clocks : AreClockStates l.scene.plan.now l.scene.library.now l.scene.clocks.now l.clocks;
+  clocks : AreClockStates l.scene l.clocks;
   buffers : g.T.Taps.buffers l.taps ≡ g.T.Taps.buffers l.initial.taps;
   same : g.T.Taps.same l.initial.taps l.taps;
   left : (rank : NodeClock → ℕ) → HasRanks l.scene.clocks.now rank
       → AreLeft l.scene.clocks.now rank (rank (get_or l.scene.clocks.now l.k (Main 0))) (is_node l.k) l.initial.clocks l.clocks;
-  filling : NodeFilling g.T.Taps.stands l.scene.plan.now l.scene.library.now l.scene.clocks.now l.own l.k l.initial.clocks l.clocks l.initial.taps l.taps;
+  filling : NodeFilling g.T.Taps.stands l.scene l.own l.k l.initial.clocks l.clocks l.initial.taps l.taps;
 }
 
 abbrev pub decreases-settle-loop-clocks : goal.decreases-settle-loop-clocks
@@ -32,12 +32,12 @@ abbrev pub invariant-settle_all-loop-i : goal.invariant-settle_all-loop-i
 invariant-settle_all-loop-i g l = record {
   high : l.i ≤ length l.scene.clocks.now;
   own : l.i < length l.scene.clocks.now → lies_at l.scene.clocks.now l.fn.clock l.i ≡ true;
-  clocks : AreClockStates l.scene.plan.now l.scene.library.now l.scene.clocks.now l.clocks;
+  clocks : AreClockStates l.scene l.clocks;
   buffers : g.T.Taps.buffers l.taps ≡ g.T.Taps.buffers l.initial.taps;
   same : g.T.Taps.same l.initial.taps l.taps;
   left : (rank : NodeClock → ℕ) → HasRanks l.scene.clocks.now rank
       → AreLeft l.scene.clocks.now rank (rank l.fn.clock) (is_in l.scene.clocks.now l.fn.clock) l.initial.clocks l.clocks;
-  settled : AllSettled g.T.Taps.stands l.scene.plan.now l.scene.library.now l.scene.clocks.now l.own l.fn.clock l.i l.initial.clocks l.clocks l.initial.taps l.taps;
+  settled : AllSettled g.T.Taps.stands l.scene l.own l.fn.clock l.i l.initial.clocks l.clocks l.initial.taps l.taps;
 }
 
 abbrev pub decreases-settle_all-loop-i : goal.decreases-settle_all-loop-i

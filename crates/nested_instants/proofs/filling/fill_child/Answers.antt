@@ -19,14 +19,14 @@ returns-clause-clocks c =
     let at : slice_get c.args.clocks.now.states.items c.args.k ≡ Some c.index_mut.result.now = slice_get_read _ _ _ _ refl in_states c.index_mut.ensures.value in
     let was : slice_get c.args.clocks.now.times.items c.args.k ≡ Some c.index.result.now = slice_get_read _ _ _ _ refl in_times c.index.ensures in
     record {
-      fit = fit_set _ _ _ _ _ in_states
+      fit = fit_set _ _ _ _ in_states
           (λ node found. c.feed.ensures.fits _ _ (c.requires.clocks.fit.each c.args.k node c.index_mut.result.now found at)) c.requires.clocks.fit;
       in_times = length-set _ _ _ ∙ c.requires.clocks.in_times;
       chains = c.requires.clocks.chains;
       latest = c.requires.clocks.latest;
       room = c.requires.clocks.room;
       stretch_room = c.requires.clocks.stretch_room;
-      resting = resting_own c.args.scene.now.library.now c.args.scene.now.clocks.now c.args.clocks.now _ c.requires.clocks.resting (clock_at c.args.scene.now.clocks.now c.args.k) c.requires.idle
+      resting = resting_own c.args.scene.now c.args.clocks.now _ c.requires.clocks.resting (clock_at c.args.scene.now.clocks.now c.args.k) c.requires.idle
           (λ i. refl)
           (λ i outside. slice_get-set_other c.args.clocks.now.states.items c.args.k i c.feed.new.self
           (λ e. not_same (clock_at c.args.scene.now.clocks.now i) (clock_at c.args.scene.now.clocks.now c.args.k) outside (ap (clock_at c.args.scene.now.clocks.now) (sym e))))

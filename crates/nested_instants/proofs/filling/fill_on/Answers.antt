@@ -4,8 +4,8 @@ use Rattle.clock_infer.specs.declared.clock_map.NodeClock.TheVariants.{Main, Sub
 use Rattle.stream_meaning.specs.Instants.{first_instants}
 use Rattle.stream_meaning.specs.Calls.{after_calls}
 use Rattle.node_states.specs.States.{left, room}
-use Rattle.clock_nodes.specs.States.{over}
 use Rattle.clock_instants.proofs.Ahead.{ahead_less, through_less}
+use Rattle.clock_nodes.specs.Scenes.{setting_over}
 use Rattle.nested_instants.specs.Clocks.{clock_at, is_in, is_node}
 use Rattle.nested_instants.proofs.Behind.{are_behind}
 use Rattle.nested_instants.proofs.Children.{child_gave}
@@ -27,7 +27,7 @@ returns-then-many-eq0-clause-left c rank ranks =
 pub returns-then-many-eq0-clause-filled : goal.returns-then-many-eq0-clause-filled
 returns-then-many-eq0-clause-filled c = record {
   filled = λ other sub rank ran filled front more own n world fades before at parts held time.
-      let S = over c.args.scene.now.plan.now c.args.scene.now.library.now c.args.scene.now.clocks.now other in
+      let S = setting_over c.args.scene.now other in
       filled_kept S sub rank world.ranks c.requires.scene.in_clocks c.args.k c.requires.within ran filled front more c.args.clocks.now c.keep.new.clocks c.goes_for-rest.result
       c.keep.ensures.states c.keep.ensures.times c.keep.ensures.held c.keep.ensures.kept c.keep.ensures.others c.keep.ensures.left c.keep.ensures.right before
       (λ some. record {
@@ -77,7 +77,7 @@ returns-clause-no_more c =
 pub returns-clause-filled : goal.returns-clause-filled
 returns-clause-filled c = record {
   filled = λ other sub rank ran filled front more own n world fades before at parts held time.
-      let S = over c.args.scene.now.plan.now c.args.scene.now.library.now c.args.scene.now.clocks.now other in
+      let S = setting_over c.args.scene.now other in
       let some : 0 < c.goes_for-rest.result = omega (arith, c.if-many-eq0.false, c.wanted-many.ensures.rest) in
       filled_on S sub rank world.ranks c.requires.scene.in_clocks c.args.k c.requires.within ran filled front more c.args.clocks.now before fades world.meaning own world.roots n
       c.wanted-many.result c.run_clock.new.clocks c.fill_lane.new.clocks
@@ -105,12 +105,12 @@ returns-clause-filled c = record {
 
 pub run_clock-requires-clause-ahead : goal.run_clock-requires-clause-ahead
 run_clock-requires-clause-ahead c =
-    ahead_less c.args.scene.now.library.now c.args.scene.now.clocks.now (Sub c.args.k) c.args.clocks.now.room.held.items c.args.clocks.now.states.items (length c.args.scene.now.clocks.now)
+    ahead_less c.args.scene.now (Sub c.args.k) c.args.clocks.now.room.held.items c.args.clocks.now.states.items
     c.goes_for-rest.result c.wanted-many.result c.wanted-many.ensures.rest c.goes_for-rest.ensures.ahead
 
 pub run_clock-requires-clause-through : goal.run_clock-requires-clause-through
 run_clock-requires-clause-through c =
-    through_less c.args.scene.now.clocks.now (Sub c.args.k) c.args.clocks.now.room.held.items c.args.clocks.now.states.items c.args.clocks.now.room.rests.items (length c.args.scene.now.clocks.now)
+    through_less c.args.scene.now (Sub c.args.k) c.args.clocks.now.room.held.items c.args.clocks.now.states.items c.args.clocks.now.room.rests.items
     c.goes_for-rest.result c.wanted-many.result c.wanted-many.ensures.rest c.goes_for-rest.ensures.through
 
 pub fill_lane-requires-clause-room : goal.fill_lane-requires-clause-room

@@ -3,7 +3,8 @@ use Rattle.std.proofs.lemmas.List.{with_items_is}
 use Rattle.stream_meaning.specs.Instants.{moment_after, part_at}
 use Rattle.stream_meaning.specs.declared.part.Part.{Part}
 use Rattle.clock_instants.specs.Held.{IsHeld}
-use Rattle.clock_nodes.specs.States.{AllFit, ClockStands, HasRoomFor, over}
+use Rattle.clock_nodes.specs.States.{AllFit, ClockStands, HasRoomFor}
+use Rattle.clock_nodes.specs.Scenes.{setting_over}
 use Rattle.nested_instants.proofs.Restful.{resting_own}
 use Rattle.nested_instants.proofs.finishing.finish.Goals as goal
 
@@ -14,7 +15,7 @@ returns-clause-clocks c =
     let few : length c.finish_instant.new.held ≡ c.args.clocks.now.room.held.len = omega (arith, c.deref_mut-2.ensures.len) in
     let held = with_items_is c.args.clocks.now.room.held c.finish_instant.new.held few in
     record {
-      fit = subst (AllFit c.args.scene.now.plan.now c.args.scene.now.library.now) (sym items) c.finish_instant.ensures.fit;
+      fit = subst (AllFit c.args.scene.now) (sym items) c.finish_instant.ensures.fit;
       in_times = c.requires.clocks.in_times;
       chains = c.requires.clocks.chains;
       latest = c.finish_instant.ensures.latest;
@@ -28,7 +29,7 @@ returns-clause-clocks c =
         in_parts = c.requires.clocks.stretch_room.in_parts;
         clear = c.requires.clocks.stretch_room.clear;
       };
-      resting = resting_own c.args.scene.now.library.now c.args.scene.now.clocks.now c.args.clocks.now _ c.requires.clocks.resting c.args.clock c.requires.idle (λ i. refl)
+      resting = resting_own c.args.scene.now c.args.clocks.now _ c.requires.clocks.resting c.args.clock c.requires.idle (λ i. refl)
           (λ i outside. ap (λ xs. slice_get xs i) items ∙ c.finish_instant.ensures.others i outside ∙ ap (λ xs. slice_get xs i) c.deref_mut.ensures.value)
           (λ i outside. ap (λ ps. part_at ps i) held ∙ c.finish_instant.ensures.kept i outside ∙ ap (λ ps. part_at ps i) c.deref_mut-2.ensures.value);
       rates = c.requires.clocks.rates;
@@ -46,7 +47,7 @@ returns-clause-finished c =
     let few : length c.finish_instant.new.held ≡ c.args.clocks.now.room.held.len = omega (arith, c.deref_mut-2.ensures.len) in
     record {
       made = λ other sub past filled can.
-          let S = over c.args.scene.now.plan.now c.args.scene.now.library.now c.args.scene.now.clocks.now other in
+          let S = setting_over c.args.scene.now other in
           let f = c.finish_instant.ensures.finished.made other sub past filled (record {
             at = can.at;
             long = can.long;

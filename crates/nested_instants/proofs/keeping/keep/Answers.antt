@@ -23,7 +23,7 @@ returns-clause-clocks c =
         in_parts = c.requires.clocks.stretch_room.in_parts;
         clear = c.requires.clocks.stretch_room.clear;
       };
-      resting = resting_kept c.args.scene.now.library.now c.args.scene.now.clocks.now c.args.clocks.now _ c.requires.clocks.resting c.requires.ranks.0 c.args.k c.args.rest c.requires.ranks.1 in_clocks
+      resting = resting_kept c.args.scene.now c.args.clocks.now _ c.requires.clocks.resting c.requires.ranks.0 c.args.k c.args.rest c.requires.ranks.1 in_clocks
           c.requires.idle (get_or-set_same c.args.clocks.now.room.rests.items c.args.k c.args.rest 0 in_rests)
           (λ i other. get_or-set_other c.args.clocks.now.room.rests.items c.args.k i c.args.rest 0 other) refl refl c.requires.ahead c.requires.through;
       rates = c.requires.clocks.rates;

@@ -3,28 +3,28 @@ use Rattle.stream_meaning.specs.declared.part.Part.{Part}
 use Rattle.node_states.specs.declared.state.NodeState.{NodeState}
 use Rattle.clock_instants.specs.Held.{AllAsk, AllPassOn}
 use Rattle.clock_instants.specs.Stretches.{AllLieAhead, IsBehind}
-use Rattle.clock_nodes.specs.States.{over}
+use Rattle.clock_nodes.specs.Scenes.{setting_over}
 use Rattle.nested_instants.proofs.keeping.rest_for.Goals as goal
 
 pub returns-clause-ahead : goal.returns-clause-ahead
 returns-clause-ahead c =
-    subst (λ (xs : List NodeState). AllLieAhead c.args.scene.now.library.now c.args.scene.now.clocks.now c.args.clock c.args.clocks.now.room.held.items xs (length c.args.scene.now.clocks.now) c.rest_of.result)
+    subst (λ (xs : List NodeState). AllLieAhead c.args.scene.now c.args.clock c.args.clocks.now.room.held.items xs c.rest_of.result)
     c.deref-3.ensures.value
-    (subst (λ (ps : List Part). AllLieAhead c.args.scene.now.library.now c.args.scene.now.clocks.now c.args.clock ps c.deref-3.result.now (length c.args.scene.now.clocks.now) c.rest_of.result)
+    (subst (λ (ps : List Part). AllLieAhead c.args.scene.now c.args.clock ps c.deref-3.result.now c.rest_of.result)
     c.deref-2.ensures.value c.rest_of.ensures.ahead)
 
 pub returns-clause-through : goal.returns-clause-through
 returns-clause-through c =
-    subst (λ (ns : List ℕ). AllPassOn c.args.scene.now.clocks.now c.args.clock c.args.clocks.now.room.held.items c.args.clocks.now.states.items ns (length c.args.scene.now.clocks.now) c.rest_of.result)
+    subst (λ (ns : List ℕ). AllPassOn c.args.scene.now c.args.clock c.args.clocks.now.room.held.items c.args.clocks.now.states.items ns c.rest_of.result)
     c.deref-4.ensures.value
-    (subst (λ (xs : List NodeState). AllPassOn c.args.scene.now.clocks.now c.args.clock c.args.clocks.now.room.held.items xs c.deref-4.result.now (length c.args.scene.now.clocks.now) c.rest_of.result)
+    (subst (λ (xs : List NodeState). AllPassOn c.args.scene.now c.args.clock c.args.clocks.now.room.held.items xs c.deref-4.result.now c.rest_of.result)
     c.deref-3.ensures.value
-    (subst (λ (ps : List Part). AllPassOn c.args.scene.now.clocks.now c.args.clock ps c.deref-3.result.now c.deref-4.result.now (length c.args.scene.now.clocks.now) c.rest_of.result)
+    (subst (λ (ps : List Part). AllPassOn c.args.scene.now c.args.clock ps c.deref-3.result.now c.deref-4.result.now c.rest_of.result)
     c.deref-2.ensures.value c.rest_of.ensures.through))
 
 pub returns-clause-goes : goal.returns-clause-goes
 returns-clause-goes c other sub past filled behind =
-    let S = over c.args.scene.now.plan.now c.args.scene.now.library.now c.args.scene.now.clocks.now other in
+    let S = setting_over c.args.scene.now other in
     let seen : IsBehind S sub c.args.clock past filled c.args.time c.deref.result.now c.deref-2.result.now c.deref-3.result.now c.deref-4.result.now =
     subst (λ (parts : List Part). IsBehind S sub c.args.clock past filled c.args.time parts c.deref-2.result.now c.deref-3.result.now c.deref-4.result.now) (sym c.deref.ensures.value)
     (subst (λ (ps : List Part). IsBehind S sub c.args.clock past filled c.args.time c.args.clocks.now.latest.parts.items ps c.deref-3.result.now c.deref-4.result.now) (sym c.deref-2.ensures.value)

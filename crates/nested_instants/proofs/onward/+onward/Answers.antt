@@ -1,8 +1,8 @@
 use Rattle.std.proofs.Common.{◌≡◌, ◌<◌, ◌≤◌, ◌∙◌, length, arith, refl, ap, sym, subst}
 use Rattle.stream_meaning.proofs.Existence.{same_clock-true}
 use Rattle.clock_instants.specs.declared.stretch_room.StretchRoom.{StretchRoom}
-use Rattle.clock_nodes.specs.States.{over}
 use Rattle.clock_nodes.proofs.Walking.{next_own}
+use Rattle.clock_nodes.specs.Scenes.{setting_over}
 use Rattle.nested_instants.specs.Clocks.{IsIdle, clock_at, is_in, is_none, is_upto, rest_at}
 use Rattle.nested_instants.specs.Stretches.{SubClocksMade}
 use Rattle.nested_instants.proofs.Above.{above_none, above_then, ahead_above, idle_above, left_above, pass_above, samples_none, samples_then}
@@ -21,7 +21,7 @@ run_clock-run_own-requires-clause-idle t c =
 
 pub run_clock-run_own-requires-clause-ahead : goal.run_clock-run_own-requires-clause-ahead
 run_clock-run_own-requires-clause-ahead t c =
-    ahead_above c.args.scene.now.library.now c.args.scene.now.clocks.now c.requires.levels.rank c.args.clock (is_in c.args.scene.now.clocks.now c.args.clock) c.args.clocks.now c.run_subs.new.clocks c.args.many
+    ahead_above c.args.scene.now c.requires.levels.rank c.args.clock (is_in c.args.scene.now.clocks.now c.args.clock) c.args.clocks.now c.run_subs.new.clocks c.args.many
     (c.run_subs.ensures.above c.requires.levels.rank c.requires.levels.ranks) c.requires.ahead
 
 pub run_clock-returns-clause-left : goal.run_clock-returns-clause-left
@@ -41,7 +41,7 @@ run_clock-returns-clause-samples t c rank ranks =
 pub run_clock-returns-clause-run : goal.run_clock-returns-clause-run
 run_clock-returns-clause-run t c = record {
   run = λ other sub rank ran filled front own n can.
-      let S = over c.args.scene.now.plan.now c.args.scene.now.library.now c.args.scene.now.clocks.now other in
+      let S = setting_over c.args.scene.now other in
       has_run_on S sub rank own c.requires.scene.in_clocks c.requires.scene.nodes c.args.clock n c.args.many c.requires.some ran filled front c.args.clocks.now c.run_subs.new.clocks c.run_own.new.clocks can
       (c.run_subs.ensures.run.run other sub rank ran filled front own n can) (c.run_subs.ensures.above rank can.world.ranks)
       c.run_own.ensures.times c.run_own.ensures.held c.run_own.ensures.rests c.run_own.ensures.others c.run_subs.ensures.clocks.in_times c.run_subs.ensures.clocks.fit.size c.run_own.ensures.laned
@@ -59,7 +59,7 @@ run_subs-loop-i-init t c =
       held = refl;
       above = λ rank ranks. above_none c.args.scene.now.clocks.now rank (rank c.args.clock) (is_upto c.args.scene.now.clocks.now c.args.clock c.first-i.result) c.args.clocks.now;
       samples = λ rank ranks. samples_none c.args.scene.now.clocks.now rank (rank c.args.clock) is_none c.args.many c.args.clocks.now;
-      run = subs_start c.args.scene.now.plan.now c.args.scene.now.library.now c.args.scene.now.clocks.now c.requires.scene.in_clocks c.args.clock c.args.many c.args.clocks.now c.first-i.result first;
+      run = subs_start c.args.scene.now c.requires.scene.in_clocks c.args.clock c.args.many c.args.clocks.now c.first-i.result first;
     }
 
 pub run_subs-loop-i-smaller : goal.run_subs-loop-i-smaller
@@ -95,7 +95,7 @@ run_subs-run_sub-requires t c =
                     c.requires.short,
                     (
                       c.requires.later,
-                      λ both. pass_above c.args.scene.now.clocks.now c.requires.levels.rank c.args.clock (is_upto c.args.scene.now.clocks.now c.args.clock c.loop-i.i) c.args.clocks.now c.loop-i.clocks c.loop-i.i c.args.many here inside
+                      λ both. pass_above c.args.scene.now c.requires.levels.rank c.args.clock (is_upto c.args.scene.now.clocks.now c.args.clock c.loop-i.i) c.args.clocks.now c.loop-i.clocks c.loop-i.i c.args.many here inside
                           c.loop-i-test.true in_states (λ upto. let less = upto.0 in omega (arith, less)) above c.requires.through both,
                     ),
                   ),
@@ -122,7 +122,7 @@ run_subs-loop-i-preserved t c =
       held = c.run_sub.ensures.held ∙ c.loop-i.invariant.held;
       above = λ rank ranks. above_step c.args.scene.now.clocks.now rank c.args.clock c.loop-i.i c.after-i.result c.args.clocks.now c.loop-i.clocks c.run_sub.new.clocks here next (c.loop-i.invariant.above rank ranks) (c.run_sub.ensures.above rank ranks);
       samples = λ rank ranks. samples_step c.args.scene.now.clocks.now rank c.args.clock c.loop-i.i c.args.many c.args.clocks.now c.loop-i.clocks c.run_sub.new.clocks ranks c.loop-i-test.true here (c.loop-i.invariant.samples rank ranks) (c.run_sub.ensures.samples rank ranks);
-      run = subs_next c.args.scene.now.plan.now c.args.scene.now.library.now c.args.scene.now.clocks.now c.requires.scene.in_clocks c.args.clock c.args.many c.args.clocks.now c.loop-i.clocks c.run_sub.new.clocks c.loop-i.i c.after-i.result
+      run = subs_next c.args.scene.now c.requires.scene.in_clocks c.args.clock c.args.many c.args.clocks.now c.loop-i.clocks c.run_sub.new.clocks c.loop-i.i c.after-i.result
           within here next (λ rank ranks. c.loop-i.invariant.above rank ranks) c.loop-i.invariant.run c.run_sub.ensures.run;
     }
 
@@ -136,11 +136,11 @@ pub run_subs-returns-clause-run : goal.run_subs-returns-clause-run
 run_subs-returns-clause-run t c =
     let high = c.loop-i.invariant.high in
     let all : c.loop-i.i ≡ length c.args.scene.now.plan.now.nodes = omega (arith, high, c.requires.scene.in_clocks, c.loop-i-test.false) in
-    subst (λ n. SubClocksMade c.args.scene.now.plan.now c.args.scene.now.library.now c.args.scene.now.clocks.now c.args.clock c.args.many n c.args.clocks.now c.loop-i.clocks) all c.loop-i.invariant.run
+    subst (λ n. SubClocksMade c.args.scene.now c.args.clock c.args.many n c.args.clocks.now c.loop-i.clocks) all c.loop-i.invariant.run
 
 pub run_sub-returns-then-not-passes_on-clause-run : goal.run_sub-returns-then-not-passes_on-clause-run
 run_sub-returns-then-not-passes_on-clause-run t c =
-    sub_skipped c.args.scene.now.plan.now c.args.scene.now.library.now c.args.scene.now.clocks.now c.requires.scene.in_clocks c.args.i c.args.many c.requires.within c.args.clocks.now
+    sub_skipped c.args.scene.now c.requires.scene.in_clocks c.args.i c.args.many c.requires.within c.args.clocks.now
     (sym c.passes_on.ensures ∙ c.if-not-passes_on.true)
 
 pub run_sub-run_clock-requires : goal.run_sub-run_clock-requires
@@ -165,8 +165,8 @@ run_sub-run_clock-requires t c =
                   (
                     c.requires.later,
                     (
-                      sub_ahead c.args.scene.now.library.now c.args.scene.now.clocks.now c.args.i c.args.many c.args.clocks.now c.keep.new.clocks c.requires.clocks.resting c.requires.some rest c.keep.ensures.states c.keep.ensures.held,
-                      sub_through c.args.scene.now.library.now c.args.scene.now.clocks.now c.args.i c.args.many c.args.clocks.now c.keep.new.clocks c.requires.clocks.resting c.requires.some rest c.keep.ensures.states c.keep.ensures.held
+                      sub_ahead c.args.scene.now c.args.i c.args.many c.args.clocks.now c.keep.new.clocks c.requires.clocks.resting c.requires.some rest c.keep.ensures.states c.keep.ensures.held,
+                      sub_through c.args.scene.now c.args.i c.args.many c.args.clocks.now c.keep.new.clocks c.requires.clocks.resting c.requires.some rest c.keep.ensures.states c.keep.ensures.held
                           c.requires.levels.rank c.requires.levels.ranks in_clocks c.keep.ensures.others,
                     ),
                   ),
@@ -192,7 +192,7 @@ run_sub-returns-clause-samples t c rank ranks =
 pub run_sub-returns-clause-run : goal.run_sub-returns-clause-run
 run_sub-returns-clause-run t c =
     let both = sym c.passes_on.ensures ∙ c.if-not-passes_on.false in
-    sub_run c.args.scene.now.plan.now c.args.scene.now.library.now c.args.scene.now.clocks.now c.requires.scene.in_clocks c.args.i c.args.many c.requires.within
+    sub_run c.args.scene.now c.requires.scene.in_clocks c.args.i c.args.many c.requires.within
     c.args.clocks.now c.keep.new.clocks c.run_clock.new.clocks c.take_on.new.clocks both c.requires.some (c.requires.through both)
     c.keep.ensures.states c.keep.ensures.times c.keep.ensures.held c.keep.ensures.left c.keep.ensures.right c.keep.ensures.kept c.keep.ensures.others
     c.run_clock.ensures.run c.run_clock.ensures.held c.run_clock.ensures.left c.run_clock.ensures.samples c.take_on.ensures.states c.take_on.ensures.room c.take_on.ensures.times c.take_on.ensures.time

@@ -18,13 +18,13 @@ abbrev pub invariant-run_subs-loop-i : goal.invariant-run_subs-loop-i
 invariant-run_subs-loop-i l = record {
   high : l.i ≤ length l.scene.clocks.now;
   own : l.i < length l.scene.clocks.now → lies_at l.scene.clocks.now l.fn.clock l.i ≡ true;
-  clocks : AreClockStates l.scene.plan.now l.scene.library.now l.scene.clocks.now l.clocks;
+  clocks : AreClockStates l.scene l.clocks;
   latest : l.clocks.latest ≡ l.initial.clocks.latest;
   held : l.clocks.room.held ≡ l.initial.clocks.room.held;
   above : (rank : NodeClock → ℕ) → HasRanks l.scene.clocks.now rank
       → AreAbove l.scene.clocks.now rank (rank l.fn.clock) (is_upto l.scene.clocks.now l.fn.clock l.i) l.initial.clocks l.clocks;
   samples : (rank : NodeClock → ℕ) → HasRanks l.scene.clocks.now rank → AreSamplesLeft l.scene.clocks.now rank (rank l.fn.clock) is_none l.many l.initial.clocks l.clocks;
-  run : SubClocksMade l.scene.plan.now l.scene.library.now l.scene.clocks.now l.fn.clock l.many l.i l.initial.clocks l.clocks;
+  run : SubClocksMade l.scene l.fn.clock l.many l.i l.initial.clocks l.clocks;
 }
 
 abbrev pub decreases-run_subs-loop-i : goal.decreases-run_subs-loop-i

@@ -4,7 +4,8 @@ use Rattle.std.specs.Prelude.{slice_index_or}
 use Rattle.stream_meaning.specs.Instants.{part_at}
 use Rattle.node_states.specs.declared.state.NodeState.{NodeState}
 use Rattle.clock_instants.specs.Stretches.{HasGoneOn, IsGoing}
-use Rattle.clock_nodes.specs.States.{AllFit, over}
+use Rattle.clock_nodes.specs.States.{AllFit}
+use Rattle.clock_nodes.specs.Scenes.{setting_over}
 use Rattle.nested_instants.proofs.Restful.{resting_own}
 use Rattle.nested_instants.proofs.onward.run_own.Goals as goal
 
@@ -13,13 +14,13 @@ returns-clause-clocks c =
     let many : length c.run_nodes.new.states ≡ c.args.clocks.now.states.len = omega (arith, c.deref_mut.ensures.len) in
     let items = with_items_is c.args.clocks.now.states c.run_nodes.new.states many in
     record {
-      fit = subst (AllFit c.args.scene.now.plan.now c.args.scene.now.library.now) (sym items) c.run_nodes.ensures.fit;
+      fit = subst (AllFit c.args.scene.now) (sym items) c.run_nodes.ensures.fit;
       in_times = c.requires.clocks.in_times;
       chains = c.requires.clocks.chains;
       latest = c.requires.clocks.latest;
       room = c.requires.clocks.room;
       stretch_room = c.run_nodes.ensures.room;
-      resting = resting_own c.args.scene.now.library.now c.args.scene.now.clocks.now c.args.clocks.now _ c.requires.clocks.resting c.args.clock c.requires.idle
+      resting = resting_own c.args.scene.now c.args.clocks.now _ c.requires.clocks.resting c.args.clock c.requires.idle
           (λ i. ap (λ r. slice_index_or r.items i 0) c.run_nodes.ensures.rests)
           (λ i outside. ap (λ xs. slice_get xs i) items ∙ c.run_nodes.ensures.others i outside ∙ ap (λ xs. slice_get xs i) c.deref_mut.ensures.value)
           (λ i outside. ap (λ h. part_at h.items i) c.run_nodes.ensures.held);
@@ -35,7 +36,7 @@ returns-clause-others c i outside =
 
 pub returns-clause-run : goal.returns-clause-run
 returns-clause-run c other sub past filled going =
-    let S = over c.args.scene.now.plan.now c.args.scene.now.library.now c.args.scene.now.clocks.now other in
+    let S = setting_over c.args.scene.now other in
     let many : length c.run_nodes.new.states ≡ c.args.clocks.now.states.len = omega (arith, c.deref_mut.ensures.len) in
     let items = with_items_is c.args.clocks.now.states c.run_nodes.new.states many in
     subst (λ (xs : List NodeState). HasGoneOn S sub c.args.clock past c.args.many filled c.args.clocks.now.states.items c.run_nodes.new.stretch_room.left.items c.run_nodes.new.stretch_room.right.items xs) (sym items)

@@ -1,18 +1,18 @@
 use Rattle.stream_meaning.specs.Instants.{first_instants}
-use Rattle.clock_nodes.specs.States.{over}
+use Rattle.clock_nodes.specs.Scenes.{setting_over}
 use Rattle.nested_instants.proofs.Behind.{are_behind, has_run_none}
 use Rattle.nested_instants.proofs.stretch.make_stretch.Goals as goal
 
 pub returns-then-many-eq0-clause-run : goal.returns-then-many-eq0-clause-run
 returns-then-many-eq0-clause-run c = record {
   run = λ other sub rank ran filled front own n world stand needed at parts held time.
-      has_run_none (over c.args.scene.now.plan.now c.args.scene.now.library.now c.args.scene.now.clocks.now other) sub rank own c.args.clock n ran filled front c.args.clocks.now stand needed;
+      has_run_none (setting_over c.args.scene.now other) sub rank own c.args.clock n ran filled front c.args.clocks.now stand needed;
 }
 
 pub returns-clause-run : goal.returns-clause-run
 returns-clause-run c = record {
   run = λ other sub rank ran filled front own n world stand needed at parts held time.
-      let S = over c.args.scene.now.plan.now c.args.scene.now.library.now c.args.scene.now.clocks.now other in
+      let S = setting_over c.args.scene.now other in
       c.run_clock.ensures.run.run other sub rank ran filled front own n (record {
         world = world;
         stand = stand;
