@@ -24,6 +24,8 @@ use Rattle.node_states.specs.States.{StateStands, reads, reads_at, reads_in}
 use Rattle.clock_nodes.specs.Nodes.{IsFirst}
 use Rattle.node_states.proofs.Running.{kept_stands}
 use Rattle.clock_instants.specs.Held.{goes_through}
+use Rattle.clock_instants.specs.Histories.{history_of}
+use Rattle.clock_instants.specs.Sides.{both}
 use Rattle.clock_instants.specs.Stretches.{HasGoneOn, IsGoing, NodeGivesOn, NodeHasGone, begun_on}
 use Rattle.clock_nodes.specs.States.{ClockStands, IsIn}
 use Rattle.clock_instants.proofs.Samples.{samples_none}
@@ -112,7 +114,7 @@ module _ (setting : Setting) (sub : ℕ → ℕ → List Slot) (clock : NodeCloc
     -- node i makes its run
     pub run_step : (i : ℕ) (left right left_new right_new : Lanes) (states : List NodeState) (new : NodeState) → i < length states
         → ((k : ℕ) → k < i → samples_of left_new k many ≡ samples_of left k many) → ((k : ℕ) → k < i → samples_of right_new k many ≡ samples_of right k many)
-        → (node : Node) (state : NodeState) → IsIn setting clock i node → slice_get old i ≡ Some state → NodeHasGone setting sub clock past many (filled i) i node state left_new right_new new
+        → (node : Node) (state : NodeState) → IsIn setting clock i node → slice_get old i ≡ Some state → NodeHasGone (history_of setting sub clock past) many (filled i) i node state (both left_new right_new) new
         → HaveGone i left right states → HaveGone (suc i) left_new right_new (set states i new)
     run_step i left right left_new right_new states new within left_same right_same own was is_own stood has run = record {
       each = λ k node state low inside found. elim (same_or_other i k) [
@@ -168,7 +170,7 @@ module _ (setting : Setting) (sub : ℕ → ℕ → List Slot) (clock : NodeCloc
   -- a node that does not give
   pub kept_run : (many filled i : ℕ) (node : Node) (state : NodeState) (left right : Lanes) → AreNodes setting.plan.nodes → 0 < many → IsStretch setting sub clock past (suc many) → IsNode setting clock i node
       → gives First i ≡ false → (reads (work_at setting i node) ≡ true → filled ≡ suc (length past)) → StateStands setting sub (First ∷ past) filled i (work_at setting i node) state
-      → NodeHasGone setting sub clock past many filled i node state left right state
+      → NodeHasGone (history_of setting sub clock past) many filled i node state (both left right) state
   kept_run many filled i node state left right nodes some stretch is not begun stands =
       let next : 1 + many ≡ suc many = omega arith in
       record {
@@ -180,7 +182,7 @@ module _ (setting : Setting) (sub : ℕ → ℕ → List Slot) (clock : NodeCloc
 
   -- what `run` asks for of a node that does
   pub goes_on : (many filled i : ℕ) (node : Node) (held parts : List Part) (left right : Lanes) (state : NodeState) → AreNodes setting.plan.nodes
-      → NodeGivesOn setting sub clock past many filled i node held parts left right state → gives First i ≡ true → GoesOn setting sub clock past many i node
+      → NodeGivesOn (history_of setting sub clock past) many filled i node held parts (both left right) state → gives First i ≡ true → GoesOn setting sub clock past many i node
   goes_on many filled i node held parts left right state nodes before gave = record {
     nodes = nodes;
     long = before.long;
@@ -215,7 +217,7 @@ gone_over setting sub clock past many filled old left left_new right right_new s
 pub has_run : (setting : Setting) (sub : ℕ → ℕ → List Slot) (clock : NodeClock) (past : List Moment) (many filled i : ℕ) (node : Node) (old : NodeState) (own_left : List ℤ) (left : Lanes) (own_right : List ℤ) (right : Lanes) (state : NodeState)
     → gives (moment_after setting sub clock past) i ≡ true → samples_of left i many ≡ own_left → samples_of right i many ≡ own_right
     → StateStands setting sub (going_on setting sub clock (suc many) past) (filled_on (passes old || reads (work_at setting i node)) many filled) i (work_at setting i node) state
-    → IsLane (λ j. lane setting sub clock past (suc j) i) many own_left own_right → NodeHasGone setting sub clock past many filled i node old left right state
+    → IsLane (λ j. lane setting sub clock past (suc j) i) many own_left own_right → NodeHasGone (history_of setting sub clock past) many filled i node old (both left right) state
 has_run setting sub clock past many filled i node old own_left left own_right right state gave same alike stands own = record {
   stands = subst (λ (b : Bool). StateStands setting sub (going_on setting sub clock (suc many) past) (filled_on ((b && passes old) || reads (work_at setting i node)) many filled) i (work_at setting i node) state) (sym gave) stands;
   lane_is = λ gave. subst (λ (xs : List ℤ). IsLane (λ j. lane setting sub clock past (suc j) i) many xs (samples_of right i many)) (sym same)

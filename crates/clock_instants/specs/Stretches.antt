@@ -13,12 +13,14 @@ use Rattle.node_states.specs.declared.state.NodeState.TheVariants.{Idle}
 use Rattle.node_states.specs.declared.time.WeekTime.{WeekTime}
 use Rattle.node_states.specs.Passing.{LaneFills, given_part, passes}
 use Rattle.node_states.specs.Stretches.{LiesAhead, filled_on}
-use Rattle.node_states.specs.States.{AreLong, StateStands, reads, reads_at}
+use Rattle.node_states.specs.States.{AreLong, reads, reads_at}
 use Rattle.node_states.specs.Times.{TimeStands}
 use Rattle.clock_instants.specs.declared.stretch_room.StretchRoom.{StretchRoom}
 use Rattle.clock_instants.specs.declared.stretch_room.Spare.{Spare}
 use Rattle.clock_nodes.specs.declared.scene.Scene.{Scene}
 use Rattle.clock_instants.specs.Held.{AllAsk, AreFilledOn, AreSupplied, IsHeld, gave_at, goes_through}
+use Rattle.clock_instants.specs.Histories.{History, IsLaneOf, StandsOn, history_of, next_of}
+use Rattle.clock_instants.specs.Sides.{Sides}
 use Rattle.clock_nodes.specs.Nodes.{lies_at}
 use Rattle.clock_instants.specs.Resting.{AreReadTo}
 use Rattle.clock_nodes.specs.Scenes.{setting_over}
@@ -112,43 +114,45 @@ pub record HasGoneOn (setting : Setting) (sub : ℕ → ℕ
   pub lanes : (i : ℕ) → gives (moment_after setting sub clock past) i ≡ true
       → IsLane (λ j. lane setting sub clock past (suc j) i) many (samples_of left i many) (samples_of right i many)
 
--- a stretch of so many instants behind the one after these, as node i sees it before its run: what it and the nodes
--- before it gave, and the samples of those that give; `held` is what all nodes gave
-pub record NodeGivesOn (setting : Setting) (sub : ℕ → ℕ
-    → List Slot) (clock : NodeClock) (past : List Moment) (many filled i : ℕ) (node : Node)
-    (held parts : List Part) (left right : Lanes) (state : NodeState) : Type 0 where
-  pub long : AreLong sub
-  pub stretch : IsStretch setting sub clock past (suc many)
-  pub is : IsNode setting clock i node
-  pub laned : HasLanes left right i
-  pub given : (k : ℕ) → k ≤ i → part_at parts k ≡ given_part (moment_after setting sub clock past) k
-  pub begun : reads (work_at setting i node) ≡ true → filled ≡ suc (length past)
-  pub stands : StateStands setting sub (moment_after setting sub clock past
-      ∷ past) filled i (work_at setting i node) state
-  pub lanes : (k : ℕ) → k < i → gives (moment_after setting sub clock past) k ≡ true
-      → IsLane (λ j. lane setting sub clock past (suc j) k) many (samples_of left k many) (samples_of right k many)
-  pub supplied : gives (moment_after setting sub clock past) i ≡ true → passes state ≡ true
-      → LaneFills (sub i) filled many (title_of (part_at held (crossfaded setting.plan.nodes i)).slot)
-      (samples_of left (crossfaded setting.plan.nodes i) many) (samples_of right (crossfaded setting.plan.nodes i) many)
+-- crossfade k, which was filled so many slots, has the samples of its child, whose title is held, over `many` instants
+abbrev pub IsSupplied : History → (many filled k : ℕ) → (held : List Part) → Sides Lanes → Type 0
+IsSupplied history many filled k held sides =
+    let child = crossfaded history.setting.plan.nodes k in
+    LaneFills (history.sub k) filled many (title_of (part_at held child).slot)
+    (samples_of sides.left child many) (samples_of sides.right child many)
+
+-- over so many instants behind the next one, the samples of node k are its lane
+abbrev pub HasMadeLane : History → (many k : ℕ) → Sides Lanes → Type 0
+HasMadeLane history many k sides = IsLaneOf history k many (samples_of sides.left k many) (samples_of sides.right k many)
+
+-- a stretch of so many instants behind the next one, as node i sees it before its run: what it and the nodes before it
+-- gave, and the samples of those that give; `held` is what all nodes gave
+pub record NodeGivesOn (history : History) (many filled i : ℕ) (node : Node) (held parts : List Part)
+    (sides : Sides Lanes) (state : NodeState) : Type 0 where
+  pub long : AreLong history.sub
+  pub stretch : IsStretch history.setting history.sub history.clock history.past (suc many)
+  pub is : IsNode history.setting history.clock i node
+  pub laned : HasLanes sides.left sides.right i
+  pub given : (k : ℕ) → k ≤ i → part_at parts k ≡ given_part (next_of history) k
+  pub begun : reads (work_at history.setting i node) ≡ true → filled ≡ suc (length history.past)
+  pub stands : StandsOn history 1 filled i node state
+  pub lanes : (k : ℕ) → k < i → gives (next_of history) k ≡ true → HasMadeLane history many k sides
+  pub supplied : gives (next_of history) i ≡ true → passes state ≡ true → IsSupplied history many filled i held sides
 
 -- and behind it
-pub record NodeHasGone (setting : Setting) (sub : ℕ → ℕ
-    → List Slot) (clock : NodeClock) (past : List Moment) (many filled i : ℕ) (node : Node)
-    (old : NodeState) (left right : Lanes) (state : NodeState) : Type 0 where
-  pub stands : StateStands setting sub (going_on setting sub clock (suc many) past)
-      (filled_on ((gives (moment_after setting sub clock past) i && passes old)
-      || reads (work_at setting i node)) many filled) i (work_at setting i node) state
-  pub lane_is : gives (moment_after setting sub clock past) i ≡ true
-      → IsLane (λ j. lane setting sub clock past (suc j) i) many (samples_of left i many) (samples_of right i many)
+pub record NodeHasGone (history : History) (many filled i : ℕ) (node : Node) (old : NodeState) (sides : Sides Lanes)
+    (state : NodeState) : Type 0 where
+  pub stands : StandsOn history (suc many) (filled_on ((gives (next_of history) i && passes old)
+      || reads (work_at history.setting i node)) many filled) i node state
+  pub lane_is : gives (next_of history) i ≡ true → HasMadeLane history many i sides
 
 -- the same of a node that gave, whose samples are these
-pub record NodeHasMade (setting : Setting) (sub : ℕ → ℕ
-    → List Slot) (clock : NodeClock) (past : List Moment) (many filled i : ℕ) (node : Node)
-    (old : NodeState) (left right : List ℤ) (state : NodeState) : Type 0 where
-  pub gave : gives (moment_after setting sub clock past) i ≡ true
-  pub stands : StateStands setting sub (going_on setting sub clock (suc many) past) (filled_on (passes old
-      || reads (work_at setting i node)) many filled) i (work_at setting i node) state
-  pub lane_is : IsLane (λ j. lane setting sub clock past (suc j) i) many left right
+pub record NodeHasMade (history : History) (many filled i : ℕ) (node : Node) (old : NodeState)
+    (samples : Sides (List ℤ)) (state : NodeState) : Type 0 where
+  pub gave : gives (next_of history) i ≡ true
+  pub stands : StandsOn history (suc many) (filled_on (passes old
+      || reads (work_at history.setting i node)) many filled) i node state
+  pub lane_is : IsLaneOf history i many samples.left samples.right
 
 -- so many instants are made at once: one at least, and no more than a run has
 pub record AreAtOnce (many : ℕ) : Type 0 where
@@ -179,21 +183,19 @@ pub record NodesRun (scene : Scene) (clock : NodeClock) (many : ℕ) (held : Lis
       → HasGoneOn setting sub clock past many filled old left right states
 
 -- node i has made them, whatever instants its state stood for
-pub record NodeRun (scene : Scene) (i many : ℕ) (held parts : List Part) (old : NodeState)
-    (left_old right_old left right : Lanes)
+pub record NodeRun (scene : Scene) (i many : ℕ) (held parts : List Part) (old : NodeState) (before after : Sides Lanes)
     (state : NodeState) : Type 0 where
-  pub run : (other : Setting) (sub : ℕ → ℕ
-      → List Slot) (clock : NodeClock) (past : List Moment) (filled : ℕ) (node : Node) →
-      let setting = setting_over scene other in
-      NodeGivesOn setting sub clock past many filled i node held parts left_old right_old old
-      → NodeHasGone setting sub clock past many filled i node old left right state
+  pub run : (other : Setting) (sub : ℕ → ℕ → List Slot) (clock : NodeClock) (past : List Moment) (filled : ℕ)
+      (node : Node) →
+      let history = history_of (setting_over scene other) sub clock past in
+      NodeGivesOn history many filled i node held parts before old
+      → NodeHasGone history many filled i node old after state
 
 -- node i, which gave, has made these samples of them
-pub record NodeMade (scene : Scene) (i many : ℕ) (held parts : List Part) (old : NodeState) (left_old right_old : Lanes)
-    (left right : List ℤ)
-    (state : NodeState) : Type 0 where
-  pub made : (other : Setting) (sub : ℕ → ℕ
-      → List Slot) (clock : NodeClock) (past : List Moment) (filled : ℕ) (node : Node) →
-      let setting = setting_over scene other in
-      NodeGivesOn setting sub clock past many filled i node held parts left_old right_old old
-      → NodeHasMade setting sub clock past many filled i node old left right state
+pub record NodeMade (scene : Scene) (i many : ℕ) (held parts : List Part) (old : NodeState) (before : Sides Lanes)
+    (samples : Sides (List ℤ)) (state : NodeState) : Type 0 where
+  pub made : (other : Setting) (sub : ℕ → ℕ → List Slot) (clock : NodeClock) (past : List Moment) (filled : ℕ)
+      (node : Node) →
+      let history = history_of (setting_over scene other) sub clock past in
+      NodeGivesOn history many filled i node held parts before old
+      → NodeHasMade history many filled i node old samples state

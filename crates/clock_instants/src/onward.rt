@@ -6,6 +6,7 @@ ghost use Rattle.op_mix.specs.Stretches.{HasLane, samples_of};
 ghost use Rattle.node_states.specs.Stretches.{LiesAhead};
 ghost use Rattle.node_states.specs.States.{Fits};
 ghost use Rattle.clock_nodes.specs.Nodes.{AreNodesOf, lies_at};
+ghost use Rattle.clock_instants.specs.Sides.{both};
 ghost use Rattle.clock_instants.specs.Stretches.{AllLieAhead, AreAtOnce, HasKeptSamples, HasLanes, HasRoomToRun, HasStretchRoom, IsSpare, NodeMade, NodeRun, NodesRun};
 ghost use Rattle.clock_nodes.specs.Scenes.{IsScene};
 ghost use Rattle.clock_nodes.specs.States.{AllFit};
@@ -143,8 +144,8 @@ fn run_node(
     ensures samples { (k : ℕ) → (k ≡ i → ⊥) → HasKeptSamples left.old right.old left.new right.new count k }
     ensures laned { (k : ℕ) → HasLanes left.old right.old k → HasLanes left.new right.new k }
     ensures spare { IsSpare spare.new }
-    ensures run { NodeRun scene.now i count held.now parts.now state.old left.old right.old left.new right.new
-        state.new }
+    ensures run { NodeRun scene.now i count held.now parts.now state.old (both left.old right.old)
+        (both left.new right.new) state.new }
 {
     let part = parts[i];
     if !gives(part, true) {
@@ -199,8 +200,8 @@ fn make_samples(
     requires ahead { LiesAhead scene.now.library.now state.old count }
     ensures fits { (node : PlanNode) → slice_get scene.now.plan.now.nodes i ≡ Some node
         → Fits scene.now.library.now (length node.children) state.new }
-    ensures made { NodeMade scene.now i count held.now parts.now state.old left.now right.now (take count own_left.new)
-        (take count own_right.new) state.new }
+    ensures made { NodeMade scene.now i count held.now parts.now state.old (both left.now right.now)
+        (both (take count own_left.new) (take count own_right.new)) state.new }
 {
     let below = title_below(scene.plan.nodes.as_slice(), held, i);
     let node = &scene.plan.nodes.as_slice()[i];

@@ -8,6 +8,8 @@ use Rattle.stream_meaning.specs.declared.part.Part.{Part}
 use Rattle.stream_meaning.specs.Instants.{crossfaded, gives, moment_after, part_at, silent}
 use Rattle.node_states.specs.States.{Fits}
 use Rattle.op_mix.specs.Stretches.{samples_of}
+use Rattle.clock_instants.specs.Histories.{history_of}
+use Rattle.clock_instants.specs.Sides.{both}
 use Rattle.clock_instants.specs.Stretches.{NodeGivesOn, NodeHasMade}
 use Rattle.clock_nodes.specs.Scenes.{setting_over}
 use Rattle.node_states.specs.Passing.{ChildFills, LaneFills, passes}
@@ -42,6 +44,7 @@ pub returns-clause-made : goal.returns-clause-made
 returns-clause-made c = record {
   made = λ other sub clock past filled node before.
       let S = setting_over c.args.scene.now other in
+      let H = history_of S sub clock past in
       let found : slice_get c.args.scene.now.plan.now.nodes c.args.i ≡ Some c.index-as_slice-i.result =
       slice_get_read _ _ _ _ refl c.requires.within (c.index-as_slice-i.is ∙ ap (λ nodes. get_or nodes c.args.i c.index-as_slice-i.result) c.as_slice-2.ensures) in
       let one : Some c.index-as_slice-i.result ≡ Some node = sym found ∙ before.is.there in
@@ -54,10 +57,10 @@ returns-clause-made c = record {
       let gave : gives (moment_after S sub clock past) c.args.i ≡ true =
       gives_now (moment_after S sub clock past) c.args.parts.now c.args.i (before.given c.args.i (omega arith))
       ∙ c.requires.gave in
-      let now : NodeGivesOn S sub clock past c.args.count filled c.args.i c.index-as_slice-i.result c.args.held.now c.args.parts.now c.args.left.now c.args.right.now c.args.state.now =
-      subst (λ (n : Node). NodeGivesOn S sub clock past c.args.count filled c.args.i n c.args.held.now c.args.parts.now c.args.left.now c.args.right.now c.args.state.now) same before in
-      let there : NodeGivesOn S sub clock past (length (take c.args.count c.args.own_left.now)) filled c.args.i c.index-as_slice-i.result c.args.held.now c.args.parts.now c.args.left.now c.args.right.now c.args.state.now =
-      subst (λ m. NodeGivesOn S sub clock past m filled c.args.i c.index-as_slice-i.result c.args.held.now c.args.parts.now c.args.left.now c.args.right.now c.args.state.now) many_is now in
+      let now : NodeGivesOn H c.args.count filled c.args.i c.index-as_slice-i.result c.args.held.now c.args.parts.now (both c.args.left.now c.args.right.now) c.args.state.now =
+      subst (λ (n : Node). NodeGivesOn H c.args.count filled c.args.i n c.args.held.now c.args.parts.now (both c.args.left.now c.args.right.now) c.args.state.now) same before in
+      let there : NodeGivesOn H (length (take c.args.count c.args.own_left.now)) filled c.args.i c.index-as_slice-i.result c.args.held.now c.args.parts.now (both c.args.left.now c.args.right.now) c.args.state.now =
+      subst (λ m. NodeGivesOn H m filled c.args.i c.index-as_slice-i.result c.args.held.now c.args.parts.now (both c.args.left.now c.args.right.now) c.args.state.now) many_is now in
       let goes = goes_on S sub clock past (length (take c.args.count c.args.own_left.now)) filled c.args.i c.index-as_slice-i.result c.args.held.now c.args.parts.now c.args.left.now c.args.right.now c.args.state.now c.requires.scene.nodes there gave in
       let title_is : title_of (part_at c.args.held.now (crossfaded c.args.scene.now.plan.now.nodes c.args.i)).slot ≡ c.title_below-below.result =
       ap (λ ns. title_of (part_at c.args.held.now (crossfaded ns c.args.i)).slot) (sym c.as_slice.ensures) ∙ sym c.title_below-below.ensures in
@@ -75,9 +78,9 @@ returns-clause-made c = record {
       }) in
       let front_left : take c.args.count (c.run.new.left ++ drop c.args.count c.args.own_left.now) ≡ c.run.new.left = take_front c.args.count c.run.new.left (drop c.args.count c.args.own_left.now) long_left in
       let front_right : take c.args.count (c.run.new.right ++ drop c.args.count c.args.own_right.now) ≡ c.run.new.right = take_front c.args.count c.run.new.right (drop c.args.count c.args.own_right.now) long_right in
-      subst (λ (xs : List ℤ). NodeHasMade S sub clock past c.args.count filled c.args.i node c.args.state.now xs (take c.args.count (c.run.new.right ++ drop c.args.count c.args.own_right.now)) c.run.new.self) (sym front_left)
-      (subst (λ (xs : List ℤ). NodeHasMade S sub clock past c.args.count filled c.args.i node c.args.state.now c.run.new.left xs c.run.new.self) (sym front_right)
-      (subst (λ m. NodeHasMade S sub clock past m filled c.args.i node c.args.state.now c.run.new.left c.run.new.right c.run.new.self) (sym many_is)
-      (subst (λ (n : Node). NodeHasMade S sub clock past (length (take c.args.count c.args.own_left.now)) filled c.args.i n c.args.state.now c.run.new.left c.run.new.right c.run.new.self) (sym same)
+      subst (λ (xs : List ℤ). NodeHasMade H c.args.count filled c.args.i node c.args.state.now (both xs (take c.args.count (c.run.new.right ++ drop c.args.count c.args.own_right.now))) c.run.new.self) (sym front_left)
+      (subst (λ (xs : List ℤ). NodeHasMade H c.args.count filled c.args.i node c.args.state.now (both c.run.new.left xs) c.run.new.self) (sym front_right)
+      (subst (λ m. NodeHasMade H m filled c.args.i node c.args.state.now (both c.run.new.left c.run.new.right) c.run.new.self) (sym many_is)
+      (subst (λ (n : Node). NodeHasMade H (length (take c.args.count c.args.own_left.now)) filled c.args.i n c.args.state.now (both c.run.new.left c.run.new.right) c.run.new.self) (sym same)
       (record { gave = gave; stands = stands; lane_is = lane_is }))));
 }

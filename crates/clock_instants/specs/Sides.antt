@@ -1,0 +1,10 @@
+-- What there is on the left side, and on the right one.
+pub record Sides (A : Type 0) : Type 0 where
+  pub left : A
+  pub right : A
+
+abbrev pub both : {A : Type 0} → (left right : A) → Sides A
+both left right = record {
+  left = left;
+  right = right;
+}
