@@ -12,7 +12,7 @@ use Rattle.plan_core.specs.Plans.{IsWellFormed}
 use Rattle.plan_core.specs.declared.sink.BufferPlan.{BufferPlan}
 use Rattle.clock_infer.specs.declared.clock_map.NodeClock.TheVariants.{Main}
 use Rattle.frame_core.specs.declared.cell.Cell.{Cell}
-use Rattle.frame_core.specs.Calls.{Call, Answer}
+use Rattle.frame_core.specs.Calls.{Adds, Call, Answer}
 use Rattle.stream_meaning.specs.Instants.{Setting, with_rest}
 use Rattle.stream_meaning.specs.Sinks.{ticks_bytes}
 use Rattle.stream_meaning.specs.Calls.{IsBegin}
@@ -160,12 +160,12 @@ module _ {S : Type 0} (told : S → SinkTold) (plan : Plan) (ticks : ℕ) (setti
     same_here = subst (λ lists. SameBuffers lists taps_now) empty same
 
     -- a fault of a tick
-    pub one_stopped : (end : End) → RoundsStopped told LocalStands setting ticks (ticks * length first) first now taps_first taps_now end → HasRunSome told setting ticks first now end
+    pub one_stopped : (end : End) → RoundsStopped told (Adds LocalStands taps_first taps_now) setting ticks first now end → HasRunSome told setting ticks first now end
     one_stopped end stopped =
         broken end stopped.calls stopped.begun (lists_follow plan stopped.calls taps_now same_here (stopped.taps [] stands) setting over.plan_is) stopped.round stopped.clock
         (turn_is setting (subst (λ p. IsWellFormed p) (sym over.plan_is) over.well) (length first) (ticks * length first) stopped.calls stopped.begun stopped.round stopped.clock stopped.below stopped.turn) stopped.part (write_only end _ stopped.cause)
 
-    module _ (made : RoundsMade told LocalStands setting ticks (ticks * length first) first now taps_first taps_now) where
+    module _ (made : RoundsMade told (Adds LocalStands taps_first taps_now) setting ticks first now) where
       -- all ticks
       pub all_made : (end : End) → ((end ≡ Done → ⊥) → end ≡ NoMemory) → HasRunSome told setting ticks first now end
       all_made end is =

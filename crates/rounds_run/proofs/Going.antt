@@ -1,12 +1,12 @@
 -- A run between two ticks.
-use Rattle.std.proofs.Common.{◌≡◌, ◌<◌, ◌≤◌, ◌+◌, ◌-◌, ◌*◌, ◌/◌, ◌%◌, ◌∙◌, ◌++◌, ℕ, suc, true, false, Some, Option, List, [], length, get_or, nat_lt, set, slice_get, add-one, arith, refl, ap, sym, subst, ◌⊎◌, inl, inr}
+use Rattle.std.proofs.Common.{◌≡◌, ◌<◌, ◌≤◌, ◌+◌, ◌-◌, ◌*◌, ◌/◌, ◌%◌, ◌∙◌, ◌++◌, ℕ, suc, true, false, Some, List, [], length, get_or, nat_lt, set, slice_get, add-one, arith, refl, ap, sym, subst, ◌⊎◌, inl, inr}
 use Rattle.std.proofs.lemmas.Bool.{le-ltb, lt-ltb}
 use Rattle.std.proofs.lemmas.Option.{slice_get-get_or as read, slice_get_within}
 use native.Mathlib.Nat.{min-eq_right, min-le_right}
 use Rattle.std.proofs.Math.ListN.{length-set}
 use Rattle.std.proofs.Math.Nat.{suc-mul}
 use Rattle.liq_base.specs.Pieces.{IsPrefix, SinkTold, grown}
-use Rattle.frame_core.specs.Calls.{Call, Answer}
+use Rattle.frame_core.specs.Calls.{Adds, Call, Answer}
 use Rattle.stream_meaning.specs.Sinks.{tick_bytes, ticks_bytes, IsOutput}
 use Rattle.clock_infer.specs.declared.clock_map.NodeClock.TheVariants.{Main}
 use Rattle.stream_meaning.specs.Instants.{Setting, with_rest}
@@ -25,7 +25,7 @@ use Rattle.clock_ticks.proofs.Made.{behind_calls, world_is}
 use Rattle.clock_ticks.proofs.Pieces.{got_between, got_more, got_none, got_part, kept_got, rose_since}
 use Rattle.buffer_ends.specs.declared.run_end.End.{End}
 use Rattle.buffer_ends.specs.declared.run_end.End.TheVariants.{Write, Memory as NoMemory}
-use Rattle.rounds_run.specs.Rounds.{AreEngines, AreGoing, AreTurnsUpto, HasRunTurns, HasRunPart, IsWriteEnd, MayRun, RoundsMade, RoundsStopped, made_by, nothing, ticks_by, world}
+use Rattle.rounds_run.specs.Rounds.{AreEngines, AreGoing, AreTurns, AreTurnsUpto, HasRunTurns, HasRunPart, IsWriteEnd, MayRun, RoundsMade, RoundsStopped, made_by, nothing, ticks_by, world}
 use Rattle.rounds_run.proofs.Worlds.{meets, meets_is, none_begun, own_other, own_this, turned_more, turned_part, turned_upto}
 use Rattle.rounds_run.proofs.Apart.{unread_or}
 use Rattle.rounds_run.proofs.Fronts.{front_of, grown_nothing, grown_twice, next_front, ticks_front}
@@ -182,7 +182,7 @@ module _ {S : Type 0} (told : S → SinkTold) where
 
   module _ {T : Type 0} (stands : T → List Call → Type 0) (setting : Setting) where
     -- before any tick
-    pub begin : (total : ℕ) (first : List (ClockEngine S)) (a : T) → AreEngines told total setting first → AreGoing told stands setting total (made_by 0 0) 0 first first a a
+    pub begin : (total : ℕ) (first : List (ClockEngine S)) (a : T) → AreEngines told total setting first → AreGoing told (Adds stands a a) setting total (made_by 0 0) 0 first first
     begin total first a are = record {
       calls = [];
       taps = adds_nothing stands a;
@@ -199,7 +199,7 @@ module _ {S : Type 0} (told : S → SinkTold) where
           subst (HaveTicksRoom told engine.parts engine.outs) all (are.each k engine is).rooms;
     }
 
-    module _ (total r m turns : ℕ) (first now : List (ClockEngine S)) (old : ClockEngine S) (a b : T) (going : AreGoing told stands setting total (made_by r m) turns first now a b)
+    module _ (total r m turns : ℕ) (first now : List (ClockEngine S)) (old : ClockEngine S) (a b : T) (going : AreGoing told (Adds stands a b) setting total (made_by r m) turns first now)
         (was : slice_get now m ≡ Some old) where
       made_here : made_by r m m ≡ r
       made_here = rw (not_below m m (omega arith)) refl
@@ -281,7 +281,7 @@ module _ {S : Type 0} (told : S → SinkTold) where
 
         pub tick_more : (may : AreEngines told total setting first) (before : ClockEngine S) → slice_get first m ≡ Some before → (c : T) → turns % length first ≡ m → turns / length first ≡ r
             → DidTick told stands old new b c
-            → AreGoing told stands setting total (made_by r (m + 1)) (suc turns) first (set now m new) a c
+            → AreGoing told (Adds stands a c) setting total (made_by r (m + 1)) (suc turns) first (set now m new)
         unfolding run_here run_more
         tick_more may before at_first c this_clock this_round did =
             let made = did.ticked in
@@ -321,13 +321,13 @@ module _ {S : Type 0} (told : S → SinkTold) where
 
         -- a fault of a tick leaves each engine where it was, and this one with at most a part of its tick
         pub tick_failed : (may : AreEngines told total setting first) (before : ClockEngine S) → slice_get first m ≡ Some before → (c : T) → r < total
-            → turns % length first ≡ m → turns / length first ≡ r → turns ≡ r * length first + m → (all : ℕ) → turns < all
+            → turns % length first ≡ m → turns / length first ≡ r → turns ≡ r * length first + m → turns < total * length first
             → HasFailed told stands old.parts new.parts old.outs new.outs b c → GotSomePieces told old.outs new.outs → length new.outs ≡ length old.outs
             → AreParts old.parts → setting_of new.parts ≡ setting_of old.parts → new.parts.clock ≡ old.parts.clock
             → (end : End) → (end ≡ NoMemory) ⊎ IsWriteEnd told m first (set now m new) end
-            → RoundsStopped told stands setting total all first (set now m new) a c end
+            → RoundsStopped told (Adds stands a c) setting total first (set now m new) end
         unfolding run_here
-        tick_failed may before at_first c low this_clock this_round this_turn all turn_low failed some same_outs fit setting' clock end cause =
+        tick_failed may before at_first c low this_clock this_round this_turn turn_low failed some same_outs fit setting' clock end cause =
             let run_m = run_here before at_first in
             let stopped = failed.engine r run_m.answers run_m.stands in
             let setting_is : setting_of old.parts ≡ setting = run_m.setting ∙ may.over m before at_first in
@@ -345,7 +345,7 @@ module _ {S : Type 0} (told : S → SinkTold) where
               calls = going.calls ++ failed.made;
               taps = adds_more stands a b c going.calls failed.made going.taps failed.taps;
               begun = turned_part setting (length first) turns going.calls failed.made stopped.accepted going.turned (Main m) (after_calls run_m.answers failed.made)
-                  (own_here may before at_first failed.made) (none_here may before at_first failed.made quiet) all turn_low step;
+                  (own_here may before at_first failed.made) (none_here may before at_first failed.made quiet) (total * length first) turn_low step;
               round = r;
               clock = m;
               below = slice_get_within first m before at_first;
@@ -415,14 +415,14 @@ module _ {S : Type 0} (told : S → SinkTold) where
 
     -- what the engine whose turn it is has run
     pub turn : (total r m turns : ℕ) (first now : List (ClockEngine S)) (d : ClockEngine S) (a b : T) → m < length now
-        → (going : AreGoing told stands setting total (made_by r m) turns first now a b) → HasRunTurns told going.calls r (get_or first m d) (get_or now m d)
+        → (going : AreGoing told (Adds stands a b) setting total (made_by r m) turns first now) → HasRunTurns told going.calls r (get_or first m d) (get_or now m d)
     turn total r m turns first now d a b within going =
         let size = going.run.size in
         run_here total r m turns first now (get_or now m d) a b going (read now m d within) (get_or first m d) (read first m d (omega (arith, within, size)))
 
     -- a whole round
     pub next_round : (total r n turns : ℕ) (first now : List (ClockEngine S)) (a b : T) → length now ≤ n
-        → AreGoing told stands setting total (made_by r n) turns first now a b → AreGoing told stands setting total (made_by (r + 1) 0) turns first now a b
+        → AreGoing told (Adds stands a b) setting total (made_by r n) turns first now → AreGoing told (Adds stands a b) setting total (made_by (r + 1) 0) turns first now
     next_round total r n turns first now a b all going = record {
       calls = going.calls;
       taps = going.taps;
@@ -438,12 +438,12 @@ module _ {S : Type 0} (told : S → SinkTold) where
         same k low = rw (below k n low, not_below k 0 (omega arith)) (sym (add-one r))
 
     -- all rounds
-    pub all_rounds : (total r turns : ℕ) (first now : List (ClockEngine S)) (a b : T) → r ≡ total → AreGoing told stands setting total (made_by r 0) turns first now a b
-        → RoundsMade told stands setting total turns first now a b
-    all_rounds total r turns first now a b is going = record {
+    pub all_rounds : (total r : ℕ) (first now : List (ClockEngine S)) (a b : T) → r ≡ total → AreGoing told (Adds stands a b) setting total (made_by r 0) (r * length first) first now
+        → RoundsMade told (Adds stands a b) setting total first now
+    all_rounds total r first now a b is going = record {
       calls = going.calls;
       taps = going.taps;
-      turned = going.turned;
+      turned = subst (λ n. AreTurns setting (length first) (n * length first) going.calls) is going.turned;
       run = record {
         size = going.run.size;
         each = λ k before after at there. subst (λ t. HasRunTurns told going.calls t before after) (same k) (going.run.each k before after at there);

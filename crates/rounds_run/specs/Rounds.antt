@@ -3,7 +3,7 @@ use Rattle.std.specs.Prelude.{◌≡◌, ◌+◌, ◌/◌, ◌%◌, ℕ, suc, Bo
 pub use Rattle.run_records.specs.Records.{made_by, ticks_by}
 use Rattle.liq_base.specs.Pieces.{IsPrefix, SinkTold, grown}
 use Rattle.clock_infer.specs.declared.clock_map.NodeClock.TheVariants.{Main}
-use Rattle.frame_core.specs.Calls.{Adds, Call, Answer}
+use Rattle.frame_core.specs.Calls.{Call, Answer}
 use Rattle.stream_meaning.specs.Instants.{Setting, with_rest}
 use Rattle.stream_meaning.specs.Calls.{IsBegin, IsUnread, answers_in, calls_of_tick, joined_upto}
 use Rattle.stream_meaning.specs.Sinks.{ticks_bytes, IsOutput}
@@ -118,32 +118,32 @@ pub record IsWriteEnd {S : Type 0} (told : S
   pub end_is : end ≡ Write clock sink
   pub rose : RoseAt told place before.outs after.outs
 
--- between two ticks of a run: the calls so far, what each engine has run, and the room that is left for the ticks that
--- are not made
-pub record AreGoing {S T : Type 0} (told : S → SinkTold) (stands : T → List Call → Type 0) (setting : Setting)
-    (total : ℕ) (made : ℕ → ℕ) (turns : ℕ) (first now : List (ClockEngine S)) (taps_first taps_now : T) : Type 0 where
+-- between two ticks of a run: the calls so far, which the taps got, what each engine has run, and the room that is left
+-- for the ticks that are not made
+pub record AreGoing {S : Type 0} (told : S → SinkTold) (got : List Call → Type 0) (setting : Setting) (total : ℕ)
+    (made : ℕ → ℕ) (turns : ℕ) (first now : List (ClockEngine S)) : Type 0 where
   pub calls : List Call
-  pub taps : Adds stands taps_first taps_now calls
+  pub taps : got calls
   pub turned : AreTurns setting (length first) turns calls
   pub run : HaveRun told calls made first now
   pub rooms : (k left : ℕ) (engine : ClockEngine S) → slice_get now k ≡ Some engine → made k + left ≡ total
       → HaveTicksRoom told engine.parts engine.outs left
 
--- all rounds were made, by these calls
-pub record RoundsMade {S T : Type 0} (told : S → SinkTold) (stands : T → List Call → Type 0) (setting : Setting)
-    (ticks turns : ℕ) (first now : List (ClockEngine S)) (taps_first taps_now : T) : Type 0 where
+-- all rounds were made, by these calls, which the taps got
+pub record RoundsMade {S : Type 0} (told : S → SinkTold) (got : List Call → Type 0) (setting : Setting) (ticks : ℕ)
+    (first now : List (ClockEngine S)) : Type 0 where
   pub calls : List Call
-  pub taps : Adds stands taps_first taps_now calls
-  pub turned : AreTurns setting (length first) turns calls
+  pub taps : got calls
+  pub turned : AreTurns setting (length first) (ticks * length first) calls
   pub run : HaveRun told calls (λ clock. ticks) first now
 
 -- A fault ended the rounds, after these calls, in the turn of clock `clock` in round `round`: the clocks below it have
 -- made their tick of this round, those above it have not, and it has made at most a part of it.
-pub record RoundsStopped {S T : Type 0} (told : S → SinkTold) (stands : T → List Call → Type 0) (setting : Setting)
-    (ticks turns : ℕ) (first now : List (ClockEngine S)) (taps_first taps_now : T) (end : End) : Type 0 where
+pub record RoundsStopped {S : Type 0} (told : S → SinkTold) (got : List Call → Type 0) (setting : Setting) (ticks : ℕ)
+    (first now : List (ClockEngine S)) (end : End) : Type 0 where
   pub calls : List Call
-  pub taps : Adds stands taps_first taps_now calls
-  pub begun : AreTurnsBegun setting (length first) turns calls
+  pub taps : got calls
+  pub begun : AreTurnsBegun setting (length first) (ticks * length first) calls
   pub round : ℕ
   pub clock : ℕ
   pub below : clock < length first

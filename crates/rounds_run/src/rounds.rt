@@ -1,5 +1,6 @@
 // The rounds of all clocks, one after another.
-ghost use Rattle.std.specs.Prelude.{◌≡◌, ◌<◌, ◌≤◌, ◌*◌, ℕ, length, IfErr, OnOk, OnErr};
+ghost use Rattle.std.specs.Prelude.{◌≡◌, ◌<◌, ◌≤◌, ℕ, IfErr, OnOk};
+ghost use Rattle.frame_core.specs.Calls.{Adds};
 ghost use Rattle.stream_meaning.specs.Instants.{Setting};
 ghost use Rattle.clock_ticks.specs.declared.fault.TickFault.TheVariants.{Memory as OutOfMemory, Write as TickWrite};
 ghost use Rattle.buffer_ends.specs.declared.run_end.End.TheVariants.{Write, Memory as NoMemory};
@@ -34,11 +35,9 @@ pub fn make_rounds<O: Sink, T: Taps>(
     requires few { ticks ≤ 1000000000 }
     requires buffers { HaveBuffers (T.buffers taps.old) engines.old }
     ensures done { OnOk result ((setting : Setting) → AreEngines O.told ticks setting engines.old
-        → RoundsMade O.told T.stands setting ticks (ticks * length engines.old) engines.old engines.new taps.old
-        taps.new) }
+        → RoundsMade O.told (Adds T.stands taps.old taps.new) setting ticks engines.old engines.new) }
     ensures stopped { IfErr result (λ end. (setting : Setting) → AreEngines O.told ticks setting engines.old
-        → RoundsStopped O.told T.stands setting ticks (ticks * length engines.old) engines.old engines.new taps.old
-        taps.new end) }
+        → RoundsStopped O.told (Adds T.stands taps.old taps.new) setting ticks engines.old engines.new end) }
     ensures memory { KeepNone engines.old → IfErr result (λ end. end ≡ NoMemory → 0 < T.buffers taps.old) }
     ensures buffers { T.buffers taps.new ≡ T.buffers taps.old }
     ensures same { T.same taps.old taps.new }

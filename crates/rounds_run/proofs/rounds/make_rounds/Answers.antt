@@ -1,10 +1,11 @@
 use Rattle.std.proofs.Common.{rules, ◌≡◌, ◌<◌, ◌≤◌, ◌+◌, ◌*◌, ◌∙◌, suc, length, get_or, set, arith, ap, sym, refl, subst, inl, inr, true}
+use Rattle.frame_core.specs.Calls.{Adds}
 use Rattle.std.proofs.lemmas.List.{get_or-set_same}
 use Rattle.std.proofs.lemmas.Nat.{mod-mul-add, div-mul-add}
 use Rattle.std.proofs.Math.Nat.{suc-mul, mul-le-mul_right}
 use Rattle.std.proofs.lemmas.Option.{slice_get-get_or as read}
 use Rattle.buffer_ends.specs.declared.run_end.End.TheVariants.{Write}
-use Rattle.rounds_run.specs.Rounds.{AreGoing, RoundsMade, made_by}
+use Rattle.rounds_run.specs.Rounds.{AreGoing, made_by}
 use Rattle.clock_ticks.specs.declared.fault.TickFault.TheVariants.{Memory as OutOfMemory}
 use Rattle.clock_ticks.proofs.Needing.{has_buffers}
 use Rattle.rounds_run.proofs.Going.{all_rounds, begin, fault_is, next_round, tick_failed, tick_more, tick_room, turn, write_end}
@@ -16,7 +17,7 @@ loop-round-init g c = record {
   same = g.met.T.Taps.same_refl c.args.taps.now;
   goes = λ setting are.
       let none : 0 ≡ 0 * length c.args.engines.now = omega arith in
-      subst (λ n. AreGoing g.O.Sink.told g.T.Taps.stands setting c.args.ticks (made_by 0 0) n c.args.engines.now c.args.engines.now c.args.taps.now c.args.taps.now) none
+      subst (λ n. AreGoing g.O.Sink.told (Adds g.T.Taps.stands c.args.taps.now c.args.taps.now) setting c.args.ticks (made_by 0 0) n c.args.engines.now c.args.engines.now) none
       (begin g.O.Sink.told g.T.Taps.stands setting c.args.ticks c.args.engines.now c.args.taps.now are);
 }
 
@@ -26,7 +27,7 @@ loop-k-init g c = record {
   same = c.loop-round.invariant.same;
   goes = λ setting are.
       let same : c.loop-round._round * length c.args.engines.now ≡ c.loop-round._round * length c.args.engines.now + 0 = omega arith in
-      subst (λ n. AreGoing g.O.Sink.told g.T.Taps.stands setting c.args.ticks (made_by c.loop-round._round 0) n c.args.engines.now c.loop-round.engines c.args.taps.now c.loop-round.taps) same (c.loop-round.invariant.goes setting are);
+      subst (λ n. AreGoing g.O.Sink.told (Adds g.T.Taps.stands c.args.taps.now c.loop-round.taps) setting c.args.ticks (made_by c.loop-round._round 0) n c.args.engines.now c.loop-round.engines) same (c.loop-round.invariant.goes setting are);
 }
 
 pub tick-requires-clause-runs : goal.tick-requires-clause-runs
@@ -78,8 +79,7 @@ returns-in-Err-clause-stopped g c = λ setting are.
     (get_or c.loop-k.engines c.loop-k.k c.index-engines-k.result) _ _ going here
     c.tick.new.self are (get_or c.args.engines.now c.loop-k.k c.index-engines-k.result) before
     c.tick.new.taps c.loop-round-test.true
-    (mod-mul-add c.loop-round._round (length c.args.engines.now) c.loop-k.k low) (div-mul-add c.loop-round._round (length c.args.engines.now) c.loop-k.k low) refl
-    (c.args.ticks * length c.args.engines.now) turns
+    (mod-mul-add c.loop-round._round (length c.args.engines.now) c.loop-k.k low) (div-mul-add c.loop-round._round (length c.args.engines.now) c.loop-k.k low) refl turns
     c.in-Err.ensures.stopped c.in-Err.ensures.part c.tick.ensures.outs
     c.tick.ensures.whole.parts c.tick.ensures.setting c.tick.ensures.clock c.end_of.result
     (elim (fault_is c.in-Err.fault) [
@@ -103,7 +103,7 @@ loop-k-preserved g c =
           let going = c.loop-k.invariant.goes setting are in
           let size = going.run.size in
           let low : c.loop-k.k < length c.args.engines.now = omega (arith, within, size) in
-          subst (λ n. AreGoing g.O.Sink.told g.T.Taps.stands setting c.args.ticks (made_by c.loop-round._round (c.loop-k.k + 1)) n c.args.engines.now (set c.loop-k.engines c.loop-k.k c.tick.new.self) c.args.taps.now c.tick.new.taps) turns
+          subst (λ n. AreGoing g.O.Sink.told (Adds g.T.Taps.stands c.args.taps.now c.tick.new.taps) setting c.args.ticks (made_by c.loop-round._round (c.loop-k.k + 1)) n c.args.engines.now (set c.loop-k.engines c.loop-k.k c.tick.new.self)) turns
           (tick_more g.O.Sink.told g.T.Taps.stands setting c.args.ticks c.loop-round._round c.loop-k.k (c.loop-round._round * length c.args.engines.now + c.loop-k.k) c.args.engines.now c.loop-k.engines
           (get_or c.loop-k.engines c.loop-k.k c.index-engines-k.result) _ _ going (read c.loop-k.engines c.loop-k.k c.index-engines-k.result within)
           c.tick.new.self are (get_or c.args.engines.now c.loop-k.k c.index-engines-k.result) (read c.args.engines.now c.loop-k.k c.index-engines-k.result low) c.tick.new.taps
@@ -134,15 +134,14 @@ loop-round-preserved g c =
           let size = going.run.size in
           let count : c.loop-round._round * length c.args.engines.now + c.loop-k.k ≡ (c.loop-round._round + 1) * length c.args.engines.now =
           (let more = ap (λ n. n * length c.args.engines.now) one in omega (arith, all, low, size, next, more)) in
-          subst (λ n. AreGoing g.O.Sink.told g.T.Taps.stands setting c.args.ticks (made_by (c.loop-round._round + 1) 0) n c.args.engines.now c.loop-k.engines c.args.taps.now c.loop-k.taps) count
+          subst (λ n. AreGoing g.O.Sink.told (Adds g.T.Taps.stands c.args.taps.now c.loop-k.taps) setting c.args.ticks (made_by (c.loop-round._round + 1) 0) n c.args.engines.now c.loop-k.engines) count
           (next_round g.O.Sink.told g.T.Taps.stands setting c.args.ticks c.loop-round._round c.loop-k.k _ c.args.engines.now c.loop-k.engines _ _ all going);
     }
 
 pub returns-clause-done : goal.returns-clause-done
 returns-clause-done g c = λ setting are.
     let is : c.loop-round._round ≡ c.args.ticks = search rules in
-    subst (λ n. RoundsMade g.O.Sink.told g.T.Taps.stands setting c.args.ticks n c.args.engines.now c.loop-round.engines c.args.taps.now c.loop-round.taps) (ap (λ n. n * length c.args.engines.now) is)
-    (all_rounds g.O.Sink.told g.T.Taps.stands setting c.args.ticks c.loop-round._round _ c.args.engines.now c.loop-round.engines _ _ is (c.loop-round.invariant.goes setting are))
+    all_rounds g.O.Sink.told g.T.Taps.stands setting c.args.ticks c.loop-round._round c.args.engines.now c.loop-round.engines _ _ is (c.loop-round.invariant.goes setting are)
 
 pub returns-in-Err-clause-memory : goal.returns-in-Err-clause-memory
 returns-in-Err-clause-memory g c = λ none is.
