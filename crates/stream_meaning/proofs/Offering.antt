@@ -8,7 +8,7 @@ use Rattle.std.proofs.lemmas.Nat.{mod_below}
 use Rattle.liq_base.specs.declared.memory.Kind.{Kind}
 use Rattle.frame_core.specs.Library.{Sounds, no_sound, sound_at, tracks_of}
 use Rattle.frame_core.specs.Sounds.{Sound, length_of}
-use Rattle.frame_core.specs.Slots.{Slot, slot_at}
+use Rattle.frame_core.specs.Slots.{Slot}
 use Rattle.plan_core.specs.declared.node.Op.{Op}
 use Rattle.plan_core.specs.declared.node.Op.TheVariants.{Single, Switch, Crossfade}
 use Rattle.clock_infer.specs.Ties.{fades}
