@@ -24,7 +24,8 @@ abbrev pub some_case : List Predicate → (children : List ℕ) → (child : ℕ
 some_case preds children child = list_any (is_case child) (zip preds children)
 
 -- whether a source that rests on this, and may offer nothing, needs this child, so that it would always offer something
--- if this child did: on the last one it needs that, on cases each whose predicate is always true, and else each child
+-- if this child did: where it rests on its last child, that one; where on its cases, each whose predicate is always
+-- true; and else each of its children
 abbrev pub needs_on : Rests → (children : List ℕ) → (child : ℕ) → Bool
 needs_on (OnCases preds) children child = some_case preds children child
 needs_on OnLast children child = is_last children child
