@@ -13,9 +13,8 @@ use Rattle.std.proofs.Math.Seq.{get_or-append_seam}
 use Rattle.time_pred.specs.Predicates.{Predicate, is_always}
 use Rattle.plan_core.specs.declared.node.Node.{Node}
 use Rattle.plan_core.specs.declared.node.Op.{Op}
-use Rattle.plan_core.specs.declared.node.Op.TheVariants.{Single, Playlist, Blank, Square, Fail, Fallback, Switch, Sequence, Rotate, Random, Add, Amplify, Mean, Stereo, Crossfade, Buffer, Clock}
 use Rattle.plan_core.specs.Plans.{AreNodes, HasChildren}
-use Rattle.fallible_infer.specs.Infallible.{mark_at, last_of, infallible_by, IsMarking}
+use Rattle.fallible_infer.specs.Infallible.{Rests, Never, Always, OnSome, OnCases, OnLast, mark_at, last_of, rests_of, rests_on, infallible_by, IsMarking}
 
 pub some_same : {A : Type 0} {x y : A} {o : Option A} → o ≡ Some x → o ≡ Some y → x ≡ y
 some_same e f = cc
@@ -52,24 +51,15 @@ last_same : (mark other : ℕ → Bool) (n : ℕ) → ((i : ℕ) → i < n → m
     → option_map_or mark (last_of children) false ≡ option_map_or other (last_of children) false
 last_same mark other n same children each = option_same mark other (last_of children) (λ c e. same c (get_below n children (length children - 1) c each e))
 
+rests_same : (mark other : ℕ → Bool) (n : ℕ) → ((i : ℕ) → i < n → mark i ≡ other i) → (rests : Rests) (children : List ℕ) → All (λ c. c < n) children → rests_on mark rests children ≡ rests_on other rests children
+rests_same mark other n same Never cs each = refl
+rests_same mark other n same Always cs each = refl
+rests_same mark other n same OnSome cs each = any_same mark other n same cs each
+rests_same mark other n same (OnCases preds) cs each = zip_same mark other n same preds cs each
+rests_same mark other n same OnLast cs each = last_same mark other n same cs each
+
 pub by_same : (mark other : ℕ → Bool) (n : ℕ) → ((i : ℕ) → i < n → mark i ≡ other i) → (op : Op) (children : List ℕ) → All (λ c. c < n) children → infallible_by mark op children ≡ infallible_by other op children
-by_same mark other n same (Single file) cs each = refl
-by_same mark other n same (Playlist file again) cs each = refl
-by_same mark other n same (Blank track) cs each = refl
-by_same mark other n same (Square pitch) cs each = refl
-by_same mark other n same Fail cs each = refl
-by_same mark other n same (Fallback sensitive) cs each = any_same mark other n same cs each
-by_same mark other n same (Switch sensitive preds) cs each = zip_same mark other n same preds cs each
-by_same mark other n same Sequence cs each = last_same mark other n same cs each
-by_same mark other n same Rotate cs each = any_same mark other n same cs each
-by_same mark other n same (Random seed) cs each = any_same mark other n same cs each
-by_same mark other n same (Add normalize) cs each = any_same mark other n same cs each
-by_same mark other n same (Amplify factor) cs each = any_same mark other n same cs each
-by_same mark other n same Mean cs each = any_same mark other n same cs each
-by_same mark other n same Stereo cs each = any_same mark other n same cs each
-by_same mark other n same (Crossfade overlap) cs each = any_same mark other n same cs each
-by_same mark other n same (Buffer number) cs each = refl
-by_same mark other n same (Clock id) cs each = any_same mark other n same cs each
+by_same mark other n same op cs each = rests_same mark other n same (rests_of op) cs each
 
 -- the children of a node are smaller
 children_below : (nodes : List Node) (i : ℕ) (node : Node) → AreNodes nodes → slice_get nodes i ≡ Some node → All (λ c. c < i) node.children

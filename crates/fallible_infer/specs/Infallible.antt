@@ -4,10 +4,10 @@ use Rattle.std.specs.List.{list_any, zip}
 use Rattle.std.specs.Option.{option_map_or}
 use Rattle.plan_core.specs.declared.node.Node.{Node}
 use Rattle.plan_core.specs.declared.node.Op.{Op}
-use Rattle.plan_core.specs.declared.node.Op.TheVariants.{Single, Playlist, Blank, Square, Fail, Fallback, Switch, Sequence, Rotate, Random, Add, Amplify, Mean, Stereo, Crossfade, Buffer, Clock}
+use Rattle.plan_core.specs.declared.node.Op.TheVariants.{Single, Playlist, Blank, Square, Fail, Switch, Sequence, Buffer}
 use Rattle.plan_core.specs.declared.sink.SinkPlan.{SinkPlan}
 use Rattle.plan_core.specs.declared.sink.SinkPlan.TheVariants.{Output, Feed}
-use Rattle.time_pred.specs.Predicates.{is_always}
+use Rattle.time_pred.specs.Predicates.{Predicate, is_always}
 
 -- the mark of a node in a list of marks
 abbrev pub mark_at : List Bool → ℕ → Bool
@@ -17,29 +17,40 @@ mark_at marks i = slice_index_or marks i false
 abbrev pub last_of : List ℕ → Option ℕ
 last_of children = slice_get children (length children - 1)
 
--- whether a node of this operator over these children is infallible, where the mark of a child says whether it is: a
--- file that is repeated, zeros and a square wave are; a fallback, a rotate, a random and a sum are where some child is;
--- a switch is where some child is whose predicate is always true by its form; a sequence is where it has a last child
--- that is; and what has one child is where that child is
+-- what makes a node infallible
+pub data Rests : Type 0 where
+  Never : Rests
+  Always : Rests
+  OnSome : Rests
+  OnCases : List Predicate → Rests
+  OnLast : Rests
+
+-- a file that is repeated, zeros and a square wave always are; a playlist, a fail and a reader never are; a switch rests
+-- on its cases, a sequence on its last child, and any other on some child
+abbrev pub rests_of : Op → Rests
+rests_of (Single file) = Always
+rests_of (Playlist file again) = Never
+rests_of (Blank track) = Always
+rests_of (Square pitch) = Always
+rests_of Fail = Never
+rests_of (Switch sensitive preds) = OnCases preds
+rests_of Sequence = OnLast
+rests_of (Buffer number) = Never
+rests_of _ = OnSome
+
+-- whether a node that rests on this is infallible over these children, where the mark of a child says whether it is: on
+-- some child where one is, on cases where a child is whose predicate is always true by its form, and on the last child
+-- where there is one and it is
+abbrev pub rests_on : (mark : ℕ → Bool) → Rests → List ℕ → Bool
+rests_on mark Never children = false
+rests_on mark Always children = true
+rests_on mark OnSome children = list_any mark children
+rests_on mark (OnCases preds) children = list_any (λ pair. is_always pair.0 && mark pair.1) (zip preds children)
+rests_on mark OnLast children = option_map_or mark (last_of children) false
+
+-- the same for a node of this operator
 abbrev pub infallible_by : (mark : ℕ → Bool) → Op → List ℕ → Bool
-infallible_by mark (Single file) children = true
-infallible_by mark (Playlist file again) children = false
-infallible_by mark (Blank track) children = true
-infallible_by mark (Square pitch) children = true
-infallible_by mark Fail children = false
-infallible_by mark (Fallback sensitive) children = list_any mark children
-infallible_by mark (Switch sensitive preds) children = list_any (λ pair. is_always pair.0
-    && mark pair.1) (zip preds children)
-infallible_by mark Sequence children = option_map_or mark (last_of children) false
-infallible_by mark Rotate children = list_any mark children
-infallible_by mark (Random seed) children = list_any mark children
-infallible_by mark (Add normalize) children = list_any mark children
-infallible_by mark (Amplify factor) children = list_any mark children
-infallible_by mark Mean children = list_any mark children
-infallible_by mark Stereo children = list_any mark children
-infallible_by mark (Crossfade overlap) children = list_any mark children
-infallible_by mark (Buffer number) children = false
-infallible_by mark (Clock id) children = list_any mark children
+infallible_by mark op children = rests_on mark (rests_of op) children
 
 -- the mark of each node says whether it is infallible
 abbrev pub IsMarking : List Node → (mark : ℕ → Bool) → Type 0

@@ -80,17 +80,9 @@ fn follows(node: &Node, marks: &[bool]) -> bool
         Op::Blank { .. } => true,
         Op::Square { .. } => true,
         Op::Fail => false,
-        Op::Fallback { .. } => some_child(children, marks),
         Op::Switch { preds, .. } => some_always(preds.as_slice(), children, marks),
         Op::Sequence => last_child(children, marks),
-        Op::Rotate => some_child(children, marks),
-        Op::Random { .. } => some_child(children, marks),
-        Op::Add { .. } => some_child(children, marks),
-        Op::Amplify { .. } => some_child(children, marks),
-        Op::Mean => some_child(children, marks),
-        Op::Stereo => some_child(children, marks),
-        Op::Crossfade { .. } => some_child(children, marks),
         Op::Buffer(_) => false,
-        Op::Clock(_) => some_child(children, marks),
+        _ => some_child(children, marks),
     }
 }

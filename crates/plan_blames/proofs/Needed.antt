@@ -12,10 +12,10 @@ use Rattle.std.proofs.lemmas.Slice.Zip.{get_or-zip, length-zip}
 use Rattle.time_pred.specs.Predicates.{Predicate, is_always}
 use Rattle.plan_core.specs.declared.node.Node.{Node}
 use Rattle.plan_core.specs.declared.node.Op.{Op}
-use Rattle.plan_core.specs.declared.node.Op.TheVariants.{Single, Playlist, Blank, Square, Fail, Fallback, Switch, Sequence, Rotate, Random, Add, Amplify, Mean, Stereo, Crossfade, Buffer, Clock}
+use Rattle.plan_core.specs.declared.node.Op.TheVariants.{Playlist, Fail, Switch, Sequence, Buffer}
 use Rattle.plan_core.specs.Plans.{AreNodes, HasChildren}
-use Rattle.fallible_infer.specs.Infallible.{infallible_by, last_of}
-use Rattle.plan_blames.specs.Needs.{HasOther, IsAlone, IsOnly, IsOnlyNeeded, is_case, is_child, is_last, needs, some_case, some_child}
+use Rattle.fallible_infer.specs.Infallible.{Rests, Never, Always, OnSome, OnCases, OnLast, infallible_by, last_of, rests_of, rests_on}
+use Rattle.plan_blames.specs.Needs.{HasOther, IsAlone, IsOnly, IsOnlyNeeded, is_case, is_child, is_last, needs, needs_on, some_case, some_child}
 
 or_split : (a b : Bool) → (a || b) ≡ true → (a ≡ true) ⊎ (b ≡ true)
 or_split true b is = inl refl
@@ -73,25 +73,23 @@ none_needed : (children : List ℕ) (child : ℕ) → length children ≡ 0 → 
 none_needed [] child none is = cc
 none_needed (c ∷ cs) child none is = omega (arith, none)
 
+never_over : (op : Op) (n : ℕ) → HasChildren op n → rests_of op ≡ Never → n ≡ 0
+never_over (Playlist file again) n has is = has
+never_over Fail n has is = has
+never_over (Buffer number) n has is = has
+never_over _ n has is = absurd cc
+
+mends_on : (mark : ℕ → Bool) (rests : Rests) (children : List ℕ) (child : ℕ) → (rests ≡ Never → length children ≡ 0) → needs_on rests children child ≡ true → mark child ≡ true
+    → rests_on mark rests children ≡ true
+mends_on mark Never cs child has is marked = absurd (none_needed cs child (has refl) is)
+mends_on mark Always cs child has is marked = refl
+mends_on mark OnSome cs child has is marked = any_marked mark cs child is marked
+mends_on mark (OnCases preds) cs child has is marked = case_marked mark preds cs child is marked
+mends_on mark OnLast cs child has is marked = last_marked mark (last_of cs) child is marked
+
 pub mends : (mark : ℕ → Bool) (op : Op) (children : List ℕ) (child : ℕ) → HasChildren op (length children) → needs op children child ≡ true → mark child ≡ true
     → infallible_by mark op children ≡ true
-mends mark (Single file) cs child has is marked = refl
-mends mark (Playlist file again) cs child has is marked = absurd (none_needed cs child has is)
-mends mark (Blank track) cs child has is marked = refl
-mends mark (Square pitch) cs child has is marked = refl
-mends mark Fail cs child has is marked = absurd (none_needed cs child has is)
-mends mark (Fallback sensitive) cs child has is marked = any_marked mark cs child is marked
-mends mark (Switch sensitive preds) cs child has is marked = case_marked mark preds cs child is marked
-mends mark Sequence cs child has is marked = last_marked mark (last_of cs) child is marked
-mends mark Rotate cs child has is marked = any_marked mark cs child is marked
-mends mark (Random seed) cs child has is marked = any_marked mark cs child is marked
-mends mark (Add normalize) cs child has is marked = any_marked mark cs child is marked
-mends mark (Amplify factor) cs child has is marked = any_marked mark cs child is marked
-mends mark Mean cs child has is marked = any_marked mark cs child is marked
-mends mark Stereo cs child has is marked = any_marked mark cs child is marked
-mends mark (Crossfade overlap) cs child has is marked = any_marked mark cs child is marked
-mends mark (Buffer number) cs child has is marked = absurd (none_needed cs child has is)
-mends mark (Clock id) cs child has is marked = any_marked mark cs child is marked
+mends mark op cs child has is marked = mends_on mark (rests_of op) cs child (never_over op (length cs) has) is marked
 
 -- the one that passes alone, and one beside another
 pub alone : (test : ℕ → Bool) (one : ℕ) → test one ≡ true → IsAlone test one → IsOnly test (Some one)
@@ -115,23 +113,9 @@ switch_only op sensitive own preds children needed is same only =
 
 pub child_only : (op : Op) (children : List ℕ) (needed : Option ℕ) → ((sensitive : Bool) (preds : List Predicate) → op ≡ Switch sensitive preds → ⊥) → (op ≡ Sequence → ⊥)
     → IsOnly (some_child children) needed → IsOnly (needs op children) needed
-child_only (Single file) children needed none other only = only
-child_only (Playlist file again) children needed none other only = only
-child_only (Blank track) children needed none other only = only
-child_only (Square pitch) children needed none other only = only
-child_only Fail children needed none other only = only
-child_only (Fallback sensitive) children needed none other only = only
 child_only (Switch sensitive preds) children needed none other only = absurd (none sensitive preds refl)
 child_only Sequence children needed none other only = absurd (other refl)
-child_only Rotate children needed none other only = only
-child_only (Random seed) children needed none other only = only
-child_only (Add normalize) children needed none other only = only
-child_only (Amplify factor) children needed none other only = only
-child_only Mean children needed none other only = only
-child_only Stereo children needed none other only = only
-child_only (Crossfade overlap) children needed none other only = only
-child_only (Buffer number) children needed none other only = only
-child_only (Clock id) children needed none other only = only
+child_only _ children needed none other only = only
 
 -- the last child
 pub last_alone : (children : List ℕ) (last : Option ℕ) → last ≡ last_of children → IsOnly (is_last children) last
@@ -215,24 +199,10 @@ last_child : (children : List ℕ) (child : ℕ) (last : Option ℕ) → last_of
 last_child children child (Some last) there is = child_at children (length children - 1) last child there is
 last_child children child None there is = absurd cc
 
-needed_child : (op : Op) (children : List ℕ) (child : ℕ) → needs op children child ≡ true → some_child children child ≡ true
-needed_child (Single file) cs child is = is
-needed_child (Playlist file again) cs child is = is
-needed_child (Blank track) cs child is = is
-needed_child (Square pitch) cs child is = is
-needed_child Fail cs child is = is
-needed_child (Fallback sensitive) cs child is = is
-needed_child (Switch sensitive preds) cs child is = case_child preds cs child is
-needed_child Sequence cs child is = last_child cs child (last_of cs) refl is
-needed_child Rotate cs child is = is
-needed_child (Random seed) cs child is = is
-needed_child (Add normalize) cs child is = is
-needed_child (Amplify factor) cs child is = is
-needed_child Mean cs child is = is
-needed_child Stereo cs child is = is
-needed_child (Crossfade overlap) cs child is = is
-needed_child (Buffer number) cs child is = is
-needed_child (Clock id) cs child is = is
+needed_child : (rests : Rests) (children : List ℕ) (child : ℕ) → needs_on rests children child ≡ true → some_child children child ≡ true
+needed_child (OnCases preds) cs child is = case_child preds cs child is
+needed_child OnLast cs child is = last_child cs child (last_of cs) refl is
+needed_child _ cs child is = is
 
 child_below : (n : ℕ) (children : List ℕ) (child : ℕ) → All (λ c. c < n) children → some_child children child ≡ true → child < n
 child_below n [] child each is = absurd cc
@@ -248,7 +218,7 @@ pub needed_below : (nodes : List Node) (n : ℕ) (node : Node) (child : ℕ) →
 needed_below nodes n node child well there is =
     let here : n < length nodes = slice_get_within nodes n node there in
     let front : length (take n nodes) ≡ n = length-take-le n nodes (omega arith) in
-    child_below n node.children child (All-weaker (λ c. c < length (take n nodes)) (λ c. c < n) (λ x h. omega arith) node.children (well n node there).children) (needed_child node.op node.children child is)
+    child_below n node.children child (All-weaker (λ c. c < length (take n nodes)) (λ c. c < n) (λ x h. omega arith) node.children (well n node there).children) (needed_child (rests_of node.op) node.children child is)
 
 if_only : (test : ℕ → Bool) (n : ℕ) (needed : Option ℕ) → ((child : ℕ) → test child ≡ true → child < n) → IsOnly test needed → IfSome needed (λ child. child < n)
 if_only test n (Some child) all only = all child only.0

@@ -4,9 +4,8 @@ use Rattle.std.specs.List.{list_any, zip}
 use Rattle.std.specs.Option.{option_map_or}
 use Rattle.plan_core.specs.declared.node.Node.{Node}
 use Rattle.plan_core.specs.declared.node.Op.{Op}
-use Rattle.plan_core.specs.declared.node.Op.TheVariants.{Switch, Sequence}
 use Rattle.time_pred.specs.Predicates.{Predicate, is_always}
-use Rattle.fallible_infer.specs.Infallible.{last_of}
+use Rattle.fallible_infer.specs.Infallible.{Rests, OnCases, OnLast, last_of, rests_of}
 
 abbrev pub is_child : (child other : ℕ) → Bool
 is_child child other = nat_eq other child
@@ -24,12 +23,17 @@ is_last children child = option_map_or (is_child child) (last_of children) false
 abbrev pub some_case : List Predicate → (children : List ℕ) → (child : ℕ) → Bool
 some_case preds children child = list_any (is_case child) (zip preds children)
 
--- whether a source that may offer nothing needs this child, so that it would always offer something if this child did:
--- a sequence needs its last one, a switch each whose predicate is always true, and any other each of its children
+-- whether a source that rests on this, and may offer nothing, needs this child, so that it would always offer something
+-- if this child did: where it rests on its last child, that one; where on its cases, each whose predicate is always
+-- true; and else each of its children
+abbrev pub needs_on : Rests → (children : List ℕ) → (child : ℕ) → Bool
+needs_on (OnCases preds) children child = some_case preds children child
+needs_on OnLast children child = is_last children child
+needs_on _ children child = some_child children child
+
+-- the same for a source of this operator
 abbrev pub needs : Op → (children : List ℕ) → (child : ℕ) → Bool
-needs (Switch sensitive preds) children child = some_case preds children child
-needs Sequence children child = is_last children child
-needs _ children child = some_child children child
+needs op children child = needs_on (rests_of op) children child
 
 -- no number but this one passes
 abbrev pub IsAlone : (ℕ → Bool) → ℕ → Type 0

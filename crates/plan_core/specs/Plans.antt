@@ -6,31 +6,28 @@ use Rattle.liq_base.specs.declared.memory.Kind.{Kind}
 use Rattle.liq_base.specs.declared.memory.Kind.TheVariants.{Mono, Stereo as Both}
 use Rattle.plan_core.specs.declared.node.Node.{Node}
 use Rattle.plan_core.specs.declared.node.Op.{Op}
-use Rattle.plan_core.specs.declared.node.Op.TheVariants.{Single, Playlist, Blank, Square, Fail, Fallback, Switch, Sequence, Rotate, Random, Add, Amplify, Mean, Stereo, Crossfade, Buffer, Clock}
+use Rattle.plan_core.specs.declared.node.Op.TheVariants.{Single, Playlist, Blank, Square, Fail, Switch, Amplify, Mean, Stereo, Crossfade, Buffer, Clock}
 use Rattle.plan_core.specs.declared.plan.Plan.{Plan}
 use Rattle.plan_core.specs.declared.sink.BufferPlan.{BufferPlan}
 use Rattle.plan_core.specs.declared.sink.SinkPlan.{SinkPlan}
 use Rattle.plan_core.specs.declared.sink.SinkPlan.TheVariants.{Output, Feed}
 
--- how many children a node of this operator has: a leaf none, a switch one for each predicate
+-- how many children a node of this operator has: a leaf and a reader none, a switch one for each predicate, what changes
+-- a child or gives it a clock one, and any other as many as there are
 abbrev pub HasChildren : Op → ℕ → Type 0
 HasChildren (Single file) n = n ≡ 0
 HasChildren (Playlist file again) n = n ≡ 0
 HasChildren (Blank track) n = n ≡ 0
 HasChildren (Square pitch) n = n ≡ 0
 HasChildren Fail n = n ≡ 0
-HasChildren (Fallback sensitive) n = ⊤
+HasChildren (Buffer number) n = n ≡ 0
 HasChildren (Switch sensitive preds) n = n ≡ length preds
-HasChildren Sequence n = ⊤
-HasChildren Rotate n = ⊤
-HasChildren (Random seed) n = ⊤
-HasChildren (Add normalize) n = ⊤
 HasChildren (Amplify factor) n = n ≡ 1
 HasChildren Mean n = n ≡ 1
 HasChildren Stereo n = n ≡ 1
 HasChildren (Crossfade overlap) n = n ≡ 1
-HasChildren (Buffer number) n = n ≡ 0
 HasChildren (Clock id) n = n ≡ 1
+HasChildren _ n = ⊤
 
 -- the kind of a node of this operator, over children of a kind: the children's, but a mean is mono over stereo, and a
 -- stereo is stereo over mono

@@ -2,23 +2,22 @@
 use Rattle.std.proofs.Common.{◌≡◌, ◌<◌, ◌≤◌, ◌⊎◌, ◌∙◌, ◌+◌, ◌*◌, ◌++◌, ℕ, zero, suc, Bool, true, false, Some, List, [], ◌∷◌, length, map, slice_get, flat_map, get_or, inl, inr, refl, ap, sym, subst, arith, suc-mul, mul-le-mul_right}
 use Rattle.std.specs.Prelude.{⊤}
 use Rattle.std.specs.List.{range_with_len}
-use Rattle.plan_core.specs.declared.node.Op.{Op}
-use Rattle.plan_core.specs.declared.node.Op.TheVariants.{Single, Playlist, Blank, Square, Fail, Fallback, Switch, Sequence, Rotate, Random, Add, Amplify, Mean, Stereo, Crossfade, Buffer, Clock}
 use Rattle.plan_core.specs.declared.sink.SinkPlan.{SinkPlan}
 use Rattle.plan_core.specs.declared.sink.SinkPlan.TheVariants.{Output, Feed}
-use Rattle.liq_base.specs.declared.memory.Kind.{Kind}
 use Rattle.clock_infer.specs.declared.clock_map.ClockMap.{ClockMap}
 use Rattle.clock_infer.specs.declared.clock_map.NodeClock.{NodeClock}
 use Rattle.clock_infer.specs.declared.clock_map.NodeClock.TheVariants.{Main}
 use Rattle.clock_infer.proofs.MapLaws.{ranks}
 use Rattle.frame_core.specs.declared.cell.Cell.{Cell}
 use Rattle.frame_core.specs.Calls.{Call, Given, Answer}
-use Rattle.stream_meaning.specs.Operators.{Reads, work_of}
+use Rattle.stream_meaning.specs.Operators.{Reads}
 use Rattle.stream_meaning.specs.Arithmetic.{cells_of}
 use Rattle.stream_meaning.specs.Instants.{Setting, Moment, answered, clock_of, lies_in, offer, moment_after, first_instants, sub_of, stream_of}
 use Rattle.stream_meaning.specs.Sinks.{slot_block, kind_of, tick_slots, ticks_bytes, feed_cells, gaps, missing}
 use Rattle.stream_meaning.specs.Calls.{joined_upto, calls_of, given, give_by, gives_of_tick, takes_of_tick, calls_of_tick}
 use Rattle.stream_meaning.specs.Settings.{IsSetting}
+use Rattle.stream_meaning.proofs.Sorted.{op_of_reads}
+pub use Rattle.stream_meaning.proofs.Sorted.{reads_op}
 use Rattle.stream_meaning.proofs.Ranks.{AreNested}
 use Rattle.stream_meaning.proofs.Existence.{meaning, are_nested, same_clock-true}
 use Rattle.run_records.specs.Parting.{Goes}
@@ -26,26 +25,6 @@ use Rattle.run_records.specs.Alike.{IsAt, AreAlike, IsTickAlike}
 use Rattle.run_records.proofs.Parting.{goes_by, goes_then, goes_equal}
 use Rattle.run_records.proofs.Deciding.{same_bool}
 use Rattle.run_records.proofs.Instantly.{HasRank, alike_before, alike_first, instant}
-
--- a node that reads is a reader
-pub reads_op : (rate i : ℕ) (kind : Kind) (op : Op) (buffer : ℕ) → work_of rate i kind op ≡ Reads buffer → op ≡ Buffer buffer
-reads_op rate i kind (Single file) buffer e = absurd cc
-reads_op rate i kind (Playlist file again) buffer e = absurd cc
-reads_op rate i kind (Blank track) buffer e = absurd cc
-reads_op rate i kind (Square pitch) buffer e = absurd cc
-reads_op rate i kind Fail buffer e = absurd cc
-reads_op rate i kind (Fallback sensitive) buffer e = absurd cc
-reads_op rate i kind (Switch sensitive preds) buffer e = absurd cc
-reads_op rate i kind Sequence buffer e = absurd cc
-reads_op rate i kind Rotate buffer e = absurd cc
-reads_op rate i kind (Random seed) buffer e = absurd cc
-reads_op rate i kind (Add normalize) buffer e = absurd cc
-reads_op rate i kind (Amplify factor) buffer e = absurd cc
-reads_op rate i kind Mean buffer e = absurd cc
-reads_op rate i kind Stereo buffer e = absurd cc
-reads_op rate i kind (Crossfade overlap) buffer e = absurd cc
-reads_op rate i kind (Buffer other) buffer e = let same : other ≡ buffer = cc in ap Buffer same
-reads_op rate i kind (Clock id) buffer e = absurd cc
 
 map_same : {A : Type 0} (f g : ℕ → A) (from count : ℕ) → ((n : ℕ) → from ≤ n → n < from + count → f n ≡ g n) → map f (range_with_len from count) ≡ map g (range_with_len from count)
 map_same f g from zero same = refl
@@ -79,7 +58,7 @@ module _ (base : Setting) (clocks : ClockMap) (is : IsSetting base clocks) where
   is_answered answers = record { plan = is.plan; map = is.map; each = is.each; library = is.library; leaves = is.leaves; singles = is.singles; start = is.start }
 
   pub known_reads : (clock : NodeClock) (i buffer : ℕ) → IsAt base clock i (Reads buffer) → buffer < length base.plan.buffers
-  known_reads clock i buffer at = is.plan.read buffer i (at.node, at.found, reads_op base.plan.rate i at.node.kind at.node.op buffer at.does)
+  known_reads clock i buffer at = is.plan.read buffer i (at.node, at.found, op_of_reads base i buffer at.node at.does)
 
   module _ (one other : ℕ → List Answer) where
     -- before the first tick

@@ -1,3 +1,4 @@
+pub mod Sorted
 pub mod Answering
 pub mod Unbuffered
 pub mod Ranks
