@@ -1,6 +1,7 @@
 -- Parts of a line, appended one by one.
-use Rattle.std.proofs.Common.{append_assoc, map, ◌≤◌, ◌+◌, append-nil, add-one, take, ◌≡◌, ℕ, ◌++◌, ◌<◌, ◌*◌, ◌/◌, ◌%◌, zero, suc, List, [], ◌∷◌, Bool, length, arith, refl, sym}
+use Rattle.std.proofs.Common.{append_assoc, map, ◌≤◌, ◌+◌, append-nil, add-one, take, drop, ◌≡◌, ℕ, ◌++◌, ap, ◌∙◌, ◌<◌, ◌*◌, ◌/◌, ◌%◌, zero, suc, List, [], ◌∷◌, Bool, length, arith, refl, sym}
 use Rattle.std.proofs.Math.Seq.{take-append_seam}
+use Rattle.std.proofs.lemmas.List.{take-append-drop}
 use Rattle.std.proofs.Math.Nat.{div-lt_iff_lt-mul}
 use Rattle.trace_log.specs.Texts.{header, letter, letters, lines_below, place_line, places_of, trace_text}
 use Rattle.buffer_ends.specs.Local.{Answers}
@@ -55,3 +56,10 @@ lines_all t o i k e p = rw (sym e) p
 
 pub kept_by : (a x i : List ℕ) → i ≡ a ++ x → take (length a) i ≡ a
 kept_by a x i e = rw e (take-append_seam a x)
+
+-- a front that is kept twice is kept
+pub kept_on : (a b i : List ℕ) → take (length a) b ≡ a → take (length b) i ≡ b → take (length a) i ≡ a
+kept_on a b i p q =
+    let first : b ≡ a ++ drop (length a) b = sym (take-append-drop (length a) b) ∙ ap (λ (t : List ℕ). t ++ drop (length a) b) p in
+    let second : i ≡ b ++ drop (length b) i = sym (take-append-drop (length b) i) ∙ ap (λ (t : List ℕ). t ++ drop (length b) i) q in
+    kept_by a (drop (length a) b ++ drop (length b) i) i (second ∙ ap (λ (t : List ℕ). t ++ drop (length b) i) first ∙ append_assoc a (drop (length a) b) (drop (length b) i))

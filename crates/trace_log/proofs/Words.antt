@@ -32,10 +32,9 @@ pub line_parts : (j i : ℕ) (log : Answers) (f : List ℕ) → line j i log ++ 
 unfolding line
 line_parts j i log f = parts_of_line (codes "window ") (decimal j) (codes " buffer ") (decimal i) (codes " puts ") (letters 65 70 log.puts) (codes " takes ") (letters 71 69 log.takes) (codes "\n") f
 
-pub line_joins : (j i : ℕ) (log : Answers) (text r1 r2 r3 r4 r5 r6 r7 f : List ℕ) → text ≡ codes "window " ++ r1 → r1 ≡ decimal j ++ 32 ∷ r2 → r2 ≡ codes "buffer " ++ r3 → r3 ≡ decimal i ++ 32 ∷ r4
-    → r4 ≡ codes "puts " ++ r5 → r5 ≡ letters 65 70 log.puts ++ 32 ∷ r6 → r6 ≡ codes "takes " ++ r7 → r7 ≡ letters 71 69 log.takes ++ 10 ∷ f → text ≡ line j i log ++ f
-line_joins j i log text r1 r2 r3 r4 r5 r6 r7 f a b c d e g h k =
-    let last : r6 ≡ codes "takes " ++ (letters 71 69 log.takes ++ 10 ∷ f) = h ∙ ap (λ (t : List ℕ). codes "takes " ++ t) k in
-    let puts : r4 ≡ codes "puts " ++ (letters 65 70 log.puts ++ 32 ∷ (codes "takes " ++ (letters 71 69 log.takes ++ 10 ∷ f))) = e ∙ ap (λ (t : List ℕ). codes "puts " ++ t) (g ∙ ap (λ (t : List ℕ). letters 65 70 log.puts ++ 32 ∷ t) last) in
-    let buffer : r2 ≡ codes "buffer " ++ (decimal i ++ 32 ∷ (codes "puts " ++ (letters 65 70 log.puts ++ 32 ∷ (codes "takes " ++ (letters 71 69 log.takes ++ 10 ∷ f))))) = c ∙ ap (λ (t : List ℕ). codes "buffer " ++ t) (d ∙ ap (λ (t : List ℕ). decimal i ++ 32 ∷ t) puts) in
-    a ∙ ap (λ (t : List ℕ). codes "window " ++ t) (b ∙ ap (λ (t : List ℕ). decimal j ++ 32 ∷ t) buffer) ∙ sym (line_parts j i log f)
+pub line_joins : (j i : ℕ) (log : Answers) (text r1 r2 r3 f : List ℕ) → text ≡ codes "window " ++ (decimal j ++ 32 ∷ r1) → r1 ≡ codes "buffer " ++ (decimal i ++ 32 ∷ r2)
+    → r2 ≡ codes "puts " ++ (letters 65 70 log.puts ++ 32 ∷ r3) → r3 ≡ codes "takes " ++ (letters 71 69 log.takes ++ 10 ∷ f) → text ≡ line j i log ++ f
+line_joins j i log text r1 r2 r3 f a b c d =
+    let puts : r2 ≡ codes "puts " ++ (letters 65 70 log.puts ++ 32 ∷ (codes "takes " ++ (letters 71 69 log.takes ++ 10 ∷ f))) = c ∙ ap (λ (t : List ℕ). codes "puts " ++ (letters 65 70 log.puts ++ 32 ∷ t)) d in
+    let buffer : r1 ≡ codes "buffer " ++ (decimal i ++ 32 ∷ (codes "puts " ++ (letters 65 70 log.puts ++ 32 ∷ (codes "takes " ++ (letters 71 69 log.takes ++ 10 ∷ f))))) = b ∙ ap (λ (t : List ℕ). codes "buffer " ++ (decimal i ++ 32 ∷ t)) puts in
+    a ∙ ap (λ (t : List ℕ). codes "window " ++ (decimal j ++ 32 ∷ t)) buffer ∙ sym (line_parts j i log f)

@@ -32,18 +32,25 @@ pub(crate) fn cut_line(text: &[u8], window: u64, buffer: u64) -> Option<(&[u8], 
         → IsSomeAnd result (λ p. (p.0.now ≡ letters 65 70 log.puts) × (p.1.now ≡ letters 71 69 log.takes)
         × (p.2.now ≡ f)) }
 {
-    let in_window = cut_word(text, b"window ")?;
-    let (found_window, behind_window) = cut_number(in_window, b' ')?;
-    let in_buffer = cut_word(behind_window, b"buffer ")?;
-    let (found_buffer, behind_buffer) = cut_number(in_buffer, b' ')?;
-    if found_window != window || found_buffer != buffer {
+    let behind_window = cut_counted(text, b"window ", window)?;
+    let behind_place = cut_counted(behind_window, b"buffer ", buffer)?;
+    let (puts, behind_puts) = cut_letters(behind_place, b"puts ", b' ', b'A', b'F')?;
+    let (takes, rest) = cut_letters(behind_puts, b"takes ", b'\n', b'G', b'E')?;
+    Some((puts, takes, rest))
+}
+
+// What stands behind a word, this number and a space.
+fn cut_counted<'a>(text: &'a [u8], word: &[u8], number: u64) -> Option<&'a [u8]>
+    ensures found { IfSome result (λ r. text.now ≡ word.now ++ (decimal number ++ 32 ∷ r.now)) }
+    ensures only { (f : List ℕ) → text.now ≡ word.now ++ (decimal number ++ 32 ∷ f)
+        → IsSomeAnd result (λ r. r.now ≡ f) }
+{
+    let behind = cut_word(text, word)?;
+    let (found, rest) = cut_number(behind, b' ')?;
+    if found != number {
         return None;
     }
-    let in_puts = cut_word(behind_buffer, b"puts ")?;
-    let (puts, behind_puts) = cut_letters(in_puts, b' ', b'A', b'F')?;
-    let in_takes = cut_word(behind_puts, b"takes ")?;
-    let (takes, rest) = cut_letters(in_takes, b'\n', b'G', b'E')?;
-    Some((puts, takes, rest))
+    Some(rest)
 }
 
 // Where a byte first stands.
@@ -101,17 +108,24 @@ fn all_letters(text: &[u8], one: u8, other: u8) -> bool
     text.iter().all(|b| *b == one || *b == other)
 }
 
-// The letters of answers before such a byte, and what stands behind it.
-fn cut_letters(text: &[u8], stop: u8, one: u8, other: u8) -> Option<(&[u8], &[u8])>
+// The letters of answers between a word and such a byte, and what stands behind it.
+fn cut_letters<'a>(
+    text: &'a [u8],
+    word: &[u8],
+    stop: u8,
+    one: u8,
+    other: u8,
+) -> Option<(&'a [u8], &'a [u8])>
     requires one { one ≢ stop }
     requires other { other ≢ stop }
     requires none { 45 ≢ stop }
     ensures found { IfSome result (λ p. (answers : List Bool) × (p.0.now ≡ letters one other answers)
-        × (text.now ≡ p.0.now ++ stop ∷ p.1.now)) }
-    ensures only { (answers : List Bool) (f : List ℕ) → text.now ≡ letters one other answers ++ stop ∷ f
+        × (text.now ≡ word.now ++ (p.0.now ++ stop ∷ p.1.now))) }
+    ensures only { (answers : List Bool) (f : List ℕ) → text.now ≡ word.now ++ (letters one other answers ++ stop ∷ f)
         → IsSomeAnd result (λ p. (p.0.now ≡ letters one other answers) × (p.1.now ≡ f)) }
 {
-    let (front, rest) = cut_at(text, stop)?;
+    let behind = cut_word(text, word)?;
+    let (front, rest) = cut_at(behind, stop)?;
     if !are_letters(front, one, other) {
         return None;
     }

@@ -30,7 +30,6 @@ pub fn read(alloc: Global, text: &[u8]) -> Result<Trace, TraceFault>
 }
 
 // The trace of a text that has the form.
-#[tactic(auto, using(crate::proofs::Whole::places_fit, crate::proofs::Whole::lines_behind))]
 fn read_whole(alloc: Global, text: &[u8]) -> Result<Trace, Memory>
     requires { IsText text.now }
     ensures { IfOk result (λ t. IsTrace t × (text.now ≡ trace_text t)) }
