@@ -9,10 +9,8 @@ use Rattle.std.proofs.lemmas.Simd.{length-put_chunk}
 use Rattle.std.proofs.Math.Nat.{mul-le-mul_right, suc-mul}
 use Rattle.liq_base.specs.declared.memory.Kind.{Kind}
 use Rattle.liq_base.specs.declared.memory.Kind.TheVariants.{Mono, Stereo}
-use Rattle.plan_core.specs.declared.plan.Plan.{Plan}
 use Rattle.clock_infer.specs.declared.clock_map.NodeClock.{NodeClock}
 use Rattle.frame_core.specs.Slots.{Slot}
-use Rattle.frame_core.specs.Library.{Sounds}
 use Rattle.frame_core.specs.Calls.{Call, Answer}
 use Rattle.stream_meaning.specs.Instants.{Setting, first_instants, part_at}
 use Rattle.stream_meaning.specs.Calls.{HasAnswers, IsBegin, after_calls, calls_of, joined_upto}
@@ -23,7 +21,8 @@ use Rattle.clock_outputs.specs.declared.feed.FeedPort.{FeedPort}
 use Rattle.clock_outputs.specs.Feeds.{with_slots_from}
 use Rattle.clock_outputs.proofs.Gives.{adds_more, adds_nothing}
 use Rattle.clock_outputs.specs.Ports.{AllHaveRoomLeft, HasRoomLeft, after_slot, after_slots, emptied}
-use Rattle.clock_nodes.specs.States.{over}
+use Rattle.clock_nodes.specs.declared.scene.Scene.{Scene}
+use Rattle.clock_nodes.specs.Scenes.{setting_over}
 use Rattle.nested_instants.specs.declared.clock_states.ClockStates.{ClockStates}
 use Rattle.clock_ticks.specs.declared.clock_state.ClockState.{ClockState}
 use Rattle.clock_ticks.specs.Standing.{ClockStateStands}
@@ -32,7 +31,7 @@ use Rattle.clock_ticks.specs.declared.cues.Cues.{Cues}
 use Rattle.clock_ticks.specs.Cues.{HasGrown, HasKept, HasMarked, marks_if}
 use Rattle.clock_ticks.proofs.Cueing.{marked_more, marked_some, marks_more, marks_none}
 use Rattle.clock_ticks.proofs.Numbered.{got_mapped}
-use Rattle.clock_ticks.specs.Hearings.{HasMadeInstants, Heard, HeardSome, IsMeant, Hearing, SegmentBroken, SegmentMade, calls_from, feed_key, segment_of, slot_in, tapped, with_slots}
+use Rattle.clock_ticks.specs.Hearings.{HasMadeInstants, Heard, HeardSome, IsMeant, Hearing, SegmentBroken, SegmentMade, calls_from, feed_key, outcome, segment_of, slot_in, tapped, with_slots}
 
 pub after_slots-append : (port : Port) (slots more : List Slot) → after_slots port (slots ++ more) ≡ after_slots (after_slots port slots) more
 after_slots-append port [] more = refl
@@ -204,11 +203,11 @@ begin_upto calls i n low = elim (cases_lt i n) [
   | inr high ↦ (let same : i ≡ n = omega (arith, low, high) in subst (λ m. IsBegin (joined_upto calls i) (joined_upto calls m)) same (begin_all (joined_upto calls i)))
 ]
 
-module _ {T : Type 0} (stands : T → List Call → Type 0) (plan : Plan) (library : Sounds) (clocks : List NodeClock) (clock : NodeClock) (own : List Bool) where
+module _ {T : Type 0} (stands : T → List Call → Type 0) (scene : Scene) (clock : NodeClock) (own : List Bool) where
   pub heard_none : (state : ClockState) (first now : List Port) (feeds : List FeedPort) (cues begun : Cues) (start : ℕ) (a : T) → now ≡ map emptied first
       → begun.keeping ≡ cues.keeping → length begun.lists.items ≡ length cues.lists.items
       → ((k : ℕ) (old new : CueList) → slice_get cues.lists.items k ≡ Some old → slice_get begun.lists.items k ≡ Some new → HasMarked [] old new)
-      → Heard stands plan library clocks clock own 0 (record { state = state; ports = first; feeds = feeds; cues = cues; start = start; taps = a })
+      → Heard stands scene clock own 0 (record { state = state; ports = first; feeds = feeds; cues = cues; start = start; taps = a })
       (record { state = state; ports = now; feeds = feeds; cues = begun; start = start; taps = a })
   heard_none state first now feeds cues begun start a is keeping lists marked = record {
     slots = λ i. [];
@@ -221,25 +220,25 @@ module _ {T : Type 0} (stands : T → List Call → Type 0) (plan : Plan) (libra
     more = [];
     taps = adds_nothing stands a;
     run = λ other sub n front meant has stand. record {
-      state_stands = (let same : n ≡ n + 0 = omega arith in subst (λ m. ClockStateStands (over plan library clocks other) sub clock m (after_calls front []) state) same
-          (subst (λ (f : ℕ → List Answer). ClockStateStands (over plan library clocks other) sub clock n f state) (sym (after_calls-none front)) stand));
+      state_stands = (let same : n ≡ n + 0 = omega arith in subst (λ m. ClockStateStands (setting_over scene other) sub clock m (after_calls front []) state) same
+          (subst (λ (f : ℕ → List Answer). ClockStateStands (setting_over scene other) sub clock n f state) (sym (after_calls-none front)) stand));
       slots_are = λ i marked. refl;
       calls = refl;
     };
   }
 
   -- a segment more
-  module _ (count many upto : ℕ) (before mid after : Hearing T) (sum : upto ≡ count + suc many) (one : SegmentMade stands plan library clocks clock own many (tapped mid.state mid.taps) (tapped after.state after.taps))
+  module _ (count many upto : ℕ) (before mid after : Hearing T) (sum : upto ≡ count + suc many) (one : SegmentMade stands scene clock own many (tapped mid.state mid.taps) (tapped after.state after.taps))
       (is : after.ports ≡ map (λ port. after_slots port (segment_of after.state.clocks many port.node)) mid.ports)
-      (heard : Heard stands plan library clocks clock own count before mid) where
+      (heard : Heard stands scene clock own count before mid) where
     ports_now : after.ports ≡ map (λ port. after_slots (emptied port) (more_slots heard.slots after.state.clocks many port.node)) before.ports
     ports_now = is ∙ ap (map (λ port. after_slots port (segment_of after.state.clocks many port.node))) heard.ports_are ∙ heard_all heard.slots after.state.clocks many before.ports
 
-    run_now : (other : Setting) (sub : ℕ → ℕ → List Slot) (n : ℕ) (front : ℕ → List Answer) → IsMeant (over plan library clocks other) sub own
-        → HasAnswers (over plan library clocks other) (after_calls front (heard.more ++ one.more)) → ClockStateStands (over plan library clocks other) sub clock n front before.state
-        → HasMadeInstants (over plan library clocks other) sub own clock n upto (more_slots heard.slots after.state.clocks many) front (heard.more ++ one.more) after.state
+    run_now : (other : Setting) (sub : ℕ → ℕ → List Slot) (n : ℕ) (front : ℕ → List Answer) → IsMeant (setting_over scene other) sub own
+        → HasAnswers (setting_over scene other) (after_calls front (heard.more ++ one.more)) → ClockStateStands (setting_over scene other) sub clock n front before.state
+        → HasMadeInstants (setting_over scene other) sub own clock n upto front (outcome (more_slots heard.slots after.state.clocks many) (heard.more ++ one.more) after.state)
     run_now other sub n front meant has stand =
-        let S = over plan library clocks other in
+        let S = setting_over scene other in
         let ran = heard.run other sub n front meant (answers_first S front heard.more one.more has) stand in
         let done = one.run other sub (n + count) (after_calls front heard.more) meant (answers_then S front heard.more one.more has) ran.state_stands in
         let same : n + count + suc many ≡ n + upto = omega (arith, sum) in
@@ -270,7 +269,7 @@ module _ {T : Type 0} (stands : T → List Call → Type 0) (plan : Plan) (libra
         → after.cues.keeping ≡ mid.cues.keeping → length after.cues.lists.items ≡ length mid.cues.lists.items
         → ((k : ℕ) (port : Port) (old new : CueList) → slice_get after.ports k ≡ Some port → slice_get mid.cues.lists.items k ≡ Some old → slice_get after.cues.lists.items k ≡ Some new
         → HasKept (marks_if mid.cues.keeping (before.start + count) ((part_at after.state.clocks.latest.parts.items port.node).slot ∷ [])) old new)
-        → Heard stands plan library clocks clock own upto before after
+        → Heard stands scene clock own upto before after
     heard_more filled size low keeping lists kept = record {
       slots = more_slots heard.slots after.state.clocks many;
       long = λ i. (let both = length-append (heard.slots i) (segment_of after.state.clocks many i) in let first = heard.long i in let last = size i in omega (arith, both, first, last, sum));
@@ -300,7 +299,7 @@ module _ {T : Type 0} (stands : T → List Call → Type 0) (plan : Plan) (libra
     pub heard_part : (total : ℕ) → upto ≤ total → after.cues.keeping ≡ mid.cues.keeping → length after.cues.lists.items ≡ length mid.cues.lists.items
         → ((k : ℕ) (old new : CueList) → slice_get mid.cues.lists.items k ≡ Some old → slice_get after.cues.lists.items k ≡ Some new → HasGrown old new)
         → (ports : (k : ℕ) (old : CueList) → slice_get before.cues.lists.items k ≡ Some old → (port : Port) × (slice_get before.ports k ≡ Some port))
-        → HeardSome stands plan library clocks clock own total before after
+        → HeardSome stands scene clock own total before after
     heard_part total low keeping lists grown ports = record {
       slots = more_slots heard.slots after.state.clocks many;
       ports_are = ports_now;
@@ -313,15 +312,15 @@ module _ {T : Type 0} (stands : T → List Call → Type 0) (plan : Plan) (libra
       made = heard.more ++ one.more;
       taps = adds_more stands before.taps mid.taps after.taps heard.more one.more heard.taps one.taps;
       begins = λ other sub n front meant has stand.
-          let S = over plan library clocks other in
+          let S = setting_over scene other in
           subst (λ (cs : List Call). IsBegin cs (calls_from S sub clock n total)) (sym (run_now other sub n front meant has stand).calls)
           (begin_upto (λ j. calls_of S sub clock (first_instants S sub clock (n + j))) upto total low);
     }
 
-  pub heard_broken : (count total : ℕ) (before mid after : Hearing T) → count < total → SegmentBroken stands plan library clocks clock own mid.state mid.taps after.taps → after.ports ≡ mid.ports
+  pub heard_broken : (count total : ℕ) (before mid after : Hearing T) → count < total → SegmentBroken stands scene clock own mid.state mid.taps after.taps → after.ports ≡ mid.ports
       → after.cues ≡ mid.cues
       → ((k : ℕ) (old : CueList) → slice_get before.cues.lists.items k ≡ Some old → (port : Port) × (slice_get before.ports k ≡ Some port))
-      → Heard stands plan library clocks clock own count before mid → HeardSome stands plan library clocks clock own total before after
+      → Heard stands scene clock own count before mid → HeardSome stands scene clock own total before after
   heard_broken count total before mid after low one same same_cues ports heard = record {
     slots = heard.slots;
     ports_are = same ∙ heard.ports_are;
@@ -333,7 +332,7 @@ module _ {T : Type 0} (stands : T → List Call → Type 0) (plan : Plan) (libra
     made = heard.more ++ one.made;
     taps = adds_more stands before.taps mid.taps after.taps heard.more one.made heard.taps one.taps;
     begins = λ other sub n front meant has stand.
-        let S = over plan library clocks other in
+        let S = setting_over scene other in
         let ran = heard.run other sub n front meant (answers_first S front heard.more one.made has) stand in
         subst (λ (cs : List Call). IsBegin (cs ++ one.made) (calls_from S sub clock n total)) (sym ran.calls)
         (begin_joined (λ j. calls_of S sub clock (first_instants S sub clock (n + j))) count total one.made low

@@ -22,7 +22,7 @@ use Rattle.clock_outputs.specs.Feeds.{HaveGiven, HaveGivenSome, HaveOwnBuffers, 
 use Rattle.clock_outputs.specs.Ports.{after_slots, emptied}
 use Rattle.clock_outputs.specs.Appends.{BrokeAt, HaveRoom, TookAll}
 use Rattle.clock_ticks.specs.Standing.{IsClockState, ClockStateStands}
-use Rattle.clock_ticks.specs.Hearings.{HasMadeInstants, Heard, HeardSome, IsMeant, with_slots}
+use Rattle.clock_ticks.specs.Hearings.{HasMadeInstants, Heard, HeardSome, IsMeant, outcome, with_slots}
 use Rattle.clock_ticks.specs.declared.cues.CueList.{CueList}
 use Rattle.clock_ticks.specs.Cues.{mark_of, marks_if, marks_of}
 use Rattle.clock_ticks.proofs.Cueing.{AreHeld, its_port, taken_before, there_is}
@@ -64,7 +64,7 @@ not_false false none = absurd (none refl)
 
 -- what is left of the marks
 pub held_of_heard : {T : Type 0} (stands_for : T → List Call → Type 0) (parts other : EngineParts) (a b : T) → AreParts parts
-    → Heard stands_for parts.scene.plan.now parts.scene.library.now parts.scene.clocks.now (Main parts.clock) parts.own.items parts.scene.plan.now.frame (hearing_of parts a) (hearing_of other b)
+    → Heard stands_for parts.scene (Main parts.clock) parts.own.items parts.scene.plan.now.frame (hearing_of parts a) (hearing_of other b)
     → AreHeld parts.cues other.cues
 held_of_heard stands_for parts other a b fit heard = record {
   keeping = heard.keeping;
@@ -75,13 +75,13 @@ held_of_heard stands_for parts other a b fit heard = record {
 }
 
 pub held_of_some : {T : Type 0} (stands_for : T → List Call → Type 0) (parts other : EngineParts) (a b : T)
-    → HeardSome stands_for parts.scene.plan.now parts.scene.library.now parts.scene.clocks.now (Main parts.clock) parts.own.items parts.scene.plan.now.frame (hearing_of parts a) (hearing_of other b)
+    → HeardSome stands_for parts.scene (Main parts.clock) parts.own.items parts.scene.plan.now.frame (hearing_of parts a) (hearing_of other b)
     → AreHeld parts.cues other.cues
 held_of_some stands_for parts other a b heard = record { keeping = heard.keeping; lists = heard.lists; some = heard.cues_are }
 
 -- an engine whose outputs heard some slots of their nodes
 module _ (parts other : EngineParts) (fit : AreParts parts)
-    (state_is : IsClockState parts.scene.plan.now parts.scene.library.now parts.scene.clocks.now other.state)
+    (state_is : IsClockState parts.scene other.state)
     (slots : ℕ → List Slot) (ports_are : other.ports.items ≡ map (λ port. after_slots (emptied port) (slots port.node)) parts.ports.items) where
   -- an output that has heard its node in the tick
   abbrev hear : Port → Port
@@ -292,13 +292,13 @@ meant_by parts fit answers rest =
     }
 
 module _ (parts other : EngineParts) (fit : AreParts parts) {T : Type 0} (stands_for : T → List Call → Type 0) (a b : T)
-    (heard : Heard stands_for parts.scene.plan.now parts.scene.library.now parts.scene.clocks.now (Main parts.clock) parts.own.items parts.scene.plan.now.frame (hearing_of parts a) (hearing_of other b))
+    (heard : Heard stands_for parts.scene (Main parts.clock) parts.own.items parts.scene.plan.now.frame (hearing_of parts a) (hearing_of other b))
     (t : ℕ) (answers : ℕ → List Answer) (stands : EngineStands parts t answers) (few : parts.ticks < 1000000000) where
   module _ (rest : ℕ → List Answer) (has : HasAnswers (with_rest (setting_of parts) answers rest) (after_calls answers heard.more)) where
     abbrev S : Setting
     S = with_rest (setting_of parts) answers rest
 
-    ran : HasMadeInstants S (sub_of S) parts.own.items (Main parts.clock) (t * parts.scene.plan.now.frame) parts.scene.plan.now.frame heard.slots answers heard.more other.state
+    ran : HasMadeInstants S (sub_of S) parts.own.items (Main parts.clock) (t * parts.scene.plan.now.frame) parts.scene.plan.now.frame answers (outcome heard.slots heard.more other.state)
     ran = heard.run S (sub_of S) (t * parts.scene.plan.now.frame) answers (meant_by parts fit answers rest) has (stands.state rest)
 
     slots_are : (i : ℕ) → clock_of S i ≡ Main parts.clock → get_or parts.own.items i false ≡ true → heard.slots i ≡ tick_slots S i t
@@ -508,7 +508,7 @@ module _ (parts other : EngineParts) (fit : AreParts parts) {T : Type 0} (stands
 
 -- memory was refused within the instants: no output has grown
 pub has_broken : (parts other : EngineParts) (fit : AreParts parts) {T : Type 0} (stands_for : T → List Call → Type 0) (a b : T)
-    (heard : HeardSome stands_for parts.scene.plan.now parts.scene.library.now parts.scene.clocks.now (Main parts.clock) parts.own.items parts.scene.plan.now.frame (hearing_of parts a) (hearing_of other b))
+    (heard : HeardSome stands_for parts.scene (Main parts.clock) parts.own.items parts.scene.plan.now.frame (hearing_of parts a) (hearing_of other b))
     (t : ℕ) (answers : ℕ → List Answer) → EngineStands parts t answers → {X : Type 0} (told : X → SinkTold) (outs : List X)
     → HasStopped (setting_of parts) parts.clock t answers heard.made (held_in told (outputs_of (setting_of parts) parts.clock) outs) (held_in told (outputs_of (setting_of parts) parts.clock) outs)
 has_broken parts other fit stands_for a b heard t answers stands told outs = record {

@@ -3,11 +3,9 @@ use Rattle.std.proofs.Common.{◌≡◌, ◌<◌, ◌+◌, ◌-◌, ◌∙◌, �
 use Rattle.std.specs.List.{range_with_len}
 use Rattle.std.proofs.lemmas.List.{length-map, length-replicate}
 use Rattle.std.proofs.lemmas.Simd.{length-zip2}
-use Rattle.plan_core.specs.declared.plan.Plan.{Plan}
 use Rattle.clock_infer.specs.declared.clock_map.NodeClock.{NodeClock}
 use Rattle.cell_ring.specs.Rings.{inner_cell, inner_cells}
 use Rattle.frame_core.specs.Slots.{Slot, title_of}
-use Rattle.frame_core.specs.Library.{Sounds}
 use Rattle.frame_core.specs.Calls.{Call}
 use Rattle.op_leaf.specs.Lanes.{AreTitled, IsLane}
 use Rattle.op_leaf.proofs.Laid.{lane_cells}
@@ -19,7 +17,8 @@ use Rattle.op_mix.specs.Stretches.{samples_of}
 use Rattle.op_mix.proofs.Heard.{samples_long}
 use Rattle.node_states.specs.Times.{TimeStands}
 use Rattle.clock_instants.specs.Held.{IsHeld}
-use Rattle.clock_nodes.specs.States.{over}
+use Rattle.clock_nodes.specs.declared.scene.Scene.{Scene}
+use Rattle.clock_nodes.specs.Scenes.{setting_over}
 use Rattle.nested_instants.specs.Clocks.{InstantMade, IsWorld}
 use Rattle.nested_instants.specs.Stretches.{StretchMade}
 use Rattle.nested_instants.specs.declared.clock_states.ClockStates.{ClockStates}
@@ -74,16 +73,16 @@ quiet_calls calls from n many next quiet =
     ∙ sym (joined_skip (λ j. calls (n + j)) 1 (suc many) (omega arith)
     (λ j up low. let there : n + j ≡ from + (j - 1) = omega (arith, next, up) in ap calls there ∙ quiet (j - 1) (omega (arith, up, low))))
 
-module _ {T : Type 0} (stands : T → List Call → Type 0) (plan : Plan) (library : Sounds) (clocks : List NodeClock) (clock : NodeClock) (own : List Bool) where
-  pub segment_made : (old new : ClockState) (mid : ClockStates) (a b : T) (many : ℕ) → InstantMade stands plan library clocks own clock old.time old.clocks mid a b
-      → StretchMade plan library clocks clock old.time many mid new.clocks → new.clocks.latest ≡ mid.latest
+module _ {T : Type 0} (stands : T → List Call → Type 0) (scene : Scene) (clock : NodeClock) (own : List Bool) where
+  pub segment_made : (old new : ClockState) (mid : ClockStates) (a b : T) (many : ℕ) → InstantMade stands scene own clock old.time old.clocks mid a b
+      → StretchMade scene clock old.time many mid new.clocks → new.clocks.latest ≡ mid.latest
       → ((start n : ℕ) → TimeStands start n old.time → TimeStands start (n + suc many) new.time)
-      → SegmentMade stands plan library clocks clock own many (tapped old a) (tapped new b)
+      → SegmentMade stands scene clock own many (tapped old a) (tapped new b)
   segment_made old new mid a b many one rest kept later = record {
     more = one.more;
     taps = one.taps;
     run = λ other sub n front meant has stand.
-        let S = over plan library clocks other in
+        let S = setting_over scene other in
         let world : IsWorld S sub stand.rank own = record { ranks = stand.ranks; meaning = meant.meaning; down = meant.down; readers = meant.readers; roots = meant.roots } in
         let made = one.made other sub stand.rank stand.ran stand.fed front world has stand.stand stand.needed (subst (λ m. TimeStands S.start m old.time) (sym stand.made) stand.time) in
         let next : made.ran_now clock ≡ suc n = made.once ∙ ap suc stand.made in

@@ -92,7 +92,7 @@ pub record AreParts (parts : EngineParts) : Type 0 where
   pub few : length parts.scene.plan.now.nodes ≤ MAX_NODES
   pub in_clocks : length parts.scene.clocks.now ≡ length parts.scene.plan.now.nodes
   pub clocks : AreClocksOf parts.scene.plan.now parts.scene.clocks.now
-  pub state : IsClockState parts.scene.plan.now parts.scene.library.now parts.scene.clocks.now parts.state
+  pub state : IsClockState parts.scene parts.state
   pub in_own : length parts.own.items ≡ length parts.scene.plan.now.nodes
   pub own : AreOwnRoots (setting_of parts) parts.own.items
   pub outputs : map output_of parts.ports.items ≡ outputs_of (setting_of parts) parts.clock

@@ -1,10 +1,8 @@
 -- What the outputs and feeds of a clock hear in a tick.
 use Rattle.std.specs.Prelude.{◌≡◌, ◌<◌, ◌^◌, ℕ, suc, ◌+◌, All, Bool, true, false, Some, List, ◌++◌, drop, length, map, slice_get, slice_index_or}
 use Rattle.std.specs.List.{range_with_len}
-use Rattle.plan_core.specs.declared.plan.Plan.{Plan}
 use Rattle.clock_infer.specs.declared.clock_map.NodeClock.{NodeClock}
 use Rattle.frame_core.specs.Slots.{Slot}
-use Rattle.frame_core.specs.Library.{Sounds}
 use Rattle.frame_core.specs.Calls.{Adds, Call, Answer}
 use Rattle.stream_meaning.specs.Instants.{Setting, IsMeaning, first_instants, moment_after, offer, part_at}
 use Rattle.stream_meaning.specs.Calls.{GoDown, HasAnswers, IsBegin, after_calls, calls_of, joined_upto}
@@ -13,7 +11,7 @@ use Rattle.clock_outputs.specs.declared.feed.FeedPort.{FeedPort}
 use Rattle.clock_outputs.specs.Ports.{AllHaveRoomLeft, after_slots, emptied}
 use Rattle.clock_outputs.specs.Segments.{segment_slots}
 use Rattle.clock_nodes.specs.declared.scene.Scene.{Scene}
-use Rattle.clock_nodes.specs.States.{over}
+use Rattle.clock_nodes.specs.Scenes.{setting_over}
 use Rattle.clock_instants.specs.Takes.{HasOwnReaders}
 use Rattle.op_mix.specs.Stretches.{samples_of}
 use Rattle.nested_instants.specs.Clocks.{AreOwnRoots}
@@ -52,15 +50,25 @@ with_slots feed slots = record {
   frame = slots ++ drop (length slots) feed.frame;
 }
 
--- what the states stand for after so many instants more, where these were the calls, and the slots of the nodes that
--- their own clock demands of itself
+-- what some instants of a clock came to: the slots of its nodes, the calls, and the states after them
+pub record Outcome : Type 0 where
+  pub slots : ℕ → List Slot
+  pub calls : List Call
+  pub state : ClockState
+
+-- such an outcome
+abbrev pub outcome : (ℕ → List Slot) → List Call → ClockState → Outcome
+outcome slots calls state = record { slots = slots; calls = calls; state = state }
+
+-- so many instants more came to this: the states stand for them too, and the slots of the nodes that their own clock
+-- demands of itself, and the calls, are theirs
 pub record HasMadeInstants (setting : Setting) (sub : ℕ → ℕ
-    → List Slot) (own : List Bool) (clock : NodeClock) (n count : ℕ) (slots : ℕ → List Slot) (front : ℕ → List Answer)
-    (more : List Call) (state : ClockState) : Type 0 where
-  pub state_stands : ClockStateStands setting sub clock (n + count) (after_calls front more) state
+    → List Slot) (own : List Bool) (clock : NodeClock) (n count : ℕ) (front : ℕ → List Answer)
+    (made : Outcome) : Type 0 where
+  pub state_stands : ClockStateStands setting sub clock (n + count) (after_calls front made.calls) made.state
   pub slots_are : (i : ℕ) → slice_index_or own i false ≡ true
-      → slots i ≡ map (slot_in setting sub clock i) (range_with_len n count)
-  pub calls : more ≡ calls_from setting sub clock n count
+      → made.slots i ≡ map (slot_in setting sub clock i) (range_with_len n count)
+  pub calls : made.calls ≡ calls_from setting sub clock n count
 
 -- the states, the outputs, the feeds and the marks of a clock, the first instant of the tick, and its taps
 pub record Hearing (T : Type 0) : Type 0 where
@@ -95,8 +103,7 @@ pub record CanHear (scene : Scene) (ports : List Port) (feeds : List FeedPort) (
 -- so many instants of a tick were made, by these calls, and the outputs, feeds and marks have heard the slots of their
 -- nodes; whatever instants the states stood for, these are the next ones
 pub record Heard {T : Type 0} (stands : T → List Call
-    → Type 0) (plan : Plan) (library : Sounds) (clocks : List NodeClock) (clock : NodeClock) (own : List Bool)
-    (count : ℕ)
+    → Type 0) (scene : Scene) (clock : NodeClock) (own : List Bool) (count : ℕ)
     (before after : Hearing T) : Type 0 where
   pub slots : ℕ → List Slot
   pub long : (i : ℕ) → length (slots i) ≡ count
@@ -111,21 +118,14 @@ pub record Heard {T : Type 0} (stands : T → List Call
   pub more : List Call
   pub taps : Adds stands before.taps after.taps more
   pub run : (other : Setting) (sub : ℕ → ℕ → List Slot) (n : ℕ) (front : ℕ → List Answer)
-      → IsMeant (over plan library clocks other) sub own
-      → HasAnswers (over plan library clocks other) (after_calls front more)
-      → ClockStateStands (over plan library clocks other) sub clock n front before.state
-      → HasMadeInstants (over plan library clocks other) sub own clock n count slots front more after.state
-
--- the same over a scene
-abbrev pub HeardOver : {T : Type 0} → (T → List Call → Type 0) → Scene → NodeClock → List Bool → (count : ℕ)
-    → (before after : Hearing T) → Type 0
-HeardOver stands scene clock own count before after = Heard stands scene.plan.now scene.library.now scene.clocks.now
-    clock own count before after
+      → IsMeant (setting_over scene other) sub own
+      → HasAnswers (setting_over scene other) (after_calls front more)
+      → ClockStateStands (setting_over scene other) sub clock n front before.state
+      → HasMadeInstants (setting_over scene other) sub own clock n count front (outcome slots more after.state)
 
 -- memory was refused within a tick of so many instants: these are its first calls
 pub record HeardSome {T : Type 0} (stands : T → List Call
-    → Type 0) (plan : Plan) (library : Sounds) (clocks : List NodeClock) (clock : NodeClock) (own : List Bool)
-    (total : ℕ)
+    → Type 0) (scene : Scene) (clock : NodeClock) (own : List Bool) (total : ℕ)
     (before after : Hearing T) : Type 0 where
   pub slots : ℕ → List Slot
   pub ports_are : after.ports ≡ map (λ port. after_slots (emptied port) (slots port.node)) before.ports
@@ -136,16 +136,10 @@ pub record HeardSome {T : Type 0} (stands : T → List Call
   pub made : List Call
   pub taps : Adds stands before.taps after.taps made
   pub begins : (other : Setting) (sub : ℕ → ℕ → List Slot) (n : ℕ) (front : ℕ → List Answer)
-      → IsMeant (over plan library clocks other) sub own
-      → HasAnswers (over plan library clocks other) (after_calls front made)
-      → ClockStateStands (over plan library clocks other) sub clock n front before.state
-      → IsBegin made (calls_from (over plan library clocks other) sub clock n total)
-
--- the same over a scene
-abbrev pub HeardSomeOver : {T : Type 0} → (T → List Call → Type 0) → Scene → NodeClock → List Bool → (total : ℕ)
-    → (before after : Hearing T) → Type 0
-HeardSomeOver stands scene clock own total before after = HeardSome stands scene.plan.now scene.library.now
-    scene.clocks.now clock own total before after
+      → IsMeant (setting_over scene other) sub own
+      → HasAnswers (setting_over scene other) (after_calls front made)
+      → ClockStateStands (setting_over scene other) sub clock n front before.state
+      → IsBegin made (calls_from (setting_over scene other) sub clock n total)
 
 -- the slots of node i in the latest segment, which had so many instants behind its first one
 abbrev pub segment_of : ClockStates → (many i : ℕ) → List Slot
@@ -164,38 +158,26 @@ tapped state taps = record { state = state; taps = taps }
 
 -- a segment was made: an instant, and so many that go on as it did
 pub record SegmentMade {T : Type 0} (stands : T → List Call
-    → Type 0) (plan : Plan) (library : Sounds) (clocks : List NodeClock) (clock : NodeClock) (own : List Bool)
-    (many : ℕ) (before after : Tapped T) : Type 0 where
+    → Type 0) (scene : Scene) (clock : NodeClock) (own : List Bool) (many : ℕ)
+    (before after : Tapped T) : Type 0 where
   pub more : List Call
   pub taps : Adds stands before.taps after.taps more
   pub run : (other : Setting) (sub : ℕ → ℕ → List Slot) (n : ℕ) (front : ℕ → List Answer)
-      → IsMeant (over plan library clocks other) sub own
-      → HasAnswers (over plan library clocks other) (after_calls front more)
-      → ClockStateStands (over plan library clocks other) sub clock n front before.state
-      → HasMadeInstants (over plan library clocks other) sub own clock n (suc many) (segment_of after.state.clocks many)
-      front more after.state
-
--- the same over a scene
-abbrev pub SegmentRunOver : {T : Type 0} → (T → List Call → Type 0) → Scene → NodeClock → List Bool → (many : ℕ)
-    → (old new : ClockState) → (taps_old taps_new : T) → Type 0
-SegmentRunOver stands scene clock own many old new taps_old taps_new = SegmentMade stands scene.plan.now
-    scene.library.now scene.clocks.now clock own many (tapped old taps_old) (tapped new taps_new)
+      → IsMeant (setting_over scene other) sub own
+      → HasAnswers (setting_over scene other) (after_calls front more)
+      → ClockStateStands (setting_over scene other) sub clock n front before.state
+      → HasMadeInstants (setting_over scene other) sub own clock n (suc many) front
+      (outcome (segment_of after.state.clocks many) more after.state)
 
 -- memory was refused in its first instant
 pub record SegmentBroken {T : Type 0} (stands : T → List Call
-    → Type 0) (plan : Plan) (library : Sounds) (clocks : List NodeClock) (clock : NodeClock) (own : List Bool)
+    → Type 0) (scene : Scene) (clock : NodeClock) (own : List Bool)
     (old : ClockState) (taps_old taps_new : T) : Type 0 where
   pub made : List Call
   pub taps : Adds stands taps_old taps_new made
   pub begins : (other : Setting) (sub : ℕ → ℕ → List Slot) (n : ℕ) (front : ℕ → List Answer)
-      → IsMeant (over plan library clocks other) sub own
-      → HasAnswers (over plan library clocks other) (after_calls front made)
-      → ClockStateStands (over plan library clocks other) sub clock n front old
-      → IsBegin made (calls_of (over plan library clocks other) sub clock
-      (first_instants (over plan library clocks other) sub clock n))
-
--- the same over a scene
-abbrev pub SegmentBrokenOver : {T : Type 0} → (T → List Call → Type 0) → Scene → NodeClock → List Bool → ClockState
-    → (taps_old taps_new : T) → Type 0
-SegmentBrokenOver stands scene clock own old taps_old taps_new = SegmentBroken stands scene.plan.now scene.library.now
-    scene.clocks.now clock own old taps_old taps_new
+      → IsMeant (setting_over scene other) sub own
+      → HasAnswers (setting_over scene other) (after_calls front made)
+      → ClockStateStands (setting_over scene other) sub clock n front old
+      → IsBegin made (calls_of (setting_over scene other) sub clock
+      (first_instants (setting_over scene other) sub clock n))

@@ -1,10 +1,8 @@
 -- What changes from instant to instant, and what it stands for.
 use Rattle.std.specs.Prelude.{◌≡◌, ℕ, Bool, List, length}
-use Rattle.plan_core.specs.declared.plan.Plan.{Plan}
 use Rattle.clock_infer.specs.declared.clock_map.NodeClock.{NodeClock}
 use Rattle.clock_infer.specs.declared.clock_map.NodeClock.TheVariants.{Sub}
 use Rattle.frame_core.specs.Slots.{Slot}
-use Rattle.frame_core.specs.Library.{Sounds}
 use Rattle.frame_core.specs.Calls.{Answer}
 use Rattle.stream_meaning.specs.Instants.{Setting}
 use Rattle.node_states.specs.Times.{TimeStands}
@@ -17,15 +15,11 @@ use Rattle.clock_ticks.specs.declared.clock_state.ClockState.{ClockState}
 abbrev pub IsMain : NodeClock → Type 0
 IsMain clock = (k : ℕ) → clock ≡ Sub k → ⊥
 
--- states for the nodes of this plan, with these files and these clocks of its nodes
-pub record IsClockState (plan : Plan) (library : Sounds) (clocks : List NodeClock) (state : ClockState) : Type 0 where
-  pub below : AreClockStates plan library clocks state.clocks
-  pub rate : state.time.rate ≡ plan.rate
-  pub frame : state.time.frame ≡ plan.frame
-
--- the same over a scene
-abbrev pub IsClockStateOver : Scene → ClockState → Type 0
-IsClockStateOver scene state = IsClockState scene.plan.now scene.library.now scene.clocks.now state
+-- states for the nodes of a scene
+pub record IsClockState (scene : Scene) (state : ClockState) : Type 0 where
+  pub below : AreClockStates scene state.clocks
+  pub rate : state.time.rate ≡ scene.plan.now.rate
+  pub frame : state.time.frame ≡ scene.plan.now.frame
 
 -- a clock can make instants: these are the states of the nodes, it is no sub-clock, sub-clocks nest no deeper than
 -- there are nodes, and it is told of each node whether its own clock demands it of itself
@@ -34,7 +28,7 @@ pub record CanMake (scene : Scene) (clock : NodeClock) (own : List Bool) (state 
   pub in_own : length own ≡ length scene.plan.now.nodes
   pub main : IsMain clock
   pub levels : HasLevels scene.clocks.now clock (length scene.plan.now.nodes)
-  pub state_is : IsClockStateOver scene state
+  pub state_is : IsClockState scene state
 
 -- they stand for the first n instants of a clock, and for as many of the sub-clocks below it as its crossfades asked
 -- for; all readers have taken these answers by them

@@ -1,8 +1,8 @@
 // What changes from instant to instant in a clock, and a segment of it.
 ghost use Rattle.std.specs.Prelude.{◌≡◌, ◌≤◌, IfOk, OnErr};
 ghost use Rattle.clock_instants.specs.Takes.{HasReader, ReadersAreIn};
-ghost use Rattle.clock_ticks.specs.Standing.{CanMake, IsClockStateOver};
-ghost use Rattle.clock_ticks.specs.Hearings.{SegmentBrokenOver, SegmentRunOver};
+ghost use Rattle.clock_ticks.specs.Standing.{CanMake, IsClockState};
+ghost use Rattle.clock_ticks.specs.Hearings.{SegmentBroken, SegmentMade, tapped};
 
 use clock_infer::NodeClock;
 use clock_nodes::Scene;
@@ -36,13 +36,13 @@ pub fn make_segment<T: Taps>(
     requires makes { CanMake scene.now clock own.now state.old }
     requires short { most ≤ 2048 }
     requires readers { ReadersAreIn scene.now.plan.now (T.buffers taps.old) }
-    ensures state { IsClockStateOver scene.now state.new }
+    ensures state { IsClockState scene.now state.new }
     ensures buffers { T.buffers taps.new ≡ T.buffers taps.old }
     ensures same { T.same taps.old taps.new }
     ensures within { IfOk result (λ many. many ≤ most) }
     ensures run { IfOk result
-        (λ many. SegmentRunOver T.stands scene.now clock own.now many state.old state.new taps.old taps.new) }
-    ensures broken { OnErr result (SegmentBrokenOver T.stands scene.now clock own.now state.old taps.old taps.new) }
+        (λ many. SegmentMade T.stands scene.now clock own.now many (tapped state.old taps.old) (tapped state.new taps.new)) }
+    ensures broken { OnErr result (SegmentBroken T.stands scene.now clock own.now state.old taps.old taps.new) }
     ensures reads { OnErr result (HasReader scene.now.plan.now scene.now.clocks.now clock) }
 {
     let time = state.time;

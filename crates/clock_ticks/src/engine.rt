@@ -7,8 +7,8 @@ ghost use Rattle.std.specs.Prelude.{◌≡◌, ◌<◌, ◌+◌, ◌⊎◌, ℕ,
 ghost use Rattle.plan_core.specs.Plans.{IsWellFormed};
 ghost use Rattle.clock_infer.specs.Answers.{IsClockMap};
 ghost use Rattle.frame_core.specs.Library.{IsLibrary};
-ghost use Rattle.clock_ticks.specs.Standing.{IsClockStateOver};
-ghost use Rattle.clock_ticks.specs.Hearings.{HeardOver, HeardSomeOver};
+ghost use Rattle.clock_ticks.specs.Standing.{IsClockState};
+ghost use Rattle.clock_ticks.specs.Hearings.{Heard, HeardSome};
 ghost use Rattle.clock_infer.specs.declared.clock_map.NodeClock.TheVariants.{Main as InMain};
 ghost use Rattle.clock_ticks.specs.Engines.{AreClocksOf, AreParts, EngineStands, EngineStopped, IsWhole, after_tick, feed_of, outputs_of, hearing_of, setting_of};
 ghost use Rattle.clock_ticks.specs.Pieces.{GotSomePieces};
@@ -137,16 +137,16 @@ fn run_parts<T: Taps>(parts: &mut EngineParts<'_>, taps: &mut T) -> Result<(), M
     requires few { parts.old.ticks < 1000000000 }
     requires buffers { T.buffers taps.old ≡ length parts.old.scene.plan.now.buffers }
     ensures kept { parts.new ≡ after_tick parts.old parts.new parts.old.ticks parts.old.stopped }
-    ensures state { IsClockStateOver parts.old.scene parts.new.state }
+    ensures state { IsClockState parts.old.scene parts.new.state }
     ensures frames { All (λ feed. length feed.frame ≡ parts.old.scene.plan.now.frame) parts.new.feeds.items }
     ensures feeds { map feed_of parts.new.feeds.items ≡ map feed_of parts.old.feeds.items }
     ensures buffers { T.buffers taps.new ≡ T.buffers taps.old }
     ensures same { T.same taps.old taps.new }
     ensures heard { OnOk result
-        (HeardOver T.stands parts.old.scene (InMain parts.old.clock) parts.old.own.items parts.old.scene.plan.now.frame
+        (Heard T.stands parts.old.scene (InMain parts.old.clock) parts.old.own.items parts.old.scene.plan.now.frame
         (hearing_of parts.old taps.old) (hearing_of parts.new taps.new)) }
     ensures stopped { OnErr result
-        (HeardSomeOver T.stands parts.old.scene (InMain parts.old.clock) parts.old.own.items
+        (HeardSome T.stands parts.old.scene (InMain parts.old.clock) parts.old.own.items
         parts.old.scene.plan.now.frame
         (hearing_of parts.old taps.old) (hearing_of parts.new taps.new)) }
     ensures cues { parts.new.cues.keeping ≡ parts.old.cues.keeping }
@@ -176,16 +176,16 @@ fn run_or_stop<T: Taps>(parts: &mut EngineParts<'_>, taps: &mut T) -> Result<(),
     ensures kept { OnOk result (parts.new ≡ after_tick parts.old parts.new parts.old.ticks parts.old.stopped) }
     ensures ended { IfErr result (λ fault. (fault ≡ OutOfMemory)
         × (parts.new ≡ after_tick parts.old parts.new parts.old.ticks (Some OutOfMemory))) }
-    ensures state { IsClockStateOver parts.old.scene parts.new.state }
+    ensures state { IsClockState parts.old.scene parts.new.state }
     ensures frames { All (λ feed. length feed.frame ≡ parts.old.scene.plan.now.frame) parts.new.feeds.items }
     ensures feeds { map feed_of parts.new.feeds.items ≡ map feed_of parts.old.feeds.items }
     ensures buffers { T.buffers taps.new ≡ T.buffers taps.old }
     ensures same { T.same taps.old taps.new }
     ensures heard { OnOk result
-        (HeardOver T.stands parts.old.scene (InMain parts.old.clock) parts.old.own.items parts.old.scene.plan.now.frame
+        (Heard T.stands parts.old.scene (InMain parts.old.clock) parts.old.own.items parts.old.scene.plan.now.frame
         (hearing_of parts.old taps.old) (hearing_of parts.new taps.new)) }
     ensures stopped { OnErr result
-        (HeardSomeOver T.stands parts.old.scene (InMain parts.old.clock) parts.old.own.items
+        (HeardSome T.stands parts.old.scene (InMain parts.old.clock) parts.old.own.items
         parts.old.scene.plan.now.frame
         (hearing_of parts.old taps.old) (hearing_of parts.new taps.new)) }
     ensures cues { parts.new.cues.keeping ≡ parts.old.cues.keeping }

@@ -12,7 +12,7 @@ ghost use Rattle.node_states.specs.declared.time.WeekTime.{WeekTime as Time};
 ghost use Rattle.clock_instants.specs.Instants.{IsLatest};
 ghost use Rattle.clock_nodes.specs.States.{HasRoomFor};
 ghost use Rattle.clock_instants.specs.Takes.{IsUnder};
-ghost use Rattle.nested_instants.specs.Clocks.{AreClockStatesOver, AreOwnRoots, laned_at, rest_at};
+ghost use Rattle.nested_instants.specs.Clocks.{AreClockStates, AreOwnRoots, laned_at, rest_at};
 ghost use Rattle.clock_ticks.specs.Beginnings.{AreNewStates, IsNewState};
 ghost use Rattle.clock_nodes.specs.Scenes.{setting_over};
 
@@ -40,7 +40,7 @@ pub fn clocks_of(
     requires leaves { length scene.now.library.now.leaves ≡ length scene.now.plan.now.nodes }
     requires rate { time.rate ≡ scene.now.plan.now.rate }
     requires frame { time.frame ≡ scene.now.plan.now.frame }
-    ensures clocks { IfOk result (AreClockStatesOver scene.now) }
+    ensures clocks { IfOk result (AreClockStates scene.now) }
     ensures states { IfOk result
         (λ all. AreNewStates scene.now.plan.now scene.now.clocks.now clock (length scene.now.plan.now.nodes)
         all.states.items) }

@@ -1,8 +1,8 @@
 // The segments of a tick.
 ghost use Rattle.std.specs.Prelude.{◌≡◌, ◌<◌, ◌+◌, ◌⊎◌, true, All, length, map, OnOk, OnErr};
 ghost use Rattle.clock_instants.specs.Takes.{HasReader, ReadersAreIn};
-ghost use Rattle.clock_ticks.specs.Standing.{CanMake, IsClockStateOver};
-ghost use Rattle.clock_ticks.specs.Hearings.{CanHear, HeardOver, HeardSomeOver, feed_key, hearing_by};
+ghost use Rattle.clock_ticks.specs.Standing.{CanMake, IsClockState};
+ghost use Rattle.clock_ticks.specs.Hearings.{CanHear, Heard, HeardSome, feed_key, hearing_by};
 
 use crate::clock_state::{ClockState, make_segment};
 use crate::cues::{Cues, begin_cues, mark_all};
@@ -30,16 +30,16 @@ pub fn run_tick<T: Taps>(
     requires makes { CanMake scene.now clock own.now state.old }
     requires hearing { CanHear scene.now ports.old.items feeds.old.items cues.old start }
     requires readers { ReadersAreIn scene.now.plan.now (T.buffers taps.old) }
-    ensures state { IsClockStateOver scene.now state.new }
+    ensures state { IsClockState scene.now state.new }
     ensures frames { All (λ feed. length feed.frame ≡ scene.now.plan.now.frame) feeds.new.items }
     ensures keys { map feed_key feeds.new.items ≡ map feed_key feeds.old.items }
     ensures keeping { cues.new.keeping ≡ cues.old.keeping }
     ensures buffers { T.buffers taps.new ≡ T.buffers taps.old }
     ensures same { T.same taps.old taps.new }
-    ensures heard { OnOk result (HeardOver T.stands scene.now clock own.now scene.now.plan.now.frame
+    ensures heard { OnOk result (Heard T.stands scene.now clock own.now scene.now.plan.now.frame
         (hearing_by state.old ports.old.items feeds.old.items cues.old start taps.old)
         (hearing_by state.new ports.new.items feeds.new.items cues.new start taps.new)) }
-    ensures stopped { OnErr result (HeardSomeOver T.stands scene.now clock own.now scene.now.plan.now.frame
+    ensures stopped { OnErr result (HeardSome T.stands scene.now clock own.now scene.now.plan.now.frame
         (hearing_by state.old ports.old.items feeds.old.items cues.old start taps.old)
         (hearing_by state.new ports.new.items feeds.new.items cues.new start taps.new)) }
     ensures needs { OnErr result (HasReader scene.now.plan.now scene.now.clocks.now clock ⊎ (cues.old.keeping ≡ true)) }

@@ -3,13 +3,13 @@ use Rattle.stream_meaning.specs.Instants.{first_instants}
 use Rattle.stream_meaning.specs.Calls.{IsBegin, calls_of}
 use Rattle.node_states.specs.Times.{TimeStands}
 use Rattle.node_states.proofs.Chunks.{on_err}
-use Rattle.clock_nodes.specs.States.{over}
+use Rattle.clock_nodes.specs.Scenes.{setting_over}
 use Rattle.clock_ticks.proofs.Segments.{segment_made}
 use Rattle.clock_ticks.proofs.clock_state.make_segment.Goals as goal
 
 pub returns-clause-run : goal.returns-clause-run
 returns-clause-run g c =
-    segment_made g.T.Taps.stands _ _ _ _ _ c.args.state.now _ c.make_instant.new.clocks c.args.taps.now c.make_instant.new.taps c.make_stretch-many.result
+    segment_made g.T.Taps.stands _ _ _ c.args.state.now _ c.make_instant.new.clocks c.args.taps.now c.make_instant.new.taps c.make_stretch-many.result
     c.in_ok-make_instant.ensures.made c.make_stretch-many.ensures.run c.make_stretch-many.ensures.latest
     (λ start n stands.
     let sum : suc n + c.make_stretch-many.result ≡ n + suc c.make_stretch-many.result = omega arith in
@@ -22,7 +22,7 @@ returns-in_err-make_instant-clause-broken g c =
       made = one.made;
       taps = one.taps;
       begins = λ setting sub n front meant has stand.
-          let S = over c.args.scene.now.plan.now c.args.scene.now.library.now c.args.scene.now.clocks.now setting in
+          let S = setting_over c.args.scene.now setting in
           subst (λ m. IsBegin one.made (calls_of S sub c.args.clock (first_instants S sub c.args.clock m))) stand.made
           (one.begins setting sub stand.rank stand.ran stand.fed front (record { ranks = stand.ranks; meaning = meant.meaning; down = meant.down; readers = meant.readers; roots = meant.roots }) has stand.stand stand.needed
           (subst (λ m. TimeStands setting.start m c.args.state.now.time) (sym stand.made) stand.time));

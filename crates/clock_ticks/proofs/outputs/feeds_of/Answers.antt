@@ -5,7 +5,7 @@ use Rattle.plan_core.specs.Plans.{sink_node}
 use Rattle.plan_core.specs.declared.sink.SinkPlan.TheVariants.{Feed}
 use Rattle.clock_infer.specs.declared.clock_map.NodeClock.TheVariants.{Main}
 use Rattle.stream_meaning.specs.Instants.{same_clock}
-use Rattle.clock_nodes.specs.States.{over}
+use Rattle.clock_nodes.specs.Scenes.{setting_over}
 use Rattle.clock_ticks.specs.Beginnings.{IsNewFeed}
 use Rattle.clock_ticks.specs.Engines.{feed_of, feeds_from}
 use Rattle.clock_ticks.proofs.Sinks.{all_more}
@@ -25,10 +25,10 @@ loop-i-preserved c =
     ap (λ of. same_clock of (Main c.args.clock)) (get_or_default _ c.in-Feed.node (Main 0) _ here) ∙ sym c.is_main.ensures ∙ yes in
     record {
       feeds = λ other.
-          ap (λ xs. map feed_of xs ++ feeds_from (over c.args.scene.now.plan.now c.args.scene.now.library.now c.args.scene.now.clocks.now other) c.args.clock (drop (c.loop-i.i + 1) c.as_slice-sinks.result.now)) c.in_ok-push.ensures.items
+          ap (λ xs. map feed_of xs ++ feeds_from (setting_over c.args.scene.now other) c.args.clock (drop (c.loop-i.i + 1) c.as_slice-sinks.result.now)) c.in_ok-push.ensures.items
           ∙ feeds_more c.loop-i.feeds.items c.in_ok-feed_port.field-0 (c.in-Feed.buffer, c.in-Feed.node) _ c.in_ok-feed_port.ensures.feed
           ∙ ap (λ os. map feed_of c.loop-i.feeds.items ++ os)
-          (sym (feed_here (over c.args.scene.now.plan.now c.args.scene.now.library.now c.args.scene.now.clocks.now other) c.args.clock c.loop-i.i c.as_slice-sinks.result.now c.in-Feed.buffer c.in-Feed.node at inside))
+          (sym (feed_here (setting_over c.args.scene.now other) c.args.clock c.loop-i.i c.as_slice-sinks.result.now c.in-Feed.buffer c.in-Feed.node at inside))
           ∙ c.loop-i.invariant.feeds other;
       new = subst (λ xs. All (IsNewFeed c.args.scene.now.plan.now.frame) xs) (sym c.in_ok-push.ensures.items)
           (all_more (IsNewFeed c.args.scene.now.plan.now.frame) c.loop-i.feeds.items c.in_ok-feed_port.field-0 c.loop-i.invariant.new c.in_ok-feed_port.ensures.new);

@@ -5,7 +5,7 @@ use Rattle.plan_core.specs.Plans.{sink_node}
 use Rattle.plan_core.specs.declared.sink.SinkPlan.TheVariants.{Output}
 use Rattle.clock_infer.specs.declared.clock_map.NodeClock.TheVariants.{Main}
 use Rattle.stream_meaning.specs.Instants.{same_clock}
-use Rattle.clock_nodes.specs.States.{over}
+use Rattle.clock_nodes.specs.Scenes.{setting_over}
 use Rattle.clock_ticks.specs.Beginnings.{IsNewPort}
 use Rattle.clock_ticks.specs.Engines.{output_of, outputs_from}
 use Rattle.clock_ticks.proofs.Sinks.{all_more, at_output, outputs_more}
@@ -24,11 +24,11 @@ loop-i-preserved c =
     ap (λ of. same_clock of (Main c.args.clock)) (get_or_default _ c.in-Output.node (Main 0) _ here) ∙ sym c.is_main.ensures ∙ yes in
     record {
       outputs = λ other.
-          ap (λ xs. map output_of xs ++ outputs_from (over c.args.scene.now.plan.now c.args.scene.now.library.now c.args.scene.now.clocks.now other) c.args.clock (c.loop-i.i + 1) (drop (c.loop-i.i + 1) c.as_slice-sinks.result.now)) c.in_ok-push.ensures.items
+          ap (λ xs. map output_of xs ++ outputs_from (setting_over c.args.scene.now other) c.args.clock (c.loop-i.i + 1) (drop (c.loop-i.i + 1) c.as_slice-sinks.result.now)) c.in_ok-push.ensures.items
           ∙ outputs_more c.loop-i.ports.items c.in_ok-port_of.field-0 (c.loop-i.i, c.in-Output.node) _ c.in_ok-port_of.ensures.output
           ∙ ap (λ os. map output_of c.loop-i.ports.items ++ os)
-          (sym (at_output (over c.args.scene.now.plan.now c.args.scene.now.library.now c.args.scene.now.clocks.now other) c.args.clock c.loop-i.i c.as_slice-sinks.result.now c.in-Output.name c.in-Output.node c.in-Output.fallible c.in-Output.wide at inside))
+          (sym (at_output (setting_over c.args.scene.now other) c.args.clock c.loop-i.i c.as_slice-sinks.result.now c.in-Output.name c.in-Output.node c.in-Output.fallible c.in-Output.wide at inside))
           ∙ c.loop-i.invariant.outputs other;
-      new = λ other. subst (λ xs. All (IsNewPort (over c.args.scene.now.plan.now c.args.scene.now.library.now c.args.scene.now.clocks.now other)) xs) (sym c.in_ok-push.ensures.items)
-          (all_more (IsNewPort (over c.args.scene.now.plan.now c.args.scene.now.library.now c.args.scene.now.clocks.now other)) c.loop-i.ports.items c.in_ok-port_of.field-0 (c.loop-i.invariant.new other) (c.in_ok-port_of.ensures.new other));
+      new = λ other. subst (λ xs. All (IsNewPort (setting_over c.args.scene.now other)) xs) (sym c.in_ok-push.ensures.items)
+          (all_more (IsNewPort (setting_over c.args.scene.now other)) c.loop-i.ports.items c.in_ok-port_of.field-0 (c.loop-i.invariant.new other) (c.in_ok-port_of.ensures.new other));
     }

@@ -2,7 +2,7 @@ use Rattle.std.proofs.Common.{◌<◌, ◌∙◌, false, length, get_or, set, ar
 use Rattle.std.proofs.lemmas.List.{get_or-set_other, get_or-set_same, get_or_default, length-set}
 use Rattle.clock_infer.specs.declared.clock_map.NodeClock.TheVariants.{Main}
 use Rattle.stream_meaning.specs.Instants.{is_root}
-use Rattle.clock_nodes.specs.States.{over}
+use Rattle.clock_nodes.specs.Scenes.{setting_over}
 use Rattle.clock_nodes.proofs.Places.{below_or_same}
 use Rattle.clock_ticks.proofs.parts.keep_roots.Goals as goal
 
@@ -22,8 +22,8 @@ loop-i-preserved c =
         | inr same ↦ ap (λ k. get_or (set c.loop-i.own c.loop-i.i c.is_own_root.result) k false) same
             ∙ get_or-set_same c.loop-i.own c.loop-i.i c.is_own_root.result false within
             ∙ c.is_own_root.ensures other
-            ∙ ap (λ of. is_root (over c.args.scene.now.plan.now c.args.scene.now.library.now c.args.scene.now.clocks.now other) of c.loop-i.i) (sym (get_or_default _ c.loop-i.i (Main 0) _ here))
-            ∙ ap (λ k. is_root (over c.args.scene.now.plan.now c.args.scene.now.library.now c.args.scene.now.clocks.now other) (get_or c.args.scene.now.clocks.now k (Main 0)) k) (sym same)
+            ∙ ap (λ of. is_root (setting_over c.args.scene.now other) of c.loop-i.i) (sym (get_or_default _ c.loop-i.i (Main 0) _ here))
+            ∙ ap (λ k. is_root (setting_over c.args.scene.now other) (get_or c.args.scene.now.clocks.now k (Main 0)) k) (sym same)
       ];
       left = λ j high. get_or-set_other c.loop-i.own c.loop-i.i j c.is_own_root.result false (λ e. omega (arith, high, e)) ∙ c.loop-i.invariant.left j (omega (arith, high));
     }

@@ -1,7 +1,7 @@
 use Rattle.std.proofs.Common.{◌≡◌, ◌∙◌, false, length, get_or, arith, ap, subst, sym}
 use Rattle.std.proofs.lemmas.List.{with_items_is}
 use Rattle.stream_meaning.specs.Instants.{clock_of, is_root}
-use Rattle.clock_nodes.specs.States.{over}
+use Rattle.clock_nodes.specs.Scenes.{setting_over}
 use Rattle.clock_ticks.proofs.Starting.{all_alike}
 use Rattle.clock_ticks.proofs.parts.own_roots.Goals as goal
 
@@ -16,7 +16,7 @@ returns c =
       size = ap length (with_items_is c.in_ok-own.own c.demand_roots.new.own long) ∙ long ∙ c.in_ok-own.ensures.len ∙ c.requires.in_clocks;
       roots = λ other. record {
         each = λ i within.
-            let setting = over c.args.scene.now.plan.now c.args.scene.now.library.now c.args.scene.now.clocks.now other in
+            let setting = setting_over c.args.scene.now other in
             subst (λ xs. get_or xs i false ≡ is_root setting (clock_of setting i) i) (sym (with_items_is c.in_ok-own.own c.demand_roots.new.own long))
             (c.demand_roots.ensures other i (omega (arith, within, c.deref_mut.ensures.len, c.in_ok-own.ensures.len, c.requires.in_clocks)));
       };

@@ -23,7 +23,7 @@ loop-instant-init g c = record {
   keys = refl;
   buffers = refl;
   same = g.met.T.Taps.same_refl c.args.taps.now;
-  heard = heard_none g.T.Taps.stands _ _ _ _ _ c.args.state.now c.args.ports.now.items c.begin_tick.new.ports.items c.args.feeds.now.items c.args.cues.now c.begin_cues.new.cues c.args.start c.args.taps.now c.begin_tick.ensures
+  heard = heard_none g.T.Taps.stands _ _ _ c.args.state.now c.args.ports.now.items c.begin_tick.new.ports.items c.args.feeds.now.items c.args.cues.now c.begin_cues.new.cues c.args.start c.args.taps.now c.begin_tick.ensures
       c.begin_cues.ensures.keeping c.begin_cues.ensures.size c.begin_cues.ensures.marked;
 }
 
@@ -81,20 +81,20 @@ loop-instant-preserved g c =
       keys = ap (map feed_key) filled ∙ keys_filled instant (λ feed. slots feed.node) c.loop-instant.feeds.items ∙ c.loop-instant.invariant.keys;
       buffers = c.make_segment.ensures.buffers ∙ c.loop-instant.invariant.buffers;
       same = g.met.T.Taps.same_trans c.args.taps.now c.loop-instant.taps c.make_segment.new.taps c.loop-instant.invariant.same c.make_segment.ensures.same;
-      heard = heard_more g.T.Taps.stands _ _ _ _ _ instant many (instant + (1 + many)) _ _ _ next c.in_ok-many.ensures.run is c.loop-instant.invariant.heard filled long
+      heard = heard_more g.T.Taps.stands _ _ _ instant many (instant + (1 + many)) _ _ _ next c.in_ok-many.ensures.run is c.loop-instant.invariant.heard filled long
           (all_low frame (instant + suc many) c.args.feeds.now.items low c.requires.hearing.frames) c.mark_all.ensures.keeping c.mark_all.ensures.size
           (λ k port old new at_port at_old at_new. c.in_ok-mark_all.ensures.kept k port old new (ap (λ ps. slice_get ps k) c.deref.ensures.value ∙ at_port) at_old at_new);
     }
 
 pub returns-in_err-many-clause-stopped : goal.returns-in_err-many-clause-stopped
 returns-in_err-many-clause-stopped g c =
-    on_err c.from_residual.result (heard_broken g.T.Taps.stands _ _ _ _ _ c.loop-instant.instant c.args.scene.now.plan.now.frame _ _ _ c.loop-instant-test.true c.in_err-many.ensures.broken refl refl
+    on_err c.from_residual.result (heard_broken g.T.Taps.stands _ _ _ c.loop-instant.instant c.args.scene.now.plan.now.frame _ _ _ c.loop-instant-test.true c.in_err-many.ensures.broken refl refl
     (λ k list at. its_port c.args.cues.now.lists.items c.args.ports.now.items c.requires.hearing.marks k list at) c.loop-instant.invariant.heard)
 
 pub returns-clause-heard : goal.returns-clause-heard
 returns-clause-heard g c =
     let all : c.loop-instant.instant ≡ c.args.scene.now.plan.now.frame = omega (arith, c.loop-instant.invariant.low, c.loop-instant-test.false) in
-    subst (λ n. Heard g.T.Taps.stands c.args.scene.now.plan.now c.args.scene.now.library.now c.args.scene.now.clocks.now c.args.clock c.args.own.now n
+    subst (λ n. Heard g.T.Taps.stands c.args.scene.now c.args.clock c.args.own.now n
     (record { state = c.args.state.now; ports = c.args.ports.now.items; feeds = c.args.feeds.now.items; cues = c.args.cues.now; start = c.args.start; taps = c.args.taps.now })
     (record { state = c.loop-instant.state; ports = c.loop-instant.ports.items; feeds = c.loop-instant.feeds.items; cues = c.loop-instant.cues; start = c.args.start; taps = c.loop-instant.taps })) all c.loop-instant.invariant.heard
 
@@ -117,7 +117,7 @@ returns-in_err-mark_all-clause-stopped g c =
     let instant = c.loop-instant.instant in
     let short : many ≤ frame - instant - 1 = omega (arith, c.in_ok-many.ensures.within, c.min-most.ensures) in
     on_err c.from_residual-in_err-mark_all.result
-    (heard_part g.T.Taps.stands _ _ _ _ _ instant many (instant + suc many) _ _ _ refl c.in_ok-many.ensures.run c.hear_all.ensures c.loop-instant.invariant.heard frame
+    (heard_part g.T.Taps.stands _ _ _ instant many (instant + suc many) _ _ _ refl c.in_ok-many.ensures.run c.hear_all.ensures c.loop-instant.invariant.heard frame
     (omega (arith, short, c.loop-instant-test.true)) c.mark_all.ensures.keeping c.mark_all.ensures.size c.mark_all.ensures.grown
     (λ k list at. its_port c.args.cues.now.lists.items c.args.ports.now.items c.requires.hearing.marks k list at))
 

@@ -7,13 +7,13 @@ use Rattle.clock_ticks.proofs.run.run_tick.Given as goal
 abbrev pub invariant-loop-instant : goal.invariant-loop-instant
 invariant-loop-instant g l = record {
   low : l.instant ≤ l.frame;
-  state : IsClockState l.scene.plan.now l.scene.library.now l.scene.clocks.now l.state;
+  state : IsClockState l.scene l.state;
   room : AllHaveRoomLeft (l.frame - l.instant) l.ports.items;
   frames : All (λ feed. length feed.frame ≡ l.frame) l.feeds.items;
   keys : map feed_key l.feeds.items ≡ map feed_key l.initial.feeds.items;
   buffers : g.T.Taps.buffers l.taps ≡ g.T.Taps.buffers l.initial.taps;
   same : g.T.Taps.same l.initial.taps l.taps;
-  heard : Heard g.T.Taps.stands l.scene.plan.now l.scene.library.now l.scene.clocks.now l.clock l.own l.instant
+  heard : Heard g.T.Taps.stands l.scene l.clock l.own l.instant
       (record { state = l.initial.state; ports = l.fn.ports.items; feeds = l.initial.feeds.items; cues = l.fn.cues; start = l.start; taps = l.initial.taps })
       (record { state = l.state; ports = l.ports.items; feeds = l.feeds.items; cues = l.cues; start = l.start; taps = l.taps });
 }
