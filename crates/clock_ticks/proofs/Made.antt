@@ -22,7 +22,7 @@ use Rattle.clock_outputs.specs.Feeds.{HaveGiven, HaveGivenSome, HaveOwnBuffers, 
 use Rattle.clock_outputs.specs.Ports.{after_slots, emptied}
 use Rattle.clock_outputs.specs.Appends.{BrokeAt, HaveRoom, TookAll}
 use Rattle.clock_ticks.specs.Standing.{IsClockState, ClockStateStands}
-use Rattle.clock_ticks.specs.Hearings.{HasMadeInstants, Heard, HeardSome, IsMeant, with_slots}
+use Rattle.clock_ticks.specs.Hearings.{HasMadeInstants, Heard, HeardSome, IsMeant, outcome, with_slots}
 use Rattle.clock_ticks.specs.declared.cues.CueList.{CueList}
 use Rattle.clock_ticks.specs.Cues.{mark_of, marks_if, marks_of}
 use Rattle.clock_ticks.proofs.Cueing.{AreHeld, its_port, taken_before, there_is}
@@ -298,7 +298,7 @@ module _ (parts other : EngineParts) (fit : AreParts parts) {T : Type 0} (stands
     abbrev S : Setting
     S = with_rest (setting_of parts) answers rest
 
-    ran : HasMadeInstants S (sub_of S) parts.own.items (Main parts.clock) (t * parts.scene.plan.now.frame) parts.scene.plan.now.frame heard.slots answers heard.more other.state
+    ran : HasMadeInstants S (sub_of S) parts.own.items (Main parts.clock) (t * parts.scene.plan.now.frame) parts.scene.plan.now.frame answers (outcome heard.slots heard.more other.state)
     ran = heard.run S (sub_of S) (t * parts.scene.plan.now.frame) answers (meant_by parts fit answers rest) has (stands.state rest)
 
     slots_are : (i : ℕ) → clock_of S i ≡ Main parts.clock → get_or parts.own.items i false ≡ true → heard.slots i ≡ tick_slots S i t
