@@ -24,7 +24,7 @@ use Rattle.node_states.specs.States.{StateStands, reads, reads_at, reads_in}
 use Rattle.clock_nodes.specs.Nodes.{IsFirst}
 use Rattle.node_states.proofs.Running.{kept_stands}
 use Rattle.clock_instants.specs.Held.{goes_through}
-use Rattle.clock_instants.specs.Histories.{history_of}
+use Rattle.node_states.specs.Histories.{history_of}
 use Rattle.clock_instants.specs.Sides.{both}
 use Rattle.clock_instants.specs.Stretches.{HasGoneOn, IsGoing, NodeGivesOn, NodeHasGone, begun_on}
 use Rattle.clock_nodes.specs.States.{ClockStands, IsIn}
@@ -182,7 +182,7 @@ module _ (setting : Setting) (sub : ℕ → ℕ → List Slot) (clock : NodeCloc
 
   -- what `run` asks for of a node that does
   pub goes_on : (many filled i : ℕ) (node : Node) (held parts : List Part) (left right : Lanes) (state : NodeState) → AreNodes setting.plan.nodes
-      → NodeGivesOn (history_of setting sub clock past) many filled i node held parts (both left right) state → gives First i ≡ true → GoesOn setting sub clock past many i node
+      → NodeGivesOn (history_of setting sub clock past) many filled i node held parts (both left right) state → gives First i ≡ true → GoesOn (history_of setting sub clock past) many i node
   goes_on many filled i node held parts left right state nodes before gave = record {
     nodes = nodes;
     long = before.long;

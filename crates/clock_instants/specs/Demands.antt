@@ -1,10 +1,21 @@
 -- Which children a demanded node uses: of those that it may use the ones that offer.
 use Rattle.std.specs.Prelude.{◌≡◌, ℕ, List, [], Option, Some, slice_get}
 use Rattle.plan_core.specs.declared.node.Node.{Node}
+use Rattle.plan_core.specs.declared.plan.Plan.{Plan}
 use Rattle.stream_meaning.specs.declared.part.Part.{Part}
-use Rattle.stream_meaning.specs.Instants.{child_at, offering, part_at}
+use Rattle.stream_meaning.specs.Instants.{Setting, child_at, offering, part_at}
 use Rattle.clock_instants.specs.declared.demand.Demand.{Demand}
 use Rattle.clock_instants.specs.declared.demand.Demand.TheVariants.{Nothing, Picked, Offering}
+
+-- a setting with this plan, and all else as in another one
+abbrev pub with_plan : Plan → Setting → Setting
+with_plan plan other = record {
+  plan = plan;
+  library = other.library;
+  clocks = other.clocks;
+  start = other.start;
+  answers = other.answers;
+}
 
 abbrev pub uses_in : Demand → List Part → List ℕ → (pick : Option ℕ) → List ℕ
 uses_in Nothing parts children pick = []

@@ -2,7 +2,6 @@ pub mod Takes
 pub mod Demands
 pub mod Resting
 pub mod Sides
-pub mod Histories
 pub mod Held
 pub mod Stretches
 pub mod Finishing

@@ -19,7 +19,7 @@ use Rattle.clock_instants.specs.declared.stretch_room.StretchRoom.{StretchRoom}
 use Rattle.clock_instants.specs.declared.stretch_room.Spare.{Spare}
 use Rattle.clock_nodes.specs.declared.scene.Scene.{Scene}
 use Rattle.clock_instants.specs.Held.{AllAsk, AreFilledOn, AreSupplied, IsHeld, gave_at, goes_through}
-use Rattle.clock_instants.specs.Histories.{History, IsLaneOf, StandsOn, history_of, next_of}
+use Rattle.node_states.specs.Histories.{History, IsLaneOf, StandsOn, history_of, next_of}
 use Rattle.clock_instants.specs.Sides.{Sides}
 use Rattle.clock_nodes.specs.Nodes.{lies_at}
 use Rattle.clock_instants.specs.Resting.{AreReadTo}

@@ -4,9 +4,9 @@ ghost use Rattle.std.specs.List.{list_any};
 ghost use Rattle.liq_base.specs.declared.memory.Kind.{Kind as TheKind};
 ghost use Rattle.stream_meaning.specs.Operators.{work_of};
 ghost use Rattle.stream_meaning.specs.Instants.{Setting, child_at, demands_from, offering, part_at, silent, uses_by, uses_from};
-ghost use Rattle.clock_instants.specs.Demands.{PicksOffer, uses_in};
+ghost use Rattle.clock_instants.specs.Demands.{PicksOffer, uses_in, with_plan};
 ghost use Rattle.clock_nodes.specs.Nodes.{AreNodesOf, lies_at};
-ghost use Rattle.clock_nodes.specs.Scenes.{IsScene, setting_over};
+ghost use Rattle.clock_nodes.specs.Scenes.{IsScene};
 
 use clock_infer::NodeClock;
 use clock_nodes::{ClockNodes, Scene};
@@ -42,7 +42,7 @@ pub fn find_demanded(
     ensures demands { (setting : Setting)
         → PicksOffer scene.now.plan.now.nodes parts.now
         → demanded.new ≡ demands_from (λ j. slice_index_or demanded.old j false) 0
-        (uses_from (setting_over scene.now setting) parts.now 0 scene.now.plan.now.nodes) }
+        (uses_from (with_plan scene.now.plan.now setting) parts.now 0 scene.now.plan.now.nodes) }
 {
     let all = scene.plan.nodes.as_slice();
     let mut i = nodes.end(clock);

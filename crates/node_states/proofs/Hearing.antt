@@ -32,6 +32,7 @@ use Rattle.stretch_laws.proofs.Laning.{chosen, faded, mixed, played, read}
 use Rattle.stretch_laws.proofs.Works.{pick_offers_there, some_pick}
 use Rattle.op_mix.specs.Stretches.{AreHeard, IsHeard, many_give, offers_in}
 use Rattle.node_states.specs.Passing.{given_part}
+use Rattle.node_states.specs.Histories.{history_of}
 use Rattle.node_states.specs.Stretches.{GoesOn}
 
 both : (a b : Bool) → a ≡ true → b ≡ true → (a && b) ≡ true
@@ -191,7 +192,7 @@ and_none true b e = e
 and_none false b e = refl
 
 -- node i, over `many` instants behind the one after these
-module _ (setting : Setting) (sub : ℕ → ℕ → List Slot) (clock : NodeClock) (past : List Moment) (many i : ℕ) (node : Node) (goes : GoesOn setting sub clock past many i node) where
+module _ (setting : Setting) (sub : ℕ → ℕ → List Slot) (clock : NodeClock) (past : List Moment) (many i : ℕ) (node : Node) (goes : GoesOn (history_of setting sub clock past) many i node) where
   abbrev First : Moment
   First = moment_after setting sub clock past
 

@@ -25,6 +25,7 @@ use Rattle.stream_meaning.specs.Operators.{Choice, Eligible, Work, Plays, Picks,
 use Rattle.stream_meaning.specs.Instants.{Setting, Moment, Reading, choices, gives_before, last_pick, moment_after, position, read_on, reading_after, reading_at, work_at}
 use Rattle.stretch_laws.specs.Stretches.{going_on, lane}
 use Rattle.node_states.specs.declared.state.NodeState.TheVariants.{Leaf, Select, Turn, Mix, Cross, Read, Idle}
+use Rattle.node_states.specs.Histories.{history_of}
 use Rattle.node_states.specs.Stretches.{ChildrenGive, GoesOn, filled_on}
 use Rattle.node_states.specs.States.{HasSelected, HasTurned, StateStands, reading_by, reads}
 use Rattle.node_states.proofs.Chunks.{reading_closed}
@@ -32,7 +33,7 @@ use Rattle.node_states.proofs.Hearing.{are_heard, fade_run, given_child, heard_s
 use Rattle.node_states.proofs.Rested.{gave_count, gave_position}
 use Rattle.node_states.proofs.Running.{chosen_same, count_later, picked_same, position_later, read_stands}
 
-module _ (setting : Setting) (sub : ℕ → ℕ → List Slot) (clock : NodeClock) (past : List Moment) (many i filled : ℕ) (node : Node) (goes : GoesOn setting sub clock past many i node) where
+module _ (setting : Setting) (sub : ℕ → ℕ → List Slot) (clock : NodeClock) (past : List Moment) (many i filled : ℕ) (node : Node) (goes : GoesOn (history_of setting sub clock past) many i node) where
   abbrev First : Moment
   First = moment_after setting sub clock past
 
@@ -112,7 +113,7 @@ module _ (setting : Setting) (sub : ℕ → ℕ → List Slot) (clock : NodeCloc
   turn_stands some state (Reads buffer) s = absurd s
 
   -- the samples of the child that was picked were laid
-  module _ (pick : Option ℕ) (before : Before) (children : ChildrenGive setting sub clock past many i node pick before) (left right : List ℤ)
+  module _ (pick : Option ℕ) (before : Before) (children : ChildrenGive (history_of setting sub clock past) many i node pick before) (left right : List ℤ)
       (left_is : (place child : ℕ) → pick ≡ Some place → slice_get node.children place ≡ Some child → left ≡ samples_of before.left.now child many)
       (right_is : (place child : ℕ) → pick ≡ Some place → slice_get node.children place ≡ Some child → right ≡ samples_of before.right.now child many) where
     laid : (choice : Choice) (eligible : Eligible) → work_at setting i node ≡ Picks choice eligible → IsLane (λ j. Lane j i) many left right
@@ -151,7 +152,7 @@ module _ (setting : Setting) (sub : ℕ → ℕ → List Slot) (clock : NodeCloc
   mix_stands mixer (Fades overlap) s = absurd s
   mix_stands mixer (Reads buffer) s = absurd s
 
-  module _ (pick : Option ℕ) (before : Before) (children : ChildrenGive setting sub clock past many i node pick before) where
+  module _ (pick : Option ℕ) (before : Before) (children : ChildrenGive (history_of setting sub clock past) many i node pick before) where
     pub mix_lane : (mixer : Mixer) (left right : List ℤ)
         → ((slots : ℕ → ℕ → Slot) → AreHeard slots (offers_in before.parts.now) (λ child. samples_of before.left.now child many) (λ child. samples_of before.right.now child many) many node.children
         → 0 < many_give (offers_in before.parts.now) node.children → IsLane (λ j. mix_slot (mixing_of mixer) (map (slots j) node.children)) many left right)

@@ -18,6 +18,7 @@ use Rattle.stream_meaning.specs.Instants.{Setting, Moment, moment_after, positio
 use Rattle.stretch_laws.specs.Stretches.{going_on, lane}
 use Rattle.node_states.specs.declared.state.NodeState.TheVariants.{Cross}
 use Rattle.node_states.specs.Passing.{LaneFills}
+use Rattle.node_states.specs.Histories.{history_of}
 use Rattle.node_states.specs.Stretches.{GoesOn}
 use Rattle.node_states.specs.States.{CrossStands, StateStands}
 use Rattle.node_states.proofs.FilledStretch.{filled_cells, many_cells}
@@ -31,7 +32,7 @@ item_stays most slots more q low =
     let begins = cross-begins most slots more in
     sym (ap (λ items. slot_at items q) begins.is) ∙ get_or_append_left (cross most slots) begins.rest _ q low
 
-module _ (setting : Setting) (sub : ℕ → ℕ → List Slot) (clock : NodeClock) (past : List Moment) (many i filled : ℕ) (node : Node) (goes : GoesOn setting sub clock past many i node)
+module _ (setting : Setting) (sub : ℕ → ℕ → List Slot) (clock : NodeClock) (past : List Moment) (many i filled : ℕ) (node : Node) (goes : GoesOn (history_of setting sub clock past) many i node)
     (some : 0 < many) (title : ℕ) (lefts rights : List ℤ) (fills : LaneFills (sub i) filled many title lefts rights) (old new : Crossing) where
   abbrev First : Moment
   First = moment_after setting sub clock past

@@ -4,4 +4,5 @@ pub mod States
 pub mod Takes
 pub mod Ticks
 pub mod Passing
+pub mod Histories
 pub mod Stretches

@@ -1,15 +1,12 @@
 // A run of a node.
-ghost use Rattle.std.specs.Prelude.{◌≡◌, ◌<◌, ◌≤◌, ◌||◌, ℕ, List, Some, length, slice_get, suc};
+ghost use Rattle.std.specs.Prelude.{◌≡◌, ◌<◌, ◌≤◌, ◌||◌, ℕ, Some, length, slice_get, suc};
 ghost use Rattle.liq_base.specs.declared.limits.TheConstants.{MAX_CHILDREN};
-ghost use Rattle.clock_infer.specs.declared.clock_map.NodeClock.{NodeClock as Clock};
-ghost use Rattle.frame_core.specs.Slots.{Slot as TheSlot};
-ghost use Rattle.op_leaf.specs.Lanes.{IsLane};
-ghost use Rattle.stream_meaning.specs.Instants.{Setting, Moment, work_at};
-ghost use Rattle.stretch_laws.specs.Stretches.{going_on, lane};
+ghost use Rattle.stream_meaning.specs.Instants.{work_at};
 ghost use Rattle.op_mix.specs.Stretches.{samples_of};
 ghost use Rattle.node_states.specs.Passing.{passes};
+ghost use Rattle.node_states.specs.Histories.{History, IsLaneOf, StandsOn};
 ghost use Rattle.node_states.specs.Stretches.{ChildrenGive, GivesOn, LiesAhead, filled_on};
-ghost use Rattle.node_states.specs.States.{Fits, StateStands, reads};
+ghost use Rattle.node_states.specs.States.{Fits, reads};
 
 use crate::NodeState;
 use crate::passing::pass_child;
@@ -40,17 +37,15 @@ impl NodeState {
         requires short { length left.old ≤ 2048 }
         requires ahead { LiesAhead library.now self.old (length left.old) }
         ensures fits { Fits library.now (length node.now.children) self.new }
-        ensures stands { (setting : Setting) (sub : ℕ → ℕ
-            → List TheSlot) (clock : Clock) (past : List Moment) (filled i : ℕ)
-            → GivesOn setting sub clock past (length left.old) filled i node.now library.now below before.now self.old
-            → StateStands setting sub (going_on setting sub clock (suc (length left.old)) past)
-            (filled_on (passes self.old
-            || reads (work_at setting i node.now)) (length left.old) filled) i (work_at setting i node.now) self.new }
-        ensures lane { (setting : Setting) (sub : ℕ → ℕ
-            → List TheSlot) (clock : Clock) (past : List Moment) (filled i : ℕ)
-            → GivesOn setting sub clock past (length left.old) filled i node.now library.now below before.now self.old
-            → ChildrenGive setting sub clock past (length left.old) i node.now pick before.now
-            → IsLane (λ j. lane setting sub clock past (suc j) i) (length left.old) left.new right.new }
+        ensures stands { (history : History) (filled i : ℕ)
+            → GivesOn history (length left.old) filled i node.now library.now below before.now self.old
+            → StandsOn history (suc (length left.old))
+            (filled_on (passes self.old || reads (work_at history.setting i node.now)) (length left.old) filled)
+            i node.now self.new }
+        ensures lane { (history : History) (filled i : ℕ)
+            → GivesOn history (length left.old) filled i node.now library.now below before.now self.old
+            → ChildrenGive history (length left.old) i node.now pick before.now
+            → IsLaneOf history i (length left.old) left.new right.new }
     {
         let children = node.children.as_slice();
         match self {

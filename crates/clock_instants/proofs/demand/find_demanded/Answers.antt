@@ -2,9 +2,8 @@ use Rattle.std.proofs.Common.{rules, ◌≡◌, ◌<◌, ◌≤◌, ◌-◌, ◌
 use Rattle.std.proofs.lemmas.List.{get_or_default, length-append, length-drop, length-take, length-take-le}
 use Rattle.std.proofs.lemmas.Option.{slice_get_read}
 use Rattle.stream_meaning.specs.Instants.{part_at, silent}
-use Rattle.clock_instants.specs.Demands.{uses_in}
+use Rattle.clock_instants.specs.Demands.{uses_in, with_plan}
 use Rattle.clock_nodes.specs.Nodes.{lies_at}
-use Rattle.clock_nodes.specs.Scenes.{setting_over}
 use Rattle.clock_instants.proofs.Marking.{Marked-all, Marked-used, Marked-unused}
 use Rattle.clock_instants.proofs.Unmarked.{Marked-over, not_used, stays_unmarked}
 use Rattle.clock_nodes.proofs.Walking.{end_own}
@@ -47,9 +46,9 @@ loop-i-init c =
       own = end.own;
       others = c.requires.demanded;
       marked = λ setting picks.
-          Marked-over (setting_over c.args.scene.now setting) _ _ _ _ (length c.args.scene.now.clocks.now) c.end-i.result many (omega (arith, all, c.requires.scene.in_clocks)) high
+          Marked-over (with_plan c.args.scene.now.plan.now setting) _ _ _ _ (length c.args.scene.now.clocks.now) c.end-i.result many (omega (arith, all, c.requires.scene.in_clocks)) high
           (λ j from upto. c.requires.demanded j (end.skips j from upto))
-          (Marked-all (setting_over c.args.scene.now setting) _ _ _ (length c.args.scene.now.clocks.now) (omega (arith, c.requires.in_demanded, c.requires.scene.in_clocks)) (omega (arith, all, c.requires.scene.in_clocks)));
+          (Marked-all (with_plan c.args.scene.now.plan.now setting) _ _ _ (length c.args.scene.now.clocks.now) (omega (arith, c.requires.in_demanded, c.requires.scene.in_clocks)) (omega (arith, all, c.requires.scene.in_clocks)));
     }
 
 pub loop-i-smaller : goal.loop-i-smaller
@@ -84,9 +83,9 @@ loop-i-preserved-then-demanded-at c =
       own = end.own;
       others = others;
       marked = λ setting picks.
-          Marked-over (setting_over c.args.scene.now setting) _ _ _ _ (c.loop-i.i - 1) c.before-i.result many (omega (arith, in_nodes)) high
+          Marked-over (with_plan c.args.scene.now.plan.now setting) _ _ _ _ (c.loop-i.i - 1) c.before-i.result many (omega (arith, in_nodes)) high
           (λ j from upto. others j (end.skips j from upto))
-          (Marked-used (setting_over c.args.scene.now setting) _ _ _ _ _ _ _ _ in_nodes in_demanded c.index-all-at.is
+          (Marked-used (with_plan c.args.scene.now.plan.now setting) _ _ _ _ _ _ _ _ in_nodes in_demanded c.index-all-at.is
           (c.demand_of.ensures c.args.scene.now.plan.now.rate (c.loop-i.i - 1) c.index-all-at.result.kind c.args.parts.now c.index-all-at.result.children (part_at c.args.parts.now (c.loop-i.i - 1)).pick
           (picks.each (c.loop-i.i - 1) c.index-all-at.result found)
           ∙ ap (λ xs. uses_in c.demand_of.result c.args.parts.now xs (part_at c.args.parts.now (c.loop-i.i - 1)).pick) (sym same)
@@ -109,7 +108,7 @@ loop-i-preserved c =
       own = end.own;
       others = c.loop-i.invariant.others;
       marked = λ setting picks.
-          Marked-over (setting_over c.args.scene.now setting) _ _ _ _ (c.loop-i.i - 1) c.before-i.result many (omega (arith, in_nodes)) high
+          Marked-over (with_plan c.args.scene.now.plan.now setting) _ _ _ _ (c.loop-i.i - 1) c.before-i.result many (omega (arith, in_nodes)) high
           (λ j from upto. c.loop-i.invariant.others j (end.skips j from upto))
-          (Marked-unused (setting_over c.args.scene.now setting) _ _ _ _ _ in_nodes in_demanded _ next (c.loop-i.invariant.marked setting picks) c.if-demanded-at.false);
+          (Marked-unused (with_plan c.args.scene.now.plan.now setting) _ _ _ _ _ in_nodes in_demanded _ next (c.loop-i.invariant.marked setting picks) c.if-demanded-at.false);
     }

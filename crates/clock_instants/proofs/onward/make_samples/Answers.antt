@@ -8,7 +8,7 @@ use Rattle.stream_meaning.specs.declared.part.Part.{Part}
 use Rattle.stream_meaning.specs.Instants.{crossfaded, gives, moment_after, part_at, silent}
 use Rattle.node_states.specs.States.{Fits}
 use Rattle.op_mix.specs.Stretches.{samples_of}
-use Rattle.clock_instants.specs.Histories.{history_of}
+use Rattle.node_states.specs.Histories.{history_of}
 use Rattle.clock_instants.specs.Sides.{both}
 use Rattle.clock_instants.specs.Stretches.{NodeGivesOn, NodeHasMade}
 use Rattle.clock_nodes.specs.Scenes.{setting_over}
@@ -68,10 +68,10 @@ returns-clause-made c = record {
       λ through. child_fills S sub (moment_after S sub clock past ∷ past) (length (take c.args.count c.args.own_left.now)) filled c.args.i c.title_below-below.result c.index-as_slice-i.result c.args.state.now c.args.left.now c.args.right.now c.requires.scene.nodes found there.stands through
       (subst (λ t. LaneFills (sub c.args.i) filled (length (take c.args.count c.args.own_left.now)) t (samples_of c.args.left.now (crossfaded c.args.scene.now.plan.now.nodes c.args.i) (length (take c.args.count c.args.own_left.now)))
       (samples_of c.args.right.now (crossfaded c.args.scene.now.plan.now.nodes c.args.i) (length (take c.args.count c.args.own_left.now)))) title_is (there.supplied gave through)) in
-      let stands = c.run.ensures.stands S sub clock past filled c.args.i (record { library = refl; goes_on = goes; begun = there.begun; supplied = fills; stands = there.stands }) in
+      let stands = c.run.ensures.stands H filled c.args.i (record { library = refl; goes_on = goes; begun = there.begun; supplied = fills; stands = there.stands }) in
       let pick_is = ap (λ (p : Part). p.pick) (sym (get_or_default _ _ silent _ in_parts) ∙ there.given c.args.i (omega arith) ∙ given_yes (moment_after S sub clock past) c.args.i gave) in
       let low : (k : ℕ) → list_any (nat_eq k) c.index-as_slice-i.result.children ≡ true → k < c.args.i = λ k among. child_low S sub clock past c.args.i k c.index-as_slice-i.result c.requires.scene.nodes found among in
-      let lane_is = c.run.ensures.lane S sub clock past filled c.args.i (record { library = refl; goes_on = goes; begun = there.begun; supplied = fills; stands = there.stands }) (record {
+      let lane_is = c.run.ensures.lane H filled c.args.i (record { library = refl; goes_on = goes; begun = there.begun; supplied = fills; stands = there.stands }) (record {
         given = λ k among. there.given k (let under = low k among in omega (arith, under));
         used = pick_is;
         lanes = λ k among g. there.lanes k (low k among) g;

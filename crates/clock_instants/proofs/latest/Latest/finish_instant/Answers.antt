@@ -26,7 +26,7 @@ returns-clause-finished c =
           let demanded : c.find_demanded.new.demanded ≡ moment.demands = demands_are S sub c.args.clock past c.args.own.now c.deref_mut-5.result.now c.find_demanded.new.demanded c.deref.result.now
           (c.deref.ensures.value ∙ parts_are ∙ parts) can.roots
           (λ j low. ap (λ ms. get_or ms j false) (c.deref_mut-5.ensures.value ∙ roots_are) ∙ c.demand_roots.ensures.roots j (omega (arith, low, c.requires.scene.in_clocks)))
-          (λ picks. c.find_demanded.ensures.demands other picks) in
+          (λ picks. c.find_demanded.ensures.demands (setting_over c.args.scene.now other) picks) in
           let went = c.deref-4.ensures.value ∙ parts_are ∙ parts in
           let asked = c.deref-5.ensures.value ∙ demanded_are ∙ demanded in
           record {
