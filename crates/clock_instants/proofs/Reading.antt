@@ -1,16 +1,18 @@
 -- One node begins: a reader takes, and any other node makes no calls.
 use Rattle.std.proofs.Common.{◌≡◌, ◌∙◌, ◌++◌, ℕ, suc, Bool, false, Some, List, [], length, map, slice_get, refl, ap, sym, subst}
-use Rattle.std.proofs.lemmas.Bool.{true≢false, false≢true}
+use Rattle.std.proofs.lemmas.Bool.{true≢false}
 use Rattle.liq_base.specs.declared.memory.Kind.{Kind}
 use Rattle.plan_core.specs.declared.node.Node.{Node}
 use Rattle.plan_core.specs.declared.node.Op.{Op}
-use Rattle.plan_core.specs.declared.node.Op.TheVariants.{Single, Playlist, Blank, Square, Fail, Fallback, Switch, Sequence, Rotate, Random, Add, Amplify, Mean, Stereo, Crossfade, Buffer, Clock}
+use Rattle.plan_core.specs.declared.node.Op.TheVariants.{Buffer}
 use Rattle.plan_core.specs.Plans.{IsNoReader}
 use Rattle.frame_core.specs.Slots.{Slot}
 use Rattle.frame_core.specs.Calls.{Call, Took, Answer}
 use Rattle.stream_meaning.specs.Operators.{Work, Plays, Picks, Mixes, Fades, Reads, work_of}
 use Rattle.stream_meaning.specs.Instants.{Setting, Moment, work_at}
 use Rattle.stream_meaning.specs.Calls.{HasAnswers, IsBegin, after_calls, takes_by}
+use Rattle.stream_meaning.proofs.Sorted.{no_takes}
+pub use Rattle.stream_meaning.proofs.Sorted.{op_of_reads}
 use Rattle.stream_meaning.proofs.Answering.{answers_in-other, answers_in-own}
 use Rattle.node_states.specs.declared.state.NodeState.{NodeState}
 use Rattle.node_states.specs.States.{StateStands, reading_by, reads}
@@ -22,36 +24,14 @@ use Rattle.clock_nodes.specs.Scenes.{setting_over}
 use Rattle.clock_instants.specs.Takes.{HasBegun, NodeBegan, NodeTookSome, begun_by}
 
 no_reads : (rate i : ℕ) (kind : Kind) (op : Op) → IsNoReader op → reads (work_of rate i kind op) ≡ false
-no_reads rate i kind (Single file) none = refl
-no_reads rate i kind (Playlist file again) none = refl
-no_reads rate i kind (Blank track) none = refl
-no_reads rate i kind (Square pitch) none = refl
-no_reads rate i kind Fail none = refl
-no_reads rate i kind (Fallback sensitive) none = refl
-no_reads rate i kind (Switch sensitive preds) none = refl
-no_reads rate i kind Sequence none = refl
-no_reads rate i kind Rotate none = refl
-no_reads rate i kind (Random seed) none = refl
-no_reads rate i kind (Add normalize) none = refl
-no_reads rate i kind (Amplify factor) none = refl
-no_reads rate i kind Mean none = refl
-no_reads rate i kind Stereo none = refl
-no_reads rate i kind (Crossfade overlap) none = refl
 no_reads rate i kind (Buffer buffer) none = absurd (none buffer refl)
-no_reads rate i kind (Clock id) none = refl
-
-no_takes : (setting : Setting) (past : List Moment) (i : ℕ) (work : Work) → reads work ≡ false → [] ≡ takes_by setting past i work
-no_takes setting past i (Plays leaf) none = refl
-no_takes setting past i (Picks rule eligible) none = refl
-no_takes setting past i (Mixes mixing) none = refl
-no_takes setting past i (Fades overlap) none = refl
-no_takes setting past i (Reads buffer) none = absurd (true≢false none)
+no_reads rate i kind _ none = refl
 
 other_began : (setting : Setting) (sub : ℕ → ℕ → List Slot) (past : List Moment) (filled i : ℕ) (work : Work) (front : ℕ → List Answer) (state : NodeState)
     → reads work ≡ false → StateStands setting sub past filled i work state → HasBegun setting sub past filled i work front [] state
 other_began setting sub past filled i work front state none stands = record {
   stands = subst (λ (n : ℕ). StateStands setting sub past n i work state) (ap (λ (b : Bool). begun_by b filled) (sym none)) stands;
-  calls = no_takes setting past i work none;
+  calls = sym (no_takes setting past i work (λ buffer is. true≢false (ap reads (sym is) ∙ none)));
   taken = λ buffer is. absurd (true≢false (ap reads (sym is) ∙ none));
   others = λ buffer other. refl;
 }
@@ -128,32 +108,3 @@ module _ {T : Type 0} (stands : T → List Call → Type 0) (scene : Scene) (i :
             are = ap (map (Took buffer)) left.1 ∙ map-append (Took buffer) has.more left.0;
           });
     }
-
-abbrev buffer_in : Work → ℕ
-buffer_in (Plays leaf) = 0
-buffer_in (Picks rule eligible) = 0
-buffer_in (Mixes mixing) = 0
-buffer_in (Fades overlap) = 0
-buffer_in (Reads buffer) = buffer
-
-op_by : (rate i buffer : ℕ) (kind : Kind) (op : Op) → work_of rate i kind op ≡ Reads buffer → op ≡ Buffer buffer
-op_by rate i buffer kind (Single file) is = absurd (false≢true (ap reads is))
-op_by rate i buffer kind (Playlist file again) is = absurd (false≢true (ap reads is))
-op_by rate i buffer kind (Blank track) is = absurd (false≢true (ap reads is))
-op_by rate i buffer kind (Square pitch) is = absurd (false≢true (ap reads is))
-op_by rate i buffer kind Fail is = absurd (false≢true (ap reads is))
-op_by rate i buffer kind (Fallback sensitive) is = absurd (false≢true (ap reads is))
-op_by rate i buffer kind (Switch sensitive preds) is = absurd (false≢true (ap reads is))
-op_by rate i buffer kind Sequence is = absurd (false≢true (ap reads is))
-op_by rate i buffer kind Rotate is = absurd (false≢true (ap reads is))
-op_by rate i buffer kind (Random seed) is = absurd (false≢true (ap reads is))
-op_by rate i buffer kind (Add normalize) is = absurd (false≢true (ap reads is))
-op_by rate i buffer kind (Amplify factor) is = absurd (false≢true (ap reads is))
-op_by rate i buffer kind Mean is = absurd (false≢true (ap reads is))
-op_by rate i buffer kind Stereo is = absurd (false≢true (ap reads is))
-op_by rate i buffer kind (Crossfade overlap) is = absurd (false≢true (ap reads is))
-op_by rate i buffer kind (Buffer read) is = ap Buffer (ap buffer_in is)
-op_by rate i buffer kind (Clock id) is = absurd (false≢true (ap reads is))
-
-pub op_of_reads : (setting : Setting) (i buffer : ℕ) (node : Node) → work_at setting i node ≡ Reads buffer → node.op ≡ Buffer buffer
-op_of_reads setting i buffer node is = op_by setting.plan.rate i buffer node.kind node.op is

@@ -6,7 +6,7 @@ use Rattle.std.proofs.lemmas.Option.{slice_get-get_or}
 use Rattle.liq_base.specs.declared.memory.Kind.{Kind}
 use Rattle.plan_core.specs.declared.node.Node.{Node}
 use Rattle.plan_core.specs.declared.node.Op.{Op}
-use Rattle.plan_core.specs.declared.node.Op.TheVariants.{Single, Playlist, Blank, Square, Fail, Fallback, Switch, Sequence, Rotate, Random, Add, Amplify, Mean, Stereo, Crossfade, Buffer, Clock}
+use Rattle.plan_core.specs.declared.node.Op.TheVariants.{Crossfade}
 use Rattle.plan_core.specs.Plans.{AreNodes, HasChildren}
 use Rattle.clock_infer.specs.declared.clock_map.NodeClock.TheVariants.{Sub}
 use Rattle.frame_core.specs.Slots.{Slot}
@@ -30,23 +30,8 @@ is_fade (Reads buffer) = false
 
 -- a crossfade has a child
 one_child : (rate i : ℕ) (kind : Kind) (op : Op) (n : ℕ) → is_fade (work_of rate i kind op) ≡ true → HasChildren op n → 0 < n
-one_child rate i kind (Single file) n is many = absurd (false≢true is)
-one_child rate i kind (Playlist file again) n is many = absurd (false≢true is)
-one_child rate i kind (Blank track) n is many = absurd (false≢true is)
-one_child rate i kind (Square pitch) n is many = absurd (false≢true is)
-one_child rate i kind Fail n is many = absurd (false≢true is)
-one_child rate i kind (Fallback sensitive) n is many = absurd (false≢true is)
-one_child rate i kind (Switch sensitive preds) n is many = absurd (false≢true is)
-one_child rate i kind Sequence n is many = absurd (false≢true is)
-one_child rate i kind Rotate n is many = absurd (false≢true is)
-one_child rate i kind (Random seed) n is many = absurd (false≢true is)
-one_child rate i kind (Add normalize) n is many = absurd (false≢true is)
-one_child rate i kind (Amplify factor) n is many = absurd (false≢true is)
-one_child rate i kind Mean n is many = absurd (false≢true is)
-one_child rate i kind Stereo n is many = absurd (false≢true is)
 one_child rate i kind (Crossfade overlap) n is many = omega (arith, many)
-one_child rate i kind (Buffer buffer) n is many = absurd (false≢true is)
-one_child rate i kind (Clock id) n is many = absurd (false≢true is)
+one_child rate i kind _ n is many = absurd (false≢true is)
 
 -- cells pass through no other node
 passing_fades : (setting : Setting) (sub : ℕ → ℕ → List Slot) (past : List Moment) (filled i : ℕ) (work : Work) (state : NodeState) → StateStands setting sub past filled i work state

@@ -71,11 +71,10 @@ fn demand_of(op: &Op) -> Demand
     match op {
         Op::Single(_) | Op::Playlist { .. } | Op::Blank { .. } | Op::Square { .. } | Op::Fail =>
             Demand::Nothing,
-        Op::Fallback { .. } | Op::Switch { .. } | Op::Sequence => Demand::Picked,
-        Op::Rotate | Op::Random { .. } => Demand::Picked,
+        Op::Crossfade { .. } | Op::Buffer(_) => Demand::Nothing,
         Op::Add { .. } | Op::Amplify { .. } | Op::Mean | Op::Stereo | Op::Clock(_) =>
             Demand::Offering,
-        Op::Crossfade { .. } | Op::Buffer(_) => Demand::Nothing,
+        _ => Demand::Picked,
     }
 }
 

@@ -1,8 +1,6 @@
 // The takes of a clock's readers at the start of a tick.
-ghost use Rattle.std.specs.Prelude.{◌≡◌, ◌<◌, ℕ, false, Some, length, slice_get, IfSome, IsNone, OnOk, OnErr};
+ghost use Rattle.std.specs.Prelude.{◌≡◌, ◌<◌, ℕ, false, Some, length, slice_get, OnOk, OnErr};
 ghost use Rattle.plan_core.specs.declared.node.Node.{Node as PlanNode};
-ghost use Rattle.plan_core.specs.declared.node.Op.TheVariants.{Buffer};
-ghost use Rattle.plan_core.specs.Plans.{IsNoReader};
 ghost use Rattle.node_states.specs.States.{Fits};
 ghost use Rattle.clock_nodes.specs.Nodes.{AreNodesOf, lies_at};
 ghost use Rattle.clock_nodes.specs.Scenes.{IsScene};
@@ -14,7 +12,6 @@ use clock_nodes::{ClockNodes, Scene};
 use frame_core::Taps;
 use liq_base::Memory;
 use node_states::NodeState;
-use plan_core::Op;
 
 /// Lets the readers of a clock take, in node order, at an instant that begins a tick of it. Where memory is refused
 /// some of these takes were made.
@@ -64,28 +61,11 @@ fn take_at<T: Taps>(
     ensures stopped { OnErr result (NodeTookSome T.stands scene.now i state.old taps.old taps.new) }
     ensures reads { OnErr result (IsReader scene.now.plan.now i) }
 {
-    match buffer_of(&scene.plan.nodes.as_slice()[i].op) {
+    match scene.plan.nodes.as_slice()[i].op.buffer_read() {
         Some(buffer) => {
             state.take(buffer, taps)?;
             Ok(())
         }
         None => Ok(()),
-    }
-}
-
-// The buffer that a node of this operator reads.
-fn buffer_of(op: &Op) -> Option<u32>
-    ensures reads { IfSome result (λ buffer. op.now ≡ Buffer buffer) }
-    ensures none { IsNone result → IsNoReader op.now }
-{
-    match op {
-        Op::Single(_) | Op::Playlist { .. } | Op::Blank { .. } | Op::Square { .. } | Op::Fail => {
-            None
-        }
-        Op::Fallback { .. } | Op::Switch { .. } | Op::Sequence => None,
-        Op::Rotate | Op::Random { .. } => None,
-        Op::Add { .. } | Op::Amplify { .. } | Op::Mean | Op::Stereo | Op::Clock(_) => None,
-        Op::Crossfade { .. } => None,
-        Op::Buffer(buffer) => Some(*buffer),
     }
 }

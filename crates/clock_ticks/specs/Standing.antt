@@ -24,7 +24,7 @@ pub record IsClockState (scene : Scene) (state : ClockState) : Type 0 where
 -- a clock can make instants: these are the states of the nodes, it is no sub-clock, sub-clocks nest no deeper than
 -- there are nodes, and it is told of each node whether its own clock demands it of itself
 pub record CanMake (scene : Scene) (clock : NodeClock) (own : List Bool) (state : ClockState) : Type 0 where
-  pub shape_is : IsScene scene
+  pub scene_is : IsScene scene
   pub in_own : length own ≡ length scene.plan.now.nodes
   pub main : IsMain clock
   pub levels : HasLevels scene.clocks.now clock (length scene.plan.now.nodes)

@@ -17,6 +17,7 @@ use Rattle.stream_meaning.specs.Operators.{Work, Plays, Picks, Mixes, Fades, Rea
 use Rattle.stream_meaning.specs.Instants.{Setting, Moment, Reading, IsMeaning, clock_of, crossfaded, gives, first_instants, lies_in, moment_after, offer, part_at, position, reading_after, reading_at, same_clock, work_at}
 use Rattle.stream_meaning.specs.Calls.{calls_of, ran_by}
 use Rattle.stream_meaning.proofs.Existence.{same_clock-true}
+use Rattle.stream_meaning.proofs.Sorted.{op_of_fades}
 use Rattle.stretch_laws.specs.Stretches.{AreFilled, AreQuiet, IsNode, IsStretch, going_on, lane}
 use Rattle.stretch_laws.proofs.Filling.{are_filled}
 use Rattle.stretch_laws.proofs.Quiet.{no_calls}
@@ -45,7 +46,7 @@ use Rattle.nested_instants.proofs.Titled.{held_title}
 use Rattle.nested_instants.specs.Stretches.{AreAbove, CanGoOn, HasMadeOn, IsStretchOf, SubsMade}
 use Rattle.nested_instants.proofs.Children.{root_gives}
 use Rattle.nested_instants.proofs.Equal.{are_same, item_at, same_itself, same_or_above, same_or_other, they_differ}
-use Rattle.nested_instants.proofs.Fading.{fade_of, fade_op, fade_reads, fade_within, op_of_work, reads_work, work_of_op}
+use Rattle.nested_instants.proofs.Fading.{fade_of, fade_op, fade_reads, fade_within, reads_work, work_of_op}
 use Rattle.nested_instants.proofs.Kept.{open_kept}
 use Rattle.nested_instants.proofs.Opened.{clock_stands_at, past_long}
 use Rattle.nested_instants.proofs.Making.{taken_stays}
@@ -488,7 +489,7 @@ module _ (setting : Setting) (sub : ℕ → ℕ → List Slot) (rank : NodeClock
   are_quiet = record {
     each = λ k node overlap i m is at_work gave within from to.
         let inside = same_clock-true (clock_of setting k) clock is.inside in
-        let op = op_of_work setting k overlap node at_work in
+        let op = op_of_fades setting k overlap node at_work in
         quiet_by k overlap node is.there op inside i m (omega (arith, within)) (Through k) refl
         (subst (λ x. x ≤ m) (asks_at k overlap node is.there op inside gave i (omega (arith, within))) from)
         (subst (λ x. m < x) (asks_at k overlap node is.there op inside gave (suc i) (omega (arith, within))) to);

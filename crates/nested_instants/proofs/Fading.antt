@@ -3,9 +3,7 @@ use Rattle.std.proofs.Common.{◌≡◌, ◌<◌, ◌∙◌, ℕ, true, false, S
 use Rattle.std.proofs.lemmas.Bool.{false≢true}
 use Rattle.std.proofs.lemmas.Option.{slice_get_within}
 use Rattle.plan_core.specs.declared.node.Node.{Node}
-use Rattle.plan_core.specs.declared.node.Op.TheVariants.{Single, Playlist, Blank, Square, Fail, Fallback, Switch, Sequence, Rotate, Random, Add, Amplify, Mean, Stereo, Crossfade, Buffer, Clock}
-use Rattle.plan_core.specs.declared.node.Op.{Op}
-use Rattle.liq_base.specs.declared.memory.Kind.{Kind}
+use Rattle.plan_core.specs.declared.node.Op.TheVariants.{Crossfade}
 use Rattle.frame_core.specs.Slots.{Slot}
 use Rattle.op_cross.specs.Runs.{run_of}
 use Rattle.stream_meaning.specs.Operators.{Work, Plays, Picks, Mixes, Fades, Reads, work_of}
@@ -68,32 +66,3 @@ fades_on sub past filled i (Picks rule eligible) on = absurd on
 fades_on sub past filled i (Mixes mixing) on = absurd on
 fades_on sub past filled i (Fades overlap) on = (overlap, refl, on)
 fades_on sub past filled i (Reads buffer) on = absurd on
-
-abbrev overlap_in : Work → ℕ
-overlap_in (Plays leaf) = 0
-overlap_in (Picks rule eligible) = 0
-overlap_in (Mixes mixing) = 0
-overlap_in (Fades overlap) = overlap
-overlap_in (Reads buffer) = 0
-
-op_by : (rate i overlap : ℕ) (kind : Kind) (op : Op) → work_of rate i kind op ≡ Fades overlap → op ≡ Crossfade overlap
-op_by rate i overlap kind (Single file) is = absurd (false≢true (ap is_fade is))
-op_by rate i overlap kind (Playlist file again) is = absurd (false≢true (ap is_fade is))
-op_by rate i overlap kind (Blank track) is = absurd (false≢true (ap is_fade is))
-op_by rate i overlap kind (Square pitch) is = absurd (false≢true (ap is_fade is))
-op_by rate i overlap kind Fail is = absurd (false≢true (ap is_fade is))
-op_by rate i overlap kind (Fallback sensitive) is = absurd (false≢true (ap is_fade is))
-op_by rate i overlap kind (Switch sensitive preds) is = absurd (false≢true (ap is_fade is))
-op_by rate i overlap kind Sequence is = absurd (false≢true (ap is_fade is))
-op_by rate i overlap kind Rotate is = absurd (false≢true (ap is_fade is))
-op_by rate i overlap kind (Random seed) is = absurd (false≢true (ap is_fade is))
-op_by rate i overlap kind (Add normalize) is = absurd (false≢true (ap is_fade is))
-op_by rate i overlap kind (Amplify factor) is = absurd (false≢true (ap is_fade is))
-op_by rate i overlap kind Mean is = absurd (false≢true (ap is_fade is))
-op_by rate i overlap kind Stereo is = absurd (false≢true (ap is_fade is))
-op_by rate i overlap kind (Crossfade own) is = ap Crossfade (ap overlap_in is)
-op_by rate i overlap kind (Buffer buffer) is = absurd (false≢true (ap is_fade is))
-op_by rate i overlap kind (Clock id) is = absurd (false≢true (ap is_fade is))
-
-pub op_of_work : (setting : Setting) (k overlap : ℕ) (node : Node) → work_at setting k node ≡ Fades overlap → node.op ≡ Crossfade overlap
-op_of_work setting k overlap node is = op_by setting.plan.rate k overlap node.kind node.op is

@@ -13,6 +13,7 @@ use Rattle.stream_meaning.specs.Instants.{Setting, Moment, Reading, gives, read_
 use Rattle.stream_meaning.specs.Calls.{GoDown, after_calls, ran_by, takes_at}
 use Rattle.stream_meaning.proofs.Answering.{after_calls-then}
 use Rattle.stream_meaning.proofs.Existence.{same_clock-true}
+use Rattle.stream_meaning.proofs.Sorted.{op_of_fades}
 use Rattle.node_states.specs.declared.state.NodeState.{NodeState}
 use Rattle.node_states.specs.declared.time.WeekTime.{WeekTime}
 use Rattle.node_states.specs.States.{IsSettled, StateStands, reading_by, reads_at}
@@ -27,7 +28,7 @@ use Rattle.nested_instants.specs.Clocks.{AreFilled, AreOwnRoots, AreReady, HasMa
 use Rattle.clock_instants.specs.Held.{IsHeld}
 use Rattle.nested_instants.proofs.Kept.{open_kept}
 use Rattle.nested_instants.proofs.Equal.{are_same, bumped, bumped-other, bumped-same, same_or_above, same_or_other, they_differ}
-use Rattle.nested_instants.proofs.Fading.{fade_of, fade_op, fade_within, op_of_work, reads_fade, reads_work, work_of_op}
+use Rattle.nested_instants.proofs.Fading.{fade_of, fade_op, fade_within, reads_fade, reads_work, work_of_op}
 use Rattle.nested_instants.proofs.Opened.{begun-no_reader, begun-reads, past_long}
 use Rattle.nested_instants.proofs.Taking.{needed_below}
 use Rattle.nested_instants.proofs.Fading.{fade_reads}
@@ -48,7 +49,7 @@ are_ready setting sub rank clock ran filled front all stand needed = record {
   each = λ k overlap node found work here.
       let level : rank (clock_of setting k) ≡ rank clock = ap rank here in
       let fades : fade_at setting k ≡ true = fade_of setting k node found ∙ ap is_fade work in
-      let op = op_of_work setting k overlap node work in
+      let op = op_of_fades setting k overlap node work in
       begun-no_reader setting clock filled k (fade_reads setting k fades)
       ∙ stand.even k fades (omega (arith, level))
       ∙ needed.each k overlap node found op (omega (arith, level))

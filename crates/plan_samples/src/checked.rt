@@ -171,11 +171,10 @@ fn suits(op: &Op, children: usize) -> bool
     match op {
         Op::Single(_) | Op::Playlist { .. } | Op::Blank { .. } | Op::Fail => children == 0,
         Op::Square { pitch } => children == 0 && pitch.millionths > 0,
-        Op::Fallback { .. } | Op::Sequence | Op::Rotate | Op::Random { .. } | Op::Add { .. } =>
-            true,
         Op::Switch { preds, .. } => children == preds.len(),
         Op::Amplify { .. } | Op::Clock(_) => children == 1,
         Op::Crossfade { overlap } => children == 1 && *overlap >= 1 && *overlap <= MAX_OVERLAP,
         Op::Mean | Op::Stereo | Op::Buffer(_) => false,
+        _ => true,
     }
 }

@@ -3,7 +3,7 @@ use Rattle.std.specs.Prelude.{◌≡◌, ◌⊎◌, ℕ, List, [], ◌∷◌, No
 use Rattle.liq_base.specs.Files.{Files}
 use Rattle.plan_core.specs.declared.node.Node.{Node}
 use Rattle.plan_core.specs.declared.node.Op.{Op}
-use Rattle.plan_core.specs.declared.node.Op.TheVariants.{Single, Playlist, Blank, Square, Fail, Fallback, Switch, Sequence, Rotate, Random, Add, Amplify, Mean, Stereo, Crossfade, Buffer, Clock}
+use Rattle.plan_core.specs.declared.node.Op.TheVariants.{Single, Playlist}
 use Rattle.track_library.specs.declared.rules.Rules.{Rules}
 use Rattle.track_library.specs.declared.fault.LoadFault.{LoadFault}
 use Rattle.track_library.specs.Walk.{Heard, Walked, entry_next, node_next, nothing_met, use_list, entry_of}
@@ -30,21 +30,7 @@ abbrev pub LeafReads : Rules → Files → Op → Walked → List ℕ → Type 0
 LeafReads rules files (Single name) walked read = FirstRead walked.heard.names name read
 LeafReads rules files (Playlist name again) walked read =
     FirstRead walked.lists name read ⊎ PlaylistReads rules files walked.heard (use_list files walked.lists name) read
-LeafReads rules files (Blank track) walked read = ⊥
-LeafReads rules files (Square pitch) walked read = ⊥
-LeafReads rules files Fail walked read = ⊥
-LeafReads rules files (Fallback sensitive) walked read = ⊥
-LeafReads rules files (Switch sensitive preds) walked read = ⊥
-LeafReads rules files Sequence walked read = ⊥
-LeafReads rules files Rotate walked read = ⊥
-LeafReads rules files (Random seed) walked read = ⊥
-LeafReads rules files (Add normalize) walked read = ⊥
-LeafReads rules files (Amplify factor) walked read = ⊥
-LeafReads rules files Mean walked read = ⊥
-LeafReads rules files Stereo walked read = ⊥
-LeafReads rules files (Crossfade overlap) walked read = ⊥
-LeafReads rules files (Buffer number) walked read = ⊥
-LeafReads rules files (Clock id) walked read = ⊥
+LeafReads rules files _ walked read = ⊥
 
 -- the nodes: the next one reads the file, or one behind it, where the next one has no fault
 abbrev pub NodesRead : Rules → Files → List Node → Result (Walked × List (List ℕ)) LoadFault → List ℕ → Type 0

@@ -8,7 +8,7 @@ use Rattle.liq_base.specs.Files.{Files, file_at}
 use Rattle.liq_base.specs.Shelves.{ShelfTold}
 use Rattle.plan_core.specs.declared.node.Node.{Node}
 use Rattle.plan_core.specs.declared.node.Op.{Op}
-use Rattle.plan_core.specs.declared.node.Op.TheVariants.{Single, Playlist, Blank, Square, Fail, Fallback, Switch, Sequence, Rotate, Random, Add, Amplify, Mean, Stereo, Crossfade, Buffer, Clock}
+use Rattle.plan_core.specs.declared.node.Op.TheVariants.{Single, Playlist}
 use Rattle.wav_io.specs.Reading.{Wav, read_of}
 use Rattle.resample.specs.Resampled.{resampled}
 use Rattle.frame_core.specs.Bytes.{samples_from}
@@ -190,21 +190,7 @@ leaf_of rules files (Single name) walked = with_lists walked.lists
     (single_leaf name (use_audio rules files walked.heard name))
 leaf_of rules files (Playlist name again) walked = playlist_leaf rules files walked.heard
     (use_list files walked.lists name)
-leaf_of rules files (Blank track) walked = Ok (walked, [])
-leaf_of rules files (Square pitch) walked = Ok (walked, [])
-leaf_of rules files Fail walked = Ok (walked, [])
-leaf_of rules files (Fallback sensitive) walked = Ok (walked, [])
-leaf_of rules files (Switch sensitive preds) walked = Ok (walked, [])
-leaf_of rules files Sequence walked = Ok (walked, [])
-leaf_of rules files Rotate walked = Ok (walked, [])
-leaf_of rules files (Random seed) walked = Ok (walked, [])
-leaf_of rules files (Add normalize) walked = Ok (walked, [])
-leaf_of rules files (Amplify factor) walked = Ok (walked, [])
-leaf_of rules files Mean walked = Ok (walked, [])
-leaf_of rules files Stereo walked = Ok (walked, [])
-leaf_of rules files (Crossfade overlap) walked = Ok (walked, [])
-leaf_of rules files (Buffer number) walked = Ok (walked, [])
-leaf_of rules files (Clock id) walked = Ok (walked, [])
+leaf_of rules files _ walked = Ok (walked, [])
 
 abbrev pub leaf_added : List (List ℕ) → Result (Walked × List ℕ) LoadFault → Result (Walked × List (List ℕ)) LoadFault
 leaf_added leaves (Err fault) = Err fault

@@ -10,7 +10,7 @@ pub take-requires : goal.take-requires
 take-requires g c =
     let found : slice_get c.args.scene.now.plan.now.nodes c.args.i ≡ Some c.index-as_slice-i.result =
     slice_get_read _ _ _ _ refl c.requires.within (c.index-as_slice-i.is ∙ ap (λ nodes. get_or nodes c.args.i c.index-as_slice-i.result) c.as_slice.ensures) in
-    c.requires.readers.each c.args.i c.in-Some.buffer c.index-as_slice-i.result found (ap (λ (n : Node). n.op) c.index-as_slice-i.is ∙ c.in-Some.ensures.reads)
+    c.requires.readers.each c.args.i c.in-Some.buffer c.index-as_slice-i.result found (ap (λ (n : Node). n.op) c.index-as_slice-i.is ∙ c.in-Some.ensures.reader)
 
 pub returns-in_err-take-in-Some-clause-fits : goal.returns-in_err-take-in-Some-clause-fits
 returns-in_err-take-in-Some-clause-fits g c node found fits = c.take.ensures.fits _ _ fits
@@ -23,7 +23,7 @@ returns-in_err-take-in-Some-clause-stopped g c =
     let found : slice_get c.args.scene.now.plan.now.nodes c.args.i ≡ Some c.index-as_slice-i.result =
     slice_get_read _ _ _ _ refl c.requires.within (c.index-as_slice-i.is ∙ ap (λ nodes. get_or nodes c.args.i c.index-as_slice-i.result) c.as_slice.ensures) in
     on_err c.from_residual.result (node_some g.T.Taps.stands c.args.scene.now c.args.i c.in-Some.buffer
-    (λ node at. let one : Some c.index-as_slice-i.result ≡ Some node = sym found ∙ at in let same : c.index-as_slice-i.result ≡ node = cc in ap (λ (n : Node). n.op) (sym same ∙ c.index-as_slice-i.is) ∙ c.in-Some.ensures.reads)
+    (λ node at. let one : Some c.index-as_slice-i.result ≡ Some node = sym found ∙ at in let same : c.index-as_slice-i.result ≡ node = cc in ap (λ (n : Node). n.op) (sym same ∙ c.index-as_slice-i.is) ∙ c.in-Some.ensures.reader)
     c.args.state.now c.args.taps.now c.take.new.taps c.in_err-take-in-Some.ensures.stopped)
 
 pub returns-in_ok-take-in-Some-clause-begun : goal.returns-in_ok-take-in-Some-clause-begun
@@ -31,7 +31,7 @@ returns-in_ok-take-in-Some-clause-begun g c =
     let found : slice_get c.args.scene.now.plan.now.nodes c.args.i ≡ Some c.index-as_slice-i.result =
     slice_get_read _ _ _ _ refl c.requires.within (c.index-as_slice-i.is ∙ ap (λ nodes. get_or nodes c.args.i c.index-as_slice-i.result) c.as_slice.ensures) in
     node_reader g.T.Taps.stands c.args.scene.now c.args.i c.in-Some.buffer
-    (λ node at. let one : Some c.index-as_slice-i.result ≡ Some node = sym found ∙ at in let same : c.index-as_slice-i.result ≡ node = cc in ap (λ (n : Node). n.op) (sym same ∙ c.index-as_slice-i.is) ∙ c.in-Some.ensures.reads)
+    (λ node at. let one : Some c.index-as_slice-i.result ≡ Some node = sym found ∙ at in let same : c.index-as_slice-i.result ≡ node = cc in ap (λ (n : Node). n.op) (sym same ∙ c.index-as_slice-i.is) ∙ c.in-Some.ensures.reader)
     c.args.state.now c.args.taps.now c.take.new.taps c.take.new.self c.in_ok-take-in-Some.ensures.took
 
 pub returns-in-None-clause-begun : goal.returns-in-None-clause-begun
@@ -49,5 +49,5 @@ returns-in_err-take-in-Some-clause-reads g c =
       buffer = c.in-Some.buffer;
       node = c.index-as_slice-i.result;
       found = found;
-      reads = ap (λ (n : Node). n.op) c.index-as_slice-i.is ∙ c.in-Some.ensures.reads;
+      reads = ap (λ (n : Node). n.op) c.index-as_slice-i.is ∙ c.in-Some.ensures.reader;
     })

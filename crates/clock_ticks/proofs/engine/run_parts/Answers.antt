@@ -9,7 +9,7 @@ use Rattle.clock_ticks.proofs.engine.run_parts.Goals as goal
 
 pub run_tick-requires-clause-makes : goal.run_tick-requires-clause-makes
 run_tick-requires-clause-makes g c = record {
-  shape_is = record { nodes = c.requires.parts.plan.nodes; few = c.requires.parts.few; in_clocks = c.requires.parts.in_clocks };
+  scene_is = record { nodes = c.requires.parts.plan.nodes; few = c.requires.parts.few; in_clocks = c.requires.parts.in_clocks };
   in_own = search rules;
   main = main_is c.args.parts.now.clock;
   levels = has_levels c.args.parts.now.scene.plan.now c.args.parts.now.scene.clocks.now c.requires.parts.clocks c.requires.parts.in_clocks c.args.parts.now.clock;

@@ -4,7 +4,7 @@ use Rattle.frame_core.specs.Library.{Sounds}
 use Rattle.op_leaf.specs.declared.leaf.Leaf.{Leaf as TheLeaf}
 use Rattle.op_leaf.specs.Leaves.{HasTracksOf}
 use Rattle.plan_core.specs.declared.node.Op.{Op}
-use Rattle.plan_core.specs.declared.node.Op.TheVariants.{Single, Playlist, Blank, Square, Fail, Fallback, Switch, Sequence, Rotate, Random, Add, Amplify, Mean, Stereo, Crossfade, Buffer, Clock}
+use Rattle.plan_core.specs.declared.node.Op.TheVariants.{Single, Playlist, Blank, Square, Fail}
 use Rattle.stream_meaning.specs.Operators.{work_of}
 use Rattle.node_states.specs.declared.task.Task.TheVariants as task
 use Rattle.node_states.specs.Works.{IsTask}
@@ -16,18 +16,7 @@ has_tracks library rate i kind (Playlist file again) leaf within is = subst (Has
 has_tracks library rate i kind (Blank track) leaf within is = subst (HasTracksOf library) (sym is) tt
 has_tracks library rate i kind (Square pitch) leaf within is = subst (HasTracksOf library) (sym is) tt
 has_tracks library rate i kind Fail leaf within is = subst (HasTracksOf library) (sym is) tt
-has_tracks library rate i kind (Fallback sensitive) leaf within is = absurd is
-has_tracks library rate i kind (Switch sensitive preds) leaf within is = absurd is
-has_tracks library rate i kind Sequence leaf within is = absurd is
-has_tracks library rate i kind Rotate leaf within is = absurd is
-has_tracks library rate i kind (Random seed) leaf within is = absurd is
-has_tracks library rate i kind (Add normalize) leaf within is = absurd is
-has_tracks library rate i kind (Amplify factor) leaf within is = absurd is
-has_tracks library rate i kind Mean leaf within is = absurd is
-has_tracks library rate i kind Stereo leaf within is = absurd is
-has_tracks library rate i kind (Crossfade overlap) leaf within is = absurd is
-has_tracks library rate i kind (Buffer buffer) leaf within is = absurd is
-has_tracks library rate i kind (Clock id) leaf within is = absurd is
+has_tracks library rate i kind _ leaf within is = absurd is
 
 pub returns-in-Play-clause-fits : goal.returns-in-Play-clause-fits
 returns-in-Play-clause-fits c = λ library is within.
