@@ -47,7 +47,7 @@ pub(crate) fn plain_decimal(given: &mut Vec<Given>) -> Result<Decimal, Fault>
     ensures { Gives (λ d. (d, map view_given given.new.items)) result (plain_decimal (map view_given given.old.items)) }
 {
     let value = plain(given)?;
-    let number = as_decimal(&value)?;
+    let number = as_decimal(value)?;
     Ok(number)
 }
 
@@ -57,7 +57,7 @@ pub(crate) fn plain_format(given: &mut Vec<Given>) -> Result<bool, Fault>
     ensures { Gives (λ w. (w, map view_given given.new.items)) result (plain_format (map view_given given.old.items)) }
 {
     let value = plain(given)?;
-    let wide = as_format(&value)?;
+    let wide = as_format(value)?;
     Ok(wide)
 }
 
@@ -70,7 +70,7 @@ pub(crate) fn bool_or(given: &mut Vec<Given>, label: &str, default: bool) -> Res
     match argument(given, Some(label)) {
         None => Ok(default),
         Some(value) => {
-            let truth = as_bool(&value)?;
+            let truth = as_bool(value)?;
             Ok(truth)
         }
     }
@@ -89,7 +89,7 @@ pub(crate) fn decimal_or(
     match argument(given, Some(label)) {
         None => Ok(default),
         Some(value) => {
-            let number = as_decimal(&value)?;
+            let number = as_decimal(value)?;
             Ok(number)
         }
     }
@@ -104,7 +104,7 @@ pub(crate) fn int_or(given: &mut Vec<Given>, label: &str, default: i64) -> Resul
     match argument(given, Some(label)) {
         None => Ok(default),
         Some(value) => {
-            let number = as_int(&value)?;
+            let number = as_int(value)?;
             Ok(number)
         }
     }
@@ -136,41 +136,41 @@ fn as_text(value: Value) -> Result<Text, Fault>
 }
 
 #[tactic(auto, unfolding(crate::specs::Parts::as_decimal))]
-fn as_decimal(value: &Value) -> Result<Decimal, Fault>
-    ensures { Gives (λ d. d) result (as_decimal (view_value value.now)) }
+fn as_decimal(value: Value) -> Result<Decimal, Fault>
+    ensures { Gives (λ d. d) result (as_decimal (view_value value)) }
 {
     match value {
-        Value::Decimal(number) => Ok(*number),
+        Value::Decimal(number) => Ok(number),
         _ => Err(Fault::Stuck),
     }
 }
 
 #[tactic(auto, unfolding(crate::specs::Parts::as_int))]
-fn as_int(value: &Value) -> Result<i64, Fault>
-    ensures { Gives (λ n. n) result (as_int (view_value value.now)) }
+fn as_int(value: Value) -> Result<i64, Fault>
+    ensures { Gives (λ n. n) result (as_int (view_value value)) }
 {
     match value {
-        Value::Int(number) => Ok(*number),
+        Value::Int(number) => Ok(number),
         _ => Err(Fault::Stuck),
     }
 }
 
 #[tactic(auto, unfolding(crate::specs::Parts::as_bool))]
-fn as_bool(value: &Value) -> Result<bool, Fault>
-    ensures { Gives (λ b. b) result (as_bool (view_value value.now)) }
+fn as_bool(value: Value) -> Result<bool, Fault>
+    ensures { Gives (λ b. b) result (as_bool (view_value value)) }
 {
     match value {
-        Value::Truth(truth) => Ok(*truth),
+        Value::Truth(truth) => Ok(truth),
         _ => Err(Fault::Stuck),
     }
 }
 
 #[tactic(auto, unfolding(crate::specs::Parts::as_format))]
-fn as_format(value: &Value) -> Result<bool, Fault>
-    ensures { Gives (λ w. w) result (as_format (view_value value.now)) }
+fn as_format(value: Value) -> Result<bool, Fault>
+    ensures { Gives (λ w. w) result (as_format (view_value value)) }
 {
     match value {
-        Value::Format { wide } => Ok(*wide),
+        Value::Format { wide } => Ok(wide),
         _ => Err(Fault::Stuck),
     }
 }

@@ -29,7 +29,7 @@ pub(crate) fn plain_source(plan: &Draft, kind: Kind, given: &mut Vec<Given>) -> 
     ensures there { IfOk result (λ n. n < length plan.now.nodes) }
 {
     let value = plain(given)?;
-    let source = source_of(plan, kind, &value)?;
+    let source = as_source(plan, kind, value)?;
     Ok(source)
 }
 
@@ -46,7 +46,7 @@ pub(crate) fn plain_sources(
     ensures there { IfOk result (λ ns. All (λ n. n < length plan.now.nodes) ns.items) }
 {
     let value = plain(given)?;
-    let sources = sources_of(alloc, plan, kind, &value)?;
+    let sources = as_sources(alloc, plan, kind, value)?;
     Ok(sources)
 }
 
@@ -63,8 +63,31 @@ pub(crate) fn plain_pairs(
     ensures there { IfOk result (λ ps. All (λ n. n < length plan.now.nodes) ps.sources.items) }
 {
     let value = plain(given)?;
-    let pairs = pairs_of(alloc, plan, kind, &value)?;
+    let pairs = as_pairs(alloc, plan, kind, value)?;
     Ok(pairs)
+}
+
+// A source of this kind, by the number of its node. The value ends here, and so do those of the next two.
+fn as_source(plan: &Draft, kind: Kind, value: Value) -> Result<u32, Fault>
+    ensures given { Gives (λ n. n) result (source_of plan.now.nodes kind (view_value value)) }
+    ensures there { IfOk result (λ n. n < length plan.now.nodes) }
+{
+    source_of(plan, kind, &value)
+}
+
+fn as_sources(alloc: Global, plan: &Draft, kind: Kind, value: Value) -> Result<Vec<u32>, Fault>
+    ensures given { Gives (λ ns. ns.items) result (sources_of plan.now.nodes kind (view_value value)) }
+    ensures there { IfOk result (λ ns. All (λ n. n < length plan.now.nodes) ns.items) }
+{
+    sources_of(alloc, plan, kind, &value)
+}
+
+fn as_pairs(alloc: Global, plan: &Draft, kind: Kind, value: Value) -> Result<Pairs, Fault>
+    ensures given { Gives (λ ps. (map view_pred ps.preds.items, ps.sources.items)) result
+        (pairs_of plan.now.nodes kind (view_value value)) }
+    ensures there { IfOk result (λ ps. All (λ n. n < length plan.now.nodes) ps.sources.items) }
+{
+    pairs_of(alloc, plan, kind, &value)
 }
 
 fn is_kind(wanted: Kind, kind: Kind) -> bool
