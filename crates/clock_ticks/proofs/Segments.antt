@@ -6,11 +6,11 @@ use Rattle.std.proofs.lemmas.Simd.{length-zip2}
 use Rattle.clock_infer.specs.declared.clock_map.NodeClock.{NodeClock}
 use Rattle.cell_ring.specs.Rings.{inner_cell, inner_cells}
 use Rattle.frame_core.specs.Slots.{Slot, title_of}
-use Rattle.frame_core.specs.Calls.{Call}
+use Rattle.frame_core.specs.Calls.{Answer, Call}
 use Rattle.op_leaf.specs.Lanes.{AreTitled, IsLane}
 use Rattle.op_leaf.proofs.Laid.{lane_cells}
-use Rattle.stream_meaning.specs.Instants.{first_instants, moment_after, offer, part_at}
-use Rattle.stream_meaning.specs.Calls.{after_calls, calls_of, joined_upto}
+use Rattle.stream_meaning.specs.Instants.{Setting, first_instants, moment_after, offer, part_at}
+use Rattle.stream_meaning.specs.Calls.{HasAnswers, after_calls, calls_of, joined_upto}
 use Rattle.stream_meaning.proofs.Answering.{joined_skip}
 use Rattle.clock_outputs.specs.Segments.{segment_slots}
 use Rattle.op_mix.specs.Stretches.{samples_of}
@@ -19,7 +19,7 @@ use Rattle.node_states.specs.Times.{TimeStands}
 use Rattle.clock_instants.specs.Held.{IsHeld}
 use Rattle.clock_nodes.specs.declared.scene.Scene.{Scene}
 use Rattle.clock_nodes.specs.Scenes.{setting_over}
-use Rattle.nested_instants.specs.Clocks.{InstantMade, IsWorld}
+use Rattle.nested_instants.specs.Clocks.{InstantMade, IsWorld, Progress}
 use Rattle.nested_instants.specs.Stretches.{StretchMade}
 use Rattle.nested_instants.specs.declared.clock_states.ClockStates.{ClockStates}
 use Rattle.clock_ticks.specs.declared.clock_state.ClockState.{ClockState}
@@ -73,6 +73,10 @@ quiet_calls calls from n many next quiet =
     ∙ sym (joined_skip (λ j. calls (n + j)) 1 (suc many) (omega arith)
     (λ j up low. let there : n + j ≡ from + (j - 1) = omega (arith, next, up) in ap calls there ∙ quiet (j - 1) (omega (arith, up, low))))
 
+-- the answers behind those that were taken
+pub taken_by : (setting : Setting) (now : Progress) (front : ℕ → List Answer) (more : List Call) → now.front ≡ front → HasAnswers setting (after_calls front more) → HasAnswers setting (after_calls now.front more)
+taken_by setting now front more took has = subst (λ (f : ℕ → List Answer). HasAnswers setting (after_calls f more)) (sym took) has
+
 module _ {T : Type 0} (stands : T → List Call → Type 0) (scene : Scene) (clock : NodeClock) (own : List Bool) where
   pub segment_made : (old new : ClockState) (mid : ClockStates) (a b : T) (many : ℕ) → InstantMade stands scene own clock old.time old.clocks mid a b
       → StretchMade scene clock old.time many mid new.clocks → new.clocks.latest ≡ mid.latest
@@ -84,19 +88,19 @@ module _ {T : Type 0} (stands : T → List Call → Type 0) (scene : Scene) (clo
     run = λ other sub n front meant has stand.
         let S = setting_over scene other in
         let world : IsWorld S sub stand.rank own = record { ranks = stand.ranks; meaning = meant.meaning; down = meant.down; readers = meant.readers; roots = meant.roots } in
-        let made = one.made other sub stand.rank stand.ran stand.fed front world has stand.stand stand.needed (subst (λ m. TimeStands S.start m old.time) (sym stand.made) stand.time) in
-        let next : made.ran_now clock ≡ suc n = made.once ∙ ap suc stand.made in
+        let made = one.made other sub stand.rank stand.now world (taken_by S stand.now front one.more stand.took has) stand.stand stand.needed (subst (λ m. TimeStands S.start m old.time) (sym stand.made) stand.time) in
+        let next : made.now.ran clock ≡ suc n = made.once ∙ ap suc stand.made in
         let parts : mid.latest.parts.items ≡ (moment_after S sub clock (first_instants S sub clock n)).parts =
         made.parts ∙ ap (λ m. (moment_after S sub clock (first_instants S sub clock m)).parts) stand.made in
-        let ran = rest.run other sub stand.rank made.ran_now made.filled_now (after_calls front one.more) own n world made.stand made.needed next parts
+        let ran = rest.run other sub stand.rank made.now own n world made.stand made.needed next parts
         (subst (λ m. IsHeld S sub clock (first_instants S sub clock m) mid.room.held.items) stand.made made.keeps) stand.time in
         record {
           state_stands = record {
             rank = stand.rank;
-            ran = ran.ran_now;
-            fed = ran.filled_now;
+            now = ran.now;
             ranks = stand.ranks;
             made = (let once = ran.once in omega (arith, once, next));
+            took = ran.took ∙ made.took ∙ ap (λ (f : ℕ → List Answer). after_calls f one.more) stand.took;
             stand = ran.stand;
             needed = ran.needed;
             time = later S.start n stand.time;
@@ -106,11 +110,11 @@ module _ {T : Type 0} (stands : T → List Call → Type 0) (scene : Scene) (clo
               let same : (part_at new.clocks.latest.parts.items i).slot ≡ offer (moment_after S sub clock (first_instants S sub clock n)) i =
               ap (λ latest. (part_at latest.parts.items i).slot) kept ∙ ap (λ ps. (part_at ps i).slot) parts in
               slots_by (part_at new.clocks.latest.parts.items i).slot many (samples_of new.clocks.room.left.items i many) (samples_of new.clocks.room.right.items i many)
-              (λ j. slot_in S sub clock i (made.ran_now clock + j)) (λ there. is.given (sym (ap (λ (slot : Slot). is_some slot) same) ∙ there))
+              (λ j. slot_in S sub clock i (made.now.ran clock + j)) (λ there. is.given (sym (ap (λ (slot : Slot). is_some slot) same) ∙ there))
               (λ there j low. is.titled (sym (ap (λ (slot : Slot). is_some slot) same) ∙ there) j low ∙ sym (ap title_of same)) (λ none. is.silent (sym (ap (λ (slot : Slot). is_some slot) same) ∙ none))
-              ∙ slots_from (slot_in S sub clock i) (part_at new.clocks.latest.parts.items i).slot n (made.ran_now clock) many
+              ∙ slots_from (slot_in S sub clock i) (part_at new.clocks.latest.parts.items i).slot n (made.now.ran clock) many
               (ap (λ latest. (part_at latest.parts.items i).slot) kept ∙ ap (λ ps. (part_at ps i).slot) parts) next;
           calls = made.calls ∙ ap (λ m. calls_of S sub clock (first_instants S sub clock m)) stand.made
-              ∙ quiet_calls (λ m. calls_of S sub clock (first_instants S sub clock m)) (made.ran_now clock) n many next ran.quiet;
+              ∙ quiet_calls (λ m. calls_of S sub clock (first_instants S sub clock m)) (made.now.ran clock) n many next ran.quiet;
         };
   }

@@ -46,10 +46,10 @@ none_made : (setting : Setting) (m : ℕ) (whole : ClockState) (n : ℕ) (rank :
     → n ≡ length setting.plan.nodes → HasLanesFor whole → ClockStateStands setting (sub_of setting) (Main m) 0 (λ buffer. []) whole
 none_made setting m whole n rank ranks low new time same rests all laned = record {
   rank = lifted setting.clocks rank m (length setting.plan.nodes);
-  ran = λ other. 0;
-  fed = λ k. 0;
+  now = record { ran = λ other. 0; filled = λ k. 0; front = λ buffer. [] };
   ranks = lifted_ranks setting.clocks rank m (length setting.plan.nodes) ranks;
   made = refl;
+  took = refl;
   stand = record {
     stand = λ i node state found stored above.
         let under = driven_by setting.clocks rank m (length setting.plan.nodes) i (low i (slice_get_within setting.plan.nodes i node found)) above in

@@ -8,7 +8,7 @@ use Rattle.stream_meaning.specs.Instants.{Setting}
 use Rattle.node_states.specs.Times.{TimeStands}
 use Rattle.clock_nodes.specs.declared.scene.Scene.{Scene}
 use Rattle.clock_nodes.specs.Scenes.{IsScene}
-use Rattle.nested_instants.specs.Clocks.{AreClockStates, HasLevels, HasRanks, RanAsNeeded, Stand}
+use Rattle.nested_instants.specs.Clocks.{AreClockStates, HasLevels, HasRanks, Progress, RanAsNeeded, Stand}
 use Rattle.clock_ticks.specs.declared.clock_state.ClockState.{ClockState}
 
 -- it is no sub-clock
@@ -35,10 +35,10 @@ pub record CanMake (scene : Scene) (clock : NodeClock) (own : List Bool) (state 
 pub record ClockStateStands (setting : Setting) (sub : ℕ → ℕ → List Slot) (clock : NodeClock) (n : ℕ) (front : ℕ
     → List Answer) (state : ClockState) : Type 0 where
   pub rank : NodeClock → ℕ
-  pub ran : NodeClock → ℕ
-  pub fed : ℕ → ℕ
+  pub now : Progress
   pub ranks : HasRanks setting.clocks rank
-  pub made : ran clock ≡ n
-  pub stand : Stand setting sub rank (rank clock) ran fed front state.clocks
-  pub needed : RanAsNeeded setting sub rank (rank clock) ran fed
+  pub made : now.ran clock ≡ n
+  pub took : now.front ≡ front
+  pub stand : Stand setting sub rank (rank clock) now state.clocks
+  pub needed : RanAsNeeded setting sub rank (rank clock) now
   pub time : TimeStands setting.start n state.time

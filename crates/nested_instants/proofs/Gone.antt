@@ -1,14 +1,14 @@
 -- A clock has made some instants more, one or many.
-use Rattle.std.proofs.Common.{◌≡◌, ◌≤◌, ◌+◌, ◌-◌, ◌∙◌, ◌++◌, ℕ, zero, suc, List, [], append_assoc, append-nil, arith, ap, sym, subst}
+use Rattle.std.proofs.Common.{◌≡◌, ◌≤◌, ◌+◌, ◌-◌, ◌∙◌, ◌++◌, ℕ, zero, suc, List, [], append_assoc, append-nil, arith, ap, sym}
 use Rattle.std.specs.Prelude.{Bool}
 use Rattle.clock_infer.specs.declared.clock_map.NodeClock.{NodeClock}
 use Rattle.frame_core.specs.Slots.{Slot}
-use Rattle.frame_core.specs.Calls.{Call, Answer}
+use Rattle.frame_core.specs.Calls.{Call}
 use Rattle.stream_meaning.specs.Instants.{Setting, clock_of, first_instants}
 use Rattle.stream_meaning.specs.Calls.{after_calls, calls_of, joined_between, joined_upto}
 use Rattle.stream_meaning.proofs.Answering.{after_calls-none, between_more, between_none, joined_skip}
 use Rattle.nested_instants.specs.declared.clock_states.ClockStates.{ClockStates}
-use Rattle.nested_instants.specs.Clocks.{HasMadeInstant, RanAsNeeded, Stand}
+use Rattle.nested_instants.specs.Clocks.{HasMadeInstant, Progress, RanAsNeeded, Stand}
 use Rattle.nested_instants.specs.Stretches.{HasMadeOn}
 
 -- the calls of a clock's instants
@@ -16,16 +16,15 @@ abbrev pub calls_at : Setting → (sub : ℕ → ℕ → List Slot) → NodeCloc
 calls_at setting sub clock m = calls_of setting sub clock (first_instants setting sub clock m)
 
 -- a clock has made so many instants more, by their calls, and no other clock of its rank or a lower one has
-pub record HasGone (setting : Setting) (sub : ℕ → ℕ → List Slot) (rank : NodeClock → ℕ) (clock : NodeClock) (many : ℕ) (ran : NodeClock → ℕ) (filled : ℕ → ℕ)
-    (front : ℕ → List Answer) (more : List Call) (all : ClockStates) : Type 0 where
-  pub ran_now : NodeClock → ℕ
-  pub filled_now : ℕ → ℕ
-  pub stand : Stand setting sub rank (rank clock) ran_now filled_now (after_calls front more) all
-  pub once : ran_now clock ≡ ran clock + many
-  pub others : (other : NodeClock) → (other ≡ clock → ⊥) → rank other ≤ rank clock → ran_now other ≡ ran other
-  pub held : (i : ℕ) → (clock_of setting i ≡ clock → ⊥) → rank (clock_of setting i) ≤ rank clock → filled_now i ≡ filled i
-  pub needed : RanAsNeeded setting sub rank (rank clock) ran_now filled_now
-  pub calls : more ≡ joined_between (calls_at setting sub clock) (ran clock) (ran clock + many)
+pub record HasGone (setting : Setting) (sub : ℕ → ℕ → List Slot) (rank : NodeClock → ℕ) (clock : NodeClock) (many : ℕ) (progress : Progress) (more : List Call) (all : ClockStates) : Type 0 where
+  pub now : Progress
+  pub took : now.front ≡ after_calls progress.front more
+  pub stand : Stand setting sub rank (rank clock) now all
+  pub once : now.ran clock ≡ progress.ran clock + many
+  pub others : (other : NodeClock) → (other ≡ clock → ⊥) → rank other ≤ rank clock → now.ran other ≡ progress.ran other
+  pub held : (i : ℕ) → (clock_of setting i ≡ clock → ⊥) → rank (clock_of setting i) ≤ rank clock → now.filled i ≡ progress.filled i
+  pub needed : RanAsNeeded setting sub rank (rank clock) now
+  pub calls : more ≡ joined_between (calls_at setting sub clock) (progress.ran clock) (progress.ran clock + many)
 
 pub between_then : (calls : ℕ → List Call) (from at many : ℕ) → from ≤ at → joined_between calls from at ++ joined_between calls at (at + many) ≡ joined_between calls from (at + many)
 between_then calls from at zero low =
@@ -42,37 +41,37 @@ between_then calls from at (suc m) low =
     ∙ sym (between_more calls from (at + m) (omega (arith, low)))
     ∙ ap (joined_between calls from) (sym e)
 
-module _ (setting : Setting) (sub : ℕ → ℕ → List Slot) (rank : NodeClock → ℕ) (clock : NodeClock) (ran : NodeClock → ℕ) (filled : ℕ → ℕ) (front : ℕ → List Answer)
+module _ (setting : Setting) (sub : ℕ → ℕ → List Slot) (rank : NodeClock → ℕ) (clock : NodeClock) (progress : Progress)
     (all : ClockStates) where
   abbrev Calls : ℕ → List Call
   Calls = calls_at setting sub clock
 
-  pub gone_once : (more : List Call) → HasMadeInstant setting sub rank clock ran filled front more all → HasGone setting sub rank clock 1 ran filled front more all
+  pub gone_once : (more : List Call) → HasMadeInstant setting sub rank clock progress more all → HasGone setting sub rank clock 1 progress more all
   gone_once more m = record {
-    ran_now = m.ran_now;
-    filled_now = m.filled_now;
+    now = m.now;
+    took = m.took;
     stand = m.stand;
     once = (let once = m.once in omega (arith, once));
     others = m.others;
     held = m.held;
     needed = m.needed;
     calls =
-        let e : ran clock + 1 ≡ suc (ran clock) = omega arith in
-        m.calls ∙ sym (ap (λ (cs : List Call). cs ++ Calls (ran clock)) (between_none Calls (ran clock)))
-        ∙ sym (between_more Calls (ran clock) (ran clock) (omega arith)) ∙ ap (joined_between Calls (ran clock)) (sym e);
+        let e : progress.ran clock + 1 ≡ suc (progress.ran clock) = omega arith in
+        m.calls ∙ sym (ap (λ (cs : List Call). cs ++ Calls (progress.ran clock)) (between_none Calls (progress.ran clock)))
+        ∙ sym (between_more Calls (progress.ran clock) (progress.ran clock) (omega arith)) ∙ ap (joined_between Calls (progress.ran clock)) (sym e);
   }
 
-  pub gone_on : (own : List Bool) (n many : ℕ) → HasMadeOn setting sub rank own clock n many ran filled front all → HasGone setting sub rank clock many ran filled front [] all
+  pub gone_on : (own : List Bool) (n many : ℕ) → HasMadeOn setting sub rank own clock n many progress all → HasGone setting sub rank clock many progress [] all
   gone_on own n many h = record {
-    ran_now = h.ran_now;
-    filled_now = h.filled_now;
-    stand = subst (λ (f : ℕ → List Answer). Stand setting sub rank (rank clock) h.ran_now h.filled_now f all) (sym (after_calls-none front)) h.stand;
+    now = h.now;
+    took = h.took ∙ sym (after_calls-none progress.front);
+    stand = h.stand;
     once = h.once;
     others = h.others;
     held = h.held;
     needed = h.needed;
     calls =
-        let e : ran clock + many - ran clock ≡ many = omega arith in
-        sym (ap (λ (n : ℕ). joined_upto (λ j. Calls (ran clock + j)) n) e
-        ∙ joined_skip (λ j. Calls (ran clock + j)) 0 many (omega arith) (λ j up low. h.quiet j low));
+        let e : progress.ran clock + many - progress.ran clock ≡ many = omega arith in
+        sym (ap (λ (n : ℕ). joined_upto (λ j. Calls (progress.ran clock + j)) n) e
+        ∙ joined_skip (λ j. Calls (progress.ran clock + j)) 0 many (omega arith) (λ j up low. h.quiet j low));
   }

@@ -11,7 +11,7 @@ use Rattle.stretch_laws.specs.Stretches.{IsStretch}
 use Rattle.node_states.specs.declared.state.NodeState.{NodeState}
 use Rattle.node_states.specs.Passing.{asked, passes}
 use Rattle.nested_instants.specs.declared.clock_states.ClockStates.{ClockStates}
-use Rattle.nested_instants.specs.Clocks.{GoesOnFor, IsOpen, rest_at}
+use Rattle.nested_instants.specs.Clocks.{GoesOnFor, IsOpen, Progress, rest_at}
 
 -- what a clock's nodes were filled, their states and what is kept of them are as they were
 pub goes_kept : (setting : Setting) (sub : ℕ → ℕ → List Slot) (clock : NodeClock) (past : List Moment) (rest : ℕ) (filled filled_now : ℕ → ℕ) (held held_now : List Part) (states states_now : List NodeState)
@@ -27,17 +27,17 @@ goes_kept setting sub clock past rest filled filled_now held held_now states sta
   };
 }
 
-pub open_kept : (setting : Setting) (sub : ℕ → ℕ → List Slot) (k : ℕ) (ran now : NodeClock → ℕ) (filled filled_now : ℕ → ℕ) (old new : ClockStates)
-    → now (Sub k) ≡ ran (Sub k) → rest_at new k ≡ rest_at old k
-    → ((i : ℕ) → clock_of setting i ≡ Sub k → (filled_now i ≡ filled i) × (slice_get new.states.items i ≡ slice_get old.states.items i) × (part_at new.room.held.items i ≡ part_at old.room.held.items i))
-    → (0 < rest_at old k → IsOpen setting sub k (rest_at old k) ran filled old) → 0 < rest_at new k → IsOpen setting sub k (rest_at new k) now filled_now new
-open_kept setting sub k ran now filled filled_now old new same rest alike was some =
+pub open_kept : (setting : Setting) (sub : ℕ → ℕ → List Slot) (k : ℕ) (progress now : Progress) (old new : ClockStates)
+    → now.ran (Sub k) ≡ progress.ran (Sub k) → rest_at new k ≡ rest_at old k
+    → ((i : ℕ) → clock_of setting i ≡ Sub k → (now.filled i ≡ progress.filled i) × (slice_get new.states.items i ≡ slice_get old.states.items i) × (part_at new.room.held.items i ≡ part_at old.room.held.items i))
+    → (0 < rest_at old k → IsOpen setting sub k (rest_at old k) progress old) → 0 < rest_at new k → IsOpen setting sub k (rest_at new k) now new
+open_kept setting sub k progress now old new same rest alike was some =
     let o = was (subst (λ n. 0 < n) rest some) in
-    subst (λ n. IsOpen setting sub k n now filled_now new) (sym rest) (record {
+    subst (λ n. IsOpen setting sub k n now new) (sym rest) (record {
       n = o.n;
       at = same ∙ o.at;
       gave = o.gave;
-      goes = goes_kept setting sub (Sub k) _ (rest_at old k) filled filled_now old.room.held.items new.room.held.items old.states.items new.states.items alike o.goes;
+      goes = goes_kept setting sub (Sub k) _ (rest_at old k) progress.filled now.filled old.room.held.items new.room.held.items old.states.items new.states.items alike o.goes;
     })
 
 stretch_fewer : (setting : Setting) (sub : ℕ → ℕ → List Slot) (clock : NodeClock) (past : List Moment) (rest many : ℕ) → many ≤ rest → IsStretch setting sub clock past (suc rest) → IsStretch setting sub clock past (suc many)

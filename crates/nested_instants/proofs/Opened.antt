@@ -25,7 +25,7 @@ use Rattle.clock_nodes.specs.Scenes.{setting_over}
 use Rattle.clock_nodes.specs.declared.scene.Scene.{Scene}
 use Rattle.nested_instants.specs.declared.clock_states.ClockStates.{ClockStates}
 use Rattle.clock_instants.specs.Stretches.{HasLanes}
-use Rattle.nested_instants.specs.Clocks.{ClockOpened, HasRanks, IsOpen, OpeningStopped, RanAsNeeded, Stand, rest_at}
+use Rattle.nested_instants.specs.Clocks.{ClockOpened, HasRanks, IsOpen, OpeningStopped, Progress, RanAsNeeded, Stand, begun_progress, rest_at}
 use Rattle.nested_instants.proofs.Kept.{open_kept}
 use Rattle.nested_instants.proofs.Equal.{they_differ}
 use Rattle.nested_instants.proofs.Fading.{fade_reads}
@@ -77,92 +77,92 @@ begun-no_reader setting clock filled k none = ap (λ (b : Bool). begun_by (lies_
 reads_by : (setting : Setting) (i buffer : ℕ) (node : Node) → slice_get setting.plan.nodes i ≡ Some node → work_at setting i node ≡ Reads buffer → reads_at setting i ≡ true
 reads_by setting i buffer node found work = ap (reads_in setting i) found ∙ ap reads work
 
-module _ (setting : Setting) (sub : ℕ → ℕ → List Slot) (rank : NodeClock → ℕ) (clock : NodeClock) (ran : NodeClock → ℕ) (filled : ℕ → ℕ) (front : ℕ → List Answer)
-    (old : ClockStates) (stand : Stand setting sub rank (rank clock) ran filled front old) (needed : RanAsNeeded setting sub rank (rank clock) ran filled) where
-  past_is : (i : ℕ) → lies_in setting clock i ≡ true → past_of setting sub ran i ≡ first_instants setting sub clock (ran clock)
-  past_is i inside = ap (λ c. first_instants setting sub c (ran c)) (same_clock-true (clock_of setting i) clock inside)
+module _ (setting : Setting) (sub : ℕ → ℕ → List Slot) (rank : NodeClock → ℕ) (clock : NodeClock) (progress : Progress)
+    (old : ClockStates) (stand : Stand setting sub rank (rank clock) progress old) (needed : RanAsNeeded setting sub rank (rank clock) progress) where
+  past_is : (i : ℕ) → lies_in setting clock i ≡ true → past_of setting sub progress.ran i ≡ first_instants setting sub clock (progress.ran clock)
+  past_is i inside = ap (λ c. first_instants setting sub c (progress.ran c)) (same_clock-true (clock_of setting i) clock inside)
 
-  even_is : (i : ℕ) → lies_in setting clock i ≡ true → reads_at setting i ≡ true → filled i ≡ length (first_instants setting sub clock (ran clock))
+  even_is : (i : ℕ) → lies_in setting clock i ≡ true → reads_at setting i ≡ true → progress.filled i ≡ length (first_instants setting sub clock (progress.ran clock))
   even_is i inside reading =
       let here = same_clock-true (clock_of setting i) clock inside in
       let level : rank (clock_of setting i) ≡ rank clock = ap rank here in
-      needed.begun i reading (omega (arith, level)) ∙ ap ran here ∙ sym (past_long setting sub clock (ran clock))
+      needed.begun i reading (omega (arith, level)) ∙ ap progress.ran here ∙ sym (past_long setting sub clock (progress.ran clock))
 
-  pub clock_stands_at : ClockStands setting sub clock (first_instants setting sub clock (ran clock)) filled old.states.items
+  pub clock_stands_at : ClockStands setting sub clock (first_instants setting sub clock (progress.ran clock)) progress.filled old.states.items
   clock_stands_at = record {
     each = λ i node state inside found.
         let level : rank (clock_of setting i) ≡ rank clock = ap rank (same_clock-true (clock_of setting i) clock inside.inside) in
-        subst (λ past. StateStands setting sub past (filled i) i (work_at setting i node) state) (past_is i inside.inside)
+        subst (λ past. StateStands setting sub past (progress.filled i) i (work_at setting i node) state) (past_is i inside.inside)
         (stand.stand i node state inside.there found (omega (arith, level)));
   }
 
-  pub have_taken : HaveTaken setting clock (first_instants setting sub clock (ran clock)) filled front
+  pub have_taken : HaveTaken setting clock (first_instants setting sub clock (progress.ran clock)) progress.filled progress.front
   have_taken = record {
     even = even_is;
     taken = λ i buffer node inside work.
-        let past = first_instants setting sub clock (ran clock) in
+        let past = first_instants setting sub clock (progress.ran clock) in
         let even = even_is i inside.inside (reads_by setting i buffer node inside.there work) in
-        ap (λ r. r.taken) (sym (ap (λ p. reading_by setting i buffer p (filled i)) (past_is i inside.inside) ∙ ap (λ n. reading_by setting i buffer past n) even ∙ reading_closed setting i buffer past))
+        ap (λ r. r.taken) (sym (ap (λ p. reading_by setting i buffer p (progress.filled i)) (past_is i inside.inside) ∙ ap (λ n. reading_by setting i buffer past n) even ∙ reading_closed setting i buffer past))
         ∙ stand.taken i buffer node inside.there work;
   }
 
   -- within a tick nothing is to be done
-  pub within_stands : nat_eq (length (first_instants setting sub clock (ran clock)) % setting.plan.frame) 0 ≡ false
-      → ClockStands setting sub clock (first_instants setting sub clock (ran clock)) (begun_in setting clock filled) old.states.items
+  pub within_stands : nat_eq (length (first_instants setting sub clock (progress.ran clock)) % setting.plan.frame) 0 ≡ false
+      → ClockStands setting sub clock (first_instants setting sub clock (progress.ran clock)) (begun_in setting clock progress.filled) old.states.items
   within_stands within = record {
     each = λ i node state inside found.
-        let past = first_instants setting sub clock (ran clock) in
-        subst (λ (n : ℕ). StateStands setting sub past n i (work_at setting i node) state) (sym (begun-own setting clock filled i node inside))
-        (stays setting sub past (filled i) i (work_at setting i node) state within
+        let past = first_instants setting sub clock (progress.ran clock) in
+        subst (λ (n : ℕ). StateStands setting sub past n i (work_at setting i node) state) (sym (begun-own setting clock progress.filled i node inside))
+        (stays setting sub past (progress.filled i) i (work_at setting i node) state within
         (λ reading. even_is i inside.inside (ap (reads_in setting i) inside.there ∙ reading))
         (clock_stands_at.each i node state inside found));
   }
 
-  pub within_taken : nat_eq (length (first_instants setting sub clock (ran clock)) % setting.plan.frame) 0 ≡ false → (i buffer : ℕ) (node : Node) → IsIn setting clock i node
+  pub within_taken : nat_eq (length (first_instants setting sub clock (progress.ran clock)) % setting.plan.frame) 0 ≡ false → (i buffer : ℕ) (node : Node) → IsIn setting clock i node
       → work_at setting i node ≡ Reads buffer
-      → (reading_by setting i buffer (first_instants setting sub clock (ran clock)) (suc (length (first_instants setting sub clock (ran clock))))).taken ≡ length (after_calls front [] buffer)
+      → (reading_by setting i buffer (first_instants setting sub clock (progress.ran clock)) (suc (length (first_instants setting sub clock (progress.ran clock))))).taken ≡ length (after_calls progress.front [] buffer)
   within_taken within i buffer node inside work =
-      let past = first_instants setting sub clock (ran clock) in
+      let past = first_instants setting sub clock (progress.ran clock) in
       ap (λ r. r.taken) (reading_stays setting i buffer past within ∙ reading_closed setting i buffer past) ∙ have_taken.taken i buffer node inside work
-      ∙ ap length (sym (append-nil (front buffer)))
+      ∙ ap length (sym (append-nil (progress.front buffer)))
 
   module _ (ranks : HasRanks setting.clocks rank) (in_clocks : length setting.clocks ≡ length setting.plan.nodes) (own : HasOwnReaders setting) (more : List Call) (new : ClockStates)
-      (begun : ClockStands setting sub clock (first_instants setting sub clock (ran clock)) (begun_in setting clock filled) new.states.items)
+      (begun : ClockStands setting sub clock (first_instants setting sub clock (progress.ran clock)) (begun_in setting clock progress.filled) new.states.items)
       (taken : (i buffer : ℕ) (node : Node) → IsIn setting clock i node → work_at setting i node ≡ Reads buffer
-      → (reading_by setting i buffer (first_instants setting sub clock (ran clock)) (suc (length (first_instants setting sub clock (ran clock))))).taken ≡ length (after_calls front more buffer))
+      → (reading_by setting i buffer (first_instants setting sub clock (progress.ran clock)) (suc (length (first_instants setting sub clock (progress.ran clock))))).taken ≡ length (after_calls progress.front more buffer))
       (none : (buffer : ℕ) → ((i : ℕ) (node : Node) → IsIn setting clock i node → work_at setting i node ≡ Reads buffer → ⊥) → answers_in buffer more ≡ [])
       (others : (i : ℕ) → lies_in setting clock i ≡ false → slice_get new.states.items i ≡ slice_get old.states.items i)
       (times : new.times.items ≡ old.times.items) (room : new.room ≡ old.room) where
     stand_all : (i : ℕ) (node : Node) (state : NodeState) → slice_get setting.plan.nodes i ≡ Some node → slice_get new.states.items i ≡ Some state
         → rank clock ≤ rank (clock_of setting i)
-        → (b : Bool) → lies_in setting clock i ≡ b → StateStands setting sub (past_of setting sub ran i) (begun_in setting clock filled i) i (work_at setting i node) state
+        → (b : Bool) → lies_in setting clock i ≡ b → StateStands setting sub (past_of setting sub progress.ran i) (begun_in setting clock progress.filled i) i (work_at setting i node) state
     stand_all i node state found stored above true inside =
-        subst (λ past. StateStands setting sub past (begun_in setting clock filled i) i (work_at setting i node) state) (sym (past_is i inside))
+        subst (λ past. StateStands setting sub past (begun_in setting clock progress.filled i) i (work_at setting i node) state) (sym (past_is i inside))
         (begun.each i node state (record { there = found; inside = inside }) stored)
     stand_all i node state found stored above false outside =
-        subst (λ (n : ℕ). StateStands setting sub (past_of setting sub ran i) n i (work_at setting i node) state) (sym (begun-outside setting clock filled i outside))
+        subst (λ (n : ℕ). StateStands setting sub (past_of setting sub progress.ran i) n i (work_at setting i node) state) (sym (begun-outside setting clock progress.filled i outside))
         (stand.stand i node state found (sym (others i outside) ∙ stored) above)
 
     taken_all : (i buffer : ℕ) (node : Node) → slice_get setting.plan.nodes i ≡ Some node → work_at setting i node ≡ Reads buffer
-        → (b : Bool) → lies_in setting clock i ≡ b → (reading_by setting i buffer (past_of setting sub ran i) (begun_in setting clock filled i)).taken ≡ length (after_calls front more buffer)
+        → (b : Bool) → lies_in setting clock i ≡ b → (reading_by setting i buffer (past_of setting sub progress.ran i) (begun_in setting clock progress.filled i)).taken ≡ length (after_calls progress.front more buffer)
     taken_all i buffer node found work true inside =
-        let past = first_instants setting sub clock (ran clock) in
+        let past = first_instants setting sub clock (progress.ran clock) in
         let reading = reads_by setting i buffer node found work in
-        ap (λ p. (reading_by setting i buffer p (begun_in setting clock filled i)).taken) (past_is i inside)
-        ∙ ap (λ n. (reading_by setting i buffer past n).taken) (begun-reads setting clock filled i inside reading ∙ ap suc (even_is i inside reading))
+        ap (λ p. (reading_by setting i buffer p (begun_in setting clock progress.filled i)).taken) (past_is i inside)
+        ∙ ap (λ n. (reading_by setting i buffer past n).taken) (begun-reads setting clock progress.filled i inside reading ∙ ap suc (even_is i inside reading))
         ∙ taken i buffer node (record { there = found; inside = inside }) work
     taken_all i buffer node found work false outside =
-        ap (λ n. (reading_by setting i buffer (past_of setting sub ran i) n).taken) (begun-outside setting clock filled i outside)
+        ap (λ n. (reading_by setting i buffer (past_of setting sub progress.ran i) n).taken) (begun-outside setting clock progress.filled i outside)
         ∙ stand.taken i buffer node found work
-        ∙ ap length (sym (append-nil (front buffer)) ∙ ap (λ (answers : List Answer). front buffer ++ answers)
+        ∙ ap length (sym (append-nil (progress.front buffer)) ∙ ap (λ (answers : List Answer). progress.front buffer ++ answers)
         (sym (none buffer (λ j other inside same.
         let e = own.each j i buffer other node inside.there found same work in
         true≢false (sym inside.inside ∙ ap (lies_in setting clock) e ∙ outside)))))
 
-    begun_all : (i : ℕ) → reads_at setting i ≡ true → suc (rank clock) ≤ rank (clock_of setting i) → begun_in setting clock filled i ≡ ran (clock_of setting i)
+    begun_all : (i : ℕ) → reads_at setting i ≡ true → suc (rank clock) ≤ rank (clock_of setting i) → begun_in setting clock progress.filled i ≡ progress.ran (clock_of setting i)
     begun_all i reading above =
         let outside = they_differ (clock_of setting i) clock (λ same. let level : rank (clock_of setting i) ≡ rank clock = ap rank same in omega (arith, level, above)) in
-        begun-outside setting clock filled i outside ∙ stand.needed.begun i reading above
+        begun-outside setting clock progress.filled i outside ∙ stand.needed.begun i reading above
 
     -- the clock is none of the sub-clocks of which instants are kept
     not_kept : (k i : ℕ) → k < length setting.plan.nodes → rank clock ≤ rank (clock_of setting k) → clock_of setting i ≡ Sub k → clock_of setting i ≡ clock → ⊥
@@ -172,18 +172,18 @@ module _ (setting : Setting) (sub : ℕ → ℕ → List Slot) (rank : NodeClock
         let two : rank (clock_of setting i) ≡ rank clock = ap rank same in
         omega (arith, up, above, one, two)
 
-    open_all : (k : ℕ) → k < length setting.plan.nodes → rank clock ≤ rank (clock_of setting k) → 0 < rest_at new k → IsOpen setting sub k (rest_at new k) ran (begun_in setting clock filled) new
+    open_all : (k : ℕ) → k < length setting.plan.nodes → rank clock ≤ rank (clock_of setting k) → 0 < rest_at new k → IsOpen setting sub k (rest_at new k) (begun_progress setting clock progress more) new
     open_all k within above some =
-        open_kept setting sub k ran ran filled (begun_in setting clock filled) old new refl (ap (λ r. slice_index_or r.rests.items k 0) room)
+        open_kept setting sub k progress (begun_progress setting clock progress more) old new refl (ap (λ r. slice_index_or r.rests.items k 0) room)
         (λ i here.
         let outside = they_differ (clock_of setting i) clock (not_kept k i within above here) in
-        (begun-outside setting clock filled i outside, others i outside, ap (λ r. part_at r.held.items i) room)) (stand.kept k within above) some
+        (begun-outside setting clock progress.filled i outside, others i outside, ap (λ r. part_at r.held.items i) room)) (stand.kept k within above) some
 
-    pub opened_stand : Stand setting sub rank (rank clock) ran (begun_in setting clock filled) (after_calls front more) new
+    pub opened_stand : Stand setting sub rank (rank clock) (begun_progress setting clock progress more) new
     opened_stand = record {
       stand = λ i node state found stored above. stand_all i node state found stored above (lies_in setting clock i) refl;
       taken = λ i buffer node found work. taken_all i buffer node found work (lies_in setting clock i) refl;
-      even = λ k fades above. begun-no_reader setting clock filled k (fade_reads setting k fades) ∙ stand.even k fades above;
+      even = λ k fades above. begun-no_reader setting clock progress.filled k (fade_reads setting k fades) ∙ stand.even k fades above;
       time = λ k time above at. stand.time k time above (ap (λ ts. slice_get ts k) (sym times) ∙ at);
       needed = record { each = stand.needed.each; begun = begun_all };
       kept = open_all;
@@ -222,16 +222,16 @@ module _ {T : Type 0} (stands : T → List Call → Type 0) (scene : Scene) (clo
   opened_by in_clocks new states_new are times room others has = record {
     more = has.more;
     taps = has.taps;
-    opened = λ other sub rank ran filled front ranks own answers stand needed at.
+    opened = λ other sub rank progress ranks own answers stand needed at.
         let S = setting_over scene other in
-        let past = first_instants S sub clock (ran clock) in
-        let starts = starts_at S sub clock (ran clock) time true frame at tick in
-        let begun = has.begun other sub past filled front own starts answers
-        (subst (λ xs. ClockStands S sub clock past filled xs) (sym were) (clock_stands_at S sub rank clock ran filled front old stand needed))
-        (have_taken S sub rank clock ran filled front old stand needed) in
+        let past = first_instants S sub clock (progress.ran clock) in
+        let starts = starts_at S sub clock (progress.ran clock) time true frame at tick in
+        let begun = has.begun other sub past progress.filled progress.front own starts answers
+        (subst (λ xs. ClockStands S sub clock past progress.filled xs) (sym were) (clock_stands_at S sub rank clock progress old stand needed))
+        (have_taken S sub rank clock progress old stand needed) in
         record {
-          stand = opened_stand S sub rank clock ran filled front old stand needed ranks in_clocks own has.more new
-              (subst (λ xs. ClockStands S sub clock past (begun_in S clock filled) xs) (sym are) begun.stand) begun.taken begun.others
+          stand = opened_stand S sub rank clock progress old stand needed ranks in_clocks own has.more new
+              (subst (λ xs. ClockStands S sub clock past (begun_in S clock progress.filled) xs) (sym are) begun.stand) begun.taken begun.others
               (λ i outside. ap (λ xs. slice_get xs i) are ∙ others i outside ∙ ap (λ xs. slice_get xs i) were) times room;
           calls = begun.calls ∙ takes_start S clock past starts;
         };
@@ -242,12 +242,12 @@ module _ {T : Type 0} (stands : T → List Call → Type 0) (scene : Scene) (clo
   opening_some has = record {
     made = has.made;
     taps = has.taps;
-    begins = λ other sub rank ran filled front own answers stand needed at.
+    begins = λ other sub rank progress own answers stand needed at.
         let S = setting_over scene other in
-        let past = first_instants S sub clock (ran clock) in
-        let starts = starts_at S sub clock (ran clock) time true frame at tick in
+        let past = first_instants S sub clock (progress.ran clock) in
+        let starts = starts_at S sub clock (progress.ran clock) time true frame at tick in
         subst (λ (cs : List Call). IsBegin has.made cs) (takes_start S clock past starts)
-        (has.begins other sub past filled front own starts answers
-        (subst (λ xs. ClockStands S sub clock past filled xs) (sym were) (clock_stands_at S sub rank clock ran filled front old stand needed))
-        (have_taken S sub rank clock ran filled front old stand needed));
+        (has.begins other sub past progress.filled progress.front own starts answers
+        (subst (λ xs. ClockStands S sub clock past progress.filled xs) (sym were) (clock_stands_at S sub rank clock progress old stand needed))
+        (have_taken S sub rank clock progress old stand needed));
   }

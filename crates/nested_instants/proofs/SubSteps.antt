@@ -38,22 +38,22 @@ above_step clocks rank clock i n a b c here next one two =
 module _ (scene : Scene) (in_clocks : length scene.clocks.now ≡ length scene.plan.now.nodes) (clock : NodeClock) (many : ℕ) (first : ClockStates) where
   pub subs_start : (n : ℕ) → IsFirst scene.clocks.now clock 0 n → SubClocksMade scene clock many n first first
   subs_start n start = record {
-    run = λ other sub rank ran filled front own m can.
+    run = λ other sub rank progress own m can.
         let S = setting_over scene other in
         let T = goes_through (moment_after S sub clock (first_instants S sub clock m)) first.states.items in
-        subs_upto S sub rank own can.world in_clocks clock many T ran filled front 0 n first (omega arith)
+        subs_upto S sub rank own can.world in_clocks clock many T progress 0 n first (omega arith)
         (λ k up low inside. true≢false (sym (are_same (clock_at scene.clocks.now k) clock inside) ∙ start.skips k up low))
-        (subs_none S sub rank own can.world in_clocks clock many T ran filled front first can.stand);
+        (subs_none S sub rank own can.world in_clocks clock many T progress first can.stand);
   }
 
   pub subs_next : (old new : ClockStates) (i n : ℕ) → i < length scene.plan.now.nodes → clock_at scene.clocks.now i ≡ clock → IsFirst scene.clocks.now clock (suc i) n
       → ((rank : NodeClock → ℕ) → HasRanks scene.clocks.now rank → AreAbove scene.clocks.now rank (rank clock) (is_upto scene.clocks.now clock i) first old)
       → SubClocksMade scene clock many i first old → SubClockMade scene i many old new → SubClocksMade scene clock many n first new
   subs_next old new i n within here next above before one = record {
-    run = λ other sub rank ran filled front own m can.
+    run = λ other sub rank progress own m can.
         let S = setting_over scene other in
         let T = goes_through (moment_after S sub clock (first_instants S sub clock m)) first.states.items in
-        let s = before.run other sub rank ran filled front own m can in
+        let s = before.run other sub rank progress own m can in
         let a = above rank can.world.ranks in
         let low : rank (clock_at scene.clocks.now i) ≤ rank clock = (let e : rank (clock_at scene.clocks.now i) ≡ rank clock = ap rank here in omega (arith, e)) in
         let gave : gives (moment_after S sub clock (first_instants S sub clock m)) i ≡ gave_at old.room.held.items i =
@@ -61,19 +61,19 @@ module _ (scene : Scene) (in_clocks : length scene.clocks.now ≡ length scene.p
         ∙ sym (ap (λ p. is_some p.slot) (a.held i low)) in
         let test : T i ≡ (gave_at old.room.held.items i && passes_at old.states.items i) =
         ap (λ (b : Bool). b && passes_at first.states.items i) gave ∙ ap (λ found. gave_at old.room.held.items i && option_map_or passes found false) (sym (a.states i low)) in
-        subs_upto S sub rank own can.world in_clocks clock many T ran filled front (suc i) n new next.low
+        subs_upto S sub rank own can.world in_clocks clock many T progress (suc i) n new next.low
         (λ k up less inside. true≢false (sym (are_same (clock_at scene.clocks.now k) clock inside) ∙ next.skips k up less))
-        (subst (λ c. SubsMade S sub rank c many T (suc i) ran filled front new) here
-        (one.step other sub rank ran filled front own T can.world test
-        (subst (λ c. SubsMade S sub rank c many T i ran filled front old) (sym here) s)));
+        (subst (λ c. SubsMade S sub rank c many T (suc i) progress new) here
+        (one.step other sub rank progress own T can.world test
+        (subst (λ c. SubsMade S sub rank c many T i progress old) (sym here) s)));
   }
 
 module _ (scene : Scene) (in_clocks : length scene.clocks.now ≡ length scene.plan.now.nodes) (i many : ℕ) (within : i < length scene.plan.now.nodes) where
   -- node i is no such crossfade
   pub sub_skipped : (all : ClockStates) → (gave_at all.room.held.items i && passes_at all.states.items i) ≡ false → SubClockMade scene i many all all
   sub_skipped all not = record {
-    step = λ other sub rank ran filled front own through world is s.
-        subs_skip (setting_over scene other) sub rank own world in_clocks (clock_at scene.clocks.now i) many through ran filled front i all (λ inside. is ∙ not) s;
+    step = λ other sub rank progress own through world is s.
+        subs_skip (setting_over scene other) sub rank own world in_clocks (clock_at scene.clocks.now i) many through progress i all (λ inside. is ∙ not) s;
   }
 
   -- it is one
@@ -87,10 +87,10 @@ module _ (scene : Scene) (in_clocks : length scene.clocks.now ≡ length scene.p
       → ((start n : ℕ) (before after : WeekTime) → slice_get mid.times.items i ≡ Some before → slice_get new.times.items i ≡ Some after → TimeStands start n before → TimeStands start (n + many) after)
       → length mid.times.items ≡ length scene.plan.now.nodes → length new.times.items ≡ length scene.plan.now.nodes → SubClockMade scene i many all new
   sub_run all kept mid new so some rest states times held left right none others run held_mid leaves samples new_states new_runs new_times later in_mid in_new = record {
-    step = λ other sub rank ran filled front own through world is s.
+    step = λ other sub rank progress own through world is s.
         let S = setting_over scene other in
-        subs_step S sub rank own world in_clocks (clock_at scene.clocks.now i) many through ran filled front i within refl (is ∙ so) some all kept mid new s rest states times held left right none others
-        (λ n can. run.run other sub rank s.ran_now s.filled_now front own n can) held_mid (leaves rank world.ranks) (samples rank world.ranks) new_states new_runs new_times (later S.start) in_mid in_new;
+        subs_step S sub rank own world in_clocks (clock_at scene.clocks.now i) many through progress i within refl (is ∙ so) some all kept mid new s rest states times held left right none others
+        (λ n can. run.run other sub rank s.now own n can) held_mid (leaves rank world.ranks) (samples rank world.ranks) new_states new_runs new_times (later S.start) in_mid in_new;
   }
 
 -- what the sub-clock's stretch asks of the states of which no instants of it are kept any more

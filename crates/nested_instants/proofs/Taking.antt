@@ -21,7 +21,7 @@ use Rattle.node_states.specs.Times.{TimeStands}
 use Rattle.clock_nodes.proofs.Places.{same_or_other}
 use Rattle.nested_instants.specs.declared.clock_states.ClockStates.{ClockStates}
 use Rattle.clock_instants.specs.Stretches.{HasLanes}
-use Rattle.nested_instants.specs.Clocks.{AreLeft, HasItem, HasRanks, IsFilling, IsFillingStopped, IsOpen, IsReached, RanAsNeeded, Stand, calls_below, fade_at, is_in, is_node, is_none, rest_at}
+use Rattle.nested_instants.specs.Clocks.{AreLeft, HasItem, HasRanks, IsFilling, IsFillingStopped, IsOpen, IsReached, Progress, RanAsNeeded, Stand, calls_below, fade_at, is_in, is_node, is_none, rest_at}
 use Rattle.nested_instants.proofs.Equal.{filled_more, filled_more-other, filled_more-same, item_at, other_subs, same_or_above}
 use Rattle.nested_instants.proofs.Fading.{fade_within, fades_on, reads_fade, reads_work}
 use Rattle.nested_instants.proofs.Gone.{HasGone, between_then}
@@ -29,21 +29,21 @@ use Rattle.nested_instants.proofs.Kept.{open_kept}
 use Rattle.nested_instants.proofs.Opened.{past_long}
 
 -- what holds of some clocks holds of the deeper ones
-pub needed_below : (setting : Setting) (sub : ℕ → ℕ → List Slot) (rank : NodeClock → ℕ) (low high : ℕ) (ran : NodeClock → ℕ) (filled : ℕ → ℕ) → low ≤ high
-    → RanAsNeeded setting sub rank low ran filled → RanAsNeeded setting sub rank high ran filled
-needed_below setting sub rank low high ran filled up needed = record {
+pub needed_below : (setting : Setting) (sub : ℕ → ℕ → List Slot) (rank : NodeClock → ℕ) (low high : ℕ) (progress : Progress) → low ≤ high
+    → RanAsNeeded setting sub rank low progress → RanAsNeeded setting sub rank high progress
+needed_below setting sub rank low high progress up needed = record {
   each = λ k overlap node found op above. needed.each k overlap node found op (omega (arith, up, above));
   begun = λ i reading above. needed.begun i reading (omega (arith, up, above));
 }
 
-pub stand_below : (setting : Setting) (sub : ℕ → ℕ → List Slot) (rank : NodeClock → ℕ) (low high : ℕ) (ran : NodeClock → ℕ) (filled : ℕ → ℕ) (front : ℕ → List Answer) (all : ClockStates) → low ≤ high
-    → Stand setting sub rank low ran filled front all → Stand setting sub rank high ran filled front all
-stand_below setting sub rank low high ran filled front all up stand = record {
+pub stand_below : (setting : Setting) (sub : ℕ → ℕ → List Slot) (rank : NodeClock → ℕ) (low high : ℕ) (progress : Progress) (all : ClockStates) → low ≤ high
+    → Stand setting sub rank low progress all → Stand setting sub rank high progress all
+stand_below setting sub rank low high progress all up stand = record {
   stand = λ i node state found stored above. stand.stand i node state found stored (omega (arith, up, above));
   taken = stand.taken;
   even = λ k fades above. stand.even k fades (omega (arith, up, above));
   time = λ k time above at. stand.time k time (omega (arith, up, above)) at;
-  needed = needed_below setting sub rank (suc low) (suc high) ran filled (omega (arith, up)) stand.needed;
+  needed = needed_below setting sub rank (suc low) (suc high) progress (omega (arith, up)) stand.needed;
   kept = λ k within above. stand.kept k within (omega (arith, up, above));
   laned = λ i within above. stand.laned i within (omega (arith, up, above));
 }
@@ -58,6 +58,10 @@ meaning_step setting sub k m meaning =
 -- the second of a sub-clock's next instant
 pub second_of : (setting : Setting) (n : ℕ) (time : WeekTime) → time.rate ≡ setting.plan.rate → TimeStands setting.start n time → time.second.second ≡ second_at setting n
 second_of setting n time rate stand = stand.second ∙ ap (λ r. (setting.start + n / r) % 604800) rate
+
+-- crossfade k was filled so many slots more
+abbrev more_filled : Progress → (k many : ℕ) → Progress
+more_filled progress k many = record { ran = progress.ran; filled = filled_more progress.filled k many; front = progress.front }
 
 -- what filling crossfade k leaves, which was filled n slots, and takes so many more
 pub record IsFilled (setting : Setting) (sub : ℕ → ℕ → List Slot) (k n many : ℕ) (old new : ClockStates) : Type 0 where
@@ -75,8 +79,8 @@ module _ (setting : Setting) (sub : ℕ → ℕ → List Slot) (rank : NodeClock
   deeper : (k : ℕ) → k < length setting.plan.nodes → rank (Sub k) ≡ suc (rank (clock_of setting k))
   deeper k within = ranks.deeper k (omega (arith, within, in_clocks))
 
-  module _ (k : ℕ) (within : k < length setting.plan.nodes) (ran : NodeClock → ℕ) (filled : ℕ → ℕ) (front : ℕ → List Answer) (before : List Call) (all : ClockStates)
-      (r : IsFilling setting sub rank (rank (clock_of setting k)) k is_none ran filled front before all) where
+  module _ (k : ℕ) (within : k < length setting.plan.nodes) (progress : Progress) (before : List Call) (all : ClockStates)
+      (r : IsFilling setting sub rank k is_none progress before all) where
     -- a clock of the crossfade's rank or a lower one is not its sub-clock
     apart : (clock : NodeClock) → rank clock ≤ rank (clock_of setting k) → clock ≡ Sub k → ⊥
     apart clock low e = let up = deeper k within in let same : rank clock ≡ rank (Sub k) = ap rank e in omega (arith, up, same, low)
@@ -85,84 +89,84 @@ module _ (setting : Setting) (sub : ℕ → ℕ → List Slot) (rank : NodeClock
     under clock low = let up = deeper k within in omega (arith, up, low)
 
     -- what an instant of the sub-clock asks for
-    pub stand_under : Stand setting sub rank (rank (Sub k)) r.reached.ran_now r.reached.filled_now (after_calls front before) all
-    stand_under = let up = deeper k within in stand_below setting sub rank (rank (clock_of setting k)) (rank (Sub k)) r.reached.ran_now r.reached.filled_now (after_calls front before) all (omega (arith, up)) r.reached.stand
+    pub stand_under : Stand setting sub rank (rank (Sub k)) r.reached.now all
+    stand_under = let up = deeper k within in stand_below setting sub rank (rank (clock_of setting k)) (rank (Sub k)) r.reached.now all (omega (arith, up)) r.reached.stand
 
-    pub needed_under : RanAsNeeded setting sub rank (rank (Sub k)) r.reached.ran_now r.reached.filled_now
-    needed_under = subst (λ level. RanAsNeeded setting sub rank level r.reached.ran_now r.reached.filled_now) (sym (deeper k within)) r.reached.stand.needed
+    pub needed_under : RanAsNeeded setting sub rank (rank (Sub k)) r.reached.now
+    needed_under = subst (λ level. RanAsNeeded setting sub rank level r.reached.now) (sym (deeper k within)) r.reached.stand.needed
 
-    pub time_under : (time : WeekTime) → slice_get all.times.items k ≡ Some time → TimeStands setting.start (r.reached.ran_now (Sub k)) time
+    pub time_under : (time : WeekTime) → slice_get all.times.items k ≡ Some time → TimeStands setting.start (r.reached.now.ran (Sub k)) time
     time_under time at = r.reached.stand.time k time (omega arith) at
 
     module _ (fades : fade_at setting k ≡ true) where
-      even_here : r.reached.filled_now k ≡ r.reached.ran_now (Sub k)
+      even_here : r.reached.now.filled k ≡ r.reached.now.ran (Sub k)
       even_here = r.reached.stand.even k fades (omega arith)
 
       -- what was called before memory was refused
       pub filled_stopped : (one : List Call) (overlap : ℕ) (node : Node) → slice_get setting.plan.nodes k ≡ Some node → work_at setting k node ≡ Fades overlap
-          → r.reached.filled_now k < run_of overlap (sub k) (position (past_of setting sub r.reached.ran_now k) k)
-          → IsBegin one (calls_of setting sub (Sub k) (first_instants setting sub (Sub k) (r.reached.ran_now (Sub k))))
-          → IsFillingStopped setting sub ran filled k (before ++ one)
+          → r.reached.now.filled k < run_of overlap (sub k) (position (past_of setting sub r.reached.now.ran k) k)
+          → IsBegin one (calls_of setting sub (Sub k) (first_instants setting sub (Sub k) (r.reached.now.ran (Sub k))))
+          → IsFillingStopped setting sub progress k (before ++ one)
       filled_stopped one overlap node found work more begins = record {
         overlap = overlap;
         node = node;
         there = found;
         fades = work;
-        begins = subst (λ (cs : List Call). IsBegin (cs ++ one) (joined_between (calls_below setting sub k) (filled k) (run_of overlap (sub k) (position (past_of setting sub ran k) k)))) (sym r.calls)
-            (begin_between (calls_below setting sub k) (filled k) (r.reached.filled_now k) (run_of overlap (sub k) (position (past_of setting sub ran k) k)) one r.low
-            (subst (λ past. r.reached.filled_now k < run_of overlap (sub k) (position past k)) (ap (λ n. first_instants setting sub (clock_of setting k) n) (r.reached.others (clock_of setting k) (omega arith))) more)
+        begins = subst (λ (cs : List Call). IsBegin (cs ++ one) (joined_between (calls_below setting sub k) (progress.filled k) (run_of overlap (sub k) (position (past_of setting sub progress.ran k) k)))) (sym r.calls)
+            (begin_between (calls_below setting sub k) (progress.filled k) (r.reached.now.filled k) (run_of overlap (sub k) (position (past_of setting sub progress.ran k) k)) one r.low
+            (subst (λ past. r.reached.now.filled k < run_of overlap (sub k) (position past k)) (ap (λ n. first_instants setting sub (clock_of setting k) n) (r.reached.others (clock_of setting k) (omega arith))) more)
             (subst (λ n. IsBegin one (calls_of setting sub (Sub k) (first_instants setting sub (Sub k) n))) (sym even_here) begins));
       }
 
       module _ (many : ℕ) (made new : ClockStates) (one : List Call)
-          (m : HasGone setting sub rank (Sub k) many r.reached.ran_now r.reached.filled_now (after_calls front before) one made)
+          (m : HasGone setting sub rank (Sub k) many r.reached.now one made)
           (left : AreLeft setting.clocks rank (rank (Sub k)) (is_in setting.clocks (Sub k)) all made)
           (in_states : length made.states.items ≡ length setting.plan.nodes) (in_times : length made.times.items ≡ length setting.plan.nodes)
-          (fills : IsFilled setting sub k (r.reached.ran_now (Sub k)) many made new) (idle : rest_at all k ≡ 0) where
-        same_filled : m.filled_now k ≡ r.reached.filled_now k
+          (fills : IsFilled setting sub k (r.reached.now.ran (Sub k)) many made new) (idle : rest_at all k ≡ 0) where
+        same_filled : m.now.filled k ≡ r.reached.now.filled k
         same_filled = m.held k (apart (clock_of setting k) (omega arith)) (under (clock_of setting k) (omega arith))
 
-        filled_is : m.filled_now k ≡ r.reached.ran_now (Sub k)
+        filled_is : m.now.filled k ≡ r.reached.now.ran (Sub k)
         filled_is = same_filled ∙ even_here
 
         -- the clocks of the crossfade's rank made no instant
         kept_low : (i : ℕ) (node : Node) (state : NodeState) → slice_get setting.plan.nodes i ≡ Some node → slice_get made.states.items i ≡ Some state
             → rank (clock_of setting k) ≡ rank (clock_of setting i)
-            → StateStands setting sub (past_of setting sub m.ran_now i) (m.filled_now i) i (work_at setting i node) state
+            → StateStands setting sub (past_of setting sub m.now.ran i) (m.now.filled i) i (work_at setting i node) state
         kept_low i node state found stored level =
             let low : rank (clock_of setting i) ≤ rank (clock_of setting k) = omega (arith, level) in
             let apart_here = apart (clock_of setting i) low in
             let under_here = under (clock_of setting i) low in
-            subst (λ past. StateStands setting sub past (m.filled_now i) i (work_at setting i node) state)
+            subst (λ past. StateStands setting sub past (m.now.filled i) i (work_at setting i node) state)
             (ap (λ n. first_instants setting sub (clock_of setting i) n) (sym (m.others (clock_of setting i) apart_here under_here)))
-            (subst (λ f. StateStands setting sub (past_of setting sub r.reached.ran_now i) f i (work_at setting i node) state) (sym (m.held i apart_here under_here))
+            (subst (λ f. StateStands setting sub (past_of setting sub r.reached.now.ran i) f i (work_at setting i node) state) (sym (m.held i apart_here under_here))
             (r.reached.stand.stand i node state found (sym (left.states i apart_here under_here) ∙ stored) (omega (arith, level))))
 
         stand_made : (i : ℕ) (node : Node) (state : NodeState) → slice_get setting.plan.nodes i ≡ Some node → slice_get made.states.items i ≡ Some state
             → rank (clock_of setting k) ≤ rank (clock_of setting i)
-            → StateStands setting sub (past_of setting sub m.ran_now i) (m.filled_now i) i (work_at setting i node) state
+            → StateStands setting sub (past_of setting sub m.now.ran i) (m.now.filled i) i (work_at setting i node) state
         stand_made i node state found stored above = elim (same_or_above (rank (clock_of setting k)) (rank (clock_of setting i)) above) [
           | inl higher ↦ (let up = deeper k within in m.stand.stand i node state found stored (omega (arith, up, higher)))
           | inr level ↦ kept_low i node state found stored level
         ]
 
         stand_here : (node : Node) (state : NodeState) → slice_get setting.plan.nodes k ≡ Some node → slice_get new.states.items k ≡ Some state
-            → StateStands setting sub (past_of setting sub m.ran_now k) (filled_more m.filled_now k many k) k (work_at setting k node) state
+            → StateStands setting sub (past_of setting sub m.now.ran k) (filled_more m.now.filled k many k) k (work_at setting k node) state
         stand_here node state found stored =
             let was = item_at made.states.items k (omega (arith, in_states, within)) in
-            subst (λ f. StateStands setting sub (past_of setting sub m.ran_now k) f k (work_at setting k node) state)
-            (sym (filled_more-same m.filled_now k many ∙ ap (λ n. n + many) filled_is))
-            (fills.filled (past_of setting sub m.ran_now k) (work_at setting k node) was.0 state was.1 stored
-            (subst (λ f. StateStands setting sub (past_of setting sub m.ran_now k) f k (work_at setting k node) was.0) filled_is
+            subst (λ f. StateStands setting sub (past_of setting sub m.now.ran k) f k (work_at setting k node) state)
+            (sym (filled_more-same m.now.filled k many ∙ ap (λ n. n + many) filled_is))
+            (fills.filled (past_of setting sub m.now.ran k) (work_at setting k node) was.0 state was.1 stored
+            (subst (λ f. StateStands setting sub (past_of setting sub m.now.ran k) f k (work_at setting k node) was.0) filled_is
             (kept_low k node was.0 found was.1 refl)))
 
         stand_all : (i : ℕ) (node : Node) (state : NodeState) → slice_get setting.plan.nodes i ≡ Some node → slice_get new.states.items i ≡ Some state
             → rank (clock_of setting k) ≤ rank (clock_of setting i)
-            → StateStands setting sub (past_of setting sub m.ran_now i) (filled_more m.filled_now k many i) i (work_at setting i node) state
+            → StateStands setting sub (past_of setting sub m.now.ran i) (filled_more m.now.filled k many i) i (work_at setting i node) state
         stand_all i node state found stored above = elim (same_or_other i k) [
           | inl same ↦ subst (λ j. slice_get setting.plan.nodes j ≡ Some node → slice_get new.states.items j ≡ Some state
-              → StateStands setting sub (past_of setting sub m.ran_now j) (filled_more m.filled_now k many j) j (work_at setting j node) state) (sym same) (stand_here node state) found stored
-          | inr other ↦ subst (λ f. StateStands setting sub (past_of setting sub m.ran_now i) f i (work_at setting i node) state) (sym (filled_more-other m.filled_now k many i other))
+              → StateStands setting sub (past_of setting sub m.now.ran j) (filled_more m.now.filled k many j) j (work_at setting j node) state) (sym same) (stand_here node state) found stored
+          | inr other ↦ subst (λ f. StateStands setting sub (past_of setting sub m.now.ran i) f i (work_at setting i node) state) (sym (filled_more-other m.now.filled k many i other))
               (stand_made i node state found (sym (fills.states i other) ∙ stored) above)
         ]
 
@@ -170,44 +174,43 @@ module _ (setting : Setting) (sub : ℕ → ℕ → List Slot) (rank : NodeClock
         not_fading : (i : ℕ) → fade_at setting i ≡ false → i ≡ k → ⊥
         not_fading i none same = true≢false (sym fades ∙ ap (fade_at setting) (sym same) ∙ none)
 
-        still : (i : ℕ) → fade_at setting i ≡ false → filled_more m.filled_now k many i ≡ m.filled_now i
-        still i none = filled_more-other m.filled_now k many i (not_fading i none)
+        still : (i : ℕ) → fade_at setting i ≡ false → filled_more m.now.filled k many i ≡ m.now.filled i
+        still i none = filled_more-other m.now.filled k many i (not_fading i none)
 
         taken_all : (i buffer : ℕ) (node : Node) → slice_get setting.plan.nodes i ≡ Some node → work_at setting i node ≡ Reads buffer
-            → (reading_by setting i buffer (past_of setting sub m.ran_now i) (filled_more m.filled_now k many i)).taken ≡ length (after_calls front (before ++ one) buffer)
+            → (reading_by setting i buffer (past_of setting sub m.now.ran i) (filled_more m.now.filled k many i)).taken ≡ length (m.now.front buffer)
         taken_all i buffer node found work =
-            ap (λ n. (reading_by setting i buffer (past_of setting sub m.ran_now i) n).taken) (still i (reads_fade setting i (reads_work setting i buffer node found work)))
+            ap (λ n. (reading_by setting i buffer (past_of setting sub m.now.ran i) n).taken) (still i (reads_fade setting i (reads_work setting i buffer node found work)))
             ∙ m.stand.taken i buffer node found work
-            ∙ ap (λ (f : ℕ → List Answer). length (f buffer)) (sym (after_calls-then front before one))
 
         -- the sub-clock of another crossfade of the rank made no instant
-        ran_same : (i : ℕ) → i < length setting.plan.nodes → (i ≡ k → ⊥) → rank (clock_of setting k) ≡ rank (clock_of setting i) → m.ran_now (Sub i) ≡ r.reached.ran_now (Sub i)
+        ran_same : (i : ℕ) → i < length setting.plan.nodes → (i ≡ k → ⊥) → rank (clock_of setting k) ≡ rank (clock_of setting i) → m.now.ran (Sub i) ≡ r.reached.now.ran (Sub i)
         ran_same i inside other level =
             let up = deeper k within in let down = deeper i inside in
             m.others (Sub i) (other_subs i k other) (omega (arith, up, down, level))
 
-        even_other : (i : ℕ) → fade_at setting i ≡ true → rank (clock_of setting k) ≤ rank (clock_of setting i) → (i ≡ k → ⊥) → m.filled_now i ≡ m.ran_now (Sub i)
+        even_other : (i : ℕ) → fade_at setting i ≡ true → rank (clock_of setting k) ≤ rank (clock_of setting i) → (i ≡ k → ⊥) → m.now.filled i ≡ m.now.ran (Sub i)
         even_other i fading above other = elim (same_or_above (rank (clock_of setting k)) (rank (clock_of setting i)) above) [
           | inl higher ↦ (let up = deeper k within in m.stand.even i fading (omega (arith, up, higher)))
           | inr level ↦ m.held i (apart (clock_of setting i) (omega (arith, level))) (under (clock_of setting i) (omega (arith, level)))
               ∙ r.reached.stand.even i fading above ∙ sym (ran_same i (fade_within setting i fading) other level)
         ]
 
-        even_all : (i : ℕ) → fade_at setting i ≡ true → rank (clock_of setting k) ≤ rank (clock_of setting i) → filled_more m.filled_now k many i ≡ m.ran_now (Sub i)
+        even_all : (i : ℕ) → fade_at setting i ≡ true → rank (clock_of setting k) ≤ rank (clock_of setting i) → filled_more m.now.filled k many i ≡ m.now.ran (Sub i)
         even_all i fading above = elim (same_or_other i k) [
-          | inl same ↦ subst (λ j. filled_more m.filled_now k many j ≡ m.ran_now (Sub j)) (sym same) (filled_more-same m.filled_now k many ∙ ap (λ n. n + many) filled_is ∙ sym m.once)
-          | inr other ↦ filled_more-other m.filled_now k many i other ∙ even_other i fading above other
+          | inl same ↦ subst (λ j. filled_more m.now.filled k many j ≡ m.now.ran (Sub j)) (sym same) (filled_more-same m.now.filled k many ∙ ap (λ n. n + many) filled_is ∙ sym m.once)
+          | inr other ↦ filled_more-other m.now.filled k many i other ∙ even_other i fading above other
         ]
 
-        time_here : (time : WeekTime) → slice_get new.times.items k ≡ Some time → TimeStands setting.start (m.ran_now (Sub k)) time
+        time_here : (time : WeekTime) → slice_get new.times.items k ≡ Some time → TimeStands setting.start (m.now.ran (Sub k)) time
         time_here time stored =
             let old = item_at made.times.items k (omega (arith, in_times, within)) in
             let was : slice_get all.times.items k ≡ Some old.0 = sym (left.times k (apart (clock_of setting k) (omega arith)) (under (clock_of setting k) (omega arith))) ∙ old.1 in
             subst (λ n. TimeStands setting.start n time) (sym m.once)
-            (fills.time (r.reached.ran_now (Sub k)) old.0 time old.1 stored (r.reached.stand.time k old.0 (omega arith) was))
+            (fills.time (r.reached.now.ran (Sub k)) old.0 time old.1 stored (r.reached.stand.time k old.0 (omega arith) was))
 
         time_other : (i : ℕ) (time : WeekTime) → rank (clock_of setting k) ≤ rank (clock_of setting i) → (i ≡ k → ⊥) → slice_get made.times.items i ≡ Some time
-            → TimeStands setting.start (m.ran_now (Sub i)) time
+            → TimeStands setting.start (m.now.ran (Sub i)) time
         time_other i time above other at = elim (same_or_above (rank (clock_of setting k)) (rank (clock_of setting i)) above) [
           | inl higher ↦ (let up = deeper k within in m.stand.time i time (omega (arith, up, higher)) at)
           | inr level ↦ (let inside : i < length setting.plan.nodes = (let low = slice_get_within made.times.items i time at in omega (arith, low, in_times)) in
@@ -216,13 +219,13 @@ module _ (setting : Setting) (sub : ℕ → ℕ → List Slot) (rank : NodeClock
         ]
 
         time_all : (i : ℕ) (time : WeekTime) → rank (clock_of setting k) ≤ rank (clock_of setting i) → slice_get new.times.items i ≡ Some time
-            → TimeStands setting.start (m.ran_now (Sub i)) time
+            → TimeStands setting.start (m.now.ran (Sub i)) time
         time_all i time above stored = elim (same_or_other i k) [
-          | inl same ↦ subst (λ j. slice_get new.times.items j ≡ Some time → TimeStands setting.start (m.ran_now (Sub j)) time) (sym same) (time_here time) stored
+          | inl same ↦ subst (λ j. slice_get new.times.items j ≡ Some time → TimeStands setting.start (m.now.ran (Sub j)) time) (sym same) (time_here time) stored
           | inr other ↦ time_other i time above other (sym (fills.times i other) ∙ stored)
         ]
 
-        needed_all : RanAsNeeded setting sub rank (suc (rank (clock_of setting k))) m.ran_now (filled_more m.filled_now k many)
+        needed_all : RanAsNeeded setting sub rank (suc (rank (clock_of setting k))) (more_filled m.now k many)
         needed_all = record {
           each = λ i overlap node found op above. m.needed.each i overlap node found op (let up = deeper k within in omega (arith, up, above));
           begun = λ i reading above. still i (reads_fade setting i reading) ∙ m.needed.begun i reading (let up = deeper k within in omega (arith, up, above));
@@ -242,29 +245,29 @@ module _ (setting : Setting) (sub : ℕ → ℕ → List Slot) (rank : NodeClock
             let two : rank (clock_of setting j) ≡ rank (clock_of setting k) = ap (λ n. rank (clock_of setting n)) same in
             omega (arith, up, above, one, two)
 
-        open_deep : (i : ℕ) → i < length setting.plan.nodes → rank (clock_of setting k) < rank (clock_of setting i) → 0 < rest_at new i → IsOpen setting sub i (rest_at new i) m.ran_now (filled_more m.filled_now k many) new
+        open_deep : (i : ℕ) → i < length setting.plan.nodes → rank (clock_of setting k) < rank (clock_of setting i) → 0 < rest_at new i → IsOpen setting sub i (rest_at new i) (more_filled m.now k many) new
         open_deep i inside higher some =
-            open_kept setting sub i m.ran_now m.ran_now m.filled_now (filled_more m.filled_now k many) made new refl (rest_is i)
+            open_kept setting sub i m.now (more_filled m.now k many) made new refl (rest_is i)
             (λ j here.
             let other = not_below i j inside (omega (arith, higher)) here in
-            (filled_more-other m.filled_now k many j other, fills.states j other, held_is j))
+            (filled_more-other m.now.filled k many j other, fills.states j other, held_is j))
             (m.stand.kept i inside (let up = deeper k within in omega (arith, up, higher))) some
 
-        open_beside : (i : ℕ) → i < length setting.plan.nodes → (i ≡ k → ⊥) → rank (clock_of setting k) ≡ rank (clock_of setting i) → 0 < rest_at new i → IsOpen setting sub i (rest_at new i) m.ran_now (filled_more m.filled_now k many) new
+        open_beside : (i : ℕ) → i < length setting.plan.nodes → (i ≡ k → ⊥) → rank (clock_of setting k) ≡ rank (clock_of setting i) → 0 < rest_at new i → IsOpen setting sub i (rest_at new i) (more_filled m.now k many) new
         open_beside i inside other level some =
-            open_kept setting sub i r.reached.ran_now m.ran_now r.reached.filled_now (filled_more m.filled_now k many) all new (ran_same i inside other level)
+            open_kept setting sub i r.reached.now (more_filled m.now k many) all new (ran_same i inside other level)
             (rest_is i ∙ left.rests i (apart (clock_of setting i) (omega (arith, level))) (under (clock_of setting i) (omega (arith, level))))
             (λ j here.
             let not_k = not_below i j inside (omega (arith, level)) here in
             let not_sub : clock_of setting j ≡ Sub k → ⊥ = λ e. other_subs i k other (sym here ∙ e) in
             let low : rank (clock_of setting j) ≤ rank (Sub k) = (let a = deeper i inside in let b = deeper k within in let c : rank (clock_of setting j) ≡ rank (Sub i) = ap rank here in omega (arith, a, b, c, level)) in (
-              filled_more-other m.filled_now k many j not_k ∙ m.held j not_sub low,
+              filled_more-other m.now.filled k many j not_k ∙ m.held j not_sub low,
               fills.states j not_k ∙ left.states j not_sub low,
               held_is j ∙ left.held j not_sub low,
             ))
             (r.reached.stand.kept i inside (omega (arith, level))) some
 
-        open_all : (i : ℕ) → i < length setting.plan.nodes → rank (clock_of setting k) ≤ rank (clock_of setting i) → 0 < rest_at new i → IsOpen setting sub i (rest_at new i) m.ran_now (filled_more m.filled_now k many) new
+        open_all : (i : ℕ) → i < length setting.plan.nodes → rank (clock_of setting k) ≤ rank (clock_of setting i) → 0 < rest_at new i → IsOpen setting sub i (rest_at new i) (more_filled m.now k many) new
         open_all i inside above some = elim (same_or_other i k) [
           | inl same ↦ (let none : rest_at new i ≡ 0 =
               ap (rest_at new) same ∙ rest_is k ∙ left.rests k (apart (clock_of setting k) (omega arith)) (under (clock_of setting k) (omega arith)) ∙ idle in absurd (omega (arith, none, some)))
@@ -275,11 +278,11 @@ module _ (setting : Setting) (sub : ℕ → ℕ → List Slot) (rank : NodeClock
         ]
 
         -- the crossfade was filled some slots more
-        pub taken : IsFilling setting sub rank (rank (clock_of setting k)) k is_none ran filled front (before ++ one) new
+        pub taken : IsFilling setting sub rank k is_none progress (before ++ one) new
         taken = record {
           reached = record {
-            ran_now = m.ran_now;
-            filled_now = filled_more m.filled_now k many;
+            now = more_filled m.now k many;
+            took = m.took ∙ ap (λ (f : ℕ → List Answer). after_calls f one) r.reached.took ∙ sym (after_calls-then progress.front before one);
             stand = record {
               stand = stand_all;
               taken = taken_all;
@@ -290,85 +293,85 @@ module _ (setting : Setting) (sub : ℕ → ℕ → List Slot) (rank : NodeClock
               laned = λ i inside above. subst (λ it. HasLanes it.left.items it.right.items i) (sym fills.room) (left.laned i (r.reached.stand.laned i inside above));
             };
             others = λ clock low. m.others clock (apart clock low) (under clock low) ∙ r.reached.others clock low;
-            held = λ i other low. filled_more-other m.filled_now k many i other ∙ m.held i (apart (clock_of setting i) low) (under (clock_of setting i) low) ∙ r.reached.held i other low;
+            held = λ i other low. filled_more-other m.now.filled k many i other ∙ m.held i (apart (clock_of setting i) low) (under (clock_of setting i) low) ∙ r.reached.held i other low;
             idle = λ i none low. still i none ∙ m.held i (apart (clock_of setting i) low) (under (clock_of setting i) low) ∙ r.reached.idle i none low;
             items = λ i node done found. absurd done;
           };
-          low = (let one_more = filled_more-same m.filled_now k many in let was = r.low in let same = same_filled in omega (arith, one_more, was, same));
+          low = (let one_more = filled_more-same m.now.filled k many in let was = r.low in let same = same_filled in omega (arith, one_more, was, same));
           calls = ap (λ cs. cs ++ one) r.calls
-              ∙ ap (λ cs. joined_between (calls_below setting sub k) (filled k) (r.reached.filled_now k) ++ cs) (m.calls ∙ ap (λ n. joined_between (calls_below setting sub k) n (n + many)) (sym even_here))
-              ∙ between_then (calls_below setting sub k) (filled k) (r.reached.filled_now k) many r.low
-              ∙ ap (λ n. joined_between (calls_below setting sub k) (filled k) n) (ap (λ n. n + many) (sym same_filled) ∙ sym (filled_more-same m.filled_now k many));
+              ∙ ap (λ cs. joined_between (calls_below setting sub k) (progress.filled k) (r.reached.now.filled k) ++ cs) (m.calls ∙ ap (λ n. joined_between (calls_below setting sub k) n (n + many)) (sym even_here))
+              ∙ between_then (calls_below setting sub k) (progress.filled k) (r.reached.now.filled k) many r.low
+              ∙ ap (λ n. joined_between (calls_below setting sub k) (progress.filled k) n) (ap (λ n. n + many) (sym same_filled) ∙ sym (filled_more-same m.now.filled k many));
         }
 
         -- and its sub-clock has made so many instants more
-        pub taken_at : taken.reached.ran_now (Sub k) ≡ r.reached.ran_now (Sub k) + many
+        pub taken_at : taken.reached.now.ran (Sub k) ≡ r.reached.now.ran (Sub k) + many
         unfolding taken
         taken_at = m.once
 
 -- before anything is filled
-abbrev pub reached_none : (setting : Setting) (sub : ℕ → ℕ → List Slot) (rank : NodeClock → ℕ) (level : ℕ) (touched done : ℕ → Type 0) (ran : NodeClock → ℕ) (filled : ℕ → ℕ) (front : ℕ → List Answer) (all : ClockStates)
-    → ((i : ℕ) → done i → ⊥) → Stand setting sub rank level ran filled front all → IsReached setting sub rank level touched done ran filled front [] all
-reached_none setting sub rank level touched done ran filled front all none stand = record {
-  ran_now = ran;
-  filled_now = filled;
-  stand = subst (λ (f : ℕ → List Answer). Stand setting sub rank level ran filled f all) (sym (after_calls-none front)) stand;
+abbrev pub reached_none : (setting : Setting) (sub : ℕ → ℕ → List Slot) (rank : NodeClock → ℕ) (level : ℕ) (touched done : ℕ → Type 0) (progress : Progress) (all : ClockStates)
+    → ((i : ℕ) → done i → ⊥) → Stand setting sub rank level progress all → IsReached setting sub rank level touched done progress [] all
+reached_none setting sub rank level touched done progress all none stand = record {
+  now = progress;
+  took = sym (after_calls-none progress.front);
+  stand = stand;
   others = λ clock low. refl;
   held = λ i other low. refl;
   idle = λ i other low. refl;
   items = λ i node is found. absurd (none i is);
 }
 
-pub filling_none : (setting : Setting) (sub : ℕ → ℕ → List Slot) (rank : NodeClock → ℕ) (level k : ℕ) (ran : NodeClock → ℕ) (filled : ℕ → ℕ) (front : ℕ → List Answer) (all : ClockStates)
-    → Stand setting sub rank level ran filled front all → IsFilling setting sub rank level k is_none ran filled front [] all
-filling_none setting sub rank level k ran filled front all stand = record {
-  reached = reached_none setting sub rank level (is_node k) is_none ran filled front all (λ i none. none) stand;
+pub filling_none : (setting : Setting) (sub : ℕ → ℕ → List Slot) (rank : NodeClock → ℕ) (k : ℕ) (progress : Progress) (all : ClockStates)
+    → Stand setting sub rank (rank (clock_of setting k)) progress all → IsFilling setting sub rank k is_none progress [] all
+filling_none setting sub rank k progress all stand = record {
+  reached = reached_none setting sub rank (rank (clock_of setting k)) (is_node k) is_none progress all (λ i none. none) stand;
   low = omega arith;
-  calls = sym (between_none (calls_below setting sub k) (filled k));
+  calls = sym (between_none (calls_below setting sub k) (progress.filled k));
 }
 
 -- a node that wants no slot has its item
-pub reached_item : (setting : Setting) (sub : ℕ → ℕ → List Slot) (rank : NodeClock → ℕ) (k : ℕ) (ran : NodeClock → ℕ) (filled : ℕ → ℕ) (front : ℕ → List Answer) (more : List Call) (all : ClockStates) (state : NodeState)
+pub reached_item : (setting : Setting) (sub : ℕ → ℕ → List Slot) (rank : NodeClock → ℕ) (k : ℕ) (progress : Progress) (more : List Call) (all : ClockStates) (state : NodeState)
     → slice_get all.states.items k ≡ Some state
     → ((past : List Moment) (filled : ℕ) (work : Work) → StateStands setting sub past filled k work state
     → ((buffer : ℕ) → work ≡ Reads buffer → filled ≡ suc (length past)) → IsSettled sub past filled k work)
     → ((past : List Moment) (filled overlap : ℕ) → StateStands setting sub past filled k (Fades overlap) state → run_of overlap (sub k) (position past k) ≡ filled)
-    → (reads_at setting k ≡ true → filled k ≡ suc (ran (clock_of setting k)))
-    → IsFilling setting sub rank (rank (clock_of setting k)) k is_none ran filled front more all → IsFilling setting sub rank (rank (clock_of setting k)) k (is_node k) ran filled front more all
-reached_item setting sub rank k ran filled front more all state at settles runs begun f = record {
+    → (reads_at setting k ≡ true → progress.filled k ≡ suc (progress.ran (clock_of setting k)))
+    → IsFilling setting sub rank k is_none progress more all → IsFilling setting sub rank k (is_node k) progress more all
+reached_item setting sub rank k progress more all state at settles runs begun f = record {
   reached = record {
-    ran_now = f.reached.ran_now;
-    filled_now = f.reached.filled_now;
+    now = f.reached.now;
+    took = f.reached.took;
     stand = f.reached.stand;
     others = f.reached.others;
     held = f.reached.held;
     idle = f.reached.idle;
-    items = λ i node same found. subst (λ j. slice_get setting.plan.nodes j ≡ Some node → HasItem setting sub f.reached.ran_now f.reached.filled_now j node) (sym same) (here node) found;
+    items = λ i node same found. subst (λ j. slice_get setting.plan.nodes j ≡ Some node → HasItem setting sub f.reached.now j node) (sym same) (here node) found;
   };
   low = f.low;
   calls = f.calls;
 }
   where
-    here : (node : Node) → slice_get setting.plan.nodes k ≡ Some node → HasItem setting sub f.reached.ran_now f.reached.filled_now k node
+    here : (node : Node) → slice_get setting.plan.nodes k ≡ Some node → HasItem setting sub f.reached.now k node
     here node found = record {
-      settled = settles (past_of setting sub f.reached.ran_now k) (f.reached.filled_now k) (work_at setting k node) (f.reached.stand.stand k node state found at (omega arith))
+      settled = settles (past_of setting sub f.reached.now.ran k) (f.reached.now.filled k) (work_at setting k node) (f.reached.stand.stand k node state found at (omega arith))
           (λ buffer work.
           let reading = reads_work setting k buffer node found work in
           f.reached.idle k (reads_fade setting k reading) (omega arith) ∙ begun reading
-          ∙ ap suc (sym (past_long setting sub (clock_of setting k) (f.reached.ran_now (clock_of setting k)) ∙ f.reached.others (clock_of setting k) (omega arith))));
-      run = λ overlap work. runs (past_of setting sub f.reached.ran_now k) (f.reached.filled_now k) overlap
-          (subst (λ w. StateStands setting sub (past_of setting sub f.reached.ran_now k) (f.reached.filled_now k) k w state) work (f.reached.stand.stand k node state found at (omega arith)));
+          ∙ ap suc (sym (past_long setting sub (clock_of setting k) (f.reached.now.ran (clock_of setting k)) ∙ f.reached.others (clock_of setting k) (omega arith))));
+      run = λ overlap work. runs (past_of setting sub f.reached.now.ran k) (f.reached.now.filled k) overlap
+          (subst (λ w. StateStands setting sub (past_of setting sub f.reached.now.ran k) (f.reached.now.filled k) k w state) work (f.reached.stand.stand k node state found at (omega arith)));
     }
 
 -- a node that wants one is a crossfade
-pub reached_fading : (setting : Setting) (sub : ℕ → ℕ → List Slot) (rank : NodeClock → ℕ) (k : ℕ) (ran : NodeClock → ℕ) (filled : ℕ → ℕ) (front : ℕ → List Answer) (more : List Call) (all : ClockStates) (state : NodeState)
+pub reached_fading : (setting : Setting) (sub : ℕ → ℕ → List Slot) (rank : NodeClock → ℕ) (k : ℕ) (progress : Progress) (more : List Call) (all : ClockStates) (state : NodeState)
     → (within : k < length setting.plan.nodes) → slice_get all.states.items k ≡ Some state
     → ((past : List Moment) (filled : ℕ) (work : Work) → StateStands setting sub past filled k work state → FadesOn sub past filled k work)
-    → (f : IsFilling setting sub rank (rank (clock_of setting k)) k is_none ran filled front more all)
+    → (f : IsFilling setting sub rank k is_none progress more all)
     → (node : Node) × (overlap : ℕ) × (slice_get setting.plan.nodes k ≡ Some node) × (work_at setting k node ≡ Fades overlap)
-    × (f.reached.filled_now k < run_of overlap (sub k) (position (past_of setting sub f.reached.ran_now k) k))
-reached_fading setting sub rank k ran filled front more all state within at fades f =
+    × (f.reached.now.filled k < run_of overlap (sub k) (position (past_of setting sub f.reached.now.ran k) k))
+reached_fading setting sub rank k progress more all state within at fades f =
     let node = item_at setting.plan.nodes k within in
-    let on = fades_on sub (past_of setting sub f.reached.ran_now k) (f.reached.filled_now k) k (work_at setting k node.0)
-    (fades (past_of setting sub f.reached.ran_now k) (f.reached.filled_now k) (work_at setting k node.0) (f.reached.stand.stand k node.0 state node.1 at (omega arith))) in
+    let on = fades_on sub (past_of setting sub f.reached.now.ran k) (f.reached.now.filled k) k (work_at setting k node.0)
+    (fades (past_of setting sub f.reached.now.ran k) (f.reached.now.filled k) (work_at setting k node.0) (f.reached.stand.stand k node.0 state node.1 at (omega arith))) in
     (node.0, on.0, node.1, on.1, on.2)

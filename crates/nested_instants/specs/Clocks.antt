@@ -1,5 +1,4 @@
--- What the states of all clocks stand for, while a clock and the sub-clocks below it make instants. `ran clock` is how
--- many instants a clock has made, `filled k` how many slots crossfade k was filled.
+-- What the states of all clocks stand for, while a clock and the sub-clocks below it make instants.
 use Rattle.std.specs.Prelude.{◌≡◌, ◌<◌, ◌≤◌, ◌+◌, ℕ, suc, Bool, true, false, List, Option, Some, None, length, slice_get, slice_index_or}
 use Rattle.std.specs.Option.{option_map_or}
 use Rattle.plan_core.specs.declared.node.Node.{Node}
@@ -28,6 +27,13 @@ use Rattle.clock_nodes.specs.Scenes.{setting_over}
 use Rattle.clock_nodes.specs.States.{AllFit, HasRoomFor}
 use Rattle.clock_instants.specs.Takes.{HasOwnReaders, begun_in}
 use Rattle.nested_instants.specs.declared.clock_states.ClockStates.{ClockStates}
+
+-- how far all came: how many instants a clock has made, how many slots crossfade k was filled or how many instants
+-- reader k has begun, and what the readers of each buffer have taken
+pub record Progress : Type 0 where
+  pub ran : NodeClock → ℕ
+  pub filled : ℕ → ℕ
+  pub front : ℕ → List Answer
 
 -- the clock of node i
 abbrev pub clock_at : List NodeClock → ℕ → NodeClock
@@ -137,11 +143,12 @@ fade_at setting k = fade_in setting k (slice_get setting.plan.nodes k)
 -- the crossfade's latest item, and no instant more; and each reader in such a clock has begun the instants that its
 -- clock has made, and no instant more
 pub record RanAsNeeded (setting : Setting) (sub : ℕ → ℕ → List Slot) (rank : NodeClock → ℕ) (level : ℕ)
-    (ran : NodeClock → ℕ) (filled : ℕ → ℕ) : Type 0 where
+    (progress : Progress) : Type 0 where
   pub each : (k overlap : ℕ) (node : Node) → slice_get setting.plan.nodes k ≡ Some node → node.op ≡ Crossfade overlap
-      → level ≤ rank (clock_of setting k) → ran (Sub k) ≡ ran_by sub k overlap (past_of setting sub ran k)
+      → level ≤ rank (clock_of setting k)
+      → progress.ran (Sub k) ≡ ran_by sub k overlap (past_of setting sub progress.ran k)
   pub begun : (i : ℕ) → reads_at setting i ≡ true → level ≤ rank (clock_of setting i)
-      → filled i ≡ ran (clock_of setting i)
+      → progress.filled i ≡ progress.ran (clock_of setting i)
 
 -- so many instants go on as the one after these did, of which this is kept; and for them each crossfade of the clock
 -- through which cells pass asks for a slot an instant, and any other one for none
@@ -152,69 +159,70 @@ pub record GoesOnFor (setting : Setting) (sub : ℕ → ℕ → List Slot) (cloc
   pub asks : AllAsk setting sub clock past filled states (length setting.clocks) rest
 
 -- so many instants of the sub-clock of crossfade k go on as its latest one did, at which the child gave
-pub record IsOpen (setting : Setting) (sub : ℕ → ℕ → List Slot) (k rest : ℕ) (ran : NodeClock → ℕ) (filled : ℕ → ℕ)
-    (all : ClockStates) : Type 0 where
+pub record IsOpen (setting : Setting) (sub : ℕ → ℕ → List Slot) (k rest : ℕ) (progress : Progress) (all : ClockStates)
+    : Type 0 where
   pub n : ℕ
-  pub at : ran (Sub k) ≡ suc n
+  pub at : progress.ran (Sub k) ≡ suc n
   pub gave : gives (moment_after setting sub (Sub k) (first_instants setting sub (Sub k) n))
       (crossfaded setting.plan.nodes k) ≡ true
-  pub goes : GoesOnFor setting sub (Sub k) (first_instants setting sub (Sub k) n) rest filled all.room.held.items
-      all.states.items
+  pub goes : GoesOnFor setting sub (Sub k) (first_instants setting sub (Sub k) n) rest progress.filled
+      all.room.held.items all.states.items
 
 -- the readers have taken these answers; in clocks of this rank and deeper ones the states stand for the instants that
 -- the clocks have made, each crossfade was filled what its sub-clock made, and the sub-clock's time is that of its next
--- instant; and clocks deeper than this ran as needed; and their nodes have lanes. `filled i` is also how many instants
--- reader i has begun. Of states in lower clocks nothing is said: such may be idle
-pub record Stand (setting : Setting) (sub : ℕ → ℕ → List Slot) (rank : NodeClock → ℕ) (level : ℕ) (ran : NodeClock → ℕ)
-    (filled : ℕ → ℕ) (front : ℕ → List Answer) (all : ClockStates) : Type 0 where
+-- instant; and clocks deeper than this ran as needed; and their nodes have lanes. Of states in lower clocks nothing is
+-- said: such may be idle
+pub record Stand (setting : Setting) (sub : ℕ → ℕ → List Slot) (rank : NodeClock → ℕ) (level : ℕ) (progress : Progress)
+    (all : ClockStates) : Type 0 where
   pub stand : (i : ℕ) (node : Node) (state : NodeState) → slice_get setting.plan.nodes i ≡ Some node
       → slice_get all.states.items i ≡ Some state
       → level ≤ rank (clock_of setting i)
-      → StateStands setting sub (past_of setting sub ran i) (filled i) i (work_at setting i node) state
+      → StateStands setting sub (past_of setting sub progress.ran i) (progress.filled i) i (work_at setting i node)
+      state
   pub taken : (i buffer : ℕ) (node : Node) → slice_get setting.plan.nodes i ≡ Some node
       → work_at setting i node ≡ Reads buffer
-      → (reading_by setting i buffer (past_of setting sub ran i) (filled i)).taken ≡ length (front buffer)
-  pub even : (k : ℕ) → fade_at setting k ≡ true → level ≤ rank (clock_of setting k) → filled k ≡ ran (Sub k)
+      → (reading_by setting i buffer (past_of setting sub progress.ran i) (progress.filled i)).taken
+      ≡ length (progress.front buffer)
+  pub even : (k : ℕ) → fade_at setting k ≡ true → level ≤ rank (clock_of setting k)
+      → progress.filled k ≡ progress.ran (Sub k)
   pub time : (k : ℕ) (time : WeekTime) → level ≤ rank (clock_of setting k) → slice_get all.times.items k ≡ Some time
-      → TimeStands setting.start (ran (Sub k)) time
-  pub needed : RanAsNeeded setting sub rank (suc level) ran filled
+      → TimeStands setting.start (progress.ran (Sub k)) time
+  pub needed : RanAsNeeded setting sub rank (suc level) progress
   pub kept : (k : ℕ) → k < length setting.plan.nodes → level ≤ rank (clock_of setting k) → 0 < rest_at all k
-      → IsOpen setting sub k (rest_at all k) ran filled all
+      → IsOpen setting sub k (rest_at all k) progress all
   pub laned : (i : ℕ) → i < length setting.plan.nodes → level ≤ rank (clock_of setting i) → laned_at all i
 
 -- the item of node k is settled, if it is a crossfade, by no more slots than it takes
-pub record HasItem (setting : Setting) (sub : ℕ → ℕ → List Slot) (ran : NodeClock → ℕ) (filled : ℕ → ℕ) (k : ℕ)
-    (node : Node) : Type 0 where
-  pub settled : IsSettled sub (past_of setting sub ran k) (filled k) k (work_at setting k node)
+pub record HasItem (setting : Setting) (sub : ℕ → ℕ → List Slot) (progress : Progress) (k : ℕ) (node : Node)
+    : Type 0 where
+  pub settled : IsSettled sub (past_of setting sub progress.ran k) (progress.filled k) k (work_at setting k node)
   pub run : (overlap : ℕ) → work_at setting k node ≡ Fades overlap
-      → run_of overlap (sub k) (position (past_of setting sub ran k) k) ≡ filled k
+      → run_of overlap (sub k) (position (past_of setting sub progress.ran k) k) ≡ progress.filled k
 
 -- some nodes were filled, by these calls, and some of these have their items; no clock of this rank or a lower one has
 -- made an instant
 pub record IsReached (setting : Setting) (sub : ℕ → ℕ → List Slot) (rank : NodeClock → ℕ) (level : ℕ)
-    (touched done : ℕ → Type 0) (ran : NodeClock → ℕ) (filled : ℕ → ℕ) (front : ℕ → List Answer) (more : List Call)
-    (all : ClockStates) : Type 0 where
-  pub ran_now : NodeClock → ℕ
-  pub filled_now : ℕ → ℕ
-  pub stand : Stand setting sub rank level ran_now filled_now (after_calls front more) all
-  pub others : (clock : NodeClock) → rank clock ≤ level → ran_now clock ≡ ran clock
-  pub held : (i : ℕ) → (touched i → ⊥) → rank (clock_of setting i) ≤ level → filled_now i ≡ filled i
+    (touched done : ℕ → Type 0) (progress : Progress) (more : List Call) (all : ClockStates) : Type 0 where
+  pub now : Progress
+  pub took : now.front ≡ after_calls progress.front more
+  pub stand : Stand setting sub rank level now all
+  pub others : (clock : NodeClock) → rank clock ≤ level → now.ran clock ≡ progress.ran clock
+  pub held : (i : ℕ) → (touched i → ⊥) → rank (clock_of setting i) ≤ level → now.filled i ≡ progress.filled i
   -- but for crossfades no node was filled, and no reader has begun an instant
-  pub idle : (i : ℕ) → fade_at setting i ≡ false → rank (clock_of setting i) ≤ level → filled_now i ≡ filled i
+  pub idle : (i : ℕ) → fade_at setting i ≡ false → rank (clock_of setting i) ≤ level → now.filled i ≡ progress.filled i
   pub items : (i : ℕ) (node : Node) → done i → slice_get setting.plan.nodes i ≡ Some node
-      → HasItem setting sub ran_now filled_now i node
+      → HasItem setting sub now i node
 
 -- the calls of instant m of the sub-clock of crossfade k
 abbrev pub calls_below : Setting → (sub : ℕ → ℕ → List Slot) → (k m : ℕ) → List Call
 calls_below setting sub k m = calls_of setting sub (Sub k) (first_instants setting sub (Sub k) m)
 
 -- node k was filled some slots, by the calls of the instants that its sub-clock made for it
-pub record IsFilling (setting : Setting) (sub : ℕ → ℕ → List Slot) (rank : NodeClock → ℕ) (level k : ℕ)
-    (done : ℕ → Type 0) (ran : NodeClock → ℕ) (filled : ℕ → ℕ) (front : ℕ → List Answer) (more : List Call)
-    (all : ClockStates) : Type 0 where
-  pub reached : IsReached setting sub rank level (is_node k) done ran filled front more all
-  pub low : filled k ≤ reached.filled_now k
-  pub calls : more ≡ joined_between (calls_below setting sub k) (filled k) (reached.filled_now k)
+pub record IsFilling (setting : Setting) (sub : ℕ → ℕ → List Slot) (rank : NodeClock → ℕ) (k : ℕ) (done : ℕ → Type 0)
+    (progress : Progress) (more : List Call) (all : ClockStates) : Type 0 where
+  pub reached : IsReached setting sub rank (rank (clock_of setting k)) (is_node k) done progress more all
+  pub low : progress.filled k ≤ reached.now.filled k
+  pub calls : more ≡ joined_between (calls_below setting sub k) (progress.filled k) (reached.now.filled k)
 
 -- the calls of the sub-clocks of a clock's crossfades below node n, at the instant after these
 abbrev pub calls_upto : Setting → (sub : ℕ → ℕ → List Slot) → NodeClock → List Moment → (n : ℕ) → List Call
@@ -225,20 +233,19 @@ calls_upto setting sub clock past n =
 -- a clock has made one instant more, by its calls, and no other clock of its rank or a lower one has; below it no clock
 -- has made more than its crossfade asks for
 pub record HasMadeInstant (setting : Setting) (sub : ℕ → ℕ → List Slot) (rank : NodeClock → ℕ) (clock : NodeClock)
-    (ran : NodeClock → ℕ) (filled : ℕ → ℕ) (front : ℕ → List Answer) (more : List Call) (all : ClockStates)
-    : Type 0 where
-  pub ran_now : NodeClock → ℕ
-  pub filled_now : ℕ → ℕ
-  pub stand : Stand setting sub rank (rank clock) ran_now filled_now (after_calls front more) all
-  pub once : ran_now clock ≡ suc (ran clock)
-  pub others : (other : NodeClock) → (other ≡ clock → ⊥) → rank other ≤ rank clock → ran_now other ≡ ran other
+    (progress : Progress) (more : List Call) (all : ClockStates) : Type 0 where
+  pub now : Progress
+  pub took : now.front ≡ after_calls progress.front more
+  pub stand : Stand setting sub rank (rank clock) now all
+  pub once : now.ran clock ≡ suc (progress.ran clock)
+  pub others : (other : NodeClock) → (other ≡ clock → ⊥) → rank other ≤ rank clock → now.ran other ≡ progress.ran other
   pub held : (i : ℕ) → (clock_of setting i ≡ clock → ⊥) → rank (clock_of setting i) ≤ rank clock
-      → filled_now i ≡ filled i
-  pub needed : RanAsNeeded setting sub rank (rank clock) ran_now filled_now
-  pub calls : more ≡ calls_of setting sub clock (first_instants setting sub clock (ran clock))
+      → now.filled i ≡ progress.filled i
+  pub needed : RanAsNeeded setting sub rank (rank clock) now
+  pub calls : more ≡ calls_of setting sub clock (first_instants setting sub clock (progress.ran clock))
   pub parts : all.latest.parts.items
-      ≡ (moment_after setting sub clock (first_instants setting sub clock (ran clock))).parts
-  pub keeps : IsHeld setting sub clock (first_instants setting sub clock (ran clock)) all.room.held.items
+      ≡ (moment_after setting sub clock (first_instants setting sub clock (progress.ran clock))).parts
+  pub keeps : IsHeld setting sub clock (first_instants setting sub clock (progress.ran clock)) all.room.held.items
 
 -- what holds of a setting, whatever its answers are
 pub record IsWorld (setting : Setting) (sub : ℕ → ℕ → List Slot) (rank : NodeClock → ℕ) (own : List Bool) : Type 0 where
@@ -254,130 +261,131 @@ pub record InstantMade {T : Type 0} (stands : T → List Call → Type 0) (scene
     (clock : NodeClock) (time : WeekTime) (old new : ClockStates) (taps_old taps_new : T) : Type 0 where
   pub more : List Call
   pub taps : Adds stands taps_old taps_new more
-  pub made : (other : Setting) (sub : ℕ → ℕ → List Slot) (rank ran : NodeClock → ℕ) (filled : ℕ → ℕ) (front : ℕ
-      → List Answer) →
+  pub made : (other : Setting) (sub : ℕ → ℕ → List Slot) (rank : NodeClock → ℕ) (progress : Progress) →
       let setting = setting_over scene other in
-      IsWorld setting sub rank own → HasAnswers setting (after_calls front more)
-      → Stand setting sub rank (rank clock) ran filled front old → RanAsNeeded setting sub rank (rank clock) ran filled
-      → TimeStands setting.start (ran clock) time
-      → HasMadeInstant setting sub rank clock ran filled front more new
+      IsWorld setting sub rank own → HasAnswers setting (after_calls progress.front more)
+      → Stand setting sub rank (rank clock) progress old → RanAsNeeded setting sub rank (rank clock) progress
+      → TimeStands setting.start (progress.ran clock) time
+      → HasMadeInstant setting sub rank clock progress more new
 
 -- memory was refused: these are the first calls of the instant
 pub record InstantStopped {T : Type 0} (stands : T → List Call → Type 0) (scene : Scene) (own : List Bool)
     (clock : NodeClock) (time : WeekTime) (old : ClockStates) (taps_old taps_new : T) : Type 0 where
   pub made : List Call
   pub taps : Adds stands taps_old taps_new made
-  pub begins : (other : Setting) (sub : ℕ → ℕ → List Slot) (rank ran : NodeClock → ℕ) (filled : ℕ → ℕ) (front : ℕ
-      → List Answer) →
+  pub begins : (other : Setting) (sub : ℕ → ℕ → List Slot) (rank : NodeClock → ℕ) (progress : Progress) →
       let setting = setting_over scene other in
-      IsWorld setting sub rank own → HasAnswers setting (after_calls front made)
-      → Stand setting sub rank (rank clock) ran filled front old → RanAsNeeded setting sub rank (rank clock) ran filled
-      → TimeStands setting.start (ran clock) time
-      → IsBegin made (calls_of setting sub clock (first_instants setting sub clock (ran clock)))
+      IsWorld setting sub rank own → HasAnswers setting (after_calls progress.front made)
+      → Stand setting sub rank (rank clock) progress old → RanAsNeeded setting sub rank (rank clock) progress
+      → TimeStands setting.start (progress.ran clock) time
+      → IsBegin made (calls_of setting sub clock (first_instants setting sub clock (progress.ran clock)))
+
+-- how far all came where the readers of a clock have begun an instant more, by these calls
+abbrev pub begun_progress : Setting → NodeClock → Progress → (more : List Call) → Progress
+begun_progress setting clock progress more = record {
+  ran = progress.ran;
+  filled = begun_in setting clock progress.filled;
+  front = after_calls progress.front more;
+}
 
 -- the readers of a clock have begun, if its instant begins a tick
 pub record Opened (setting : Setting) (sub : ℕ → ℕ → List Slot) (rank : NodeClock → ℕ) (clock : NodeClock)
-    (ran : NodeClock → ℕ) (filled : ℕ → ℕ) (front : ℕ → List Answer) (more : List Call) (all : ClockStates)
-    : Type 0 where
-  pub stand : Stand setting sub rank (rank clock) ran (begun_in setting clock filled) (after_calls front more) all
-  pub calls : more ≡ takes_at setting clock (first_instants setting sub clock (ran clock))
+    (progress : Progress) (more : List Call) (all : ClockStates) : Type 0 where
+  pub stand : Stand setting sub rank (rank clock) (begun_progress setting clock progress more) all
+  pub calls : more ≡ takes_at setting clock (first_instants setting sub clock (progress.ran clock))
 
 pub record ClockOpened {T : Type 0} (stands : T → List Call → Type 0) (scene : Scene) (clock : NodeClock)
     (time : WeekTime) (old new : ClockStates) (taps_old taps_new : T) : Type 0 where
   pub more : List Call
   pub taps : Adds stands taps_old taps_new more
-  pub opened : (other : Setting) (sub : ℕ → ℕ → List Slot) (rank ran : NodeClock → ℕ) (filled : ℕ → ℕ) (front : ℕ
-      → List Answer) →
+  pub opened : (other : Setting) (sub : ℕ → ℕ → List Slot) (rank : NodeClock → ℕ) (progress : Progress) →
       let setting = setting_over scene other in
-      HasRanks scene.clocks.now rank → HasOwnReaders setting → HasAnswers setting (after_calls front more)
-      → Stand setting sub rank (rank clock) ran filled front old → RanAsNeeded setting sub rank (rank clock) ran filled
-      → TimeStands setting.start (ran clock) time
-      → Opened setting sub rank clock ran filled front more new
+      HasRanks scene.clocks.now rank → HasOwnReaders setting → HasAnswers setting (after_calls progress.front more)
+      → Stand setting sub rank (rank clock) progress old → RanAsNeeded setting sub rank (rank clock) progress
+      → TimeStands setting.start (progress.ran clock) time
+      → Opened setting sub rank clock progress more new
 
 pub record OpeningStopped {T : Type 0} (stands : T → List Call → Type 0) (scene : Scene) (clock : NodeClock)
     (time : WeekTime) (old : ClockStates) (taps_old taps_new : T) : Type 0 where
   pub made : List Call
   pub taps : Adds stands taps_old taps_new made
-  pub begins : (other : Setting) (sub : ℕ → ℕ → List Slot) (rank ran : NodeClock → ℕ) (filled : ℕ → ℕ) (front : ℕ
-      → List Answer) →
+  pub begins : (other : Setting) (sub : ℕ → ℕ → List Slot) (rank : NodeClock → ℕ) (progress : Progress) →
       let setting = setting_over scene other in
-      HasOwnReaders setting → HasAnswers setting (after_calls front made)
-      → Stand setting sub rank (rank clock) ran filled front old → RanAsNeeded setting sub rank (rank clock) ran filled
-      → TimeStands setting.start (ran clock) time
-      → IsBegin made (takes_at setting clock (first_instants setting sub clock (ran clock)))
+      HasOwnReaders setting → HasAnswers setting (after_calls progress.front made)
+      → Stand setting sub rank (rank clock) progress old → RanAsNeeded setting sub rank (rank clock) progress
+      → TimeStands setting.start (progress.ran clock) time
+      → IsBegin made (takes_at setting clock (first_instants setting sub clock (progress.ran clock)))
 
 -- node k has its item, by these calls
 pub record NodeSettled {T : Type 0} (stands : T → List Call → Type 0) (scene : Scene) (own : List Bool) (k : ℕ)
     (old new : ClockStates) (taps_old taps_new : T) : Type 0 where
   pub more : List Call
   pub taps : Adds stands taps_old taps_new more
-  pub settled : (other : Setting) (sub : ℕ → ℕ → List Slot) (rank ran : NodeClock → ℕ) (filled : ℕ → ℕ) (front : ℕ
-      → List Answer) →
+  pub settled : (other : Setting) (sub : ℕ → ℕ → List Slot) (rank : NodeClock → ℕ) (progress : Progress) →
       let setting = setting_over scene other in
-      IsWorld setting sub rank own → HasAnswers setting (after_calls front more)
-      → Stand setting sub rank (rank (clock_at scene.clocks.now k)) ran filled front old
-      → (reads_at setting k ≡ true → filled k ≡ suc (ran (clock_at scene.clocks.now k)))
-      → IsFilling setting sub rank (rank (clock_at scene.clocks.now k)) k (is_node k) ran filled front more new
+      IsWorld setting sub rank own → HasAnswers setting (after_calls progress.front more)
+      → Stand setting sub rank (rank (clock_at scene.clocks.now k)) progress old
+      → (reads_at setting k ≡ true → progress.filled k ≡ suc (progress.ran (clock_at scene.clocks.now k)))
+      → IsFilling setting sub rank k (is_node k) progress more new
 
 -- memory was refused: these are the first calls for the item of node k, which is a crossfade
-pub record IsFillingStopped (setting : Setting) (sub : ℕ → ℕ → List Slot) (ran : NodeClock → ℕ) (filled : ℕ → ℕ) (k : ℕ)
+pub record IsFillingStopped (setting : Setting) (sub : ℕ → ℕ → List Slot) (progress : Progress) (k : ℕ)
     (made : List Call) : Type 0 where
   pub overlap : ℕ
   pub node : Node
   pub there : slice_get setting.plan.nodes k ≡ Some node
   pub fades : work_at setting k node ≡ Fades overlap
   pub begins : IsBegin made
-      (joined_between (calls_below setting sub k) (filled k)
-      (run_of overlap (sub k) (position (past_of setting sub ran k) k)))
+      (joined_between (calls_below setting sub k) (progress.filled k)
+      (run_of overlap (sub k) (position (past_of setting sub progress.ran k) k)))
 
 pub record NodeStopped {T : Type 0} (stands : T → List Call → Type 0) (scene : Scene) (own : List Bool) (k : ℕ)
     (old : ClockStates) (taps_old taps_new : T) : Type 0 where
   pub made : List Call
   pub taps : Adds stands taps_old taps_new made
-  pub begins : (other : Setting) (sub : ℕ → ℕ → List Slot) (rank ran : NodeClock → ℕ) (filled : ℕ → ℕ) (front : ℕ
-      → List Answer) →
+  pub begins : (other : Setting) (sub : ℕ → ℕ → List Slot) (rank : NodeClock → ℕ) (progress : Progress) →
       let setting = setting_over scene other in
-      IsWorld setting sub rank own → HasAnswers setting (after_calls front made)
-      → Stand setting sub rank (rank (clock_at scene.clocks.now k)) ran filled front old
-      → IsFillingStopped setting sub ran filled k made
+      IsWorld setting sub rank own → HasAnswers setting (after_calls progress.front made)
+      → Stand setting sub rank (rank (clock_at scene.clocks.now k)) progress old
+      → IsFillingStopped setting sub progress k made
 
 -- the crossfades of a clock below a node have their items, by the calls of the instants that their sub-clocks made for
 -- them
 pub record AreFilled (setting : Setting) (sub : ℕ → ℕ → List Slot) (rank : NodeClock → ℕ) (clock : NodeClock)
-    (below : ℕ) (ran : NodeClock → ℕ) (filled : ℕ → ℕ) (front : ℕ → List Answer) (more : List Call) (all : ClockStates)
-    : Type 0 where
+    (below : ℕ) (progress : Progress) (more : List Call) (all : ClockStates) : Type 0 where
   pub reached : IsReached setting sub rank (rank clock) (is_upto setting.clocks clock below)
-      (is_upto setting.clocks clock below) ran filled front more all
-  pub calls : more ≡ calls_upto setting sub clock (first_instants setting sub clock (ran clock)) below
+      (is_upto setting.clocks clock below) progress more all
+  pub calls : more ≡ calls_upto setting sub clock (first_instants setting sub clock (progress.ran clock)) below
 
 -- before the crossfades of a clock are settled: they have the items that the instants before took, and the readers have
 -- begun
-pub record AreReady (setting : Setting) (sub : ℕ → ℕ → List Slot) (clock : NodeClock) (ran : NodeClock → ℕ)
-    (filled : ℕ → ℕ) : Type 0 where
+pub record AreReady (setting : Setting) (sub : ℕ → ℕ → List Slot) (clock : NodeClock) (progress : Progress)
+    : Type 0 where
   pub each : (k overlap : ℕ) (node : Node) → slice_get setting.plan.nodes k ≡ Some node
       → work_at setting k node ≡ Fades overlap
-      → clock_of setting k ≡ clock → filled k ≡ ran_by sub k overlap (first_instants setting sub clock (ran clock))
-  pub begun : (i : ℕ) → reads_at setting i ≡ true → clock_of setting i ≡ clock → filled i ≡ suc (ran clock)
+      → clock_of setting k ≡ clock
+      → progress.filled k ≡ ran_by sub k overlap (first_instants setting sub clock (progress.ran clock))
+  pub begun : (i : ℕ) → reads_at setting i ≡ true → clock_of setting i ≡ clock
+      → progress.filled i ≡ suc (progress.ran clock)
 
 pub record AllSettled {T : Type 0} (stands : T → List Call → Type 0) (scene : Scene) (own : List Bool)
     (clock : NodeClock) (below : ℕ) (old new : ClockStates) (taps_old taps_new : T) : Type 0 where
   pub more : List Call
   pub taps : Adds stands taps_old taps_new more
-  pub settled : (other : Setting) (sub : ℕ → ℕ → List Slot) (rank ran : NodeClock → ℕ) (filled : ℕ → ℕ) (front : ℕ
-      → List Answer) →
+  pub settled : (other : Setting) (sub : ℕ → ℕ → List Slot) (rank : NodeClock → ℕ) (progress : Progress) →
       let setting = setting_over scene other in
-      IsWorld setting sub rank own → HasAnswers setting (after_calls front more)
-      → Stand setting sub rank (rank clock) ran filled front old → AreReady setting sub clock ran filled
-      → AreFilled setting sub rank clock below ran filled front more new
+      IsWorld setting sub rank own → HasAnswers setting (after_calls progress.front more)
+      → Stand setting sub rank (rank clock) progress old → AreReady setting sub clock progress
+      → AreFilled setting sub rank clock below progress more new
 
 pub record SettlingStopped {T : Type 0} (stands : T → List Call → Type 0) (scene : Scene) (own : List Bool)
     (clock : NodeClock) (old : ClockStates) (taps_old taps_new : T) : Type 0 where
   pub made : List Call
   pub taps : Adds stands taps_old taps_new made
-  pub begins : (other : Setting) (sub : ℕ → ℕ → List Slot) (rank ran : NodeClock → ℕ) (filled : ℕ → ℕ) (front : ℕ
-      → List Answer) →
+  pub begins : (other : Setting) (sub : ℕ → ℕ → List Slot) (rank : NodeClock → ℕ) (progress : Progress) →
       let setting = setting_over scene other in
-      IsWorld setting sub rank own → HasAnswers setting (after_calls front made)
-      → Stand setting sub rank (rank clock) ran filled front old → AreReady setting sub clock ran filled
+      IsWorld setting sub rank own → HasAnswers setting (after_calls progress.front made)
+      → Stand setting sub rank (rank clock) progress old → AreReady setting sub clock progress
       → IsBegin made
-      (calls_upto setting sub clock (first_instants setting sub clock (ran clock)) (length scene.plan.now.nodes))
+      (calls_upto setting sub clock (first_instants setting sub clock (progress.ran clock))
+      (length scene.plan.now.nodes))

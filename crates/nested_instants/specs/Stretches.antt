@@ -2,7 +2,7 @@
 use Rattle.std.specs.Prelude.{◌≡◌, ◌<◌, ◌≤◌, ◌+◌, ◌&&◌, Bool, true, false, None, Some, List, [], ℕ, ℤ, suc, is_some, length, slice_get, slice_index_or}
 use Rattle.clock_infer.specs.declared.clock_map.NodeClock.{NodeClock}
 use Rattle.clock_infer.specs.declared.clock_map.NodeClock.TheVariants.{Sub}
-use Rattle.frame_core.specs.Calls.{Call, Answer}
+use Rattle.frame_core.specs.Calls.{Call}
 use Rattle.frame_core.specs.Slots.{Slot, title_of}
 use Rattle.op_leaf.specs.Lanes.{AreTitled, IsLane}
 use Rattle.stream_meaning.specs.Instants.{Setting, clock_of, crossfaded, first_instants, moment_after, offer, part_at}
@@ -15,7 +15,7 @@ use Rattle.clock_nodes.specs.Scenes.{setting_over}
 use Rattle.nested_instants.specs.declared.clock_states.ClockStates.{ClockStates}
 use Rattle.clock_instants.specs.Held.{IsHeld, gave_at, goes_through, passes_at}
 use Rattle.node_states.specs.Passing.{LaneFills}
-use Rattle.nested_instants.specs.Clocks.{GoesOnFor, IsFilling, IsOpen, IsWorld, RanAsNeeded, Stand, clock_at, fade_at, is_none, laned_at, rest_at}
+use Rattle.nested_instants.specs.Clocks.{GoesOnFor, IsFilling, IsOpen, IsWorld, Progress, RanAsNeeded, Stand, clock_at, fade_at, is_none, laned_at, rest_at}
 
 -- at so many instants a node offers nothing, where it offered nothing at the one before them; or cells of its title
 -- there that begin no track, and these are their samples
@@ -27,96 +27,94 @@ pub record IsStretchOf (slots : ℕ → Slot) (many : ℕ) (first : Slot) (left 
 -- a clock has made so many instants more behind instant n, without a call, and no other clock of its rank or a lower
 -- one has; and the nodes that it demands of themselves have left their samples
 pub record HasMadeOn (setting : Setting) (sub : ℕ → ℕ → List Slot) (rank : NodeClock → ℕ) (own : List Bool)
-    (clock : NodeClock) (n many : ℕ) (ran : NodeClock → ℕ) (filled : ℕ → ℕ) (front : ℕ → List Answer)
-    (all : ClockStates) : Type 0 where
-  pub ran_now : NodeClock → ℕ
-  pub filled_now : ℕ → ℕ
-  pub stand : Stand setting sub rank (rank clock) ran_now filled_now front all
-  pub once : ran_now clock ≡ ran clock + many
-  pub others : (other : NodeClock) → (other ≡ clock → ⊥) → rank other ≤ rank clock → ran_now other ≡ ran other
+    (clock : NodeClock) (n many : ℕ) (progress : Progress) (all : ClockStates) : Type 0 where
+  pub now : Progress
+  pub took : now.front ≡ progress.front
+  pub stand : Stand setting sub rank (rank clock) now all
+  pub once : now.ran clock ≡ progress.ran clock + many
+  pub others : (other : NodeClock) → (other ≡ clock → ⊥) → rank other ≤ rank clock → now.ran other ≡ progress.ran other
   pub held : (i : ℕ) → (clock_of setting i ≡ clock → ⊥) → rank (clock_of setting i) ≤ rank clock
-      → filled_now i ≡ filled i
-  pub needed : RanAsNeeded setting sub rank (rank clock) ran_now filled_now
-  pub quiet : (j : ℕ) → j < many → calls_of setting sub clock (first_instants setting sub clock (ran clock + j)) ≡ []
+      → now.filled i ≡ progress.filled i
+  pub needed : RanAsNeeded setting sub rank (rank clock) now
+  pub quiet : (j : ℕ) → j < many
+      → calls_of setting sub clock (first_instants setting sub clock (progress.ran clock + j)) ≡ []
   pub slots : (i : ℕ) → slice_index_or own i false ≡ true
-      → IsStretchOf (λ j. offer (moment_after setting sub clock (first_instants setting sub clock (ran clock + j))) i)
-      many
+      → IsStretchOf
+      (λ j. offer (moment_after setting sub clock (first_instants setting sub clock (progress.ran clock + j))) i) many
       (offer (moment_after setting sub clock (first_instants setting sub clock n)) i)
       (samples_of all.room.left.items i many) (samples_of all.room.right.items i many)
 
 -- what a stretch of a clock asks of the states before it
 pub record CanGoOn (setting : Setting) (sub : ℕ → ℕ → List Slot) (rank : NodeClock → ℕ) (own : List Bool)
-    (clock : NodeClock) (n many : ℕ) (ran : NodeClock → ℕ) (filled : ℕ → ℕ) (front : ℕ → List Answer)
-    (all : ClockStates) : Type 0 where
+    (clock : NodeClock) (n many : ℕ) (progress : Progress) (all : ClockStates) : Type 0 where
   pub world : IsWorld setting sub rank own
-  pub stand : Stand setting sub rank (rank clock) ran filled front all
-  pub needed : RanAsNeeded setting sub rank (rank clock) ran filled
-  pub at : ran clock ≡ suc n
-  pub goes : GoesOnFor setting sub clock (first_instants setting sub clock n) many filled all.room.held.items
+  pub stand : Stand setting sub rank (rank clock) progress all
+  pub needed : RanAsNeeded setting sub rank (rank clock) progress
+  pub at : progress.ran clock ≡ suc n
+  pub goes : GoesOnFor setting sub clock (first_instants setting sub clock n) many progress.filled all.room.held.items
       all.states.items
 
 -- so many instants of a clock were made, which go on as its latest one: whatever instants the states stood for
 pub record ClockMade (scene : Scene) (clock : NodeClock) (many : ℕ) (old new : ClockStates) : Type 0 where
-  pub run : (other : Setting) (sub : ℕ → ℕ → List Slot) (rank ran : NodeClock → ℕ) (filled : ℕ → ℕ) (front : ℕ
-      → List Answer) (own : List Bool) (n : ℕ) →
+  pub run : (other : Setting) (sub : ℕ → ℕ → List Slot) (rank : NodeClock → ℕ) (progress : Progress)
+      (own : List Bool) (n : ℕ) →
       let setting = setting_over scene other in
-      CanGoOn setting sub rank own clock n many ran filled front old
-      → HasMadeOn setting sub rank own clock n many ran filled front new
+      CanGoOn setting sub rank own clock n many progress old
+      → HasMadeOn setting sub rank own clock n many progress new
 
 -- so many instants were made behind the latest one, which was at this time
 pub record StretchMade (scene : Scene) (clock : NodeClock) (time : WeekTime) (many : ℕ) (old new : ClockStates)
     : Type 0 where
-  pub run : (other : Setting) (sub : ℕ → ℕ → List Slot) (rank ran : NodeClock → ℕ) (filled : ℕ → ℕ) (front : ℕ
-      → List Answer) (own : List Bool) (n : ℕ) →
+  pub run : (other : Setting) (sub : ℕ → ℕ → List Slot) (rank : NodeClock → ℕ) (progress : Progress)
+      (own : List Bool) (n : ℕ) →
       let setting = setting_over scene other in
-      IsWorld setting sub rank own → Stand setting sub rank (rank clock) ran filled front old
-      → RanAsNeeded setting sub rank (rank clock) ran filled
-      → ran clock ≡ suc n → old.latest.parts.items
+      IsWorld setting sub rank own → Stand setting sub rank (rank clock) progress old
+      → RanAsNeeded setting sub rank (rank clock) progress
+      → progress.ran clock ≡ suc n → old.latest.parts.items
       ≡ (moment_after setting sub clock (first_instants setting sub clock n)).parts
       → IsHeld setting sub clock (first_instants setting sub clock n) old.room.held.items
       → TimeStands setting.start n time
-      → HasMadeOn setting sub rank own clock n many ran filled front new
+      → HasMadeOn setting sub rank own clock n many progress new
 
 -- behind an instant of its sub-clock, which was at this time, crossfade k was filled more slots, without a call:
 -- whatever it was filled
 pub record FilledOn (scene : Scene) (k : ℕ) (time : WeekTime) (old new : ClockStates) : Type 0 where
-  pub filled : (other : Setting) (sub : ℕ → ℕ → List Slot) (rank ran : NodeClock → ℕ) (filled : ℕ → ℕ) (front : ℕ
-      → List Answer) (more : List Call) (own : List Bool) (n : ℕ) →
+  pub filled : (other : Setting) (sub : ℕ → ℕ → List Slot) (rank : NodeClock → ℕ) (progress : Progress)
+      (more : List Call) (own : List Bool) (n : ℕ) →
       let setting = setting_over scene other in
       IsWorld setting sub rank own → fade_at setting k ≡ true
-      → (before : IsFilling setting sub rank (rank (clock_at scene.clocks.now k)) k is_none ran filled front more old)
-      → before.reached.ran_now (Sub k) ≡ suc n → old.latest.parts.items
+      → (before : IsFilling setting sub rank k is_none progress more old)
+      → before.reached.now.ran (Sub k) ≡ suc n → old.latest.parts.items
       ≡ (moment_after setting sub (Sub k) (first_instants setting sub (Sub k) n)).parts
       → IsHeld setting sub (Sub k) (first_instants setting sub (Sub k) n) old.room.held.items
       → TimeStands setting.start n time
-      → IsFilling setting sub rank (rank (clock_at scene.clocks.now k)) k is_none ran filled front more new
+      → IsFilling setting sub rank k is_none progress more new
 
 -- of the crossfades of a clock below this node, the sub-clocks of those through which cells pass have made so many
 -- instants more, without a call, and left the samples of the crossfades' children
 pub record SubsMade (setting : Setting) (sub : ℕ → ℕ → List Slot) (rank : NodeClock → ℕ) (clock : NodeClock) (many : ℕ)
-    (through : ℕ → Bool) (below : ℕ) (ran : NodeClock → ℕ) (filled : ℕ → ℕ) (front : ℕ → List Answer)
-    (all : ClockStates) : Type 0 where
-  pub ran_now : NodeClock → ℕ
-  pub filled_now : ℕ → ℕ
-  pub stand : Stand setting sub rank (suc (rank clock)) ran_now filled_now front all
-  pub needed : RanAsNeeded setting sub rank (suc (rank clock)) ran_now filled_now
-  pub others : (other : NodeClock) → rank other ≤ rank clock → ran_now other ≡ ran other
-  pub held : (i : ℕ) → rank (clock_of setting i) ≤ rank clock → filled_now i ≡ filled i
+    (through : ℕ → Bool) (below : ℕ) (progress : Progress) (all : ClockStates) : Type 0 where
+  pub now : Progress
+  pub took : now.front ≡ progress.front
+  pub stand : Stand setting sub rank (suc (rank clock)) now all
+  pub needed : RanAsNeeded setting sub rank (suc (rank clock)) now
+  pub others : (other : NodeClock) → rank other ≤ rank clock → now.ran other ≡ progress.ran other
+  pub held : (i : ℕ) → rank (clock_of setting i) ≤ rank clock → now.filled i ≡ progress.filled i
   pub went : (k : ℕ) → k < length setting.plan.nodes → clock_of setting k ≡ clock → k < below → through k ≡ true
-      → ran_now (Sub k) ≡ ran (Sub k) + many
+      → now.ran (Sub k) ≡ progress.ran (Sub k) + many
   pub stayed : (k : ℕ) → k < length setting.plan.nodes → rank (clock_of setting k) ≡ rank clock
       → (clock_of setting k ≡ clock → k < below → through k ≡ false)
-      → ran_now (Sub k) ≡ ran (Sub k)
+      → now.ran (Sub k) ≡ progress.ran (Sub k)
   pub time : (k : ℕ) (time : WeekTime) → k < length setting.plan.nodes → rank clock ≤ rank (clock_of setting k)
       → slice_get all.times.items k ≡ Some time
-      → TimeStands setting.start (ran_now (Sub k)) time
+      → TimeStands setting.start (now.ran (Sub k)) time
   pub kept : (k : ℕ) → k < length setting.plan.nodes → rank (clock_of setting k) ≡ rank clock → 0 < rest_at all k
-      → IsOpen setting sub k (rest_at all k) ran_now filled_now all
+      → IsOpen setting sub k (rest_at all k) now all
   pub quiet : (k j : ℕ) → k < length setting.plan.nodes → clock_of setting k ≡ clock → k < below → through k ≡ true
       → j < many
-      → calls_of setting sub (Sub k) (first_instants setting sub (Sub k) (ran (Sub k) + j)) ≡ []
+      → calls_of setting sub (Sub k) (first_instants setting sub (Sub k) (progress.ran (Sub k) + j)) ≡ []
   pub fills : (k : ℕ) → k < length setting.plan.nodes → clock_of setting k ≡ clock → k < below → through k ≡ true
-      → LaneFills (sub k) (ran (Sub k)) many
+      → LaneFills (sub k) (progress.ran (Sub k)) many
       (title_of (part_at all.room.held.items (crossfaded setting.plan.nodes k)).slot)
       (samples_of all.room.left.items (crossfaded setting.plan.nodes k) many)
       (samples_of all.room.right.items (crossfaded setting.plan.nodes k) many)
@@ -125,22 +123,22 @@ pub record SubsMade (setting : Setting) (sub : ℕ → ℕ → List Slot) (rank 
 
 -- the same for the sub-clocks below a node, whatever instants the states stood for
 pub record SubClocksMade (scene : Scene) (clock : NodeClock) (many below : ℕ) (old new : ClockStates) : Type 0 where
-  pub run : (other : Setting) (sub : ℕ → ℕ → List Slot) (rank ran : NodeClock → ℕ) (filled : ℕ → ℕ) (front : ℕ
-      → List Answer) (own : List Bool) (n : ℕ) →
+  pub run : (other : Setting) (sub : ℕ → ℕ → List Slot) (rank : NodeClock → ℕ) (progress : Progress)
+      (own : List Bool) (n : ℕ) →
       let setting = setting_over scene other in
-      CanGoOn setting sub rank own clock n many ran filled front old
+      CanGoOn setting sub rank own clock n many progress old
       → SubsMade setting sub rank clock many
-      (goes_through (moment_after setting sub clock (first_instants setting sub clock n)) old.states.items) below ran
-      filled front new
+      (goes_through (moment_after setting sub clock (first_instants setting sub clock n)) old.states.items) below
+      progress new
 
 -- the same for the sub-clock of node i, if it is a crossfade through which cells pass, behind those below it
 pub record SubClockMade (scene : Scene) (i many : ℕ) (old new : ClockStates) : Type 0 where
-  pub step : (other : Setting) (sub : ℕ → ℕ → List Slot) (rank ran : NodeClock → ℕ) (filled : ℕ → ℕ) (front : ℕ
-      → List Answer) (own : List Bool) (through : ℕ → Bool) →
+  pub step : (other : Setting) (sub : ℕ → ℕ → List Slot) (rank : NodeClock → ℕ) (progress : Progress)
+      (own : List Bool) (through : ℕ → Bool) →
       let setting = setting_over scene other in
       IsWorld setting sub rank own → through i ≡ (gave_at old.room.held.items i && passes_at old.states.items i)
-      → SubsMade setting sub rank (clock_at scene.clocks.now i) many through i ran filled front old
-      → SubsMade setting sub rank (clock_at scene.clocks.now i) many through (suc i) ran filled front new
+      → SubsMade setting sub rank (clock_at scene.clocks.now i) many through i progress old
+      → SubsMade setting sub rank (clock_at scene.clocks.now i) many through (suc i) progress new
 
 -- but for some nodes, those in clocks of this rank or a lower one have the samples that they had
 pub record AreSamplesLeft (clocks : List NodeClock) (rank : NodeClock → ℕ) (level : ℕ) (touched : ℕ → Type 0) (many : ℕ)

@@ -4,7 +4,7 @@ use Rattle.stream_meaning.specs.Calls.{IsBegin, calls_of}
 use Rattle.node_states.specs.Times.{TimeStands}
 use Rattle.node_states.proofs.Chunks.{on_err}
 use Rattle.clock_nodes.specs.Scenes.{setting_over}
-use Rattle.clock_ticks.proofs.Segments.{segment_made}
+use Rattle.clock_ticks.proofs.Segments.{segment_made, taken_by}
 use Rattle.clock_ticks.proofs.clock_state.make_segment.Goals as goal
 
 pub returns-clause-run : goal.returns-clause-run
@@ -24,7 +24,7 @@ returns-in_err-make_instant-clause-broken g c =
       begins = λ setting sub n front meant has stand.
           let S = setting_over c.args.scene.now setting in
           subst (λ m. IsBegin one.made (calls_of S sub c.args.clock (first_instants S sub c.args.clock m))) stand.made
-          (one.begins setting sub stand.rank stand.ran stand.fed front (record { ranks = stand.ranks; meaning = meant.meaning; down = meant.down; readers = meant.readers; roots = meant.roots }) has stand.stand stand.needed
+          (one.begins setting sub stand.rank stand.now (record { ranks = stand.ranks; meaning = meant.meaning; down = meant.down; readers = meant.readers; roots = meant.roots }) (taken_by S stand.now front one.made stand.took has) stand.stand stand.needed
           (subst (λ m. TimeStands setting.start m c.args.state.now.time) (sym stand.made) stand.time));
     })
 

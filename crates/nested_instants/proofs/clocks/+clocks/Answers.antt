@@ -4,15 +4,14 @@ use Rattle.std.specs.Option.{option_map_or}
 use Rattle.std.proofs.lemmas.Option.{slice_get_read}
 use Rattle.clock_infer.specs.declared.clock_map.NodeClock.TheVariants.{Main}
 use Rattle.clock_nodes.specs.Scenes.{setting_over}
-use Rattle.nested_instants.specs.Clocks.{AllSettled}
+use Rattle.nested_instants.specs.Clocks.{AllSettled, begun_progress}
 use Rattle.stream_meaning.specs.Instants.{first_instants, moment_after, part_at, second_at}
 use Rattle.stream_meaning.proofs.Answering.{answers_first, answers_then}
 use Rattle.stream_meaning.proofs.Existence.{same_clock-true}
 use Rattle.node_states.specs.States.{left, wants}
 use Rattle.node_states.proofs.Begun.{as_many}
 use Rattle.node_states.proofs.Chunks.{adds_then, on_err}
-use Rattle.clock_instants.specs.Takes.{HasReader, ReadersAreIn, begun_in}
-use Rattle.stream_meaning.specs.Calls.{after_calls}
+use Rattle.clock_instants.specs.Takes.{HasReader, ReadersAreIn}
 use Rattle.clock_nodes.proofs.Walking.{next_own}
 use Rattle.clock_instants.specs.Held.{IsHeld}
 use Rattle.nested_instants.specs.Clocks.{IsIdle, clock_at, is_in, is_node}
@@ -230,21 +229,21 @@ make_instant-returns-clause-made g t c =
     record {
       more = opened.more ++ settled.more;
       taps = adds_then g.T.Taps.stands c.args.taps.now c.begin_clock.new.taps c.settle_all.new.taps opened.more settled.more opened.taps settled.taps;
-      made = λ other sub rank ran filled front world has stand needed at.
-          let o = opened.opened other sub rank ran filled front world.ranks world.readers (answers_first (setting_over c.args.scene.now other) front opened.more settled.more has) stand needed at in
-          let u = settled.settled other sub rank ran (begun_in (setting_over c.args.scene.now other) c.args.clock filled) (after_calls front opened.more) world
-          (answers_then (setting_over c.args.scene.now other) front opened.more settled.more has) o.stand
-          (are_ready (setting_over c.args.scene.now other) sub rank c.args.clock ran filled front c.args.clocks.now stand needed) in
-          let past = first_instants (setting_over c.args.scene.now other) sub c.args.clock (u.reached.ran_now c.args.clock) in
-          let same = ran_is (setting_over c.args.scene.now other) sub rank c.args.clock ran filled front opened.more settled.more c.settle_all.new.clocks u in
-          let second = second_of (setting_over c.args.scene.now other) (ran c.args.clock) c.args.time c.requires.rate at
-          ∙ ap (second_at (setting_over c.args.scene.now other)) (sym same ∙ long_first_instants (setting_over c.args.scene.now other) sub c.args.clock (u.reached.ran_now c.args.clock)) in
+      made = λ other sub rank progress world has stand needed at.
+          let o = opened.opened other sub rank progress world.ranks world.readers (answers_first (setting_over c.args.scene.now other) progress.front opened.more settled.more has) stand needed at in
+          let u = settled.settled other sub rank (begun_progress (setting_over c.args.scene.now other) c.args.clock progress opened.more) world
+          (answers_then (setting_over c.args.scene.now other) progress.front opened.more settled.more has) o.stand
+          (are_ready (setting_over c.args.scene.now other) sub rank c.args.clock progress opened.more c.args.clocks.now stand needed) in
+          let past = first_instants (setting_over c.args.scene.now other) sub c.args.clock (u.reached.now.ran c.args.clock) in
+          let same = ran_is (setting_over c.args.scene.now other) sub rank c.args.clock progress opened.more settled.more c.settle_all.new.clocks u in
+          let second = second_of (setting_over c.args.scene.now other) (progress.ran c.args.clock) c.args.time c.requires.rate at
+          ∙ ap (second_at (setting_over c.args.scene.now other)) (sym same ∙ long_first_instants (setting_over c.args.scene.now other) sub c.args.clock (u.reached.now.ran c.args.clock)) in
           let long = as_many (setting_over c.args.scene.now other) sub world.meaning in
-          let clocked = clock_stands (setting_over c.args.scene.now other) sub rank c.args.clock ran filled front opened.more settled.more c.settle_all.new.clocks u in
+          let clocked = clock_stands (setting_over c.args.scene.now other) sub rank c.args.clock progress opened.more settled.more c.settle_all.new.clocks u in
           let roots = roots_are (setting_over c.args.scene.now other) c.args.clock c.args.own.now world.roots in
-          let items = are_settled (setting_over c.args.scene.now other) sub rank c.args.clock ran filled front opened.more settled.more c.settle_all.new.clocks u in
-          let f = c.finish.ensures.finished.made other sub past u.reached.filled_now (record { at = second; long = long; stands = clocked; settled = items; roots = roots }) in
-          made (setting_over c.args.scene.now other) sub rank c.args.clock ran filled front opened.more settled.more c.settle_all.new.clocks u
+          let items = are_settled (setting_over c.args.scene.now other) sub rank c.args.clock progress opened.more settled.more c.settle_all.new.clocks u in
+          let f = c.finish.ensures.finished.made other sub past u.reached.now.filled (record { at = second; long = long; stands = clocked; settled = items; roots = roots }) in
+          made (setting_over c.args.scene.now other) sub rank c.args.clock progress opened.more settled.more c.settle_all.new.clocks u
           world.ranks c.requires.scene.in_clocks c.args.clocks.now c.finish.new.clocks stand needed
           f.stands
           c.finish.ensures.others c.finish.ensures.times c.finish.ensures.kept (λ i. ap (λ xs. slice_index_or xs.items i 0) c.finish.ensures.rests)

@@ -2,7 +2,6 @@ use Rattle.std.proofs.Common.{◌≡◌, ◌<◌, ◌∙◌, length, get_or, ari
 use Rattle.std.specs.Option.{option_map_or}
 use Rattle.clock_infer.specs.declared.clock_map.NodeClock.TheVariants.{Main, Sub}
 use Rattle.stream_meaning.specs.Instants.{first_instants}
-use Rattle.stream_meaning.specs.Calls.{after_calls}
 use Rattle.node_states.specs.States.{left, room}
 use Rattle.clock_instants.proofs.Ahead.{ahead_less, through_less}
 use Rattle.clock_nodes.specs.Scenes.{setting_over}
@@ -26,18 +25,18 @@ returns-then-many-eq0-clause-left c rank ranks =
 
 pub returns-then-many-eq0-clause-filled : goal.returns-then-many-eq0-clause-filled
 returns-then-many-eq0-clause-filled c = record {
-  filled = λ other sub rank ran filled front more own n world fades before at parts held time.
+  filled = λ other sub rank progress more own n world fades before at parts held time.
       let S = setting_over c.args.scene.now other in
-      filled_kept S sub rank world.ranks c.requires.scene.in_clocks c.args.k c.requires.within ran filled front more c.args.clocks.now c.keep.new.clocks c.goes_for-rest.result
+      filled_kept S sub rank world.ranks c.requires.scene.in_clocks c.args.k c.requires.within progress more c.args.clocks.now c.keep.new.clocks c.goes_for-rest.result
       c.keep.ensures.states c.keep.ensures.times c.keep.ensures.held c.keep.ensures.kept c.keep.ensures.others c.keep.ensures.left c.keep.ensures.right before
       (λ some. record {
         n = n;
         at = at;
         gave = child_gave S sub c.args.k (first_instants S sub (Sub c.args.k) n) own c.args.clocks.now.latest.parts.items world.roots parts (c.goes_for-rest.ensures.gave some);
-        goes = c.goes_for-rest.ensures.goes other sub (first_instants S sub (Sub c.args.k) n) before.reached.filled_now
-            (are_behind S sub rank (Sub c.args.k) n before.reached.ran_now before.reached.filled_now (after_calls front more) c.args.clocks.now c.args.time world.ranks c.requires.scene.in_clocks c.requires.scene.nodes world.meaning
-            (stand_under S sub rank world.ranks c.requires.scene.in_clocks c.args.k c.requires.within ran filled front more c.args.clocks.now before)
-            (needed_under S sub rank world.ranks c.requires.scene.in_clocks c.args.k c.requires.within ran filled front more c.args.clocks.now before) at parts held time) some;
+        goes = c.goes_for-rest.ensures.goes other sub (first_instants S sub (Sub c.args.k) n) before.reached.now.filled
+            (are_behind S sub rank (Sub c.args.k) n before.reached.now c.args.clocks.now c.args.time world.ranks c.requires.scene.in_clocks c.requires.scene.nodes world.meaning
+            (stand_under S sub rank world.ranks c.requires.scene.in_clocks c.args.k c.requires.within progress more c.args.clocks.now before)
+            (needed_under S sub rank world.ranks c.requires.scene.in_clocks c.args.k c.requires.within progress more c.args.clocks.now before) at parts held time) some;
       });
 }
 
@@ -76,21 +75,21 @@ returns-clause-no_more c =
 
 pub returns-clause-filled : goal.returns-clause-filled
 returns-clause-filled c = record {
-  filled = λ other sub rank ran filled front more own n world fades before at parts held time.
+  filled = λ other sub rank progress more own n world fades before at parts held time.
       let S = setting_over c.args.scene.now other in
       let some : 0 < c.goes_for-rest.result = omega (arith, c.if-many-eq0.false, c.wanted-many.ensures.rest) in
-      filled_on S sub rank world.ranks c.requires.scene.in_clocks c.args.k c.requires.within ran filled front more c.args.clocks.now before fades world.meaning own world.roots n
+      filled_on S sub rank world.ranks c.requires.scene.in_clocks c.args.k c.requires.within progress more c.args.clocks.now before fades world.meaning own world.roots n
       c.wanted-many.result c.run_clock.new.clocks c.fill_lane.new.clocks
-      (c.run_clock.ensures.run.run other sub rank before.reached.ran_now before.reached.filled_now (after_calls front more) own n (record {
+      (c.run_clock.ensures.run.run other sub rank before.reached.now own n (record {
         world = world;
-        stand = stand_under S sub rank world.ranks c.requires.scene.in_clocks c.args.k c.requires.within ran filled front more c.args.clocks.now before;
-        needed = needed_under S sub rank world.ranks c.requires.scene.in_clocks c.args.k c.requires.within ran filled front more c.args.clocks.now before;
+        stand = stand_under S sub rank world.ranks c.requires.scene.in_clocks c.args.k c.requires.within progress more c.args.clocks.now before;
+        needed = needed_under S sub rank world.ranks c.requires.scene.in_clocks c.args.k c.requires.within progress more c.args.clocks.now before;
         at = at;
-        goes = goes_fewer S sub (Sub c.args.k) (first_instants S sub (Sub c.args.k) n) c.goes_for-rest.result c.wanted-many.result before.reached.filled_now c.args.clocks.now.room.held.items c.args.clocks.now.states.items c.wanted-many.ensures.rest
-            (c.goes_for-rest.ensures.goes other sub (first_instants S sub (Sub c.args.k) n) before.reached.filled_now
-            (are_behind S sub rank (Sub c.args.k) n before.reached.ran_now before.reached.filled_now (after_calls front more) c.args.clocks.now c.args.time world.ranks c.requires.scene.in_clocks c.requires.scene.nodes world.meaning
-            (stand_under S sub rank world.ranks c.requires.scene.in_clocks c.args.k c.requires.within ran filled front more c.args.clocks.now before)
-            (needed_under S sub rank world.ranks c.requires.scene.in_clocks c.args.k c.requires.within ran filled front more c.args.clocks.now before) at parts held time) some);
+        goes = goes_fewer S sub (Sub c.args.k) (first_instants S sub (Sub c.args.k) n) c.goes_for-rest.result c.wanted-many.result before.reached.now.filled c.args.clocks.now.room.held.items c.args.clocks.now.states.items c.wanted-many.ensures.rest
+            (c.goes_for-rest.ensures.goes other sub (first_instants S sub (Sub c.args.k) n) before.reached.now.filled
+            (are_behind S sub rank (Sub c.args.k) n before.reached.now c.args.clocks.now c.args.time world.ranks c.requires.scene.in_clocks c.requires.scene.nodes world.meaning
+            (stand_under S sub rank world.ranks c.requires.scene.in_clocks c.args.k c.requires.within progress more c.args.clocks.now before)
+            (needed_under S sub rank world.ranks c.requires.scene.in_clocks c.args.k c.requires.within progress more c.args.clocks.now before) at parts held time) some);
       }))
       (child_gave S sub c.args.k (first_instants S sub (Sub c.args.k) n) own c.args.clocks.now.latest.parts.items world.roots parts (c.goes_for-rest.ensures.gave some))
       (record {

@@ -40,10 +40,10 @@ run_clock-returns-clause-samples t c rank ranks =
 
 pub run_clock-returns-clause-run : goal.run_clock-returns-clause-run
 run_clock-returns-clause-run t c = record {
-  run = λ other sub rank ran filled front own n can.
+  run = λ other sub rank progress own n can.
       let S = setting_over c.args.scene.now other in
-      has_run_on S sub rank own c.requires.scene.in_clocks c.requires.scene.nodes c.args.clock n c.args.many c.requires.some ran filled front c.args.clocks.now c.run_subs.new.clocks c.run_own.new.clocks can
-      (c.run_subs.ensures.run.run other sub rank ran filled front own n can) (c.run_subs.ensures.above rank can.world.ranks)
+      has_run_on S sub rank own c.requires.scene.in_clocks c.requires.scene.nodes c.args.clock n c.args.many c.requires.some progress c.args.clocks.now c.run_subs.new.clocks c.run_own.new.clocks can
+      (c.run_subs.ensures.run.run other sub rank progress own n can) (c.run_subs.ensures.above rank can.world.ranks)
       c.run_own.ensures.times c.run_own.ensures.held c.run_own.ensures.rests c.run_own.ensures.others c.run_subs.ensures.clocks.in_times c.run_subs.ensures.clocks.fit.size c.run_own.ensures.laned
       (λ past filled going. c.run_own.ensures.run other sub past filled going);
 }

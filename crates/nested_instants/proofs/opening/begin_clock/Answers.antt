@@ -12,14 +12,14 @@ pub returns-clause-opened : goal.returns-clause-opened
 returns-clause-opened g c = record {
   more = [];
   taps = adds_none g.T.Taps.stands c.args.taps.now;
-  opened = λ other sub rank ran filled front ranks own has stand needed at.
-      let within = starts_at (setting_over c.args.scene.now other) sub c.args.clock (ran c.args.clock) c.args.time c.begins_tick.result c.requires.frame at c.begins_tick.ensures ∙ c.if-begins_tick.false in
+  opened = λ other sub rank progress ranks own has stand needed at.
+      let within = starts_at (setting_over c.args.scene.now other) sub c.args.clock (progress.ran c.args.clock) c.args.time c.begins_tick.result c.requires.frame at c.begins_tick.ensures ∙ c.if-begins_tick.false in
       record {
-        stand = opened_stand (setting_over c.args.scene.now other) sub rank c.args.clock ran filled front c.args.clocks.now stand needed ranks c.requires.scene.in_clocks own [] c.args.clocks.now
-            (within_stands (setting_over c.args.scene.now other) sub rank c.args.clock ran filled front c.args.clocks.now stand needed within)
-            (within_taken (setting_over c.args.scene.now other) sub rank c.args.clock ran filled front c.args.clocks.now stand needed within)
+        stand = opened_stand (setting_over c.args.scene.now other) sub rank c.args.clock progress c.args.clocks.now stand needed ranks c.requires.scene.in_clocks own [] c.args.clocks.now
+            (within_stands (setting_over c.args.scene.now other) sub rank c.args.clock progress c.args.clocks.now stand needed within)
+            (within_taken (setting_over c.args.scene.now other) sub rank c.args.clock progress c.args.clocks.now stand needed within)
             (λ buffer none. refl) (λ i outside. refl) refl refl;
-        calls = takes_within (setting_over c.args.scene.now other) c.args.clock (first_instants (setting_over c.args.scene.now other) sub c.args.clock (ran c.args.clock)) within;
+        calls = takes_within (setting_over c.args.scene.now other) c.args.clock (first_instants (setting_over c.args.scene.now other) sub c.args.clock (progress.ran c.args.clock)) within;
       };
 }
 

@@ -5,20 +5,20 @@ use Rattle.nested_instants.proofs.stretch.make_stretch.Goals as goal
 
 pub returns-then-many-eq0-clause-run : goal.returns-then-many-eq0-clause-run
 returns-then-many-eq0-clause-run c = record {
-  run = λ other sub rank ran filled front own n world stand needed at parts held time.
-      has_run_none (setting_over c.args.scene.now other) sub rank own c.args.clock n ran filled front c.args.clocks.now stand needed;
+  run = λ other sub rank progress own n world stand needed at parts held time.
+      has_run_none (setting_over c.args.scene.now other) sub rank own c.args.clock n progress c.args.clocks.now stand needed;
 }
 
 pub returns-clause-run : goal.returns-clause-run
 returns-clause-run c = record {
-  run = λ other sub rank ran filled front own n world stand needed at parts held time.
+  run = λ other sub rank progress own n world stand needed at parts held time.
       let S = setting_over c.args.scene.now other in
-      c.run_clock.ensures.run.run other sub rank ran filled front own n (record {
+      c.run_clock.ensures.run.run other sub rank progress own n (record {
         world = world;
         stand = stand;
         needed = needed;
         at = at;
-        goes = c.rest_for-many.ensures.goes other sub (first_instants S sub c.args.clock n) filled
-            (are_behind S sub rank c.args.clock n ran filled front c.args.clocks.now c.args.time world.ranks c.requires.scene.in_clocks c.requires.scene.nodes world.meaning stand needed at parts held time);
+        goes = c.rest_for-many.ensures.goes other sub (first_instants S sub c.args.clock n) progress.filled
+            (are_behind S sub rank c.args.clock n progress c.args.clocks.now c.args.time world.ranks c.requires.scene.in_clocks c.requires.scene.nodes world.meaning stand needed at parts held time);
       });
 }
