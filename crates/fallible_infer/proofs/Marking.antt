@@ -14,7 +14,7 @@ use Rattle.time_pred.specs.Predicates.{Predicate, is_always}
 use Rattle.plan_core.specs.declared.node.Node.{Node}
 use Rattle.plan_core.specs.declared.node.Op.{Op}
 use Rattle.plan_core.specs.Plans.{AreNodes, HasChildren}
-use Rattle.fallible_infer.specs.Infallible.{Rests, Never, Always, OnSome, OnCases, OnLast, mark_at, last_of, rests_of, rests_on, infallible_by, IsMarking}
+use Rattle.fallible_infer.specs.Infallible.{Rests, ByNothing, ByItself, OnSome, OnCases, OnLast, mark_at, last_of, rests_of, rests_on, infallible_by, IsMarking}
 
 pub some_same : {A : Type 0} {x y : A} {o : Option A} → o ≡ Some x → o ≡ Some y → x ≡ y
 some_same e f = cc
@@ -52,8 +52,8 @@ last_same : (mark other : ℕ → Bool) (n : ℕ) → ((i : ℕ) → i < n → m
 last_same mark other n same children each = option_same mark other (last_of children) (λ c e. same c (get_below n children (length children - 1) c each e))
 
 rests_same : (mark other : ℕ → Bool) (n : ℕ) → ((i : ℕ) → i < n → mark i ≡ other i) → (rests : Rests) (children : List ℕ) → All (λ c. c < n) children → rests_on mark rests children ≡ rests_on other rests children
-rests_same mark other n same Never cs each = refl
-rests_same mark other n same Always cs each = refl
+rests_same mark other n same ByNothing cs each = refl
+rests_same mark other n same ByItself cs each = refl
 rests_same mark other n same OnSome cs each = any_same mark other n same cs each
 rests_same mark other n same (OnCases preds) cs each = zip_same mark other n same preds cs each
 rests_same mark other n same OnLast cs each = last_same mark other n same cs each

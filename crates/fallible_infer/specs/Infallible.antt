@@ -19,31 +19,31 @@ last_of children = slice_get children (length children - 1)
 
 -- what makes a node infallible
 pub data Rests : Type 0 where
-  Never : Rests
-  Always : Rests
+  ByNothing : Rests
+  ByItself : Rests
   OnSome : Rests
   OnCases : List Predicate → Rests
   OnLast : Rests
 
--- a file that is repeated, zeros and a square wave always are; a playlist, a fail and a reader never are; a switch rests
--- on its cases, a sequence on its last child, and any other on some child
+-- a file that is repeated, zeros and a square wave are so by themselves; a playlist, a fail and a reader by nothing; a
+-- switch rests on its cases, a sequence on its last child, and any other on some child
 abbrev pub rests_of : Op → Rests
-rests_of (Single file) = Always
-rests_of (Playlist file again) = Never
-rests_of (Blank track) = Always
-rests_of (Square pitch) = Always
-rests_of Fail = Never
+rests_of (Single file) = ByItself
+rests_of (Playlist file again) = ByNothing
+rests_of (Blank track) = ByItself
+rests_of (Square pitch) = ByItself
+rests_of Fail = ByNothing
 rests_of (Switch sensitive preds) = OnCases preds
 rests_of Sequence = OnLast
-rests_of (Buffer number) = Never
+rests_of (Buffer number) = ByNothing
 rests_of _ = OnSome
 
 -- whether a node that rests on this is infallible over these children, where the mark of a child says whether it is: on
 -- some child where one is, on cases where a child is whose predicate is always true by its form, and on the last child
 -- where there is one and it is
 abbrev pub rests_on : (mark : ℕ → Bool) → Rests → List ℕ → Bool
-rests_on mark Never children = false
-rests_on mark Always children = true
+rests_on mark ByNothing children = false
+rests_on mark ByItself children = true
 rests_on mark OnSome children = list_any mark children
 rests_on mark (OnCases preds) children = list_any (λ pair. is_always pair.0 && mark pair.1) (zip preds children)
 rests_on mark OnLast children = option_map_or mark (last_of children) false

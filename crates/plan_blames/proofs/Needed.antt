@@ -14,7 +14,7 @@ use Rattle.plan_core.specs.declared.node.Node.{Node}
 use Rattle.plan_core.specs.declared.node.Op.{Op}
 use Rattle.plan_core.specs.declared.node.Op.TheVariants.{Playlist, Fail, Switch, Sequence, Buffer}
 use Rattle.plan_core.specs.Plans.{AreNodes, HasChildren}
-use Rattle.fallible_infer.specs.Infallible.{Rests, Never, Always, OnSome, OnCases, OnLast, infallible_by, last_of, rests_of, rests_on}
+use Rattle.fallible_infer.specs.Infallible.{Rests, ByNothing, ByItself, OnSome, OnCases, OnLast, infallible_by, last_of, rests_of, rests_on}
 use Rattle.plan_blames.specs.Needs.{HasOther, IsAlone, IsOnly, IsOnlyNeeded, is_case, is_child, is_last, needs, needs_on, some_case, some_child}
 
 or_split : (a b : Bool) → (a || b) ≡ true → (a ≡ true) ⊎ (b ≡ true)
@@ -73,16 +73,16 @@ none_needed : (children : List ℕ) (child : ℕ) → length children ≡ 0 → 
 none_needed [] child none is = cc
 none_needed (c ∷ cs) child none is = omega (arith, none)
 
-never_over : (op : Op) (n : ℕ) → HasChildren op n → rests_of op ≡ Never → n ≡ 0
+never_over : (op : Op) (n : ℕ) → HasChildren op n → rests_of op ≡ ByNothing → n ≡ 0
 never_over (Playlist file again) n has is = has
 never_over Fail n has is = has
 never_over (Buffer number) n has is = has
 never_over _ n has is = absurd cc
 
-mends_on : (mark : ℕ → Bool) (rests : Rests) (children : List ℕ) (child : ℕ) → (rests ≡ Never → length children ≡ 0) → needs_on rests children child ≡ true → mark child ≡ true
+mends_on : (mark : ℕ → Bool) (rests : Rests) (children : List ℕ) (child : ℕ) → (rests ≡ ByNothing → length children ≡ 0) → needs_on rests children child ≡ true → mark child ≡ true
     → rests_on mark rests children ≡ true
-mends_on mark Never cs child has is marked = absurd (none_needed cs child (has refl) is)
-mends_on mark Always cs child has is marked = refl
+mends_on mark ByNothing cs child has is marked = absurd (none_needed cs child (has refl) is)
+mends_on mark ByItself cs child has is marked = refl
 mends_on mark OnSome cs child has is marked = any_marked mark cs child is marked
 mends_on mark (OnCases preds) cs child has is marked = case_marked mark preds cs child is marked
 mends_on mark OnLast cs child has is marked = last_marked mark (last_of cs) child is marked
