@@ -8,8 +8,8 @@ use Rattle.typing_rules.specs.Table.{signature}
 use Rattle.typing_rules.specs.declared.uses.Builtin.{Builtin}
 use Rattle.typing_rules.specs.declared.uses.Target.{Target}
 use Rattle.typing_rules.specs.declared.uses.Target.TheVariants as target
-use Rattle.general_types.specs.Schemes.{Scheme, builtin_scheme, open_numbers, scheme_of}
-use Rattle.general_types.specs.declared.general.KindParameter.TheVariants.{Open}
+use Rattle.type_instances.specs.Schemes.{Scheme, builtin_scheme, open_numbers, scheme_of}
+use Rattle.type_instances.specs.declared.general.KindParameter.TheVariants.{Open}
 use Rattle.name_scope.specs.Seen.{seen_parameter}
 use Rattle.type_steps.specs.Environment.{AreUsesOver, Found, with_use}
 use Rattle.type_steps.specs.Flow.{AreTermsOver, HasNoCall}

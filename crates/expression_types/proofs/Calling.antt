@@ -12,12 +12,12 @@ use Rattle.typing_rules.specs.declared.uses.Target.TheVariants as target
 use Rattle.typing_rules.specs.declared.uses.Builtin.{Builtin}
 use Rattle.typing_rules.specs.Arguments.{Parameter, GivenArgument, Matched}
 use Rattle.typing_rules.specs.Table.{params_of_builtin}
-use Rattle.general_types.specs.Schemes.{AreAmong, Scheme, IsInstance, builtin_scheme, open_numbers}
+use Rattle.type_instances.specs.Schemes.{AreAmong, Scheme, IsInstance, builtin_scheme, open_numbers}
 use Rattle.std.specs.Global.{Vec}
 use Rattle.type_terms.specs.declared.ty.Ty.{Ty}
-use Rattle.general_types.specs.declared.instances.Instance.{Instance}
-use Rattle.general_types.specs.Instances.{Instantiates, instance_params}
-use Rattle.general_types.proofs.Builtins.{builtin_over, call_of_instance, instance_of_call}
+use Rattle.type_instances.specs.declared.instances.Instance.{Instance}
+use Rattle.type_instances.specs.Instances.{Instantiates, instance_params}
+use Rattle.type_instances.proofs.Builtins.{builtin_over, call_of_instance, instance_of_call}
 use Rattle.script_grammar.proofs.Rows.{call_seen}
 use Rattle.type_steps.specs.Environment.{Env, Found, AreUsesOver, AreKindsOver, IsEnvOver, with_use}
 use Rattle.type_steps.specs.Flow.{HasNoType, InfersGiven, HaveNoGiven, IsCallable, IsInstantiated, HasNoCall, AreTermsOver, Defines, IsMade, IsTypeOf, given_under, if_yes}

@@ -2,7 +2,7 @@
 use Rattle.std.proofs.Common.{ℕ, List, arith, Some, None, Option}
 use Rattle.type_terms.specs.Agrees.{Follows}
 use Rattle.type_terms.specs.Table.{Table}
-use Rattle.general_types.specs.Schemes.{Scheme, IsSchemeOver, scheme_of}
+use Rattle.type_instances.specs.Schemes.{Scheme, IsSchemeOver, scheme_of}
 use Rattle.type_steps.specs.Environment.{Env, AreUsesOver}
 use Rattle.type_steps.proofs.Tables.{env_later}
 use Rattle.expression_types.specs.declared.environment.FoundUse.{FoundUse}

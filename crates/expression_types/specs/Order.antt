@@ -4,7 +4,7 @@ use Rattle.script_grammar.specs.Tree.{Sort, Tree, none, more, Stmt, BindPart, De
 use Rattle.typing_rules.specs.declared.uses.Target.{Target}
 use Rattle.typing_rules.specs.declared.uses.Target.TheVariants as target
 use Rattle.typing_rules.specs.Table.{signature}
-use Rattle.general_types.specs.Schemes.{open_numbers, scheme_of}
+use Rattle.type_instances.specs.Schemes.{open_numbers, scheme_of}
 use Rattle.type_steps.specs.Environment.{Found}
 use Rattle.expression_types.specs.Seen.{def_seen, env_of}
 use Rattle.expression_types.specs.declared.environment.KnownDef.{KnownDef}

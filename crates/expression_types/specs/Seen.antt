@@ -6,7 +6,7 @@ use Rattle.type_terms.specs.Table.{Table}
 use Rattle.type_terms.specs.declared.ty.KindTerm.{KindTerm}
 use Rattle.expression_types.specs.declared.environment.TextKind.{TextKind}
 use Rattle.expression_types.specs.declared.environment.TextKind.TheVariants as text_kind
-use Rattle.general_types.specs.Schemes.{Scheme, IsInstance, IsSchemeOver, builtin_scheme, open_numbers, scheme_of}
+use Rattle.type_instances.specs.Schemes.{Scheme, IsInstance, IsSchemeOver, builtin_scheme, open_numbers, scheme_of}
 use Rattle.typing_rules.specs.declared.uses.Target.{Target}
 use Rattle.typing_rules.specs.declared.uses.Target.TheVariants as target
 use Rattle.typing_rules.specs.Arguments.{Parameter}

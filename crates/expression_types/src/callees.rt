@@ -1,17 +1,17 @@
 // The beginning of a call.
 ghost use Rattle.std.specs.Prelude.{◌≡◌, length, IfOk};
 ghost use Rattle.type_steps.specs.Flow.{Defines};
-ghost use Rattle.general_types.specs.Instances.{Instantiates, instance_params};
-ghost use Rattle.general_types.specs.Schemes.{IsSchemeOver, open_numbers};
+ghost use Rattle.type_instances.specs.Instances.{Instantiates, instance_params};
+ghost use Rattle.type_instances.specs.Schemes.{IsSchemeOver, open_numbers};
 ghost use Rattle.type_terms.specs.Table.{IsOver};
 ghost use Rattle.type_terms.specs.Term.{term_of};
 ghost use Rattle.expression_types.specs.Seen.{HasBegun, called_scheme, founds};
 
 use crate::environment::FoundUse;
 use crate::leaves::push_use;
-use general_types::{General, Instance, instantiate, instantiate_builtin};
 use liq_base::Memory;
 use std::alloc::Global;
+use type_instances::{General, Instance, instantiate, instantiate_builtin};
 use type_steps::new_type;
 use type_terms::{KindTerm, Subst, Ty};
 use typing_rules::{Builtin, Target};

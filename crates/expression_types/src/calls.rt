@@ -3,7 +3,7 @@ ghost use Rattle.std.specs.Prelude.{◌≡◌, length, map, option_map, IfOk, So
 ghost use Rattle.name_scope.specs.Seen.{seen_parameter};
 ghost use Rattle.script_grammar.specs.declared.tree.Call.{out-Call};
 ghost use Rattle.script_grammar.specs.View.{listed, view_arg, view_call};
-ghost use Rattle.general_types.specs.Schemes.{open_numbers};
+ghost use Rattle.type_instances.specs.Schemes.{open_numbers};
 ghost use Rattle.type_steps.specs.Fitting.{seen_argument};
 ghost use Rattle.type_steps.specs.Flow.{AreGivenOf, IsTypeOf};
 ghost use Rattle.expression_types.specs.Seen.{IsCalled, IsSeen, called_scheme, env_of, founds};

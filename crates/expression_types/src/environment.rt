@@ -7,10 +7,10 @@ ghost use Rattle.expression_types.specs.Tables.{def_seen};
 
 use crate::bindings::Bindings;
 use crate::defs::Defs;
-use general_types::General;
 use liq_base::TokenTable;
 use name_scope::Parameter;
 use script_grammar::tree::Def;
+use type_instances::General;
 use type_terms::KindTerm;
 use typing_rules::Target;
 

@@ -1,8 +1,8 @@
 -- Open parameters counted, one by one.
 use Rattle.std.proofs.Common.{◌≡◌, ◌∙◌, ap, refl, ℕ, zero, suc, ◌+◌, ◌<◌, List, [], ◌∷◌, length, drop, get_or, arith}
-use Rattle.general_types.specs.declared.general.KindParameter.{KindParameter}
-use Rattle.general_types.specs.declared.general.KindParameter.TheVariants.{Open, Unread, Outer}
-use Rattle.general_types.specs.Schemes.{open_numbers}
+use Rattle.type_instances.specs.declared.general.KindParameter.{KindParameter}
+use Rattle.type_instances.specs.declared.general.KindParameter.TheVariants.{Open, Unread, Outer}
+use Rattle.type_instances.specs.Schemes.{open_numbers}
 
 pub same_count : (m n : ℕ) (ps : List KindParameter) → length (open_numbers m ps) ≡ length (open_numbers n ps)
 same_count m n [] = refl

@@ -11,17 +11,17 @@ use Rattle.type_terms.specs.Table.{Table, Solves, number_at}
 use Rattle.type_terms.specs.Term.{Term, InTerm, InTerms, meaning, terms_of}
 use Rattle.type_terms.proofs.Renaming.{instance_meaning}
 use Rattle.type_terms.proofs.Terms.{InTerm-map, meaning_same}
-use Rattle.general_types.specs.declared.general.TypeParameter.{TypeParameter}
-use Rattle.general_types.specs.declared.general.TypeParameter.TheVariants.{Any, Number, Outer as OuterType}
-use Rattle.general_types.specs.declared.general.KindParameter.{KindParameter}
-use Rattle.general_types.specs.declared.general.KindParameter.TheVariants.{Open, Unread, Outer as OuterKind}
+use Rattle.type_instances.specs.declared.general.TypeParameter.{TypeParameter}
+use Rattle.type_instances.specs.declared.general.TypeParameter.TheVariants.{Any, Number, Outer as OuterType}
+use Rattle.type_instances.specs.declared.general.KindParameter.{KindParameter}
+use Rattle.type_instances.specs.declared.general.KindParameter.TheVariants.{Open, Unread, Outer as OuterKind}
+use Rattle.type_instances.specs.Schemes.{MayBe, KindMayBe}
+use Rattle.type_instances.proofs.Instancing.{means_at}
+use Rattle.type_instances.proofs.Reading.{none_is, some_is}
 use Rattle.general_types.specs.Holding.{HeldVariables, IsHeldBy, SameTypes, AgreeOn, is_held}
 use Rattle.general_types.specs.Numbering.{type_parameter, kind_parameter, kind_parameters}
-use Rattle.general_types.specs.Schemes.{MayBe, KindMayBe}
-use Rattle.general_types.proofs.Instancing.{means_at}
 use Rattle.general_types.proofs.KindLists.{IsFree, kinds_at, kinds_from}
 use Rattle.general_types.proofs.Members.{number_same, same_number}
-use Rattle.general_types.proofs.Reading.{none_is, some_is}
 
 -- ---- what stands at a key's place
 

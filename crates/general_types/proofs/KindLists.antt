@@ -5,12 +5,12 @@ use Rattle.std.specs.Prelude.{⊤}
 use Rattle.type_terms.specs.Term.{InTerms, source_term, terms_of}
 use Rattle.type_terms.specs.declared.ty.KindTerm.{KindTerm}
 use Rattle.type_terms.specs.declared.ty.KindTerm.TheVariants.{Fixed, Var}
-use Rattle.general_types.specs.declared.general.KindParameter.{KindParameter}
-use Rattle.general_types.specs.declared.general.KindParameter.TheVariants.{Open, Unread, Outer}
+use Rattle.type_instances.specs.declared.general.KindParameter.{KindParameter}
+use Rattle.type_instances.specs.declared.general.KindParameter.TheVariants.{Open, Unread, Outer}
+use Rattle.type_instances.specs.Schemes.{open_numbers}
+use Rattle.type_instances.proofs.Reading.{none_is, some_is}
 use Rattle.general_types.specs.Holding.{HeldVariables, is_held}
 use Rattle.general_types.specs.Numbering.{kind_parameter, kind_parameters}
-use Rattle.general_types.specs.Schemes.{open_numbers}
-use Rattle.general_types.proofs.Reading.{none_is, some_is}
 
 -- either kind
 abbrev pub IsFree : KindParameter → Type 0

@@ -8,10 +8,10 @@ use Rattle.type_terms.specs.Term.{Term, meaning, kind_meaning}
 use Rattle.type_terms.specs.declared.ty.KindTerm.{KindTerm}
 use Rattle.type_terms.proofs.Terms.{InTerm-map, meaning_same}
 use Rattle.typing_rules.specs.Kinds.{kinds_of}
-use Rattle.general_types.specs.declared.general.TextKind.{TextKind}
+use Rattle.type_instances.specs.Schemes.{AreAmong, Scheme, IsInstance}
+use Rattle.general_types.specs.declared.generalising.TextKind.{TextKind}
 use Rattle.general_types.specs.Generals.{IsGeneral, settled}
 use Rattle.general_types.specs.Holding.{HeldVariables, AgreeOn, IsHeldBy, SameTypes}
-use Rattle.general_types.specs.Schemes.{AreAmong, Scheme, IsInstance}
 
 -- names over a substitution have the same types where its variables say the same
 pub names_same : (s : Table) (names : List Term) → AreAmong (length s.types) (length s.kinds) names → (a b : Assignment) → Agrees s a b → SameTypes names a b

@@ -1,13 +1,7 @@
-pub mod Reading
-pub mod NewTypes
-pub mod NewKinds
-pub mod Instancing
 pub mod Members
 pub mod Leads
 pub mod Visits
 pub mod Names
-pub mod Builtins
-pub mod Openers
 pub mod Places
 pub mod KindLists
 pub mod Ordering

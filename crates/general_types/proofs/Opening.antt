@@ -13,20 +13,20 @@ use Rattle.type_terms.specs.declared.ty.KindTerm.{KindTerm}
 use Rattle.type_terms.specs.declared.ty.KindTerm.TheVariants.{Fixed, Var}
 use Rattle.type_terms.proofs.Terms.{InTerm-map, InTerms-map}
 use Rattle.typing_rules.specs.Kinds.{known_kind, kinds_of, put}
-use Rattle.general_types.specs.declared.general.TypeParameter.{TypeParameter}
-use Rattle.general_types.specs.declared.general.TypeParameter.TheVariants.{Any, Number, Outer as OuterType}
-use Rattle.general_types.specs.declared.general.KindParameter.{KindParameter}
-use Rattle.general_types.specs.declared.general.KindParameter.TheVariants.{Open as OpenKind, Unread, Outer as OuterKind}
-use Rattle.general_types.specs.declared.general.TextKind.{TextKind}
+use Rattle.type_instances.specs.declared.general.TypeParameter.{TypeParameter}
+use Rattle.type_instances.specs.declared.general.TypeParameter.TheVariants.{Any, Number, Outer as OuterType}
+use Rattle.type_instances.specs.declared.general.KindParameter.{KindParameter}
+use Rattle.type_instances.specs.declared.general.KindParameter.TheVariants.{Open as OpenKind, Unread, Outer as OuterKind}
+use Rattle.type_instances.specs.Schemes.{Scheme, IsInstance, IsSchemeOver, KindMayBe, open_numbers}
+use Rattle.type_instances.proofs.Reading.{none_is}
+use Rattle.general_types.specs.declared.generalising.TextKind.{TextKind}
 use Rattle.general_types.specs.Generals.{AreKindsOf, AreTextKindsOver, IsGeneral, IsNumberedText, settled}
 use Rattle.general_types.specs.Holding.{HeldVariables, IsHeldBy, SameTypes, is_held}
 use Rattle.general_types.specs.Numbering.{type_parameter, kind_parameter, kind_parameters}
-use Rattle.general_types.specs.Schemes.{Scheme, IsInstance, IsSchemeOver, KindMayBe, open_numbers}
-use Rattle.general_types.specs.Texts.{OpensDef, scheme_with, text_kind, variable_in_text}
+use Rattle.general_types.specs.Texts.{DefTerms, OpensDef, scheme_with, text_kind, variable_in_text}
 use Rattle.general_types.proofs.Generality.{KindsMayBe, parameter_from, types_seen, kinds_seen, spread, spread_numbers, spread_names, spread_means, spread_mean, seen_mean, seen_means}
 use Rattle.general_types.proofs.KindLists.{IsFree, IsNamed, Names, kinds_from, kinds_many, named_all}
 use Rattle.general_types.proofs.Ordering.{places_inside, text_counted}
-use Rattle.general_types.proofs.Reading.{none_is}
 use Rattle.general_types.proofs.TextOver.{text_is_over}
 
 -- ---- the kinds of the text
@@ -78,14 +78,14 @@ module _ (s : Table) (h : HeldVariables) (ts ks : List ℕ) (read : ℕ) (kinds 
   text_is_of a at b may e = text_means a at (kind_parameters h read ks) may cs named ∙ ap Some (same_kinds at b cs kinds e)
 
 -- the kinds of the text may be named
-text_names : (s : Table) (h : HeldVariables) (xs : List Term) (x : Term) (kinds : List KindTerm) (ts ks : List ℕ) (read : ℕ) (us : List Term) (u : Term) (cs : List KindTerm) → OpensDef s xs x kinds ts ks read us u cs → InTerms (λ _. ⊤) (λ n. Names (kind_parameters h read ks) n) (terms_of (map source_term cs))
-text_names s h xs x kinds ts ks read us u cs o = named_all h read ks (λ n. n < length ts) cs (places_inside read cs o.order) o.sources.inside
+text_names : (s : Table) (h : HeldVariables) (found : DefTerms) (ts ks : List ℕ) (read : ℕ) (opened : DefTerms) → OpensDef s found ts ks read opened → InTerms (λ _. ⊤) (λ n. Names (kind_parameters h read ks) n) (terms_of (map source_term opened.kinds))
+text_names s h found ts ks read opened o = named_all h read ks (λ n. n < length ts) opened.kinds (places_inside read opened.kinds o.order) o.sources.inside
 
-module _ (s : Table) (names : List Term) (h : HeldVariables) (holds : IsHeldBy s names h) (ts ks : List ℕ) (xs : List Term) (x : Term) (kinds : List KindTerm) (read : ℕ) (us : List Term) (u : Term) (cs : List KindTerm) (o : OpensDef s xs x kinds ts ks read us u cs) where
-  named : InTerms (λ _. ⊤) (λ n. Names (kind_parameters h read ks) n) (terms_of (map source_term cs))
-  named = text_names s h xs x kinds ts ks read us u cs o
+module _ (s : Table) (names : List Term) (h : HeldVariables) (holds : IsHeldBy s names h) (ts ks : List ℕ) (found : DefTerms) (read : ℕ) (opened : DefTerms) (o : OpensDef s found ts ks read opened) where
+  named : InTerms (λ _. ⊤) (λ n. Names (kind_parameters h read ks) n) (terms_of (map source_term opened.kinds))
+  named = text_names s h found ts ks read opened o
 
-  general_complete : (a b : Assignment) → Solves a s → Solves b s → SameTypes names a b → (opens : List Kind) × IsInstance (scheme_with s h ts ks read us u) a (map (meaning b) xs) (meaning b x) opens × AreKindsOf a (def_text h read ks cs) opens kinds b
+  general_complete : (a b : Assignment) → Solves a s → Solves b s → SameTypes names a b → (opens : List Kind) × IsInstance (scheme_with s h ts ks read opened) a (map (meaning b) found.params) (meaning b found.result) opens × AreKindsOf a (def_text h read ks opened.kinds) opens found.kinds b
   general_complete a b m n e =
       let at : Assignment = behind ts ks b in
       let may = kinds_seen s names h holds ts ks read a b m n e in (
@@ -94,15 +94,15 @@ module _ (s : Table) (names : List Term) (h : HeldVariables) (holds : IsHeldBy s
           at = at;
           types = types_seen s names h holds ts ks read a b m n e;
           kinds = may;
-          params = seen_mean b ts ks o.params.settled us o.params.same ∙ o.params.are.same b n;
-          result = seen_means b ts ks o.result.settled u o.result.same ∙ o.result.is.same b n;
+          params = seen_mean b ts ks o.params.settled opened.params o.params.same ∙ o.params.are.same b n;
+          result = seen_means b ts ks o.result.settled opened.result o.result.same ∙ o.result.is.same b n;
           opened = refl;
         },
-        text_is_of s h ts ks read kinds cs named a at b may (seen_mean b ts ks o.sources.settled (map source_term cs) o.sources.same ∙ o.sources.are.same b n),
+        text_is_of s h ts ks read found.kinds opened.kinds named a at b may (seen_mean b ts ks o.sources.settled (map source_term opened.kinds) o.sources.same ∙ o.sources.are.same b n),
       )
 
   module _ (distinct : IsDistinct nat_eq ts) (distinct_kinds : IsDistinct nat_eq ks) (extends : (p : Assignment) → ((k : ℕ) → number_at s.types k ≡ true → IsNumber (p.type_of k)) → (a : Assignment) × Extends s p a) where
-    general_sound : (a : Assignment) → Solves a s → (gs : List Ground) (r : Ground) (opens : List Kind) → IsInstance (scheme_with s h ts ks read us u) a gs r opens → (b : Assignment) × Solves b s × SameTypes names a b × (map (meaning b) xs ≡ gs) × (meaning b x ≡ r) × AreKindsOf a (def_text h read ks cs) opens kinds b
+    general_sound : (a : Assignment) → Solves a s → (gs : List Ground) (r : Ground) (opens : List Kind) → IsInstance (scheme_with s h ts ks read opened) a gs r opens → (b : Assignment) × Solves b s × SameTypes names a b × (map (meaning b) found.params ≡ gs) × (meaning b found.result ≡ r) × AreKindsOf a (def_text h read ks opened.kinds) opens found.kinds b
     general_sound a m gs r opens i =
         let p = extends (spread s names h holds ts ks read distinct distinct_kinds a i.at m i.types i.kinds) (spread_numbers s names h holds ts ks read distinct distinct_kinds a i.at m i.types i.kinds) in
         let b : Assignment = p.0 in
@@ -111,20 +111,20 @@ module _ (s : Table) (names : List Term) (h : HeldVariables) (holds : IsHeldBy s
           b,
           e.solves,
           spread_names s names h holds ts ks read distinct distinct_kinds a i.at m i.types i.kinds b e,
-          sym (o.params.are.same b e.solves) ∙ mean o.params.settled us o.params.same o.params.inside o.params.are.unbound ∙ i.params,
-          sym (o.result.is.same b e.solves) ∙ spread_means s names h holds ts ks read distinct distinct_kinds a i.at m i.types i.kinds b e o.result.settled u o.result.same o.result.inside o.result.is.unbound ∙ i.result,
-          subst (λ js. AreKindsOf a (def_text h read ks cs) js kinds b) i.opened (text_is_of s h ts ks read kinds cs named a i.at b i.kinds (sym (mean o.sources.settled (map source_term cs) o.sources.same o.sources.inside o.sources.are.unbound) ∙ o.sources.are.same b e.solves)),
+          sym (o.params.are.same b e.solves) ∙ mean o.params.settled opened.params o.params.same o.params.inside o.params.are.unbound ∙ i.params,
+          sym (o.result.is.same b e.solves) ∙ spread_means s names h holds ts ks read distinct distinct_kinds a i.at m i.types i.kinds b e o.result.settled opened.result o.result.same o.result.inside o.result.is.unbound ∙ i.result,
+          subst (λ js. AreKindsOf a (def_text h read ks opened.kinds) js found.kinds b) i.opened (text_is_of s h ts ks read found.kinds opened.kinds named a i.at b i.kinds (sym (mean o.sources.settled (map source_term opened.kinds) o.sources.same o.sources.inside o.sources.are.unbound) ∙ o.sources.are.same b e.solves)),
         )
 
-    pub is_general : IsGeneral s names xs x kinds (scheme_with s h ts ks read us u) (def_text h read ks cs)
+    pub is_general : IsGeneral s names found.params found.result found.kinds (scheme_with s h ts ks read opened) (def_text h read ks opened.kinds)
     is_general = record { sound = general_sound; complete = general_complete }
 
 -- ---- what a scheme of these names from outside is there
 
-pub scheme_with_over : (s : Table) (names : List Term) (h : HeldVariables) → IsHeldBy s names h → (ts ks : List ℕ) (xs us : List Term) (x u : Term) (kinds cs : List KindTerm) (read : ℕ) → OpensDef s xs x kinds ts ks read us u cs → IsSchemeOver s (scheme_with s h ts ks read us u)
-scheme_with_over s names h holds ts ks xs us x u kinds cs read o = record {
-  params = InTerms-map (λ n l. subst (λ m. n < m) (sym (length-map ts (type_parameter s h))) l) (λ n l. subst (λ m. n < m) (sym (kinds_many h read ks)) l) (terms_of us) o.params.inside;
-  result = InTerm-map (λ n l. subst (λ m. n < m) (sym (length-map ts (type_parameter s h))) l) (λ n l. subst (λ m. n < m) (sym (kinds_many h read ks)) l) u o.result.inside;
+pub scheme_with_over : (s : Table) (names : List Term) (h : HeldVariables) → IsHeldBy s names h → (ts ks : List ℕ) (found : DefTerms) (read : ℕ) (opened : DefTerms) → OpensDef s found ts ks read opened → IsSchemeOver s (scheme_with s h ts ks read opened)
+scheme_with_over s names h holds ts ks found read opened o = record {
+  params = InTerms-map (λ n l. subst (λ m. n < m) (sym (length-map ts (type_parameter s h))) l) (λ n l. subst (λ m. n < m) (sym (kinds_many h read ks)) l) (terms_of opened.params) o.params.inside;
+  result = InTerm-map (λ n l. subst (λ m. n < m) (sym (length-map ts (type_parameter s h))) l) (λ n l. subst (λ m. n < m) (sym (kinds_many h read ks)) l) opened.result o.result.inside;
   types = λ i k e. (let p = parameter_from (type_parameter s h) ts i (OuterType k) e in outer_type_there s names h holds p.0 k p.2);
   kinds = λ i k e. (let p = kinds_from h read ks i (OuterKind k) e in outer_kind_there s names h holds p.1 p.2 p.0 k p.4);
 }
@@ -151,27 +151,27 @@ scheme_with_over s names h holds ts ks xs us x u kinds cs read o = record {
 
 -- ---- as the code makes it
 
-module _ (s : Table) (h : HeldVariables) (ts ks : List ℕ) (xs : List Term) (x : Term) (kinds : List KindTerm) (read : ℕ) (us : List Term) (u : Term) (cs : List KindTerm) (o : OpensDef s xs x kinds ts ks read us u cs) (ps : List TypeParameter) (qs : List KindParameter) (types_are : ps ≡ map (type_parameter s h) ts) (kinds_are : qs ≡ kind_parameters h read ks) where
-  scheme_is : scheme_with s h ts ks read us u ≡ (record { params = us; result = u; types = ps; kinds = qs })
-  scheme_is = sym (ap₂ (λ (y : List TypeParameter) (z : List KindParameter). let g : Scheme = record { params = us; result = u; types = y; kinds = z } in g) types_are kinds_are)
+module _ (s : Table) (h : HeldVariables) (ts ks : List ℕ) (found : DefTerms) (read : ℕ) (opened : DefTerms) (o : OpensDef s found ts ks read opened) (ps : List TypeParameter) (qs : List KindParameter) (types_are : ps ≡ map (type_parameter s h) ts) (kinds_are : qs ≡ kind_parameters h read ks) where
+  scheme_is : scheme_with s h ts ks read opened ≡ (record { params = opened.params; result = opened.result; types = ps; kinds = qs })
+  scheme_is = sym (ap₂ (λ (y : List TypeParameter) (z : List KindParameter). let g : Scheme = record { params = opened.params; result = opened.result; types = y; kinds = z } in g) types_are kinds_are)
 
   module _ (names : List Term) (holds : IsHeldBy s names h) where
-    pub over_of : IsSchemeOver s (record { params = us; result = u; types = ps; kinds = qs })
-    over_of = subst (IsSchemeOver s) scheme_is (scheme_with_over s names h holds ts ks xs us x u kinds cs read o)
+    pub over_of : IsSchemeOver s (record { params = opened.params; result = opened.result; types = ps; kinds = qs })
+    over_of = subst (IsSchemeOver s) scheme_is (scheme_with_over s names h holds ts ks found read opened o)
 
-  module _ (text : List TextKind) (qs' : List KindParameter) (cs' : List KindTerm) (same_kinds_given : qs' ≡ qs) (same_text : cs' ≡ cs) (texts : text ≡ map (text_kind qs') cs') where
-    text_as : def_text h read ks cs ≡ text
+  module _ (text : List TextKind) (qs' : List KindParameter) (cs' : List KindTerm) (same_kinds_given : qs' ≡ qs) (same_text : cs' ≡ opened.kinds) (texts : text ≡ map (text_kind qs') cs') where
+    text_as : def_text h read ks opened.kinds ≡ text
     text_as = sym (texts ∙ ap₂ (λ (z : List KindParameter) (ds : List KindTerm). map (text_kind z) ds) (same_kinds_given ∙ kinds_are) same_text)
 
-    pub numbered_of : IsNumberedText (record { params = us; result = u; types = ps; kinds = qs }) text
-    numbered_of = subst (λ g. IsNumberedText g text) scheme_is (subst (λ (ws : List TextKind). IsNumberedText (scheme_with s h ts ks read us u) ws) text_as (text_counted h read ks cs o.order))
+    pub numbered_of : IsNumberedText (record { params = opened.params; result = opened.result; types = ps; kinds = qs }) text
+    numbered_of = subst (λ g. IsNumberedText g text) scheme_is (subst (λ (ws : List TextKind). IsNumberedText (scheme_with s h ts ks read opened) ws) text_as (text_counted h read ks opened.kinds o.order))
 
     module _ (names : List Term) (holds : IsHeldBy s names h) where
       pub text_over_of : AreTextKindsOver s text
-      text_over_of = subst (AreTextKindsOver s) text_as (text_is_over s (kind_parameters h read ks) ((scheme_with_over s names h holds ts ks xs us x u kinds cs read o).kinds) cs (text_names s h xs x kinds ts ks read us u cs o))
+      text_over_of = subst (AreTextKindsOver s) text_as (text_is_over s (kind_parameters h read ks) ((scheme_with_over s names h holds ts ks found read opened o).kinds) opened.kinds (text_names s h found ts ks read opened o))
 
       module _ (distinct : IsDistinct nat_eq ts) (distinct_kinds : IsDistinct nat_eq ks) (extends : (p : Assignment) → ((k : ℕ) → number_at s.types k ≡ true → IsNumber (p.type_of k)) → (a : Assignment) × Extends s p a) where
-        pub general_of : IsGeneral s names xs x kinds (record { params = us; result = u; types = ps; kinds = qs }) text
-        general_of = subst (λ g. IsGeneral s names xs x kinds g text) scheme_is
-            (subst (λ (ws : List TextKind). IsGeneral s names xs x kinds (scheme_with s h ts ks read us u) ws) text_as
-            (is_general s names h holds ts ks xs x kinds read us u cs o distinct distinct_kinds extends))
+        pub general_of : IsGeneral s names found.params found.result found.kinds (record { params = opened.params; result = opened.result; types = ps; kinds = qs }) text
+        general_of = subst (λ g. IsGeneral s names found.params found.result found.kinds g text) scheme_is
+            (subst (λ (ws : List TextKind). IsGeneral s names found.params found.result found.kinds (scheme_with s h ts ks read opened) ws) text_as
+            (is_general s names h holds ts ks found read opened o distinct distinct_kinds extends))

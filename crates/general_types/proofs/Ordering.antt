@@ -7,16 +7,16 @@ use Rattle.type_terms.specs.Term.{InTerms, source_term, terms_of}
 use Rattle.type_terms.specs.declared.ty.KindTerm.{KindTerm}
 use Rattle.type_terms.specs.declared.ty.KindTerm.TheVariants.{Fixed, Var}
 use Rattle.typing_rules.specs.Kinds.{numbered_on}
-use Rattle.general_types.specs.declared.general.KindParameter.{KindParameter}
-use Rattle.general_types.specs.declared.general.KindParameter.TheVariants.{Open as OpenKind, Unread, Outer as OuterKind}
+use Rattle.type_instances.specs.declared.general.KindParameter.{KindParameter}
+use Rattle.type_instances.specs.declared.general.KindParameter.TheVariants.{Open as OpenKind, Unread, Outer as OuterKind}
+use Rattle.type_instances.specs.Schemes.{open_numbers}
+use Rattle.type_instances.proofs.Reading.{none_is, some_is}
 use Rattle.general_types.specs.Generals.{open_of}
 use Rattle.general_types.specs.Holding.{HeldVariables}
 use Rattle.general_types.specs.Numbering.{kind_parameters, place_of}
-use Rattle.general_types.specs.Schemes.{open_numbers}
 use Rattle.general_types.specs.Texts.{text_kind, variable_in_text}
 use Rattle.general_types.proofs.KindLists.{open_among_first}
 use Rattle.general_types.proofs.Members.{number_same}
-use Rattle.general_types.proofs.Reading.{none_is, some_is}
 
 -- ---- one more
 

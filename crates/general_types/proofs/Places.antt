@@ -8,8 +8,8 @@ use Rattle.type_terms.specs.declared.ty.KindTerm.{KindTerm}
 use Rattle.type_terms.specs.declared.ty.KindTerm.TheVariants.{Fixed, Var}
 use Rattle.type_terms.proofs.Renaming.{instances_map}
 use Rattle.type_terms.proofs.Terms.{InTerm-map, InTerms-map}
+use Rattle.type_instances.proofs.Reading.{get_front, get_some, get_below}
 use Rattle.general_types.specs.Numbering.{IsFront, IsNumbered, AreNumbered}
-use Rattle.general_types.proofs.Reading.{get_front, get_some, get_below}
 
 pub front_itself : (xs : List ℕ) → IsFront xs xs
 front_itself xs = record { same = λ i k e. e }

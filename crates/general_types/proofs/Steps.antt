@@ -1,7 +1,6 @@
 -- One type more of a list.
 use Rattle.std.proofs.Common.{◌≡◌, ◌∙◌, sym, ap, ap₂, subst, refl, ℕ, ◌+◌, ◌<◌, ◌≤◌, List, [], ◌∷◌, ◌++◌, length, map, take, take_all, get_or, Some, arith}
 use Rattle.std.specs.List.{flat_map}
-use Rattle.std.proofs.lemmas.List.{map_push, take_more}
 use Rattle.type_terms.specs.Ground.{Ground, Assignment}
 use Rattle.type_terms.specs.Resolved.{IsUnbound}
 use Rattle.type_terms.specs.Table.{Table, Solves}
@@ -12,25 +11,13 @@ use Rattle.type_terms.specs.declared.ty.Ty.TheVariants as ty
 use Rattle.type_terms.proofs.Parts.{map_take_next}
 use Rattle.type_terms.proofs.Views.{term_Source}
 use Rattle.typing_rules.specs.Kinds.{numbered_on}
+use Rattle.type_instances.proofs.Pushing.{next_pushed}
 use Rattle.general_types.specs.Numbering.{AreNumbered, AreSettled, IsFront, IsNumbered, place_of}
-use Rattle.general_types.specs.Texts.{AreOpened, OpenMore, OpensOne, OpensDef}
+use Rattle.general_types.specs.Texts.{AreOpened, DefTerms, OpenMore, OpensOne, OpensDef}
 use Rattle.general_types.proofs.Places.{below_front, front_both, insides_later, insides_push, map_later, numbered_more}
-
-map_last : (ps : List Ty) (p : Ty) → map term_of (ps ++ (p ∷ [])) ≡ map term_of ps ++ (term_of p ∷ [])
-map_last [] p = refl
-map_last (q ∷ ps) p = ap (λ (xs : List Term). term_of q ∷ xs) (map_last ps p)
 
 next_taken : (ps : List Ty) (i : ℕ) (p : Ty) → i < length ps → p ≡ get_or ps i p → map term_of (take (i + 1) ps) ≡ map term_of (take i ps) ++ (term_of p ∷ [])
 next_taken ps i p l e = map_take_next ps i p l ∙ ap (λ (x : Ty). map term_of (take i ps) ++ (term_of x ∷ [])) (sym e)
-
-next_pushed : (qs qs' : List Ty) (q : Ty) → qs' ≡ qs ++ (q ∷ []) → map term_of qs' ≡ map term_of qs ++ (term_of q ∷ [])
-next_pushed qs qs' q e = ap (map term_of) e ∙ map_last qs q
-
--- what is pushed for each item of a list
-pub named_next : {A : Type 0} (f : A → Term) (us us' : List Ty) (xs : List A) (i : ℕ) (d : A) (u : Ty) → i < length xs → term_of u ≡ f (get_or xs i d) → us' ≡ us ++ (u ∷ []) → map term_of us ≡ map f (take i xs) → map term_of us' ≡ map f (take (i + 1) xs)
-named_next {A} f us us' xs i d u l is pushed before =
-    next_pushed us us' u pushed ∙ ap₂ (λ (ts : List Term) (t : Term). ts ++ (t ∷ [])) before is
-    ∙ sym (ap (map f) (take_more xs i d l) ∙ map_push f (take i xs) (get_or xs i d))
 
 -- ---- settled types
 
@@ -88,15 +75,15 @@ opens_kinds s ts ks ks' xs zs ys ys' cs e f h n =
     subst (λ (ws : List Term). OpenMore s ts ks ts ks' ws (map source_term cs)) e
     (opens_more s ts ks ts ks' zs ys (map source_term cs) h (subst (λ (ws : List Term). AreNumbered ts ks ts ks' ws (map source_term cs)) f n))
 
-pub opens_def : (s : Table) (ts1 ks0 ks1 ts2 ks2 ts3 ks3 : List ℕ) (n : ℕ) (xs us : List Term) (x u : Term) (kinds cs : List KindTerm) → length ks0 ≡ 0 → n ≡ length ks1 →
-    ((ts : List ℕ) → OpenMore s ts ks0 ts ks1 (map source_term kinds) (map source_term cs)) → numbered_on (length ks0) (flat_map place_of cs) ≡ Some (length ks1) → OpenMore s ts1 ks1 ts2 ks2 xs us → OpensOne s ts2 ks2 ts3 ks3 x u → OpensDef s xs x kinds ts3 ks3 n us u cs
-opens_def s ts1 ks0 ks1 ts2 ks2 ts3 ks3 n xs us x u kinds cs none many p order q r =
+pub opens_def : (s : Table) (ts1 ks0 ks1 ts2 ks2 ts3 ks3 : List ℕ) (n : ℕ) (found opened : DefTerms) → length ks0 ≡ 0 → n ≡ length ks1 →
+    ((ts : List ℕ) → OpenMore s ts ks0 ts ks1 (map source_term found.kinds) (map source_term opened.kinds)) → numbered_on (length ks0) (flat_map place_of opened.kinds) ≡ Some (length ks1) → OpenMore s ts1 ks1 ts2 ks2 found.params opened.params → OpensOne s ts2 ks2 ts3 ks3 found.result opened.result → OpensDef s found ts3 ks3 n opened
+opens_def s ts1 ks0 ks1 ts2 ks2 ts3 ks3 n found opened none many p order q r =
     let later : IsFront ks1 ks3 = front_both ks1 ks2 ks3 q.kinds r.kinds in
     record {
-      params = opened_later s ts2 ks2 ts3 ks3 xs us r.types r.kinds q.are;
+      params = opened_later s ts2 ks2 ts3 ks3 found.params opened.params r.types r.kinds q.are;
       result = r.is;
-      sources = opened_later s ts1 ks1 ts3 ks3 (map source_term kinds) (map source_term cs) (front_both ts1 ts2 ts3 q.types r.types) later (p ts1).are;
-      order = ap (λ k. numbered_on k (flat_map place_of cs)) (sym none) ∙ order ∙ ap Some (sym many);
+      sources = opened_later s ts1 ks1 ts3 ks3 (map source_term found.kinds) (map source_term opened.kinds) (front_both ts1 ts2 ts3 q.types r.types) later (p ts1).are;
+      order = ap (λ k. numbered_on k (flat_map place_of opened.kinds)) (sym none) ∙ order ∙ ap Some (sym many);
       few = subst (λ k. k ≤ length ks3) (sym many) (front_long ks1 ks3 later);
     }
 

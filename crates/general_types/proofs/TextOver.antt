@@ -5,10 +5,10 @@ use Rattle.type_terms.specs.Table.{Table}
 use Rattle.type_terms.specs.Term.{InTerms, source_term, terms_of}
 use Rattle.type_terms.specs.declared.ty.KindTerm.{KindTerm}
 use Rattle.type_terms.specs.declared.ty.KindTerm.TheVariants.{Fixed, Var}
-use Rattle.general_types.specs.declared.general.KindParameter.{KindParameter}
-use Rattle.general_types.specs.declared.general.KindParameter.TheVariants.{Open as OpenKind, Unread, Outer as OuterKind}
+use Rattle.type_instances.specs.declared.general.KindParameter.{KindParameter}
+use Rattle.type_instances.specs.declared.general.KindParameter.TheVariants.{Open as OpenKind, Unread, Outer as OuterKind}
+use Rattle.type_instances.specs.Schemes.{open_numbers}
 use Rattle.general_types.specs.Generals.{AreTextKindsOver, IsTextKindOver}
-use Rattle.general_types.specs.Schemes.{open_numbers}
 use Rattle.general_types.specs.Texts.{text_kind, variable_in_text}
 use Rattle.general_types.proofs.KindLists.{IsNamed, Names}
 

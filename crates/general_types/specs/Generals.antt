@@ -9,10 +9,10 @@ use Rattle.type_terms.specs.declared.ty.KindTerm.{KindTerm}
 use Rattle.typing_rules.specs.Kinds.{numbered_on, kinds_of}
 use Rattle.typing_rules.specs.declared.uses.KindOf.{KindOf}
 use Rattle.typing_rules.specs.declared.uses.KindOf.TheVariants.{Fixed, Given}
-use Rattle.general_types.specs.declared.general.TextKind.{TextKind}
-use Rattle.general_types.specs.declared.general.TextKind.TheVariants.{Open, Outer}
+use Rattle.type_instances.specs.Schemes.{Scheme, IsInstance, open_numbers}
+use Rattle.general_types.specs.declared.generalising.TextKind.{TextKind}
+use Rattle.general_types.specs.declared.generalising.TextKind.TheVariants.{Open, Outer}
 use Rattle.general_types.specs.Holding.{SameTypes}
-use Rattle.general_types.specs.Schemes.{Scheme, IsInstance, open_numbers}
 
 -- a kind of a text, where the variables outside of it are as in `a`
 abbrev pub settled : Assignment → TextKind → KindOf

@@ -1,7 +1,3 @@
-pub mod Rows
-pub mod Schemes
-pub mod Instances
-pub mod NewVariables
 pub mod Holding
 pub mod Walks
 pub mod Renewing

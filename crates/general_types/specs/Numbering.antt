@@ -7,10 +7,10 @@ use Rattle.type_terms.specs.Table.{Table, Solves, number_at}
 use Rattle.type_terms.specs.Term.{Term, InTerm, InTerms, meaning, terms_of}
 use Rattle.type_terms.specs.declared.ty.KindTerm.{KindTerm}
 use Rattle.type_terms.specs.declared.ty.KindTerm.TheVariants.{Fixed, Var}
-use Rattle.general_types.specs.declared.general.TypeParameter.{TypeParameter}
-use Rattle.general_types.specs.declared.general.TypeParameter.TheVariants.{Any, Number, Outer as OuterType}
-use Rattle.general_types.specs.declared.general.KindParameter.{KindParameter}
-use Rattle.general_types.specs.declared.general.KindParameter.TheVariants.{Open, Unread, Outer as OuterKind}
+use Rattle.type_instances.specs.declared.general.TypeParameter.{TypeParameter}
+use Rattle.type_instances.specs.declared.general.TypeParameter.TheVariants.{Any, Number, Outer as OuterType}
+use Rattle.type_instances.specs.declared.general.KindParameter.{KindParameter}
+use Rattle.type_instances.specs.declared.general.KindParameter.TheVariants.{Open, Unread, Outer as OuterKind}
 use Rattle.general_types.specs.Holding.{HeldVariables, is_held}
 
 -- what stands in the first list stands at its place in the second

@@ -4,17 +4,18 @@ use Rattle.std.specs.List.{flat_map}
 use Rattle.type_terms.specs.Naming.{instance}
 use Rattle.type_terms.specs.Resolved.{IsResolved}
 use Rattle.type_terms.specs.Table.{Table}
-use Rattle.type_terms.specs.Term.{Term, InTerm, InTerms, source_term, terms_of}
+use Rattle.type_terms.specs.Term.{Term, InTerm, InTerms, source_term, term_of, terms_of}
 use Rattle.type_terms.specs.declared.ty.KindTerm.{KindTerm}
 use Rattle.type_terms.specs.declared.ty.KindTerm.TheVariants.{Fixed, Var}
+use Rattle.type_terms.specs.declared.ty.Ty.{Ty}
 use Rattle.typing_rules.specs.Kinds.{numbered_on}
-use Rattle.general_types.specs.declared.general.KindParameter.{KindParameter}
-use Rattle.general_types.specs.declared.general.KindParameter.TheVariants.{Open as OpenKind, Unread, Outer as OuterKind}
-use Rattle.general_types.specs.declared.general.TextKind.{TextKind}
-use Rattle.general_types.specs.declared.general.TextKind.TheVariants.{Open, Outer}
+use Rattle.type_instances.specs.declared.general.KindParameter.{KindParameter}
+use Rattle.type_instances.specs.declared.general.KindParameter.TheVariants.{Open as OpenKind, Unread, Outer as OuterKind}
+use Rattle.type_instances.specs.Schemes.{Scheme, open_numbers}
+use Rattle.general_types.specs.declared.generalising.TextKind.{TextKind}
+use Rattle.general_types.specs.declared.generalising.TextKind.TheVariants.{Open, Outer}
 use Rattle.general_types.specs.Holding.{HeldVariables}
 use Rattle.general_types.specs.Numbering.{AreSettled, IsFront, kind_parameters, place_of, type_parameter}
-use Rattle.general_types.specs.Schemes.{Scheme, open_numbers}
 
 -- variable i, of which this is known, in a text; so many open ones are before it
 abbrev pub variable_in_text : ℕ → ℕ → Option KindParameter → TextKind
@@ -51,21 +52,33 @@ pub record OpensOne (s : Table) (ts ks ts' ks' : List ℕ) (x u : Term) : Type 0
   pub kinds : IsFront ks ks'
   pub is : IsOpened s ts' ks' x u
 
--- all types of a def, and the kinds of its text, over the variables of these numbers; the text names the first n kinds,
--- in their order
-pub record OpensDef (s : Table) (xs : List Term) (x : Term) (kinds : List KindTerm) (ts ks : List ℕ) (n : ℕ)
-    (us : List Term) (u : Term) (cs : List KindTerm) : Type 0 where
-  pub params : AreOpened s ts ks xs us
-  pub result : IsOpened s ts ks x u
-  pub sources : AreOpened s ts ks (map source_term kinds) (map source_term cs)
-  pub order : numbered_on 0 (flat_map place_of cs) ≡ Some n
+-- the types of a def, those of its parameters and of its result, and the kinds at the uses of its text
+pub record DefTerms : Type 0 where
+  pub params : List Term
+  pub result : Term
+  pub kinds : List KindTerm
+
+-- the same of types as the program holds them
+abbrev pub def_terms : List Ty → Ty → List KindTerm → DefTerms
+def_terms params result kinds = record {
+  params = map term_of params;
+  result = term_of result;
+  kinds = kinds;
+}
+
+-- what was found of a def, over the variables of these numbers; the text names the first n kinds, in their order
+pub record OpensDef (s : Table) (found : DefTerms) (ts ks : List ℕ) (n : ℕ) (opened : DefTerms) : Type 0 where
+  pub params : AreOpened s ts ks found.params opened.params
+  pub result : IsOpened s ts ks found.result opened.result
+  pub sources : AreOpened s ts ks (map source_term found.kinds) (map source_term opened.kinds)
+  pub order : numbered_on 0 (flat_map place_of opened.kinds) ≡ Some n
   pub few : n ≤ length ks
 
 -- the scheme over the variables of these numbers
-abbrev pub scheme_with : Table → HeldVariables → List ℕ → List ℕ → ℕ → List Term → Term → Scheme
-scheme_with s h ts ks n us u = record {
-  params = us;
-  result = u;
+abbrev pub scheme_with : Table → HeldVariables → List ℕ → List ℕ → ℕ → DefTerms → Scheme
+scheme_with s h ts ks n opened = record {
+  params = opened.params;
+  result = opened.result;
   types = map (type_parameter s h) ts;
   kinds = kind_parameters h n ks;
 }

@@ -2,19 +2,26 @@
 ghost use Rattle.std.specs.Prelude.{◌≡◌, ◌++◌, ◌≤◌, List, [], length, map, IfOk, OnOk};
 ghost use Rattle.type_terms.specs.Table.{IsOver};
 ghost use Rattle.type_terms.specs.Term.{Term, source_term, term_of};
+ghost use Rattle.type_instances.specs.Schemes.{AreAmong, IsSchemeOver, open_numbers, scheme_of};
 ghost use Rattle.general_types.specs.Generals.{AreTextKindsOver, IsGeneral, IsNumberedText};
 ghost use Rattle.general_types.specs.Holding.{IsHeldBy};
 ghost use Rattle.general_types.specs.Numbering.{kind_parameter, kind_parameters as the_kind_parameters, type_parameter};
-ghost use Rattle.general_types.specs.Schemes.{AreAmong, IsSchemeOver, open_numbers, scheme_of};
 ghost use Rattle.general_types.specs.Texts.{text_kind as the_text_kind};
 
-use crate::general::{General, KindParameter, TextKind, TypeParameter};
 use crate::holding::Held;
 use crate::numbering::number_def;
 use indexmap::IndexSet;
 use liq_base::Memory;
 use std::alloc::Global;
+use type_instances::{General, KindParameter, TypeParameter};
 use type_terms::{KindTerm, Subst, Ty};
+
+/// A kind in the text of a def: one from outside, or an open kind of the def, by its place among them.
+#[derive(Clone, Copy, Debug, PartialEq, Eq)]
+pub enum TextKind {
+    Outer(KindTerm),
+    Open(u64),
+}
 
 /// What a def is to its calls: its general type, and the kinds at the uses of its text, in their order.
 ///

@@ -1,5 +1,5 @@
 // Which variables the types of names hold.
-ghost use Rattle.std.specs.Prelude.{◌≡◌, ◌∷◌, [], List, IfOk, OnOk};
+ghost use Rattle.std.specs.Prelude.{◌≡◌, ◌∷◌, [], List, OnOk};
 ghost use Rattle.type_terms.specs.Agrees.{Follows};
 ghost use Rattle.type_terms.specs.Table.{Table, IsOver};
 ghost use Rattle.type_terms.specs.Term.{Term, term_of};

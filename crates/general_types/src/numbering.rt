@@ -4,9 +4,9 @@ ghost use Rattle.std.specs.List.{flat_map};
 ghost use Rattle.type_terms.specs.Table.{IsOver};
 ghost use Rattle.type_terms.specs.Term.{source_term, term_of};
 ghost use Rattle.typing_rules.specs.Kinds.{numbered_on};
-ghost use Rattle.general_types.specs.Texts.{OpenMore, OpensDef, OpensOne};
+ghost use Rattle.type_instances.specs.Schemes.{AreAmong};
+ghost use Rattle.general_types.specs.Texts.{OpenMore, OpensDef, OpensOne, def_terms};
 ghost use Rattle.general_types.specs.Numbering.{AreNumbered, AreSettled, IsFront, IsNumbered, place_of};
-ghost use Rattle.general_types.specs.Schemes.{AreAmong};
 
 use indexmap::IndexSet;
 use liq_base::Memory;
@@ -43,8 +43,8 @@ pub fn number_def(
     requires kinds { AreAmong (length subst.now.types) (length subst.now.kinds) (map source_term kinds.now) }
     requires places { length places.old.keys ≡ 0 }
     requires text { text.old.items ≡ [] }
-    ensures { IfOk result (λ o. OpensDef subst.now (map term_of params.now) (term_of answer.now) kinds.now
-        types.new.keys places.new.keys o.read (map term_of o.params.items) (term_of o.answer) text.new.items) }
+    ensures { IfOk result (λ o. OpensDef subst.now (def_terms params.now answer.now kinds.now) types.new.keys
+        places.new.keys o.read (def_terms o.params.items o.answer text.new.items)) }
 {
     push_opened_kinds(alloc, text, subst, places, kinds)?;
     let read = places.len();

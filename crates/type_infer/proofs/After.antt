@@ -10,8 +10,8 @@ use Rattle.type_terms.specs.Table.{Table}
 use Rattle.type_terms.specs.Term.{Term, variable}
 use Rattle.typing_rules.specs.Scoping.{names}
 use Rattle.typing_rules.specs.Scripts.{Targets}
+use Rattle.type_instances.specs.Schemes.{scheme_of}
 use Rattle.general_types.specs.Holding.{AreThere as AreHeldThere, HeldVariables}
-use Rattle.general_types.specs.Schemes.{scheme_of}
 use Rattle.type_steps.specs.Environment.{Env, Found, IsEnvOver, Known, function, value}
 use Rattle.type_steps.specs.Flow.{HasNoType, Infers, IsTypeOf}
 use Rattle.type_steps.specs.Counts.{AreCounted, IsTextCounted}

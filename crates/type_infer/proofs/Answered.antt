@@ -15,7 +15,7 @@ use Rattle.type_terms.specs.Term.{Term, source_term, variable}
 use Rattle.type_terms.specs.declared.ty.KindTerm.{KindTerm}
 use Rattle.typing_rules.specs.Scripts.{Targets}
 use Rattle.typing_rules.specs.Typing.{token_of}
-use Rattle.general_types.specs.Schemes.{AreAmong}
+use Rattle.type_instances.specs.Schemes.{AreAmong}
 use Rattle.type_steps.specs.Environment.{AreKindsOver, AreTypesOver, AreUsesOver, Env, Found, IsEnvOver, Known}
 use Rattle.type_steps.specs.Flow.{IsTypeOf}
 use Rattle.expression_types.specs.Seen.{IsSeen, env_of, founds, types_seen}

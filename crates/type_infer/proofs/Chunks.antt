@@ -2,7 +2,7 @@
 use Rattle.std.proofs.Common.{◌≡◌, ◌∙◌, sym, ap, subst, refl, arith, ℕ, zero, suc, ◌+◌, ◌<◌, ◌≤◌, length, List, [], ◌∷◌, ◌++◌, map, take, drop, get_or, append_assoc, min}
 use Rattle.std.proofs.lemmas.List.{append-nil, map-append, take_more}
 use Rattle.type_terms.specs.declared.ty.KindTerm.{KindTerm}
-use Rattle.general_types.specs.declared.general.TextKind.{TextKind}
+use Rattle.general_types.specs.declared.generalising.TextKind.{TextKind}
 use Rattle.type_steps.specs.Environment.{Found, TextUse}
 use Rattle.expression_types.specs.Seen.{found, founds, text_use}
 use Rattle.expression_types.specs.declared.environment.FoundUse.{FoundUse}

@@ -9,8 +9,8 @@ use Rattle.typing_rules.specs.Kinds.{known_kind, kinds_of, put}
 use Rattle.typing_rules.specs.Scripts.{Places}
 use Rattle.typing_rules.specs.declared.uses.KindOf.{KindOf}
 use Rattle.typing_rules.specs.declared.uses.Use.{Use}
-use Rattle.general_types.specs.declared.general.TextKind.{TextKind}
-use Rattle.general_types.specs.declared.general.TextKind.TheVariants.{Open, Outer}
+use Rattle.general_types.specs.declared.generalising.TextKind.{TextKind}
+use Rattle.general_types.specs.declared.generalising.TextKind.TheVariants.{Open, Outer}
 use Rattle.general_types.specs.Generals.{AreTextKindsOver, settled as settled_text}
 use Rattle.type_steps.specs.Environment.{ArePendingOver, CallTakes, EachTakes, Found, IsTextOver, Takes, TextTakes, Texts, settled, settled_use}
 use Rattle.type_infer.specs.TextUses.{kinds_in, pending_of, text_uses}

@@ -13,11 +13,11 @@ use Rattle.typing_rules.specs.Typing.{DefHas}
 use Rattle.typing_rules.specs.declared.uses.KindOf.{KindOf}
 use Rattle.typing_rules.specs.declared.uses.KindOf.TheVariants.{Fixed}
 use Rattle.typing_rules.specs.declared.uses.Use.{Use}
-use Rattle.general_types.specs.declared.general.TextKind.{TextKind}
-use Rattle.general_types.specs.declared.general.TextKind.TheVariants.{Open, Outer}
+use Rattle.type_instances.specs.Schemes.{IsInstance, IsSchemeOver, Scheme}
+use Rattle.general_types.specs.declared.generalising.TextKind.{TextKind}
+use Rattle.general_types.specs.declared.generalising.TextKind.TheVariants.{Open, Outer}
 use Rattle.general_types.specs.Generals.{AreTextKindsOver, IsGeneral, settled as settled_text}
 use Rattle.general_types.specs.Holding.{HeldVariables, IsHeldBy, SameTypes}
-use Rattle.general_types.specs.Schemes.{IsInstance, IsSchemeOver, Scheme}
 use Rattle.type_steps.specs.Environment.{AreFound, AreKnownOver, EachTakes, Found, Known, Texts, entries_under, function, settled_use, texts_under, value}
 use Rattle.type_steps.proofs.Tables.{meaning_over}
 use Rattle.type_steps.specs.Defs.{HoldsBefore, IsTypingOf, KeepsTypings, IsTextTaken, outside, terms_before}

@@ -20,7 +20,7 @@ use Rattle.typing_rules.specs.Scripts.{Entry, Places, Targets, behind, calls_beh
 use Rattle.typing_rules.specs.Typing.{DefHas}
 use Rattle.typing_rules.proofs.TypedScripts.{call_typed, typed_call}
 use Rattle.typing_rules.proofs.Shift.{text_comes, text_goes}
-use Rattle.general_types.specs.Schemes.{IsInstance, IsSchemeOver, Scheme, scheme_of}
+use Rattle.type_instances.specs.Schemes.{IsInstance, IsSchemeOver, Scheme, scheme_of}
 use Rattle.name_scope.specs.Seen.{seen_parameter}
 use Rattle.type_steps.specs.Environment.{AreKnownOver, CallTakes, Known, Takes, TextTakes, TextUse, Texts, entries_under, function, settled_use, texts_under, value}
 use Rattle.type_steps.specs.Flow.{IsCallable}

@@ -11,8 +11,9 @@ use Rattle.type_terms.specs.Term.{Term, kind_meaning}
 use Rattle.type_terms.specs.declared.ty.KindTerm.{KindTerm}
 use Rattle.typing_rules.specs.Kinds.{numbered_on, known_kind, kinds_of, put}
 use Rattle.typing_rules.specs.Scripts.{Targets}
-use Rattle.general_types.specs.declared.general.TextKind.{TextKind}
-use Rattle.general_types.specs.declared.general.TextKind.TheVariants.{Open, Outer}
+use Rattle.type_instances.specs.Schemes.{Scheme, scheme_of}
+use Rattle.general_types.specs.declared.generalising.TextKind.{TextKind}
+use Rattle.general_types.specs.declared.generalising.TextKind.TheVariants.{Open, Outer}
 use Rattle.general_types.specs.Generals.{IsGeneral, open_of, settled as settled_text}
 use Rattle.general_types.specs.Holding.{AreThere, HeldVariables, IsHeldBy}
 use Rattle.type_steps.specs.Environment.{AreKnownOver, Found, Known, TextUse, function}
@@ -27,7 +28,6 @@ use Rattle.type_infer.specs.TextUses.{kinds_in, pending_of, text_uses}
 use Rattle.expression_types.specs.declared.environment.KnownDef.{KnownDef}
 use Rattle.type_infer.specs.declared.parts.TypedParts.{TypedParts}
 use Rattle.type_infer.proofs.General.{def_held, def_keeps, def_typing}
-use Rattle.general_types.specs.Schemes.{Scheme, scheme_of}
 
 pub general_as : (s : Table) (names ts us : List Term) (x y : Term) (ks ls : List KindTerm) (g : Scheme) (text : List TextKind) → ts ≡ us → x ≡ y → ks ≡ ls → IsGeneral s names ts x ks g text → IsGeneral s names us y ls g text
 general_as s names ts us x y ks ls g text e f h i =

@@ -6,8 +6,8 @@ use Rattle.type_terms.specs.Agrees.{Follows}
 use Rattle.type_terms.specs.Ground.{Assignment}
 use Rattle.type_terms.specs.Table.{Solves, Table}
 use Rattle.typing_rules.specs.Scripts.{Targets, def_token, params_of}
+use Rattle.type_instances.specs.Schemes.{scheme_of}
 use Rattle.general_types.specs.Holding.{HeldVariables}
-use Rattle.general_types.specs.Schemes.{scheme_of}
 use Rattle.name_scope.specs.Seen.{seen_parameter}
 use Rattle.type_steps.specs.Environment.{Known, TextUse, function}
 use Rattle.expression_types.specs.Seen.{text_use}

@@ -9,10 +9,10 @@ use Rattle.type_terms.specs.Table.{Table, Solves}
 use Rattle.type_terms.specs.Term.{Term, variable}
 use Rattle.typing_rules.specs.Scripts.{Places, Targets, def_token, params_of}
 use Rattle.typing_rules.specs.Typing.{Has, InnersHave, TypesByToken, token_of, within}
-use Rattle.general_types.specs.declared.general.TextKind.{TextKind}
+use Rattle.type_instances.specs.Schemes.{IsSchemeOver, scheme_of}
+use Rattle.general_types.specs.declared.generalising.TextKind.{TextKind}
 use Rattle.general_types.specs.Generals.{AreTextKindsOver, IsGeneral, IsNumberedText}
 use Rattle.general_types.specs.Holding.{HeldVariables, IsHeldBy}
-use Rattle.general_types.specs.Schemes.{IsSchemeOver, scheme_of}
 use Rattle.name_scope.specs.Seen.{seen_parameter}
 use Rattle.type_steps.specs.Environment.{AreFound, AreUsesOver, Env, Found, Known, sight_under, types_under}
 use Rattle.type_steps.specs.Flow.{Reached}

@@ -5,7 +5,7 @@ use Rattle.typing_rules.specs.declared.uses.Target.TheVariants as target
 use Rattle.typing_rules.specs.Scoping.{Meaning}
 use Rattle.typing_rules.specs.Scripts.{Targets}
 use Rattle.typing_rules.specs.Table.{signature}
-use Rattle.general_types.specs.Schemes.{scheme_of}
+use Rattle.type_instances.specs.Schemes.{scheme_of}
 use Rattle.type_steps.specs.Environment.{Found, Known, TextUse}
 use Rattle.type_steps.specs.Counts.{count_at, scheme_count}
 use Rattle.expression_types.specs.Seen.{def_seen}

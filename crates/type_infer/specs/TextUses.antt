@@ -1,8 +1,8 @@
 -- The uses in the text of a def, from the kinds of the text one after another.
 use Rattle.std.specs.Prelude.{List, [], ◌∷◌, ◌++◌, map, take, drop, length}
 use Rattle.type_terms.specs.declared.ty.KindTerm.{KindTerm}
-use Rattle.general_types.specs.declared.general.TextKind.{TextKind}
-use Rattle.general_types.specs.declared.general.TextKind.TheVariants.{Open, Outer}
+use Rattle.general_types.specs.declared.generalising.TextKind.{TextKind}
+use Rattle.general_types.specs.declared.generalising.TextKind.TheVariants.{Open, Outer}
 use Rattle.type_steps.specs.Environment.{Found, Pending, TextUse, of_def, of_term}
 
 -- a kind of the text as the uses have it

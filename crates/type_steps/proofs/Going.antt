@@ -8,7 +8,7 @@ use Rattle.type_terms.specs.Term.{Term, meaning}
 use Rattle.typing_rules.specs.Typing.{Has}
 use Rattle.typing_rules.specs.Scripts.{Entry, HasSome, IsTypedTo, Places, Targets, function, sight, value}
 use Rattle.typing_rules.specs.Kinds.{read}
-use Rattle.general_types.specs.Schemes.{Scheme, IsSchemeOver}
+use Rattle.type_instances.specs.Schemes.{Scheme, IsSchemeOver}
 use Rattle.type_steps.specs.Environment.{AreKnownOver, AreUsesOver, Env, Found, Known, TextUse, entries_under, settled_use, texts_under}
 use Rattle.type_steps.specs.Environment as known
 use Rattle.type_steps.specs.Flow.{HasNoType, Infers}

@@ -6,11 +6,11 @@ use Rattle.liq_base.specs.declared.memory.Kind.TheVariants.{Stereo}
 use Rattle.type_terms.specs.Ground.{Ground, Assignment, base_type}
 use Rattle.type_terms.specs.declared.ty.Base.TheVariants as base
 use Rattle.type_terms.specs.Term.{meaning}
-use Rattle.general_types.specs.declared.general.KindParameter.{KindParameter}
-use Rattle.general_types.specs.declared.general.KindParameter.TheVariants.{Open, Unread, Outer as OuterKind}
-use Rattle.general_types.specs.declared.general.TypeParameter.{TypeParameter}
-use Rattle.general_types.specs.declared.general.TypeParameter.TheVariants.{Any, Number, Outer as OuterType}
-use Rattle.general_types.specs.Schemes.{IsInstance, KindMayBe, MayBe, Scheme, open_numbers}
+use Rattle.type_instances.specs.declared.general.KindParameter.{KindParameter}
+use Rattle.type_instances.specs.declared.general.KindParameter.TheVariants.{Open, Unread, Outer as OuterKind}
+use Rattle.type_instances.specs.declared.general.TypeParameter.{TypeParameter}
+use Rattle.type_instances.specs.declared.general.TypeParameter.TheVariants.{Any, Number, Outer as OuterType}
+use Rattle.type_instances.specs.Schemes.{IsInstance, KindMayBe, MayBe, Scheme, open_numbers}
 use Rattle.type_steps.specs.Counts.{scheme_count}
 
 abbrev type_for : Assignment → Option TypeParameter → Ground

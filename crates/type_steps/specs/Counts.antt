@@ -6,7 +6,7 @@ use Rattle.typing_rules.specs.declared.uses.Target.TheVariants as target
 use Rattle.typing_rules.specs.Kinds.{numbered_on}
 use Rattle.typing_rules.specs.Scripts.{def_token}
 use Rattle.typing_rules.specs.Table.{signature}
-use Rattle.general_types.specs.Schemes.{Scheme, open_numbers}
+use Rattle.type_instances.specs.Schemes.{Scheme, open_numbers}
 use Rattle.type_steps.specs.Environment.{Found, Known, Pending, TextUse, function, of_def, of_term, value}
 
 -- the numbers of open kinds in a text, in its order

@@ -9,8 +9,8 @@ use Rattle.type_terms.specs.Table.{Table, Solves}
 use Rattle.type_terms.specs.Term.{Term}
 use Rattle.typing_rules.specs.Scripts.{HasSome, Places, Targets, sight}
 use Rattle.typing_rules.specs.Typing.{DefHas}
+use Rattle.type_instances.specs.Schemes.{Scheme, IsInstance, IsSchemeOver}
 use Rattle.general_types.specs.Holding.{HeldVariables, IsHeldBy, SameTypes}
-use Rattle.general_types.specs.Schemes.{Scheme, IsInstance, IsSchemeOver}
 use Rattle.type_steps.specs.Environment.{CallTakes, Env, IsTextOver, Known, TextTakes, TextUse, entries_under, function, settled_use, texts_under, value}
 
 -- what is seen outside of defs

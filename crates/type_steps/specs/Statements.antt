@@ -9,7 +9,7 @@ use Rattle.typing_rules.specs.declared.uses.KindOf.TheVariants.{Fixed}
 use Rattle.typing_rules.specs.declared.uses.Use.{Use}
 use Rattle.typing_rules.specs.Scoping.{Meaning, Scope, with_statement}
 use Rattle.typing_rules.specs.Scripts.{Entry, IsTypedTo, Places, Targets, def_token}
-use Rattle.general_types.specs.Schemes.{Scheme}
+use Rattle.type_instances.specs.Schemes.{Scheme}
 use Rattle.type_steps.specs.Environment.{AreKnownOver, AreUsesOver, EachTakes, Found, Known, TextUse, entries_under, function, settled_use, texts_under, value}
 use Rattle.type_steps.specs.Counts.{scheme_count, text_count}
 use Rattle.type_steps.specs.Defs.{IsTypingOf}

@@ -1,5 +1,5 @@
 use Rattle.std.proofs.Common.{◌≡◌, ◌+◌, ◌≤◌, length, drop}
-use Rattle.general_types.specs.Schemes.{open_numbers}
+use Rattle.type_instances.specs.Schemes.{open_numbers}
 use Rattle.general_types.proofs.generalising.open_count.Given as goal
 
 abbrev pub invariant-loop-parameter : goal.invariant-loop-parameter

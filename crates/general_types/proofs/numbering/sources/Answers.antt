@@ -1,7 +1,7 @@
 use Rattle.std.proofs.Common.{◌∙◌, ap, refl, map, take_all}
 use Rattle.type_terms.specs.Term.{source_term}
 use Rattle.type_terms.proofs.Views.{term_Source}
-use Rattle.general_types.proofs.Steps.{named_next}
+use Rattle.type_instances.proofs.Pushing.{named_next}
 use Rattle.general_types.proofs.numbering.sources.Goals as goal
 
 pub loop-kind-preserved : goal.loop-kind-preserved

@@ -1,7 +1,7 @@
 use Rattle.std.proofs.Common.{◌∙◌, sym, ap, subst, refl, length, List, map}
 use Rattle.type_terms.specs.Term.{Term, source_term, term_of, variable}
 use Rattle.type_terms.specs.declared.ty.KindTerm.{KindTerm}
-use Rattle.general_types.specs.Schemes.{AreAmong, scheme_of}
+use Rattle.type_instances.specs.Schemes.{AreAmong, scheme_of}
 use Rattle.expression_types.specs.Seen.{founds}
 use Rattle.type_infer.specs.TextUses.{kinds_in}
 use Rattle.type_infer.proofs.Answered.{kinds_among, vars_among}

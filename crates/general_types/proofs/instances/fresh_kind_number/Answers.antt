@@ -1,5 +1,0 @@
-use Rattle.general_types.proofs.NewKinds.{grows_kind}
-use Rattle.general_types.proofs.instances.fresh_kind_number.Goals as goal
-
-pub returns-in-Var-clause-grows : goal.returns-in-Var-clause-grows
-returns-in-Var-clause-grows c = grows_kind _ _ _ c.in_ok-next.ensures.free

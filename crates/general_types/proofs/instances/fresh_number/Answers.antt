@@ -1,5 +1,0 @@
-use Rattle.general_types.proofs.NewTypes.{grows_type}
-use Rattle.general_types.proofs.instances.fresh_number.Goals as goal
-
-pub returns-clause-grows : goal.returns-clause-grows
-returns-clause-grows c = grows_type _ _ _ _ c.in_ok-next.ensures.free

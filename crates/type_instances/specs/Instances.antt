@@ -1,0 +1,33 @@
+-- A scheme with new variables for its own.
+use Rattle.std.specs.Prelude.{◌≡◌, ℕ, List, length, map, Some, slice_get}
+use Rattle.liq_base.specs.declared.memory.Kind.{Kind}
+use Rattle.type_terms.specs.Agrees.{Agrees, Follows}
+use Rattle.type_terms.specs.Ground.{Ground, Assignment}
+use Rattle.type_terms.specs.Table.{Table, Solves, IsOver}
+use Rattle.type_terms.specs.Term.{Term, source_term, meaning, kind_meaning, term_of}
+use Rattle.type_terms.specs.declared.ty.KindTerm.{KindTerm}
+use Rattle.type_instances.specs.declared.instances.Instance.{Instance}
+use Rattle.type_instances.specs.Schemes.{AreAmong, Scheme, IsInstance}
+
+-- a later substitution, which changes no solution on the old variables
+pub record Grows (s s' : Table) : Type 0 where
+  pub follows : Follows s s'
+  pub each : (a : Assignment) → Solves a s → (b : Assignment) × Solves b s' × Agrees s a b
+
+abbrev pub instance_params : Instance → List Term
+instance_params i = map term_of i.params.items
+
+-- Between s and s' the scheme was given these variables: at each solution they are an instance, and each instance at a
+-- solution is reached.
+pub record Instantiates (s s' : Table) (g : Scheme) (params : List Term) (result : Term) (kinds : List KindTerm) : Type
+    0 where
+  pub params_over : AreAmong (length s'.types) (length s'.kinds) params
+  pub result_over : IsOver s' result
+  pub kinds_over : (i : ℕ) (k : KindTerm) → slice_get kinds i ≡ Some k → IsOver s' (source_term k)
+  pub follows : Follows s s'
+  pub sound : (a : Assignment) → Solves a s'
+      → IsInstance g a (map (meaning a) params) (meaning a result) (map (kind_meaning a) kinds)
+  pub complete : (a : Assignment) → Solves a s → (ts : List Ground) (r : Ground) (ks : List Kind)
+      → IsInstance g a ts r ks →
+      (b : Assignment) × Solves b s' × Agrees s a b × (map (meaning b) params ≡ ts) × (meaning b result ≡ r)
+      × (map (kind_meaning b) kinds ≡ ks)

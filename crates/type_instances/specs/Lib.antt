@@ -1,0 +1,4 @@
+pub mod Rows
+pub mod Schemes
+pub mod Instances
+pub mod NewVariables

@@ -1,0 +1,79 @@
+-- What a call may call, as a type that is general in some of its variables.
+use Rattle.std.specs.Prelude.{◌≡◌, ℕ, suc, ◌<◌, ⊤, List, [], ◌∷◌, map, length, replicate, Some, slice_get}
+use Rattle.liq_base.specs.declared.memory.Kind.{Kind}
+use Rattle.type_terms.specs.Ground.{Ground, Assignment, IsNumber}
+use Rattle.type_terms.specs.Term.{Term, InTerm, InTerms, meaning, term_of, terms_of}
+use Rattle.type_terms.specs.Table.{Table}
+use Rattle.typing_rules.specs.declared.uses.Builtin.{Builtin}
+use Rattle.typing_rules.specs.Table.{signature}
+use Rattle.type_instances.specs.declared.general.General.{General}
+use Rattle.type_instances.specs.declared.general.TypeParameter.{TypeParameter}
+use Rattle.type_instances.specs.declared.general.TypeParameter.TheVariants.{Any, Number, Outer as OuterType}
+use Rattle.type_instances.specs.declared.general.KindParameter.{KindParameter}
+use Rattle.type_instances.specs.declared.general.KindParameter.TheVariants.{Open, Unread, Outer as OuterKind}
+
+-- The types of all parameters, and of the result, over variables of the scheme's own, from 0. The lists say what each
+-- of these may stand for.
+pub record Scheme : Type 0 where
+  pub params : List Term
+  pub result : Term
+  pub types : List TypeParameter
+  pub kinds : List KindParameter
+
+-- a general type as plain data
+abbrev pub scheme_of : General → Scheme
+scheme_of g = record {
+  params = map term_of g.params.items;
+  result = term_of g.result;
+  types = g.types.items;
+  kinds = g.kinds.items;
+}
+
+-- What a variable of a scheme may stand for, where the variables outside of it are as in `a`: anything, any number, or
+-- what the outer variable is.
+abbrev pub MayBe : Assignment → TypeParameter → Ground → Type 0
+MayBe a Any g = ⊤
+MayBe a Number g = IsNumber g
+MayBe a (OuterType k) g = g ≡ a.type_of k
+
+abbrev pub KindMayBe : Assignment → KindParameter → Kind → Type 0
+KindMayBe a Open k = ⊤
+KindMayBe a Unread k = ⊤
+KindMayBe a (OuterKind n) k = k ≡ a.kind_of n
+
+-- the numbers of the open kind variables, where the first of the list has this number
+abbrev pub open_numbers : ℕ → List KindParameter → List ℕ
+open_numbers n [] = []
+open_numbers n (Open ∷ ks) = n ∷ open_numbers (suc n) ks
+open_numbers n (Unread ∷ ks) = open_numbers (suc n) ks
+open_numbers n (OuterKind k ∷ ks) = open_numbers (suc n) ks
+
+-- A call may have parameters of the types ts and the type g, with these open kinds, where the variables outside of the
+-- scheme are as in `a`.
+pub record IsInstance (s : Scheme) (a : Assignment) (ts : List Ground) (g : Ground) (opens : List Kind) : Type 0 where
+  pub at : Assignment
+  pub types : (i : ℕ) (x : TypeParameter) → slice_get s.types i ≡ Some x → MayBe a x (at.type_of i)
+  pub kinds : (i : ℕ) (x : KindParameter) → slice_get s.kinds i ≡ Some x → KindMayBe a x (at.kind_of i)
+  pub params : map (meaning at) s.params ≡ ts
+  pub result : meaning at s.result ≡ g
+  pub opened : map at.kind_of (open_numbers 0 s.kinds) ≡ opens
+
+-- the scheme of a builtin's row: nothing is outside of it
+abbrev pub builtin_scheme : Builtin → Scheme
+builtin_scheme b = record {
+  params = map (λ p. p.1) (signature b).params;
+  result = (signature b).result;
+  types = replicate (signature b).types Any;
+  kinds = replicate (signature b).kinds Open;
+}
+
+-- the variables of terms are among so many
+abbrev pub AreAmong : ℕ → ℕ → List Term → Type 0
+AreAmong m n ts = InTerms (λ k. k < m) (λ k. k < n) (terms_of ts)
+
+-- A scheme that says of each of its variables what it may stand for; the outer ones are there.
+pub record IsSchemeOver (table : Table) (s : Scheme) : Type 0 where
+  pub params : AreAmong (length s.types) (length s.kinds) s.params
+  pub result : InTerm (λ n. n < length s.types) (λ n. n < length s.kinds) s.result
+  pub types : (i k : ℕ) → slice_get s.types i ≡ Some (OuterType k) → k < length table.types
+  pub kinds : (i k : ℕ) → slice_get s.kinds i ≡ Some (OuterKind k) → k < length table.kinds
