@@ -8,18 +8,18 @@ use Rattle.frame_core.specs.Calls.{Call, puts_to}
 use Rattle.run_records.specs.Buffers.{feeder, reader}
 use Rattle.run_records.specs.Owning.{IsOwn}
 use Rattle.clock_ticks.specs.declared.engine.ClockEngine.{ClockEngine}
-use Rattle.trace_replay.specs.declared.station.Sides.{Sides}
-use Rattle.trace_replay.specs.declared.told.Mark.{Mark}
-use Rattle.trace_replay.specs.Answering.{BufferState, SameBuffers, StandsFor}
-use Rattle.trace_replay.specs.Clocks.{AreAnswered, AreInOrder, AreWhole}
-use Rattle.trace_replay.specs.Marks.{AreWithin, HaveLetGo, HaveMarked, HaveResumed, mark_of, no_mark}
-use Rattle.trace_replay.specs.Passes.{HasCome, got_then, nothing, ticks_in}
+use Rattle.trace_turns.specs.declared.station.Sides.{Sides}
+use Rattle.trace_turns.specs.declared.told.Mark.{Mark}
+use Rattle.trace_turns.specs.Answering.{BufferState, SameBuffers, StandsFor}
+use Rattle.trace_records.specs.Clocks.{AreAnswered, AreInOrder, AreWhole}
+use Rattle.trace_turns.specs.Marks.{AreWithin, HaveLetGo, HaveMarked, HaveResumed, mark_of, no_mark}
+use Rattle.trace_records.specs.Passes.{HasCome, got_then, nothing, ticks_in}
 use Rattle.trace_replay.specs.Replaying.{HasPlayed, IsReplaying, MayPlay, MayReplay, Tale, score_over}
-use Rattle.trace_replay.specs.Turns.{chunks_of, no_state}
-use Rattle.trace_replay.proofs.Resuming.{marks_within, of_resumed, stands_paused}
+use Rattle.trace_turns.specs.Turns.{chunks_of, no_state}
+use Rattle.trace_turns.proofs.Resuming.{marks_within, of_resumed, stands_paused}
 use Rattle.trace_replay.proofs.Sequence.{calls_forced, same_come, whole_come}
-use Rattle.trace_replay.proofs.Thinning.{fills_resumed, full_let_go, full_resumed, have_resumed, long_resumed, unlost_resumed}
-use Rattle.trace_replay.proofs.Turned.{answered_by, come_to, order_by, own_made}
+use Rattle.trace_turns.proofs.Thinning.{fills_resumed, full_let_go, full_resumed, have_resumed, long_resumed, unlost_resumed}
+use Rattle.trace_turns.proofs.Turned.{answered_by, come_to, order_by, own_made}
 
 module _ {S : Type 0} {told : S → SinkTold} {tale : Tale} {sides : Sides} {m made n : ℕ} {first old : ClockEngine S} {marks : List Mark} {states : List BufferState}
     (may : MayPlay told tale sides m made n first old marks states) where

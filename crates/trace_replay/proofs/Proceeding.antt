@@ -16,27 +16,27 @@ use Rattle.clock_ticks.specs.Ticks.{HaveTicksRoom}
 use Rattle.rounds_run.specs.Rounds.{AreEngines, HasRunPart, MayRun}
 use Rattle.rounds_run.specs.Runs.{HasRunTicks, HaveRunTicks}
 use Rattle.rounds_run.proofs.Going.{run_none}
-use Rattle.trace_replay.specs.declared.course.TurnMade.{TurnMade}
+use Rattle.trace_turns.specs.declared.course.TurnMade.{TurnMade}
 use Rattle.trace_replay.specs.declared.engines.Rest.{Rest}
-use Rattle.trace_replay.specs.declared.station.Sides.{Sides}
-use Rattle.trace_replay.specs.declared.told.Mark.{Mark}
-use Rattle.trace_replay.specs.Answering.{BufferState, StandsFor}
-use Rattle.trace_replay.specs.Clocks.{AreAnswered, AreInOrder, IsFront}
-use Rattle.trace_replay.specs.Marks.{resumed}
-use Rattle.trace_replay.specs.Orders.{AreTurns, IsTurn, made_then, no_chunks, no_ticks}
-use Rattle.trace_replay.specs.Passes.{AreAt, HasCome, IsFormed, IsTold, got_then, nothing}
+use Rattle.trace_turns.specs.declared.station.Sides.{Sides}
+use Rattle.trace_turns.specs.declared.told.Mark.{Mark}
+use Rattle.trace_turns.specs.Answering.{BufferState, StandsFor}
+use Rattle.trace_records.specs.Clocks.{AreAnswered, AreInOrder, IsFront}
+use Rattle.trace_turns.specs.Marks.{resumed}
+use Rattle.trace_turns.specs.Orders.{AreTurns, IsTurn, made_then, no_chunks, no_ticks}
+use Rattle.trace_records.specs.Passes.{AreAt, HasCome, IsFormed, IsTold, got_then, nothing}
 use Rattle.trace_replay.specs.Replaying.{AreNewRests, ArePlaying, HasPlayed, IsBrokenOff, IsNewRest, IsResting, MayPlay, Tale, score_over}
-use Rattle.trace_replay.specs.Thin.{AreKept}
-use Rattle.trace_replay.specs.Turns.{AreSides, AreTold, chunks_of, no_state}
-use Rattle.trace_replay.proofs.Completing.{begun}
-use Rattle.trace_replay.proofs.Fronts.{front_front}
+use Rattle.trace_turns.specs.Thin.{AreKept}
+use Rattle.trace_turns.specs.Turns.{AreSides, AreTold, chunks_of, no_state}
+use Rattle.trace_records.proofs.Completing.{begun}
+use Rattle.trace_records.proofs.Fronts.{front_front}
 use Rattle.trace_replay.proofs.Lasting.{IsChanged, put_here, put_other}
-use Rattle.trace_replay.proofs.Playing.{whole_none}
+use Rattle.trace_turns.proofs.Playing.{whole_none}
 use Rattle.trace_replay.proofs.Recalling.{part_matches, record_calls, record_front, ticks_match, ticks_part}
-use Rattle.trace_replay.proofs.Resuming.{stands_empty, stands_on}
+use Rattle.trace_turns.proofs.Resuming.{stands_empty, stands_on}
 use Rattle.trace_replay.proofs.Sequence.{calls_forced, turns_fit}
-use Rattle.trace_replay.proofs.Thinning.{full_kept}
-use Rattle.trace_replay.proofs.Turning.{chunks_stay, turned}
+use Rattle.trace_turns.proofs.Thinning.{full_kept}
+use Rattle.trace_records.proofs.Turning.{chunks_stay, turned}
 
 pub there : {A : Type 0} (xs : List A) (i : ℕ) → i < length xs → (x : A) × (slice_get xs i ≡ Some x)
 there [] i low = absurd (omega (arith, low))

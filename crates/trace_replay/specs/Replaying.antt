@@ -15,21 +15,21 @@ use Rattle.clock_ticks.specs.declared.engine.ClockEngine.{ClockEngine}
 use Rattle.clock_ticks.specs.Engines.{EngineStands, outputs_of, setting_of}
 use Rattle.clock_ticks.specs.Ticks.{HaveTicksRoom}
 use Rattle.rounds_run.specs.Rounds.{HasRunPart, HasRunTurns, world}
-use Rattle.trace_replay.specs.declared.course.TurnMade.{TurnMade}
+use Rattle.trace_turns.specs.declared.course.TurnMade.{TurnMade}
 use Rattle.trace_replay.specs.declared.engines.Rest.{Rest}
-use Rattle.trace_replay.specs.declared.station.Sides.{Sides}
-use Rattle.trace_replay.specs.declared.station.Station.{Station}
-use Rattle.trace_replay.specs.declared.told.Mark.{Mark}
-use Rattle.trace_replay.specs.Clocks.{HasReplayed, IsFront, Log}
-use Rattle.trace_replay.specs.Passes.{AreAt, HasCome, IsMadeBy, IsTold}
-use Rattle.trace_replay.specs.Answering.{AllStand, BufferState}
-use Rattle.trace_replay.specs.Finds.{base_at}
-use Rattle.trace_replay.specs.Live.{IsPaused}
-use Rattle.trace_replay.specs.Marks.{no_mark}
-use Rattle.trace_replay.specs.Orders.{AreTurns}
-use Rattle.trace_replay.specs.Thin.{AreFull, AreUnlost, NoneLost}
-use Rattle.trace_replay.specs.Traces.{text_of}
-use Rattle.trace_replay.specs.Turns.{AreOf, AreSides, AreTold, Score, chunks_of}
+use Rattle.trace_turns.specs.declared.station.Sides.{Sides}
+use Rattle.trace_turns.specs.declared.station.Station.{Station}
+use Rattle.trace_turns.specs.declared.told.Mark.{Mark}
+use Rattle.trace_records.specs.Clocks.{HasReplayed, IsFront, Log}
+use Rattle.trace_records.specs.Passes.{AreAt, HasCome, IsMadeBy, IsTold}
+use Rattle.trace_turns.specs.Answering.{AllStand, BufferState}
+use Rattle.trace_turns.specs.Finds.{base_at}
+use Rattle.trace_turns.specs.Live.{IsPaused}
+use Rattle.trace_turns.specs.Marks.{no_mark}
+use Rattle.trace_turns.specs.Orders.{AreTurns}
+use Rattle.trace_turns.specs.Thin.{AreFull, AreUnlost, NoneLost}
+use Rattle.trace_records.specs.Traces.{text_of}
+use Rattle.trace_turns.specs.Turns.{AreOf, AreSides, AreTold, Score, chunks_of}
 
 -- Between two ticks: clock m has made its first n ticks, by which its engine has gone from `first` to `now`, and the
 -- buffers, with all their chunks in `full`, stand for its calls.

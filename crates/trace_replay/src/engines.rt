@@ -7,26 +7,25 @@ ghost use Rattle.stream_meaning.specs.Settings.{IsSetting};
 ghost use Rattle.run_records.specs.Records.{Run, setting_in};
 ghost use Rattle.rounds_run.specs.Rounds.{AreEngines};
 ghost use Rattle.rounds_run.specs.Runs.{HaveRunTicks};
-ghost use Rattle.trace_replay.specs.declared.course.Course.TheVariants.{Goes as IsGoing};
-ghost use Rattle.trace_replay.specs.Answering.{SameBuffers};
-ghost use Rattle.trace_replay.specs.Finds.{base_at};
-ghost use Rattle.trace_replay.specs.Orders.{AreTurns, no_chunks, no_ticks};
-ghost use Rattle.trace_replay.specs.Passes.{IsFormed};
+ghost use Rattle.trace_turns.specs.declared.course.Course.TheVariants.{Goes as IsGoing};
+ghost use Rattle.trace_turns.specs.Answering.{SameBuffers};
+ghost use Rattle.trace_turns.specs.Finds.{base_at};
+ghost use Rattle.trace_turns.specs.Orders.{AreTurns, no_chunks, no_ticks};
+ghost use Rattle.trace_records.specs.Passes.{IsFormed};
 ghost use Rattle.trace_replay.specs.Replaying.{AreNewRests, ArePlaying, HasPlayed, HasSinkFailed, IsBrokenOff, IsNewRest, IsReplaying, MayPlay, MayReplay, Tale, score_over, tale_at};
-ghost use Rattle.trace_replay.specs.Replays.{HasReplayedTo, IsRecordOf};
-ghost use Rattle.trace_replay.specs.Thin.{AreKept};
-ghost use Rattle.trace_replay.specs.Traces.{text_of};
-ghost use Rattle.trace_replay.specs.Turns.{AreSides, AreTold, Score, chunks_of};
+ghost use Rattle.trace_replay.specs.Replays.{HasReplayedTo};
+ghost use Rattle.trace_records.specs.Traces.{IsRecordOf, text_of};
+ghost use Rattle.trace_turns.specs.Thin.{AreKept};
+ghost use Rattle.trace_turns.specs.Turns.{AreSides, AreTold, Score, chunks_of};
 
-use crate::course::{Course, TurnMade};
-use crate::station::{Sides, Station};
-use crate::taps::{ToldTaps, let_go_run, mark_run, resume_run};
-use crate::told::{Mark, NO_MARK};
 use buffer_ends::End;
 use clock_ticks::{ClockEngine, TickFault};
 use liq_base::{Memory, Sink};
 use std::alloc::Global;
 use trace_log::Trace;
+use trace_turns::{
+    Course, Mark, NO_MARK, Sides, Station, ToldTaps, TurnMade, let_go_run, mark_run, resume_run,
+};
 
 /// Where an engine rests between two turns of its clock: how many ticks it has made, and how far its calls came on each
 /// buffer.
