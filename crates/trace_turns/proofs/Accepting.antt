@@ -22,7 +22,7 @@ use Rattle.trace_records.specs.Passes.{IsFormed, IsLegalText, IsOrderedText}
 use Rattle.trace_turns.specs.Answering.{BufferState}
 use Rattle.trace_turns.specs.Thin.{AreKept}
 use Rattle.trace_turns.specs.Turns.{AreFit, AreTold, chunks_of, no_state}
-use Rattle.trace_turns.specs.Finds.{HaveFound}
+use Rattle.trace_turns.proofs.Searching.{HaveFound}
 use Rattle.trace_turns.specs.Logs.{AreNew, new_state}
 use Rattle.trace_records.specs.Traces.{pair_of, text_of}
 use Rattle.trace_records.proofs.Completing.{completed, record_legal}

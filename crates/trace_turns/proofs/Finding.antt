@@ -14,7 +14,7 @@ use Rattle.trace_records.specs.Clocks.{Log}
 use Rattle.trace_records.specs.Passes.{AreAt, HasCome, HasTurned, IsHalted, IsOrderedText, IsRefused}
 use Rattle.trace_turns.specs.Answering.{BufferState}
 use Rattle.trace_turns.specs.Turns.{AreFit, chunks_of}
-use Rattle.trace_turns.specs.Finds.{ArePassing, AreStuck, made_of, total}
+use Rattle.trace_turns.proofs.Searching.{ArePassing, AreStuck, made_of, total}
 use Rattle.trace_records.proofs.Completing.{begun as begun_clocks}
 use Rattle.trace_records.proofs.Passing.{put_at, refused_none, stuck_none}
 use Rattle.trace_records.proofs.Turning.{ahead, halted_same, none_comes, turned}

@@ -9,13 +9,14 @@ use Rattle.trace_turns.specs.declared.ends.Ends.{Ends}
 use Rattle.trace_turns.specs.declared.told.Mark.{Mark}
 use Rattle.trace_records.specs.Clocks.{Log}
 use Rattle.trace_turns.specs.Answering.{BufferState, SameBuffers}
-use Rattle.trace_turns.specs.Live.{HasFlown, HasFlownOn, IsPaused, MayFlow}
+use Rattle.trace_turns.specs.Live.{HasFlown, HasFlownOn, IsPaused, MayFlow, mains}
 use Rattle.trace_turns.specs.Marks.{AreWithin, HaveLetGo, HaveMarked, HaveResumed, mark_of, no_mark}
 use Rattle.trace_turns.specs.Thin.{AreFull, AreUnlost}
 use Rattle.trace_turns.specs.Turns.{AreFit, AreSides, AreTold, RunsAt, Score, chunks_of}
 use Rattle.trace_turns.proofs.Resuming.{fit_after, may_go, pauses}
 use Rattle.trace_turns.proofs.Thinning.{fills_resumed, full_let_go, full_resumed, have_resumed, long_resumed, unlost_resumed}
 use Rattle.trace_turns.proofs.Turned.{come_to}
+use Rattle.trace_turns.specs.Timed.{timed}
 
 -- buffers with all their chunks tell the same
 pub told_full : (base : Setting) (text : ℕ → Log) (states full : List BufferState) → AreFull states full → AreTold base text states → AreTold base text full
@@ -113,7 +114,7 @@ module _ (W N m c : ℕ) (clock_is : c ≡ m) (feeders readers f r : List ℕ) (
       abbrev pub score_full : Score
       score_full = record { base = base; clocks = clocks; text = text; chunks = chunks_of full }
 
-      pub may_flow : (n : ℕ) (parts : EngineParts) → AreUnlost readers m marks old → IsPaused base text W N feeders readers m n parts marks full → MayFlow score_full W N m n parts new ends
+      pub may_flow : (n : ℕ) (parts : EngineParts) → AreUnlost readers m marks old → IsPaused base (timed text W N) (mains feeders readers) m n parts marks full → MayFlow score_full W N m n parts new ends
       may_flow n parts unlost paused = record {
         full = opening;
         fills = fills_resumed feeders readers m marks old new full many are_resumed fills;
@@ -122,9 +123,9 @@ module _ (W N m c : ℕ) (clock_is : c ≡ m) (feeders readers f r : List ℕ) (
       }
 
       -- where it stops
-      pub has_flown : (from n : ℕ) → n ≤ N → (before parts : EngineParts) (marks_now : List Mark) (after gone : List BufferState) → AreUnlost readers m marks old → IsPaused base text W N feeders readers m from before marks full
-          → ((score : Score) → MayFlow score W N m from before new ends → HasFlown score.base score.text W N m n score.chunks parts after) → HaveMarked after marks_now → length gone ≡ length after → HaveLetGo after gone
-          → HasFlownOn base text W N feeders readers m n parts marks_now full gone
+      pub has_flown : (from n : ℕ) → n ≤ N → (before parts : EngineParts) (marks_now : List Mark) (after gone : List BufferState) → AreUnlost readers m marks old → IsPaused base (timed text W N) (mains feeders readers) m from before marks full
+          → ((score : Score) → MayFlow score W N m from before new ends → HasFlown score.base (timed score.text W N) m n score.chunks parts after) → HaveMarked after marks_now → length gone ≡ length after → HaveLetGo after gone
+          → HasFlownOn base (timed text W N) (mains feeders readers) m n parts marks_now full gone
       has_flown from n low before parts marks_now after gone unlost paused flows marked size go =
           let flown = flows score_full (may_flow from before unlost paused) in
           let run : RunsAt base text W N m n (chunks_of full) parts flown.full = flown.run in

@@ -1,6 +1,7 @@
 pub mod Standing
 pub mod Letting
 pub mod Thinning
+pub mod Searching
 pub mod Ordering
 pub mod Tapping
 pub mod Turned

@@ -14,8 +14,8 @@ use Rattle.trace_records.specs.Clocks.{Log}
 use Rattle.trace_turns.specs.Answering.{BufferState}
 use Rattle.trace_turns.specs.declared.course.TurnMade.{TurnMade}
 use Rattle.trace_turns.specs.declared.told.Mark.{Mark}
-use Rattle.trace_turns.specs.Finds.{made_of, total}
-use Rattle.trace_turns.specs.Live.{AreLive, AreNewClocks, HasFlownOn, IsNewClock, IsPaused}
+use Rattle.trace_turns.proofs.Searching.{made_of, total, AreLive}
+use Rattle.trace_turns.specs.Live.{AreNewClocks, HasFlownOn, IsNewClock, IsPaused, mains}
 use Rattle.trace_turns.specs.Orders.{AreTurns, no_chunks, no_ticks}
 use Rattle.trace_turns.specs.Thin.{AreFull, AreKept, AreUnlost}
 use Rattle.trace_turns.specs.Turns.{AreFit, AreSides, chunks_of}
@@ -25,6 +25,7 @@ use Rattle.trace_turns.proofs.Ordering.{led_all, led_more, led_none}
 use Rattle.trace_turns.proofs.Resuming.{new_paused, waits_on}
 use Rattle.trace_turns.proofs.Thinning.{full_kept}
 use Rattle.trace_records.proofs.Turning.{chunks_stay}
+use Rattle.trace_turns.specs.Timed.{timed}
 
 -- one clock more
 pub new_more : (base : Setting) (lives more : List LiveClock) (live : LiveClock) (count : ℕ) → more ≡ lives ++ live ∷ [] → length lives ≡ count → ((k : ℕ) (one : LiveClock) → slice_get lives k ≡ Some one → IsNewClock base k one)
@@ -64,7 +65,7 @@ module _ (base : Setting) (clocks : ClockMap) (is : IsSetting base clocks) (W N 
       fills = full_kept first kept;
       at = (begin_passes base clocks is W N ends first made left size none sum count empty).at text fit;
       led = led_none base clocks is W N text turns made (chunks_of first) no_turn none empty;
-      paused = λ k live at. subst (λ (n : ℕ). IsPaused base text W N feeders readers k n live.engine.parts live.marks.items first) (sym (none k))
+      paused = λ k live at. subst (λ (n : ℕ). IsPaused base (timed text W N) (mains feeders readers) k n live.engine.parts live.marks.items first) (sym (none k))
           (new_paused base text feeders readers sides W N k live first fit.formed fit.told empty (new.each k live at));
       unlost = λ k live at b d e low read. (let zero = kept b d low in omega (arith, zero));
     };
@@ -82,21 +83,21 @@ module _ (base : Setting) (clocks : ClockMap) (is : IsSetting base clocks) (W N 
       pub unlost_now : AreUnlost readers old.engine.parts.clock old.marks.items states
       unlost_now = subst (λ (k : ℕ). AreUnlost readers k old.marks.items states) (sym (live.clock m old at)) ((live.waiting text fit).unlost m old at)
 
-      pub paused_now : IsPaused base text W N feeders readers old.engine.parts.clock from old.engine.parts old.marks.items (live.waiting text fit).full
-      paused_now = subst (λ (k : ℕ). IsPaused base text W N feeders readers k from old.engine.parts old.marks.items (live.waiting text fit).full) (sym (live.clock m old at))
-          (subst (λ (n : ℕ). IsPaused base text W N feeders readers m n old.engine.parts old.marks.items (live.waiting text fit).full) from_is ((live.waiting text fit).paused m old at))
+      pub paused_now : IsPaused base (timed text W N) (mains feeders readers) old.engine.parts.clock from old.engine.parts old.marks.items (live.waiting text fit).full
+      paused_now = subst (λ (k : ℕ). IsPaused base (timed text W N) (mains feeders readers) k from old.engine.parts old.marks.items (live.waiting text fit).full) (sym (live.clock m old at))
+          (subst (λ (n : ℕ). IsPaused base (timed text W N) (mains feeders readers) m n old.engine.parts old.marks.items (live.waiting text fit).full) from_is ((live.waiting text fit).paused m old at))
 
       pub flown_now : (n : ℕ) (new : LiveClock) (others : List BufferState)
           → ((full : List BufferState) → AreFit base W N text states ends → AreFull states full → AreUnlost readers old.engine.parts.clock old.marks.items states
-          → IsPaused base text W N feeders readers old.engine.parts.clock from old.engine.parts old.marks.items full
-          → HasFlownOn base text W N feeders readers old.engine.parts.clock n new.engine.parts new.marks.items full others)
-          → HasFlownOn base text W N feeders readers m n new.engine.parts new.marks.items (live.waiting text fit).full others
-      flown_now n new others told = subst (λ (k : ℕ). HasFlownOn base text W N feeders readers k n new.engine.parts new.marks.items (live.waiting text fit).full others) (live.clock m old at)
+          → IsPaused base (timed text W N) (mains feeders readers) old.engine.parts.clock from old.engine.parts old.marks.items full
+          → HasFlownOn base (timed text W N) (mains feeders readers) old.engine.parts.clock n new.engine.parts new.marks.items full others)
+          → HasFlownOn base (timed text W N) (mains feeders readers) m n new.engine.parts new.marks.items (live.waiting text fit).full others
+      flown_now n new others told = subst (λ (k : ℕ). HasFlownOn base (timed text W N) (mains feeders readers) k n new.engine.parts new.marks.items (live.waiting text fit).full others) (live.clock m old at)
           (told (live.waiting text fit).full (live.fit text fit) (live.waiting text fit).fills unlost_now paused_now)
 
     -- a turn of clock m
     module _ (m : ℕ) (low : m < clocks.running) (n : ℕ) (far : made_of made m ≤ n) (high : n ≤ N) (new : LiveClock) (others : List BufferState) (more : List TurnMade)
-        (flown : (text : ℕ → Log) → (fit : AreFit base W N text first ends) → HasFlownOn base text W N feeders readers m n new.engine.parts new.marks.items (live.waiting text fit).full others)
+        (flown : (text : ℕ → Log) → (fit : AreFit base W N text first ends) → HasFlownOn base (timed text W N) (mains feeders readers) m n new.engine.parts new.marks.items (live.waiting text fit).full others)
         (some : (text : ℕ → Log) × AreFit base W N text first ends) where
       -- so many ticks fewer are left
       pub few_live : n - made_of made m ≤ left
@@ -118,12 +119,12 @@ module _ (base : Setting) (clocks : ClockMap) (is : IsSetting base clocks) (W N 
         there = (let size = live.lives_size in omega (arith, low, size))
 
         waiting_on : (text : ℕ → Log) → (fit : AreFit base W N text first ends) → (k : ℕ) (other_live : LiveClock) → k ≢ m → slice_get lives k ≡ Some other_live
-            → IsPaused base text W N feeders readers k (made_of (slice_set made m n) k) other_live.engine.parts other_live.marks.items (flown text fit).full
+            → IsPaused base (timed text W N) (mains feeders readers) k (made_of (slice_set made m n) k) other_live.engine.parts other_live.marks.items (flown text fit).full
         waiting_on text fit k other_live other at_k =
             let w = live.waiting text fit in
             let f = flown text fit in
             let now = live.fit text fit in
-            subst (λ (j : ℕ). IsPaused base text W N feeders readers k j other_live.engine.parts other_live.marks.items f.full) (made_other k other)
+            subst (λ (j : ℕ). IsPaused base (timed text W N) (mains feeders readers) k j other_live.engine.parts other_live.marks.items f.full) (made_other k other)
             (waits_on base text feeders readers sides W N m k (made_of made k) n other_live.engine.parts other_live.marks.items w.full f.full (told_full base text states w.full w.fills now.told) (told_full base text others f.full f.fills (fits text now).told)
             f.gone.come (λ b known. chunks_stay base clocks is W N text (made_of made) (chunks_of w.full) w.at m low n far (chunks_of f.full) f.gone.come b known) other (w.paused k other_live at_k))
 
@@ -150,8 +151,8 @@ module _ (base : Setting) (clocks : ClockMap) (is : IsSetting base clocks) (W N 
                 at = at_next base clocks is W N text made left (chunks_of w.full) live.size live.counts w.at m low n (chunks_of f.full) f.gone.come far;
                 led = led_more base clocks is W N text turns more made (chunks_of w.full) (chunks_of f.full) (record { clock = m; ticks = n }) are (let long = live.size in omega (arith, low, long)) w.led
                     (record { runs = low; on = far; come = f.gone.come });
-                paused = each_set lives m new (λ k one. IsPaused base text W N feeders readers k (made_of (slice_set made m n) k) one.engine.parts one.marks.items f.full) there (waiting_on text fit)
-                    (subst (λ (j : ℕ). IsPaused base text W N feeders readers m j new.engine.parts new.marks.items f.full) made_here f.gone.paused);
+                paused = each_set lives m new (λ k one. IsPaused base (timed text W N) (mains feeders readers) k (made_of (slice_set made m n) k) one.engine.parts one.marks.items f.full) there (waiting_on text fit)
+                    (subst (λ (j : ℕ). IsPaused base (timed text W N) (mains feeders readers) m j new.engine.parts new.marks.items f.full) made_here f.gone.paused);
                 unlost = each_set lives m new (λ k one. AreUnlost readers k one.marks.items others) there
                     (λ k one other at_k. stays k one.marks.items (λ e. other (e ∙ live.clock m old at)) (w.unlost k one at_k)) f.unlost;
               };

@@ -8,12 +8,13 @@ use Rattle.stream_meaning.specs.Instants.{Setting}
 use Rattle.stream_meaning.specs.Settings.{IsSetting}
 use Rattle.trace_turns.specs.declared.course.TurnMade.{TurnMade}
 use Rattle.trace_records.specs.Clocks.{Log}
-use Rattle.trace_turns.specs.Finds.{HaveFound, made_of}
-use Rattle.trace_turns.specs.Orders.{AreTurns, IsTurn, LeadTo, made_then, no_chunks, no_ticks}
+use Rattle.trace_turns.proofs.Searching.{HaveFound, made_of, LeadTo}
+use Rattle.trace_turns.specs.Orders.{AreTurns, IsTurn, made_then, no_chunks, no_ticks}
 use Rattle.trace_records.specs.Passes.{AreAt, IsFormed}
 use Rattle.trace_records.proofs.Completing.{begun as begun_clocks}
 use Rattle.trace_turns.proofs.Finding.{made_now}
 use Rattle.trace_records.proofs.Turning.{turned}
+use Rattle.trace_turns.specs.Timed.{timed}
 
 module _ (base : Setting) (clocks : ClockMap) (is : IsSetting base clocks) (W N : ℕ) (text : ℕ → Log) where
   abbrev Turns : List TurnMade → (ℕ → ℕ) → (ℕ → List (List Cell)) → Type 0
@@ -38,7 +39,7 @@ module _ (base : Setting) (clocks : ClockMap) (is : IsSetting base clocks) (W N 
 
   -- a turn more
   pub led_more : (turns more : List TurnMade) (made : List ℕ) (chunks next : ℕ → List (List Cell)) (turn : TurnMade) → more ≡ turns ++ turn ∷ [] → turn.clock < length made → Led turns (made_of made) chunks
-      → IsTurn base clocks.running W N text turn (made_of made) chunks next → Led more (made_of (slice_set made turn.clock turn.ticks)) next
+      → IsTurn base clocks.running (timed text W N) turn (made_of made) chunks next → Led more (made_of (slice_set made turn.clock turn.ticks)) next
   led_more turns more made chunks next turn are low led here rest all = subst (λ (l : List TurnMade). Turns l no_ticks no_chunks) (sym (append_assoc turns (turn ∷ []) rest) ∙ ap (λ (l : List TurnMade). l ++ rest) (sym are))
       (led (turn ∷ rest) (next, here, subst (λ (f : ℕ → ℕ). Turns rest f next) (sym (fun_ext (made_now made turn.clock turn.ticks low))) all))
 

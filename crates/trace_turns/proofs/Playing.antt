@@ -30,6 +30,7 @@ use Rattle.trace_turns.specs.Thin.{AreKept, TapsFollow}
 use Rattle.trace_records.proofs.Completing.{start_some}
 use Rattle.trace_turns.proofs.Thinning.{Following, follow_kept, follows, kept_same, stand_kept, unlost_then}
 use Rattle.trace_turns.proofs.Turned.{accepted_then, border, failed_then, made_more, not_whole, of_same, own_made, turned_all, turned_wait, whole_then, window_is}
+use Rattle.trace_turns.specs.Timed.{timed}
 
 pub on_ok : {T E : Type 0} {P : Type 0} (r : Result T E) → is_err r ≡ false → OnOk r P → P
 on_ok (Ok x) e p = p
@@ -190,7 +191,7 @@ module _ (score : Score) (W N m : ℕ) (ends : List Ends) (opening : List Buffer
 
   -- and of taps whose buffers let chunks go
   module _ {S : Type 0} (told : S → SinkTold) (outs_old outs_new : List S) (n : ℕ) (less : n < N) (some : 1 ≤ W) (parts parts_new : EngineParts) (taps taps_new : ToldTaps)
-      (flown : HasFlown base score.text W N m n score.chunks parts taps.buffers.items)
+      (flown : HasFlown base (timed score.text W N) m n score.chunks parts taps.buffers.items)
       (goes : taps.course ≡ Goes) (over_new : setting_of parts_new ≡ setting_of parts) (clock_new : parts_new.clock ≡ parts.clock)
       (made : HasMade told (λ (t : ToldTaps) calls. TapsFollow t.course t.buffers.items calls) parts parts_new outs_old outs_new taps taps_new) (changed : SameBuffers taps.buffers.items taps_new.buffers.items) where
     abbrev run_now : Runs n parts flown.full
@@ -215,7 +216,7 @@ module _ (score : Score) (W N m : ℕ) (ends : List Ends) (opening : List Buffer
           takes = λ read. end.takes (sym (ap (λ (x : BufferState). x.read) fill.same) ∙ read) ∙ ap (λ (x : BufferState). Some x.take_at) (sym fill.same);
         }
 
-    pub flows_on : taps_new.course ≡ Goes → (EndsWith W N n → AreAtEnd taps_new.buffers.items ends (n / W)) → HasFlown base score.text W N m (suc n) score.chunks parts_new taps_new.buffers.items
+    pub flows_on : taps_new.course ≡ Goes → (EndsWith W N n → AreAtEnd taps_new.buffers.items ends (n / W)) → HasFlown base (timed score.text W N) m (suc n) score.chunks parts_new taps_new.buffers.items
     flows_on going at_ends = record {
       full = now.full_now;
       fills = now.fills_now;

@@ -17,7 +17,7 @@ use Rattle.trace_turns.specs.declared.told.Mark.{Mark}
 use Rattle.trace_records.specs.Clocks.{IsFront, Log, Suits, got_in}
 use Rattle.trace_records.specs.Passes.{HasCome, IsFormed, IsMadeBy}
 use Rattle.trace_turns.specs.Answering.{AllStand, BufferState, SameBuffers, StandsFor, begun}
-use Rattle.trace_turns.specs.Live.{HasGone, IsNewClock, IsPaused, MayGoOn}
+use Rattle.trace_turns.specs.Live.{HasGone, IsNewClock, IsPaused, MayGoOn, mains}
 use Rattle.trace_turns.specs.Marks.{AreWithin, IsForgotten, HaveMarked, HaveResumed, mark_of, no_mark, others_in, resumed}
 use Rattle.trace_turns.specs.Turns.{AreFit, AreOf, AreSides, AreTold, RunsAt, Score, chunks_of, no_state}
 use Rattle.trace_turns.proofs.Beginning.{fed_test, not_fed_test, not_read_test, read_test, told_same}
@@ -25,6 +25,7 @@ use Rattle.trace_records.proofs.Fronts.{front_long, no_items}
 use Rattle.trace_turns.proofs.Playing.{whole_none}
 use Rattle.trace_records.proofs.Recorded.{no_puts}
 use Rattle.trace_turns.proofs.Turned.{come_to, own_made}
+use Rattle.trace_turns.specs.Timed.{timed}
 
 others_low : (fed : Bool) (chunks : List (List Cell)) → others_in fed chunks ≤ length chunks
 others_low true chunks = omega arith
@@ -135,7 +136,7 @@ module _ (base : Setting) (text : ℕ → Log) (feeders readers : List ℕ) (sid
       front = λ b d known e. ([], ap (λ (s : BufferState). s.chunks) (at b d known) ∙ ap (λ (s : BufferState). s.chunks) (same_item b d known) ∙ sym (append-nil (chunks_of old b)));
     }
 
-    pub runs_on : (W N n : ℕ) (parts : EngineParts) → IsPaused base text W N feeders readers m n parts marks old → RunsAt base text W N m n (chunks_of old) parts new
+    pub runs_on : (W N n : ℕ) (parts : EngineParts) → IsPaused base (timed text W N) (mains feeders readers) m n parts marks old → RunsAt base text W N m n (chunks_of old) parts new
     runs_on W N n parts is = record {
       calls = is.calls;
       accepted = is.accepted;
@@ -149,7 +150,7 @@ module _ (base : Setting) (text : ℕ → Log) (feeders readers : List ℕ) (sid
       whole = is.whole;
     }
 
-  pub marks_within : (W N m n : ℕ) (parts : EngineParts) (marks : List Mark) (states : List BufferState) → IsPaused base text W N feeders readers m n parts marks states → AreWithin states marks
+  pub marks_within : (W N m n : ℕ) (parts : EngineParts) (marks : List Mark) (states : List BufferState) → IsPaused base (timed text W N) (mains feeders readers) m n parts marks states → AreWithin states marks
   marks_within W N m n parts marks states is b d e low = (let s = is.stand b d e low in record { puts = s.put_low; takes = s.take_low; got = s.got_low })
 
   -- the run stops: at the marks the buffers will stand for its calls
@@ -184,7 +185,7 @@ module _ (base : Setting) (text : ℕ → Log) (feeders readers : List ℕ) (sid
         ]
 
   pub pauses : (clocks : ClockMap) → IsSetting base clocks → (W N m n : ℕ) (chunks : ℕ → List (List Cell)) (parts : EngineParts) (marks : List Mark) (states : List BufferState) → RunsAt base text W N m n chunks parts states → HaveMarked states marks
-      → IsPaused base text W N feeders readers m n parts marks states
+      → IsPaused base (timed text W N) (mains feeders readers) m n parts marks states
   pauses clocks is W N m n chunks parts marks states run marked = record {
     calls = run.calls;
     accepted = run.accepted;
@@ -221,7 +222,7 @@ module _ (base : Setting) (text : ℕ → Log) (feeders readers : List ℕ) (sid
         not_of b known t fed = true≢false (sym t ∙ not_fed_test base k feeders readers sides b known (λ own. other (sym own ∙ fed)))
 
   pub waits_on : (W N m k n c : ℕ) (parts : EngineParts) (marks : List Mark) (old new : List BufferState) → AreTold base text old → AreTold base text new → HasCome base W N text m c (chunks_of old) (chunks_of new)
-      → ((b : ℕ) → b < length base.plan.buffers → IsFront (chunks_of old b) (chunks_of new b)) → k ≢ m → IsPaused base text W N feeders readers k n parts marks old → IsPaused base text W N feeders readers k n parts marks new
+      → ((b : ℕ) → b < length base.plan.buffers → IsFront (chunks_of old b) (chunks_of new b)) → k ≢ m → IsPaused base (timed text W N) (mains feeders readers) k n parts marks old → IsPaused base (timed text W N) (mains feeders readers) k n parts marks new
   waits_on W N m k n c parts marks old new told told_new come fronts other is = record {
     calls = is.calls;
     accepted = is.accepted;
@@ -235,7 +236,7 @@ module _ (base : Setting) (text : ℕ → Log) (feeders readers : List ℕ) (sid
 
   -- before the first tick
   pub new_paused : (W N m : ℕ) (live : LiveClock) (states : List BufferState) → IsFormed (length base.plan.buffers) W N text → AreTold base text states → ((b : ℕ) → chunks_of states b ≡ []) → IsNewClock base m live
-      → IsPaused base text W N feeders readers m 0 live.engine.parts live.marks.items states
+      → IsPaused base (timed text W N) (mains feeders readers) m 0 live.engine.parts live.marks.items states
   new_paused W N m live states formed told empty is = record {
     calls = [];
     accepted = λ t b. true;
@@ -269,7 +270,7 @@ module _ (W N m c : ℕ) (clock_is : c ≡ m) (feeders readers f r : List ℕ) (
     abbrev pub score_of : Score
     score_of = record { base = base; clocks = clocks; text = text; chunks = chunks_of old }
 
-    pub may_go : (n : ℕ) (parts : EngineParts) → IsPaused base text W N feeders readers m n parts marks old → MayGoOn score_of W N m n parts new ends
+    pub may_go : (n : ℕ) (parts : EngineParts) → IsPaused base (timed text W N) (mains feeders readers) m n parts marks old → MayGoOn score_of W N m n parts new ends
     may_go n parts paused = record {
       move = record {
         is = is;
@@ -282,9 +283,9 @@ module _ (W N m c : ℕ) (clock_is : c ≡ m) (feeders readers f r : List ℕ) (
     }
 
     -- where it stops
-    pub has_gone : (from n : ℕ) → n ≤ N → (before parts : EngineParts) (marks_now : List Mark) (after : List BufferState) → IsPaused base text W N feeders readers m from before marks old
+    pub has_gone : (from n : ℕ) → n ≤ N → (before parts : EngineParts) (marks_now : List Mark) (after : List BufferState) → IsPaused base (timed text W N) (mains feeders readers) m from before marks old
         → ((score : Score) → MayGoOn score W N m from before new ends → RunsAt score.base score.text W N m n score.chunks parts after) → HaveMarked after marks_now
-        → HasGone base text W N feeders readers m n parts marks_now old after
+        → HasGone base (timed text W N) (mains feeders readers) m n parts marks_now old after
     has_gone from n low before parts marks_now after paused runs marked =
         let run : RunsAt base text W N m n (chunks_of old) parts after = runs score_of (may_go from before paused) in
         record {

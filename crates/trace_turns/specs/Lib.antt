@@ -2,7 +2,8 @@ pub mod Answering
 pub mod Marks
 pub mod Thin
 pub mod Turns
-pub mod Finds
+pub mod Timed
 pub mod Orders
+pub mod Searches
 pub mod Live
 pub mod Logs

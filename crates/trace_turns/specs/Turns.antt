@@ -17,9 +17,11 @@ use Rattle.stream_meaning.specs.Settings.{IsSetting}
 use Rattle.trace_turns.specs.declared.course.Course.{Course}
 use Rattle.trace_turns.specs.declared.course.Course.TheVariants.{Goes, Waits, Fails}
 use Rattle.trace_turns.specs.declared.ends.Ends.{Ends}
+use Rattle.trace_turns.specs.declared.station.Station.{Station}
+use Rattle.trace_records.specs.Traces.{base_of}
 use Rattle.trace_records.specs.Clocks.{AreWhole, Log, puts_in, takes_in}
 use Rattle.trace_records.specs.Passes.{IsFormed, IsMadeBy, ticks_in}
-use Rattle.trace_turns.specs.Answering.{AllStand, BufferState, SameBuffers, begun}
+use Rattle.trace_turns.specs.Answering.{AllStand, BufferState, begun}
 
 -- no buffer
 abbrev pub no_state : BufferState
@@ -133,12 +135,6 @@ pub record MayTurn (score : Score) (W N m : ℕ) (parts : EngineParts) (states :
   pub ends_are : (b : ℕ) (e : Ends) → b < length score.base.plan.buffers
       → AreEnds (score.text b) (slice_index_or ends b e)
 
--- between two ticks of a run
-pub record IsRunning (score : Score) (W N m n : ℕ) (ends : List Ends) (first : EngineParts) (opening : List BufferState)
-    (parts : EngineParts) (states : List BufferState) : Type 0 where
-  pub goes : MayTurn score W N m first opening ends → RunsAt score.base score.text W N m n score.chunks parts states
-  pub changed : SameBuffers opening states
-
 -- buffers that tell the answers of a text
 pub record AreTold (base : Setting) (text : ℕ → Log) (states : List BufferState) : Type 0 where
   pub many : length states ≡ length base.plan.buffers
@@ -179,3 +175,7 @@ pub record AreFit (base : Setting) (W N : ℕ) (text : ℕ
   pub told : AreTold base text states
   pub formed : IsFormed (length base.plan.buffers) W N text
   pub ends_are : (b : ℕ) (e : Ends) → b < length base.plan.buffers → AreEnds (text b) (slice_index_or ends b e)
+
+-- the setting of a station
+abbrev pub base_at : Station → Setting
+base_at station = base_of station.plan.now station.library.now station.clocks.now station.start.second

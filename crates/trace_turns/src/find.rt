@@ -1,12 +1,10 @@
 // The turns in which the clocks make the record that a text tells.
-ghost use Rattle.std.specs.Prelude.{◌≡◌, ◌≤◌, ◌++◌, ◌∷◌, ℕ, true, false, [], length, IfOk, OnOk};
-ghost use Rattle.stream_meaning.specs.Settings.{IsSetting};
+ghost use Rattle.std.specs.Prelude.{◌≡◌, ◌++◌, ◌∷◌, ℕ, true, false, [], length, IfOk, OnOk};
 ghost use Rattle.trace_records.specs.Clocks.{Log};
 ghost use Rattle.trace_records.specs.Passes.{IsOrderedText};
-ghost use Rattle.trace_turns.specs.Turns.{AreFit, AreSides, chunks_of};
-ghost use Rattle.trace_turns.specs.Finds.{base_at};
+ghost use Rattle.trace_turns.specs.Turns.{AreFit, chunks_of, base_at};
 ghost use Rattle.trace_turns.specs.Live.{AreNewClocks};
-ghost use Rattle.trace_turns.specs.Orders.{AreTurns, no_chunks, no_ticks};
+ghost use Rattle.trace_turns.specs.Searches.{AreFound, MaySearch, TellOn};
 ghost use Rattle.trace_turns.specs.Thin.{AreKept};
 
 use crate::course::TurnMade;
@@ -40,25 +38,14 @@ fn search_chunks(
     window: u64,
     ticks: u64,
 ) -> Result<bool, Memory>
-    requires some { 1 ≤ window }
-    requires few { ticks ≤ 1000000000 }
-    requires setting { IsSetting (base_at station.now) station.now.clocks.now }
-    requires sides { AreSides (base_at station.now) sides.now.feeders.items sides.now.readers.items }
-    requires long { length ends.now ≡ length taps.old.buffers.items }
-    requires none { turns.old.items ≡ [] }
-    requires kept { AreKept taps.old.buffers.items }
-    requires empty { (b : ℕ) → chunks_of taps.old.buffers.items b ≡ [] }
-    requires text { (text : ℕ → Log) × AreFit (base_at station.now) window ticks text taps.old.buffers.items ends.now }
-    ensures found { IfOk result (λ found. found ≡ true → (text : ℕ → Log)
-        → AreFit (base_at station.now) window ticks text taps.old.buffers.items ends.now
-        → AreTurns (base_at station.now) station.now.clocks.now.running window ticks text turns.new.items no_ticks
-        no_chunks) }
+    requires { MaySearch station.now sides.now ends.now window ticks turns.old.items taps.old.buffers.items }
+    ensures found { IfOk result (λ found. found ≡ true
+        → AreFound station.now ends.now window ticks taps.old.buffers.items turns.new.items) }
     ensures none { IfOk result (λ found. found ≡ false → (text : ℕ → Log)
         → AreFit (base_at station.now) window ticks text taps.old.buffers.items ends.now
         → IsOrderedText (base_at station.now) station.now.clocks.now.running window ticks text → ⊥) }
-    ensures fit { IfOk result (λ found. (text : ℕ → Log)
-        → AreFit (base_at station.now) window ticks text taps.old.buffers.items ends.now
-        → AreFit (base_at station.now) window ticks text taps.new.buffers.items ends.now) }
+    ensures fit { IfOk result (λ found. TellOn station.now ends.now window ticks taps.old.buffers.items
+        taps.new.buffers.items) }
 {
     let running = station.clocks.running;
     let mut made = vec![in alloc; 0; running as usize]?;
@@ -99,23 +86,12 @@ fn pass_on(
     window: u64,
     ticks: u64,
 ) -> Result<bool, Memory>
-    requires some { 1 ≤ window }
-    requires few { ticks ≤ 1000000000 }
-    requires setting { IsSetting (base_at station.now) station.now.clocks.now }
-    requires sides { AreSides (base_at station.now) sides.now.feeders.items sides.now.readers.items }
+    requires search { MaySearch station.now sides.now ends.now window ticks turns.old.items taps.old.buffers.items }
     requires lives { AreNewClocks (base_at station.now) station.now.clocks.now.running lives.old.items }
-    requires long { length ends.now ≡ length taps.old.buffers.items }
-    requires none { turns.old.items ≡ [] }
-    requires kept { AreKept taps.old.buffers.items }
-    requires empty { (b : ℕ) → chunks_of taps.old.buffers.items b ≡ [] }
-    requires text { (text : ℕ → Log) × AreFit (base_at station.now) window ticks text taps.old.buffers.items ends.now }
-    ensures found { IfOk result (λ found. found ≡ true → (text : ℕ → Log)
-        → AreFit (base_at station.now) window ticks text taps.old.buffers.items ends.now
-        → AreTurns (base_at station.now) station.now.clocks.now.running window ticks text turns.new.items no_ticks
-        no_chunks) }
-    ensures fit { IfOk result (λ found. (text : ℕ → Log)
-        → AreFit (base_at station.now) window ticks text taps.old.buffers.items ends.now
-        → AreFit (base_at station.now) window ticks text taps.new.buffers.items ends.now) }
+    ensures found { IfOk result (λ found. found ≡ true
+        → AreFound station.now ends.now window ticks taps.old.buffers.items turns.new.items) }
+    ensures fit { IfOk result (λ found. TellOn station.now ends.now window ticks taps.old.buffers.items
+        taps.new.buffers.items) }
     ensures many { IfOk result (λ found. length taps.new.buffers.items ≡ length taps.old.buffers.items) }
 {
     let running = station.clocks.running;
@@ -155,22 +131,11 @@ fn find_live(
     window: u64,
     ticks: u64,
 ) -> Result<bool, Memory>
-    requires some { 1 ≤ window }
-    requires few { ticks ≤ 1000000000 }
-    requires setting { IsSetting (base_at station.now) station.now.clocks.now }
-    requires sides { AreSides (base_at station.now) sides.now.feeders.items sides.now.readers.items }
-    requires long { length ends.now ≡ length taps.old.buffers.items }
-    requires none { turns.old.items ≡ [] }
-    requires kept { AreKept taps.old.buffers.items }
-    requires empty { (b : ℕ) → chunks_of taps.old.buffers.items b ≡ [] }
-    requires text { (text : ℕ → Log) × AreFit (base_at station.now) window ticks text taps.old.buffers.items ends.now }
-    ensures found { IfOk result (λ found. found ≡ true → (text : ℕ → Log)
-        → AreFit (base_at station.now) window ticks text taps.old.buffers.items ends.now
-        → AreTurns (base_at station.now) station.now.clocks.now.running window ticks text turns.new.items no_ticks
-        no_chunks) }
-    ensures fit { IfOk result (λ found. (text : ℕ → Log)
-        → AreFit (base_at station.now) window ticks text taps.old.buffers.items ends.now
-        → AreFit (base_at station.now) window ticks text taps.new.buffers.items ends.now) }
+    requires { MaySearch station.now sides.now ends.now window ticks turns.old.items taps.old.buffers.items }
+    ensures found { IfOk result (λ found. found ≡ true
+        → AreFound station.now ends.now window ticks taps.old.buffers.items turns.new.items) }
+    ensures fit { IfOk result (λ found. TellOn station.now ends.now window ticks taps.old.buffers.items
+        taps.new.buffers.items) }
     ensures many { IfOk result (λ found. length taps.new.buffers.items ≡ length taps.old.buffers.items) }
 {
     if station.plan.buffers.as_slice().is_empty() {
@@ -199,25 +164,14 @@ fn search_turns(
     window: u64,
     ticks: u64,
 ) -> Result<bool, Memory>
-    requires some { 1 ≤ window }
-    requires few { ticks ≤ 1000000000 }
-    requires setting { IsSetting (base_at station.now) station.now.clocks.now }
-    requires sides { AreSides (base_at station.now) sides.now.feeders.items sides.now.readers.items }
-    requires long { length ends.now ≡ length taps.old.buffers.items }
-    requires none { turns.old.items ≡ [] }
-    requires kept { AreKept taps.old.buffers.items }
-    requires empty { (b : ℕ) → chunks_of taps.old.buffers.items b ≡ [] }
-    requires text { (text : ℕ → Log) × AreFit (base_at station.now) window ticks text taps.old.buffers.items ends.now }
-    ensures found { IfOk result (λ found. found ≡ true → (text : ℕ → Log)
-        → AreFit (base_at station.now) window ticks text taps.old.buffers.items ends.now
-        → AreTurns (base_at station.now) station.now.clocks.now.running window ticks text turns.new.items no_ticks
-        no_chunks) }
+    requires { MaySearch station.now sides.now ends.now window ticks turns.old.items taps.old.buffers.items }
+    ensures found { IfOk result (λ found. found ≡ true
+        → AreFound station.now ends.now window ticks taps.old.buffers.items turns.new.items) }
     ensures none { IfOk result (λ found. found ≡ false → (text : ℕ → Log)
         → AreFit (base_at station.now) window ticks text taps.old.buffers.items ends.now
         → IsOrderedText (base_at station.now) station.now.clocks.now.running window ticks text → ⊥) }
-    ensures fit { IfOk result (λ found. (text : ℕ → Log)
-        → AreFit (base_at station.now) window ticks text taps.old.buffers.items ends.now
-        → AreFit (base_at station.now) window ticks text taps.new.buffers.items ends.now) }
+    ensures fit { IfOk result (λ found. TellOn station.now ends.now window ticks taps.old.buffers.items
+        taps.new.buffers.items) }
 {
     if find_live(alloc, station, taps, turns, sides, ends, window, ticks)? {
         return Ok(true);
@@ -238,27 +192,16 @@ pub fn find_turns(
     window: u64,
     ticks: u64,
 ) -> Result<bool, Memory>
-    requires some { 1 ≤ window }
-    requires few { ticks ≤ 1000000000 }
-    requires setting { IsSetting (base_at station.now) station.now.clocks.now }
-    requires sides { AreSides (base_at station.now) sides.now.feeders.items sides.now.readers.items }
-    requires long { length ends.now ≡ length taps.old.buffers.items }
-    requires none { turns.old.items ≡ [] }
-    requires kept { AreKept taps.old.buffers.items }
-    requires empty { (b : ℕ) → chunks_of taps.old.buffers.items b ≡ [] }
-    requires text { (text : ℕ → Log) × AreFit (base_at station.now) window ticks text taps.old.buffers.items ends.now }
-    ensures found { IfOk result (λ found. found ≡ true → (text : ℕ → Log)
-        → AreFit (base_at station.now) window ticks text taps.old.buffers.items ends.now
-        → AreTurns (base_at station.now) station.now.clocks.now.running window ticks text turns.new.items no_ticks
-        no_chunks) }
+    requires { MaySearch station.now sides.now ends.now window ticks turns.old.items taps.old.buffers.items }
+    ensures found { IfOk result (λ found. found ≡ true
+        → AreFound station.now ends.now window ticks taps.old.buffers.items turns.new.items) }
     ensures none { IfOk result (λ found. found ≡ false → (text : ℕ → Log)
         → AreFit (base_at station.now) window ticks text taps.old.buffers.items ends.now
         → IsOrderedText (base_at station.now) station.now.clocks.now.running window ticks text → ⊥) }
     ensures empty { IfOk result (λ found. (b : ℕ) → chunks_of taps.new.buffers.items b ≡ []) }
     ensures kept { IfOk result (λ found. AreKept taps.new.buffers.items) }
-    ensures fit { IfOk result (λ found. (text : ℕ → Log)
-        → AreFit (base_at station.now) window ticks text taps.old.buffers.items ends.now
-        → AreFit (base_at station.now) window ticks text taps.new.buffers.items ends.now) }
+    ensures fit { IfOk result (λ found. TellOn station.now ends.now window ticks taps.old.buffers.items
+        taps.new.buffers.items) }
 {
     let found = search_turns(alloc, station, taps, turns, sides, ends, window, ticks)?;
     forget_run(&mut taps.buffers);

@@ -2,13 +2,12 @@
 ghost use Rattle.std.specs.Prelude.{◌≡◌, ℕ, [], true, false, length, IfOk};
 ghost use Rattle.stream_meaning.specs.Settings.{IsSetting};
 ghost use Rattle.trace_log.specs.Texts.{IsTrace};
-ghost use Rattle.trace_turns.specs.Finds.{base_at};
+ghost use Rattle.trace_turns.specs.Turns.{base_at, AreSides, AreTold, chunks_of};
 ghost use Rattle.trace_turns.specs.Orders.{AreTurns, no_chunks, no_ticks};
 ghost use Rattle.trace_records.specs.Passes.{IsOrderedText};
 ghost use Rattle.trace_turns.specs.Thin.{AreKept};
 ghost use Rattle.trace_turns.specs.Logs.{AreNew};
 ghost use Rattle.trace_records.specs.Traces.{text_of};
-ghost use Rattle.trace_turns.specs.Turns.{AreSides, AreTold, chunks_of};
 
 use crate::buffers::{all_legal, unread_stay};
 use crate::course::TurnMade;

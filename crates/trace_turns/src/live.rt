@@ -1,7 +1,7 @@
 // The clocks of a station, whose engines go on from turn to turn.
 ghost use Rattle.std.specs.Prelude.{◌≡◌, [], IfOk, OnOk};
 ghost use Rattle.stream_meaning.specs.Settings.{IsSetting};
-ghost use Rattle.trace_turns.specs.Finds.{base_at};
+ghost use Rattle.trace_turns.specs.Turns.{base_at};
 ghost use Rattle.trace_turns.specs.Live.{AreNewClocks, IsNewClock};
 
 use crate::station::{Station, sinks_of};

@@ -6,10 +6,11 @@ ghost use Rattle.stream_meaning.specs.Settings.{IsSetting};
 ghost use Rattle.clock_infer.specs.declared.clock_map.ClockMap.{ClockMap as Map};
 ghost use Rattle.trace_turns.specs.Answering.{BufferState, SameBuffers};
 ghost use Rattle.trace_records.specs.Clocks.{Log};
-ghost use Rattle.trace_turns.specs.Live.{HasFlown, HasFlownOn, IsPaused, MayFlow};
+ghost use Rattle.trace_turns.specs.Live.{HasFlown, HasFlownOn, IsPaused, MayFlow, mains};
 ghost use Rattle.trace_turns.specs.declared.told.Mark.{Mark as TheMark};
 ghost use Rattle.trace_turns.specs.Thin.{AreFull, AreUnlost};
 ghost use Rattle.trace_turns.specs.Turns.{AreFit, AreSides, Score};
+ghost use Rattle.trace_turns.specs.Timed.{timed};
 
 use crate::course::Course;
 use crate::ends::{Ends, course_of};
@@ -84,7 +85,7 @@ pub fn go_on(
     ensures within { IfOk result (λ reached. (n : ℕ) → reached ≡ Some n → n ≤ ticks) }
     ensures made { IfOk result (λ reached. (n : ℕ) (score : Score) → reached ≡ Some n
         → MayFlow score window ticks engine.old.parts.clock from engine.old.parts taps.old.buffers.items ends.now
-        → HasFlown score.base score.text window ticks engine.old.parts.clock n score.chunks engine.new.parts
+        → HasFlown score.base (timed score.text window ticks) engine.old.parts.clock n score.chunks engine.new.parts
         taps.new.buffers.items) }
     ensures same { IfOk result (λ reached. SameBuffers taps.old.buffers.items taps.new.buffers.items) }
 {
@@ -126,8 +127,8 @@ pub fn live_turn(
         × IsSetting base clocks × AreSides base sides.now.feeders.items sides.now.readers.items
         × AreFit base window ticks text taps.old.buffers.items ends.now × AreFull taps.old.buffers.items full
         × AreUnlost sides.now.readers.items live.old.engine.parts.clock live.old.marks.items taps.old.buffers.items
-        × IsPaused base text window ticks sides.now.feeders.items sides.now.readers.items live.old.engine.parts.clock
-        from live.old.engine.parts live.old.marks.items full }
+        × IsPaused base (timed text window ticks) (mains sides.now.feeders.items sides.now.readers.items)
+        live.old.engine.parts.clock from live.old.engine.parts live.old.marks.items full }
     ensures on { IfOk result (λ reached. (n : ℕ) → reached ≡ Some n → from ≤ n) }
     ensures within { IfOk result (λ reached. (n : ℕ) → reached ≡ Some n → n ≤ ticks) }
     ensures gone { IfOk result (λ reached. (n : ℕ) (base : Setting) (clocks : Map) (text : ℕ
@@ -135,10 +136,10 @@ pub fn live_turn(
         → AreSides base sides.now.feeders.items sides.now.readers.items
         → AreFit base window ticks text taps.old.buffers.items ends.now → AreFull taps.old.buffers.items full
         → AreUnlost sides.now.readers.items live.old.engine.parts.clock live.old.marks.items taps.old.buffers.items
-        → IsPaused base text window ticks sides.now.feeders.items sides.now.readers.items live.old.engine.parts.clock
-        from live.old.engine.parts live.old.marks.items full
-        → HasFlownOn base text window ticks sides.now.feeders.items sides.now.readers.items live.old.engine.parts.clock
-        n live.new.engine.parts live.new.marks.items full taps.new.buffers.items) }
+        → IsPaused base (timed text window ticks) (mains sides.now.feeders.items sides.now.readers.items)
+        live.old.engine.parts.clock from live.old.engine.parts live.old.marks.items full
+        → HasFlownOn base (timed text window ticks) (mains sides.now.feeders.items sides.now.readers.items)
+        live.old.engine.parts.clock n live.new.engine.parts live.new.marks.items full taps.new.buffers.items) }
     ensures stays { IfOk result (λ reached. (k : ℕ) (marks : List TheMark) → (k ≡ live.old.engine.parts.clock → ⊥)
         → AreUnlost sides.now.readers.items k marks taps.old.buffers.items
         → AreUnlost sides.now.readers.items k marks taps.new.buffers.items) }

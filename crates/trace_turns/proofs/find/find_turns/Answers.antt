@@ -1,4 +1,4 @@
-use Rattle.trace_turns.specs.Finds.{base_at}
+use Rattle.trace_turns.specs.Turns.{base_at}
 use Rattle.trace_turns.proofs.Resuming.{empty_again, fit_again}
 use Rattle.trace_turns.proofs.Thinning.{kept_forgotten}
 use Rattle.trace_turns.proofs.find.find_turns.Goals as goal

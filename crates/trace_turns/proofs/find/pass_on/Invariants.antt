@@ -1,6 +1,6 @@
 use Rattle.std.proofs.Common.{◌≤◌}
-use Rattle.trace_turns.specs.Finds.{base_at}
-use Rattle.trace_turns.specs.Live.{AreLive}
+use Rattle.trace_turns.specs.Turns.{base_at}
+use Rattle.trace_turns.proofs.Searching.{AreLive}
 use Rattle.trace_turns.proofs.find.pass_on.Given as goal
 
 abbrev pub invariant-loop-left : goal.invariant-loop-left

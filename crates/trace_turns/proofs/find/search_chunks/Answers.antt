@@ -1,7 +1,7 @@
 use Rattle.std.proofs.Common.{◌≡◌, ◌≤◌, ◌+◌, ◌-◌, ◌*◌, ◌∙◌, ℕ, List, length, replicate, refl, ap, subst, arith}
 use Rattle.std.specs.Prelude.{slice_set}
-use Rattle.trace_turns.specs.Finds.{ArePassing, AreStuck, base_at, made_of, total}
-use Rattle.trace_turns.specs.Turns.{chunks_of}
+use Rattle.trace_turns.specs.Turns.{base_at, chunks_of}
+use Rattle.trace_turns.proofs.Searching.{ArePassing, AreStuck, made_of, total}
 use Rattle.trace_turns.proofs.Ordering.{led_all, led_more, led_none}
 use Rattle.trace_turns.proofs.Finding.{begin_passes, came_on, fewer, long_made, none_made, none_total, passes_done, passes_end, passes_on, passes_refuse, read_made, still_stuck}
 use Rattle.trace_turns.proofs.find.search_chunks.Goals as goal

@@ -1,9 +1,8 @@
 use Rattle.std.proofs.Common.{◌≤◌, ℕ}
 use Rattle.trace_records.specs.Clocks.{Log}
-use Rattle.trace_turns.specs.Finds.{ArePassing, AreStuck, base_at, made_of}
-use Rattle.trace_turns.specs.Orders.{LeadTo}
+use Rattle.trace_turns.specs.Turns.{base_at, AreFit, chunks_of}
+use Rattle.trace_turns.proofs.Searching.{ArePassing, AreStuck, made_of, LeadTo}
 use Rattle.trace_turns.specs.Thin.{AreKept}
-use Rattle.trace_turns.specs.Turns.{AreFit, chunks_of}
 use Rattle.trace_turns.proofs.find.search_chunks.Given as goal
 
 abbrev pub invariant-loop-left : goal.invariant-loop-left

@@ -1,7 +1,7 @@
-use Rattle.std.proofs.Common.{◌<◌, ◌∙◌, ℕ, List, length, ap, sym, subst}
+use Rattle.std.proofs.Common.{rules, ◌<◌, ◌∙◌, ℕ, List, length, ap, sym, subst}
 use Rattle.std.specs.Prelude.{◌≤◌, slice_get, slice_index_or}
 use Rattle.trace_turns.specs.Answering.{BufferState}
-use Rattle.trace_turns.specs.Finds.{base_at}
+use Rattle.trace_turns.specs.Turns.{base_at}
 use Rattle.trace_records.specs.Traces.{text_of}
 use Rattle.trace_turns.proofs.Accepting.{done, empty, fit, kept, legal, not_legal, not_unread, told_in}
 use Rattle.trace_turns.proofs.Ordering.{turns_found}
@@ -14,17 +14,24 @@ returns-then-not-all_legal-clause-no c = λ e ordered.
     not_legal (base_at c.args.station.now) c.args.station.now.clocks.now c.requires.setting (record { ticks = c.args.ticks; window = c.args.window; buffers = c.args.logs.now }) c.requires.trace c.requires.buffers
     c.args.taps.now.buffers.items c.args.ends.now c.requires.size c.requires.new c.args.sides.now.readers.items c.requires.sides.read wrong.0 wrong.1 (ap (λ l. slice_get l wrong.0) (sym c.as_slice.ensures) ∙ wrong.2) wrong.3 ordered
 
-pub find_turns-requires-clause-empty : goal.find_turns-requires-clause-empty
-find_turns-requires-clause-empty c =
-    empty (base_at c.args.station.now) c.args.station.now.clocks.now c.requires.setting (record { ticks = c.args.ticks; window = c.args.window; buffers = c.args.logs.now }) c.requires.trace c.requires.buffers
-    c.args.taps.now.buffers.items c.args.ends.now c.requires.size c.requires.new
-
-pub find_turns-requires-clause-text : goal.find_turns-requires-clause-text
-find_turns-requires-clause-text c = (
-  text_of c.args.logs.now,
-  fit (base_at c.args.station.now) c.args.station.now.clocks.now c.requires.setting (record { ticks = c.args.ticks; window = c.args.window; buffers = c.args.logs.now }) c.requires.trace c.requires.buffers
-      c.args.taps.now.buffers.items c.args.ends.now c.requires.size c.requires.new,
-)
+pub find_turns-requires : goal.find_turns-requires
+find_turns-requires c = record {
+  some = c.requires.trace.bounds.window_least;
+  few = c.requires.trace.bounds.ticks_most;
+  setting = c.requires.setting;
+  sides = c.requires.sides;
+  long = search rules;
+  none = c.requires.none;
+  kept = kept (base_at c.args.station.now) c.args.station.now.clocks.now c.requires.setting (record { ticks = c.args.ticks; window = c.args.window; buffers = c.args.logs.now }) c.requires.trace c.requires.buffers
+      c.args.taps.now.buffers.items c.args.ends.now c.requires.size c.requires.new;
+  empty = empty (base_at c.args.station.now) c.args.station.now.clocks.now c.requires.setting (record { ticks = c.args.ticks; window = c.args.window; buffers = c.args.logs.now }) c.requires.trace c.requires.buffers
+      c.args.taps.now.buffers.items c.args.ends.now c.requires.size c.requires.new;
+  text = (
+    text_of c.args.logs.now,
+    fit (base_at c.args.station.now) c.args.station.now.clocks.now c.requires.setting (record { ticks = c.args.ticks; window = c.args.window; buffers = c.args.logs.now }) c.requires.trace c.requires.buffers
+        c.args.taps.now.buffers.items c.args.ends.now c.requires.size c.requires.new,
+  );
+}
 
 pub returns-then-not-unread_stay-clause-no : goal.returns-then-not-unread_stay-clause-no
 returns-then-not-unread_stay-clause-no c = λ e ordered.
@@ -41,11 +48,6 @@ pub returns-clause-no : goal.returns-clause-no
 returns-clause-no c = ok_map c.find_turns.result (λ found h e. h e (text_of c.args.logs.now)
     (fit (base_at c.args.station.now) c.args.station.now.clocks.now c.requires.setting (record { ticks = c.args.ticks; window = c.args.window; buffers = c.args.logs.now }) c.requires.trace c.requires.buffers
     c.args.taps.now.buffers.items c.args.ends.now c.requires.size c.requires.new)) c.find_turns.ensures.none
-
-pub find_turns-requires-clause-kept : goal.find_turns-requires-clause-kept
-find_turns-requires-clause-kept c =
-    kept (base_at c.args.station.now) c.args.station.now.clocks.now c.requires.setting (record { ticks = c.args.ticks; window = c.args.window; buffers = c.args.logs.now }) c.requires.trace c.requires.buffers
-    c.args.taps.now.buffers.items c.args.ends.now c.requires.size c.requires.new
 
 pub returns-clause-yes : goal.returns-clause-yes
 returns-clause-yes c =

@@ -1,5 +1,5 @@
 use Rattle.std.proofs.Common.{rules, ◌≡◌, ◌++◌, ◌∷◌, [], ap, arith, length, length-append}
-use Rattle.trace_turns.specs.Finds.{base_at}
+use Rattle.trace_turns.specs.Turns.{base_at}
 use Rattle.trace_turns.proofs.Living.{new_more}
 use Rattle.trace_turns.proofs.live.make_clocks.Goals as goal
 

@@ -1,6 +1,6 @@
 use Rattle.std.proofs.Common.{◌≡◌, ℕ, Some, length, slice_get}
 use Rattle.trace_turns.specs.declared.live.LiveClock.{LiveClock}
-use Rattle.trace_turns.specs.Finds.{base_at}
+use Rattle.trace_turns.specs.Turns.{base_at}
 use Rattle.trace_turns.specs.Live.{IsNewClock}
 use Rattle.trace_turns.proofs.live.make_clocks.Given as goal
 

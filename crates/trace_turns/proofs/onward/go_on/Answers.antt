@@ -5,6 +5,7 @@ use Rattle.trace_turns.specs.Answering.{BufferState, same_buffers_refl, same_buf
 use Rattle.trace_turns.specs.Live.{HasFlown}
 use Rattle.trace_turns.specs.Turns.{GoesOn}
 use Rattle.trace_turns.proofs.Playing.{flows_on, on_ok}
+use Rattle.trace_turns.specs.Timed.{timed}
 use Rattle.trace_turns.proofs.onward.go_on.Goals as goal
 
 pub loop-tick-init : goal.loop-tick-init
@@ -42,7 +43,7 @@ loop-tick-preserved c =
       course = g.0;
       changed = same_buffers_trans c.args.taps.now.buffers.items c.loop-tick.taps.buffers.items c.tick.new.taps.buffers.items c.loop-tick.invariant.changed c.tick.ensures.taps;
       goes = λ score may.
-          subst (λ k. HasFlown score.base score.text c.args.window c.args.ticks c.args.engine.now.parts.clock k score.chunks c.tick.new.self.parts c.tick.new.taps.buffers.items) next
+          subst (λ k. HasFlown score.base (timed score.text c.args.window c.args.ticks) c.args.engine.now.parts.clock k score.chunks c.tick.new.self.parts c.tick.new.taps.buffers.items) next
           (flows_on score c.args.window c.args.ticks c.args.engine.now.parts.clock c.args.ends.now may.full may.may.move
           (λ s. faults_alone 0) c.loop-tick.engine.outs c.tick.new.self.outs c.loop-tick.tick less c.requires.some c.loop-tick.engine.parts c.tick.new.self.parts c.loop-tick.taps c.tick.new.taps
           (c.loop-tick.invariant.goes score may) c.loop-tick.invariant.course c.tick.ensures.setting c.tick.ensures.clock (on_ok c.tick.result ok c.tick.ensures.ticked) c.tick.ensures.taps g.0 g.1);
@@ -59,4 +60,4 @@ returns-clause-made c = λ n score e may.
     let here : c.last_of-until.result ≡ n = cc in
     let on = c.last_of-until.ensures.on in
     let full : c.loop-tick.tick ≡ c.last_of-until.result = omega (arith, on, c.loop-tick-test.false, c.loop-tick.auto.tick-end) in
-    subst (λ k. HasFlown score.base score.text c.args.window c.args.ticks c.args.engine.now.parts.clock k score.chunks c.loop-tick.engine.parts c.loop-tick.taps.buffers.items) (full ∙ here) (c.loop-tick.invariant.goes score may)
+    subst (λ k. HasFlown score.base (timed score.text c.args.window c.args.ticks) c.args.engine.now.parts.clock k score.chunks c.loop-tick.engine.parts c.loop-tick.taps.buffers.items) (full ∙ here) (c.loop-tick.invariant.goes score may)
