@@ -10,8 +10,7 @@ use Rattle.stream_meaning.specs.Settings.{IsSetting}
 use Rattle.run_records.specs.Records.{AreWindows, Run}
 use Rattle.trace_log.specs.Texts.{IsTrace, trace_text}
 use Rattle.trace_log.specs.Values.{TraceValue}
-use Rattle.trace_replay.specs.Replays.{IsRecordOf}
-use Rattle.trace_replay.specs.Traces.{IsAccepted, trace_of}
+use Rattle.trace_records.specs.Traces.{IsRecordOf, IsAccepted, trace_of}
 use Rattle.stations.specs.Cues.{cue_files}
 use Rattle.stations.specs.Findings.{IsFit}
 use Rattle.stations.specs.Outputs.{OutputFile, with_outputs}

@@ -18,8 +18,8 @@ use Rattle.stream_meaning.specs.Settings.{IsSetting}
 use Rattle.run_records.specs.Ordered.{IsOrdered}
 use Rattle.run_records.specs.Records.{AreWindows, Run, setting_in}
 use Rattle.run_records.specs.Rounds.{HasNoJoin}
-use Rattle.trace_replay.specs.Listings.{LeadOnward}
-use Rattle.trace_replay.specs.Turns.{base_of}
+use Rattle.trace_records.specs.Listings.{LeadOnward}
+use Rattle.trace_records.specs.Traces.{base_of}
 use Rattle.stations.specs.Creations.{CreatedFront, HaveClosed, HaveListed, after_making, closings_of, names_of}
 use Rattle.stations.specs.Findings.{IsRenderable, IsFit}
 use Rattle.stations.specs.Outputs.{HoldsEnds, HoldsSome, HoldsUpto, OutputPart, with_outputs}

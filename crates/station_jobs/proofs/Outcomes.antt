@@ -6,7 +6,7 @@ use Rattle.frame_core.specs.Library.{Sounds}
 use Rattle.plan_core.specs.declared.plan.Plan.{Plan}
 use Rattle.clock_infer.specs.declared.clock_map.ClockMap.{ClockMap}
 use Rattle.stations.specs.Stations.{Again, InRounds, InWindows, Station, Way}
-use Rattle.trace_replay.specs.Turns.{base_of}
+use Rattle.trace_records.specs.Traces.{base_of}
 use Rattle.refusal_lines.specs.declared.fault.Fault.{Fault}
 use Rattle.refusal_lines.specs.declared.fault.Fault.TheVariants.{Replay as Untold}
 use Rattle.station_jobs.specs.Words.{Asked, Check, Make, Render, Replay, cues_of, asked_file, start_of, asked_ticks, trace_name}

@@ -6,7 +6,7 @@ use Rattle.fallible_infer.specs.Infallible.{IsMarking}
 use Rattle.run_records.specs.Ordered.{IsOrdered}
 use Rattle.run_records.specs.Records.{AreWindows, Run}
 use Rattle.run_records.specs.Rounds.{HasNoJoin}
-use Rattle.trace_replay.specs.Listings.{LeadOnward}
+use Rattle.trace_records.specs.Listings.{LeadOnward}
 use Rattle.stations.specs.Creations.{CreatedFront, HaveListed, after_making, closings_of, names_of}
 use Rattle.stations.specs.Outputs.{with_outputs}
 use Rattle.stations.specs.Renderings.{BeginsAsOneThread, HasOneRecord, IsDetermined, RendersAsOneThread, StoppedBehindTicks, StoppedInTicks}

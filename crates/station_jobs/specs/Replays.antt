@@ -5,7 +5,7 @@ use Rattle.stream_meaning.specs.Instants.{Setting}
 use Rattle.trace_log.specs.Stops.{StopsAt}
 use Rattle.trace_log.specs.Texts.{IsTrace, trace_text}
 use Rattle.trace_log.specs.Values.{TraceValue}
-use Rattle.trace_replay.specs.Traces.{IsAccepted}
+use Rattle.trace_records.specs.Traces.{IsAccepted}
 use Rattle.stations.specs.Stations.{Way, Again}
 use Rattle.refusal_lines.specs.declared.replay_lines.ReplayFault.{ReplayFault}
 use Rattle.refusal_lines.specs.declared.replay_lines.ReplayFault.TheVariants.{NoTrace, TraceTooLarge, NotATrace, DoesNotFit}

@@ -16,7 +16,7 @@ use Rattle.stations.specs.declared.fault.StationFault.{StationFault}
 use Rattle.stations.specs.Cues.{cue_name}
 use Rattle.stations.specs.Stations.{Station, Way, InRounds, InWindows}
 use Rattle.stations.specs.Findings.{IsRenderable, IsStationFault}
-use Rattle.trace_replay.specs.Turns.{base_of}
+use Rattle.trace_records.specs.Traces.{base_of}
 use Rattle.refusal_lines.specs.declared.fault.Fault.{Fault}
 use Rattle.refusal_lines.specs.declared.fault.Fault.TheVariants.{NoScript, Script, SameFile, Station as Unfit, Replay as Untold}
 use Rattle.refusal_lines.specs.declared.replay_lines.ReplayFault.{ReplayFault}

@@ -28,7 +28,7 @@ pub fn replay_job<S: Shelf>(
     let work = prepare(alloc, file, None, false, ticks, shelf)?;
     trace_log::laws::texts_have_one_meaning();
     let told = find_trace(alloc, &work.plan, &work.ready, start, ticks, trace, shelf)?;
-    let chunks = told.chunks;
+    let turns = told.turns;
     let job = Job {
         plan: &work.plan,
         ready: &work.ready,
@@ -37,6 +37,6 @@ pub fn replay_job<S: Shelf>(
         trace: None,
         cues: false,
     };
-    let ended = render_again(alloc, &job, &told.trace, chunks, shelf);
+    let ended = render_again(alloc, &job, &told.trace, turns, shelf);
     conclude(alloc, &job, ended)
 }

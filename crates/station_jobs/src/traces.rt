@@ -3,9 +3,8 @@ ghost use Rattle.std.specs.Prelude.{ℕ, IfOk};
 ghost use Rattle.std.specs.Option.{ForSome};
 ghost use Rattle.liq_base.specs.Shelves.{OnlyRead};
 ghost use Rattle.trace_log.specs.Texts.{IsTrace};
-ghost use Rattle.trace_replay.specs.Chunks.{AreAllChunks};
-ghost use Rattle.trace_replay.specs.Traces.{IsAccepted};
-ghost use Rattle.trace_replay.specs.Turns.{base_of};
+ghost use Rattle.trace_replay.specs.RecordTurns.{AreAllTurns};
+ghost use Rattle.trace_records.specs.Traces.{IsAccepted, base_of};
 ghost use Rattle.stream_meaning.specs.Instants.{Setting};
 ghost use Rattle.stations.specs.Findings.{IsFit};
 ghost use Rattle.station_jobs.specs.Prepared.{IsUntold, TraceEnds};
@@ -20,19 +19,19 @@ use refusal_lines::{Fault, ReplayFault};
 use stations::Ready;
 use std::alloc::Global;
 use trace_log::{Trace, TraceFault, read};
-use trace_replay::{RecordChunks, find_record};
+use trace_replay::{RecordTurns, find_record};
 
 /// Bytes of a trace, at most.
 const MAX_TRACE_BYTES: u64 = 268_435_456;
 
-/// A trace by which a script is rendered again, and all the chunks of its record.
+/// A trace by which a script is rendered again, and all the turns of its record.
 #[derive(Drop)]
 pub struct FoundTrace {
     pub trace: Trace,
-    pub chunks: RecordChunks,
+    pub turns: RecordTurns,
 }
 
-/// The trace in the file of this name, with all the chunks of its record, where it is that of a lawful record of so
+/// The trace in the file of this name, with all the turns of its record, where it is that of a lawful record of so
 /// many ticks of the plan from this second of the week on, whose ticks can be ordered. `docs/faults.md` has the faults,
 /// which are looked for in this order: no file, too many bytes, another form, no such record.
 pub fn find_trace<S: Shelf>(
@@ -51,9 +50,9 @@ pub fn find_trace<S: Shelf>(
     ensures fits { IfOk result
         (λ found. IsAccepted (base_of plan.now ready.now.library ready.now.clocks start.second) ready.now.clocks.running
         ticks found.trace) }
-    ensures chunks { IfOk result
-        (λ found. AreAllChunks (base_of plan.now ready.now.library ready.now.clocks start.second) ready.now.clocks
-        found.trace found.chunks) }
+    ensures turns { IfOk result
+        (λ found. AreAllTurns (base_of plan.now ready.now.library ready.now.clocks start.second) ready.now.clocks
+        found.trace found.turns) }
     ensures ends { TraceEnds name.now (base_of plan.now ready.now.library ready.now.clocks start.second)
         ready.now.clocks.running ticks
         (S.told shelf.old) (S.told shelf.new) result }
@@ -69,10 +68,10 @@ pub fn find_trace<S: Shelf>(
         ticks,
         &trace,
     )?;
-    let Some(chunks) = found else {
+    let Some(turns) = found else {
         return Err(Halt::Refused(Fault::Replay(ReplayFault::DoesNotFit)));
     };
-    Ok(FoundTrace { trace, chunks })
+    Ok(FoundTrace { trace, turns })
 }
 
 // The trace in the file of this name.

@@ -34,8 +34,8 @@ use Rattle.clock_threads.specs.Logs.{counts_in}
 use Rattle.clock_threads.specs.ThreadRuns as threads
 use Rattle.trace_log.specs.Values.{TraceValue}
 use Rattle.trace_replay.specs.Replays.{HasReplayedAll, HasReplayedSome}
-use Rattle.trace_replay.specs.Traces.{IsAccepted}
-use Rattle.trace_replay.proofs.Retelling.{record_of}
+use Rattle.trace_records.specs.Traces.{IsAccepted}
+use Rattle.trace_records.proofs.Retelling.{record_of}
 use Rattle.stations.specs.Stations.{Way, InRounds, InWindows, Again, IsBegunIn, IsLawfulIn, IsReplay}
 use Rattle.station_render.specs.Sinks.{HasFailed}
 use Rattle.station_render.specs.Engines.{AreAt, IsAt, outs_of}

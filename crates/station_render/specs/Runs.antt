@@ -19,7 +19,7 @@ use Rattle.buffer_ends.specs.declared.counts.Counts.{Counts}
 use Rattle.buffer_ends.specs.Local.{Answers}
 use Rattle.buffer_sides.specs.Logs.{told as told_of}
 use Rattle.rounds_run.specs.Runs.{counts_of_windows}
-use Rattle.trace_replay.specs.Traces.{IsAccepted}
+use Rattle.trace_records.specs.Traces.{IsAccepted}
 use Rattle.station_render.specs.Sinks.{AreCreated}
 use Rattle.station_render.specs.Marks.{cues_of}
 use Rattle.station_render.specs.Renders.{AreBegun, IsWhole, setting_for, written}

@@ -13,8 +13,8 @@ ghost use Rattle.station_render.specs.Shelves.{OnlyCloses};
 ghost use Rattle.station_render.specs.Sinks.{lists_of};
 ghost use Rattle.station_render.specs.Stages.{MayClose, OnlyOpened};
 ghost use Rattle.trace_log.specs.Texts.{IsTrace};
-ghost use Rattle.trace_replay.specs.Chunks.{AreAllChunks};
-ghost use Rattle.trace_replay.specs.Traces.{IsAccepted};
+ghost use Rattle.trace_replay.specs.RecordTurns.{AreAllTurns};
+ghost use Rattle.trace_records.specs.Traces.{IsAccepted};
 
 use crate::close::close_all;
 use crate::cues::leave_wanted;
@@ -31,7 +31,7 @@ use std::alloc::Global;
 use std::sync::Wait;
 use std::thread::Threads;
 use trace_log::Trace;
-use trace_replay::RecordChunks;
+use trace_replay::RecordTurns;
 
 /// Renders a job into the files of its outputs, and answers what is told of it. The outputs are created in sink order,
 /// each with room for exactly its bytes and with its header as one piece; then each clock makes its ticks on a thread
@@ -75,22 +75,22 @@ pub fn render_alone<S: Shelf>(
 
 /// The same again, as an accepted trace of this job tells, on one thread: between the creations and the closings the
 /// clocks make all their ticks, in turns, and their buffers answer as they did in the run that left the trace. The
-/// chunks are all those of the trace's record. It leaves no trace. The rules stand in `docs/buffers.md`.
+/// turns are all those of the trace's record. It leaves no trace. The rules stand in `docs/buffers.md`.
 pub fn render_again<S: Shelf>(
     alloc: Global,
     job: &Job<'_>,
     trace: &Trace,
-    chunks: RecordChunks,
+    turns: RecordTurns,
     shelf: &mut S,
 ) -> Result<Rendered, RenderFault>
     requires fit { IsFitting job.now }
     requires trace { IsTrace trace.now }
     requires accepted { IsAccepted (setting_by job.now) job.now.ready.now.clocks.running job.now.ticks trace.now }
-    requires chunks { AreAllChunks (setting_by job.now) job.now.ready.now.clocks trace.now chunks }
+    requires turns { AreAllTurns (setting_by job.now) job.now.ready.now.clocks trace.now turns }
     ensures { Renders (station_in job.now (Again trace.now)) (S.told shelf.old) (S.told shelf.new) result }
 {
     let (places, engines) = open_outputs(alloc, job, shelf)?;
-    let (engines, run) = tick_again(alloc, job, trace, chunks, engines);
+    let (engines, run) = tick_again(alloc, job, trace, turns, engines);
     finish(alloc, job, None, shelf, places, engines, run)
 }
 

@@ -4,8 +4,8 @@ ghost use Rattle.stations.specs.Stations.{InRounds, InWindows, Again};
 ghost use Rattle.station_render.specs.Runs.{IsFitting, setting_by};
 ghost use Rattle.station_render.specs.Stages.{AreReady, HaveTicked};
 ghost use Rattle.trace_log.specs.Texts.{IsTrace};
-ghost use Rattle.trace_replay.specs.Chunks.{AreAllChunks};
-ghost use Rattle.trace_replay.specs.Traces.{IsAccepted};
+ghost use Rattle.trace_replay.specs.RecordTurns.{AreAllTurns};
+ghost use Rattle.trace_records.specs.Traces.{IsAccepted};
 
 use crate::Job;
 use buffer_ends::RunEnd;
@@ -17,7 +17,7 @@ use std::alloc::Global;
 use std::sync::Wait;
 use std::thread::Threads;
 use trace_log::Trace;
-use trace_replay::{RecordChunks, replay};
+use trace_replay::{RecordTurns, replay};
 
 /// Each clock makes its ticks on a thread of its own, in windows of so many.
 pub(crate) fn tick_by_threads<'a, O: Sink + Send, G: Gate + Sync, R: Threads + Wait + Sync>(
@@ -60,18 +60,18 @@ pub(crate) fn tick_in_rounds<'a, O: Sink>(
     (engines, run)
 }
 
-/// The clocks make their ticks in turns on one thread, as a trace tells, of whose record the chunks are.
+/// The clocks make their ticks in turns on one thread, as a trace tells, of whose record the turns are.
 pub(crate) fn tick_again<'a, O: Sink>(
     alloc: Global,
     job: &Job<'a>,
     trace: &Trace,
-    chunks: RecordChunks,
+    turns: RecordTurns,
     engines: Vec<ClockEngine<'a, O>>,
 ) -> (Vec<ClockEngine<'a, O>>, RunEnd)
     requires fit { IsFitting job.now }
     requires trace { IsTrace trace.now }
     requires accepted { IsAccepted (setting_by job.now) job.now.ready.now.clocks.running job.now.ticks trace.now }
-    requires chunks { AreAllChunks (setting_by job.now) job.now.ready.now.clocks trace.now chunks }
+    requires turns { AreAllTurns (setting_by job.now) job.now.ready.now.clocks trace.now turns }
     requires ready { AreReady O.told job.now engines.items }
     ensures ticked { HaveTicked O.told job.now (Again trace.now) engines.entry.items result.0.items result.1 }
 {
@@ -84,7 +84,7 @@ pub(crate) fn tick_again<'a, O: Sink>(
         job.start,
         &mut engines,
         trace,
-        chunks,
+        turns,
     );
     (engines, run)
 }

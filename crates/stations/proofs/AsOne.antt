@@ -13,8 +13,7 @@ use Rattle.run_records.specs.Rounds.{BeginsRounds, HasNoJoin, as_one, merged}
 use Rattle.run_records.proofs.Alone.{merged_setting}
 use Rattle.run_records.proofs.Flattening.{merged_answers}
 use Rattle.trace_log.specs.Values.{TraceValue}
-use Rattle.trace_replay.specs.Replays.{IsRecordOf}
-use Rattle.trace_replay.specs.Traces.{trace_of}
+use Rattle.trace_records.specs.Traces.{IsRecordOf, trace_of}
 use Rattle.stations.specs.Renderings.{BeginsRoundsIn, IsOfOne, RendersAsOneThread}
 use Rattle.stations.specs.Reports.{answered_lines, answers_line, rendered_line, rendered_lines, report_of}
 use Rattle.stations.specs.Stations.{Way, InRounds, InWindows, Again, IsBegunIn, IsLawfulIn, IsReplay, Station, bare, setting_of_run}

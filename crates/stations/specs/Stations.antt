@@ -7,7 +7,7 @@ use Rattle.stream_meaning.specs.Instants.{Setting, answered}
 use Rattle.frame_core.specs.Calls.{Answer}
 use Rattle.run_records.specs.Records.{AreRoundsBegun, AreWindowsBegun, AreWindows, IsRounds, IsWithin, Run, answers_of, setting_in, ticks_by}
 use Rattle.trace_log.specs.Values.{TraceValue}
-use Rattle.trace_replay.specs.Replays.{IsRecordOf}
+use Rattle.trace_records.specs.Traces.{IsRecordOf}
 use Rattle.stations.specs.declared.ready.Ready.{Ready}
 
 -- how a station is rendered: on one thread, in rounds; by threads, in windows of so many ticks; or again, on one

@@ -42,7 +42,6 @@ pub fn one_thread_has_one_record()
         → IsLawful station run → HasOneRecord station run }
 {
     run_records::laws::rounds_are_one();
-    trace_replay::laws::replays_are_of_the_run();
 }
 
 /// A rendering that was broken off begins what one thread renders in rounds, where that is determined: in rounds, or

@@ -21,7 +21,7 @@ use Rattle.rounds_run.proofs.Going.{fault_is}
 use Rattle.run_records.specs.Records.{IsWithin}
 use Rattle.trace_replay.specs.Replaying.{HasSinkFailed}
 use Rattle.trace_replay.specs.Replays.{HasReplayedTo}
-use Rattle.trace_replay.proofs.Passing.{put_at}
+use Rattle.trace_records.proofs.Passing.{put_at}
 
 -- one item of a list changed
 pub record IsChanged {A : Type 0} (k : ℕ) (new : A) (old now : List A) : Type 0 where

@@ -8,21 +8,21 @@ use Rattle.frame_core.specs.Calls.{Call, puts_to}
 use Rattle.run_records.specs.Buffers.{feeder, reader}
 use Rattle.run_records.specs.Owning.{IsOwn}
 use Rattle.clock_ticks.specs.declared.engine.ClockEngine.{ClockEngine}
-use Rattle.trace_replay.specs.declared.station.Sides.{Sides}
-use Rattle.trace_replay.specs.declared.told.Mark.{Mark}
-use Rattle.trace_replay.specs.Answering.{BufferState, SameBuffers, StandsFor}
-use Rattle.trace_replay.specs.Clocks.{AreAnswered, AreInOrder, AreWhole}
-use Rattle.trace_replay.specs.Marks.{AreWithin, HaveLetGo, HaveMarked, HaveResumed, mark_of, no_mark}
-use Rattle.trace_replay.specs.Passes.{HasCome, got_then, nothing, ticks_in}
-use Rattle.trace_replay.specs.Replaying.{HasPlayed, IsReplaying, MayPlay, MayReplay, Tale, score_over}
-use Rattle.trace_replay.specs.Turns.{chunks_of, no_state}
-use Rattle.trace_replay.proofs.Resuming.{marks_within, of_resumed, stands_paused}
+use Rattle.trace_turns.specs.declared.station.Sides.{Sides}
+use Rattle.trace_turns.specs.declared.told.Mark.{Mark}
+use Rattle.trace_turns.specs.Answering.{BufferState, SameBuffers, StandsFor}
+use Rattle.trace_records.specs.Clocks.{AreAnswered, AreInOrder, AreWhole}
+use Rattle.trace_turns.specs.Marks.{AreWithin, HaveLetGo, HaveMarked, HaveResumed, mark_of, no_mark}
+use Rattle.trace_records.specs.Passes.{HasCome, got_then, nothing, ticks_in}
+use Rattle.trace_replay.specs.Replaying.{HasPlayed, IsReplaying, MayPlay, MayReplay, Tale, score_over, progress}
+use Rattle.trace_turns.specs.Turns.{chunks_of, no_state}
+use Rattle.trace_turns.proofs.Resuming.{marks_within, of_resumed, stands_paused}
 use Rattle.trace_replay.proofs.Sequence.{calls_forced, same_come, whole_come}
-use Rattle.trace_replay.proofs.Thinning.{fills_resumed, full_let_go, full_resumed, have_resumed, long_resumed, unlost_resumed}
-use Rattle.trace_replay.proofs.Turned.{answered_by, come_to, order_by, own_made}
+use Rattle.trace_turns.proofs.Thinning.{fills_resumed, full_let_go, full_resumed, have_resumed, long_resumed, unlost_resumed}
+use Rattle.trace_turns.proofs.Turned.{answered_by, come_to, order_by, own_made}
 
 module _ {S : Type 0} {told : S → SinkTold} {tale : Tale} {sides : Sides} {m made n : ℕ} {first old : ClockEngine S} {marks : List Mark} {states : List BufferState}
-    (may : MayPlay told tale sides m made n first old marks states) where
+    (may : MayPlay told tale sides m made n (progress first old marks) states) where
   abbrev B : ℕ
   B = length tale.base.plan.buffers
 
@@ -141,7 +141,7 @@ module _ {S : Type 0} {told : S → SinkTold} {tale : Tale} {sides : Sides} {m m
       reader_is : (b j : ℕ) → b < B → slice_index_or sides.readers.items b 0 ≡ j → reader tale.base b ≡ j
       reader_is b j known e = sym (may.ends.read b known) ∙ e
 
-      pub has_played : HasPlayed told tale sides m n first new marks_new may.full states left may.next
+      pub has_played : HasPlayed told tale sides m n (progress first new marks_new) may.full states left may.next
       has_played = record {
         full = run.full;
         fills = full_let_go after left run.full left_many go run.fills;

@@ -16,27 +16,28 @@ use Rattle.clock_ticks.specs.Ticks.{HaveTicksRoom}
 use Rattle.rounds_run.specs.Rounds.{AreEngines, HasRunPart, MayRun}
 use Rattle.rounds_run.specs.Runs.{HasRunTicks, HaveRunTicks}
 use Rattle.rounds_run.proofs.Going.{run_none}
-use Rattle.trace_replay.specs.declared.course.TurnMade.{TurnMade}
+use Rattle.trace_turns.specs.declared.course.TurnMade.{TurnMade}
 use Rattle.trace_replay.specs.declared.engines.Rest.{Rest}
-use Rattle.trace_replay.specs.declared.station.Sides.{Sides}
-use Rattle.trace_replay.specs.declared.told.Mark.{Mark}
-use Rattle.trace_replay.specs.Answering.{BufferState, StandsFor}
-use Rattle.trace_replay.specs.Clocks.{AreAnswered, AreInOrder, IsFront}
-use Rattle.trace_replay.specs.Marks.{resumed}
-use Rattle.trace_replay.specs.Orders.{AreTurns, IsTurn, made_then, no_chunks, no_ticks}
-use Rattle.trace_replay.specs.Passes.{AreAt, HasCome, IsFormed, IsTold, got_then, nothing}
-use Rattle.trace_replay.specs.Replaying.{AreNewRests, ArePlaying, HasPlayed, IsBrokenOff, IsNewRest, IsResting, MayPlay, Tale, score_over}
-use Rattle.trace_replay.specs.Thin.{AreKept}
-use Rattle.trace_replay.specs.Turns.{AreSides, AreTold, chunks_of, no_state}
-use Rattle.trace_replay.proofs.Completing.{begun}
-use Rattle.trace_replay.proofs.Fronts.{front_front}
+use Rattle.trace_turns.specs.declared.station.Sides.{Sides}
+use Rattle.trace_turns.specs.declared.told.Mark.{Mark}
+use Rattle.trace_turns.specs.Answering.{BufferState, StandsFor}
+use Rattle.trace_records.specs.Clocks.{AreAnswered, AreInOrder, IsFront}
+use Rattle.trace_turns.specs.Marks.{resumed}
+use Rattle.trace_turns.specs.Orders.{AreTurns, IsTurn, made_then, no_chunks, no_ticks}
+use Rattle.trace_records.specs.Passes.{AreAt, HasCome, IsFormed, IsTold, got_then, nothing}
+use Rattle.trace_replay.specs.Replaying.{AreNewRests, ArePlaying, HasPlayed, IsBrokenOff, IsNewRest, IsResting, MayPlay, Tale, score_over, progress}
+use Rattle.trace_turns.specs.Thin.{AreKept}
+use Rattle.trace_turns.specs.Turns.{AreSides, AreTold, chunks_of, no_state}
+use Rattle.trace_records.proofs.Completing.{begun}
+use Rattle.trace_records.proofs.Fronts.{front_front}
 use Rattle.trace_replay.proofs.Lasting.{IsChanged, put_here, put_other}
-use Rattle.trace_replay.proofs.Playing.{whole_none}
+use Rattle.trace_turns.proofs.Playing.{whole_none}
 use Rattle.trace_replay.proofs.Recalling.{part_matches, record_calls, record_front, ticks_match, ticks_part}
-use Rattle.trace_replay.proofs.Resuming.{stands_empty, stands_on}
+use Rattle.trace_turns.proofs.Resuming.{stands_empty, stands_on}
 use Rattle.trace_replay.proofs.Sequence.{calls_forced, turns_fit}
-use Rattle.trace_replay.proofs.Thinning.{full_kept}
-use Rattle.trace_replay.proofs.Turning.{chunks_stay, turned}
+use Rattle.trace_turns.proofs.Thinning.{full_kept}
+use Rattle.trace_records.proofs.Turning.{chunks_stay, turned}
+use Rattle.trace_turns.specs.Timed.{timed}
 
 pub there : {A : Type 0} (xs : List A) (i : ℕ) → i < length xs → (x : A) × (slice_get xs i ≡ Some x)
 there [] i low = absurd (omega (arith, low))
@@ -51,7 +52,7 @@ drop_here (y ∷ xs) (suc i) x e = drop_here xs i x e
 -- before the first turn
 module _ {S : Type 0} (told : S → SinkTold) (tale : Tale) (is : IsSetting tale.base tale.clocks) (sides : Sides) where
   module _ (formed : IsFormed (length tale.base.plan.buffers) tale.window tale.ticks tale.text) (states : List BufferState) (tell : AreTold tale.base tale.text states) (empty : (b : ℕ) → chunks_of states b ≡ []) (kept : AreKept states) where
-    rests_first : (k : ℕ) (engine : ClockEngine S) (rest : Rest) → MayRun told tale.ticks engine → setting_of engine.parts ≡ tale.base → engine.parts.clock ≡ k → IsNewRest (length states) rest → IsResting told tale sides k 0 engine engine rest.marks.items states states
+    rests_first : (k : ℕ) (engine : ClockEngine S) (rest : Rest) → MayRun told tale.ticks engine → setting_of engine.parts ≡ tale.base → engine.parts.clock ≡ k → IsNewRest (length states) rest → IsResting told tale sides k 0 (progress engine engine rest.marks.items) states states
     rests_first k engine rest may over number new = record {
       paused = record {
         calls = [];
@@ -84,7 +85,7 @@ module _ {S : Type 0} (told : S → SinkTold) (tale : Tale) (is : IsSetting tale
       size = refl;
       long = new.size;
       counts = λ k rest at. (new.each k rest at).made;
-      each = λ k before after rest was is_now at. subst (λ (x : ClockEngine S). IsResting told tale sides k 0 before x rest.marks.items states states) (some_inj (sym was ∙ is_now))
+      each = λ k before after rest was is_now at. subst (λ (x : ClockEngine S). IsResting told tale sides k 0 (progress before x rest.marks.items) states states) (some_inj (sym was ∙ is_now))
           (rests_first k before rest (are.each k before was) (are.over k before was) (are.in_order k before was) (new.each k rest at));
     }
 
@@ -105,7 +106,7 @@ module _ {S : Type 0} {told : S → SinkTold} {tale : Tale} {sides : Sides} {tur
       rest_at : (rest : Rest) × (slice_get rests k ≡ Some rest)
       rest_at = let within = slice_get_within first k before was in let long = playing.long in there rests k (omega (arith, within, long))
 
-      resting : IsResting told tale sides k (playing.made k) before after rest_at.0.marks.items playing.full states
+      resting : IsResting told tale sides k (playing.made k) (progress before after rest_at.0.marks.items) playing.full states
       resting = playing.each k before after rest_at.0 was is_now rest_at.1
 
       front : IsFront resting.paused.calls (record_calls tale.base tale.clocks is tale.text tale.window tale.ticks run lawful told_is k low tale.ticks)
@@ -133,10 +134,10 @@ module _ {S : Type 0} {told : S → SinkTold} {tale : Tale} {sides : Sides} {tur
   abbrev pub next : ℕ → List (List Cell)
   next = playing.left.0
 
-  abbrev pub it : IsTurn tale.base tale.clocks.running tale.window tale.ticks tale.text turn playing.made (chunks_of playing.full) next
+  abbrev pub it : IsTurn tale.base tale.clocks.running (timed tale.text tale.window tale.ticks) turn playing.made (chunks_of playing.full) next
   it = playing.left.1
 
-  pub here_rests : IsResting told tale sides turn.clock (playing.made turn.clock) before old rest.marks.items playing.full states
+  pub here_rests : IsResting told tale sides turn.clock (playing.made turn.clock) (progress before old rest.marks.items) playing.full states
   here_rests = playing.each turn.clock before old rest was here at_rest
 
   pub number : old.parts.clock ≡ turn.clock
@@ -145,7 +146,7 @@ module _ {S : Type 0} {told : S → SinkTold} {tale : Tale} {sides : Sides} {tur
   pub count : rest.made ≡ playing.made turn.clock
   count = playing.counts turn.clock rest at_rest
 
-  abbrev pub may_play : MayPlay told tale sides old.parts.clock rest.made turn.ticks before old rest.marks.items states
+  abbrev pub may_play : MayPlay told tale sides old.parts.clock rest.made turn.ticks (progress before old rest.marks.items) states
   may_play = record {
     is = is;
     ends = lie;
@@ -155,8 +156,8 @@ module _ {S : Type 0} {told : S → SinkTold} {tale : Tale} {sides : Sides} {tur
     tell = playing.tell;
     ticks = playing.made;
     at = playing.at;
-    rests = subst (λ (k : ℕ). IsResting told tale sides k rest.made before old rest.marks.items playing.full states) (sym number)
-        (subst (λ (n : ℕ). IsResting told tale sides turn.clock n before old rest.marks.items playing.full states) (sym count) here_rests);
+    rests = subst (λ (k : ℕ). IsResting told tale sides k rest.made (progress before old rest.marks.items) playing.full states) (sym number)
+        (subst (λ (n : ℕ). IsResting told tale sides turn.clock n (progress before old rest.marks.items) playing.full states) (sym count) here_rests);
     on = subst (λ (n : ℕ). n ≤ turn.ticks) (sym count) it.on;
     next = next;
     come = subst (λ (k : ℕ). HasCome tale.base tale.window tale.ticks tale.text k turn.ticks (chunks_of playing.full) next) (sym number) it.come;
@@ -164,10 +165,10 @@ module _ {S : Type 0} {told : S → SinkTold} {tale : Tale} {sides : Sides} {tur
 
   -- it was made
   module _ {new : ClockEngine S} {rest_new : Rest} (made_is : rest_new.made ≡ turn.ticks) {others : List BufferState}
-      (has_played : HasPlayed told tale sides old.parts.clock turn.ticks before new rest_new.marks.items playing.full states others next)
+      (has_played : HasPlayed told tale sides old.parts.clock turn.ticks (progress before new rest_new.marks.items) playing.full states others next)
       {after : List (ClockEngine S)} (changed : IsChanged turn.clock new now after) {rests_after : List Rest} (rests_changed : IsChanged turn.clock rest_new rests rests_after) where
-    played : HasPlayed told tale sides turn.clock turn.ticks before new rest_new.marks.items playing.full states others next
-    played = subst (λ (k : ℕ). HasPlayed told tale sides k turn.ticks before new rest_new.marks.items playing.full states others next) number has_played
+    played : HasPlayed told tale sides turn.clock turn.ticks (progress before new rest_new.marks.items) playing.full states others next
+    played = subst (λ (k : ℕ). HasPlayed told tale sides k turn.ticks (progress before new rest_new.marks.items) playing.full states others next) number has_played
 
     abbrev made_now : ℕ → ℕ
     made_now = made_then turn playing.made
@@ -182,7 +183,7 @@ module _ {S : Type 0} {told : S → SinkTold} {tale : Tale} {sides : Sides} {tur
     states_long = sym played.fills.many ∙ played.tell.many ∙ sym playing.tell.many ∙ playing.fills.many
 
     -- the other engines rest on
-    rests_on : (k : ℕ) (one two : ClockEngine S) (marks : List Mark) → (turn.clock ≡ k → ⊥) → IsResting told tale sides k (playing.made k) one two marks playing.full states → IsResting told tale sides k (playing.made k) one two marks played.full others
+    rests_on : (k : ℕ) (one two : ClockEngine S) (marks : List Mark) → (turn.clock ≡ k → ⊥) → IsResting told tale sides k (playing.made k) (progress one two marks) playing.full states → IsResting told tale sides k (playing.made k) (progress one two marks) played.full others
     rests_on k one two marks other r = record {
       paused = record {
         calls = r.paused.calls;
@@ -224,12 +225,12 @@ module _ {S : Type 0} {told : S → SinkTold} {tale : Tale} {sides : Sides} {tur
         | inl e ↦ (let engine_is : new ≡ two = some_inj (sym changed.here ∙ ap (slice_get after) e ∙ is_at) in
             let first_is : before ≡ one = some_inj (sym was ∙ ap (slice_get first) e ∙ was_at) in
             let rest_is : rest_new ≡ rest = some_inj (sym rests_changed.here ∙ ap (slice_get rests_after) e ∙ at) in
-            subst (λ (n : ℕ). IsResting told tale sides k n one two rest.marks.items played.full others) (sym (made_here k e))
-            (subst (λ (j : ℕ). IsResting told tale sides j turn.ticks one two rest.marks.items played.full others) e
-            (subst (λ (x : ClockEngine S). IsResting told tale sides turn.clock turn.ticks x two rest.marks.items played.full others) first_is
-            (subst (λ (x : ClockEngine S). IsResting told tale sides turn.clock turn.ticks before x rest.marks.items played.full others) engine_is
-            (subst (λ (r : Rest). IsResting told tale sides turn.clock turn.ticks before new r.marks.items played.full others) rest_is played.rests)))))
-        | inr other ↦ subst (λ (n : ℕ). IsResting told tale sides k n one two rest.marks.items played.full others) (sym (made_other k other))
+            subst (λ (n : ℕ). IsResting told tale sides k n (progress one two rest.marks.items) played.full others) (sym (made_here k e))
+            (subst (λ (j : ℕ). IsResting told tale sides j turn.ticks (progress one two rest.marks.items) played.full others) e
+            (subst (λ (x : ClockEngine S). IsResting told tale sides turn.clock turn.ticks (progress x two rest.marks.items) played.full others) first_is
+            (subst (λ (x : ClockEngine S). IsResting told tale sides turn.clock turn.ticks (progress before x rest.marks.items) played.full others) engine_is
+            (subst (λ (r : Rest). IsResting told tale sides turn.clock turn.ticks (progress before new r.marks.items) played.full others) rest_is played.rests)))))
+        | inr other ↦ subst (λ (n : ℕ). IsResting told tale sides k n (progress one two rest.marks.items) played.full others) (sym (made_other k other))
             (rests_on k one two rest.marks.items other (playing.each k one two rest was_at (sym (changed.other k other) ∙ is_at) (sym (rests_changed.other k other) ∙ at)))
       ];
     }

@@ -27,9 +27,9 @@ use Rattle.rounds_run.specs.Runs.{HasRunTicks}
 use Rattle.rounds_run.proofs.Going.{none_read, run_part}
 use Rattle.rounds_run.proofs.Records.{takes_are}
 use Rattle.rounds_run.proofs.Worlds.{meets, meets_is, none_begun}
-use Rattle.trace_replay.specs.Clocks.{IsFront, Log}
-use Rattle.trace_replay.specs.Passes.{IsTold}
-use Rattle.trace_replay.proofs.Recorded.{made_is, no_takes, own_joined, record_takes}
+use Rattle.trace_records.specs.Clocks.{IsFront, Log}
+use Rattle.trace_records.specs.Passes.{IsTold}
+use Rattle.trace_records.proofs.Recorded.{made_is, no_takes, own_joined, record_takes}
 
 past : {A : Type 0} (xs : List A) (b : ℕ) (d : A) → length xs ≤ b → slice_index_or xs b d ≡ d
 past [] b d high = refl

@@ -18,18 +18,18 @@ use Rattle.clock_ticks.specs.Engines.{AreParts, EngineStands, held_in, outputs_o
 use Rattle.clock_ticks.specs.Pieces.{GotSomePieces}
 use Rattle.clock_ticks.specs.Ticks.{HasFailed as TickFailed, HasMade, HaveTickRoom, HaveTicksRoom, IsWriteFault, TookTick, piece_size}
 use Rattle.rounds_run.proofs.Going.{run_failed, run_more}
-use Rattle.trace_replay.specs.declared.course.Course.{Course}
-use Rattle.trace_replay.specs.declared.course.Course.TheVariants.{Goes, Waits, Fails}
-use Rattle.trace_replay.specs.declared.taps.ToldTaps.{ToldTaps}
-use Rattle.trace_replay.specs.Answering.{AllStand, BufferState, SameBuffers, TapsStand}
-use Rattle.trace_replay.specs.Thin.{AreFull, TapsFollow}
-use Rattle.trace_replay.specs.Clocks.{HasReplayed, IsFront}
+use Rattle.trace_turns.specs.declared.course.Course.{Course}
+use Rattle.trace_turns.specs.declared.course.Course.TheVariants.{Goes, Waits, Fails}
+use Rattle.trace_turns.specs.declared.taps.ToldTaps.{ToldTaps}
+use Rattle.trace_turns.specs.Answering.{AllStand, BufferState, SameBuffers, TapsStand}
+use Rattle.trace_turns.specs.Thin.{AreFull, TapsFollow}
+use Rattle.trace_records.specs.Clocks.{HasReplayed, IsFront}
 use Rattle.trace_replay.specs.Replaying.{HasSinkFailed, IsBrokenOff, IsReplaying, MayReplay}
-use Rattle.trace_replay.specs.Passes.{IsMadeBy}
-use Rattle.trace_replay.specs.Turns.{AreOf, Score}
+use Rattle.trace_records.specs.Passes.{IsMadeBy}
+use Rattle.trace_turns.specs.Turns.{AreOf, Score}
 use Rattle.trace_replay.proofs.Stopping.{own_then, stopped_fails, stopped_front, stopped_waits}
-use Rattle.trace_replay.proofs.Thinning.{follows, unlost_then}
-use Rattle.trace_replay.proofs.Turned.{accepted_then, made_more, never_fails, never_waits, of_same, own_made}
+use Rattle.trace_turns.proofs.Thinning.{follows, unlost_then}
+use Rattle.trace_turns.proofs.Turned.{accepted_then, made_more, never_fails, never_waits, of_same, own_made}
 
 abbrev pub taps_stand : ToldTaps → List Call → Type 0
 taps_stand t calls = TapsFollow t.course t.buffers.items calls

@@ -7,14 +7,14 @@ use Rattle.stream_meaning.specs.Instants.{Setting, answered}
 use Rattle.stream_meaning.specs.Settings.{IsSetting}
 use Rattle.run_records.specs.Outputs.{first_calls}
 use Rattle.run_records.specs.Records.{AreWindows, Run, answers_of, start}
-use Rattle.trace_replay.specs.declared.course.TurnMade.{TurnMade}
-use Rattle.trace_replay.specs.Clocks.{AreAnswered, AreInOrder, AreWhole, Log}
-use Rattle.trace_replay.specs.Orders.{AreTurns}
-use Rattle.trace_replay.specs.Passes.{AreAt, HasCome, IsMadeBy, IsTold, got_then, nothing, ticks_in}
-use Rattle.trace_replay.proofs.Alike.{same_ticks}
-use Rattle.trace_replay.proofs.Fronts.{agree_all, answered_more}
-use Rattle.trace_replay.proofs.Passing.{chunks_agree}
-use Rattle.trace_replay.proofs.Recorded.{chunks_in, replayed}
+use Rattle.trace_turns.specs.declared.course.TurnMade.{TurnMade}
+use Rattle.trace_records.specs.Clocks.{AreAnswered, AreInOrder, AreWhole, Log}
+use Rattle.trace_turns.specs.Orders.{AreTurns}
+use Rattle.trace_records.specs.Passes.{AreAt, HasCome, IsMadeBy, IsTold, got_then, nothing, ticks_in}
+use Rattle.trace_records.proofs.Alike.{same_ticks}
+use Rattle.trace_records.proofs.Fronts.{agree_all, answered_more}
+use Rattle.trace_records.proofs.Passing.{chunks_agree}
+use Rattle.trace_records.proofs.Recorded.{chunks_in, replayed}
 
 -- Calls of a clock that are answered from the chunks of a turn are those of the turn.
 module _ (base : Setting) (clocks : ClockMap) (is : IsSetting base clocks) (W N : ℕ) (text : ℕ → Log) (m n : ℕ) (chunks others : ℕ → List (List Cell)) (come : HasCome base W N text m n chunks others)

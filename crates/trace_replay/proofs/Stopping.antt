@@ -18,15 +18,15 @@ use Rattle.run_records.proofs.Parting.{joined_first}
 use Rattle.run_records.proofs.Ticking.{ticks_go}
 use Rattle.run_records.specs.Owning.{IsOwn}
 use Rattle.run_records.proofs.Owning.{own_tick}
-use Rattle.trace_replay.specs.Clocks.{AreAnswered, AreInOrder, HasReplayed, IsFront, Log}
-use Rattle.trace_replay.specs.Passes.{IsMadeBy, got_then, nothing}
-use Rattle.trace_replay.specs.Answering.{AllStand, BufferState, HasFailed, HasWaited}
-use Rattle.trace_replay.specs.Turns.{AreOf, no_state}
-use Rattle.trace_replay.proofs.Alike.{answered_upto, never, never_part, order_upto, waits}
-use Rattle.trace_replay.proofs.Fronts.{agree_all, front_front, front_long, head_same}
-use Rattle.trace_replay.proofs.Histories.{cut}
-use Rattle.trace_replay.proofs.Recorded.{own_at, own_joined}
-use Rattle.trace_replay.proofs.Turned.{answered_by, can_by, order_by, own_front, waits_by}
+use Rattle.trace_records.specs.Clocks.{AreAnswered, AreInOrder, HasReplayed, IsFront, Log}
+use Rattle.trace_records.specs.Passes.{IsMadeBy, got_then, nothing}
+use Rattle.trace_turns.specs.Answering.{AllStand, BufferState, HasFailed, HasWaited}
+use Rattle.trace_turns.specs.Turns.{AreOf, no_state}
+use Rattle.trace_records.proofs.Alike.{answered_upto, never, never_part, order_upto, waits}
+use Rattle.trace_records.proofs.Fronts.{agree_all, front_front, front_long, head_same}
+use Rattle.trace_records.proofs.Histories.{cut}
+use Rattle.trace_records.proofs.Recorded.{own_at, own_joined}
+use Rattle.trace_turns.proofs.Turned.{answered_by, can_by, order_by, own_front, waits_by}
 
 -- the calls of whole ticks, and those that begin the next one
 module _ (base : Setting) (m n : ℕ) (accepted : ℕ → ℕ → Bool) (calls : List Call) (are : IsMadeBy base m n accepted calls) (made : List Call) (kept : ℕ → Bool)

@@ -1,15 +1,3 @@
-pub mod Told
-pub mod Clocks
-pub mod Passes
-pub mod Answering
-pub mod Marks
-pub mod Thin
-pub mod Turns
-pub mod Finds
-pub mod Orders
-pub mod Live
-pub mod Traces
-pub mod Chunks
-pub mod Listings
+pub mod RecordTurns
 pub mod Replaying
 pub mod Replays

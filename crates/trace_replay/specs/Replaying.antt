@@ -15,21 +15,21 @@ use Rattle.clock_ticks.specs.declared.engine.ClockEngine.{ClockEngine}
 use Rattle.clock_ticks.specs.Engines.{EngineStands, outputs_of, setting_of}
 use Rattle.clock_ticks.specs.Ticks.{HaveTicksRoom}
 use Rattle.rounds_run.specs.Rounds.{HasRunPart, HasRunTurns, world}
-use Rattle.trace_replay.specs.declared.course.TurnMade.{TurnMade}
+use Rattle.trace_turns.specs.declared.course.TurnMade.{TurnMade}
 use Rattle.trace_replay.specs.declared.engines.Rest.{Rest}
-use Rattle.trace_replay.specs.declared.station.Sides.{Sides}
-use Rattle.trace_replay.specs.declared.station.Station.{Station}
-use Rattle.trace_replay.specs.declared.told.Mark.{Mark}
-use Rattle.trace_replay.specs.Clocks.{HasReplayed, IsFront, Log}
-use Rattle.trace_replay.specs.Passes.{AreAt, HasCome, IsMadeBy, IsTold}
-use Rattle.trace_replay.specs.Answering.{AllStand, BufferState}
-use Rattle.trace_replay.specs.Finds.{base_at}
-use Rattle.trace_replay.specs.Live.{IsPaused}
-use Rattle.trace_replay.specs.Marks.{no_mark}
-use Rattle.trace_replay.specs.Orders.{AreTurns}
-use Rattle.trace_replay.specs.Thin.{AreFull, AreUnlost, NoneLost}
-use Rattle.trace_replay.specs.Traces.{text_of}
-use Rattle.trace_replay.specs.Turns.{AreOf, AreSides, AreTold, Score, chunks_of}
+use Rattle.trace_turns.specs.declared.station.Sides.{Sides}
+use Rattle.trace_turns.specs.declared.station.Station.{Station}
+use Rattle.trace_turns.specs.declared.told.Mark.{Mark}
+use Rattle.trace_records.specs.Clocks.{HasReplayed, IsFront, Log}
+use Rattle.trace_records.specs.Passes.{AreAt, HasCome, IsMadeBy, IsTold}
+use Rattle.trace_turns.specs.Answering.{AllStand, BufferState}
+use Rattle.trace_turns.specs.Turns.{base_at, AreOf, AreSides, AreTold, Score, chunks_of}
+use Rattle.trace_turns.specs.Live.{IsPaused, mains}
+use Rattle.trace_turns.specs.Marks.{no_mark}
+use Rattle.trace_turns.specs.Orders.{AreTurns}
+use Rattle.trace_turns.specs.Thin.{AreFull, AreUnlost, NoneLost}
+use Rattle.trace_records.specs.Traces.{text_of}
+use Rattle.trace_turns.specs.Timed.{timed}
 
 -- Between two ticks: clock m has made its first n ticks, by which its engine has gone from `first` to `now`, and the
 -- buffers, with all their chunks in `full`, stand for its calls.
@@ -105,27 +105,36 @@ tale_at station trace = record {
 abbrev pub score_over : Tale → (full : List BufferState) → Score
 score_over tale full = record { base = tale.base; clocks = tale.clocks; text = tale.text; chunks = chunks_of full }
 
--- Between two turns: the engine of clock m has gone from `first` to `now` by its first n ticks, and waits at these
+-- an engine at first and as it is now, and the marks of the buffers at which it waits
+pub record Progress (S : Type 0) : Type 0 where
+  pub first : ClockEngine S
+  pub now : ClockEngine S
+  pub marks : List Mark
+
+abbrev pub progress : {S : Type 0} → (first now : ClockEngine S) → List Mark → Progress S
+progress first now marks = record { first = first; now = now; marks = marks }
+
+-- Between two turns: the engine of clock m has gone from its first state on by its first n ticks, and waits at its
 -- marks of the buffers, which with all their chunks are `full`. In each lawful record with this text it makes these
 -- calls.
 pub record IsResting {S : Type 0} (told : S
-    → SinkTold) (tale : Tale) (sides : Sides) (m n : ℕ) (first now : ClockEngine S) (marks : List Mark)
-    (full states : List BufferState) : Type 0 where
-  pub paused : IsPaused tale.base tale.text tale.window tale.ticks sides.feeders.items sides.readers.items m n now.parts
-      marks full
+    → SinkTold) (tale : Tale) (sides : Sides) (m n : ℕ) (gone : Progress S) (full states : List BufferState)
+    : Type 0 where
+  pub paused : IsPaused tale.base (timed tale.text tale.window tale.ticks)
+      (mains sides.feeders.items sides.readers.items) m n gone.now.parts gone.marks full
   pub forced : (run : Run) (lawful : AreWindows tale.base tale.clocks.running tale.window tale.ticks run)
       → IsTold tale.base tale.text run
       → paused.calls ≡ first_calls (answered tale.base (answers_of run)) (lawful.accepted m) m n
-  pub run : HasRunTurns told paused.calls n first now
-  pub rooms : (left : ℕ) → n + left ≡ tale.ticks → HaveTicksRoom told now.parts now.outs left
-  pub unlost : AreUnlost sides.readers.items m marks states
-  pub many : length marks ≡ length states
+  pub run : HasRunTurns told paused.calls n gone.first gone.now
+  pub rooms : (left : ℕ) → n + left ≡ tale.ticks → HaveTicksRoom told gone.now.parts gone.now.outs left
+  pub unlost : AreUnlost sides.readers.items m gone.marks states
+  pub many : length gone.marks ≡ length states
 
 -- An engine of clock m, which rests after some of its ticks, may come to n in a turn, by which these chunks are there;
 -- the ticks of all clocks and the chunks so far are those of the tale.
 pub record MayPlay {S : Type 0} (told : S
-    → SinkTold) (tale : Tale) (sides : Sides) (m made n : ℕ) (first now : ClockEngine S) (marks : List Mark)
-    (states : List BufferState) : Type 0 where
+    → SinkTold) (tale : Tale) (sides : Sides) (m made n : ℕ) (gone : Progress S) (states : List BufferState)
+    : Type 0 where
   pub is : IsSetting tale.base tale.clocks
   pub ends : AreSides tale.base sides.feeders.items sides.readers.items
   pub runs : m < tale.clocks.running
@@ -134,7 +143,7 @@ pub record MayPlay {S : Type 0} (told : S
   pub tell : AreTold tale.base tale.text full
   pub ticks : ℕ → ℕ
   pub at : AreAt tale.base tale.clocks.running tale.window tale.ticks tale.text ticks (chunks_of full)
-  pub rests : IsResting told tale sides m made first now marks full states
+  pub rests : IsResting told tale sides m made gone full states
   pub on : made ≤ n
   pub next : ℕ → List (List Cell)
   pub come : HasCome tale.base tale.window tale.ticks tale.text m n (chunks_of full) next
@@ -142,14 +151,14 @@ pub record MayPlay {S : Type 0} (told : S
 -- In its turn it came to n ticks, by which these chunks are there: from buffers that with all their chunks are
 -- `opening` to those that are `full`. No chunk was let go that another clock is to get.
 pub record HasPlayed {S : Type 0} (told : S
-    → SinkTold) (tale : Tale) (sides : Sides) (m n : ℕ) (first now : ClockEngine S) (marks : List Mark)
-    (opening before states : List BufferState) (next : ℕ → List (List Cell)) : Type 0 where
+    → SinkTold) (tale : Tale) (sides : Sides) (m n : ℕ) (gone : Progress S) (opening before states : List BufferState)
+    (next : ℕ → List (List Cell)) : Type 0 where
   pub full : List BufferState
   pub fills : AreFull states full
   pub tell : AreTold tale.base tale.text full
   pub come : HasCome tale.base tale.window tale.ticks tale.text m n (chunks_of opening) (chunks_of full)
   pub same : (b : ℕ) → b < length tale.base.plan.buffers → chunks_of full b ≡ next b
-  pub rests : IsResting told tale sides m n first now marks full states
+  pub rests : IsResting told tale sides m n gone full states
   pub unlost : (k : ℕ) (other : List Mark) → (k ≡ m → ⊥) → AreUnlost sides.readers.items k other before
       → AreUnlost sides.readers.items k other states
 
@@ -169,7 +178,7 @@ pub record ArePlaying {S : Type 0} (told : S
   pub counts : (k : ℕ) (rest : Rest) → slice_get rests k ≡ Some rest → rest.made ≡ made k
   pub each : (k : ℕ) (before after : ClockEngine S) (rest : Rest) → slice_get first k ≡ Some before
       → slice_get now k ≡ Some after → slice_get rests k ≡ Some rest
-      → IsResting told tale sides k (made k) before after rest.marks.items full states
+      → IsResting told tale sides k (made k) (progress before after rest.marks.items) full states
 
 -- where an engine rests before its first tick, over so many buffers
 pub record IsNewRest (buffers : ℕ) (rest : Rest) : Type 0 where

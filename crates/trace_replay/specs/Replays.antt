@@ -1,10 +1,10 @@
 -- What a replay leaves.
-use Rattle.std.specs.Prelude.{◌≡◌, ℕ, List}
+use Rattle.std.specs.Prelude.{◌≡◌, ℕ, true, false, List}
+use Rattle.std.specs.List.{flat_map}
 use Rattle.liq_base.specs.Pieces.{SinkTold}
 use Rattle.stream_meaning.specs.Instants.{Setting}
-use Rattle.run_records.specs.Ordered.{IsOrdered}
-use Rattle.run_records.specs.Records.{AreWindows, IsWithin, Run, setting_in}
-use Rattle.buffer_ends.specs.Local.{Answers}
+use Rattle.run_records.specs.Records.{IsWithin, Run, setting_in}
+use Rattle.buffer_ends.specs.Local.{Answers, counts_of}
 use Rattle.buffer_ends.specs.declared.counts.Counts.{Counts}
 use Rattle.buffer_ends.specs.declared.run_end.End.{End}
 use Rattle.buffer_ends.specs.declared.run_end.End.TheVariants.{Write}
@@ -12,13 +12,15 @@ use Rattle.clock_ticks.specs.declared.engine.ClockEngine.{ClockEngine}
 use Rattle.rounds_run.specs.Rounds.{HaveRunPart, IsWriteEnd}
 use Rattle.rounds_run.specs.Runs.{HaveRunTicks, counts_of_run, logs_of_run}
 use Rattle.trace_log.specs.Values.{TraceValue}
-use Rattle.trace_replay.specs.Traces.{trace_of}
+use Rattle.trace_records.specs.Traces.{IsRecordOf}
+use Rattle.trace_turns.specs.Logs.{side_of}
 
--- This is the record that a trace tells: it is lawful, its ticks can be ordered, and it leaves this trace.
-pub record IsRecordOf (base : Setting) (clocks : ℕ) (trace : TraceValue) (run : Run) : Type 0 where
-  pub lawful : AreWindows base clocks trace.window trace.ticks run
-  pub ordered : IsOrdered (setting_in base run) clocks lawful.accepted trace.ticks
-  pub leaves : trace ≡ trace_of trace.window trace.ticks run
+-- how often the calls on a buffer with these windows had which answer
+abbrev pub counts_in : List Answers → Counts
+counts_in windows = counts_of (record {
+  puts = flat_map (side_of true) windows;
+  takes = flat_map (side_of false) windows;
+})
 
 -- All ticks of the record of a trace were made: each engine has run them, given what the record's takes got, and the
 -- counts and logs are the record's.

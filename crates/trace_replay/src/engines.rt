@@ -7,26 +7,24 @@ ghost use Rattle.stream_meaning.specs.Settings.{IsSetting};
 ghost use Rattle.run_records.specs.Records.{Run, setting_in};
 ghost use Rattle.rounds_run.specs.Rounds.{AreEngines};
 ghost use Rattle.rounds_run.specs.Runs.{HaveRunTicks};
-ghost use Rattle.trace_replay.specs.declared.course.Course.TheVariants.{Goes as IsGoing};
-ghost use Rattle.trace_replay.specs.Answering.{SameBuffers};
-ghost use Rattle.trace_replay.specs.Finds.{base_at};
-ghost use Rattle.trace_replay.specs.Orders.{AreTurns, no_chunks, no_ticks};
-ghost use Rattle.trace_replay.specs.Passes.{IsFormed};
-ghost use Rattle.trace_replay.specs.Replaying.{AreNewRests, ArePlaying, HasPlayed, HasSinkFailed, IsBrokenOff, IsNewRest, IsReplaying, MayPlay, MayReplay, Tale, score_over, tale_at};
-ghost use Rattle.trace_replay.specs.Replays.{HasReplayedTo, IsRecordOf};
-ghost use Rattle.trace_replay.specs.Thin.{AreKept};
-ghost use Rattle.trace_replay.specs.Traces.{text_of};
-ghost use Rattle.trace_replay.specs.Turns.{AreSides, AreTold, Score, chunks_of};
+ghost use Rattle.trace_turns.specs.declared.course.Course.TheVariants.{Goes as IsGoing};
+ghost use Rattle.trace_turns.specs.Answering.{SameBuffers};
+ghost use Rattle.trace_turns.specs.Turns.{base_at, AreSides, AreTold, Score, chunks_of};
+ghost use Rattle.trace_turns.specs.Orders.{AreTurns, no_chunks, no_ticks};
+ghost use Rattle.trace_records.specs.Passes.{IsFormed};
+ghost use Rattle.trace_replay.specs.Replaying.{AreNewRests, ArePlaying, HasPlayed, HasSinkFailed, IsBrokenOff, IsNewRest, IsReplaying, MayPlay, MayReplay, Tale, score_over, tale_at, progress};
+ghost use Rattle.trace_replay.specs.Replays.{HasReplayedTo};
+ghost use Rattle.trace_records.specs.Traces.{IsRecordOf, text_of};
+ghost use Rattle.trace_turns.specs.Thin.{AreKept};
 
-use crate::course::{Course, TurnMade};
-use crate::station::{Sides, Station};
-use crate::taps::{ToldTaps, let_go_run, mark_run, resume_run};
-use crate::told::{Mark, NO_MARK};
 use buffer_ends::End;
 use clock_ticks::{ClockEngine, TickFault};
 use liq_base::{Memory, Sink};
 use std::alloc::Global;
 use trace_log::Trace;
+use trace_turns::{
+    Course, Mark, NO_MARK, Sides, Station, ToldTaps, TurnMade, let_go_run, mark_run, resume_run,
+};
 
 /// Where an engine rests between two turns of its clock: how many ticks it has made, and how far its calls came on each
 /// buffer.
@@ -76,21 +74,21 @@ fn replay_turn<O: Sink>(
 ) -> Result<(), TickFault>
     requires few { ticks ≤ 1000000000 }
     requires play { (tale : Tale) × (first : Engine O)
-        × MayPlay O.told tale sides.now engine.old.parts.clock rest.old.made ticks first engine.old rest.old.marks.items
-        taps.old.buffers.items }
+        × MayPlay O.told tale sides.now engine.old.parts.clock rest.old.made ticks
+        (progress first engine.old rest.old.marks.items) taps.old.buffers.items }
     ensures done { OnOk result ((tale : Tale) (first : Engine O)
-        (may : MayPlay O.told tale sides.now engine.old.parts.clock rest.old.made ticks first engine.old
-        rest.old.marks.items taps.old.buffers.items)
-        → HasPlayed O.told tale sides.now engine.old.parts.clock ticks first engine.new rest.new.marks.items may.full
-        taps.old.buffers.items taps.new.buffers.items may.next) }
+        (may : MayPlay O.told tale sides.now engine.old.parts.clock rest.old.made ticks
+        (progress first engine.old rest.old.marks.items) taps.old.buffers.items)
+        → HasPlayed O.told tale sides.now engine.old.parts.clock ticks (progress first engine.new rest.new.marks.items)
+        may.full taps.old.buffers.items taps.new.buffers.items may.next) }
     ensures made { OnOk result (rest.new.made ≡ ticks) }
     ensures part { OnErr result ((tale : Tale) (first : Engine O)
-        (may : MayPlay O.told tale sides.now engine.old.parts.clock rest.old.made ticks first engine.old
-        rest.old.marks.items taps.old.buffers.items)
+        (may : MayPlay O.told tale sides.now engine.old.parts.clock rest.old.made ticks
+        (progress first engine.old rest.old.marks.items) taps.old.buffers.items)
         → IsBrokenOff O.told (score_over tale may.full) tale.ticks engine.old.parts.clock ticks first engine.new) }
     ensures cause { IfErr result (λ fault. (tale : Tale) (first : Engine O) (sink : ℕ)
-        → MayPlay O.told tale sides.now engine.old.parts.clock rest.old.made ticks first engine.old rest.old.marks.items
-        taps.old.buffers.items
+        → MayPlay O.told tale sides.now engine.old.parts.clock rest.old.made ticks
+        (progress first engine.old rest.old.marks.items) taps.old.buffers.items
         → fault ≡ TickWrite sink → HasSinkFailed O.told sink first engine.new) }
 {
     resume_run(

@@ -10,11 +10,10 @@ ghost use Rattle.run_records.specs.Ordered.{IsOrdered};
 ghost use Rattle.run_records.specs.Records.{AreWindows, Run, setting_in};
 ghost use Rattle.buffer_ends.specs.Local.{Answers};
 ghost use Rattle.buffer_sides.specs.Logs.{told};
-ghost use Rattle.trace_replay.specs.Listings.{LeadOnward};
-ghost use Rattle.trace_replay.specs.Replays.{IsRecordOf};
+ghost use Rattle.trace_records.specs.Listings.{LeadOnward};
+ghost use Rattle.trace_records.specs.Traces.{IsRecordOf, IsAccepted, trace_of};
 ghost use Rattle.trace_log.specs.Values.{TraceValue};
-ghost use Rattle.trace_replay.specs.Told.{is_legal};
-ghost use Rattle.trace_replay.specs.Traces.{IsAccepted, trace_of};
+ghost use Rattle.trace_records.specs.Told.{is_legal};
 
 /// A window whose answers are those of a legal one is legal with any chunks that come out in the order in which they
 /// went in.

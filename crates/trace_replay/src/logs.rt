@@ -1,13 +1,13 @@
 // The answers of a trace, as a run tells them.
 ghost use Rattle.std.specs.Prelude.{◌≡◌, not, count_by, length, map, IfOk};
 ghost use Rattle.buffer_ends.specs.declared.run_end.End.TheVariants.{Done as IsDone};
-ghost use Rattle.trace_replay.specs.Traces.{counts_in};
+ghost use Rattle.trace_replay.specs.Replays.{counts_in};
 ghost use Rattle.buffer_ends.specs.Local.{yes};
 
-use crate::flat::flatten;
 use buffer_ends::{BufferLog, Counts, End, RunEnd, WindowLog};
 use liq_base::Memory;
 use std::alloc::Global;
+use trace_turns::flatten;
 
 // The same answers again.
 fn copy_window(alloc: Global, window: &WindowLog) -> Result<WindowLog, Memory>

@@ -5,19 +5,13 @@ ghost use Rattle.buffer_ends.specs.declared.run_end.End.TheVariants.{Done, Memor
 ghost use Rattle.stream_meaning.specs.Settings.{IsSetting};
 ghost use Rattle.rounds_run.specs.Rounds.{AreEngines};
 ghost use Rattle.trace_log.specs.Texts.{IsTrace};
-ghost use Rattle.trace_replay.specs.Chunks.{AreAllChunks};
-ghost use Rattle.trace_replay.specs.Replays.{HasReplayedAll, HasReplayedSome};
-ghost use Rattle.trace_replay.specs.Traces.{IsAccepted, counts_in};
-ghost use Rattle.trace_replay.specs.Turns.{base_of};
+ghost use Rattle.trace_replay.specs.RecordTurns.{AreAllTurns};
+ghost use Rattle.trace_replay.specs.Replays.{HasReplayedAll, HasReplayedSome, counts_in};
+ghost use Rattle.trace_records.specs.Traces.{IsAccepted, base_of};
 
-use crate::accept::judge;
-use crate::buffers::{sides_of, told_buffers};
-use crate::course::{Course, TurnMade};
 use crate::engines::replay_engines;
 use crate::logs::told_run;
 use crate::parts::logs_of;
-use crate::station::{Sides, Station};
-use crate::taps::ToldTaps;
 use buffer_ends::{BufferLog, End, RunEnd};
 use clock_infer::ClockMap;
 use clock_ticks::ClockEngine;
@@ -28,35 +22,36 @@ use plan_core::Plan;
 use std::alloc::Global;
 use std::marker::Model;
 use trace_log::Trace;
+use trace_turns::{Course, Sides, Station, ToldTaps, TurnMade, judge, sides_of, told_buffers};
 
-/// The way to all the chunks of the record that an accepted trace tells: the turns of its clocks, in each of which a
-/// clock makes some ticks with the chunks that the turns before it put. `docs/buffers.md`, "A record from its text",
-/// says what they take of memory.
+/// The turns in which the clocks make the record that an accepted trace tells: in each of them a clock makes some ticks
+/// with the chunks that the turns before it put. `docs/buffers.md`, "A record from its text", says what they take of
+/// memory.
 #[derive(Drop)]
-pub struct RecordChunks {
+pub struct RecordTurns {
     taps: ToldTaps,
     sides: Sides,
     turns: Vec<TurnMade>,
 }
 
-impl Model for RecordChunks {
-    ghost use Rattle.trace_replay.specs.Chunks.{HeldChunks, held_coded};
+impl Model for RecordTurns {
+    ghost use Rattle.trace_replay.specs.RecordTurns.{HeldTurns, held_coded};
 
-    ghost Value = { HeldChunks };
+    ghost Value = { HeldTurns };
 
     ghost coded = { held_coded };
 
-    ghost view = { λ chunks. record {
-      buffers = chunks.taps.buffers.items;
-      feeders = chunks.sides.feeders.items;
-      readers = chunks.sides.readers.items;
-      turns = chunks.turns.items;
+    ghost view = { λ t. record {
+      buffers = t.taps.buffers.items;
+      feeders = t.sides.feeders.items;
+      readers = t.sides.readers.items;
+      turns = t.turns.items;
     } };
 }
 
-/// The way to all the chunks of the record that a trace tells, where the trace, which was read, is that of a lawful
-/// record of so many ticks of a plan, with its clocks, its files and its start second, whose ticks can be ordered; and
-/// nothing where it is not. Only want of memory comes in place of an answer.
+/// The turns in which the clocks make the record that a trace tells, where the trace, which was read, is that of a
+/// lawful record of so many ticks of a plan, with its clocks, its files and its start second, whose ticks can be
+/// ordered; and nothing where it is not. Only want of memory comes in place of an answer.
 pub fn find_record(
     alloc: Global,
     plan: &Plan,
@@ -65,15 +60,15 @@ pub fn find_record(
     start: WeekSecond,
     ticks: u64,
     trace: &Trace,
-) -> Result<Option<RecordChunks>, Memory>
+) -> Result<Option<RecordTurns>, Memory>
     requires setting { IsSetting (base_of plan.now library.now clocks.now start.second) clocks.now }
     requires trace { IsTrace trace.now }
     ensures yes { IfOk result
-        (λ found. ForSome found (λ chunks. IsAccepted (base_of plan.now library.now clocks.now start.second)
+        (λ found. ForSome found (λ turns. IsAccepted (base_of plan.now library.now clocks.now start.second)
         clocks.now.running ticks trace.now)) }
-    ensures chunks { IfOk result
-        (λ found. ForSome found (λ chunks. AreAllChunks (base_of plan.now library.now clocks.now start.second)
-        clocks.now trace.now chunks)) }
+    ensures turns { IfOk result
+        (λ found. ForSome found (λ turns. AreAllTurns (base_of plan.now library.now clocks.now start.second)
+        clocks.now trace.now turns)) }
     ensures no { IfOk result (λ found. found ≡ None
         → IsAccepted (base_of plan.now library.now clocks.now start.second) clocks.now.running ticks trace.now → ⊥) }
 {
@@ -108,7 +103,7 @@ pub fn find_record(
     if !fits {
         return Ok(None);
     }
-    Ok(Some(RecordChunks { taps, sides, turns }))
+    Ok(Some(RecordTurns { taps, sides, turns }))
 }
 
 // The answers of a whole run, or want of memory.
@@ -136,7 +131,7 @@ fn ended(alloc: Global, end: End) -> RunEnd
 
 /// Renders the ticks of an accepted trace again, on one thread: each output gets the bytes of the record that the trace
 /// tells. The engines stand in clock order, one for each clock that runs, made no tick, and are over this plan, with
-/// these clocks, files and start second; the chunks are those of this trace. Done answers the trace's logs and their
+/// these clocks, files and start second; the turns are those of this trace. Done answers the trace's logs and their
 /// numbers. The first fault ends the run: each engine has made some of its ticks then.
 pub fn replay<O: Sink>(
     alloc: Global,
@@ -146,7 +141,7 @@ pub fn replay<O: Sink>(
     start: WeekSecond,
     engines: &mut [ClockEngine<'_, O>],
     trace: &Trace,
-    chunks: RecordChunks,
+    turns: RecordTurns,
 ) -> RunEnd
     requires setting { IsSetting (base_of plan.now library.now clocks.now start.second) clocks.now }
     requires trace { IsTrace trace.now }
@@ -155,7 +150,7 @@ pub fn replay<O: Sink>(
     requires engines { AreEngines O.told trace.now.ticks (base_of plan.now library.now clocks.now start.second)
         engines.old }
     requires all { length engines.old ≡ clocks.now.running }
-    requires chunks { AreAllChunks (base_of plan.now library.now clocks.now start.second) clocks.now trace.now chunks }
+    requires turns { AreAllTurns (base_of plan.now library.now clocks.now start.second) clocks.now trace.now turns }
     ensures done { result.end ≡ Done
         → HasReplayedAll O.told (base_of plan.now library.now clocks.now start.second) clocks.now.running trace.now
         engines.old engines.new result.counts.items result.logs.items }
@@ -169,11 +164,11 @@ pub fn replay<O: Sink>(
         start,
     };
     let logs = logs_of(trace);
-    let RecordChunks {
+    let RecordTurns {
         mut taps,
         sides,
         turns,
-    } = chunks;
+    } = turns;
     match replay_engines(alloc, &station, engines, &mut taps, &sides, &turns, trace) {
         Ok(()) => told_or_ended(alloc, logs),
         Err(end) => ended(alloc, end),

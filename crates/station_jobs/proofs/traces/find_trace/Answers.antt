@@ -1,7 +1,7 @@
 use Rattle.std.proofs.Common.{◌≡◌, None, rules}
 use Rattle.std.proofs.lemmas.Result.{err_from_is_err_and}
 use Rattle.refusal_lines.specs.declared.replay_lines.ReplayFault.TheVariants.{DoesNotFit}
-use Rattle.trace_replay.specs.Turns.{base_of}
+use Rattle.trace_records.specs.Traces.{base_of}
 use Rattle.station_jobs.proofs.Untold.{ends_told, trace_ends_as}
 use Rattle.station_jobs.proofs.traces.find_trace.Goals as goal
 

@@ -1,7 +1,7 @@
 use Rattle.std.proofs.Common.{◌≡◌, ◌∙◌, length, ap, subst, sym, vec_len}
 use Rattle.clock_infer.proofs.Merging.{written_back}
 use Rattle.rounds_run.specs.Rounds.{AreEngines}
-use Rattle.trace_replay.specs.Traces.{IsAccepted}
+use Rattle.trace_records.specs.Traces.{IsAccepted}
 use Rattle.station_render.specs.Runs.{setting_by}
 use Rattle.station_render.proofs.Gathering.{replay_all, replay_some}
 use Rattle.station_render.proofs.Returning.{is_setting}

@@ -1,5 +1,5 @@
 use Rattle.std.proofs.Common.{◌≡◌, ◌∙◌, ◌+◌, suc, length, sym, ap, subst, arith}
-use Rattle.trace_replay.specs.Answering.{same_buffers_refl, same_buffers_trans}
+use Rattle.trace_turns.specs.Answering.{same_buffers_refl, same_buffers_trans}
 use Rattle.trace_replay.specs.Replaying.{IsReplaying}
 use Rattle.trace_replay.proofs.Rendering.{replay_breaks, replay_goes_on, room_now, sink_failed, still_goes}
 use Rattle.std.proofs.lemmas.Result.{err_from_is_err_and}

@@ -1,9 +1,9 @@
 use Rattle.std.proofs.Common.{◌≡◌, ◌≤◌, ℕ}
 use Rattle.clock_ticks.specs.declared.engine.ClockEngine.{ClockEngine}
-use Rattle.trace_replay.specs.declared.course.Course.TheVariants.{Goes}
-use Rattle.trace_replay.specs.Answering.{SameBuffers}
+use Rattle.trace_turns.specs.declared.course.Course.TheVariants.{Goes}
+use Rattle.trace_turns.specs.Answering.{SameBuffers}
 use Rattle.trace_replay.specs.Replaying.{IsReplaying, MayReplay}
-use Rattle.trace_replay.specs.Turns.{Score}
+use Rattle.trace_turns.specs.Turns.{Score}
 use Rattle.trace_replay.proofs.engines.replay_clock.Given as goal
 
 abbrev pub invariant-loop-tick : goal.invariant-loop-tick

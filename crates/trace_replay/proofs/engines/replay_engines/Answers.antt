@@ -2,7 +2,7 @@ use Rattle.std.proofs.Common.{rules, List, length, refl, sym, subst}
 use Rattle.run_records.specs.Records.{setting_in}
 use Rattle.buffer_ends.specs.declared.run_end.End.TheVariants.{Memory as NoMemory}
 use Rattle.trace_replay.specs.declared.engines.Rest.{Rest}
-use Rattle.trace_replay.specs.Finds.{base_at}
+use Rattle.trace_turns.specs.Turns.{base_at}
 use Rattle.trace_replay.specs.Replaying.{AreNewRests, ArePlaying, tale_at}
 use Rattle.trace_replay.proofs.Lasting.{none_made}
 use Rattle.trace_replay.proofs.Proceeding.{begin_playing}

@@ -1,9 +1,9 @@
 use Rattle.std.proofs.Common.{◌∙◌, ℕ, List, length, ap, subst, sym}
 use Rattle.std.proofs.lemmas.Result.{err_from_is_err_and}
 use Rattle.node_states.proofs.Chunks.{on_err}
-use Rattle.trace_replay.specs.declared.told.Mark.{Mark}
-use Rattle.trace_replay.specs.Answering.{BufferState}
-use Rattle.trace_replay.specs.Marks.{AreWithin, HaveMarked}
+use Rattle.trace_turns.specs.declared.told.Mark.{Mark}
+use Rattle.trace_turns.specs.Answering.{BufferState}
+use Rattle.trace_turns.specs.Marks.{AreWithin, HaveMarked}
 use Rattle.trace_replay.specs.Replaying.{score_over}
 use Rattle.trace_replay.proofs.Playback.{feeders_long, has_played, marks_fit, marks_low, may_replay, readers_long}
 use Rattle.trace_replay.proofs.engines.replay_turn.Goals as goal

@@ -3,16 +3,15 @@ use Rattle.std.proofs.lemmas.Option.{slice_get-get_or as read}
 use Rattle.std.proofs.lemmas.List.{drop_all}
 use Rattle.clock_infer.proofs.Exact.{some_inj}
 use Rattle.run_records.specs.Records.{setting_in}
-use Rattle.trace_replay.specs.declared.course.TurnMade.{TurnMade}
+use Rattle.trace_turns.specs.declared.course.TurnMade.{TurnMade}
 use Rattle.rounds_run.specs.Rounds.{HasRunPart}
-use Rattle.trace_replay.specs.Finds.{base_at}
-use Rattle.trace_replay.specs.Orders.{AreTurns}
+use Rattle.trace_turns.specs.Turns.{base_at, chunks_of}
+use Rattle.trace_turns.specs.Orders.{AreTurns}
 use Rattle.trace_replay.specs.Replaying.{ArePlaying, tale_at}
-use Rattle.trace_replay.specs.Traces.{text_of}
-use Rattle.trace_replay.specs.Turns.{chunks_of}
+use Rattle.trace_records.specs.Traces.{text_of}
 use Rattle.trace_replay.proofs.Lasting.{changed_set, one_broke, write_end}
 use Rattle.trace_replay.proofs.Proceeding.{all_played, at_hand, broken_low, broken_tick, may_play, part_broken, part_now, plays_on, there}
-use Rattle.trace_replay.proofs.Retelling.{told_by}
+use Rattle.trace_records.proofs.Retelling.{told_by}
 use Rattle.trace_replay.proofs.engines.replay_turns.Goals as goal
 
 pub replay_turn-requires-clause-few : goal.replay_turn-requires-clause-few

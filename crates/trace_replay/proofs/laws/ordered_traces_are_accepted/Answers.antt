@@ -1,4 +1,4 @@
-use Rattle.trace_replay.proofs.Tracing.{ordered_accepted}
+use Rattle.trace_records.proofs.Tracing.{ordered_accepted}
 use Rattle.trace_replay.proofs.laws.ordered_traces_are_accepted.Goals as goal
 
 pub returns : goal.returns

@@ -1,6 +1,6 @@
 use Rattle.std.proofs.Common.{◌+◌, length, is_some, map, arith}
-use Rattle.trace_replay.proofs.Deciding.{test_fits}
-use Rattle.trace_replay.proofs.Fitting.{fits_legal}
+use Rattle.trace_records.proofs.Deciding.{test_fits}
+use Rattle.trace_records.proofs.Fitting.{fits_legal}
 use Rattle.trace_replay.proofs.laws.told_windows_are_legal.Goals as goal
 
 pub returns : goal.returns

@@ -1,13 +1,14 @@
 use Rattle.std.proofs.Common.{◌≡◌, ◌∙◌, ℕ, List, [], length, refl, rules, sym, subst}
 use Rattle.plan_core.specs.declared.sink.BufferPlan.{BufferPlan}
 use Rattle.buffer_ends.specs.Local.{Answers}
-use Rattle.trace_replay.specs.declared.ends.Ends.{Ends}
+use Rattle.trace_turns.specs.declared.ends.Ends.{Ends}
 use Rattle.clock_infer.proofs.Exact.{some_inj}
-use Rattle.trace_replay.specs.Chunks.{AreAllChunks}
-use Rattle.trace_replay.specs.Orders.{AreTurns, no_chunks, no_ticks}
-use Rattle.trace_replay.specs.Thin.{AreKept}
-use Rattle.trace_replay.specs.Traces.{AreNew, text_of}
-use Rattle.trace_replay.specs.Turns.{AreSides, AreTold, base_of, chunks_of}
+use Rattle.trace_replay.specs.RecordTurns.{AreAllTurns}
+use Rattle.trace_turns.specs.Orders.{AreTurns, no_chunks, no_ticks}
+use Rattle.trace_turns.specs.Thin.{AreKept}
+use Rattle.trace_turns.specs.Logs.{AreNew}
+use Rattle.trace_records.specs.Traces.{text_of, base_of}
+use Rattle.trace_turns.specs.Turns.{AreSides, AreTold, chunks_of}
 use Rattle.trace_replay.proofs.whole.find_record.Goals as goal
 
 pub judge-requires-clause-new : goal.judge-requires-clause-new
@@ -16,8 +17,8 @@ judge-requires-clause-new c =
     (subst (λ (l : List (List Answers)). AreNew c.args.plan.now.buffers l (length c.args.plan.now.buffers) c.in_ok-buffers.buffers.items c.in_ok-buffers.ends.items) (c.deref.ensures.value ∙ sym c.deref-3.ensures.value)
     (subst (λ (l : List BufferPlan). AreNew l c.deref.result.now (length l) c.in_ok-buffers.buffers.items c.in_ok-buffers.ends.items) c.as_slice.ensures c.in_ok-buffers.ensures.new))
 
-pub returns-clause-chunks : goal.returns-clause-chunks
-returns-clause-chunks c = λ held e.
+pub returns-clause-turns : goal.returns-clause-turns
+returns-clause-turns c = λ held e.
     let base = base_of c.args.plan.now c.args.library.now c.args.clocks.now c.args.start.second in
     let trace = c.args.trace.now in
     let told : AreTold base (text_of trace.buffers) c.judge.new.taps.buffers.items = search rules in
@@ -25,4 +26,4 @@ returns-clause-chunks c = λ held e.
     let empty : (b : ℕ) → chunks_of c.judge.new.taps.buffers.items b ≡ [] = search rules in
     let kept : AreKept c.judge.new.taps.buffers.items = search rules in
     let sides : AreSides base c.in_ok-sides.sides.feeders.items c.in_ok-sides.sides.readers.items = c.in_ok-sides.ensures base refl refl in
-    subst (AreAllChunks base c.args.clocks.now trace) (some_inj e) (record { told = told; sides = sides; empty = empty; kept = kept; turns = turns })
+    subst (AreAllTurns base c.args.clocks.now trace) (some_inj e) (record { told = told; sides = sides; empty = empty; kept = kept; turns = turns })

@@ -1,10 +1,11 @@
 use Rattle.std.proofs.Common.{◌∙◌, map, ap, sym}
 use Rattle.run_records.specs.Records.{setting_in}
-use Rattle.trace_replay.specs.Traces.{counts_in, text_of}
-use Rattle.trace_replay.specs.Turns.{base_of}
+use Rattle.trace_replay.specs.Replays.{counts_in}
+use Rattle.trace_records.specs.Traces.{text_of, base_of}
 use Rattle.trace_replay.proofs.Lasting.{all_to, ended_so}
-use Rattle.trace_replay.proofs.Retelling.{counts_told, logs_told, record_of}
-use Rattle.trace_replay.proofs.Completing.{record_formed}
+use Rattle.trace_replay.proofs.Counting.{counts_told, logs_told}
+use Rattle.trace_records.proofs.Retelling.{record_of}
+use Rattle.trace_records.proofs.Completing.{record_formed}
 use Rattle.trace_replay.proofs.whole.replay.Goals as goal
 
 pub replay_engines-requires-clause-formed : goal.replay_engines-requires-clause-formed

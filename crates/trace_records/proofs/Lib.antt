@@ -1,0 +1,14 @@
+pub mod Fitting
+pub mod Deciding
+pub mod Fronts
+pub mod Alike
+pub mod Recorded
+pub mod Passing
+pub mod Ticking
+pub mod Turning
+pub mod Histories
+pub mod Listed
+pub mod Completing
+pub mod Leading
+pub mod Tracing
+pub mod Retelling

@@ -1,0 +1,5 @@
+pub mod Told
+pub mod Clocks
+pub mod Passes
+pub mod Traces
+pub mod Listings

@@ -1,0 +1,149 @@
+// Which windows of a buffer are legal, told by their answers alone.
+ghost use Rattle.std.specs.Prelude.{◌≡◌, ◌≤◌, ◌<◌, ◌+◌, ◌^◌, ◌↔◌, ◌-◌, true, false, drop, length, map, List, ℕ, IfSome, IsNone};
+ghost use Rattle.std.specs.List.{list_all};
+ghost use Rattle.trace_records.specs.Traces.{pair_of};
+ghost use Rattle.trace_records.specs.Told.{IsToldLegal, are_legal, begins_true, is_legal, passed, refusals_fit, yes};
+
+use buffer_ends::WindowLog;
+
+/// Whether some window of a buffer of so many chunks, which opens with so many, is legal and has these answers: of its
+/// puts, true for a chunk that was accepted, and of its takes, true for a chunk that was got. It takes a time that is
+/// linear in their number.
+pub fn is_legal(capacity: u32, opening: u32, puts: &[bool], takes: &[bool]) -> bool
+    requires some { 1 ≤ capacity }
+    requires fits { opening ≤ capacity }
+    ensures legal { (result ≡ true) ↔ IsToldLegal (List ℕ) capacity opening puts.now takes.now }
+    ensures test { result ≡ is_legal capacity opening puts.now takes.now }
+{
+    passes(capacity, opening, puts, takes)
+}
+
+/// How many chunks a window leaves that opens with so many, where it is legal.
+pub fn next_opening(capacity: u32, opening: u32, puts: &[bool], takes: &[bool]) -> Option<u32>
+    requires some { 1 ≤ capacity }
+    requires fits { opening ≤ capacity }
+    ensures legal { IfSome result (λ left. (is_legal capacity opening puts.now takes.now ≡ true)
+        × (left ≡ (opening + yes puts.now) - yes takes.now) × (left ≤ capacity)) }
+    ensures none { IsNone result → is_legal capacity opening puts.now takes.now ≡ false }
+{
+    if !passes(capacity, opening, puts, takes) {
+        return None;
+    }
+    let held = opening as u64 + count_true(puts);
+    Some((held - count_true(takes)) as u32)
+}
+
+/// Whether windows one after another, from none on, are legal, by their answers alone.
+pub fn are_legal(capacity: u32, windows: &[WindowLog]) -> bool
+    requires some { 1 ≤ capacity }
+    ensures { result ≡ are_legal capacity 0 (map pair_of windows.now) }
+{
+    let mut opening = 0;
+    for window in windows {
+        match next_opening(capacity, opening, &window.puts, &window.takes) {
+            Some(left) => opening = left,
+            None => return false,
+        }
+    }
+    true
+}
+
+// The same, by the test.
+fn passes(capacity: u32, opening: u32, puts: &[bool], takes: &[bool]) -> bool
+    ensures { result ≡ is_legal capacity opening puts.now takes.now }
+{
+    let accepted = opening as u64 + count_true(puts);
+    let got = count_true(takes);
+    got <= accepted
+        && accepted <= capacity as u64 + got
+        && begins_true(opening, takes)
+        && refusals_fit(capacity, opening, puts, takes)
+}
+
+// How many answers are true.
+fn count_true(answers: &[bool]) -> u64
+    ensures count { result ≡ yes answers.now }
+    ensures most { result ≤ length answers.now }
+{
+    let mut count = 0;
+    for answer in answers {
+        if *answer {
+            count += 1;
+        }
+    }
+    count
+}
+
+// Whether the first so many answers are true, as far as there are so many.
+fn begins_true(count: u32, answers: &[bool]) -> bool
+    ensures { result ≡ begins_true count answers.now }
+{
+    let most = answers.len().min(count as usize);
+    all_true(&answers[..most])
+}
+
+// Whether all answers are true.
+fn all_true(answers: &[bool]) -> bool
+    ensures { result ≡ list_all (λ answer. answer) answers.now }
+{
+    answers.iter().all(|answer| *answer)
+}
+
+// Where one stands among the takes of a window.
+#[derive(Clone, Copy)]
+struct Place {
+    // How many of them come before.
+    at: usize,
+    // How many of these got a chunk.
+    got: u64,
+    // How many chunks a refused put must have before it.
+    floor: u64,
+}
+
+// Whether each refused put has enough chunks before it.
+fn refusals_fit(capacity: u32, opening: u32, puts: &[bool], takes: &[bool]) -> bool
+    ensures { result ≡ refusals_fit capacity opening 0 capacity puts.now takes.now }
+{
+    let mut count = opening as u64;
+    let mut place = Place {
+        at: 0,
+        got: 0,
+        floor: capacity as u64,
+    };
+    for put in puts {
+        if *put {
+            count += 1;
+            continue;
+        }
+        place = pass(capacity, count, place, takes);
+        if count < place.floor {
+            return false;
+        }
+    }
+    true
+}
+
+// Goes on to the first empty take that has as many chunks before it as are given.
+fn pass(capacity: u32, count: u64, from: Place, takes: &[bool]) -> Place
+    requires at { from.at ≤ length takes.now }
+    requires got { from.got ≤ from.at }
+    ensures at { result.at ≤ length takes.now }
+    ensures got { result.got ≤ result.at }
+    ensures floor { result.floor ≡ (passed capacity count from.got from.floor (drop from.at takes.now)).floor }
+    ensures count { result.got ≡ (passed capacity count from.got from.floor (drop from.at takes.now)).got }
+    ensures left { drop result.at takes.now
+        ≡ (passed capacity count from.got from.floor (drop from.at takes.now)).left }
+{
+    let mut place = from;
+    while place.at < takes.len() {
+        if takes[place.at] {
+            place.got += 1;
+        } else if place.got < count {
+            place.floor = place.got + capacity as u64;
+        } else {
+            break;
+        }
+        place.at += 1;
+    }
+    place
+}

@@ -1,0 +1,48 @@
+-- All turns in which clocks make the record that a trace tells.
+use Rattle.std.specs.Prelude.{◌≡◌, ℕ, List, [], refl}
+use Rattle.std.specs.Coded.{Coded, code_by, coded×, coded_ℕ, coded_list}
+use Rattle.clock_infer.specs.declared.clock_map.ClockMap.{ClockMap}
+use Rattle.stream_meaning.specs.Instants.{Setting}
+use Rattle.trace_log.specs.Values.{TraceValue}
+use Rattle.trace_turns.specs.declared.course.TurnMade.{TurnMade}
+use Rattle.trace_turns.specs.Answering.{BufferState, state_coded}
+use Rattle.trace_turns.specs.Orders.{AreTurns, no_chunks, no_ticks}
+use Rattle.trace_turns.specs.Thin.{AreKept}
+use Rattle.trace_records.specs.Traces.{text_of}
+use Rattle.trace_turns.specs.Turns.{AreSides, AreTold, chunks_of}
+
+-- the buffers of a plan; by a buffer's number, the main clocks of its feed and of its reader; and the turns of the
+-- clocks
+pub record HeldTurns : Type 0 where
+  pub buffers : List BufferState
+  pub feeders : List ℕ
+  pub readers : List ℕ
+  pub turns : List TurnMade
+
+abbrev pub turn_coded : Coded TurnMade
+turn_coded = code_by (ℕ × ℕ) (coded× coded_ℕ coded_ℕ) (λ turn. (turn.clock, turn.ticks)) (λ p. record {
+  clock = p.0;
+  ticks = p.1;
+}) (λ _. refl)
+
+abbrev pub held_coded : Coded HeldTurns
+held_coded = code_by (List BufferState
+    × (List ℕ × (List ℕ × List TurnMade)))
+    (coded× (coded_list state_coded)
+    (coded× (coded_list coded_ℕ) (coded× (coded_list coded_ℕ) (coded_list turn_coded))))
+    (λ held. (held.buffers, (held.feeders, (held.readers, held.turns)))) (λ p. record {
+      buffers = p.0;
+      feeders = p.1.0;
+      readers = p.1.1.0;
+      turns = p.1.1.1;
+    }) (λ _. refl)
+
+-- The buffers tell the answers of a trace, and are empty. In these turns the clocks make all their ticks as these
+-- answers tell, each with the chunks that the turns before it put.
+pub record AreAllTurns (base : Setting) (clocks : ClockMap) (trace : TraceValue) (held : HeldTurns) : Type 0 where
+  pub told : AreTold base (text_of trace.buffers) held.buffers
+  pub sides : AreSides base held.feeders held.readers
+  pub empty : (b : ℕ) → chunks_of held.buffers b ≡ []
+  pub kept : AreKept held.buffers
+  pub turns : AreTurns base clocks.running trace.window trace.ticks (text_of trace.buffers) held.turns no_ticks
+      no_chunks

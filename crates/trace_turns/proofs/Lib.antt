@@ -1,0 +1,17 @@
+pub mod Standing
+pub mod Letting
+pub mod Thinning
+pub mod Searching
+pub mod Ordering
+pub mod Tapping
+pub mod Turned
+pub mod Playing
+pub mod Beginning
+pub mod Readying
+pub mod Unbuffered
+pub mod Resuming
+pub mod Finding
+pub mod Flowing
+pub mod Living
+pub mod Joining
+pub mod Accepting

@@ -1,0 +1,253 @@
+-- Buffers that answer as a text tells, and what they stand for.
+use Rattle.std.specs.Prelude.{◌≡◌, ◌<◌, ◌≤◌, ◌+◌, ◌&&◌, ℕ, zero, suc, Bool, true, false, Some, None, List, [], ◌∷◌, ◌++◌, length, drop, map, take, is_some, slice_get, slice_index_or, refl}
+use Rattle.std.specs.Coded.{Coded, code_by, coded×, coded_ℕ, coded_bool, coded_list}
+use Rattle.frame_core.specs.Coded.{cell_coded}
+use Rattle.frame_core.specs.declared.cell.Cell.{Cell}
+use Rattle.frame_core.specs.Frames.{somes}
+use Rattle.frame_core.specs.Calls.{Call, Took, takes_of, puts_to}
+use Rattle.run_records.specs.Parting.{IsSameCall}
+use Rattle.std.proofs.Common.{◌∙◌, ap, sym, append_assoc, append-nil, arith}
+use Rattle.trace_turns.specs.declared.told.Taken.{Taken}
+use Rattle.trace_turns.specs.declared.told.Taken.TheVariants.{Chunk as GotChunk, Empty as IsEmpty, Waits as MustWait, Lost as IsLost, Never as NoTake}
+use Rattle.trace_turns.specs.declared.told.Put.{Put}
+use Rattle.trace_turns.specs.declared.told.Put.TheVariants.{Accepted as IsAccepted, Full as IsFull, Never as NoPut}
+use Rattle.trace_turns.specs.declared.course.Course.{Course}
+use Rattle.trace_turns.specs.declared.course.Course.TheVariants.{Goes, Waits, Fails}
+use Rattle.trace_records.specs.Clocks.{IsFront, Suits, buffer_of, got_in}
+
+-- lists without a cell
+abbrev pub blanks : ℕ → List (List Cell)
+blanks zero = []
+blanks (suc n) = [] ∷ blanks n
+
+-- A buffer in the run of one clock: what is told of it, how many of the answers came in this run, how many chunks were
+-- got of it, the chunks that were put so far, and how many of them were there when the run began. So many of the first
+-- chunks were let go, and lists without a cell stand in their places.
+pub record BufferState : Type 0 where
+  pub capacity : ℕ
+  pub puts : List Bool
+  pub takes : List Bool
+  pub fed : Bool
+  pub read : Bool
+  pub put_at : ℕ
+  pub take_at : ℕ
+  pub got : ℕ
+  pub opened : ℕ
+  pub chunks : List (List Cell)
+  pub gone : ℕ
+
+abbrev pub state_coded : Coded BufferState
+state_coded = code_by (ℕ × (List Bool × (List Bool × (Bool × (Bool × (ℕ × (ℕ × (ℕ × (ℕ × (List (List Cell) × ℕ))))))))))
+    (coded× coded_ℕ (coded× (coded_list coded_bool)
+    (coded× (coded_list coded_bool)
+    (coded× coded_bool (coded× coded_bool
+    (coded× coded_ℕ (coded× coded_ℕ
+    (coded× coded_ℕ (coded× coded_ℕ (coded× (coded_list (coded_list cell_coded)) coded_ℕ))))))))))
+    (λ s. (
+      s.capacity,
+      (
+        s.puts,
+        (s.takes, (s.fed, (s.read, (s.put_at, (s.take_at, (s.got, (s.opened, (s.chunks, s.gone)))))))),
+      ),
+    ))
+    (λ p. record {
+      capacity = p.0;
+      puts = p.1.0;
+      takes = p.1.1.0;
+      fed = p.1.1.1.0;
+      read = p.1.1.1.1.0;
+      put_at = p.1.1.1.1.1.0;
+      take_at = p.1.1.1.1.1.1.0;
+      got = p.1.1.1.1.1.1.1.0;
+      opened = p.1.1.1.1.1.1.1.1.0;
+      chunks = p.1.1.1.1.1.1.1.1.1.0;
+      gone = p.1.1.1.1.1.1.1.1.1.1;
+    }) (λ _. refl)
+
+-- both its ends are the clock's
+abbrev pub is_list : BufferState → Bool
+is_list s = s.fed && s.read
+
+-- of a buffer that is a list: a take gets a chunk where one is left, and none otherwise; a put is accepted where there
+-- is room
+abbrev pub IsRightTake : BufferState → Bool → Type 0
+IsRightTake s true = s.got < length s.chunks
+IsRightTake s false = length s.chunks ≡ s.got
+
+abbrev pub IsRightPut : BufferState → Bool → Type 0
+IsRightPut s true = length s.chunks < s.capacity + s.got
+IsRightPut s false = length s.chunks ≡ s.capacity + s.got
+
+-- the state after a take, by what it met
+abbrev pub TakesOn : BufferState → Taken → BufferState → Type 0
+TakesOn before (GotChunk chunk) after =
+    (slice_get before.takes before.take_at ≡ Some true) × (slice_get before.chunks before.got ≡ Some chunk)
+    × (before.gone ≤ before.got)
+    × (after ≡ record before { take_at = suc before.take_at; got = suc before.got })
+TakesOn before IsEmpty after =
+    (slice_get before.takes before.take_at ≡ Some false) × (is_list before ≡ true → IsRightTake before false)
+    × (after ≡ record before { take_at = suc before.take_at })
+TakesOn before MustWait after =
+    (slice_get before.takes before.take_at ≡ Some true) × (length before.chunks ≤ before.got) × (is_list before ≡ false)
+    × (after ≡ before)
+TakesOn before IsLost after = (before.got < before.gone) × (after ≡ before)
+TakesOn before NoTake after =
+    ((gets : Bool) → slice_get before.takes before.take_at ≡ Some gets
+    → (is_list before ≡ true → IsRightTake before gets) → ⊥) × (after ≡ before)
+
+-- the state after a put of this chunk, by its answer
+abbrev pub PutsOn : BufferState → List Cell → Put → BufferState → Type 0
+PutsOn before chunk IsAccepted after =
+    (slice_get before.puts before.put_at ≡ Some true) × (is_list before ≡ true → IsRightPut before true)
+    × (after ≡ record before { put_at = suc before.put_at; chunks = before.chunks ++ chunk ∷ [] })
+PutsOn before chunk (IsFull back) after =
+    (back ≡ chunk) × (slice_get before.puts before.put_at ≡ Some false)
+    × (is_list before ≡ true → IsRightPut before false)
+    × (after ≡ record before { put_at = suc before.put_at })
+PutsOn before chunk NoPut after =
+    ((accepts : Bool) → slice_get before.puts before.put_at ≡ Some accepts
+    → (is_list before ≡ true → IsRightPut before accepts) → ⊥) × (after ≡ before)
+
+-- A buffer stands for the calls of the run: its answers are the first that are told, the chunks that were got are the
+-- first that were there, and those that came in this run are the ones that were put.
+pub record StandsFor (s : BufferState) (b : ℕ) (calls : List Call) : Type 0 where
+  pub puts : map is_some (puts_to b calls) ≡ take s.put_at s.puts
+  pub put_low : s.put_at ≤ length s.puts
+  pub takes : map is_some (takes_of b calls) ≡ take s.take_at s.takes
+  pub take_low : s.take_at ≤ length s.takes
+  pub got : somes (takes_of b calls) ≡ take s.got s.chunks
+  pub got_low : s.got ≤ length s.chunks
+  pub opened_low : s.opened ≤ length s.chunks
+  pub fed : drop s.opened s.chunks ≡ somes (puts_to b calls)
+  pub list_opens : is_list s ≡ true → s.opened ≡ 0
+  pub in_order : is_list s ≡ true → (front behind : List Call) (call : Call) → calls ≡ front ++ call ∷ behind
+      → buffer_of call ≡ b
+      → Suits s.capacity (somes (puts_to b front)) (got_in b front) call
+
+abbrev pub AllStand : List BufferState → List Call → Type 0
+AllStand states calls = (b : ℕ) (d : BufferState) → b < length states → StandsFor (slice_index_or states b d) b calls
+
+-- this call, with its answer, can come behind these
+pub record CanComeBy (states : List BufferState) (front : List Call) (call : Call) : Type 0 where
+  pub puts : (b : ℕ) (d : BufferState) → b < length states
+      → IsFront (map is_some (puts_to b (front ++ call ∷ []))) (slice_index_or states b d).puts
+  pub takes : (b : ℕ) (d : BufferState) → b < length states
+      → IsFront (map is_some (takes_of b (front ++ call ∷ []))) (slice_index_or states b d).takes
+  pub suits : (d : BufferState) → buffer_of call < length states
+      → is_list (slice_index_or states (buffer_of call) d) ≡ true
+      → Suits (slice_index_or states (buffer_of call) d).capacity (somes (puts_to (buffer_of call) front))
+      (got_in (buffer_of call) front) call
+
+-- the calls up to one that got no right answer, since it waits or since there is none
+pub record HasWaited (states : List BufferState) (calls : List Call) : Type 0 where
+  pub front : List Call
+  pub behind : List Call
+  pub buffer : ℕ
+  pub are : calls ≡ front ++ Took buffer None ∷ behind
+  pub stand : AllStand states front
+  pub known : buffer < length states
+  pub gets : (d : BufferState)
+      → slice_get (slice_index_or states buffer d).takes (slice_index_or states buffer d).take_at ≡ Some true
+  pub missing : (d : BufferState) → length (slice_index_or states buffer d).chunks
+      ≤ (slice_index_or states buffer d).got
+  pub joins : (d : BufferState) → is_list (slice_index_or states buffer d) ≡ false
+
+pub record HasFailed (states : List BufferState) (calls : List Call) : Type 0 where
+  pub front : List Call
+  pub behind : List Call
+  pub call : Call
+  pub are : calls ≡ front ++ call ∷ behind
+  pub stand : AllStand states front
+  pub none : (other : Call) → IsSameCall call other → CanComeBy states front other → ⊥
+
+-- what all buffers stand for
+abbrev pub TapsStand : Course → List BufferState → List Call → Type 0
+TapsStand Goes states calls = AllStand states calls
+TapsStand Waits states calls = HasWaited states calls
+TapsStand Fails states calls = HasFailed states calls
+
+-- what no call changes
+pub record SameBuffer (before after : BufferState) : Type 0 where
+  pub capacity : after.capacity ≡ before.capacity
+  pub puts : after.puts ≡ before.puts
+  pub takes : after.takes ≡ before.takes
+  pub fed : after.fed ≡ before.fed
+  pub read : after.read ≡ before.read
+  pub opened : after.opened ≡ before.opened
+  pub gone : after.gone ≡ before.gone
+  pub put_on : before.put_at ≤ after.put_at
+  pub take_on : before.take_at ≤ after.take_at
+  pub got_on : before.got ≤ after.got
+  pub there : (rest : List (List Cell)) × (after.chunks ≡ before.chunks ++ rest)
+
+pub record SameBuffers (before after : List BufferState) : Type 0 where
+  pub many : length after ≡ length before
+  pub each : (k : ℕ) (d : BufferState) → k < length before
+      → SameBuffer (slice_index_or before k d) (slice_index_or after k d)
+
+pub same_buffers_refl : (bs : List BufferState) → SameBuffers bs bs
+same_buffers_refl bs = record {
+  many = refl;
+  each = λ k d h. record {
+    capacity = refl;
+    puts = refl;
+    takes = refl;
+    fed = refl;
+    read = refl;
+    opened = refl;
+    gone = refl;
+    put_on = omega arith;
+    take_on = omega arith;
+    got_on = omega arith;
+    there = ([], sym (append-nil (slice_index_or bs k d).chunks));
+  };
+}
+
+pub same_buffers_trans : (bs cs ds : List BufferState) → SameBuffers bs cs → SameBuffers cs ds → SameBuffers bs ds
+same_buffers_trans bs cs ds a b = record {
+  many = b.many ∙ a.many;
+  each = λ k d h. let x = a.each k d h in let y = b.each k d (omega (arith, a.many, h)) in
+      record {
+        capacity = y.capacity ∙ x.capacity;
+        puts = y.puts ∙ x.puts;
+        takes = y.takes ∙ x.takes;
+        fed = y.fed ∙ x.fed;
+        read = y.read ∙ x.read;
+        opened = y.opened ∙ x.opened;
+        gone = y.gone ∙ x.gone;
+        put_on = (let one = x.put_on in let two = y.put_on in omega (arith, one, two));
+        take_on = (let one = x.take_on in let two = y.take_on in omega (arith, one, two));
+        got_on = (let one = x.got_on in let two = y.got_on in omega (arith, one, two));
+        there = (
+          x.there.0 ++ y.there.0,
+          y.there.1 ∙ ap (λ (l : List (List Cell)). l
+              ++ y.there.0) x.there.1 ∙ append_assoc (slice_index_or bs k d).chunks x.there.0 y.there.0,
+        );
+      };
+}
+
+-- the chunks that a buffer begins a run with: those of a clock's own feeds are made again
+abbrev pub chunks_at : Bool → List (List Cell) → List (List Cell)
+chunks_at true chunks = []
+chunks_at false chunks = chunks
+
+-- so none of these were let go
+abbrev pub gone_at : Bool → ℕ → ℕ
+gone_at true gone = 0
+gone_at false gone = gone
+
+-- a buffer at the begin of a run
+abbrev pub begun : BufferState → (fed read : Bool) → BufferState
+begun s fed read = record {
+  capacity = s.capacity;
+  puts = s.puts;
+  takes = s.takes;
+  fed = fed;
+  read = read;
+  put_at = 0;
+  take_at = 0;
+  got = 0;
+  opened = length (chunks_at fed s.chunks);
+  chunks = chunks_at fed s.chunks;
+  gone = gone_at fed s.gone;
+}

@@ -1,0 +1,9 @@
+pub mod Answering
+pub mod Marks
+pub mod Thin
+pub mod Turns
+pub mod Timed
+pub mod Orders
+pub mod Searches
+pub mod Live
+pub mod Logs

@@ -1,0 +1,100 @@
+-- Clocks whose engines go on from turn to turn.
+use Rattle.std.specs.Prelude.{◌≡◌, ◌<◌, ℕ, Bool, Some, List, [], length, nat_eq, slice_get, slice_index_or}
+use Rattle.frame_core.specs.Calls.{Call}
+use Rattle.stream_meaning.specs.Instants.{Setting}
+use Rattle.stream_meaning.specs.Calls.{answers_in}
+use Rattle.stream_meaning.specs.Settings.{IsSetting}
+use Rattle.clock_ticks.specs.declared.engine.EngineParts.{EngineParts}
+use Rattle.clock_ticks.specs.Engines.{EngineStands, setting_of}
+use Rattle.frame_core.specs.declared.cell.Cell.{Cell}
+use Rattle.trace_turns.specs.declared.ends.Ends.{Ends}
+use Rattle.trace_turns.specs.declared.live.LiveClock.{LiveClock}
+use Rattle.trace_turns.specs.declared.told.Mark.{Mark}
+use Rattle.trace_turns.specs.Answering.{BufferState, StandsFor}
+use Rattle.trace_records.specs.Clocks.{AreWhole}
+use Rattle.trace_turns.specs.Marks.{no_mark, resumed}
+use Rattle.trace_records.specs.Passes.{HasCome, IsFormed, IsMadeBy, ticks_in}
+use Rattle.trace_turns.specs.Thin.{AreFull, AreUnlost, NoneLost}
+use Rattle.trace_turns.specs.Turns.{AreEnds, RunsAt, Score, chunks_of}
+use Rattle.trace_turns.specs.Timed.{TimedText}
+
+-- a run of a clock may move over buffers that are as many as these
+pub record MayMove (score : Score) (W N : ℕ) (states : List BufferState) (ends : List Ends) : Type 0 where
+  pub is : IsSetting score.base score.clocks
+  pub formed : IsFormed (length score.base.plan.buffers) W N score.text
+  pub many : length states ≡ length score.base.plan.buffers
+  pub long : length ends ≡ length states
+  pub ends_are : (b : ℕ) (e : Ends) → b < length score.base.plan.buffers
+      → AreEnds (score.text b) (slice_index_or ends b e)
+
+-- a clock that has made n ticks may make more
+pub record MayGoOn (score : Score) (W N m n : ℕ) (parts : EngineParts) (states : List BufferState)
+    (ends : List Ends) : Type 0 where
+  pub move : MayMove score W N states ends
+  pub run : RunsAt score.base score.text W N m n score.chunks parts states
+
+-- the same over buffers that let go of chunks: over the buffers with all their chunks it may
+pub record MayFlow (score : Score) (W N m n : ℕ) (parts : EngineParts) (states : List BufferState)
+    (ends : List Ends) : Type 0 where
+  pub full : List BufferState
+  pub fills : AreFull states full
+  pub unlost : NoneLost states
+  pub may : MayGoOn score W N m n parts full ends
+
+-- clock m has made its first n ticks over such buffers
+pub record HasFlown (base : Setting) (told : TimedText) (m n : ℕ) (chunks : ℕ → List (List Cell)) (parts : EngineParts)
+    (states : List BufferState) : Type 0 where
+  pub full : List BufferState
+  pub fills : AreFull states full
+  pub unlost : NoneLost states
+  pub run : RunsAt base told.text told.window told.ticks m n chunks parts full
+
+-- by a buffer's number, the main clocks of its feed and of its reader
+pub record Mains : Type 0 where
+  pub feeders : List ℕ
+  pub readers : List ℕ
+
+abbrev pub mains : (feeders readers : List ℕ) → Mains
+mains feeders readers = record { feeders = feeders; readers = readers }
+
+-- Clock m has made its first n ticks, and its engine stands for their calls. So will the buffers, where its run goes on
+-- at these marks.
+pub record IsPaused (base : Setting) (told : TimedText) (ends : Mains) (m n : ℕ) (parts : EngineParts)
+    (marks : List Mark) (states : List BufferState) : Type 0 where
+  pub calls : List Call
+  pub accepted : ℕ → ℕ → Bool
+  pub over : setting_of parts ≡ base
+  pub clock : parts.clock ≡ m
+  pub are : IsMadeBy base m n accepted calls
+  pub engine : EngineStands parts n (λ b. answers_in b calls)
+  pub whole : AreWhole base told.text told.window told.ticks m n (λ t. ticks_in base accepted calls m t)
+  pub stand : (b : ℕ) (d : BufferState) (e : Mark) → b < length states
+      → StandsFor (resumed (slice_index_or states b d) (nat_eq (slice_index_or ends.feeders b 0) m)
+      (nat_eq (slice_index_or ends.readers b 0) m) (slice_index_or marks b e)) b calls
+
+-- in a turn over these buffers clock m came to n ticks, and waits at these marks of others
+pub record HasGone (base : Setting) (told : TimedText) (ends : Mains) (m n : ℕ) (parts : EngineParts)
+    (marks : List Mark) (opening states : List BufferState) : Type 0 where
+  pub come : HasCome base told.window told.ticks told.text m n (chunks_of opening) (chunks_of states)
+  pub paused : IsPaused base told ends m n parts marks states
+
+-- the same of buffers that let go of chunks; what other clocks are to get is not let go
+pub record HasFlownOn (base : Setting) (told : TimedText) (ends : Mains) (m n : ℕ) (parts : EngineParts)
+    (marks : List Mark) (opening states : List BufferState) : Type 0 where
+  pub full : List BufferState
+  pub fills : AreFull states full
+  pub gone : HasGone base told ends m n parts marks opening full
+  pub unlost : AreUnlost ends.readers m marks states
+
+-- clock m of a station, before its first tick
+pub record IsNewClock (base : Setting) (m : ℕ) (live : LiveClock) : Type 0 where
+  pub over : setting_of live.engine.parts ≡ base
+  pub clock : live.engine.parts.clock ≡ m
+  pub fresh : EngineStands live.engine.parts 0 (λ b. [])
+  pub many : length live.marks.items ≡ length base.plan.buffers
+  pub none : (b : ℕ) (e : Mark) → b < length base.plan.buffers → slice_index_or live.marks.items b e ≡ no_mark
+
+-- the first so many clocks, by their numbers
+pub record AreNewClocks (base : Setting) (count : ℕ) (lives : List LiveClock) : Type 0 where
+  pub size : length lives ≡ count
+  pub each : (k : ℕ) (live : LiveClock) → slice_get lives k ≡ Some live → IsNewClock base k live

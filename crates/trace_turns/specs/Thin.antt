@@ -1,0 +1,49 @@
+-- Buffers that let go of chunks, and what they stand for.
+use Rattle.std.specs.Prelude.{◌≡◌, ◌<◌, ◌≤◌, ◌⊎◌, ℕ, true, None, List, ◌∷◌, ◌++◌, drop, length, slice_index_or}
+use Rattle.frame_core.specs.Calls.{Call, Took}
+use Rattle.trace_turns.specs.declared.told.Mark.{Mark}
+use Rattle.trace_turns.specs.declared.course.Course.{Course}
+use Rattle.trace_turns.specs.declared.course.Course.TheVariants.{Goes, Waits, Fails}
+use Rattle.trace_turns.specs.Answering.{AllStand, BufferState, HasFailed, HasWaited}
+
+-- a buffer, and the same one with all its chunks: they are equal from those on that it did not let go
+pub record IsFull (s full : BufferState) : Type 0 where
+  pub same : full ≡ record s { chunks = full.chunks; gone = 0 }
+  pub many : length full.chunks ≡ length s.chunks
+  pub rest : drop s.gone full.chunks ≡ drop s.gone s.chunks
+  pub low : s.gone ≤ length s.chunks
+
+pub record AreFull (states full : List BufferState) : Type 0 where
+  pub many : length full ≡ length states
+  pub each : (b : ℕ) (d : BufferState) → b < length states
+      → IsFull (slice_index_or states b d) (slice_index_or full b d)
+
+-- the calls up to a take that is to get a chunk that was let go
+pub record HasLost (states full : List BufferState) (calls : List Call) : Type 0 where
+  pub front : List Call
+  pub behind : List Call
+  pub buffer : ℕ
+  pub are : calls ≡ front ++ Took buffer None ∷ behind
+  pub known : buffer < length states
+  pub lost : (d : BufferState) → (slice_index_or states buffer d).got < (slice_index_or states buffer d).gone
+
+-- what such buffers stand for: as buffers that have all their chunks do
+abbrev pub TapsFollow : Course → List BufferState → List Call → Type 0
+TapsFollow Goes states calls = (full : List BufferState) × AreFull states full × AllStand full calls
+TapsFollow Waits states calls = (full : List BufferState) × AreFull states full
+    × (HasWaited full calls ⊎ HasLost states full calls)
+TapsFollow Fails states calls = (full : List BufferState) × AreFull states full × HasFailed full calls
+
+-- nothing was let go that the clock is to get
+abbrev pub NoneLost : List BufferState → Type 0
+NoneLost states = (b : ℕ) (d : BufferState) → b < length states → (slice_index_or states b d).read ≡ true
+    → (slice_index_or states b d).gone ≤ (slice_index_or states b d).got
+
+-- the same of clock m, whose run goes on at these marks
+abbrev pub AreUnlost : (readers : List ℕ) → (m : ℕ) → List Mark → List BufferState → Type 0
+AreUnlost readers m marks states = (b : ℕ) (d : BufferState) (e : Mark) → b < length states
+    → slice_index_or readers b 0 ≡ m → (slice_index_or states b d).gone ≤ (slice_index_or marks b e).got
+
+-- nothing was let go at all
+abbrev pub AreKept : List BufferState → Type 0
+AreKept states = (b : ℕ) (d : BufferState) → b < length states → (slice_index_or states b d).gone ≡ 0

@@ -1,0 +1,181 @@
+-- The run of one clock, between two ticks.
+use Rattle.std.specs.Prelude.{◌≡◌, ◌<◌, ◌-◌, ◌/◌, ◌%◌, ◌⊎◌, ℕ, suc, Bool, true, false, Some, List, [], ◌∷◌, ◌++◌, length, take, nat_eq, slice_get, slice_index_or, if◌then◌else◌}
+use Rattle.frame_core.specs.declared.cell.Cell.{Cell}
+use Rattle.frame_core.specs.Calls.{Call}
+use Rattle.stream_meaning.specs.Instants.{Setting, same_clock}
+use Rattle.stream_meaning.specs.Calls.{answers_in}
+use Rattle.run_records.specs.Buffers.{feeder, reader}
+use Rattle.run_records.specs.Records.{capacity_of}
+use Rattle.clock_ticks.specs.declared.engine.EngineParts.{EngineParts}
+use Rattle.clock_ticks.specs.Engines.{EngineStands, setting_of}
+use Rattle.plan_core.specs.declared.sink.SinkPlan.{SinkPlan}
+use Rattle.plan_core.specs.declared.sink.SinkPlan.TheVariants.{Output, Feed}
+use Rattle.clock_infer.specs.declared.clock_map.NodeClock.{NodeClock}
+use Rattle.clock_infer.specs.declared.clock_map.NodeClock.TheVariants.{Main as InMain}
+use Rattle.clock_infer.specs.declared.clock_map.ClockMap.{ClockMap}
+use Rattle.stream_meaning.specs.Settings.{IsSetting}
+use Rattle.trace_turns.specs.declared.course.Course.{Course}
+use Rattle.trace_turns.specs.declared.course.Course.TheVariants.{Goes, Waits, Fails}
+use Rattle.trace_turns.specs.declared.ends.Ends.{Ends}
+use Rattle.trace_turns.specs.declared.station.Station.{Station}
+use Rattle.trace_records.specs.Traces.{base_of}
+use Rattle.trace_records.specs.Clocks.{AreWhole, Log, puts_in, takes_in}
+use Rattle.trace_records.specs.Passes.{IsFormed, IsMadeBy, ticks_in}
+use Rattle.trace_turns.specs.Answering.{AllStand, BufferState, begun}
+
+-- no buffer
+abbrev pub no_state : BufferState
+no_state = record {
+  capacity = 0;
+  puts = [];
+  takes = [];
+  fed = false;
+  read = false;
+  put_at = 0;
+  take_at = 0;
+  got = 0;
+  opened = 0;
+  chunks = [];
+  gone = 0;
+}
+
+-- the chunks that were put to each buffer
+abbrev pub chunks_of : List BufferState → ℕ → List (List Cell)
+chunks_of states b = (slice_index_or states b no_state).chunks
+
+-- by a buffer's number: how many of the answers of its puts and of its takes the first windows have, one, two and so on
+pub record AreEnds (log : Log) (ends : Ends) : Type 0 where
+  pub puts : (j : ℕ) → j < length log → slice_get ends.puts.items j ≡ Some (length (puts_in (take (suc j) log)))
+  pub takes : (j : ℕ) → j < length log → slice_get ends.takes.items j ≡ Some (length (takes_in (take (suc j) log)))
+
+-- as many answers came as the first windows, up to this one, have, as far as the clock has this end of the buffer
+pub record IsAtEnd (s : BufferState) (ends : Ends) (j : ℕ) : Type 0 where
+  pub puts : s.fed ≡ true → slice_get ends.puts.items j ≡ Some s.put_at
+  pub takes : s.read ≡ true → slice_get ends.takes.items j ≡ Some s.take_at
+
+-- buffers in the run of clock m over a plan: they tell the answers of a text, and those that the clock does not feed
+-- hold these chunks
+pub record AreOf (base : Setting) (text : ℕ → Log) (m : ℕ) (chunks : ℕ
+    → List (List Cell)) (states : List BufferState) : Type 0 where
+  pub many : length states ≡ length base.plan.buffers
+  pub puts : (b : ℕ) (d : BufferState) → b < length base.plan.buffers
+      → (slice_index_or states b d).puts ≡ puts_in (text b)
+  pub takes : (b : ℕ) (d : BufferState) → b < length base.plan.buffers
+      → (slice_index_or states b d).takes ≡ takes_in (text b)
+  pub capacity : (b : ℕ) (d : BufferState) → b < length base.plan.buffers
+      → (slice_index_or states b d).capacity ≡ capacity_of base b
+  pub fed : (b : ℕ) (d : BufferState) → b < length base.plan.buffers → feeder base b ≡ m
+      → (slice_index_or states b d).fed ≡ true
+  pub not_fed : (b : ℕ) (d : BufferState) → b < length base.plan.buffers → (feeder base b ≡ m → ⊥)
+      → (slice_index_or states b d).fed ≡ false
+  pub read : (b : ℕ) (d : BufferState) → b < length base.plan.buffers → reader base b ≡ m
+      → (slice_index_or states b d).read ≡ true
+  pub not_read : (b : ℕ) (d : BufferState) → b < length base.plan.buffers → (reader base b ≡ m → ⊥)
+      → (slice_index_or states b d).read ≡ false
+  pub anew : (b : ℕ) (d : BufferState) → b < length base.plan.buffers → feeder base b ≡ m
+      → (slice_index_or states b d).opened ≡ 0
+  pub there : (b : ℕ) (d : BufferState) → b < length base.plan.buffers → (feeder base b ≡ m → ⊥)
+      → (slice_index_or states b d).opened ≡ length (chunks b)
+  pub front : (b : ℕ) (d : BufferState) → b < length base.plan.buffers → (feeder base b ≡ m → ⊥)
+      → (rest : List (List Cell)) × ((slice_index_or states b d).chunks ≡ chunks b ++ rest)
+
+-- Clock m has made its first n ticks, and its engine and its buffers stand for their calls.
+pub record RunsAt (base : Setting) (text : ℕ → Log) (W N m n : ℕ) (chunks : ℕ
+    → List (List Cell)) (parts : EngineParts) (states : List BufferState) : Type 0 where
+  pub calls : List Call
+  pub accepted : ℕ → ℕ → Bool
+  pub over : setting_of parts ≡ base
+  pub clock : parts.clock ≡ m
+  pub are : IsMadeBy base m n accepted calls
+  pub engine : EngineStands parts n (λ b. answers_in b calls)
+  pub stand : AllStand states calls
+  pub of : AreOf base text m chunks states
+  pub whole : AreWhole base text W N m n (λ t. ticks_in base accepted calls m t)
+
+-- each buffer is at this window's end
+abbrev pub AreAtEnd : List BufferState → List Ends → (j : ℕ) → Type 0
+AreAtEnd states ends j = (b : ℕ) (s : BufferState) (e : Ends) → b < length states
+    → IsAtEnd (slice_index_or states b s) (slice_index_or ends b e) j
+
+-- one is not
+pub record IsOffEnd (states : List BufferState) (ends : List Ends) (j : ℕ) : Type 0 where
+  pub buffer : ℕ
+  pub known : buffer < length states
+  pub off : (s : BufferState) (e : Ends) → IsAtEnd (slice_index_or states buffer s) (slice_index_or ends buffer e) j → ⊥
+
+-- a window ends with tick n
+abbrev pub EndsWith : (W N n : ℕ) → Type 0
+EndsWith W N n = (n % W ≡ W - 1) ⊎ (suc n ≡ N)
+
+-- how the run goes on behind tick n
+abbrev pub GoesOn : (W N n : ℕ) → Course → List BufferState → List Ends → Course → Type 0
+GoesOn W N n before states ends Goes = (before ≡ Goes) × (EndsWith W N n → AreAtEnd states ends (n / W))
+GoesOn W N n before states ends Waits = before ≡ Waits
+GoesOn W N n before states ends Fails = (before ≡ Fails)
+    ⊎ ((before ≡ Goes) × EndsWith W N n × IsOffEnd states ends (n / W))
+
+-- what a replay is of: a plan with its clocks and files, a text, and the chunks that are there
+pub record Score : Type 0 where
+  pub base : Setting
+  pub clocks : ClockMap
+  pub text : ℕ → Log
+  pub chunks : ℕ → List (List Cell)
+
+-- an engine of clock m may be run over these buffers
+pub record MayTurn (score : Score) (W N m : ℕ) (parts : EngineParts) (states : List BufferState)
+    (ends : List Ends) : Type 0 where
+  pub is : IsSetting score.base score.clocks
+  pub over : setting_of parts ≡ score.base
+  pub clock : parts.clock ≡ m
+  pub fresh : EngineStands parts 0 (λ b. [])
+  pub of : AreOf score.base score.text m score.chunks states
+  pub stand : AllStand states []
+  pub formed : IsFormed (length score.base.plan.buffers) W N score.text
+  pub long : length ends ≡ length states
+  pub ends_are : (b : ℕ) (e : Ends) → b < length score.base.plan.buffers
+      → AreEnds (score.text b) (slice_index_or ends b e)
+
+-- buffers that tell the answers of a text
+pub record AreTold (base : Setting) (text : ℕ → Log) (states : List BufferState) : Type 0 where
+  pub many : length states ≡ length base.plan.buffers
+  pub puts : (b : ℕ) (d : BufferState) → b < length base.plan.buffers
+      → (slice_index_or states b d).puts ≡ puts_in (text b)
+  pub takes : (b : ℕ) (d : BufferState) → b < length base.plan.buffers
+      → (slice_index_or states b d).takes ≡ takes_in (text b)
+  pub capacity : (b : ℕ) (d : BufferState) → b < length base.plan.buffers
+      → (slice_index_or states b d).capacity ≡ capacity_of base b
+
+-- by a buffer's number, the main clocks of its feed and of its reader
+pub record AreSides (base : Setting) (feeders readers : List ℕ) : Type 0 where
+  pub feeders_many : length feeders ≡ length base.plan.buffers
+  pub readers_many : length readers ≡ length base.plan.buffers
+  pub fed : (b : ℕ) → b < length base.plan.buffers → slice_index_or feeders b 0 ≡ feeder base b
+  pub read : (b : ℕ) → b < length base.plan.buffers → slice_index_or readers b 0 ≡ reader base b
+
+-- each buffer begins a run of clock m
+abbrev pub HaveBegun : (feeders readers : List ℕ) → (m : ℕ) → List BufferState → List BufferState → Type 0
+HaveBegun feeders readers m old new = (b : ℕ) (d : BufferState) → b < length old
+    → slice_index_or new b d
+    ≡ begun (slice_index_or old b d) (nat_eq (slice_index_or feeders b 0) m) (nat_eq (slice_index_or readers b 0) m)
+
+-- an output of clock m
+abbrev pub is_output_in : List NodeClock → (m : ℕ) → SinkPlan → Bool
+is_output_in clocks m (Output name node fallible wide) = same_clock (slice_index_or clocks node (InMain 0)) (InMain m)
+is_output_in clocks m (Feed buffer node) = false
+
+-- how many there are among these sinks
+abbrev pub outputs_in : List NodeClock → (m : ℕ) → List SinkPlan → ℕ
+outputs_in clocks m [] = 0
+outputs_in clocks m (sink ∷ sinks) = if is_output_in clocks m sink then suc (outputs_in clocks m sinks)
+    else outputs_in clocks m sinks
+
+-- a text that these buffers tell, with its windows
+pub record AreFit (base : Setting) (W N : ℕ) (text : ℕ
+    → Log) (states : List BufferState) (ends : List Ends) : Type 0 where
+  pub told : AreTold base text states
+  pub formed : IsFormed (length base.plan.buffers) W N text
+  pub ends_are : (b : ℕ) (e : Ends) → b < length base.plan.buffers → AreEnds (text b) (slice_index_or ends b e)
+
+-- the setting of a station
+abbrev pub base_at : Station → Setting
+base_at station = base_of station.plan.now station.library.now station.clocks.now station.start.second

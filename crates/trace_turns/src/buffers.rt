@@ -1,0 +1,163 @@
+// The buffers of a plan, with what a trace tells of them.
+ghost use Rattle.std.specs.Prelude.{◌≡◌, ◌<◌, ◌≤◌, ℕ, [], true, false, All, Some, length, map, slice_get, slice_index_or, IfOk};
+ghost use Rattle.plan_core.specs.Plans.{IsBuffer, IsWellFormed};
+ghost use Rattle.stream_meaning.specs.Instants.{Setting};
+ghost use Rattle.run_records.specs.Buffers.{main_of};
+ghost use Rattle.trace_turns.specs.Logs.{AreNew, new_state};
+ghost use Rattle.trace_records.specs.Traces.{pair_of, text_of};
+ghost use Rattle.trace_records.specs.Told.{are_legal};
+ghost use Rattle.trace_turns.specs.Answering.{BufferState};
+ghost use Rattle.plan_core.specs.declared.sink.BufferPlan.{BufferPlan as ThePlan};
+ghost use Rattle.trace_turns.specs.Turns.{AreEnds, AreSides};
+
+use crate::ends::Ends;
+use crate::flat::flatten;
+use crate::station::Sides;
+use crate::told::ToldBuffer;
+use buffer_ends::BufferLog;
+use buffer_sides::{feeders, main_of, readers};
+use clock_infer::ClockMap;
+use liq_base::Memory;
+use plan_core::{BufferPlan, Plan};
+use std::alloc::Global;
+use std::collections::VecDeque;
+use trace_records::are_legal;
+
+// A buffer of which a log tells, before any run, and where its windows end.
+fn told_buffer(alloc: Global, capacity: u32, log: &BufferLog) -> Result<(ToldBuffer, Ends), Memory>
+    ensures buffer { IfOk result (λ r. r.0 ≡ new_state capacity (map pair_of log.now)) }
+    ensures ends { IfOk result (λ r. AreEnds (map pair_of log.now) r.1) }
+{
+    let (puts, put_ends) = flatten(alloc, &log.windows, true)?;
+    let (takes, take_ends) = flatten(alloc, &log.windows, false)?;
+    let buffer = ToldBuffer {
+        capacity,
+        puts,
+        takes,
+        fed: false,
+        read: false,
+        put_at: 0,
+        take_at: 0,
+        got: 0,
+        opened: 0,
+        put: 0,
+        gone: 0,
+        held: VecDeque::new(alloc),
+        spare: VecDeque::new(alloc),
+    };
+    Ok((
+        buffer,
+        Ends {
+            puts: put_ends,
+            takes: take_ends,
+        },
+    ))
+}
+
+/// The buffers of a plan, of which a trace tells, and where their windows end.
+pub fn told_buffers(
+    alloc: Global,
+    plans: &[BufferPlan],
+    logs: &[BufferLog],
+) -> Result<(Vec<ToldBuffer>, Vec<Ends>), Memory>
+    requires { length logs.now ≡ length plans.now }
+    ensures buffers_long { IfOk result (λ r. length r.0.items ≡ length plans.now) }
+    ensures ends_long { IfOk result (λ r. length r.1.items ≡ length plans.now) }
+    ensures new { IfOk result (λ r. AreNew plans.now logs.now (length plans.now) r.0.items r.1.items) }
+{
+    let mut buffers = Vec::new(alloc);
+    let mut ends = Vec::new(alloc);
+    for b in 0..plans.len() {
+        buffers.reserve(1)?;
+        ends.reserve(1)?;
+        let (buffer, end) = told_buffer(alloc, plans[b].capacity, &logs[b])?;
+        buffers.push_reserved(buffer);
+        ends.push_reserved(end);
+    }
+    Ok((buffers, ends))
+}
+
+// The main clocks of nodes.
+fn mains_of(
+    alloc: Global,
+    plan: &Plan,
+    clocks: &ClockMap,
+    nodes: &[u32],
+) -> Result<Vec<u32>, Memory>
+    ensures size { IfOk result (λ mains. length mains.items ≡ length nodes.now) }
+    ensures each { IfOk result (λ mains. (setting : Setting) → setting.plan ≡ plan.now → setting.clocks ≡ clocks.now.of
+        → (b : ℕ) → b < length nodes.now → slice_index_or mains.items b 0
+        ≡ main_of setting (slice_index_or nodes.now b 0)) }
+{
+    let mut mains = Vec::new(alloc);
+    for node in nodes {
+        mains.push(main_of(plan, clocks, *node))?;
+    }
+    Ok(mains)
+}
+
+/// The main clocks of each buffer's feed and reader.
+pub fn sides_of(alloc: Global, plan: &Plan, clocks: &ClockMap) -> Result<Sides, Memory>
+    requires { IsWellFormed plan.now }
+    ensures { IfOk result (λ sides. (setting : Setting) → setting.plan ≡ plan.now → setting.clocks ≡ clocks.now.of
+        → AreSides setting sides.feeders.items sides.readers.items) }
+{
+    let fed = feeders(alloc, plan)?;
+    let read = readers(alloc, plan)?;
+    let feeders = mains_of(alloc, plan, clocks, &fed)?;
+    let readers = mains_of(alloc, plan, clocks, &read)?;
+    Ok(Sides {
+        feeders,
+        readers,
+        nodes: read,
+    })
+}
+
+/// Whether the windows of each buffer are legal, by their answers alone.
+pub fn all_legal(plans: &[BufferPlan], logs: &[BufferLog]) -> bool
+    requires buffers { All IsBuffer plans.now }
+    requires many { length logs.now ≡ length plans.now }
+    ensures yes { result ≡ true → (b : ℕ) (plan : ThePlan) → slice_get plans.now b ≡ Some plan
+        → are_legal plan.capacity 0 (text_of logs.now b) ≡ true }
+    ensures no { result ≡ false → (b : ℕ) × (plan : ThePlan) × (slice_get plans.now b ≡ Some plan)
+        × (are_legal plan.capacity 0 (text_of logs.now b) ≡ false) }
+{
+    for b in 0..plans.len() {
+        if !is_legal_log(plans[b].capacity, &logs[b]) {
+            return false;
+        }
+    }
+    true
+}
+
+// Whether the windows of a buffer are legal, by their answers alone.
+fn is_legal_log(capacity: u32, log: &BufferLog) -> bool
+    requires { 1 ≤ capacity }
+    ensures { result ≡ are_legal capacity 0 (map pair_of log.now) }
+{
+    are_legal(capacity, &log.windows)
+}
+
+/// Whether nothing is told of takes of a buffer whose reader's clock does not run.
+pub fn unread_stay(buffers: &[ToldBuffer], readers: &[u32], running: u32) -> bool
+    requires { length readers.now ≡ length buffers.now }
+    ensures yes { result ≡ true → (b : ℕ) (d : BufferState) → b < length buffers.now
+        → running ≤ slice_index_or readers.now b 0 → (slice_index_or buffers.now b d).takes ≡ [] }
+    ensures no { result ≡ false → (b : ℕ) × (b < length buffers.now) × (running ≤ slice_index_or readers.now b 0)
+        × ((d : BufferState) → (slice_index_or buffers.now b d).takes ≡ [] → ⊥) }
+{
+    for b in 0..buffers.len() {
+        if readers[b] >= running && has_takes(&buffers[b]) {
+            return false;
+        }
+    }
+    true
+}
+
+// Whether some take of it is told.
+fn has_takes(buffer: &ToldBuffer) -> bool
+    ensures yes { result ≡ true → buffer.now.takes ≡ [] → ⊥ }
+    ensures no { result ≡ false → buffer.now.takes ≡ [] }
+{
+    !buffer.takes.is_empty()
+}

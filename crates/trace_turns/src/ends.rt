@@ -1,0 +1,93 @@
+// Where the windows of a buffer end.
+ghost use Rattle.std.specs.Prelude.{◌≡◌, ◌<◌, ◌≤◌, ◌↔◌, Some, slice_get, length, true, false};
+ghost use Rattle.trace_turns.specs.declared.course.Course.TheVariants.{Goes as IsGoing};
+ghost use Rattle.trace_turns.specs.Turns.{AreAtEnd, EndsWith, GoesOn, IsAtEnd, IsOffEnd};
+
+use crate::course::Course;
+use crate::told::ToldBuffer;
+
+/// How many of the answers of a buffer's puts, and of its takes, its first windows have: one, two and so on.
+#[derive(Debug, Drop)]
+pub struct Ends {
+    pub puts: Vec<usize>,
+    pub takes: Vec<usize>,
+}
+
+// Whether so many answers came as the first windows, up to this one, have.
+fn is_at(ends: &[usize], window: u64, at: usize) -> bool
+    ensures right { result ≡ true → slice_get ends.now window ≡ Some at }
+    ensures wrong { result ≡ false → slice_get ends.now window ≡ Some at → ⊥ }
+{
+    if window >= ends.len() as u64 {
+        return false;
+    }
+    ends[window as usize] == at
+}
+
+// The same of the ends of a buffer that the clock has.
+fn at_end(buffer: &ToldBuffer, ends: &Ends, window: u64) -> bool
+    ensures right { result ≡ true → IsAtEnd buffer.now ends.now window }
+    ensures wrong { result ≡ false → IsAtEnd buffer.now ends.now window → ⊥ }
+{
+    if buffer.fed && !is_at(&ends.puts, window, buffer.put_at) {
+        return false;
+    }
+    if buffer.read && !is_at(&ends.takes, window, buffer.take_at) {
+        return false;
+    }
+    true
+}
+
+// The same of all buffers.
+fn at_ends(buffers: &[ToldBuffer], ends: &[Ends], window: u64) -> bool
+    requires { length ends.now ≡ length buffers.now }
+    ensures right { result ≡ true → AreAtEnd buffers.now ends.now window }
+    ensures wrong { result ≡ false → IsOffEnd buffers.now ends.now window }
+{
+    for b in 0..buffers.len() {
+        if !at_end(&buffers[b], &ends[b], window) {
+            return false;
+        }
+    }
+    true
+}
+
+// Whether a window ends with this tick.
+fn ends_with(window: u64, ticks: u64, tick: u64) -> bool
+    requires some { 1 ≤ window }
+    requires within { tick < ticks }
+    ensures yes { result ≡ true → EndsWith window ticks tick }
+    ensures no { result ≡ false → EndsWith window ticks tick → ⊥ }
+{
+    if tick % window == window - 1 {
+        return true;
+    }
+    tick == ticks - 1
+}
+
+/// How a run goes on behind a tick: as its calls were answered, but it fails where a window ends with it and the clock
+/// made other calls than the window has.
+pub fn course_of(
+    course: Course,
+    buffers: &[ToldBuffer],
+    ends: &[Ends],
+    window: u64,
+    ticks: u64,
+    tick: u64,
+) -> Course
+    requires some { 1 ≤ window }
+    requires within { tick < ticks }
+    requires long { length ends.now ≡ length buffers.now }
+    ensures { GoesOn window ticks tick course buffers.now ends.now result }
+{
+    match course {
+        Course::Goes => {
+            if ends_with(window, ticks, tick) && !at_ends(buffers, ends, tick / window) {
+                return Course::Fails;
+            }
+            Course::Goes
+        }
+        Course::Waits => Course::Waits,
+        Course::Fails => Course::Fails,
+    }
+}

@@ -1,0 +1,209 @@
+// The turns in which the clocks make the record that a text tells.
+ghost use Rattle.std.specs.Prelude.{◌≡◌, ◌++◌, ◌∷◌, ℕ, true, false, [], length, IfOk, OnOk};
+ghost use Rattle.trace_records.specs.Clocks.{Log};
+ghost use Rattle.trace_records.specs.Passes.{IsOrderedText};
+ghost use Rattle.trace_turns.specs.Turns.{AreFit, chunks_of, base_at};
+ghost use Rattle.trace_turns.specs.Live.{AreNewClocks};
+ghost use Rattle.trace_turns.specs.Searches.{AreFound, MaySearch, TellOn};
+ghost use Rattle.trace_turns.specs.Thin.{AreKept};
+
+use crate::course::TurnMade;
+use crate::ends::Ends;
+use crate::live::{LiveClock, end_clocks, make_clocks};
+use crate::onward::live_turn;
+use crate::station::{Sides, Station};
+use crate::taps::{ToldTaps, forget_run};
+use crate::turn::{Turn, run_turn};
+use liq_base::Memory;
+use std::alloc::Global;
+
+// Notes a turn behind the others.
+fn note_turn(turns: &mut Vec<TurnMade>, clock: u32, ticks: u64) -> Result<(), Memory>
+    ensures { OnOk result (turns.new.items ≡ turns.old.items ++ record { clock = clock; ticks = ticks } ∷ []) }
+{
+    turns.push(TurnMade { clock, ticks })?;
+    Ok(())
+}
+
+// Goes over the clocks in order, again and again, and runs each from its first tick on, as far as it can be run with
+// the chunks that are there. Answers whether all ticks were made; it ends where a pass over all clocks made no tick
+// more.
+fn search_chunks(
+    alloc: Global,
+    station: &Station<'_>,
+    taps: &mut ToldTaps,
+    turns: &mut Vec<TurnMade>,
+    sides: &Sides,
+    ends: &[Ends],
+    window: u64,
+    ticks: u64,
+) -> Result<bool, Memory>
+    requires { MaySearch station.now sides.now ends.now window ticks turns.old.items taps.old.buffers.items }
+    ensures found { IfOk result (λ found. found ≡ true
+        → AreFound station.now ends.now window ticks taps.old.buffers.items turns.new.items) }
+    ensures none { IfOk result (λ found. found ≡ false → (text : ℕ → Log)
+        → AreFit (base_at station.now) window ticks text taps.old.buffers.items ends.now
+        → IsOrderedText (base_at station.now) station.now.clocks.now.running window ticks text → ⊥) }
+    ensures fit { IfOk result (λ found. TellOn station.now ends.now window ticks taps.old.buffers.items
+        taps.new.buffers.items) }
+{
+    let running = station.clocks.running;
+    let mut made = vec![in alloc; 0; running as usize]?;
+    let mut left = running as u64 * ticks;
+    while left > 0 {
+        let before = left;
+        for clock in 0..running {
+            if made[clock as usize] == ticks {
+                continue;
+            }
+            match run_turn(alloc, station, taps, sides, ends, clock, window, ticks)? {
+                Turn::Made(count) => {
+                    note_turn(turns, clock, count)?;
+                    left -= count - made[clock as usize];
+                    made[clock as usize] = count;
+                }
+                Turn::Refused => return Ok(false),
+            }
+        }
+        if left == before {
+            return Ok(false);
+        }
+    }
+    Ok(true)
+}
+
+// Goes over the clocks in order, again and again, and lets each go on as far as it can with the chunks that are there.
+// Answers whether all ticks were made; it ends where a call was not answered as was foreseen, or where a pass over all
+// clocks made no tick more.
+fn pass_on(
+    alloc: Global,
+    station: &Station<'_>,
+    lives: &mut Vec<LiveClock<'_>>,
+    taps: &mut ToldTaps,
+    turns: &mut Vec<TurnMade>,
+    sides: &Sides,
+    ends: &[Ends],
+    window: u64,
+    ticks: u64,
+) -> Result<bool, Memory>
+    requires search { MaySearch station.now sides.now ends.now window ticks turns.old.items taps.old.buffers.items }
+    requires lives { AreNewClocks (base_at station.now) station.now.clocks.now.running lives.old.items }
+    ensures found { IfOk result (λ found. found ≡ true
+        → AreFound station.now ends.now window ticks taps.old.buffers.items turns.new.items) }
+    ensures fit { IfOk result (λ found. TellOn station.now ends.now window ticks taps.old.buffers.items
+        taps.new.buffers.items) }
+    ensures many { IfOk result (λ found. length taps.new.buffers.items ≡ length taps.old.buffers.items) }
+{
+    let running = station.clocks.running;
+    let mut made = vec![in alloc; 0; running as usize]?;
+    let mut left = running as u64 * ticks;
+    while left > 0 {
+        let before = left;
+        for clock in 0..running {
+            let from = made[clock as usize];
+            let live = &mut lives[clock as usize];
+            let reached = live_turn(alloc, live, taps, sides, ends, window, ticks, from)?;
+            match reached {
+                Some(count) => {
+                    note_turn(turns, clock, count)?;
+                    left -= count - from;
+                    made[clock as usize] = count;
+                }
+                None => return Ok(false),
+            }
+        }
+        if left == before {
+            return Ok(false);
+        }
+    }
+    Ok(true)
+}
+
+// Makes the ticks of each clock by one engine, and answers whether all were made. Where the plan has no buffer none is
+// made.
+fn find_live(
+    alloc: Global,
+    station: &Station<'_>,
+    taps: &mut ToldTaps,
+    turns: &mut Vec<TurnMade>,
+    sides: &Sides,
+    ends: &[Ends],
+    window: u64,
+    ticks: u64,
+) -> Result<bool, Memory>
+    requires { MaySearch station.now sides.now ends.now window ticks turns.old.items taps.old.buffers.items }
+    ensures found { IfOk result (λ found. found ≡ true
+        → AreFound station.now ends.now window ticks taps.old.buffers.items turns.new.items) }
+    ensures fit { IfOk result (λ found. TellOn station.now ends.now window ticks taps.old.buffers.items
+        taps.new.buffers.items) }
+    ensures many { IfOk result (λ found. length taps.new.buffers.items ≡ length taps.old.buffers.items) }
+{
+    if station.plan.buffers.as_slice().is_empty() {
+        return Ok(false);
+    }
+    let mut lives = Vec::new(alloc);
+    let found = match make_clocks(alloc, station, &mut lives) {
+        Ok(()) => pass_on(
+            alloc, station, &mut lives, taps, turns, sides, ends, window, ticks,
+        ),
+        Err(refused) => Err(refused),
+    };
+    end_clocks(lives);
+    found
+}
+
+// The turns in which the clocks make all their ticks, and whether they do. Where engines that go on from turn to turn
+// do not make them all, the search by new engines decides from the beginning.
+fn search_turns(
+    alloc: Global,
+    station: &Station<'_>,
+    taps: &mut ToldTaps,
+    turns: &mut Vec<TurnMade>,
+    sides: &Sides,
+    ends: &[Ends],
+    window: u64,
+    ticks: u64,
+) -> Result<bool, Memory>
+    requires { MaySearch station.now sides.now ends.now window ticks turns.old.items taps.old.buffers.items }
+    ensures found { IfOk result (λ found. found ≡ true
+        → AreFound station.now ends.now window ticks taps.old.buffers.items turns.new.items) }
+    ensures none { IfOk result (λ found. found ≡ false → (text : ℕ → Log)
+        → AreFit (base_at station.now) window ticks text taps.old.buffers.items ends.now
+        → IsOrderedText (base_at station.now) station.now.clocks.now.running window ticks text → ⊥) }
+    ensures fit { IfOk result (λ found. TellOn station.now ends.now window ticks taps.old.buffers.items
+        taps.new.buffers.items) }
+{
+    if find_live(alloc, station, taps, turns, sides, ends, window, ticks)? {
+        return Ok(true);
+    }
+    forget_run(&mut taps.buffers);
+    turns.clear();
+    search_chunks(alloc, station, taps, turns, sides, ends, window, ticks)
+}
+
+/// The turns in which the clocks make all their ticks, and whether they do. The buffers are empty again then.
+pub fn find_turns(
+    alloc: Global,
+    station: &Station<'_>,
+    taps: &mut ToldTaps,
+    turns: &mut Vec<TurnMade>,
+    sides: &Sides,
+    ends: &[Ends],
+    window: u64,
+    ticks: u64,
+) -> Result<bool, Memory>
+    requires { MaySearch station.now sides.now ends.now window ticks turns.old.items taps.old.buffers.items }
+    ensures found { IfOk result (λ found. found ≡ true
+        → AreFound station.now ends.now window ticks taps.old.buffers.items turns.new.items) }
+    ensures none { IfOk result (λ found. found ≡ false → (text : ℕ → Log)
+        → AreFit (base_at station.now) window ticks text taps.old.buffers.items ends.now
+        → IsOrderedText (base_at station.now) station.now.clocks.now.running window ticks text → ⊥) }
+    ensures empty { IfOk result (λ found. (b : ℕ) → chunks_of taps.new.buffers.items b ≡ []) }
+    ensures kept { IfOk result (λ found. AreKept taps.new.buffers.items) }
+    ensures fit { IfOk result (λ found. TellOn station.now ends.now window ticks taps.old.buffers.items
+        taps.new.buffers.items) }
+{
+    let found = search_turns(alloc, station, taps, turns, sides, ends, window, ticks)?;
+    forget_run(&mut taps.buffers);
+    Ok(found)
+}

@@ -1,0 +1,37 @@
+// The answers of a buffer, window after window.
+ghost use Rattle.std.specs.Prelude.{◌≡◌, length, IfOk};
+ghost use Rattle.std.specs.List.{flat_map};
+ghost use Rattle.trace_turns.specs.Logs.{AreEndsOf, side_of};
+
+use buffer_ends::WindowLog;
+use liq_base::Memory;
+use std::alloc::Global;
+
+// The answers of the puts of a window, or of its takes.
+fn side_of(window: &WindowLog, puts: bool) -> &[bool]
+    ensures { result.now ≡ side_of puts window.now }
+{
+    if puts {
+        return &window.puts;
+    }
+    &window.takes
+}
+
+/// The answers of the puts of all windows, or of their takes; and how many of them the first windows have: one, two and
+/// so on.
+pub fn flatten(
+    alloc: Global,
+    windows: &[WindowLog],
+    puts: bool,
+) -> Result<(Vec<bool>, Vec<usize>), Memory>
+    ensures flat { IfOk result (λ r. r.0.items ≡ flat_map (side_of puts) windows.now) }
+    ensures ends { IfOk result (λ r. AreEndsOf puts windows.now r.1.items) }
+{
+    let mut flat = Vec::new(alloc);
+    let mut ends = Vec::with_capacity(alloc, windows.len())?;
+    for window in windows {
+        flat.extend_from_slice(side_of(window, puts))?;
+        ends.push(flat.len())?;
+    }
+    Ok((flat, ends))
+}

@@ -1,0 +1,68 @@
+// The clocks of a station, whose engines go on from turn to turn.
+ghost use Rattle.std.specs.Prelude.{◌≡◌, [], IfOk, OnOk};
+ghost use Rattle.stream_meaning.specs.Settings.{IsSetting};
+ghost use Rattle.trace_turns.specs.Turns.{base_at};
+ghost use Rattle.trace_turns.specs.Live.{AreNewClocks, IsNewClock};
+
+use crate::station::{Station, sinks_of};
+use crate::told::{Mark, NO_MARK};
+use crate::turn::NoSink;
+use clock_ticks::ClockEngine;
+use liq_base::Memory;
+use std::alloc::Global;
+
+/// A clock whose engine has made its first ticks, and how far its calls came on each buffer.
+pub struct LiveClock<'a> {
+    pub engine: ClockEngine<'a, NoSink>,
+    pub marks: Vec<Mark>,
+}
+
+// A clock before its first tick.
+fn new_clock<'a>(alloc: Global, station: &Station<'a>, clock: u32) -> Result<LiveClock<'a>, Memory>
+    requires setting { IsSetting (base_at station.now) station.now.clocks.now }
+    ensures new { IfOk result (λ live. IsNewClock (base_at station.now) clock live) }
+{
+    let outs = sinks_of(alloc, station.plan, station.clocks, clock)?;
+    let marks = vec![in alloc; NO_MARK; station.plan.buffers.len()]?;
+    match ClockEngine::new(
+        alloc,
+        station.plan,
+        station.clocks,
+        clock,
+        station.library,
+        outs,
+        station.start,
+    ) {
+        Ok(engine) => Ok(LiveClock { engine, marks }),
+        Err(_) => Err(Memory),
+    }
+}
+
+/// Makes the clocks that run, each before its first tick.
+pub fn make_clocks<'a>(
+    alloc: Global,
+    station: &Station<'a>,
+    lives: &mut Vec<LiveClock<'a>>,
+) -> Result<(), Memory>
+    requires setting { IsSetting (base_at station.now) station.now.clocks.now }
+    requires none { lives.old.items ≡ [] }
+    ensures made { OnOk result (AreNewClocks (base_at station.now) station.now.clocks.now.running lives.new.items) }
+{
+    for clock in 0..station.clocks.running {
+        lives.reserve(1)?;
+        let live = new_clock(alloc, station, clock)?;
+        lives.push_reserved(live);
+    }
+    Ok(())
+}
+
+/// Ends clocks.
+pub fn end_clocks(lives: Vec<LiveClock<'_>>) {
+    let mut lives = lives;
+    while let Some(live) = lives.pop() {
+        let LiveClock { engine, marks } = live;
+        drop(marks);
+        drop(engine.into_outs());
+    }
+    lives.destroy_empty();
+}

@@ -1,0 +1,289 @@
+// A buffer that answers as a trace tells.
+ghost use Rattle.std.specs.Prelude.{◌≡◌, ◌<◌, ◌≤◌, ◌+◌, ◌&&◌, Some, slice_get, true, IfOk, IfErr, OnErr, length};
+ghost use Rattle.trace_turns.specs.Answering.{BufferState, PutsOn, TakesOn, SameBuffer, begun, is_list};
+ghost use Rattle.trace_turns.specs.Marks.{HasLetGo, IsWithin, mark_of, resumed};
+
+use frame_core::Chunk;
+use liq_base::Memory;
+use std::alloc::Global;
+use std::collections::VecDeque;
+use std::marker::Model;
+use std::mem;
+
+/// What a take meets.
+#[derive(Drop)]
+pub enum Taken {
+    Chunk(Chunk),
+    Empty,
+    /// It is to get a chunk that is not there yet.
+    Waits,
+    /// It is to get a chunk that was let go.
+    Lost,
+    /// No answer can be right.
+    Never,
+}
+
+/// What a put meets.
+#[derive(Drop)]
+pub enum Put {
+    Accepted,
+    Full(Chunk),
+    /// No answer can be right.
+    Never,
+}
+
+/// How far the calls of a clock came on a buffer: how many puts and takes, and how many of these got a chunk.
+#[derive(Clone, Copy, Debug, PartialEq, Eq)]
+pub struct Mark {
+    pub put_at: usize,
+    pub take_at: usize,
+    pub got: usize,
+}
+
+/// Before the first call.
+pub const NO_MARK: Mark = Mark {
+    put_at: 0,
+    take_at: 0,
+    got: 0,
+};
+
+/// A buffer in the run of one clock, which answers as a trace tells. The chunks that were put to it stay until they are
+/// let go.
+#[derive(Drop)]
+pub struct ToldBuffer {
+    pub capacity: u32,
+    /// The answers of its puts and of its takes, window after window.
+    pub puts: Vec<bool>,
+    pub takes: Vec<bool>,
+    /// Whether the clock feeds it, and whether it reads it.
+    pub fed: bool,
+    pub read: bool,
+    /// How many puts and takes came in this run, and how many of these got a chunk.
+    pub put_at: usize,
+    pub take_at: usize,
+    pub got: usize,
+    /// How many chunks were there when the run began.
+    pub opened: usize,
+    /// How many chunks were put, how many of the first ones were let go, and the others.
+    pub put: usize,
+    pub gone: usize,
+    pub held: VecDeque<Chunk>,
+    // What was put in the run before, of which each put frees one: so the memory of the one run serves the next.
+    pub spare: VecDeque<Chunk>,
+}
+
+impl Model for ToldBuffer {
+    ghost use Rattle.std.specs.Prelude.{◌≡◌, ◌≤◌, ◌+◌, ◌++◌, length};
+    ghost use Rattle.trace_turns.specs.Answering.{BufferState, blanks, state_coded};
+
+    ghost Value = { BufferState };
+
+    ghost coded = { state_coded };
+
+    ghost view = { λ b. record {
+      capacity = b.capacity;
+      puts = b.puts.items;
+      takes = b.takes.items;
+      fed = b.fed;
+      read = b.read;
+      put_at = b.put_at;
+      take_at = b.take_at;
+      got = b.got;
+      opened = b.opened;
+      chunks = blanks b.gone ++ b.held.items;
+      gone = b.gone;
+    } };
+
+    ghost invariant = { λ b. (b.put_at ≤ length b.puts.items) × (b.take_at ≤ length b.takes.items) × (b.got ≤ b.put)
+        × (b.opened ≤ b.put)
+        × (b.put ≡ b.gone + length b.held.items) × (b.put ≡ length (blanks b.gone ++ b.held.items)) };
+}
+
+impl ToldBuffer {
+    /// Begins a run of a clock, which feeds it or not, and reads it or not.
+    pub fn begin(&mut self, fed: bool, read: bool)
+        ensures { self.new ≡ begun self.old fed read }
+    {
+        self.fed = fed;
+        self.read = read;
+        self.put_at = 0;
+        self.take_at = 0;
+        self.got = 0;
+        self.opened = 0;
+        if fed {
+            mem::swap(&mut self.held, &mut self.spare);
+            self.held.clear();
+            self.put = 0;
+            self.gone = 0;
+            return;
+        }
+        self.opened = self.put;
+    }
+
+    /// Drops all chunks.
+    pub fn forget(&mut self)
+        ensures { self.new ≡ begun self.old true true }
+    {
+        self.begin(true, true);
+        self.spare.clear();
+    }
+
+    /// Goes on with the run of a clock, which feeds it or not, and reads it or not, and whose calls came so far.
+    pub fn resume(&mut self, fed: bool, read: bool, mark: Mark)
+        requires { IsWithin self.old mark }
+        ensures { self.new ≡ resumed self.old fed read mark }
+    {
+        self.fed = fed;
+        self.read = read;
+        self.put_at = mark.put_at;
+        self.take_at = mark.take_at;
+        self.got = mark.got;
+        self.opened = 0;
+        if !fed {
+            self.opened = self.put;
+        }
+    }
+
+    /// How far the calls of the run came.
+    pub fn mark(&self) -> Mark
+        ensures { result ≡ mark_of self.now }
+    {
+        Mark {
+            put_at: self.put_at,
+            take_at: self.take_at,
+            got: self.got,
+        }
+    }
+
+    /// Lets go of the chunks that were got, where the clock reads it.
+    pub fn let_go(&mut self)
+        ensures { HasLetGo self.old self.new }
+    {
+        if !self.read {
+            return;
+        }
+        while self.gone < self.got {
+            drop(self.held.pop_front());
+            self.gone += 1;
+        }
+    }
+
+    /// Whether the chunks that are there suffice for its next takes, up to one that is told to be empty or until so
+    /// many cells were got.
+    pub fn serves(&self, cells: u64) -> bool {
+        if self.got < self.gone {
+            return false;
+        }
+        let mut left = cells;
+        let mut next = self.got - self.gone;
+        for gets in &self.takes[self.take_at..] {
+            if left == 0 || !*gets {
+                return true;
+            }
+            if next >= self.held.len() {
+                return false;
+            }
+            left = left.saturating_sub(u64::from(self.held[next].len()));
+            next += 1;
+        }
+        true
+    }
+
+    // Both its ends are the clock's.
+    fn is_list(&self) -> bool
+        ensures { result ≡ is_list self.now }
+    {
+        self.fed && self.read
+    }
+
+    // How many chunks were put and not got.
+    fn left(&self) -> usize
+        ensures { result + self.now.got ≡ length self.now.chunks }
+    {
+        self.put - self.got
+    }
+
+    /// Takes as the trace tells.
+    pub fn take(&mut self, alloc: Global) -> Result<Taken, Memory>
+        ensures taken { IfOk result (λ taken. TakesOn self.old taken self.new) }
+        ensures same { SameBuffer self.old self.new }
+        ensures memory { OnErr result (self.new ≡ self.old) }
+    {
+        if self.take_at >= self.takes.len() {
+            return Ok(Taken::Never);
+        }
+        if self.takes[self.take_at] {
+            return self.take_chunk(alloc);
+        }
+        if self.is_list() && self.left() != 0 {
+            return Ok(Taken::Never);
+        }
+        self.take_at += 1;
+        Ok(Taken::Empty)
+    }
+
+    // Takes the next chunk, which the trace tells.
+    fn take_chunk(&mut self, alloc: Global) -> Result<Taken, Memory>
+        requires gets { slice_get self.old.takes self.old.take_at ≡ Some true }
+        ensures taken { IfOk result (λ taken. TakesOn self.old taken self.new) }
+        ensures same { SameBuffer self.old self.new }
+        ensures memory { OnErr result (self.new ≡ self.old) }
+    {
+        if self.left() == 0 {
+            if self.is_list() {
+                return Ok(Taken::Never);
+            }
+            return Ok(Taken::Waits);
+        }
+        if self.got < self.gone {
+            return Ok(Taken::Lost);
+        }
+        let chunk = self.held[self.got - self.gone].copy(alloc)?;
+        self.take_at += 1;
+        self.got += 1;
+        Ok(Taken::Chunk(chunk))
+    }
+
+    /// Puts as the trace tells. A full buffer gives the chunk back.
+    pub fn put(&mut self, chunk: Chunk) -> Result<Put, (Chunk, Memory)>
+        ensures put { IfOk result (λ put. PutsOn self.old chunk put self.new) }
+        ensures same { SameBuffer self.old self.new }
+        ensures memory { IfErr result (λ e. (e.0 ≡ chunk) × (self.new ≡ self.old)) }
+    {
+        if self.put_at >= self.puts.len() {
+            return Ok(Put::Never);
+        }
+        if self.puts[self.put_at] {
+            return self.accept(chunk);
+        }
+        if self.is_list() && self.left() != self.capacity as usize {
+            return Ok(Put::Never);
+        }
+        self.put_at += 1;
+        Ok(Put::Full(chunk))
+    }
+
+    // Puts a chunk that is accepted, which the trace tells.
+    fn accept(&mut self, chunk: Chunk) -> Result<Put, (Chunk, Memory)>
+        requires accepts { slice_get self.old.puts self.old.put_at ≡ Some true }
+        ensures put { IfOk result (λ put. PutsOn self.old chunk put self.new) }
+        ensures same { SameBuffer self.old self.new }
+        ensures memory { IfErr result (λ e. (e.0 ≡ chunk) × (self.new ≡ self.old)) }
+    {
+        if self.is_list() && self.left() >= self.capacity as usize {
+            return Ok(Put::Never);
+        }
+        let Some(put) = self.put.checked_add(1) else {
+            return Err((chunk, Memory));
+        };
+        drop(self.spare.pop_front());
+        match self.held.push_back(chunk) {
+            Ok(()) => {
+                self.put = put;
+                self.put_at += 1;
+                Ok(Put::Accepted)
+            }
+            Err(failed) => Err((failed.value, Memory)),
+        }
+    }
+}
