@@ -12,7 +12,6 @@ use Rattle.stream_meaning.specs.Operators.{Work, Plays, Picks, Mixes, Fades, Rea
 use Rattle.stream_meaning.specs.Instants.{Setting, Moment, work_at}
 use Rattle.stream_meaning.specs.Calls.{HasAnswers, IsBegin, after_calls, takes_by}
 use Rattle.stream_meaning.proofs.Sorted.{no_takes}
-pub use Rattle.stream_meaning.proofs.Sorted.{op_of_reads}
 use Rattle.stream_meaning.proofs.Answering.{answers_in-other, answers_in-own}
 use Rattle.node_states.specs.declared.state.NodeState.{NodeState}
 use Rattle.node_states.specs.States.{StateStands, reading_by, reads}

@@ -11,7 +11,7 @@ use Rattle.stream_meaning.specs.Instants.{Setting, answered}
 use Rattle.stream_meaning.specs.Calls.{IsUnread, answers_in, calls_of_tick}
 use Rattle.stream_meaning.specs.Settings.{IsSetting}
 use Rattle.stream_meaning.proofs.Unread.{no_tick_takes}
-use Rattle.run_records.proofs.Ticking.{reads_op}
+use Rattle.stream_meaning.proofs.Sorted.{reads_op}
 use Rattle.run_records.specs.Buffers.{feeder, reader}
 use Rattle.run_records.specs.Owning.{IsOwn}
 use Rattle.run_records.proofs.Owning.{own_tick}

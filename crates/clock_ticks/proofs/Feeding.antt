@@ -14,7 +14,7 @@ use Rattle.stream_meaning.proofs.Existence.{same_clock-true}
 use Rattle.clock_outputs.specs.declared.feed.FeedPort.{FeedPort}
 use Rattle.clock_outputs.specs.Feeds.{HaveOwnBuffers}
 use Rattle.clock_instants.specs.Takes.{HasOwnReaders, HasReader}
-use Rattle.clock_instants.proofs.Reading.{op_of_reads}
+use Rattle.stream_meaning.proofs.Sorted.{op_of_reads}
 use Rattle.clock_ticks.specs.Engines.{feed_of, feeds_from, feeds_of, setting_of}
 use Rattle.clock_ticks.proofs.Numbered.{got_mapped, no_item}
 

@@ -10,7 +10,7 @@ use Rattle.stream_meaning.specs.Instants.{Setting, clock_of}
 use Rattle.stream_meaning.specs.Calls.{IsBelow, IsUnread}
 use Rattle.stream_meaning.proofs.Ranks.{AreNested, deeper}
 use Rattle.clock_nodes.proofs.Places.{same_or_other}
-use Rattle.clock_instants.proofs.Reading.{op_of_reads}
+use Rattle.stream_meaning.proofs.Sorted.{op_of_reads}
 use Rattle.clock_ticks.specs.Engines.{AreClocksOf}
 use Rattle.clock_ticks.proofs.Mapped.{nested}
 

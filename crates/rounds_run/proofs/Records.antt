@@ -10,7 +10,7 @@ use Rattle.stream_meaning.specs.Instants.{Setting, answered}
 use Rattle.stream_meaning.specs.Calls.{IsBegin, answers_in, calls_of_tick, joined_upto}
 use Rattle.stream_meaning.proofs.Answering.{begin_all, joined_same}
 use Rattle.stream_meaning.proofs.Unread.{no_tick_takes, none_in_joined}
-use Rattle.clock_instants.proofs.Reading.{op_of_reads}
+use Rattle.stream_meaning.proofs.Sorted.{op_of_reads}
 use Rattle.run_records.specs.Records.{AreRoundsBegun, Follows, IsRounds, Run, Window, answers_of, capacity_of, on, rounds_of, rounds_to, setting_in, ticks_of, setting_then, windows_of}
 use Rattle.run_records.proofs.Turning.{joined_split, turns_are_rounds}
 use Rattle.std.proofs.lemmas.Nat.{mod-mul-add, div-mul-add}

@@ -16,7 +16,8 @@ use Rattle.stream_meaning.specs.Operators.{Reads}
 use Rattle.stream_meaning.specs.Settings.{IsSetting}
 use Rattle.stream_meaning.specs.Instants.{Setting, answered, prefill, new_reading, work_at}
 use Rattle.stream_meaning.specs.Calls.{joined_between}
-use Rattle.run_records.proofs.Ticking.{is_answered, reads_op}
+use Rattle.stream_meaning.proofs.Sorted.{reads_op}
+use Rattle.run_records.proofs.Ticking.{is_answered}
 use Rattle.run_records.specs.Buffers.{feeder, reader}
 use Rattle.run_records.specs.Heard.{HasRoom, IsHeard, prefill_ticks}
 use Rattle.run_records.specs.Pace.{AreSmall, AreTicks, IsDrawn, KeepPace, has_none}

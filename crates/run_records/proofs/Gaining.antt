@@ -22,7 +22,7 @@ use Rattle.stream_meaning.proofs.Unread.{no_given}
 use Rattle.run_records.specs.Buffers.{main_of, main_within, read_from, reader}
 use Rattle.run_records.proofs.Gotten.{down, first_of}
 use Rattle.run_records.proofs.Owning.{read_is}
-use Rattle.run_records.proofs.Ticking.{reads_op}
+use Rattle.stream_meaning.proofs.Sorted.{reads_op}
 use Rattle.run_records.proofs.Turning.{joined_split}
 
 flip : (a b : ℕ) → (b == a) ≡ nat_eq a b

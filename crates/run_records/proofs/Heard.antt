@@ -28,7 +28,7 @@ use Rattle.stream_meaning.specs.Settings.{IsSetting}
 use Rattle.stretch_laws.proofs.Demanding.{used_demanded}
 use Rattle.stretch_laws.proofs.Parts.{own_part, part_stays, uses_at}
 use Rattle.stream_meaning.proofs.Existence.{clock_there}
-use Rattle.run_records.proofs.Ticking.{reads_op}
+use Rattle.stream_meaning.proofs.Sorted.{reads_op}
 use Rattle.run_records.specs.Buffers.{main_of, main_within, read_from}
 use Rattle.run_records.specs.Heard.{AlwaysUses, IsHeard}
 use Rattle.run_records.specs.Pace.{IsDrawn}

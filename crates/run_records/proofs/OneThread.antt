@@ -38,7 +38,8 @@ use Rattle.run_records.proofs.Owning.{all_at, all_joined, own_tick}
 use Rattle.run_records.proofs.Replaying.{takes_all, takes_now}
 use Rattle.run_records.proofs.Resting.{follows_then, none_took}
 use Rattle.run_records.proofs.Rounding.{on-append}
-use Rattle.run_records.proofs.Ticking.{reads_op, tick_first, tick_goes}
+use Rattle.stream_meaning.proofs.Sorted.{reads_op}
+use Rattle.run_records.proofs.Ticking.{tick_first, tick_goes}
 
 -- calls that take
 abbrev IsTook : Call → Type 0

@@ -29,7 +29,7 @@ use Rattle.run_records.specs.Buffers.{main_within, main_of, fed_in, reads_in, re
 use Rattle.run_records.specs.Owning.{IsOwn}
 use Rattle.run_records.specs.Alike.{IsAt}
 use Rattle.run_records.proofs.Instantly.{HasRank}
-use Rattle.run_records.proofs.Ticking.{reads_op}
+use Rattle.stream_meaning.proofs.Sorted.{reads_op}
 
 module _ (P : Call → Type 0) where
   pub all_joined : (calls : ℕ → List Call) (n : ℕ) → ((j : ℕ) → All P (calls j)) → All P (joined_upto calls n)

@@ -6,7 +6,7 @@ use Rattle.clock_infer.specs.declared.clock_map.ClockMap.{ClockMap}
 use Rattle.stream_meaning.specs.Operators.{Reads}
 use Rattle.stream_meaning.specs.Settings.{IsSetting}
 use Rattle.stream_meaning.specs.Instants.{Setting, prefill, new_reading, work_at}
-use Rattle.run_records.proofs.Ticking.{reads_op}
+use Rattle.stream_meaning.proofs.Sorted.{reads_op}
 use Rattle.run_records.specs.Buffers.{feeder}
 use Rattle.run_records.specs.Records.{Run, Window, AreWindows, windows_of, answers_of, puts_of, capacity_of, setting_in, start}
 use Rattle.run_records.specs.Pace.{has_none, AreSmall, AreTicks, IsDrawn}

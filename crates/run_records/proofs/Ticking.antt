@@ -17,7 +17,6 @@ use Rattle.stream_meaning.specs.Sinks.{slot_block, kind_of, tick_slots, ticks_by
 use Rattle.stream_meaning.specs.Calls.{joined_upto, calls_of, given, give_by, gives_of_tick, takes_of_tick, calls_of_tick}
 use Rattle.stream_meaning.specs.Settings.{IsSetting}
 use Rattle.stream_meaning.proofs.Sorted.{op_of_reads}
-pub use Rattle.stream_meaning.proofs.Sorted.{reads_op}
 use Rattle.stream_meaning.proofs.Ranks.{AreNested}
 use Rattle.stream_meaning.proofs.Existence.{meaning, are_nested, same_clock-true}
 use Rattle.run_records.specs.Parting.{Goes}

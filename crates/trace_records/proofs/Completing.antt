@@ -20,7 +20,7 @@ use Rattle.stream_meaning.specs.Settings.{IsSetting}
 use Rattle.stream_meaning.proofs.Answering.{joined_same}
 use Rattle.stream_meaning.proofs.Unread.{no_tick_takes, none_in_joined}
 use Rattle.run_records.specs.Outputs.{first_calls}
-use Rattle.run_records.proofs.Ticking.{reads_op}
+use Rattle.stream_meaning.proofs.Sorted.{reads_op}
 use Rattle.run_records.specs.Buffers.{feeder, reader}
 use Rattle.run_records.specs.Ordered.{IsOrdered, made as counted, text_of_window}
 use Rattle.run_records.specs.Owning.{IsOwn}

@@ -13,7 +13,7 @@ use Rattle.stream_meaning.specs.Settings.{IsSetting}
 use Rattle.stream_meaning.specs.Sinks.{ticks_bytes}
 use Rattle.stream_meaning.proofs.Unread.{no_tick_takes, none_in_joined}
 use Rattle.run_records.specs.Outputs.{first_calls}
-use Rattle.clock_instants.proofs.Reading.{op_of_reads}
+use Rattle.stream_meaning.proofs.Sorted.{op_of_reads}
 use Rattle.run_records.specs.Buffers.{reader}
 use Rattle.run_records.specs.Owning.{IsOwn}
 use Rattle.run_records.specs.Records.{AreWindows, Run, Window, answers_of, calls_in, setting_in}
