@@ -15,7 +15,7 @@ use Rattle.stream_meaning.proofs.Sorted.{no_takes}
 use Rattle.stream_meaning.proofs.Answering.{answers_in-other, answers_in-own}
 use Rattle.node_states.specs.declared.state.NodeState.{NodeState}
 use Rattle.node_states.specs.States.{StateStands, reading_by, reads}
-use Rattle.node_states.specs.Takes.{HasBegunAt, HasTakenSome}
+use Rattle.node_states.specs.Takes.{HasBegunAt}
 use Rattle.node_states.specs.Takes as node
 use Rattle.node_states.proofs.Chunks.{adds_none, map-append}
 use Rattle.clock_nodes.specs.declared.scene.Scene.{Scene}

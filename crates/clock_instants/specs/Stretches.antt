@@ -123,7 +123,8 @@ IsSupplied history many filled k held sides =
 
 -- over so many instants behind the next one, the samples of node k are its lane
 abbrev pub HasMadeLane : History → (many k : ℕ) → Sides Lanes → Type 0
-HasMadeLane history many k sides = IsLaneOf history k many (samples_of sides.left k many) (samples_of sides.right k many)
+HasMadeLane history many k sides = IsLaneOf history k many
+    (samples_of sides.left k many) (samples_of sides.right k many)
 
 -- a stretch of so many instants behind the next one, as node i sees it before its run: what it and the nodes before it
 -- gave, and the samples of those that give; `held` is what all nodes gave

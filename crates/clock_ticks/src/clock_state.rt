@@ -41,7 +41,8 @@ pub fn make_segment<T: Taps>(
     ensures same { T.same taps.old taps.new }
     ensures within { IfOk result (λ many. many ≤ most) }
     ensures run { IfOk result
-        (λ many. SegmentMade T.stands scene.now clock own.now many (tapped state.old taps.old) (tapped state.new taps.new)) }
+        (λ many. SegmentMade T.stands scene.now clock own.now many
+        (tapped state.old taps.old) (tapped state.new taps.new)) }
     ensures broken { OnErr result (SegmentBroken T.stands scene.now clock own.now state.old taps.old taps.new) }
     ensures reads { OnErr result (HasReader scene.now.plan.now scene.now.clocks.now clock) }
 {

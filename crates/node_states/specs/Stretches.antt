@@ -54,7 +54,8 @@ pub record GivesOn (history : History) (many filled i : ℕ) (node : Node) (soun
 
 -- what the children of node i gave at the next instant, which of them it used there, and the samples of those that
 -- gave, over so many instants that go on as that one
-pub record ChildrenGive (history : History) (many i : ℕ) (node : Node) (pick : Option ℕ) (before : Before) : Type 0 where
+pub record ChildrenGive (history : History) (many i : ℕ) (node : Node) (pick : Option ℕ)
+    (before : Before) : Type 0 where
   pub given : (c : ℕ) → list_any (nat_eq c) node.children ≡ true
       → part_at before.parts.now c ≡ given_part (next_of history) c
   pub used : pick ≡ (part_at (next_of history).parts i).pick

@@ -1,5 +1,5 @@
 -- Runs of the engines of all clocks, in rounds: each clock makes a tick, then each makes the next.
-use Rattle.std.specs.Prelude.{◌≡◌, ◌+◌, ◌/◌, ◌%◌, ℕ, suc, Bool, Option, Some, List, [], length, slice_get, ◌⊎◌, true, ◌<◌, ◌*◌}
+use Rattle.std.specs.Prelude.{◌≡◌, ◌+◌, ◌/◌, ◌%◌, ℕ, suc, Bool, Some, List, [], length, slice_get, ◌⊎◌, true, ◌<◌, ◌*◌}
 pub use Rattle.run_records.specs.Records.{made_by, ticks_by}
 use Rattle.liq_base.specs.Pieces.{IsPrefix, SinkTold, grown}
 use Rattle.clock_infer.specs.declared.clock_map.NodeClock.TheVariants.{Main}

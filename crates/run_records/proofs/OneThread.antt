@@ -19,13 +19,13 @@ use Rattle.op_leaf.specs.Readers as readers
 use Rattle.stream_meaning.specs.Operators.{Work, Plays, Picks, Mixes, Fades, Reads}
 use Rattle.stream_meaning.specs.Instants.{Setting, Moment, answered, first_instants, lies_in, next_answers, position, reading_after, sub_of, work_at}
 use Rattle.stream_meaning.specs.Sinks.{feed_cells}
-use Rattle.stream_meaning.specs.Calls.{answers_in, calls_at, calls_of, calls_of_tick, fades_by, fades_in, give_by, given, gives_of_tick, joined_between, joined_upto, ran_by, takes_at, takes_by, takes_in, takes_of_tick}
+use Rattle.stream_meaning.specs.Calls.{answers_in, calls_at, calls_of, calls_of_tick, fades_by, fades_in, give_by, given, gives_of_tick, joined_upto, ran_by, takes_at, takes_by, takes_in, takes_of_tick}
 use Rattle.stream_meaning.specs.Settings.{IsSetting}
 use Rattle.stream_meaning.proofs.Answering.{answers_in-append}
 use Rattle.stream_meaning.proofs.Unread.{no_tick_takes, none_in_joined}
 use Rattle.run_records.specs.Alike.{IsTickAlike}
 use Rattle.run_records.specs.Buffers.{reader}
-use Rattle.run_records.specs.OneThread.{accepted_after, answers_after, calls_in_rounds, has_place, held_after, held_by, round_after, rounds_record, tick_after, windows_from}
+use Rattle.run_records.specs.OneThread.{accepted_after, answers_after, calls_in_rounds, held_after, held_by, round_after, rounds_record, windows_from}
 use Rattle.run_records.specs.Owning.{IsOwn}
 use Rattle.run_records.specs.Parting.{ArePart, Differ, Goes}
 use Rattle.run_records.specs.Records.{Follows, IsRounds, Run, Window, answers_of, capacity_of, on, rounds_of, rounds_to, setting_in, ticks_of, windows_of}

@@ -36,7 +36,6 @@ use Rattle.station_render.specs.Runs.{IsRendered, IsTold}
 use Rattle.station_render.specs.declared.rendered.Rendered.{Rendered as Shown}
 use Rattle.station_jobs.specs.declared.halt.Halt.{Halt}
 use Rattle.station_jobs.specs.declared.halt.Halt.TheVariants.{Read, Write, Memory as no_memory, Refused as refused_for}
-use Rattle.refusal_lines.specs.declared.fault.Fault.{Fault}
 use Rattle.refusal_lines.specs.declared.fault.Fault.TheVariants.{Replay as Untold}
 use Rattle.station_jobs.specs.Words.{Asked, Check, Replay, cues_of, asked_file, start_of, asked_ticks, trace_name}
 use Rattle.station_jobs.specs.Verdicts.{Verdict, Usage, Refused, Accepted, IsVerdictOn, files_for}

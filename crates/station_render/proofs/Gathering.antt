@@ -1,6 +1,6 @@
 -- What rounds and threads leave, as one record of a run.
-use Rattle.std.proofs.Common.{◌≡◌, ◌≤◌, ◌+◌, ◌∙◌, ◌++◌, ◌⊎◌, true, false, ℕ, suc, Bool, List, [], ◌∷◌, length, map, flat_map, slice_get, slice_index_or, min, nat_eq, nat_lt, arith, refl, ap, sym, subst, inl, inr, if◌then◌else◌}
-use Rattle.std.specs.Prelude.{Option, Some, count_by, is_none, is_some, not}
+use Rattle.std.proofs.Common.{◌≡◌, ◌≤◌, ◌+◌, ◌∙◌, ◌++◌, ◌⊎◌, true, false, ℕ, suc, Bool, List, [], ◌∷◌, length, map, flat_map, slice_get, slice_index_or, min, nat_lt, arith, refl, ap, sym, subst, inl, inr, if◌then◌else◌}
+use Rattle.std.specs.Prelude.{Some, count_by, is_none, is_some, not}
 use Rattle.std.proofs.lemmas.List.{map-append}
 use native.Mathlib.Nat.{min-le_right}
 use Rattle.std.proofs.Math.Nat.{min-eq_left, min-eq_right}

@@ -1,10 +1,7 @@
 // Laws of stations. Each is a contract of a function that does nothing.
 ghost use Rattle.std.specs.Prelude.{◌≡◌, ℕ, ◌+◌, ◌*◌, ◌++◌, ◌<◌, Bool, length};
-ghost use Rattle.clock_infer.specs.declared.clock_map.ClockMap.{ClockMap as Clocks};
-ghost use Rattle.frame_core.specs.Library.{Sounds};
 ghost use Rattle.liq_base.specs.Files.{Files};
 ghost use Rattle.plan_core.specs.Plans.{IsWellFormed};
-ghost use Rattle.plan_core.specs.declared.plan.Plan.{Plan as ThePlan};
 ghost use Rattle.stations.specs.Creations.{AreNamesOfFiles};
 ghost use Rattle.stations.specs.Findings.{IsRenderable};
 ghost use Rattle.run_records.specs.Records.{Run};

@@ -1,5 +1,5 @@
 // Laws of traces. Each is the contract of a function that does nothing.
-ghost use Rattle.std.specs.Prelude.{◌≡◌, ◌≤◌, ◌++◌, ◌↔◌, ℕ, true, List, Option, is_some, length, map};
+ghost use Rattle.std.specs.Prelude.{◌≡◌, ◌≤◌, ◌++◌, ℕ, true, List, Option, is_some, length, map};
 ghost use Rattle.clock_infer.specs.declared.clock_map.ClockMap.{ClockMap as Map};
 ghost use Rattle.frame_core.specs.declared.cell.Cell.{Cell};
 ghost use Rattle.frame_core.specs.Frames.{somes};

@@ -1,5 +1,5 @@
 // The answers of a trace, as a run tells them.
-ghost use Rattle.std.specs.Prelude.{◌≡◌, not, count_by, length, map, IfOk};
+ghost use Rattle.std.specs.Prelude.{◌≡◌, not, count_by, map, IfOk};
 ghost use Rattle.buffer_ends.specs.declared.run_end.End.TheVariants.{Done as IsDone};
 ghost use Rattle.trace_replay.specs.Replays.{counts_in};
 ghost use Rattle.buffer_ends.specs.Local.{yes};

@@ -1,6 +1,5 @@
 // Where the windows of a buffer end.
-ghost use Rattle.std.specs.Prelude.{◌≡◌, ◌<◌, ◌≤◌, ◌↔◌, Some, slice_get, length, true, false};
-ghost use Rattle.trace_turns.specs.declared.course.Course.TheVariants.{Goes as IsGoing};
+ghost use Rattle.std.specs.Prelude.{◌≡◌, ◌<◌, ◌≤◌, Some, slice_get, length, true, false};
 ghost use Rattle.trace_turns.specs.Turns.{AreAtEnd, EndsWith, GoesOn, IsAtEnd, IsOffEnd};
 
 use crate::course::Course;

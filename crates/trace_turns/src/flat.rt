@@ -1,5 +1,5 @@
 // The answers of a buffer, window after window.
-ghost use Rattle.std.specs.Prelude.{◌≡◌, length, IfOk};
+ghost use Rattle.std.specs.Prelude.{◌≡◌, IfOk};
 ghost use Rattle.std.specs.List.{flat_map};
 ghost use Rattle.trace_turns.specs.Logs.{AreEndsOf, side_of};
 

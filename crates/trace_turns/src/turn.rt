@@ -1,5 +1,5 @@
 // The run of one clock, as far as it can be made.
-ghost use Rattle.std.specs.Prelude.{◌≡◌, ◌≤◌, ◌<◌, ℕ, None, length, OnOk, IfOk, Ok};
+ghost use Rattle.std.specs.Prelude.{◌≡◌, ◌≤◌, ◌<◌, ℕ, length, IfOk, Ok};
 ghost use Rattle.trace_turns.specs.declared.course.Course.TheVariants.{Goes as IsGoing};
 ghost use Rattle.trace_turns.specs.declared.turn.Turn.TheVariants.{Made as HasMadeTicks, Refused as IsRefusedTurn};
 ghost use Rattle.trace_turns.specs.Answering.{SameBuffers};

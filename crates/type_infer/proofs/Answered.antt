@@ -2,7 +2,7 @@
 use Rattle.std.proofs.Common.{◌≡◌, sym, ap, subst, refl, ℕ, length, List, [], ◌∷◌, ◌++◌, map, false, Option, Some, None, Result, Ok, Err, IfOk}
 use Rattle.std.specs.Bool.{IsTrue}
 use Rattle.liq_base.specs.declared.memory.Memory.{Memory}
-use Rattle.script_grammar.specs.Tree.{Tree, Many, AnInner, AnExpr, Param as TreeParam, Labelled, Optional}
+use Rattle.script_grammar.specs.Tree.{Tree, Many, AnInner, AnExpr, Param as TreeParam, Labelled}
 use Rattle.script_grammar.specs.View.{listed, param_of, view_def, view_expr, view_full, view_inner, view_param}
 use Rattle.script_grammar.specs.declared.tree.Def.{Def}
 use Rattle.script_grammar.specs.declared.tree.Full.{Full}

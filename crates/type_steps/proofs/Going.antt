@@ -9,7 +9,7 @@ use Rattle.typing_rules.specs.Typing.{Has}
 use Rattle.typing_rules.specs.Scripts.{Entry, HasSome, IsTypedTo, Places, Targets, function, sight, value}
 use Rattle.typing_rules.specs.Kinds.{read}
 use Rattle.type_instances.specs.Schemes.{Scheme, IsSchemeOver}
-use Rattle.type_steps.specs.Environment.{AreKnownOver, AreUsesOver, Env, Found, Known, TextUse, entries_under, settled_use, texts_under}
+use Rattle.type_steps.specs.Environment.{AreKnownOver, Found, Known, TextUse, entries_under}
 use Rattle.type_steps.specs.Environment as known
 use Rattle.type_steps.specs.Flow.{HasNoType, Infers}
 use Rattle.type_steps.proofs.Tables.{env_later}
