@@ -10,7 +10,7 @@ returns c = record {
   general = record {
     made = c.in_ok-made.made;
     known = c.in_ok-known.ensures;
-    type = subst (λ (g : General). IsGeneralType c.args.subst.now c.renew.new.held c.args.parts.now (founds c.args.uses.now) (scheme_of g) c.in_ok-made.made.text.items) (sym c.in_ok-known.ensures.general) c.in_ok-made.ensures;
+    type = subst (λ (g : General). IsGeneralType c.args.subst.now c.renew.new.self c.args.parts.now (founds c.args.uses.now) (scheme_of g) c.in_ok-made.made.text.items) (sym c.in_ok-known.ensures.general) c.in_ok-made.ensures;
     solution = (c.has_defaults.ensures.at, c.has_defaults.ensures.solves);
     held = c.in_ok-renew.ensures.held;
   };
