@@ -45,16 +45,16 @@ no_typing s targets before d n a m some = n a m some.0 some.1 some.2 some.3
 pub is_typed : (s s1 : Table) (targets : Targets) (before : List Known) (d : Def) (p : TypedParts) (fs : List Found) (h h' : HeldVariables) (t : KnownDef) → AreKnownOver s before → HoldsBefore s before h → InfersDef s s1 (outside targets before) (view_def d) p.params.items p.result fs → IsGeneralDef s1 h h' d p fs t → IsTypedDef s s1 targets before d h' t
 is_typed s s1 targets before d p fs h h' t known was i g =
     let held = g.held s (terms_before before) i.follows was.held in
-    let typing = def_typing s s1 targets before (view_def d) p.params.items p.result fs h (scheme_of t.general) g.text i known was (g.general (terms_before before) held) (g.over (terms_before before) held) (g.text_over (terms_before before) held) in
-    let holds = def_held s s1 targets before (view_def d) p.params.items p.result fs h (scheme_of t.general) g.text i known was (g.general (terms_before before) held) h' held in
+    let typing = def_typing s s1 targets before (view_def d) p.params.items p.result fs h (scheme_of t.general) g.made.text.items i known was (g.type.general (terms_before before) held) (g.type.over (terms_before before) held) (g.type.text_over (terms_before before) held) in
+    let holds = def_held s s1 targets before (view_def d) p.params.items p.result fs h (scheme_of t.general) g.made.text.items i known was (g.type.general (terms_before before) held) h' held in
     record {
-      def = g.def;
-      at = g.at;
-      params = g.params;
+      def = g.known.def;
+      at = g.known.at;
+      params = g.known.params;
       follows = i.follows;
-      complete = def_keeps s s1 targets before (view_def d) p.params.items p.result fs h (scheme_of t.general) g.text i known was (g.general (terms_before before) held);
-      typing = subst (λ (us : List TextUse). IsTypingOf s1 targets before (view_def d) (scheme_of t.general) us) (sym g.text_is) typing;
-      held = subst (λ (us : List TextUse). HoldsBefore s1 (function (view_def d) us ∷ before) h') (sym g.text_is) holds;
+      complete = def_keeps s s1 targets before (view_def d) p.params.items p.result fs h (scheme_of t.general) g.made.text.items i known was (g.type.general (terms_before before) held);
+      typing = subst (λ (us : List TextUse). IsTypingOf s1 targets before (view_def d) (scheme_of t.general) us) (sym g.known.text) typing;
+      held = subst (λ (us : List TextUse). HoldsBefore s1 (function (view_def d) us ∷ before) h') (sym g.known.text) holds;
     }
 
 -- ---- the uses of the text are said as those that were found
@@ -97,16 +97,16 @@ said_same (f ∷ fs) text long =
     ap₂ (λ (n : ℕ) (l : List Said). (f.at, Some f.target, Some n) ∷ l) (said_taken (length f.kinds) text (kinds_in fs) f.kinds refl long) (said_same fs (drop (length f.kinds) text) (rest_long f.kinds (kinds_in fs) text long))
 
 -- the text has as many kinds as the uses
-text_long : (s : Table) (d : Def) (p : TypedParts) (fs : List Found) (h h' : HeldVariables) (t : KnownDef) (s0 : Table) (names : List Term) → Follows s0 s → IsHeldBy s0 names h → (g : IsGeneralDef s h h' d p fs t) → length g.text ≡ length (kinds_in fs)
+text_long : (s : Table) (d : Def) (p : TypedParts) (fs : List Found) (h h' : HeldVariables) (t : KnownDef) (s0 : Table) (names : List Term) → Follows s0 s → IsHeldBy s0 names h → (g : IsGeneralDef s h h' d p fs t) → length g.made.text.items ≡ length (kinds_in fs)
 text_long s d p fs h h' t s0 names f held g =
     let a : Assignment = g.solution.0 in
-    let q = (g.general names (g.held s0 names f held)).complete a a g.solution.1 g.solution.1 refl in
-    lengths q.0 a g.text (map (kind_meaning a) (kinds_in fs)) q.2 ∙ length_meanings a (kinds_in fs)
+    let q = (g.type.general names (g.held s0 names f held)).complete a a g.solution.1 g.solution.1 refl in
+    lengths q.0 a g.made.text.items (map (kind_meaning a) (kinds_in fs)) q.2 ∙ length_meanings a (kinds_in fs)
 
 pub is_said : (s s1 : Table) (targets : Targets) (before : List Known) (ns : Names) (d : Def) (p : TypedParts) (fs : List Found) (h h' : HeldVariables) (t : KnownDef) (ts : List ℕ) (old : List Found) → old ≡ [] → HoldsBefore s before h → InfersDef s s1 (outside targets before) (view_def d) p.params.items p.result fs → IsGeneralDef s1 h h' d p fs t → AreAdded ns ts old fs → AreSaidAs ns ts (text_of t)
 is_said s s1 targets before ns d p fs h h' t ts old none was i g added =
     let long = text_long s1 d p fs h h' t s (terms_before before) i.follows was.held g in
-    ap (map said_in) g.text_is ∙ said_same fs g.text long ∙ added ∙ ap (λ (l : List Found). map said_of l ++ map (said_at ns) ts) none
+    ap (map said_in) g.known.text ∙ said_same fs g.made.text.items long ∙ added ∙ ap (λ (l : List Found). map said_of l ++ map (said_at ns) ts) none
 
 -- ---- the open kinds of the uses are those of the text
 
@@ -132,5 +132,5 @@ is_numbered s s1 targets before d p fs h h' t was i g =
     let long = text_long s1 d p fs h h' t s (terms_before before) i.follows was.held g in
     record {
       some = g.solution;
-      numbered = ap (λ (us : List TextUse). numbered_on 0 (opens_in us)) g.text_is ∙ ap (numbered_on 0) (uses_open fs g.text long) ∙ g.numbered;
+      numbered = ap (λ (us : List TextUse). numbered_on 0 (opens_in us)) g.known.text ∙ ap (numbered_on 0) (uses_open fs g.made.text.items long) ∙ g.type.numbered;
     }

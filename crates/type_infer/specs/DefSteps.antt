@@ -9,7 +9,8 @@ use Rattle.type_terms.specs.Table.{Table, Solves}
 use Rattle.type_terms.specs.Term.{Term, variable}
 use Rattle.typing_rules.specs.Scripts.{Places, Targets, def_token, params_of}
 use Rattle.typing_rules.specs.Typing.{Has, InnersHave, TypesByToken, token_of, within}
-use Rattle.type_instances.specs.Schemes.{IsSchemeOver, scheme_of}
+use Rattle.type_instances.specs.Schemes.{IsSchemeOver, Scheme, scheme_of}
+use Rattle.general_types.specs.declared.generalising.DefType.{DefType}
 use Rattle.general_types.specs.declared.generalising.TextKind.{TextKind}
 use Rattle.general_types.specs.Generals.{AreTextKindsOver, IsGeneral, IsNumberedText}
 use Rattle.general_types.specs.Holding.{HeldVariables, IsHeldBy}
@@ -83,19 +84,29 @@ abbrev pub ArePartsOf : Table → Table → Targets → List Known → Tree ADef
 ArePartsOf s s' targets before d new None = HasNoDef s (outside targets before) d
 ArePartsOf s s' targets before d new (Some p) = InfersDef s s' (outside targets before) d p.params.items p.result new
 
+-- The types of a def, whose parts have these variables and uses, were made general in all that is not held.
+pub record IsGeneralType (s : Table) (h : HeldVariables) (p : TypedParts) (fs : List Found) (g : Scheme)
+    (text : List TextKind) : Type 0 where
+  pub numbered : IsNumberedText g text
+  pub over : (names : List Term) → IsHeldBy s names h → IsSchemeOver s g
+  pub text_over : (names : List Term) → IsHeldBy s names h → AreTextKindsOver s text
+  pub general : (names : List Term) → IsHeldBy s names h
+      → IsGeneral s names (map variable p.params.items) (variable p.result) (kinds_in fs) g text
+
+-- a def with its general type, whose text has these uses
+pub record IsKnownDef (d : Def) (fs : List Found) (made : DefType) (t : KnownDef) : Type 0 where
+  pub def : t.def.now ≡ d
+  pub at : t.at ≡ def_token (view_def d)
+  pub params : map seen_parameter t.params.items ≡ params_of (view_def d)
+  pub general : t.general ≡ made.general
+  pub text : text_of t ≡ text_uses fs made.text.items
+
 -- A def whose parts have these variables and uses was made general in all that is not held. The first variables were
 -- held at an earlier substitution, and the second ones are held now.
 pub record IsGeneralDef (s : Table) (h h' : HeldVariables) (d : Def) (p : TypedParts) (fs : List Found)
     (t : KnownDef) : Type 0 where
-  pub def : t.def.now ≡ d
-  pub at : t.at ≡ def_token (view_def d)
-  pub params : map seen_parameter t.params.items ≡ params_of (view_def d)
-  pub text : List TextKind
-  pub text_is : text_of t ≡ text_uses fs text
-  pub numbered : IsNumberedText (scheme_of t.general) text
+  pub made : DefType
+  pub known : IsKnownDef d fs made t
+  pub type : IsGeneralType s h' p fs (scheme_of t.general) made.text.items
   pub solution : (a : Assignment) × Solves a s
   pub held : (s0 : Table) (names : List Term) → Follows s0 s → IsHeldBy s0 names h → IsHeldBy s names h'
-  pub over : (names : List Term) → IsHeldBy s names h' → IsSchemeOver s (scheme_of t.general)
-  pub text_over : (names : List Term) → IsHeldBy s names h' → AreTextKindsOver s text
-  pub general : (names : List Term) → IsHeldBy s names h'
-      → IsGeneral s names (map variable p.params.items) (variable p.result) (kinds_in fs) (scheme_of t.general) text

@@ -1,5 +1,5 @@
 // The names of the statements before the first with a fault of names.
-ghost use Rattle.std.specs.Prelude.{◌≡◌, ◌≢◌, ◌++◌, None, Some, IfErr, IfOk, OnOk, map, option_map};
+ghost use Rattle.std.specs.Prelude.{◌≡◌, ◌≢◌, ◌++◌, [], None, Some, IfErr, IfOk, OnOk, map, option_map};
 ghost use Rattle.script_grammar.specs.View.{view_stmt};
 ghost use Rattle.typing_rules.specs.NameFaults.{faults_in, name_fault_in, reported_fault};
 ghost use Rattle.typing_rules.specs.Scoping.{meant, names, with_statement};
@@ -28,13 +28,28 @@ pub fn resolve_front(alloc: Global, statements: &[Stmt]) -> Result<Front, Memory
 {
     let mut scope = Scope::new(alloc);
     let mut notes = Notes::new(alloc);
+    resolve_each(alloc, &mut scope, &mut notes, statements)
+}
+
+/// The same with a scope without names, and no notes.
+fn resolve_each<'a>(
+    alloc: Global,
+    scope: &mut Scope<'a>,
+    notes: &mut Notes,
+    statements: &'a [Stmt],
+) -> Result<Front, Memory>
+    requires scope { in_scope scope.old ≡ [] }
+    requires notes { notes.old.fault ≡ None }
+    ensures { IfOk result
+        (λ f. IsFront (map view_stmt statements.entry.now) f.count (map resolved f.all.items) f.fault) }
+{
     let mut all = Vec::new(alloc);
     let mut number: u32 = 0;
     for stmt in statements {
         if number == u32::MAX {
             return Err(Memory);
         }
-        match note_names(alloc, &mut scope, &mut notes, stmt, number + 1) {
+        match note_names(alloc, scope, notes, stmt, number + 1) {
             Err(fault) => {
                 return Ok(Front {
                     all,

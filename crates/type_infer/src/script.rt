@@ -138,11 +138,37 @@ fn type_with<'a>(
         front.now.count f) }
 {
     let mut typing = start(alloc)?;
-    if make_room(&mut typing, front).is_err() {
+    match type_all(alloc, &mut typing, targets, statements, front) {
+        Ok(()) => Ok(typing),
+        Err(fault) => Err(fault),
+    }
+}
+
+/// Types the statements without a fault of names, up to the first clash, behind room for what they leave.
+fn type_all<'a>(
+    alloc: Global,
+    typing: &mut Typing<'a>,
+    targets: &TokenTable<Target>,
+    statements: &'a [Stmt],
+    front: &Front,
+) -> Result<(), TypeFault>
+    requires front { IsFront (map view_stmt statements.now) front.now.count (map resolved front.now.all.items)
+        front.now.fault }
+    requires placed { IsPlaced 0 (listed (map view_stmt statements.now)) }
+    requires table { targets_of targets.now ≡ target_in (map resolved front.now.all.items) }
+    requires counted { front.now.count ≤ 4294967295 }
+    requires begun { IsAfter (target_in (map resolved front.now.all.items)) none typing.old }
+    ensures typed { OnOk result
+        (IsTypedSo (target_in (map resolved front.now.all.items))
+        (first_of front.now.count (listed (map view_stmt statements.entry.now))) typing.new) }
+    ensures clash { IfErr result
+        (λ f. IsClashIn (target_in (map resolved front.now.all.items)) (listed (map view_stmt statements.entry.now))
+        front.now.count f) }
+{
+    if make_room(typing, front).is_err() {
         return Err(TypeFault::Memory);
     }
-    type_each(alloc, &mut typing, targets, statements, front)?;
-    Ok(typing)
+    type_each(alloc, typing, targets, statements, front)
 }
 
 /// Types the statements without a fault of names one after another, up to the first clash.

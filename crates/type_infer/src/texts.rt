@@ -1,5 +1,5 @@
 // The uses in the text of a def, from the kinds that its general type tells one after another.
-ghost use Rattle.std.specs.Prelude.{◌≡◌, ◌++◌, map, IfOk, OnOk};
+ghost use Rattle.std.specs.Prelude.{◌≡◌, ◌++◌, [], map, IfOk, OnOk};
 ghost use Rattle.type_terms.specs.Term.{term_of, variable};
 ghost use Rattle.expression_types.specs.Seen.{found, founds, pending, text_use};
 ghost use Rattle.type_infer.specs.TextUses.{kinds_in, pending_of, text_uses, use_of};
@@ -11,26 +11,26 @@ use std::alloc::Global;
 use std::cmp::min;
 use type_terms::{KindTerm, Ty};
 
-/// Variables as types.
-pub fn variables(alloc: Global, numbers: &[u64]) -> Result<Vec<Ty>, Memory>
-    ensures { IfOk result (λ ts. map term_of ts.items ≡ map variable numbers.now) }
+/// Adds variables as types to an empty list.
+pub fn push_variables(types: &mut Vec<Ty>, numbers: &[u64]) -> Result<(), Memory>
+    requires { types.old.items ≡ [] }
+    ensures { OnOk result (map term_of types.new.items ≡ map variable numbers.now) }
 {
-    let mut types = Vec::new(alloc);
     for number in numbers {
         types.push(variable_type(*number))?;
     }
-    Ok(types)
+    Ok(())
 }
 
-/// The kinds of uses, one after another.
-pub fn all_kinds(alloc: Global, uses: &[FoundUse]) -> Result<Vec<KindTerm>, Memory>
-    ensures { IfOk result (λ ks. ks.items ≡ kinds_in (founds uses.now)) }
+/// Adds the kinds of uses, one after another, to an empty list.
+pub fn push_all_kinds(kinds: &mut Vec<KindTerm>, uses: &[FoundUse]) -> Result<(), Memory>
+    requires { kinds.old.items ≡ [] }
+    ensures { OnOk result (kinds.new.items ≡ kinds_in (founds uses.now)) }
 {
-    let mut kinds = Vec::new(alloc);
     for found in uses {
-        push_kinds(&mut kinds, found)?;
+        push_kinds(kinds, found)?;
     }
-    Ok(kinds)
+    Ok(())
 }
 
 /// The uses of the text: each takes as many of these kinds as it has.

@@ -4,7 +4,7 @@ use Rattle.name_scope.specs.Noted.{resolved}
 use Rattle.name_scope.specs.Seen.{in_scope}
 use Rattle.typing_rules.specs.NameFaults.{faults_in, name_fault_in, reported_fault}
 use Rattle.type_infer.proofs.Fronting.{at_most_seen, below_seen, front_end, front_here, names_next, over_seen, scope_next, stmt_seen}
-use Rattle.type_infer.proofs.front.resolve_front.Goals as goal
+use Rattle.type_infer.proofs.front.resolve_each.Goals as goal
 
 pub returns-in-Err : goal.returns-in-Err
 returns-in-Err c =

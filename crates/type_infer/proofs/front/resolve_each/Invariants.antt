@@ -5,7 +5,7 @@ use Rattle.name_scope.specs.Noted.{resolved}
 use Rattle.name_scope.specs.Seen.{in_scope}
 use Rattle.type_steps.specs.Statements.{scope_after}
 use Rattle.type_infer.specs.Fronts.{AreNamesOf}
-use Rattle.type_infer.proofs.front.resolve_front.Given as goal
+use Rattle.type_infer.proofs.front.resolve_each.Given as goal
 
 abbrev pub invariant-loop-stmt : goal.invariant-loop-stmt
 invariant-loop-stmt l = record {
