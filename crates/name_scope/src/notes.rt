@@ -4,10 +4,13 @@ ghost use Rattle.script_grammar.specs.View.{listed, view_arg, view_param};
 ghost use Rattle.typing_rules.specs.NameFaults.{is_among as is_one_of, is_before as is_told_before, missing_at, number as the_number, repeated_at, repeats, token as the_token};
 ghost use Rattle.typing_rules.specs.Scoping.{bound, call_meant, no_parameters, tokens_given, value_meant};
 ghost use Rattle.typing_rules.specs.declared.fault.NameFault.TheVariants.{Extra};
-ghost use Rattle.name_scope.specs.Seen.{both_scopes, left_of, seen_given, seen_label, seen_parameter, token_at};
+ghost use Rattle.name_scope.specs.Labelled.{placed};
+ghost use Rattle.name_scope.specs.Seen.{both_scopes, in_scope, left_of, seen_given, seen_label, seen_parameter, token_at};
 ghost use Rattle.name_scope.specs.Noted.{all_sooner, mismatches, noted, sooner, with_name};
 
-use crate::arguments::{are_filled, given_arguments, labels_of, match_arguments, match_labels};
+use crate::arguments::{
+    Untaken, are_filled, given_arguments, labels_of, match_arguments, match_labels,
+};
 use crate::builtins::builtin_params;
 use crate::labels::Labels;
 use crate::parameter::Given;
@@ -147,12 +150,28 @@ impl Notes {
             return Ok(());
         }
         let mut given = given_arguments(alloc, args)?;
+        self.add_unmatched(alloc, at, params, &mut given)
+    }
+
+    // The same of arguments by their labels and tokens. Those that a parameter takes may be taken out.
+    fn add_unmatched(
+        &mut self,
+        alloc: Global,
+        at: u32,
+        params: &[Parameter<'_>],
+        given: &mut Untaken<'_>,
+    ) -> Result<(), Memory>
+        ensures fault { OnOk result (self.new.fault
+            ≡ all_sooner self.old.fault
+            (mismatches at (map seen_parameter params.now) (map seen_given given.old.items))) }
+        ensures found { OnOk result (self.new.found ≡ self.old.found) }
+    {
         if given.len() > FEW_ARGUMENTS {
-            return self.add_mismatches_of_many(alloc, at, params, &given);
+            return self.add_mismatches_of_many(alloc, at, params, &*given);
         }
-        let missing = match_arguments(params, &mut given);
+        let missing = match_arguments(params, given);
         self.add_missing(alloc, at, missing)?;
-        self.add_extra(&given);
+        self.add_extra(&*given);
         Ok(())
     }
 
@@ -169,9 +188,26 @@ impl Notes {
         ensures found { OnOk result (self.new.found ≡ self.old.found) }
     {
         let mut labels = Labels::new(alloc, labels_of(alloc, given)?)?;
-        let missing = match_labels(params, &mut labels)?;
+        self.add_by_labels(alloc, at, params, given, &mut labels)
+    }
+
+    // The same by a table of their labels, from which none is taken yet.
+    fn add_by_labels(
+        &mut self,
+        alloc: Global,
+        at: u32,
+        params: &[Parameter<'_>],
+        given: &[Given<'_>],
+        labels: &mut Labels<'_>,
+    ) -> Result<(), Memory>
+        requires all { left_of labels.old ≡ placed 0 (map (λ g. seen_label g.label) given.now) }
+        ensures fault { OnOk result (self.new.fault
+            ≡ all_sooner self.old.fault (mismatches at (map seen_parameter params.now) (map seen_given given.now))) }
+        ensures found { OnOk result (self.new.found ≡ self.old.found) }
+    {
+        let missing = match_labels(params, labels)?;
         self.add_missing(alloc, at, missing)?;
-        self.add_left(&labels, given);
+        self.add_left(&*labels, given);
         Ok(())
     }
 
@@ -263,6 +299,20 @@ impl Notes {
         ensures found { OnOk result (self.new.found ≡ self.old.found) }
     {
         let mut earlier: Scope<'a> = Scope::new(alloc);
+        self.add_repeats_behind(params, &mut earlier)
+    }
+
+    // The same with this table of the earlier names, in which none stands yet.
+    fn add_repeats_behind<'a>(
+        &mut self,
+        params: &'a [Param],
+        earlier: &mut Scope<'a>,
+    ) -> Result<(), Memory>
+        requires empty { in_scope earlier.old ≡ [] }
+        ensures fault { OnOk result (self.new.fault
+            ≡ all_sooner self.old.fault (repeats [] (listed (map view_param params.entry.now)))) }
+        ensures found { OnOk result (self.new.found ≡ self.old.found) }
+    {
         for param in params {
             let known = earlier.find(param.name.as_str());
             self.add_repeated(known.is_some(), param.at);

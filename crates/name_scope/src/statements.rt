@@ -1,5 +1,5 @@
 // The names that the texts of defs and statements use, and the names that they bind.
-ghost use Rattle.std.specs.Prelude.{◌≡◌, ◌++◌, ◌∷◌, OnOk, None, map};
+ghost use Rattle.std.specs.Prelude.{◌≡◌, ◌++◌, ◌∷◌, [], OnOk, None, map};
 ghost use Rattle.script_grammar.specs.View.{listed, view_bind, view_call, view_def, view_expr, view_full, view_if, view_inner, view_param, view_part, view_stmt};
 ghost use Rattle.typing_rules.specs.Arguments.{parameters_of};
 ghost use Rattle.typing_rules.specs.NameFaults.{faults_in, reported_fault};
@@ -27,16 +27,31 @@ pub fn note_def<'a>(
         ≡ with_names (noted notes.old) (names (in_scope outer.now) (view_def def.entry.now))) }
 {
     let mut inner: Scope<'a> = Scope::new(alloc);
+    note_def_in(alloc, outer, &mut inner, notes, def)
+}
+
+/// The same, where a scope without names takes those that the def binds.
+fn note_def_in<'a>(
+    alloc: Global,
+    outer: &Scope<'a>,
+    inner: &mut Scope<'a>,
+    notes: &mut Notes,
+    def: &'a Def,
+) -> Result<(), Memory>
+    requires empty { in_scope inner.old ≡ [] }
+    ensures noted { OnOk result (noted notes.new
+        ≡ with_names (noted notes.old) (names (in_scope outer.now) (view_def def.entry.now))) }
+{
     note_defaults(
         alloc,
         Scopes {
-            inner: &inner,
+            inner: &*inner,
             outer,
         },
         notes,
         &def.params,
     )?;
-    note_body(alloc, outer, &mut inner, notes, def)?;
+    note_body(alloc, outer, inner, notes, def)?;
     Ok(())
 }
 

@@ -1,10 +1,6 @@
-use Rattle.std.proofs.Common.{◌∙◌, ap, map}
+use Rattle.std.proofs.Common.{◌∙◌, ap}
 use Rattle.name_scope.specs.Labelled.{placed}
-use Rattle.name_scope.specs.Seen.{left_of, seen_label, seen_parameter}
-use Rattle.name_scope.proofs.Extras.{many_done}
 use Rattle.name_scope.proofs.notes.Notes.add_mismatches_of_many.Goals as goal
 
-pub returns-clause-fault : goal.returns-clause-fault
-returns-clause-fault c =
-    many_done c.args.self.now.fault c.add_missing.new.self.fault c.add_left.new.self.fault c.args.at (map seen_parameter c.args.params.now) c.args.given.now (left_of c.in_ok-labels.labels) (left_of c.match_labels.new.labels) (seen_label c.in_ok-missing.missing)
-    (c.in_ok-labels.ensures.all ∙ ap (placed 0) c.in_ok-labels_of.ensures.same) c.in_ok-missing.ensures.missing c.in_ok-missing.ensures.left c.in_ok-add_missing.ensures.fault c.add_left.ensures.fault
+pub add_by_labels-requires : goal.add_by_labels-requires
+add_by_labels-requires c = record { all = c.in_ok-labels.ensures.all ∙ ap (placed 0) c.in_ok-labels_of.ensures.same }

@@ -6,10 +6,10 @@ use Rattle.name_scope.specs.Seen.{in_scope, seen_bound}
 use Rattle.name_scope.specs.declared.scope.Bound.{Bound}
 use Rattle.name_scope.proofs.Matching.{param_names, repeat_next, repeats_listed, repeats_of}
 use Rattle.name_scope.proofs.Repeating.{bound_next, known_is, none_bound}
-use Rattle.name_scope.proofs.notes.Notes.add_repeats_of_many.Goals as goal
+use Rattle.name_scope.proofs.notes.Notes.add_repeats_behind.Goals as goal
 
 pub loop-param-init : goal.loop-param-init
-loop-param-init c = record { fault = refl; found = refl; bound = none_bound (in_scope c.new-earlier.result) c.new-earlier.ensures.empty }
+loop-param-init c = record { fault = refl; found = refl; bound = none_bound (in_scope c.args.earlier.now) c.requires.empty }
 
 pub loop-param-preserved : goal.loop-param-preserved
 loop-param-preserved c =

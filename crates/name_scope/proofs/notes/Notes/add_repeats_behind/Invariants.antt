@@ -3,7 +3,7 @@ use Rattle.name_scope.specs.Noted.{all_sooner}
 use Rattle.name_scope.specs.Seen.{in_scope}
 use Rattle.name_scope.proofs.Matching.{param_names, repeats_of}
 use Rattle.name_scope.proofs.Repeating.{AreBound}
-use Rattle.name_scope.proofs.notes.Notes.add_repeats_of_many.Given as goal
+use Rattle.name_scope.proofs.notes.Notes.add_repeats_behind.Given as goal
 
 abbrev pub invariant-loop-param : goal.invariant-loop-param
 invariant-loop-param l = record {
