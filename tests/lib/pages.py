@@ -93,6 +93,13 @@ def tools_that_fail(_program):
     return found + [f"{calls[words]} asks for tools/{words}, which prints nothing" for words in empty]
 
 
+def proofs_that_fail(_program):
+    """tools/prove proves a crate of a few functions, and knows no other crate."""
+    proved = re.search(r"^only=(\d+) proved=(\d+)$", told_by("prove", "seed_words"), re.M)
+    found = [] if proved and proved[1] == proved[2] != "0" else ["tools/prove does not prove seed_words"]
+    return found + (["tools/prove knows a crate that is not there"] if told_by("prove", "no_crate") else [])
+
+
 def commands_of(text):
     """The lines of a page that are commands: those of a block for a shell, and those that stand indented."""
     for block in re.findall(r"```sh\n(.*?)```", text, flags=re.S):
@@ -181,6 +188,7 @@ checks = {
     "pages/edits": refusals_that_differ,
     "pages/theorem": statements_that_differ,
     "pages/tools": tools_that_fail,
+    "pages/prove": proofs_that_fail,
     "pages/commands": commands_that_are_missing,
     "pages/lists": lists_that_are_not_told,
 }
