@@ -1,5 +1,5 @@
 -- Instants that go on as the latest one of a clock did, made at once.
-use Rattle.std.specs.Prelude.{◌≡◌, ◌<◌, ◌≤◌, ◌&&◌, ◌||◌, Bool, true, Some, List, ◌∷◌, ℕ, ℤ, suc, length, slice_get}
+use Rattle.std.specs.Prelude.{◌≡◌, ◌<◌, ◌≤◌, ◌&&◌, ◌||◌, Bool, true, Some, List, ◌∷◌, ℕ, ℤ, suc, is_some, length, slice_get}
 use Rattle.plan_core.specs.declared.node.Node.{Node}
 use Rattle.clock_infer.specs.declared.clock_map.NodeClock.{NodeClock}
 use Rattle.frame_core.specs.Slots.{Slot, title_of}
@@ -13,18 +13,19 @@ use Rattle.node_states.specs.declared.state.NodeState.TheVariants.{Idle}
 use Rattle.node_states.specs.declared.time.WeekTime.{WeekTime}
 use Rattle.node_states.specs.Passing.{LaneFills, given_part, passes}
 use Rattle.node_states.specs.Stretches.{LiesAhead, filled_on}
-use Rattle.node_states.specs.States.{AreLong, reads, reads_at}
+use Rattle.node_states.specs.States.{AreLong, Fits, reads, reads_at}
 use Rattle.node_states.specs.Times.{TimeStands}
 use Rattle.clock_instants.specs.declared.stretch_room.StretchRoom.{StretchRoom}
 use Rattle.clock_instants.specs.declared.stretch_room.Spare.{Spare}
 use Rattle.clock_nodes.specs.declared.scene.Scene.{Scene}
+use Rattle.clock_nodes.specs.declared.nodes.ClockNodes.{ClockNodes}
 use Rattle.clock_instants.specs.Held.{AllAsk, AreFilledOn, AreSupplied, IsHeld, gave_at, goes_through}
 use Rattle.node_states.specs.Histories.{History, IsLaneOf, StandsOn, history_of, next_of}
 use Rattle.clock_instants.specs.Sides.{Sides}
-use Rattle.clock_nodes.specs.Nodes.{lies_at}
+use Rattle.clock_nodes.specs.Nodes.{AreNodesOf, lies_at}
 use Rattle.clock_instants.specs.Resting.{AreReadTo}
-use Rattle.clock_nodes.specs.Scenes.{setting_over}
-use Rattle.clock_nodes.specs.States.{ClockStands}
+use Rattle.clock_nodes.specs.Scenes.{IsScene, setting_over}
+use Rattle.clock_nodes.specs.States.{AllFit, ClockStands}
 
 -- node i has a lane on each side, with room for any stretch
 pub record HasLanes (left right : Lanes) (i : ℕ) : Type 0 where
@@ -173,6 +174,30 @@ pub record HasRoomToRun (nodes : ℕ) (held parts : List Part) (left right : Lan
   pub in_left : length left ≡ nodes
   pub in_right : length right ≡ nodes
   pub in_spare : IsSpare spare
+
+-- the nodes of a clock can make so many instants that go on as its latest one, with these states and in this room
+pub record CanRunNodes (over : Scene) (nodes : ClockNodes) (clock : NodeClock) (many : ℕ) (states : List NodeState)
+    (stretch_room : StretchRoom) : Type 0 where
+  pub scene : IsScene over
+  pub chains : AreNodesOf over.clocks.now nodes
+  pub room : HasStretchRoom (length over.plan.now.nodes) stretch_room
+  pub at_once : AreAtOnce many
+  pub fit : AllFit over states
+  pub ahead : AllLieAhead over clock stretch_room.held.items states many
+
+-- node i can make them, with this state, over these parts and lanes, and with these spare ones
+pub record CanRunNode (over : Scene) (i many : ℕ) (parts : List Part) (left right : Lanes) (spares : Spare)
+    (state : NodeState) : Type 0 where
+  pub scene : IsScene over
+  pub within : i < length over.plan.now.nodes
+  pub in_parts : length parts ≡ length over.plan.now.nodes
+  pub in_left : length left ≡ length over.plan.now.nodes
+  pub in_right : length right ≡ length over.plan.now.nodes
+  pub spare : IsSpare spares
+  pub count : AreAtOnce many
+  pub fits : (node : Node) → slice_get over.plan.now.nodes i ≡ Some node
+      → Fits over.library.now (length node.children) state
+  pub ahead : is_some (part_at parts i).slot ≡ true → LiesAhead over.library.now state many
 
 -- the nodes of a clock have made so many instants that go on as its latest one, whatever instants the states stood for
 pub record NodesRun (scene : Scene) (clock : NodeClock) (many : ℕ) (held : List Part) (old : List NodeState)

@@ -7,7 +7,7 @@ ghost use Rattle.node_states.specs.Stretches.{LiesAhead};
 ghost use Rattle.node_states.specs.States.{Fits};
 ghost use Rattle.clock_nodes.specs.Nodes.{AreNodesOf, lies_at};
 ghost use Rattle.clock_instants.specs.Sides.{both};
-ghost use Rattle.clock_instants.specs.Stretches.{AllLieAhead, AreAtOnce, HasKeptSamples, HasLanes, HasRoomToRun, HasStretchRoom, IsSpare, NodeMade, NodeRun, NodesRun};
+ghost use Rattle.clock_instants.specs.Stretches.{AllLieAhead, AreAtOnce, CanRunNode, CanRunNodes, HasKeptSamples, HasLanes, HasRoomToRun, HasStretchRoom, IsSpare, NodeMade, NodeRun, NodesRun};
 ghost use Rattle.clock_nodes.specs.Scenes.{IsScene};
 ghost use Rattle.clock_nodes.specs.States.{AllFit};
 
@@ -31,13 +31,7 @@ pub fn run_nodes(
     stretch_room: &mut StretchRoom,
     many: u32,
 )
-    requires scene { IsScene scene.now }
-    requires chains { AreNodesOf scene.now.clocks.now nodes.now }
-    requires room { HasStretchRoom (length scene.now.plan.now.nodes) stretch_room.old }
-    requires some { 0 < many }
-    requires short { many ≤ 2048 }
-    requires fit { AllFit scene.now states.old }
-    requires ahead { AllLieAhead scene.now clock stretch_room.old.held.items states.old many }
+    requires { CanRunNodes scene.now nodes.now clock many states.old stretch_room.old }
     ensures fit { AllFit scene.now states.new }
     ensures room { HasStretchRoom (length scene.now.plan.now.nodes) stretch_room.new }
     ensures held { stretch_room.new.held ≡ stretch_room.old.held }
@@ -129,16 +123,7 @@ fn run_node(
     spare: &mut Spare,
     count: usize,
 )
-    requires scene { IsScene scene.now }
-    requires within { i < length scene.now.plan.now.nodes }
-    requires in_parts { length parts.now ≡ length scene.now.plan.now.nodes }
-    requires in_left { length left.old ≡ length scene.now.plan.now.nodes }
-    requires in_right { length right.old ≡ length scene.now.plan.now.nodes }
-    requires spare { IsSpare spare.old }
-    requires count { AreAtOnce count }
-    requires fits { (node : PlanNode) → slice_get scene.now.plan.now.nodes i ≡ Some node
-        → Fits scene.now.library.now (length node.children) state.old }
-    requires ahead { is_some (part_at parts.now i).slot ≡ true → LiesAhead scene.now.library.now state.old count }
+    requires { CanRunNode scene.now i count parts.now left.old right.old spare.old state.old }
     ensures fits { (node : PlanNode) → slice_get scene.now.plan.now.nodes i ≡ Some node
         → Fits scene.now.library.now (length node.children) state.new }
     ensures samples { (k : ℕ) → (k ≡ i → ⊥) → HasKeptSamples left.old right.old left.new right.new count k }

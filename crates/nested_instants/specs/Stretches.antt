@@ -11,11 +11,11 @@ use Rattle.op_mix.specs.Stretches.{samples_of}
 use Rattle.node_states.specs.declared.time.WeekTime.{WeekTime}
 use Rattle.node_states.specs.Times.{TimeStands}
 use Rattle.clock_nodes.specs.declared.scene.Scene.{Scene}
-use Rattle.clock_nodes.specs.Scenes.{setting_over}
+use Rattle.clock_nodes.specs.Scenes.{IsScene, setting_over}
 use Rattle.nested_instants.specs.declared.clock_states.ClockStates.{ClockStates}
 use Rattle.clock_instants.specs.Held.{IsHeld, gave_at, goes_through, passes_at}
 use Rattle.node_states.specs.Passing.{LaneFills}
-use Rattle.nested_instants.specs.Clocks.{GoesOnFor, IsFilling, IsOpen, IsWorld, Progress, RanAsNeeded, Stand, clock_at, fade_at, is_none, laned_at, rest_at}
+use Rattle.nested_instants.specs.Clocks.{AreClockStates, GoesOnFor, IsFilling, IsIdle, IsOpen, IsWorld, Progress, RanAsNeeded, Stand, clock_at, fade_at, is_none, laned_at, rest_at, room_at}
 
 -- at so many instants a node offers nothing, where it offered nothing at the one before them; or cells of its title
 -- there that begin no track, and these are their samples
@@ -75,6 +75,17 @@ pub record StretchMade (scene : Scene) (clock : NodeClock) (time : WeekTime) (ma
       → IsHeld setting sub clock (first_instants setting sub clock n) old.room.held.items
       → TimeStands setting.start n time
       → HasMadeOn setting sub rank own clock n many progress new
+
+-- crossfade k takes so many slots more, of whose clock no instants are kept, and a stretch has so many
+pub record CanFillLane (over : Scene) (k many : ℕ) (all : ClockStates) : Type 0 where
+  pub scene : IsScene over
+  pub clocks : AreClockStates over all
+  pub within : k < length over.plan.now.nodes
+  pub some : 0 < many
+  pub short : many ≤ 2048
+  pub room : many ≤ room_at all.states.items k
+  pub later : many ≤ over.plan.now.rate
+  pub idle : IsIdle (clock_at over.clocks.now k) all
 
 -- behind an instant of its sub-clock, which was at this time, crossfade k was filled more slots, without a call:
 -- whatever it was filled

@@ -15,7 +15,7 @@ ghost use Rattle.node_states.specs.Times.{TimeStands};
 ghost use Rattle.clock_instants.specs.Held.{AllPassOn};
 ghost use Rattle.clock_instants.specs.Stretches.{AllLieAhead, IsBehind};
 ghost use Rattle.nested_instants.specs.Clocks.{AreClockStates, AreLeft, GoesOnFor, HasLevels, HasRanks, IsIdle, is_node, left_at, rest_at, room_at, wants_at};
-ghost use Rattle.nested_instants.specs.Stretches.{FilledOn};
+ghost use Rattle.nested_instants.specs.Stretches.{CanFillLane, FilledOn};
 ghost use Rattle.clock_nodes.specs.Scenes.{IsScene, setting_over};
 
 use crate::ClockStates;
@@ -155,14 +155,7 @@ fn wanted(clocks: &ClockStates, k: u32, rest: u32) -> u32
 // Feeds crossfade k, which takes them, the samples of its child in the latest stretch, which had so many instants,
 // under its title at the latest instant, and takes the time of the sub-clock on.
 fn fill_lane(scene: &Scene<'_>, clocks: &mut ClockStates, k: u32, many: u32)
-    requires scene { IsScene scene.now }
-    requires clocks { AreClockStates scene.now clocks.old }
-    requires within { k < length scene.now.plan.now.nodes }
-    requires some { 0 < many }
-    requires short { many ≤ 2048 }
-    requires room { many ≤ room_at clocks.old.states.items k }
-    requires later { many ≤ scene.now.plan.now.rate }
-    requires idle { IsIdle (slice_index_or scene.now.clocks.now k (InMain 0)) clocks.old }
+    requires { CanFillLane scene.now k many clocks.old }
     ensures clocks { AreClockStates scene.now clocks.new }
     ensures stretch_room { clocks.new.room ≡ clocks.old.room }
     ensures states { (i : ℕ) → (i ≡ k → ⊥) → slice_get clocks.new.states.items i ≡ slice_get clocks.old.states.items i }

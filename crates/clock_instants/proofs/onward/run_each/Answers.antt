@@ -45,25 +45,24 @@ loop-i-smaller c =
     let low = next.low in
     omega (arith, low, c.loop-i-test.true)
 
-pub run_node-requires-clause-in_left : goal.run_node-requires-clause-in_left
-run_node-requires-clause-in_left c = c.loop-i.invariant.in_left ∙ c.requires.room.in_left
-
-pub run_node-requires-clause-in_right : goal.run_node-requires-clause-in_right
-run_node-requires-clause-in_right c = c.loop-i.invariant.in_right ∙ c.requires.room.in_right
-
-pub run_node-requires-clause-fits : goal.run_node-requires-clause-fits
-run_node-requires-clause-fits c = λ node found.
-    let in_nodes : c.loop-i.i < length c.args.scene.now.plan.now.nodes = omega (arith, c.requires.scene.in_clocks, c.loop-i-test.true) in
-    let in_states : c.loop-i.i < length c.loop-i.states = omega (arith, c.loop-i.invariant.fit.size, in_nodes) in
-    c.loop-i.invariant.fit.each c.loop-i.i node _ found (slice_get-get_or _ _ _ in_states)
-
-pub run_node-requires-clause-ahead : goal.run_node-requires-clause-ahead
-run_node-requires-clause-ahead c = λ gave.
+pub run_node-requires : goal.run_node-requires
+run_node-requires c =
     let in_nodes : c.loop-i.i < length c.args.scene.now.plan.now.nodes = omega (arith, c.requires.scene.in_clocks, c.loop-i-test.true) in
     let in_states : c.loop-i.i < length c.loop-i.states = omega (arith, c.loop-i.invariant.fit.size, in_nodes) in
     let in_parts : c.loop-i.i < length c.loop-i.parts = omega (arith, c.loop-i.invariant.in_parts, c.requires.room.in_parts, in_nodes) in
-    c.requires.ahead.each c.loop-i.i _ c.loop-i-test.true (c.loop-i.invariant.own c.loop-i-test.true) (sym (c.loop-i.invariant.stayed c.loop-i.i (omega arith)) ∙ slice_get-get_or _ _ _ in_states)
-    (sym (ap (λ (p : Part). is_some p.slot) (get_or-set_same c.loop-i.parts c.loop-i.i (get_or c.args.held.now c.loop-i.i silent) silent in_parts)) ∙ gave)
+    record {
+      scene = c.requires.scene;
+      within = in_nodes;
+      in_parts = length-set _ _ _ ∙ c.loop-i.invariant.in_parts ∙ c.requires.room.in_parts;
+      in_left = c.loop-i.invariant.in_left ∙ c.requires.room.in_left;
+      in_right = c.loop-i.invariant.in_right ∙ c.requires.room.in_right;
+      spare = c.loop-i.invariant.spare;
+      count = c.requires.many;
+      fits = λ node found. c.loop-i.invariant.fit.each c.loop-i.i node _ found (slice_get-get_or _ _ _ in_states);
+      ahead = λ gave.
+          c.requires.ahead.each c.loop-i.i _ c.loop-i-test.true (c.loop-i.invariant.own c.loop-i-test.true) (sym (c.loop-i.invariant.stayed c.loop-i.i (omega arith)) ∙ slice_get-get_or _ _ _ in_states)
+          (sym (ap (λ (p : Part). is_some p.slot) (get_or-set_same c.loop-i.parts c.loop-i.i (get_or c.args.held.now c.loop-i.i silent) silent in_parts)) ∙ gave);
+    }
 
 pub loop-i-preserved : goal.loop-i-preserved
 loop-i-preserved c =

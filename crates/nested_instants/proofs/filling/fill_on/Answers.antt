@@ -56,15 +56,6 @@ returns-clause-left c rank ranks =
     (c.run_clock.ensures.left rank ranks)
     c.fill_lane.ensures.states c.fill_lane.ensures.times c.fill_lane.ensures.stretch_room
 
-pub fill_lane-requires-clause-idle : goal.fill_lane-requires-clause-idle
-fill_lane-requires-clause-idle c =
-    idle_left c.args.scene.now.clocks.now c.requires.levels.rank (clock_at c.args.scene.now.clocks.now c.args.k) (is_in c.args.scene.now.clocks.now (Sub c.args.k)) (c.requires.levels.rank (Sub c.args.k))
-    c.args.clocks.now c.run_clock.new.clocks (length c.args.scene.now.plan.now.nodes) c.requires.levels.ranks (sym c.requires.scene.in_clocks) c.run_clock.ensures.clocks.stretch_room.in_rests
-    (let in_clocks : c.args.k < length c.args.scene.now.clocks.now = omega (arith, c.requires.within, c.requires.scene.in_clocks) in let up = c.requires.levels.ranks.deeper c.args.k in_clocks in omega (arith, up))
-    (λ i inside. let in_clocks : c.args.k < length c.args.scene.now.clocks.now = omega (arith, c.requires.within, c.requires.scene.in_clocks) in let up = c.requires.levels.ranks.deeper c.args.k in_clocks in
-    let e : c.requires.levels.rank (clock_at c.args.scene.now.clocks.now i) ≡ c.requires.levels.rank (Sub c.args.k) = ap c.requires.levels.rank inside in omega (arith, e, up))
-    (c.run_clock.ensures.left c.requires.levels.rank c.requires.levels.ranks) c.requires.idle
-
 pub returns-clause-no_more : goal.returns-clause-no_more
 returns-clause-no_more c =
     let in_clocks : c.args.k < length c.args.scene.now.clocks.now = omega (arith, c.requires.within, c.requires.scene.in_clocks) in
@@ -112,10 +103,24 @@ run_clock-requires-clause-through c =
     through_less c.args.scene.now (Sub c.args.k) c.args.clocks.now.room.held.items c.args.clocks.now.states.items c.args.clocks.now.room.rests.items
     c.goes_for-rest.result c.wanted-many.result c.wanted-many.ensures.rest c.goes_for-rest.ensures.through
 
-pub fill_lane-requires-clause-room : goal.fill_lane-requires-clause-room
-fill_lane-requires-clause-room c =
+pub fill_lane-requires : goal.fill_lane-requires
+fill_lane-requires c =
     let in_clocks : c.args.k < length c.args.scene.now.clocks.now = omega (arith, c.requires.within, c.requires.scene.in_clocks) in
     let kept = kept_at c.args.scene.now.clocks.now c.requires.levels.rank c.args.k c.args.clocks.now c.run_clock.new.clocks c.requires.levels.ranks in_clocks
     (c.run_clock.ensures.left c.requires.levels.rank c.requires.levels.ranks) in
     let same = ap (λ s. option_map_or room s 0) kept in
-    omega (arith, same, c.wanted-many.ensures.room)
+    record {
+      scene = c.requires.scene;
+      clocks = c.run_clock.ensures.clocks;
+      within = c.requires.within;
+      some = omega (arith, c.if-many-eq0.false);
+      short = c.wanted-many.ensures.short;
+      room = omega (arith, same, c.wanted-many.ensures.room);
+      later = omega (arith, c.requires.rate, c.goes_for-rest.ensures.later, c.wanted-many.ensures.rest);
+      idle = idle_left c.args.scene.now.clocks.now c.requires.levels.rank (clock_at c.args.scene.now.clocks.now c.args.k) (is_in c.args.scene.now.clocks.now (Sub c.args.k)) (c.requires.levels.rank (Sub c.args.k))
+          c.args.clocks.now c.run_clock.new.clocks (length c.args.scene.now.plan.now.nodes) c.requires.levels.ranks (sym c.requires.scene.in_clocks) c.run_clock.ensures.clocks.stretch_room.in_rests
+          (let in_clocks : c.args.k < length c.args.scene.now.clocks.now = omega (arith, c.requires.within, c.requires.scene.in_clocks) in let up = c.requires.levels.ranks.deeper c.args.k in_clocks in omega (arith, up))
+          (λ i inside. let in_clocks : c.args.k < length c.args.scene.now.clocks.now = omega (arith, c.requires.within, c.requires.scene.in_clocks) in let up = c.requires.levels.ranks.deeper c.args.k in_clocks in
+          let e : c.requires.levels.rank (clock_at c.args.scene.now.clocks.now i) ≡ c.requires.levels.rank (Sub c.args.k) = ap c.requires.levels.rank inside in omega (arith, e, up))
+          (c.run_clock.ensures.left c.requires.levels.rank c.requires.levels.ranks) c.requires.idle;
+    }
