@@ -23,9 +23,9 @@ use Rattle.clock_nodes.specs.Nodes.{AreNodesOf}
 use Rattle.clock_instants.specs.Instants.{IsLatest}
 use Rattle.clock_instants.specs.Held.{AllAsk, AllPassOn, IsHeld}
 use Rattle.clock_instants.specs.Stretches.{AllLieAhead, HasLanes, HasStretchRoom}
-use Rattle.clock_nodes.specs.Scenes.{setting_over}
+use Rattle.clock_nodes.specs.Scenes.{IsScene, setting_over}
 use Rattle.clock_nodes.specs.States.{AllFit, HasRoomFor}
-use Rattle.clock_instants.specs.Takes.{HasOwnReaders, begun_in}
+use Rattle.clock_instants.specs.Takes.{HasOwnReaders, ReadersAreIn, begun_in}
 use Rattle.nested_instants.specs.declared.clock_states.ClockStates.{ClockStates}
 
 -- how far all came: how many instants a clock has made, how many slots crossfade k was filled or how many instants
@@ -79,6 +79,16 @@ pub record AreClockStates (scene : Scene) (all : ClockStates) : Type 0 where
   pub resting : AreResting scene all
   pub rates : (k : ℕ) (time : WeekTime) → slice_get all.times.items k ≡ Some time → time.rate ≡ scene.plan.now.rate
   pub frames : (k : ℕ) (time : WeekTime) → slice_get all.times.items k ≡ Some time → time.frame ≡ scene.plan.now.frame
+
+-- a clock and the sub-clocks below it can make instants: these are states for the nodes of a plan, something is told of
+-- each node, sub-clocks nest no deeper than this, and readers read these buffers
+pub record CanMakeInstants (over : Scene) (own : List Bool) (clock : NodeClock) (most buffers : ℕ) (all : ClockStates)
+    : Type 0 where
+  pub scene : IsScene over
+  pub in_own : length own ≡ length over.plan.now.nodes
+  pub clocks : AreClockStates over all
+  pub levels : HasLevels over.clocks.now clock most
+  pub readers : ReadersAreIn over.plan.now buffers
 
 -- these tell of each node whether its own clock demands it of itself
 pub record AreOwnRoots (setting : Setting) (own : List Bool) : Type 0 where

@@ -2,9 +2,8 @@
 ghost use Rattle.std.specs.Prelude.{◌≡◌, ◌<◌, ℕ, length, slice_index_or, OnOk, OnErr};
 ghost use Rattle.clock_infer.specs.declared.clock_map.NodeClock.{NodeClock as Clock};
 ghost use Rattle.clock_infer.specs.declared.clock_map.NodeClock.TheVariants.{Main as InMain};
-ghost use Rattle.clock_instants.specs.Takes.{HasReader, ReadersAreIn};
-ghost use Rattle.nested_instants.specs.Clocks.{AllSettled, AreClockStates, AreLeft, HasLevels, HasRanks, InstantMade, InstantStopped, IsIdle, NodeSettled, NodeStopped, SettlingStopped, is_in, is_node};
-ghost use Rattle.clock_nodes.specs.Scenes.{IsScene};
+ghost use Rattle.clock_instants.specs.Takes.{HasReader};
+ghost use Rattle.nested_instants.specs.Clocks.{AllSettled, AreClockStates, AreLeft, CanMakeInstants, HasRanks, InstantMade, InstantStopped, IsIdle, NodeSettled, NodeStopped, SettlingStopped, is_in, is_node};
 
 use crate::ClockStates;
 use crate::filling::{fill_child, fill_on};
@@ -32,14 +31,10 @@ pub fn make_instant<T: Taps>(
     levels: usize,
     taps: &mut T,
 ) -> Result<(), Memory>
-    requires scene { IsScene scene.now }
-    requires in_own { length own.now ≡ length scene.now.plan.now.nodes }
-    requires clocks { AreClockStates scene.now clocks.old }
-    requires levels { HasLevels scene.now.clocks.now clock levels }
+    requires ready { CanMakeInstants scene.now own.now clock levels (T.buffers taps.old) clocks.old }
     requires idle { IsIdle clock clocks.old }
     requires rate { time.rate ≡ scene.now.plan.now.rate }
     requires frame { time.frame ≡ scene.now.plan.now.frame }
-    requires readers { ReadersAreIn scene.now.plan.now (T.buffers taps.old) }
     ensures clocks { AreClockStates scene.now clocks.new }
     ensures buffers { T.buffers taps.new ≡ T.buffers taps.old }
     ensures same { T.same taps.old taps.new }
@@ -67,13 +62,10 @@ fn settle<T: Taps>(
     levels: usize,
     taps: &mut T,
 ) -> Result<(), Memory>
-    requires scene { IsScene scene.now }
-    requires in_own { length own.now ≡ length scene.now.plan.now.nodes }
-    requires clocks { AreClockStates scene.now clocks.old }
-    requires levels { HasLevels scene.now.clocks.now (slice_index_or scene.now.clocks.now k (InMain 0)) levels }
+    requires ready { CanMakeInstants scene.now own.now (slice_index_or scene.now.clocks.now k (InMain 0)) levels
+        (T.buffers taps.old) clocks.old }
     requires idle { IsIdle (slice_index_or scene.now.clocks.now k (InMain 0)) clocks.old }
     requires within { k < length scene.now.plan.now.nodes }
-    requires readers { ReadersAreIn scene.now.plan.now (T.buffers taps.old) }
     ensures clocks { AreClockStates scene.now clocks.new }
     ensures buffers { T.buffers taps.new ≡ T.buffers taps.old }
     ensures same { T.same taps.old taps.new }
@@ -114,12 +106,8 @@ fn settle_all<T: Taps>(
     levels: usize,
     taps: &mut T,
 ) -> Result<(), Memory>
-    requires scene { IsScene scene.now }
-    requires in_own { length own.now ≡ length scene.now.plan.now.nodes }
-    requires clocks { AreClockStates scene.now clocks.old }
-    requires levels { HasLevels scene.now.clocks.now clock levels }
+    requires ready { CanMakeInstants scene.now own.now clock levels (T.buffers taps.old) clocks.old }
     requires idle { IsIdle clock clocks.old }
-    requires readers { ReadersAreIn scene.now.plan.now (T.buffers taps.old) }
     ensures clocks { AreClockStates scene.now clocks.new }
     ensures buffers { T.buffers taps.new ≡ T.buffers taps.old }
     ensures same { T.same taps.old taps.new }

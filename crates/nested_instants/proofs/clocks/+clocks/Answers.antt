@@ -27,74 +27,74 @@ use Rattle.nested_instants.proofs.clocks.+clocks.Goals as goal
 
 pub settle-loop-clocks-init : goal.settle-loop-clocks-init
 settle-loop-clocks-init g t c = record {
-  clocks = c.requires.clocks;
+  clocks = c.requires.ready.clocks;
   buffers = refl;
   same = g.met.T.Taps.same_refl c.args.taps.now;
   left = λ rank ranks. left_none c.args.scene.now.clocks.now rank (rank (get_or c.args.scene.now.clocks.now c.args.k (Main 0))) (is_node c.args.k) c.args.clocks.now;
-  filling = node_none g.T.Taps.stands c.args.scene.now c.args.own.now c.requires.scene.in_clocks c.args.clocks.now c.args.taps.now c.args.k;
+  filling = node_none g.T.Taps.stands c.args.scene.now c.args.own.now c.requires.ready.scene.in_clocks c.args.clocks.now c.args.taps.now c.args.k;
 }
 
 pub settle-keep-requires-clause-idle : goal.settle-keep-requires-clause-idle
 settle-keep-requires-clause-idle g t c =
-    idle_left c.args.scene.now.clocks.now c.requires.levels.rank (clock_at c.args.scene.now.clocks.now c.args.k) (is_node c.args.k) (c.requires.levels.rank (clock_at c.args.scene.now.clocks.now c.args.k))
-    c.args.clocks.now c.loop-clocks.clocks (length c.args.scene.now.plan.now.nodes) c.requires.levels.ranks (sym c.requires.scene.in_clocks) c.loop-clocks.invariant.clocks.stretch_room.in_rests (omega arith)
-    (λ i same. let e : c.requires.levels.rank (clock_at c.args.scene.now.clocks.now i) ≡ c.requires.levels.rank (clock_at c.args.scene.now.clocks.now c.args.k) = ap (λ n. c.requires.levels.rank (clock_at c.args.scene.now.clocks.now n)) same in omega (arith, e))
-    (c.loop-clocks.invariant.left c.requires.levels.rank c.requires.levels.ranks) c.requires.idle
+    idle_left c.args.scene.now.clocks.now c.requires.ready.levels.rank (clock_at c.args.scene.now.clocks.now c.args.k) (is_node c.args.k) (c.requires.ready.levels.rank (clock_at c.args.scene.now.clocks.now c.args.k))
+    c.args.clocks.now c.loop-clocks.clocks (length c.args.scene.now.plan.now.nodes) c.requires.ready.levels.ranks (sym c.requires.ready.scene.in_clocks) c.loop-clocks.invariant.clocks.stretch_room.in_rests (omega arith)
+    (λ i same. let e : c.requires.ready.levels.rank (clock_at c.args.scene.now.clocks.now i) ≡ c.requires.ready.levels.rank (clock_at c.args.scene.now.clocks.now c.args.k) = ap (λ n. c.requires.ready.levels.rank (clock_at c.args.scene.now.clocks.now n)) same in omega (arith, e))
+    (c.loop-clocks.invariant.left c.requires.ready.levels.rank c.requires.ready.levels.ranks) c.requires.idle
 
 pub settle-keep-requires-clause-ranks : goal.settle-keep-requires-clause-ranks
-settle-keep-requires-clause-ranks g t c = (c.requires.levels.rank, c.requires.levels.ranks)
+settle-keep-requires-clause-ranks g t c = (c.requires.ready.levels.rank, c.requires.ready.levels.ranks)
 
 pub settle-fill_child-requires-clause-idle : goal.settle-fill_child-requires-clause-idle
 settle-fill_child-requires-clause-idle g t c =
-    let in_clocks : c.args.k < length c.args.scene.now.clocks.now = omega (arith, c.requires.within, c.requires.scene.in_clocks) in
-    idle_left c.args.scene.now.clocks.now c.requires.levels.rank (clock_at c.args.scene.now.clocks.now c.args.k) (is_node c.args.k) (c.requires.levels.rank (clock_at c.args.scene.now.clocks.now c.args.k))
-    c.args.clocks.now c.make_instant.new.clocks (length c.args.scene.now.plan.now.nodes) c.requires.levels.ranks (sym c.requires.scene.in_clocks) c.make_instant.ensures.clocks.stretch_room.in_rests (omega arith)
-    (λ i same. let e : c.requires.levels.rank (clock_at c.args.scene.now.clocks.now i) ≡ c.requires.levels.rank (clock_at c.args.scene.now.clocks.now c.args.k) = ap (λ n. c.requires.levels.rank (clock_at c.args.scene.now.clocks.now n)) same in omega (arith, e))
-    (left_under c.args.scene.now.clocks.now c.requires.levels.rank c.args.k c.args.clocks.now c.keep.new.clocks c.make_instant.new.clocks c.requires.levels.ranks in_clocks
-    (left_then c.args.scene.now.clocks.now c.requires.levels.rank (c.requires.levels.rank (clock_at c.args.scene.now.clocks.now c.args.k)) (c.requires.levels.rank (clock_at c.args.scene.now.clocks.now c.args.k)) (is_node c.args.k) (is_node c.args.k)
-    c.args.clocks.now c.loop-clocks.clocks c.keep.new.clocks (omega arith) (λ i low same. same) (c.loop-clocks.invariant.left c.requires.levels.rank c.requires.levels.ranks)
-    (left_kept c.args.scene.now.clocks.now c.requires.levels.rank (c.requires.levels.rank (clock_at c.args.scene.now.clocks.now c.args.k)) c.args.k c.loop-clocks.clocks c.keep.new.clocks c.keep.ensures.states c.keep.ensures.times c.keep.ensures.held c.keep.ensures.others c.keep.ensures.left c.keep.ensures.right))
-    (c.in_ok-make_instant.ensures.left c.requires.levels.rank c.requires.levels.ranks)) c.requires.idle
+    let in_clocks : c.args.k < length c.args.scene.now.clocks.now = omega (arith, c.requires.within, c.requires.ready.scene.in_clocks) in
+    idle_left c.args.scene.now.clocks.now c.requires.ready.levels.rank (clock_at c.args.scene.now.clocks.now c.args.k) (is_node c.args.k) (c.requires.ready.levels.rank (clock_at c.args.scene.now.clocks.now c.args.k))
+    c.args.clocks.now c.make_instant.new.clocks (length c.args.scene.now.plan.now.nodes) c.requires.ready.levels.ranks (sym c.requires.ready.scene.in_clocks) c.make_instant.ensures.clocks.stretch_room.in_rests (omega arith)
+    (λ i same. let e : c.requires.ready.levels.rank (clock_at c.args.scene.now.clocks.now i) ≡ c.requires.ready.levels.rank (clock_at c.args.scene.now.clocks.now c.args.k) = ap (λ n. c.requires.ready.levels.rank (clock_at c.args.scene.now.clocks.now n)) same in omega (arith, e))
+    (left_under c.args.scene.now.clocks.now c.requires.ready.levels.rank c.args.k c.args.clocks.now c.keep.new.clocks c.make_instant.new.clocks c.requires.ready.levels.ranks in_clocks
+    (left_then c.args.scene.now.clocks.now c.requires.ready.levels.rank (c.requires.ready.levels.rank (clock_at c.args.scene.now.clocks.now c.args.k)) (c.requires.ready.levels.rank (clock_at c.args.scene.now.clocks.now c.args.k)) (is_node c.args.k) (is_node c.args.k)
+    c.args.clocks.now c.loop-clocks.clocks c.keep.new.clocks (omega arith) (λ i low same. same) (c.loop-clocks.invariant.left c.requires.ready.levels.rank c.requires.ready.levels.ranks)
+    (left_kept c.args.scene.now.clocks.now c.requires.ready.levels.rank (c.requires.ready.levels.rank (clock_at c.args.scene.now.clocks.now c.args.k)) c.args.k c.loop-clocks.clocks c.keep.new.clocks c.keep.ensures.states c.keep.ensures.times c.keep.ensures.held c.keep.ensures.others c.keep.ensures.left c.keep.ensures.right))
+    (c.in_ok-make_instant.ensures.left c.requires.ready.levels.rank c.requires.ready.levels.ranks)) c.requires.idle
 
 pub settle-fill_on-requires-clause-idle : goal.settle-fill_on-requires-clause-idle
 settle-fill_on-requires-clause-idle g t c =
-    let in_clocks : c.args.k < length c.args.scene.now.clocks.now = omega (arith, c.requires.within, c.requires.scene.in_clocks) in
-    idle_left c.args.scene.now.clocks.now c.requires.levels.rank (clock_at c.args.scene.now.clocks.now c.args.k) (is_node c.args.k) (c.requires.levels.rank (clock_at c.args.scene.now.clocks.now c.args.k))
-    c.args.clocks.now c.fill_child.new.clocks (length c.args.scene.now.plan.now.nodes) c.requires.levels.ranks (sym c.requires.scene.in_clocks) c.fill_child.ensures.clocks.stretch_room.in_rests (omega arith)
-    (λ i same. let e : c.requires.levels.rank (clock_at c.args.scene.now.clocks.now i) ≡ c.requires.levels.rank (clock_at c.args.scene.now.clocks.now c.args.k) = ap (λ n. c.requires.levels.rank (clock_at c.args.scene.now.clocks.now n)) same in omega (arith, e))
-    (left_filled c.args.scene.now.clocks.now c.requires.levels.rank c.args.k c.args.clocks.now c.keep.new.clocks c.make_instant.new.clocks c.fill_child.new.clocks c.requires.levels.ranks in_clocks
-    (left_then c.args.scene.now.clocks.now c.requires.levels.rank (c.requires.levels.rank (clock_at c.args.scene.now.clocks.now c.args.k)) (c.requires.levels.rank (clock_at c.args.scene.now.clocks.now c.args.k)) (is_node c.args.k) (is_node c.args.k)
-    c.args.clocks.now c.loop-clocks.clocks c.keep.new.clocks (omega arith) (λ i low same. same) (c.loop-clocks.invariant.left c.requires.levels.rank c.requires.levels.ranks)
-    (left_kept c.args.scene.now.clocks.now c.requires.levels.rank (c.requires.levels.rank (clock_at c.args.scene.now.clocks.now c.args.k)) c.args.k c.loop-clocks.clocks c.keep.new.clocks c.keep.ensures.states c.keep.ensures.times c.keep.ensures.held c.keep.ensures.others c.keep.ensures.left c.keep.ensures.right))
-    (c.in_ok-make_instant.ensures.left c.requires.levels.rank c.requires.levels.ranks) c.fill_child.ensures.states c.fill_child.ensures.times c.fill_child.ensures.room) c.requires.idle
+    let in_clocks : c.args.k < length c.args.scene.now.clocks.now = omega (arith, c.requires.within, c.requires.ready.scene.in_clocks) in
+    idle_left c.args.scene.now.clocks.now c.requires.ready.levels.rank (clock_at c.args.scene.now.clocks.now c.args.k) (is_node c.args.k) (c.requires.ready.levels.rank (clock_at c.args.scene.now.clocks.now c.args.k))
+    c.args.clocks.now c.fill_child.new.clocks (length c.args.scene.now.plan.now.nodes) c.requires.ready.levels.ranks (sym c.requires.ready.scene.in_clocks) c.fill_child.ensures.clocks.stretch_room.in_rests (omega arith)
+    (λ i same. let e : c.requires.ready.levels.rank (clock_at c.args.scene.now.clocks.now i) ≡ c.requires.ready.levels.rank (clock_at c.args.scene.now.clocks.now c.args.k) = ap (λ n. c.requires.ready.levels.rank (clock_at c.args.scene.now.clocks.now n)) same in omega (arith, e))
+    (left_filled c.args.scene.now.clocks.now c.requires.ready.levels.rank c.args.k c.args.clocks.now c.keep.new.clocks c.make_instant.new.clocks c.fill_child.new.clocks c.requires.ready.levels.ranks in_clocks
+    (left_then c.args.scene.now.clocks.now c.requires.ready.levels.rank (c.requires.ready.levels.rank (clock_at c.args.scene.now.clocks.now c.args.k)) (c.requires.ready.levels.rank (clock_at c.args.scene.now.clocks.now c.args.k)) (is_node c.args.k) (is_node c.args.k)
+    c.args.clocks.now c.loop-clocks.clocks c.keep.new.clocks (omega arith) (λ i low same. same) (c.loop-clocks.invariant.left c.requires.ready.levels.rank c.requires.ready.levels.ranks)
+    (left_kept c.args.scene.now.clocks.now c.requires.ready.levels.rank (c.requires.ready.levels.rank (clock_at c.args.scene.now.clocks.now c.args.k)) c.args.k c.loop-clocks.clocks c.keep.new.clocks c.keep.ensures.states c.keep.ensures.times c.keep.ensures.held c.keep.ensures.others c.keep.ensures.left c.keep.ensures.right))
+    (c.in_ok-make_instant.ensures.left c.requires.ready.levels.rank c.requires.ready.levels.ranks) c.fill_child.ensures.states c.fill_child.ensures.times c.fill_child.ensures.room) c.requires.idle
 
 pub settle-fill_on-requires-clause-none : goal.settle-fill_on-requires-clause-none
 settle-fill_on-requires-clause-none g t c =
-    let in_clocks : c.args.k < length c.args.scene.now.clocks.now = omega (arith, c.requires.within, c.requires.scene.in_clocks) in
+    let in_clocks : c.args.k < length c.args.scene.now.clocks.now = omega (arith, c.requires.within, c.requires.ready.scene.in_clocks) in
     ap (λ r. slice_index_or r.rests.items c.args.k 0) c.fill_child.ensures.room
-    ∙ rest_kept c.args.scene.now.clocks.now c.requires.levels.rank c.args.k c.keep.new.clocks c.make_instant.new.clocks c.requires.levels.ranks in_clocks
-    (c.in_ok-make_instant.ensures.left c.requires.levels.rank c.requires.levels.ranks) ∙ c.keep.ensures.kept
+    ∙ rest_kept c.args.scene.now.clocks.now c.requires.ready.levels.rank c.args.k c.keep.new.clocks c.make_instant.new.clocks c.requires.ready.levels.ranks in_clocks
+    (c.in_ok-make_instant.ensures.left c.requires.ready.levels.rank c.requires.ready.levels.ranks) ∙ c.keep.ensures.kept
 
 pub settle-fill_child-requires-clause-wants : goal.settle-fill_child-requires-clause-wants
 settle-fill_child-requires-clause-wants g t c =
-    let in_clocks : c.args.k < length c.args.scene.now.clocks.now = omega (arith, c.requires.within, c.requires.scene.in_clocks) in
+    let in_clocks : c.args.k < length c.args.scene.now.clocks.now = omega (arith, c.requires.within, c.requires.ready.scene.in_clocks) in
     let in_states : c.args.k < length c.loop-clocks.clocks.states.items = omega (arith, c.loop-clocks.invariant.clocks.fit.size, c.requires.within) in
     let at : slice_get c.loop-clocks.clocks.states.items c.args.k ≡ Some c.index.result.now = slice_get_read _ _ _ _ refl in_states c.index.ensures in
-    let kept = kept_at c.args.scene.now.clocks.now c.requires.levels.rank c.args.k c.keep.new.clocks c.make_instant.new.clocks c.requires.levels.ranks in_clocks
-    (c.in_ok-make_instant.ensures.left c.requires.levels.rank c.requires.levels.ranks) ∙ ap (λ xs. slice_get xs.items c.args.k) c.keep.ensures.states in
+    let kept = kept_at c.args.scene.now.clocks.now c.requires.ready.levels.rank c.args.k c.keep.new.clocks c.make_instant.new.clocks c.requires.ready.levels.ranks in_clocks
+    (c.in_ok-make_instant.ensures.left c.requires.ready.levels.rank c.requires.ready.levels.ranks) ∙ ap (λ xs. slice_get xs.items c.args.k) c.keep.ensures.states in
     ap (λ s. option_map_or wants s false) (kept ∙ at) ∙ sym c.wants.ensures.wants ∙ c.loop-clocks-test.true
 
 pub settle-loop-clocks-smaller : goal.settle-loop-clocks-smaller
 settle-loop-clocks-smaller g t c =
-    let in_clocks : c.args.k < length c.args.scene.now.clocks.now = omega (arith, c.requires.within, c.requires.scene.in_clocks) in
-    let kept = kept_at c.args.scene.now.clocks.now c.requires.levels.rank c.args.k c.keep.new.clocks c.make_instant.new.clocks c.requires.levels.ranks in_clocks
-    (c.in_ok-make_instant.ensures.left c.requires.levels.rank c.requires.levels.ranks) ∙ ap (λ xs. slice_get xs.items c.args.k) c.keep.ensures.states in
+    let in_clocks : c.args.k < length c.args.scene.now.clocks.now = omega (arith, c.requires.within, c.requires.ready.scene.in_clocks) in
+    let kept = kept_at c.args.scene.now.clocks.now c.requires.ready.levels.rank c.args.k c.keep.new.clocks c.make_instant.new.clocks c.requires.ready.levels.ranks in_clocks
+    (c.in_ok-make_instant.ensures.left c.requires.ready.levels.rank c.requires.ready.levels.ranks) ∙ ap (λ xs. slice_get xs.items c.args.k) c.keep.ensures.states in
     let same = ap (λ s. option_map_or left s 0) kept in
     omega (arith, same, c.fill_child.ensures.less, c.fill_on.ensures.no_more)
 
 pub settle-loop-clocks-preserved : goal.settle-loop-clocks-preserved
 settle-loop-clocks-preserved g t c =
-    let in_clocks : c.args.k < length c.args.scene.now.clocks.now = omega (arith, c.requires.within, c.requires.scene.in_clocks) in
+    let in_clocks : c.args.k < length c.args.scene.now.clocks.now = omega (arith, c.requires.within, c.requires.ready.scene.in_clocks) in
     let in_times : c.args.k < length c.loop-clocks.clocks.times.items = omega (arith, c.loop-clocks.invariant.clocks.in_times, c.requires.within) in
     let timed : slice_get c.keep.new.clocks.times.items c.args.k ≡ Some c.index-time.result.now = ap (λ xs. slice_get xs.items c.args.k) c.keep.ensures.times ∙ slice_get_read _ _ _ _ refl in_times c.index-time.ensures in
     let in_states : c.args.k < length c.loop-clocks.clocks.states.items = omega (arith, c.loop-clocks.invariant.clocks.fit.size, c.requires.within) in
@@ -112,9 +112,9 @@ settle-loop-clocks-preserved g t c =
           (left_kept c.args.scene.now.clocks.now rank (rank (get_or c.args.scene.now.clocks.now c.args.k (Main 0))) c.args.k c.loop-clocks.clocks c.keep.new.clocks c.keep.ensures.states c.keep.ensures.times c.keep.ensures.held c.keep.ensures.others c.keep.ensures.left c.keep.ensures.right))
           (c.in_ok-make_instant.ensures.left rank ranks) c.fill_child.ensures.states c.fill_child.ensures.times c.fill_child.ensures.room)
           (c.fill_on.ensures.left rank ranks);
-      filling = node_more g.T.Taps.stands c.args.scene.now c.args.own.now c.requires.scene.in_clocks c.args.clocks.now c.args.taps.now c.args.k
+      filling = node_more g.T.Taps.stands c.args.scene.now c.args.own.now c.requires.ready.scene.in_clocks c.args.clocks.now c.args.taps.now c.args.k
           c.requires.within c.keep.new.clocks c.loop-clocks.taps c.index.result.now at
-          (node_closed g.T.Taps.stands c.args.scene.now c.args.own.now c.requires.scene.in_clocks c.args.clocks.now c.args.taps.now c.args.k
+          (node_closed g.T.Taps.stands c.args.scene.now c.args.own.now c.requires.ready.scene.in_clocks c.args.clocks.now c.args.taps.now c.args.k
           c.requires.within c.loop-clocks.clocks c.keep.new.clocks c.loop-clocks.taps c.keep.ensures.states c.keep.ensures.times c.keep.ensures.held c.keep.ensures.kept c.keep.ensures.others c.keep.ensures.left c.keep.ensures.right c.loop-clocks.invariant.filling)
           (λ setting sub past filled i work long stands. c.wants.ensures.more setting sub past filled i work long stands c.loop-clocks-test.true)
           c.make_instant.new.taps c.index-time.result.now timed c.keep.ensures.kept c.make_instant.new.clocks c.fill_child.new.clocks c.fill_on.new.clocks
@@ -135,9 +135,9 @@ settle-returns-in_err-make_instant-clause-stopped g t c =
     let timed : slice_get c.keep.new.clocks.times.items c.args.k ≡ Some c.index-time.result.now = ap (λ xs. slice_get xs.items c.args.k) c.keep.ensures.times ∙ slice_get_read _ _ _ _ refl in_times c.index-time.ensures in
     let in_states : c.args.k < length c.loop-clocks.clocks.states.items = omega (arith, c.loop-clocks.invariant.clocks.fit.size, c.requires.within) in
     let at : slice_get c.keep.new.clocks.states.items c.args.k ≡ Some c.index.result.now = ap (λ xs. slice_get xs.items c.args.k) c.keep.ensures.states ∙ slice_get_read _ _ _ _ refl in_states c.index.ensures in
-    on_err c.from_residual.result (node_stopped g.T.Taps.stands c.args.scene.now c.args.own.now c.requires.scene.in_clocks c.args.clocks.now c.args.taps.now c.args.k
+    on_err c.from_residual.result (node_stopped g.T.Taps.stands c.args.scene.now c.args.own.now c.requires.ready.scene.in_clocks c.args.clocks.now c.args.taps.now c.args.k
     c.requires.within c.keep.new.clocks c.loop-clocks.taps c.index.result.now at
-    (node_closed g.T.Taps.stands c.args.scene.now c.args.own.now c.requires.scene.in_clocks c.args.clocks.now c.args.taps.now c.args.k
+    (node_closed g.T.Taps.stands c.args.scene.now c.args.own.now c.requires.ready.scene.in_clocks c.args.clocks.now c.args.taps.now c.args.k
     c.requires.within c.loop-clocks.clocks c.keep.new.clocks c.loop-clocks.taps c.keep.ensures.states c.keep.ensures.times c.keep.ensures.held c.keep.ensures.kept c.keep.ensures.others c.keep.ensures.left c.keep.ensures.right c.loop-clocks.invariant.filling)
     (λ setting sub past filled i work long stands. c.wants.ensures.more setting sub past filled i work long stands c.loop-clocks-test.true)
     c.make_instant.new.taps c.index-time.result.now timed c.in_err-make_instant.ensures.stopped)
@@ -146,22 +146,22 @@ pub settle-returns-clause-settled : goal.settle-returns-clause-settled
 settle-returns-clause-settled g t c =
     let in_states : c.args.k < length c.loop-clocks.clocks.states.items = omega (arith, c.loop-clocks.invariant.clocks.fit.size, c.requires.within) in
     let at : slice_get c.loop-clocks.clocks.states.items c.args.k ≡ Some c.index.result.now = slice_get_read _ _ _ _ refl in_states c.index.ensures in
-    node_settled g.T.Taps.stands c.args.scene.now c.args.own.now c.requires.scene.in_clocks c.args.clocks.now c.args.taps.now c.args.k
+    node_settled g.T.Taps.stands c.args.scene.now c.args.own.now c.requires.ready.scene.in_clocks c.args.clocks.now c.args.taps.now c.args.k
     c.requires.within c.loop-clocks.clocks c.loop-clocks.taps c.index.result.now at c.loop-clocks.invariant.filling
     (λ setting sub past filled i work stands begun. c.wants.ensures.settled setting sub past filled i work stands c.loop-clocks-test.false begun)
     (λ setting sub past filled i overlap long stands. c.wants.ensures.run setting sub past filled i overlap long stands c.loop-clocks-test.false)
 
 pub settle_all-loop-i-init : goal.settle_all-loop-i-init
 settle_all-loop-i-init g t c =
-    let first = c.first-i.ensures c.args.scene.now.clocks.now c.requires.clocks.chains in
+    let first = c.first-i.ensures c.args.scene.now.clocks.now c.requires.ready.clocks.chains in
     record {
       high = first.high;
       own = first.own;
-      clocks = c.requires.clocks;
+      clocks = c.requires.ready.clocks;
       buffers = refl;
       same = g.met.T.Taps.same_refl c.args.taps.now;
       left = λ rank ranks. left_none c.args.scene.now.clocks.now rank (rank c.args.clock) (is_in c.args.scene.now.clocks.now c.args.clock) c.args.clocks.now;
-      settled = all_none g.T.Taps.stands c.args.scene.now c.args.own.now c.requires.scene.in_clocks c.args.clocks.now c.args.taps.now c.args.clock c.first-i.result first;
+      settled = all_none g.T.Taps.stands c.args.scene.now c.args.own.now c.requires.ready.scene.in_clocks c.args.clocks.now c.args.taps.now c.args.clock c.first-i.result first;
     }
 
 pub settle_all-loop-i-smaller : goal.settle_all-loop-i-smaller
@@ -172,7 +172,7 @@ settle_all-loop-i-smaller g t c =
 
 pub settle_all-loop-i-preserved : goal.settle_all-loop-i-preserved
 settle_all-loop-i-preserved g t c =
-    let within : c.loop-i.i < length c.args.scene.now.plan.now.nodes = omega (arith, c.requires.scene.in_clocks, c.loop-i-test.true) in
+    let within : c.loop-i.i < length c.args.scene.now.plan.now.nodes = omega (arith, c.requires.ready.scene.in_clocks, c.loop-i-test.true) in
     let inside = c.loop-i.invariant.own c.loop-i-test.true in
     let own_clock : get_or c.args.scene.now.clocks.now c.loop-i.i (Main 0) ≡ c.args.clock = same_clock-true (get_or c.args.scene.now.clocks.now c.loop-i.i (Main 0)) c.args.clock inside in
     let next = next_own c.args.scene.now.clocks.now c.args.clock c.loop-i.i c.after-i.result inside (c.after-i.ensures c.args.scene.now.clocks.now c.settle.ensures.clocks.chains) in
@@ -184,31 +184,31 @@ settle_all-loop-i-preserved g t c =
       same = g.met.T.Taps.same_trans c.args.taps.now c.loop-i.taps c.settle.new.taps c.loop-i.invariant.same c.settle.ensures.same;
       left = λ rank ranks. left_settled c.args.scene.now.clocks.now rank c.args.clock c.loop-i.i c.args.clocks.now c.loop-i.clocks c.settle.new.clocks own_clock
           (c.loop-i.invariant.left rank ranks) (c.in_ok-settle.ensures.left rank ranks);
-      settled = all_more g.T.Taps.stands c.args.scene.now c.args.own.now c.requires.scene.in_clocks c.args.clocks.now c.args.taps.now c.args.clock
+      settled = all_more g.T.Taps.stands c.args.scene.now c.args.own.now c.requires.ready.scene.in_clocks c.args.clocks.now c.args.taps.now c.args.clock
           c.loop-i.i within inside c.loop-i.clocks c.loop-i.taps c.settle.new.taps c.loop-i.invariant.settled c.settle.new.clocks c.after-i.result next c.in_ok-settle.ensures.settled;
     }
 
 pub settle_all-returns-in_err-settle-clause-stopped : goal.settle_all-returns-in_err-settle-clause-stopped
 settle_all-returns-in_err-settle-clause-stopped g t c =
-    let within : c.loop-i.i < length c.args.scene.now.plan.now.nodes = omega (arith, c.requires.scene.in_clocks, c.loop-i-test.true) in
-    on_err c.from_residual.result (all_stopped g.T.Taps.stands c.args.scene.now c.args.own.now c.requires.scene.in_clocks c.args.clocks.now c.args.taps.now c.args.clock
+    let within : c.loop-i.i < length c.args.scene.now.plan.now.nodes = omega (arith, c.requires.ready.scene.in_clocks, c.loop-i-test.true) in
+    on_err c.from_residual.result (all_stopped g.T.Taps.stands c.args.scene.now c.args.own.now c.requires.ready.scene.in_clocks c.args.clocks.now c.args.taps.now c.args.clock
     c.loop-i.i within (c.loop-i.invariant.own c.loop-i-test.true) c.loop-i.clocks c.loop-i.taps c.settle.new.taps c.loop-i.invariant.settled c.in_err-settle.ensures.stopped)
 
 pub settle_all-returns-clause-settled : goal.settle_all-returns-clause-settled
 settle_all-returns-clause-settled g t c =
     let high = c.loop-i.invariant.high in
-    let all : c.loop-i.i ≡ length c.args.scene.now.plan.now.nodes = omega (arith, high, c.requires.scene.in_clocks, c.loop-i-test.false) in
+    let all : c.loop-i.i ≡ length c.args.scene.now.plan.now.nodes = omega (arith, high, c.requires.ready.scene.in_clocks, c.loop-i-test.false) in
     subst (λ n. AllSettled g.T.Taps.stands c.args.scene.now c.args.own.now c.args.clock n c.args.clocks.now c.loop-i.clocks c.args.taps.now c.loop-i.taps) all
     c.loop-i.invariant.settled
 
 pub make_instant-returns-in_err-begin_clock-clause-stopped : goal.make_instant-returns-in_err-begin_clock-clause-stopped
 make_instant-returns-in_err-begin_clock-clause-stopped g t c =
-    on_err c.from_residual.result (opening_stopped g.T.Taps.stands c.args.scene.now c.args.own.now c.requires.scene.in_clocks c.args.clocks.now c.args.taps.now c.args.clock
+    on_err c.from_residual.result (opening_stopped g.T.Taps.stands c.args.scene.now c.args.own.now c.requires.ready.scene.in_clocks c.args.clocks.now c.args.taps.now c.args.clock
     c.args.time c.begin_clock.new.taps c.in_err-begin_clock.ensures.stopped)
 
 pub make_instant-returns-in_err-settle_all-clause-stopped : goal.make_instant-returns-in_err-settle_all-clause-stopped
 make_instant-returns-in_err-settle_all-clause-stopped g t c =
-    on_err c.from_residual-in_err-settle_all.result (settling_stopped g.T.Taps.stands c.args.scene.now c.args.own.now c.requires.scene.in_clocks c.args.clocks.now c.args.taps.now c.args.clock
+    on_err c.from_residual-in_err-settle_all.result (settling_stopped g.T.Taps.stands c.args.scene.now c.args.own.now c.requires.ready.scene.in_clocks c.args.clocks.now c.args.taps.now c.args.clock
     c.args.time c.begin_clock.new.clocks c.begin_clock.new.taps c.settle_all.new.taps c.in_ok-begin_clock.ensures.opened c.in_err-settle_all.ensures.stopped)
 
 pub make_instant-returns-clause-left : goal.make_instant-returns-clause-left
@@ -244,7 +244,7 @@ make_instant-returns-clause-made g t c =
           let items = are_settled (setting_over c.args.scene.now other) sub rank c.args.clock progress opened.more settled.more c.settle_all.new.clocks u in
           let f = c.finish.ensures.finished.made other sub past u.reached.now.filled (record { at = second; long = long; stands = clocked; settled = items; roots = roots }) in
           made (setting_over c.args.scene.now other) sub rank c.args.clock progress opened.more settled.more c.settle_all.new.clocks u
-          world.ranks c.requires.scene.in_clocks c.args.clocks.now c.finish.new.clocks stand needed
+          world.ranks c.requires.ready.scene.in_clocks c.args.clocks.now c.finish.new.clocks stand needed
           f.stands
           c.finish.ensures.others c.finish.ensures.times c.finish.ensures.kept (λ i. ap (λ xs. slice_index_or xs.items i 0) c.finish.ensures.rests)
           (lanes_same c.settle_all.new.clocks c.finish.new.clocks c.finish.ensures.left c.finish.ensures.right) c.settle_all.ensures.clocks.in_times world.down o.calls
@@ -256,33 +256,26 @@ make_instant-returns-clause-made g t c =
 
 pub settle-make_instant-requires : goal.settle-make_instant-requires
 settle-make_instant-requires g t c κs lives =
-    let in_clocks : c.args.k < length c.args.scene.now.clocks.now = omega (arith, c.requires.within, c.requires.scene.in_clocks) in
+    let in_clocks : c.args.k < length c.args.scene.now.clocks.now = omega (arith, c.requires.within, c.requires.ready.scene.in_clocks) in
     let in_times : c.args.k < length c.loop-clocks.clocks.times.items = omega (arith, c.loop-clocks.invariant.clocks.in_times, c.requires.within) in
     let at : slice_get c.loop-clocks.clocks.times.items c.args.k ≡ Some c.index-time.result.now = slice_get_read _ _ _ _ refl in_times c.index-time.ensures in
-    let some = levels_some c.args.scene.now.clocks.now c.args.k c.args.levels in_clocks c.requires.levels in
-    let under = levels_under c.args.scene.now.clocks.now c.args.k c.args.levels in_clocks c.requires.levels in (
+    let some = levels_some c.args.scene.now.clocks.now c.args.k c.args.levels in_clocks c.requires.ready.levels in (
       omega (arith, some),
       (
         lives,
         (
-          c.requires.scene,
+          record {
+            scene = c.requires.ready.scene;
+            in_own = c.requires.ready.in_own;
+            clocks = c.keep.ensures.clocks;
+            levels = levels_under c.args.scene.now.clocks.now c.args.k c.args.levels in_clocks c.requires.ready.levels;
+            readers = subst (λ n. ReadersAreIn c.args.scene.now.plan.now n) (sym c.loop-clocks.invariant.buffers) c.requires.ready.readers;
+          },
           (
-            c.requires.in_own,
+            sub_idle c.args.k c.keep.new.clocks c.keep.ensures.kept,
             (
-              c.keep.ensures.clocks,
-              (
-                under,
-                (
-                  sub_idle c.args.k c.keep.new.clocks c.keep.ensures.kept,
-                  (
-                    c.loop-clocks.invariant.clocks.rates c.args.k c.index-time.result.now at,
-                    (
-                      c.loop-clocks.invariant.clocks.frames c.args.k c.index-time.result.now at,
-                      subst (λ n. ReadersAreIn c.args.scene.now.plan.now n) (sym c.loop-clocks.invariant.buffers) c.requires.readers,
-                    ),
-                  ),
-                ),
-              ),
+              c.loop-clocks.invariant.clocks.rates c.args.k c.index-time.result.now at,
+              c.loop-clocks.invariant.clocks.frames c.args.k c.index-time.result.now at,
             ),
           ),
         ),
@@ -291,33 +284,27 @@ settle-make_instant-requires g t c κs lives =
 
 pub settle_all-settle-requires : goal.settle_all-settle-requires
 settle_all-settle-requires g t c κs lives =
-    let within : c.loop-i.i < length c.args.scene.now.plan.now.nodes = omega (arith, c.requires.scene.in_clocks, c.loop-i-test.true) in
+    let within : c.loop-i.i < length c.args.scene.now.plan.now.nodes = omega (arith, c.requires.ready.scene.in_clocks, c.loop-i-test.true) in
     let inside = c.loop-i.invariant.own c.loop-i-test.true in
     let here : clock_at c.args.scene.now.clocks.now c.loop-i.i ≡ c.args.clock = same_clock-true (clock_at c.args.scene.now.clocks.now c.loop-i.i) c.args.clock inside in (
       omega arith,
       (
         lives,
         (
-          c.requires.scene,
+          record {
+            scene = c.requires.ready.scene;
+            in_own = c.requires.ready.in_own;
+            clocks = c.loop-i.invariant.clocks;
+            levels = levels_at c.args.scene.now.clocks.now c.loop-i.i c.args.levels c.args.clock here c.requires.ready.levels;
+            readers = subst (λ n. ReadersAreIn c.args.scene.now.plan.now n) (sym c.loop-i.invariant.buffers) c.requires.ready.readers;
+          },
           (
-            c.requires.in_own,
-            (
-              c.loop-i.invariant.clocks,
-              (
-                levels_at c.args.scene.now.clocks.now c.loop-i.i c.args.levels c.args.clock here c.requires.levels,
-                (
-                  subst (λ clock. IsIdle clock c.loop-i.clocks) (sym here)
-                      (idle_left c.args.scene.now.clocks.now c.requires.levels.rank c.args.clock (is_in c.args.scene.now.clocks.now c.args.clock) (c.requires.levels.rank c.args.clock) c.args.clocks.now c.loop-i.clocks
-                      (length c.args.scene.now.plan.now.nodes) c.requires.levels.ranks (sym c.requires.scene.in_clocks) c.loop-i.invariant.clocks.stretch_room.in_rests (omega arith)
-                      (λ k same. let e : c.requires.levels.rank (clock_at c.args.scene.now.clocks.now k) ≡ c.requires.levels.rank c.args.clock = ap c.requires.levels.rank same in omega (arith, e))
-                      (c.loop-i.invariant.left c.requires.levels.rank c.requires.levels.ranks) c.requires.idle),
-                  (
-                    within,
-                    subst (λ n. ReadersAreIn c.args.scene.now.plan.now n) (sym c.loop-i.invariant.buffers) c.requires.readers,
-                  ),
-                ),
-              ),
-            ),
+            subst (λ clock. IsIdle clock c.loop-i.clocks) (sym here)
+                (idle_left c.args.scene.now.clocks.now c.requires.ready.levels.rank c.args.clock (is_in c.args.scene.now.clocks.now c.args.clock) (c.requires.ready.levels.rank c.args.clock) c.args.clocks.now c.loop-i.clocks
+                (length c.args.scene.now.plan.now.nodes) c.requires.ready.levels.ranks (sym c.requires.ready.scene.in_clocks) c.loop-i.invariant.clocks.stretch_room.in_rests (omega arith)
+                (λ k same. let e : c.requires.ready.levels.rank (clock_at c.args.scene.now.clocks.now k) ≡ c.requires.ready.levels.rank c.args.clock = ap c.requires.ready.levels.rank same in omega (arith, e))
+                (c.loop-i.invariant.left c.requires.ready.levels.rank c.requires.ready.levels.ranks) c.requires.idle),
+            within,
           ),
         ),
       ),
