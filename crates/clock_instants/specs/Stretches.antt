@@ -175,29 +175,32 @@ pub record HasRoomToRun (nodes : ℕ) (held parts : List Part) (left right : Lan
   pub in_right : length right ≡ nodes
   pub in_spare : IsSpare spare
 
--- the nodes of a clock can make so many instants that go on as its latest one, with these states and in this room
-pub record CanRunNodes (over : Scene) (nodes : ClockNodes) (clock : NodeClock) (many : ℕ) (states : List NodeState)
-    (stretch_room : StretchRoom) : Type 0 where
+-- the nodes of a clock can make so many instants that go on as its latest one, where this was given, with these states
+pub record CanRunNodes (over : Scene) (nodes : ClockNodes) (clock : NodeClock) (count : ℕ) (held : List Part)
+    (states : List NodeState) : Type 0 where
   pub scene : IsScene over
   pub chains : AreNodesOf over.clocks.now nodes
-  pub room : HasStretchRoom (length over.plan.now.nodes) stretch_room
-  pub at_once : AreAtOnce many
+  pub many : AreAtOnce count
   pub fit : AllFit over states
-  pub ahead : AllLieAhead over clock stretch_room.held.items states many
+  pub ahead : AllLieAhead over clock held states count
 
--- node i can make them, with this state, over these parts and lanes, and with these spare ones
-pub record CanRunNode (over : Scene) (i many : ℕ) (parts : List Part) (left right : Lanes) (spares : Spare)
-    (state : NodeState) : Type 0 where
+-- node i is one of those that make so many instants at once, over the parts of all, and its state fits it
+pub record IsNodeToRun (over : Scene) (i many : ℕ) (parts : List Part) (state : NodeState) : Type 0 where
   pub scene : IsScene over
   pub within : i < length over.plan.now.nodes
   pub in_parts : length parts ≡ length over.plan.now.nodes
-  pub in_left : length left ≡ length over.plan.now.nodes
-  pub in_right : length right ≡ length over.plan.now.nodes
-  pub spare : IsSpare spares
   pub count : AreAtOnce many
   pub fits : (node : Node) → slice_get over.plan.now.nodes i ≡ Some node
       → Fits over.library.now (length node.children) state
-  pub ahead : is_some (part_at parts i).slot ≡ true → LiesAhead over.library.now state many
+
+-- and what it gave is there for so long, over the lanes of all, and with spare ones
+pub record CanRunNode (scene : Scene) (i many : ℕ) (parts : List Part) (left right : Lanes) (spares : Spare)
+    (state : NodeState) : Type 0 where
+  pub node : IsNodeToRun scene i many parts state
+  pub in_left : length left ≡ length scene.plan.now.nodes
+  pub in_right : length right ≡ length scene.plan.now.nodes
+  pub spare : IsSpare spares
+  pub ahead : is_some (part_at parts i).slot ≡ true → LiesAhead scene.library.now state many
 
 -- the nodes of a clock have made so many instants that go on as its latest one, whatever instants the states stood for
 pub record NodesRun (scene : Scene) (clock : NodeClock) (many : ℕ) (held : List Part) (old : List NodeState)

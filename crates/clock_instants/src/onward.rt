@@ -7,8 +7,7 @@ ghost use Rattle.node_states.specs.Stretches.{LiesAhead};
 ghost use Rattle.node_states.specs.States.{Fits};
 ghost use Rattle.clock_nodes.specs.Nodes.{AreNodesOf, lies_at};
 ghost use Rattle.clock_instants.specs.Sides.{both};
-ghost use Rattle.clock_instants.specs.Stretches.{AllLieAhead, AreAtOnce, CanRunNode, CanRunNodes, HasKeptSamples, HasLanes, HasRoomToRun, HasStretchRoom, IsSpare, NodeMade, NodeRun, NodesRun};
-ghost use Rattle.clock_nodes.specs.Scenes.{IsScene};
+ghost use Rattle.clock_instants.specs.Stretches.{CanRunNode, CanRunNodes, HasKeptSamples, HasLanes, HasRoomToRun, HasStretchRoom, IsNodeToRun, IsSpare, NodeMade, NodeRun, NodesRun};
 ghost use Rattle.clock_nodes.specs.States.{AllFit};
 
 use crate::held::title_below;
@@ -31,7 +30,8 @@ pub fn run_nodes(
     stretch_room: &mut StretchRoom,
     many: u32,
 )
-    requires { CanRunNodes scene.now nodes.now clock many states.old stretch_room.old }
+    requires ready { CanRunNodes scene.now nodes.now clock many stretch_room.old.held.items states.old }
+    requires room { HasStretchRoom (length scene.now.plan.now.nodes) stretch_room.old }
     ensures fit { AllFit scene.now states.new }
     ensures room { HasStretchRoom (length scene.now.plan.now.nodes) stretch_room.new }
     ensures held { stretch_room.new.held ≡ stretch_room.old.held }
@@ -75,12 +75,8 @@ fn run_each(
     spare: &mut Spare,
     many: u32,
 )
-    requires scene { IsScene scene.now }
-    requires chains { AreNodesOf scene.now.clocks.now nodes.now }
+    requires ready { CanRunNodes scene.now nodes.now clock many held.now states.old }
     requires room { HasRoomToRun (length scene.now.plan.now.nodes) held.now parts.old left.old right.old spare.old }
-    requires many { AreAtOnce many }
-    requires fit { AllFit scene.now states.old }
-    requires ahead { AllLieAhead scene.now clock held.now states.old many }
     ensures fit { AllFit scene.now states.new }
     ensures outside { (j : ℕ) → lies_at scene.now.clocks.now clock j ≡ false → part_at parts.new j ≡ silent }
     ensures others { (i : ℕ) → lies_at scene.now.clocks.now clock i ≡ false
@@ -173,14 +169,9 @@ fn make_samples(
     own_right: &mut [i16],
     count: usize,
 )
-    requires scene { IsScene scene.now }
-    requires within { i < length scene.now.plan.now.nodes }
-    requires in_parts { length parts.now ≡ length scene.now.plan.now.nodes }
+    requires node { IsNodeToRun scene.now i count parts.now state.old }
     requires own_left { 2048 ≤ length own_left.old }
     requires own_right { 2048 ≤ length own_right.old }
-    requires count { AreAtOnce count }
-    requires fits { (node : PlanNode) → slice_get scene.now.plan.now.nodes i ≡ Some node
-        → Fits scene.now.library.now (length node.children) state.old }
     requires gave { is_some (part_at parts.now i).slot ≡ true }
     requires ahead { LiesAhead scene.now.library.now state.old count }
     ensures fits { (node : PlanNode) → slice_get scene.now.plan.now.nodes i ≡ Some node

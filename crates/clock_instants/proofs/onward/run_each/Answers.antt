@@ -18,11 +18,11 @@ use Rattle.clock_instants.proofs.onward.run_each.Goals as goal
 
 pub loop-i-init : goal.loop-i-init
 loop-i-init c =
-    let first = c.first-i.ensures c.args.scene.now.clocks.now c.requires.chains in
+    let first = c.first-i.ensures c.args.scene.now.clocks.now c.requires.ready.chains in
     record {
       high = first.high;
       own = first.own;
-      fit = c.requires.fit;
+      fit = c.requires.ready.fit;
       laid = laid_skip c.args.scene.now.clocks.now c.args.clock (part_at c.args.held.now) (λ k. silent) c.args.parts.now 0 c.first-i.result first
           (laid_none c.args.scene.now.clocks.now c.args.clock (part_at c.args.held.now) (λ k. silent) c.args.parts.now (λ k outside. c.requires.room.clear k));
       in_parts = refl;
@@ -41,36 +41,38 @@ loop-i-init c =
 
 pub loop-i-smaller : goal.loop-i-smaller
 loop-i-smaller c =
-    let next = c.after-i.ensures c.args.scene.now.clocks.now c.requires.chains in
+    let next = c.after-i.ensures c.args.scene.now.clocks.now c.requires.ready.chains in
     let low = next.low in
     omega (arith, low, c.loop-i-test.true)
 
 pub run_node-requires : goal.run_node-requires
 run_node-requires c =
-    let in_nodes : c.loop-i.i < length c.args.scene.now.plan.now.nodes = omega (arith, c.requires.scene.in_clocks, c.loop-i-test.true) in
+    let in_nodes : c.loop-i.i < length c.args.scene.now.plan.now.nodes = omega (arith, c.requires.ready.scene.in_clocks, c.loop-i-test.true) in
     let in_states : c.loop-i.i < length c.loop-i.states = omega (arith, c.loop-i.invariant.fit.size, in_nodes) in
     let in_parts : c.loop-i.i < length c.loop-i.parts = omega (arith, c.loop-i.invariant.in_parts, c.requires.room.in_parts, in_nodes) in
     record {
-      scene = c.requires.scene;
-      within = in_nodes;
-      in_parts = length-set _ _ _ ∙ c.loop-i.invariant.in_parts ∙ c.requires.room.in_parts;
+      node = record {
+        scene = c.requires.ready.scene;
+        within = in_nodes;
+        in_parts = length-set _ _ _ ∙ c.loop-i.invariant.in_parts ∙ c.requires.room.in_parts;
+        count = c.requires.ready.many;
+        fits = λ node found. c.loop-i.invariant.fit.each c.loop-i.i node _ found (slice_get-get_or _ _ _ in_states);
+      };
       in_left = c.loop-i.invariant.in_left ∙ c.requires.room.in_left;
       in_right = c.loop-i.invariant.in_right ∙ c.requires.room.in_right;
       spare = c.loop-i.invariant.spare;
-      count = c.requires.many;
-      fits = λ node found. c.loop-i.invariant.fit.each c.loop-i.i node _ found (slice_get-get_or _ _ _ in_states);
       ahead = λ gave.
-          c.requires.ahead.each c.loop-i.i _ c.loop-i-test.true (c.loop-i.invariant.own c.loop-i-test.true) (sym (c.loop-i.invariant.stayed c.loop-i.i (omega arith)) ∙ slice_get-get_or _ _ _ in_states)
+          c.requires.ready.ahead.each c.loop-i.i _ c.loop-i-test.true (c.loop-i.invariant.own c.loop-i-test.true) (sym (c.loop-i.invariant.stayed c.loop-i.i (omega arith)) ∙ slice_get-get_or _ _ _ in_states)
           (sym (ap (λ (p : Part). is_some p.slot) (get_or-set_same c.loop-i.parts c.loop-i.i (get_or c.args.held.now c.loop-i.i silent) silent in_parts)) ∙ gave);
     }
 
 pub loop-i-preserved : goal.loop-i-preserved
 loop-i-preserved c =
-    let in_nodes : c.loop-i.i < length c.args.scene.now.plan.now.nodes = omega (arith, c.requires.scene.in_clocks, c.loop-i-test.true) in
+    let in_nodes : c.loop-i.i < length c.args.scene.now.plan.now.nodes = omega (arith, c.requires.ready.scene.in_clocks, c.loop-i-test.true) in
     let in_states : c.loop-i.i < length c.loop-i.states = omega (arith, c.loop-i.invariant.fit.size, in_nodes) in
     let in_parts : c.loop-i.i < length c.loop-i.parts = omega (arith, c.loop-i.invariant.in_parts, c.requires.room.in_parts, in_nodes) in
     let inside = c.loop-i.invariant.own c.loop-i-test.true in
-    let after = next_own c.args.scene.now.clocks.now c.args.clock c.loop-i.i c.after-i.result inside (c.after-i.ensures c.args.scene.now.clocks.now c.requires.chains) in
+    let after = next_own c.args.scene.now.clocks.now c.args.clock c.loop-i.i c.after-i.result inside (c.after-i.ensures c.args.scene.now.clocks.now c.requires.ready.chains) in
     let there : slice_get c.loop-i.states c.loop-i.i ≡ Some (get_or c.loop-i.states c.loop-i.i c.index-states-i.result) = slice_get-get_or _ _ _ in_states in
     let was = sym (c.loop-i.invariant.stayed c.loop-i.i (omega arith)) ∙ there in
     let node = item_there c.args.scene.now.plan.now.nodes c.loop-i.i in_nodes in
@@ -123,6 +125,6 @@ pub returns-clause-run : goal.returns-clause-run
 returns-clause-run c = record {
   run = λ other sub past filled going.
       run_all (setting_over c.args.scene.now other) sub c.args.clock past c.args.many filled c.args.states.now c.loop-i.i c.loop-i.left c.loop-i.right c.loop-i.states
-      (let high = c.loop-i.invariant.high in omega (arith, high, c.requires.scene.in_clocks, c.loop-i-test.false))
+      (let high = c.loop-i.invariant.high in omega (arith, high, c.requires.ready.scene.in_clocks, c.loop-i-test.false))
       (c.loop-i.invariant.done other sub past filled going);
 }
