@@ -7,9 +7,25 @@ use Rattle.stream_meaning.specs.Instants.{Setting, Moment, moment_after, second_
 use Rattle.node_states.specs.declared.state.NodeState.{NodeState}
 use Rattle.node_states.specs.States.{AreLong}
 use Rattle.clock_nodes.specs.declared.scene.Scene.{Scene}
+use Rattle.clock_nodes.specs.declared.nodes.ClockNodes.{ClockNodes}
+use Rattle.clock_nodes.specs.Nodes.{AreNodesOf}
+use Rattle.clock_instants.specs.declared.latest.Latest.{Latest}
+use Rattle.clock_instants.specs.Instants.{IsLatest}
 use Rattle.clock_instants.specs.Held.{IsHeld}
-use Rattle.clock_nodes.specs.Scenes.{setting_over}
-use Rattle.clock_nodes.specs.States.{AreRoots, AreSettled, ClockStands}
+use Rattle.clock_nodes.specs.Scenes.{IsScene, setting_over}
+use Rattle.clock_nodes.specs.States.{AllFit, AreRoots, AreSettled, ClockStands, HasRoomFor}
+
+-- an instant can be made behind the latest one: states for the nodes of a plan, room for their children, and for each
+-- node what is told of it and what is held
+pub record CanMakeNext (over : Scene) (nodes : ClockNodes) (own : List Bool) (before : Latest) (states : List NodeState)
+    (held : List Part) (most : ℕ) : Type 0 where
+  pub scene : IsScene over
+  pub chains : AreNodesOf over.clocks.now nodes
+  pub in_own : length own ≡ length over.plan.now.nodes
+  pub latest : IsLatest over.clocks.now before
+  pub fit : AllFit over states
+  pub room : HasRoomFor over.plan.now most
+  pub in_held : length held ≡ length over.plan.now.nodes
 
 -- the instant after these lies in this second, the states stand for these, the items of the clock's crossfades are
 -- settled, and `own` tells which of its nodes it demands of themselves

@@ -1,11 +1,10 @@
 // The latest instant of a clock: what its nodes did, and how the next one is made once its crossfades are settled.
 ghost use Rattle.std.specs.Prelude.{◌≡◌, ℕ, false, length, slice_get, slice_index_or};
 ghost use Rattle.stream_meaning.specs.Instants.{part_at, silent};
-ghost use Rattle.clock_instants.specs.Finishing.{InstantFinished};
+ghost use Rattle.clock_instants.specs.Finishing.{CanMakeNext, InstantFinished};
 ghost use Rattle.clock_nodes.specs.Nodes.{AreNodesOf, lies_at};
 ghost use Rattle.clock_instants.specs.Instants.{IsLatest};
-ghost use Rattle.clock_nodes.specs.Scenes.{IsScene};
-ghost use Rattle.clock_nodes.specs.States.{AllFit, HasRoomFor};
+ghost use Rattle.clock_nodes.specs.States.{AllFit};
 
 use crate::demand::find_demanded;
 use crate::holding::hold;
@@ -43,13 +42,7 @@ impl Latest {
         held: &mut [Part],
         desk: &mut Desk,
     )
-        requires scene { IsScene scene.now }
-        requires chains { AreNodesOf scene.now.clocks.now nodes.now }
-        requires in_own { length own.now ≡ length scene.now.plan.now.nodes }
-        requires latest { IsLatest scene.now.clocks.now self.old }
-        requires fit { AllFit scene.now states.old }
-        requires room { HasRoomFor scene.now.plan.now desk.old }
-        requires in_held { length held.old ≡ length scene.now.plan.now.nodes }
+        requires { CanMakeNext scene.now nodes.now own.now self.old states.old held.old desk.old }
         ensures room { desk.new ≡ desk.old }
         ensures latest { IsLatest scene.now.clocks.now self.new }
         ensures fit { AllFit scene.now states.new }
