@@ -15,7 +15,7 @@ use Rattle.clock_nodes.specs.Scenes.{IsScene, setting_over}
 use Rattle.nested_instants.specs.declared.clock_states.ClockStates.{ClockStates}
 use Rattle.clock_instants.specs.Held.{IsHeld, gave_at, goes_through, passes_at}
 use Rattle.node_states.specs.Passing.{LaneFills}
-use Rattle.nested_instants.specs.Clocks.{AreClockStates, GoesOnFor, IsFilling, IsIdle, IsOpen, IsWorld, Progress, RanAsNeeded, Stand, clock_at, fade_at, is_none, laned_at, rest_at, room_at}
+use Rattle.nested_instants.specs.Clocks.{AreClockStates, GoesOnFor, HasLevels, IsFilling, IsIdle, IsOpen, IsWorld, Progress, RanAsNeeded, Stand, clock_at, fade_at, is_none, laned_at, rest_at, room_at}
 
 -- at so many instants a node offers nothing, where it offered nothing at the one before them; or cells of its title
 -- there that begin no track, and these are their samples
@@ -53,6 +53,17 @@ pub record CanGoOn (setting : Setting) (sub : ℕ → ℕ → List Slot) (rank :
   pub at : progress.ran clock ≡ suc n
   pub goes : GoesOnFor setting sub clock (first_instants setting sub clock n) many progress.filled all.room.held.items
       all.states.items
+
+-- a clock and the sub-clocks below it can make so many instants at once: these are states for the nodes of a plan,
+-- sub-clocks nest no deeper than this, no instants are kept of the clock, and a stretch has so many
+pub record CanRunClock (over : Scene) (clock : NodeClock) (most many : ℕ) (all : ClockStates) : Type 0 where
+  pub scene : IsScene over
+  pub clocks : AreClockStates over all
+  pub levels : HasLevels over.clocks.now clock most
+  pub idle : IsIdle clock all
+  pub some : 0 < many
+  pub short : many ≤ 2048
+  pub later : many ≤ over.plan.now.rate
 
 -- so many instants of a clock were made, which go on as its latest one: whatever instants the states stood for
 pub record ClockMade (scene : Scene) (clock : NodeClock) (many : ℕ) (old new : ClockStates) : Type 0 where

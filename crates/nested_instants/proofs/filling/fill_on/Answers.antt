@@ -40,13 +40,18 @@ returns-then-many-eq0-clause-filled c = record {
       });
 }
 
-pub run_clock-requires-clause-levels : goal.run_clock-requires-clause-levels
-run_clock-requires-clause-levels c =
+pub run_clock-requires-clause-ready : goal.run_clock-requires-clause-ready
+run_clock-requires-clause-ready c =
     let in_clocks : c.args.k < length c.args.scene.now.clocks.now = omega (arith, c.requires.within, c.requires.scene.in_clocks) in
-    levels_under c.args.scene.now.clocks.now c.args.k c.args.levels in_clocks c.requires.levels
-
-pub run_clock-requires-clause-idle : goal.run_clock-requires-clause-idle
-run_clock-requires-clause-idle c = sub_idle c.args.k c.args.clocks.now c.requires.none
+    record {
+      scene = c.requires.scene;
+      clocks = c.requires.clocks;
+      levels = levels_under c.args.scene.now.clocks.now c.args.k c.args.levels in_clocks c.requires.levels;
+      idle = sub_idle c.args.k c.args.clocks.now c.requires.none;
+      some = omega (arith, c.if-many-eq0.false);
+      short = c.wanted-many.ensures.short;
+      later = omega (arith, c.requires.rate, c.goes_for-rest.ensures.later, c.wanted-many.ensures.rest);
+    }
 
 pub returns-clause-left : goal.returns-clause-left
 returns-clause-left c rank ranks =
