@@ -80,6 +80,13 @@ pub record AreClockStates (scene : Scene) (all : ClockStates) : Type 0 where
   pub rates : (k : ℕ) (time : WeekTime) → slice_get all.times.items k ≡ Some time → time.rate ≡ scene.plan.now.rate
   pub frames : (k : ℕ) (time : WeekTime) → slice_get all.times.items k ≡ Some time → time.frame ≡ scene.plan.now.frame
 
+-- states for the nodes of a plan, and a time of its rate and its frame
+pub record AreStatesAt (over : Scene) (time : WeekTime) (all : ClockStates) : Type 0 where
+  pub scene : IsScene over
+  pub clocks : AreClockStates over all
+  pub rate : time.rate ≡ over.plan.now.rate
+  pub frame : time.frame ≡ over.plan.now.frame
+
 -- a clock and the sub-clocks below it can make instants: these are states for the nodes of a plan, something is told of
 -- each node, sub-clocks nest no deeper than this, and readers read these buffers
 pub record CanMakeInstants (over : Scene) (own : List Bool) (clock : NodeClock) (most buffers : ℕ) (all : ClockStates)

@@ -14,9 +14,9 @@ ghost use Rattle.node_states.specs.States.{Fits, StateStands, left, room};
 ghost use Rattle.node_states.specs.Times.{TimeStands};
 ghost use Rattle.clock_instants.specs.Held.{AllPassOn};
 ghost use Rattle.clock_instants.specs.Stretches.{AllLieAhead, IsBehind};
-ghost use Rattle.nested_instants.specs.Clocks.{AreClockStates, AreLeft, GoesOnFor, HasLevels, HasRanks, IsIdle, is_node, left_at, rest_at, room_at, wants_at};
+ghost use Rattle.nested_instants.specs.Clocks.{AreClockStates, AreLeft, AreStatesAt, GoesOnFor, HasLevels, HasRanks, IsIdle, is_node, left_at, rest_at, room_at, wants_at};
 ghost use Rattle.nested_instants.specs.Stretches.{CanFillLane, FilledOn};
-ghost use Rattle.clock_nodes.specs.Scenes.{IsScene, setting_over};
+ghost use Rattle.clock_nodes.specs.Scenes.{setting_over};
 
 use crate::ClockStates;
 use crate::keeping::{keep, rest_for};
@@ -75,14 +75,11 @@ pub fn fill_child(scene: &Scene<'_>, clocks: &mut ClockStates, k: u32)
 /// of the latest instant, whose slot it was filled, and `levels` bounds how deep sub-clocks nest below the crossfade's
 /// clock.
 pub fn fill_on(scene: &Scene<'_>, clocks: &mut ClockStates, k: u32, time: WeekTime, levels: usize)
-    requires scene { IsScene scene.now }
-    requires clocks { AreClockStates scene.now clocks.old }
+    requires ready { AreStatesAt scene.now time clocks.old }
     requires within { k < length scene.now.plan.now.nodes }
     requires levels { HasLevels scene.now.clocks.now (slice_index_or scene.now.clocks.now k (InMain 0)) levels }
     requires idle { IsIdle (slice_index_or scene.now.clocks.now k (InMain 0)) clocks.old }
     requires none { rest_at clocks.old k ≡ 0 }
-    requires rate { time.rate ≡ scene.now.plan.now.rate }
-    requires frame { time.frame ≡ scene.now.plan.now.frame }
     ensures clocks { AreClockStates scene.now clocks.new }
     ensures no_more { left_at clocks.new.states.items k ≤ left_at clocks.old.states.items k }
     ensures left { (rank : Clock → ℕ) → HasRanks scene.now.clocks.now rank
@@ -103,11 +100,8 @@ pub fn fill_on(scene: &Scene<'_>, clocks: &mut ClockStates, k: u32, time: WeekTi
 // How many instants of the sub-clock of crossfade k go on as its latest one did, at this time, if the child gave; no
 // more than the crossfade can use.
 fn goes_for(scene: &Scene<'_>, clocks: &ClockStates, k: u32, time: WeekTime) -> u32
-    requires scene { IsScene scene.now }
-    requires clocks { AreClockStates scene.now clocks.now }
+    requires ready { AreStatesAt scene.now time clocks.now }
     requires within { k < length scene.now.plan.now.nodes }
-    requires rate { time.rate ≡ scene.now.plan.now.rate }
-    requires frame { time.frame ≡ scene.now.plan.now.frame }
     ensures later { result ≤ time.rate }
     ensures ahead { AllLieAhead scene.now (InSub k) clocks.now.room.held.items clocks.now.states.items result }
     ensures through { AllPassOn scene.now (InSub k) clocks.now.room.held.items clocks.now.states.items

@@ -8,7 +8,7 @@ ghost use Rattle.node_states.specs.declared.time.WeekTime.{WeekTime as Time};
 ghost use Rattle.node_states.specs.Times.{TimeStands};
 ghost use Rattle.clock_instants.specs.Held.{AllPassOn};
 ghost use Rattle.clock_instants.specs.Stretches.{AllLieAhead, IsBehind};
-ghost use Rattle.nested_instants.specs.Clocks.{AreClockStates, GoesOnFor, HasRanks, IsIdle, rest_at};
+ghost use Rattle.nested_instants.specs.Clocks.{AreClockStates, AreStatesAt, GoesOnFor, HasRanks, IsIdle, rest_at};
 ghost use Rattle.clock_nodes.specs.Scenes.{IsScene, setting_over};
 
 use crate::ClockStates;
@@ -50,10 +50,7 @@ pub fn rest_for(
     time: WeekTime,
     most: u32,
 ) -> u32
-    requires scene { IsScene scene.now }
-    requires clocks { AreClockStates scene.now clocks.now }
-    requires rate { time.rate ≡ scene.now.plan.now.rate }
-    requires frame { time.frame ≡ scene.now.plan.now.frame }
+    requires { AreStatesAt scene.now time clocks.now }
     ensures within { result ≤ most }
     ensures later { result ≤ time.rate }
     ensures ahead { AllLieAhead scene.now clock clocks.now.room.held.items clocks.now.states.items result }

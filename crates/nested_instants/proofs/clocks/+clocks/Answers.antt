@@ -326,12 +326,13 @@ make_instant-returns-in_err-begin_clock-clause-reads g t c = on_err c.from_resid
 pub make_instant-returns-in_err-settle_all-clause-reads : goal.make_instant-returns-in_err-settle_all-clause-reads
 make_instant-returns-in_err-settle_all-clause-reads g t c = on_err c.from_residual-in_err-settle_all.result c.in_err-settle_all.ensures.reads
 
-pub settle-fill_on-requires-clause-rate : goal.settle-fill_on-requires-clause-rate
-settle-fill_on-requires-clause-rate g t c =
+pub settle-fill_on-requires-clause-ready : goal.settle-fill_on-requires-clause-ready
+settle-fill_on-requires-clause-ready g t c =
     let in_times : c.args.k < length c.loop-clocks.clocks.times.items = omega (arith, c.loop-clocks.invariant.clocks.in_times, c.requires.within) in
-    c.loop-clocks.invariant.clocks.rates c.args.k c.index-time.result.now (slice_get_read _ _ _ _ refl in_times c.index-time.ensures)
-
-pub settle-fill_on-requires-clause-frame : goal.settle-fill_on-requires-clause-frame
-settle-fill_on-requires-clause-frame g t c =
-    let in_times : c.args.k < length c.loop-clocks.clocks.times.items = omega (arith, c.loop-clocks.invariant.clocks.in_times, c.requires.within) in
-    c.loop-clocks.invariant.clocks.frames c.args.k c.index-time.result.now (slice_get_read _ _ _ _ refl in_times c.index-time.ensures)
+    let at : slice_get c.loop-clocks.clocks.times.items c.args.k ≡ Some c.index-time.result.now = slice_get_read _ _ _ _ refl in_times c.index-time.ensures in
+    record {
+      scene = c.requires.ready.scene;
+      clocks = c.fill_child.ensures.clocks;
+      rate = c.loop-clocks.invariant.clocks.rates c.args.k c.index-time.result.now at;
+      frame = c.loop-clocks.invariant.clocks.frames c.args.k c.index-time.result.now at;
+    }

@@ -27,35 +27,35 @@ pub returns-then-many-eq0-clause-filled : goal.returns-then-many-eq0-clause-fill
 returns-then-many-eq0-clause-filled c = record {
   filled = λ other sub rank progress more own n world fades before at parts held time.
       let S = setting_over c.args.scene.now other in
-      filled_kept S sub rank world.ranks c.requires.scene.in_clocks c.args.k c.requires.within progress more c.args.clocks.now c.keep.new.clocks c.goes_for-rest.result
+      filled_kept S sub rank world.ranks c.requires.ready.scene.in_clocks c.args.k c.requires.within progress more c.args.clocks.now c.keep.new.clocks c.goes_for-rest.result
       c.keep.ensures.states c.keep.ensures.times c.keep.ensures.held c.keep.ensures.kept c.keep.ensures.others c.keep.ensures.left c.keep.ensures.right before
       (λ some. record {
         n = n;
         at = at;
         gave = child_gave S sub c.args.k (first_instants S sub (Sub c.args.k) n) own c.args.clocks.now.latest.parts.items world.roots parts (c.goes_for-rest.ensures.gave some);
         goes = c.goes_for-rest.ensures.goes other sub (first_instants S sub (Sub c.args.k) n) before.reached.now.filled
-            (are_behind S sub rank (Sub c.args.k) n before.reached.now c.args.clocks.now c.args.time world.ranks c.requires.scene.in_clocks c.requires.scene.nodes world.meaning
-            (stand_under S sub rank world.ranks c.requires.scene.in_clocks c.args.k c.requires.within progress more c.args.clocks.now before)
-            (needed_under S sub rank world.ranks c.requires.scene.in_clocks c.args.k c.requires.within progress more c.args.clocks.now before) at parts held time) some;
+            (are_behind S sub rank (Sub c.args.k) n before.reached.now c.args.clocks.now c.args.time world.ranks c.requires.ready.scene.in_clocks c.requires.ready.scene.nodes world.meaning
+            (stand_under S sub rank world.ranks c.requires.ready.scene.in_clocks c.args.k c.requires.within progress more c.args.clocks.now before)
+            (needed_under S sub rank world.ranks c.requires.ready.scene.in_clocks c.args.k c.requires.within progress more c.args.clocks.now before) at parts held time) some;
       });
 }
 
 pub run_clock-requires-clause-ready : goal.run_clock-requires-clause-ready
 run_clock-requires-clause-ready c =
-    let in_clocks : c.args.k < length c.args.scene.now.clocks.now = omega (arith, c.requires.within, c.requires.scene.in_clocks) in
+    let in_clocks : c.args.k < length c.args.scene.now.clocks.now = omega (arith, c.requires.within, c.requires.ready.scene.in_clocks) in
     record {
-      scene = c.requires.scene;
-      clocks = c.requires.clocks;
+      scene = c.requires.ready.scene;
+      clocks = c.requires.ready.clocks;
       levels = levels_under c.args.scene.now.clocks.now c.args.k c.args.levels in_clocks c.requires.levels;
       idle = sub_idle c.args.k c.args.clocks.now c.requires.none;
       some = omega (arith, c.if-many-eq0.false);
       short = c.wanted-many.ensures.short;
-      later = omega (arith, c.requires.rate, c.goes_for-rest.ensures.later, c.wanted-many.ensures.rest);
+      later = omega (arith, c.requires.ready.rate, c.goes_for-rest.ensures.later, c.wanted-many.ensures.rest);
     }
 
 pub returns-clause-left : goal.returns-clause-left
 returns-clause-left c rank ranks =
-    let in_clocks : c.args.k < length c.args.scene.now.clocks.now = omega (arith, c.requires.within, c.requires.scene.in_clocks) in
+    let in_clocks : c.args.k < length c.args.scene.now.clocks.now = omega (arith, c.requires.within, c.requires.ready.scene.in_clocks) in
     left_filled c.args.scene.now.clocks.now rank c.args.k c.args.clocks.now c.args.clocks.now c.run_clock.new.clocks c.fill_lane.new.clocks ranks in_clocks
     (left_none c.args.scene.now.clocks.now rank (rank (get_or c.args.scene.now.clocks.now c.args.k (Main 0))) (is_node c.args.k) c.args.clocks.now)
     (c.run_clock.ensures.left rank ranks)
@@ -63,7 +63,7 @@ returns-clause-left c rank ranks =
 
 pub returns-clause-no_more : goal.returns-clause-no_more
 returns-clause-no_more c =
-    let in_clocks : c.args.k < length c.args.scene.now.clocks.now = omega (arith, c.requires.within, c.requires.scene.in_clocks) in
+    let in_clocks : c.args.k < length c.args.scene.now.clocks.now = omega (arith, c.requires.within, c.requires.ready.scene.in_clocks) in
     let kept = kept_at c.args.scene.now.clocks.now c.requires.levels.rank c.args.k c.args.clocks.now c.run_clock.new.clocks c.requires.levels.ranks in_clocks
     (c.run_clock.ensures.left c.requires.levels.rank c.requires.levels.ranks) in
     let same = ap (λ s. option_map_or left s 0) kept in
@@ -74,18 +74,18 @@ returns-clause-filled c = record {
   filled = λ other sub rank progress more own n world fades before at parts held time.
       let S = setting_over c.args.scene.now other in
       let some : 0 < c.goes_for-rest.result = omega (arith, c.if-many-eq0.false, c.wanted-many.ensures.rest) in
-      filled_on S sub rank world.ranks c.requires.scene.in_clocks c.args.k c.requires.within progress more c.args.clocks.now before fades world.meaning own world.roots n
+      filled_on S sub rank world.ranks c.requires.ready.scene.in_clocks c.args.k c.requires.within progress more c.args.clocks.now before fades world.meaning own world.roots n
       c.wanted-many.result c.run_clock.new.clocks c.fill_lane.new.clocks
       (c.run_clock.ensures.run.run other sub rank before.reached.now own n (record {
         world = world;
-        stand = stand_under S sub rank world.ranks c.requires.scene.in_clocks c.args.k c.requires.within progress more c.args.clocks.now before;
-        needed = needed_under S sub rank world.ranks c.requires.scene.in_clocks c.args.k c.requires.within progress more c.args.clocks.now before;
+        stand = stand_under S sub rank world.ranks c.requires.ready.scene.in_clocks c.args.k c.requires.within progress more c.args.clocks.now before;
+        needed = needed_under S sub rank world.ranks c.requires.ready.scene.in_clocks c.args.k c.requires.within progress more c.args.clocks.now before;
         at = at;
         goes = goes_fewer S sub (Sub c.args.k) (first_instants S sub (Sub c.args.k) n) c.goes_for-rest.result c.wanted-many.result before.reached.now.filled c.args.clocks.now.room.held.items c.args.clocks.now.states.items c.wanted-many.ensures.rest
             (c.goes_for-rest.ensures.goes other sub (first_instants S sub (Sub c.args.k) n) before.reached.now.filled
-            (are_behind S sub rank (Sub c.args.k) n before.reached.now c.args.clocks.now c.args.time world.ranks c.requires.scene.in_clocks c.requires.scene.nodes world.meaning
-            (stand_under S sub rank world.ranks c.requires.scene.in_clocks c.args.k c.requires.within progress more c.args.clocks.now before)
-            (needed_under S sub rank world.ranks c.requires.scene.in_clocks c.args.k c.requires.within progress more c.args.clocks.now before) at parts held time) some);
+            (are_behind S sub rank (Sub c.args.k) n before.reached.now c.args.clocks.now c.args.time world.ranks c.requires.ready.scene.in_clocks c.requires.ready.scene.nodes world.meaning
+            (stand_under S sub rank world.ranks c.requires.ready.scene.in_clocks c.args.k c.requires.within progress more c.args.clocks.now before)
+            (needed_under S sub rank world.ranks c.requires.ready.scene.in_clocks c.args.k c.requires.within progress more c.args.clocks.now before) at parts held time) some);
       }))
       (child_gave S sub c.args.k (first_instants S sub (Sub c.args.k) n) own c.args.clocks.now.latest.parts.items world.roots parts (c.goes_for-rest.ensures.gave some))
       (record {
@@ -110,22 +110,22 @@ run_clock-requires-clause-through c =
 
 pub fill_lane-requires : goal.fill_lane-requires
 fill_lane-requires c =
-    let in_clocks : c.args.k < length c.args.scene.now.clocks.now = omega (arith, c.requires.within, c.requires.scene.in_clocks) in
+    let in_clocks : c.args.k < length c.args.scene.now.clocks.now = omega (arith, c.requires.within, c.requires.ready.scene.in_clocks) in
     let kept = kept_at c.args.scene.now.clocks.now c.requires.levels.rank c.args.k c.args.clocks.now c.run_clock.new.clocks c.requires.levels.ranks in_clocks
     (c.run_clock.ensures.left c.requires.levels.rank c.requires.levels.ranks) in
     let same = ap (λ s. option_map_or room s 0) kept in
     record {
-      scene = c.requires.scene;
+      scene = c.requires.ready.scene;
       clocks = c.run_clock.ensures.clocks;
       within = c.requires.within;
       some = omega (arith, c.if-many-eq0.false);
       short = c.wanted-many.ensures.short;
       room = omega (arith, same, c.wanted-many.ensures.room);
-      later = omega (arith, c.requires.rate, c.goes_for-rest.ensures.later, c.wanted-many.ensures.rest);
+      later = omega (arith, c.requires.ready.rate, c.goes_for-rest.ensures.later, c.wanted-many.ensures.rest);
       idle = idle_left c.args.scene.now.clocks.now c.requires.levels.rank (clock_at c.args.scene.now.clocks.now c.args.k) (is_in c.args.scene.now.clocks.now (Sub c.args.k)) (c.requires.levels.rank (Sub c.args.k))
-          c.args.clocks.now c.run_clock.new.clocks (length c.args.scene.now.plan.now.nodes) c.requires.levels.ranks (sym c.requires.scene.in_clocks) c.run_clock.ensures.clocks.stretch_room.in_rests
-          (let in_clocks : c.args.k < length c.args.scene.now.clocks.now = omega (arith, c.requires.within, c.requires.scene.in_clocks) in let up = c.requires.levels.ranks.deeper c.args.k in_clocks in omega (arith, up))
-          (λ i inside. let in_clocks : c.args.k < length c.args.scene.now.clocks.now = omega (arith, c.requires.within, c.requires.scene.in_clocks) in let up = c.requires.levels.ranks.deeper c.args.k in_clocks in
+          c.args.clocks.now c.run_clock.new.clocks (length c.args.scene.now.plan.now.nodes) c.requires.levels.ranks (sym c.requires.ready.scene.in_clocks) c.run_clock.ensures.clocks.stretch_room.in_rests
+          (let in_clocks : c.args.k < length c.args.scene.now.clocks.now = omega (arith, c.requires.within, c.requires.ready.scene.in_clocks) in let up = c.requires.levels.ranks.deeper c.args.k in_clocks in omega (arith, up))
+          (λ i inside. let in_clocks : c.args.k < length c.args.scene.now.clocks.now = omega (arith, c.requires.within, c.requires.ready.scene.in_clocks) in let up = c.requires.levels.ranks.deeper c.args.k in_clocks in
           let e : c.requires.levels.rank (clock_at c.args.scene.now.clocks.now i) ≡ c.requires.levels.rank (Sub c.args.k) = ap c.requires.levels.rank inside in omega (arith, e, up))
           (c.run_clock.ensures.left c.requires.levels.rank c.requires.levels.ranks) c.requires.idle;
     }
