@@ -15,7 +15,7 @@ use Rattle.clock_nodes.specs.Scenes.{IsScene, setting_over}
 use Rattle.nested_instants.specs.declared.clock_states.ClockStates.{ClockStates}
 use Rattle.clock_instants.specs.Held.{IsHeld, gave_at, goes_through, passes_at}
 use Rattle.node_states.specs.Passing.{LaneFills}
-use Rattle.nested_instants.specs.Clocks.{AreClockStates, GoesOnFor, HasLevels, IsFilling, IsIdle, IsOpen, IsWorld, Progress, RanAsNeeded, Stand, clock_at, fade_at, is_none, laned_at, rest_at, room_at}
+use Rattle.nested_instants.specs.Clocks.{AreClockStates, GoesOnFor, IsFilling, IsIdle, IsOpen, IsWorld, Progress, RanAsNeeded, Stand, clock_at, fade_at, is_none, laned_at, rest_at, room_at}
 
 -- at so many instants a node offers nothing, where it offered nothing at the one before them; or cells of its title
 -- there that begin no track, and these are their samples
@@ -54,12 +54,11 @@ pub record CanGoOn (setting : Setting) (sub : ℕ → ℕ → List Slot) (rank :
   pub goes : GoesOnFor setting sub clock (first_instants setting sub clock n) many progress.filled all.room.held.items
       all.states.items
 
--- a clock and the sub-clocks below it can make so many instants at once: these are states for the nodes of a plan,
--- sub-clocks nest no deeper than this, no instants are kept of the clock, and a stretch has so many
-pub record CanRunClock (over : Scene) (clock : NodeClock) (most many : ℕ) (all : ClockStates) : Type 0 where
+-- a clock can make so many instants at once: these are states for the nodes of a plan, no instants are kept of the
+-- clock, and a stretch has so many
+pub record CanRunClock (over : Scene) (clock : NodeClock) (many : ℕ) (all : ClockStates) : Type 0 where
   pub scene : IsScene over
   pub clocks : AreClockStates over all
-  pub levels : HasLevels over.clocks.now clock most
   pub idle : IsIdle clock all
   pub some : 0 < many
   pub short : many ≤ 2048
@@ -87,16 +86,11 @@ pub record StretchMade (scene : Scene) (clock : NodeClock) (time : WeekTime) (ma
       → TimeStands setting.start n time
       → HasMadeOn setting sub rank own clock n many progress new
 
--- crossfade k takes so many slots more, of whose clock no instants are kept, and a stretch has so many
-pub record CanFillLane (over : Scene) (k many : ℕ) (all : ClockStates) : Type 0 where
-  pub scene : IsScene over
-  pub clocks : AreClockStates over all
-  pub within : k < length over.plan.now.nodes
-  pub some : 0 < many
-  pub short : many ≤ 2048
+-- crossfade k takes so many slots more, of those of a stretch
+pub record CanFillLane (scene : Scene) (k many : ℕ) (all : ClockStates) : Type 0 where
+  pub ready : CanRunClock scene (clock_at scene.clocks.now k) many all
+  pub within : k < length scene.plan.now.nodes
   pub room : many ≤ room_at all.states.items k
-  pub later : many ≤ over.plan.now.rate
-  pub idle : IsIdle (clock_at over.clocks.now k) all
 
 -- behind an instant of its sub-clock, which was at this time, crossfade k was filled more slots, without a call:
 -- whatever it was filled

@@ -7,9 +7,9 @@ ghost use Rattle.stream_meaning.specs.Instants.{Setting, Moment, same_clock};
 ghost use Rattle.op_mix.specs.Stretches.{samples_of};
 ghost use Rattle.clock_instants.specs.Held.{AllPassOn, gave_at, passes_at};
 ghost use Rattle.clock_instants.specs.Stretches.{AllLieAhead, HasGoneOn, IsGoing};
-ghost use Rattle.nested_instants.specs.Clocks.{AreClockStates, AreLeft, HasRanks, IsIdle, is_in, is_node, is_none, laned_at, rest_at};
+ghost use Rattle.nested_instants.specs.Clocks.{AreClockStates, AreLeft, HasLevels, HasRanks, is_in, is_node, is_none, laned_at, rest_at};
 ghost use Rattle.nested_instants.specs.Stretches.{AreAbove, AreSamplesLeft, CanRunClock, ClockMade, SubClocksMade, SubClockMade};
-ghost use Rattle.clock_nodes.specs.Scenes.{IsScene, setting_over};
+ghost use Rattle.clock_nodes.specs.Scenes.{setting_over};
 
 use crate::ClockStates;
 use crate::keeping::{keep, take_on};
@@ -28,7 +28,8 @@ pub fn run_clock(
     many: u32,
     levels: usize,
 )
-    requires ready { CanRunClock scene.now clock levels many clocks.old }
+    requires ready { CanRunClock scene.now clock many clocks.old }
+    requires levels { HasLevels scene.now.clocks.now clock levels }
     requires ahead { AllLieAhead scene.now clock clocks.old.room.held.items clocks.old.states.items many }
     requires through { AllPassOn scene.now clock clocks.old.room.held.items clocks.old.states.items
         clocks.old.room.rests.items many }
@@ -49,7 +50,8 @@ pub fn run_clock(
 // Makes those of the sub-clocks of its crossfades through which cells pass.
 #[cycle(onward)]
 fn run_subs(scene: &Scene<'_>, clocks: &mut ClockStates, clock: NodeClock, many: u32, levels: usize)
-    requires ready { CanRunClock scene.now clock levels many clocks.old }
+    requires ready { CanRunClock scene.now clock many clocks.old }
+    requires levels { HasLevels scene.now.clocks.now clock levels }
     requires through { AllPassOn scene.now clock clocks.old.room.held.items clocks.old.states.items
         clocks.old.room.rests.items many }
     ensures clocks { AreClockStates scene.now clocks.new }
@@ -71,7 +73,8 @@ fn run_subs(scene: &Scene<'_>, clocks: &mut ClockStates, clock: NodeClock, many:
 // Makes those of the sub-clock of node i, if it is such a crossfade, and takes the sub-clock's time on.
 #[cycle(onward)]
 fn run_sub(scene: &Scene<'_>, clocks: &mut ClockStates, i: u32, many: u32, levels: usize)
-    requires ready { CanRunClock scene.now (slice_index_or scene.now.clocks.now i (InMain 0)) levels many clocks.old }
+    requires ready { CanRunClock scene.now (slice_index_or scene.now.clocks.now i (InMain 0)) many clocks.old }
+    requires levels { HasLevels scene.now.clocks.now (slice_index_or scene.now.clocks.now i (InMain 0)) levels }
     requires within { i < length scene.now.plan.now.nodes }
     requires through { (gave_at clocks.old.room.held.items i && passes_at clocks.old.states.items i) ≡ true
         → many ≤ rest_at clocks.old i }
@@ -108,11 +111,7 @@ fn passes_on(clocks: &ClockStates, i: u32) -> bool
 
 // Makes what a clock's own nodes do at these instants.
 fn run_own(scene: &Scene<'_>, clocks: &mut ClockStates, clock: NodeClock, many: u32)
-    requires scene { IsScene scene.now }
-    requires clocks { AreClockStates scene.now clocks.old }
-    requires idle { IsIdle clock clocks.old }
-    requires some { 0 < many }
-    requires short { many ≤ 2048 }
+    requires ready { CanRunClock scene.now clock many clocks.old }
     requires ahead { AllLieAhead scene.now clock clocks.old.room.held.items clocks.old.states.items many }
     ensures clocks { AreClockStates scene.now clocks.new }
     ensures latest { clocks.new.latest ≡ clocks.old.latest }

@@ -17,33 +17,33 @@ use Rattle.nested_instants.proofs.filling.fill_lane.Goals as goal
 
 pub fill_samples-requires-clause-room : goal.fill_samples-requires-clause-room
 fill_samples-requires-clause-room c =
-    let in_states : c.args.k < length c.args.clocks.now.states.items = omega (arith, c.requires.clocks.fit.size, c.requires.within) in
+    let in_states : c.args.k < length c.args.clocks.now.states.items = omega (arith, c.requires.ready.clocks.fit.size, c.requires.within) in
     let at : slice_get c.args.clocks.now.states.items c.args.k ≡ Some c.index_mut.result.now = slice_get_read _ _ _ _ refl in_states c.index_mut.ensures.value in
     let same = ap (λ s. option_map_or room s 0) at in
     omega (arith, same, c.requires.room)
 
 pub later-requires : goal.later-requires
 later-requires c =
-    let in_times : c.args.k < length c.args.clocks.now.times.items = omega (arith, c.requires.clocks.in_times, c.requires.within) in
+    let in_times : c.args.k < length c.args.clocks.now.times.items = omega (arith, c.requires.ready.clocks.in_times, c.requires.within) in
     let was : slice_get c.args.clocks.now.times.items c.args.k ≡ Some c.index.result.now = slice_get_read _ _ _ _ refl in_times c.index.ensures in
-    let rate = c.requires.clocks.rates c.args.k c.index.result.now was in
-    omega (arith, rate, c.requires.later)
+    let rate = c.requires.ready.clocks.rates c.args.k c.index.result.now was in
+    omega (arith, rate, c.requires.ready.later)
 
 pub returns-clause-clocks : goal.returns-clause-clocks
 returns-clause-clocks c =
-    let in_states : c.args.k < length c.args.clocks.now.states.items = omega (arith, c.requires.clocks.fit.size, c.requires.within) in
-    let in_times : c.args.k < length c.args.clocks.now.times.items = omega (arith, c.requires.clocks.in_times, c.requires.within) in
+    let in_states : c.args.k < length c.args.clocks.now.states.items = omega (arith, c.requires.ready.clocks.fit.size, c.requires.within) in
+    let in_times : c.args.k < length c.args.clocks.now.times.items = omega (arith, c.requires.ready.clocks.in_times, c.requires.within) in
     let at : slice_get c.args.clocks.now.states.items c.args.k ≡ Some c.index_mut.result.now = slice_get_read _ _ _ _ refl in_states c.index_mut.ensures.value in
     let was : slice_get c.args.clocks.now.times.items c.args.k ≡ Some c.index.result.now = slice_get_read _ _ _ _ refl in_times c.index.ensures in
     record {
       fit = fit_set _ _ _ _ in_states
-          (λ node found. c.fill_samples.ensures.fits _ _ (c.requires.clocks.fit.each c.args.k node c.index_mut.result.now found at)) c.requires.clocks.fit;
-      in_times = length-set _ _ _ ∙ c.requires.clocks.in_times;
-      chains = c.requires.clocks.chains;
-      latest = c.requires.clocks.latest;
-      room = c.requires.clocks.room;
-      stretch_room = c.requires.clocks.stretch_room;
-      resting = resting_own c.args.scene.now c.args.clocks.now _ c.requires.clocks.resting (clock_at c.args.scene.now.clocks.now c.args.k) c.requires.idle
+          (λ node found. c.fill_samples.ensures.fits _ _ (c.requires.ready.clocks.fit.each c.args.k node c.index_mut.result.now found at)) c.requires.ready.clocks.fit;
+      in_times = length-set _ _ _ ∙ c.requires.ready.clocks.in_times;
+      chains = c.requires.ready.clocks.chains;
+      latest = c.requires.ready.clocks.latest;
+      room = c.requires.ready.clocks.room;
+      stretch_room = c.requires.ready.clocks.stretch_room;
+      resting = resting_own c.args.scene.now c.args.clocks.now _ c.requires.ready.clocks.resting (clock_at c.args.scene.now.clocks.now c.args.k) c.requires.ready.idle
           (λ i. refl)
           (λ i outside. slice_get-set_other c.args.clocks.now.states.items c.args.k i c.fill_samples.new.state
           (λ e. not_same (clock_at c.args.scene.now.clocks.now i) (clock_at c.args.scene.now.clocks.now c.args.k) outside (ap (clock_at c.args.scene.now.clocks.now) (sym e))))
@@ -52,15 +52,15 @@ returns-clause-clocks c =
         | inl same ↦ (let put : Some c.later.result ≡ Some time = sym (slice_get-set_same c.args.clocks.now.times.items c.args.k c.later.result in_times)
             ∙ ap (slice_get (set c.args.clocks.now.times.items c.args.k c.later.result)) same ∙ stored in
             let is : c.later.result ≡ time = cc in
-            ap (λ t. t.rate) (sym is) ∙ c.later.ensures.rate ∙ c.requires.clocks.rates c.args.k c.index.result.now was)
-        | inr other ↦ c.requires.clocks.rates j time (sym (slice_get-set_other c.args.clocks.now.times.items c.args.k j c.later.result other) ∙ stored)
+            ap (λ t. t.rate) (sym is) ∙ c.later.ensures.rate ∙ c.requires.ready.clocks.rates c.args.k c.index.result.now was)
+        | inr other ↦ c.requires.ready.clocks.rates j time (sym (slice_get-set_other c.args.clocks.now.times.items c.args.k j c.later.result other) ∙ stored)
       ];
       frames = λ j time stored. elim (same_or_other c.args.k j) [
         | inl same ↦ (let put : Some c.later.result ≡ Some time = sym (slice_get-set_same c.args.clocks.now.times.items c.args.k c.later.result in_times)
             ∙ ap (slice_get (set c.args.clocks.now.times.items c.args.k c.later.result)) same ∙ stored in
             let is : c.later.result ≡ time = cc in
-            ap (λ t. t.frame) (sym is) ∙ c.later.ensures.frame ∙ c.requires.clocks.frames c.args.k c.index.result.now was)
-        | inr other ↦ c.requires.clocks.frames j time (sym (slice_get-set_other c.args.clocks.now.times.items c.args.k j c.later.result other) ∙ stored)
+            ap (λ t. t.frame) (sym is) ∙ c.later.ensures.frame ∙ c.requires.ready.clocks.frames c.args.k c.index.result.now was)
+        | inr other ↦ c.requires.ready.clocks.frames j time (sym (slice_get-set_other c.args.clocks.now.times.items c.args.k j c.later.result other) ∙ stored)
       ];
     }
 
@@ -72,7 +72,7 @@ returns-clause-times c i other = slice_get-set_other _ c.args.k i _ (λ e. other
 
 pub returns-clause-no_more : goal.returns-clause-no_more
 returns-clause-no_more c =
-    let in_states : c.args.k < length c.args.clocks.now.states.items = omega (arith, c.requires.clocks.fit.size, c.requires.within) in
+    let in_states : c.args.k < length c.args.clocks.now.states.items = omega (arith, c.requires.ready.clocks.fit.size, c.requires.within) in
     let at : slice_get c.args.clocks.now.states.items c.args.k ≡ Some c.index_mut.result.now = slice_get_read _ _ _ _ refl in_states c.index_mut.ensures.value in
     let before = ap (λ s. option_map_or left s 0) at in
     let after = ap (λ s. option_map_or left s 0) (slice_get-set_same c.args.clocks.now.states.items c.args.k c.fill_samples.new.state in_states) in
@@ -80,7 +80,7 @@ returns-clause-no_more c =
 
 pub returns-clause-filled : goal.returns-clause-filled
 returns-clause-filled c setting sub past filled work slots before after was is stands lane titled grows =
-    let in_states : c.args.k < length c.args.clocks.now.states.items = omega (arith, c.requires.clocks.fit.size, c.requires.within) in
+    let in_states : c.args.k < length c.args.clocks.now.states.items = omega (arith, c.requires.ready.clocks.fit.size, c.requires.within) in
     let at : slice_get c.args.clocks.now.states.items c.args.k ≡ Some c.index_mut.result.now = slice_get_read _ _ _ _ refl in_states c.index_mut.ensures.value in
     let one : Some c.index_mut.result.now ≡ Some before = sym at ∙ was in
     let old : c.index_mut.result.now ≡ before = cc in
@@ -98,7 +98,7 @@ returns-clause-filled c setting sub past filled work slots before after was is s
 
 pub returns-clause-time : goal.returns-clause-time
 returns-clause-time c start n before after was is stands =
-    let in_times : c.args.k < length c.args.clocks.now.times.items = omega (arith, c.requires.clocks.in_times, c.requires.within) in
+    let in_times : c.args.k < length c.args.clocks.now.times.items = omega (arith, c.requires.ready.clocks.in_times, c.requires.within) in
     let at : slice_get c.args.clocks.now.times.items c.args.k ≡ Some c.index.result.now = slice_get_read _ _ _ _ refl in_times c.index.ensures in
     let one : Some c.index.result.now ≡ Some before = sym at ∙ was in
     let old : c.index.result.now ≡ before = cc in

@@ -41,17 +41,19 @@ returns-then-many-eq0-clause-filled c = record {
 }
 
 pub run_clock-requires-clause-ready : goal.run_clock-requires-clause-ready
-run_clock-requires-clause-ready c =
+run_clock-requires-clause-ready c = record {
+  scene = c.requires.ready.scene;
+  clocks = c.requires.ready.clocks;
+  idle = sub_idle c.args.k c.args.clocks.now c.requires.none;
+  some = omega (arith, c.if-many-eq0.false);
+  short = c.wanted-many.ensures.short;
+  later = omega (arith, c.requires.ready.rate, c.goes_for-rest.ensures.later, c.wanted-many.ensures.rest);
+}
+
+pub run_clock-requires-clause-levels : goal.run_clock-requires-clause-levels
+run_clock-requires-clause-levels c =
     let in_clocks : c.args.k < length c.args.scene.now.clocks.now = omega (arith, c.requires.within, c.requires.ready.scene.in_clocks) in
-    record {
-      scene = c.requires.ready.scene;
-      clocks = c.requires.ready.clocks;
-      levels = levels_under c.args.scene.now.clocks.now c.args.k c.args.levels in_clocks c.requires.levels;
-      idle = sub_idle c.args.k c.args.clocks.now c.requires.none;
-      some = omega (arith, c.if-many-eq0.false);
-      short = c.wanted-many.ensures.short;
-      later = omega (arith, c.requires.ready.rate, c.goes_for-rest.ensures.later, c.wanted-many.ensures.rest);
-    }
+    levels_under c.args.scene.now.clocks.now c.args.k c.args.levels in_clocks c.requires.levels
 
 pub returns-clause-left : goal.returns-clause-left
 returns-clause-left c rank ranks =
@@ -115,17 +117,19 @@ fill_lane-requires c =
     (c.run_clock.ensures.left c.requires.levels.rank c.requires.levels.ranks) in
     let same = ap (λ s. option_map_or room s 0) kept in
     record {
-      scene = c.requires.ready.scene;
-      clocks = c.run_clock.ensures.clocks;
+      ready = record {
+        scene = c.requires.ready.scene;
+        clocks = c.run_clock.ensures.clocks;
+        idle = idle_left c.args.scene.now.clocks.now c.requires.levels.rank (clock_at c.args.scene.now.clocks.now c.args.k) (is_in c.args.scene.now.clocks.now (Sub c.args.k)) (c.requires.levels.rank (Sub c.args.k))
+            c.args.clocks.now c.run_clock.new.clocks (length c.args.scene.now.plan.now.nodes) c.requires.levels.ranks (sym c.requires.ready.scene.in_clocks) c.run_clock.ensures.clocks.stretch_room.in_rests
+            (let in_clocks : c.args.k < length c.args.scene.now.clocks.now = omega (arith, c.requires.within, c.requires.ready.scene.in_clocks) in let up = c.requires.levels.ranks.deeper c.args.k in_clocks in omega (arith, up))
+            (λ i inside. let in_clocks : c.args.k < length c.args.scene.now.clocks.now = omega (arith, c.requires.within, c.requires.ready.scene.in_clocks) in let up = c.requires.levels.ranks.deeper c.args.k in_clocks in
+            let e : c.requires.levels.rank (clock_at c.args.scene.now.clocks.now i) ≡ c.requires.levels.rank (Sub c.args.k) = ap c.requires.levels.rank inside in omega (arith, e, up))
+            (c.run_clock.ensures.left c.requires.levels.rank c.requires.levels.ranks) c.requires.idle;
+        some = omega (arith, c.if-many-eq0.false);
+        short = c.wanted-many.ensures.short;
+        later = omega (arith, c.requires.ready.rate, c.goes_for-rest.ensures.later, c.wanted-many.ensures.rest);
+      };
       within = c.requires.within;
-      some = omega (arith, c.if-many-eq0.false);
-      short = c.wanted-many.ensures.short;
       room = omega (arith, same, c.wanted-many.ensures.room);
-      later = omega (arith, c.requires.ready.rate, c.goes_for-rest.ensures.later, c.wanted-many.ensures.rest);
-      idle = idle_left c.args.scene.now.clocks.now c.requires.levels.rank (clock_at c.args.scene.now.clocks.now c.args.k) (is_in c.args.scene.now.clocks.now (Sub c.args.k)) (c.requires.levels.rank (Sub c.args.k))
-          c.args.clocks.now c.run_clock.new.clocks (length c.args.scene.now.plan.now.nodes) c.requires.levels.ranks (sym c.requires.ready.scene.in_clocks) c.run_clock.ensures.clocks.stretch_room.in_rests
-          (let in_clocks : c.args.k < length c.args.scene.now.clocks.now = omega (arith, c.requires.within, c.requires.ready.scene.in_clocks) in let up = c.requires.levels.ranks.deeper c.args.k in_clocks in omega (arith, up))
-          (λ i inside. let in_clocks : c.args.k < length c.args.scene.now.clocks.now = omega (arith, c.requires.within, c.requires.ready.scene.in_clocks) in let up = c.requires.levels.ranks.deeper c.args.k in_clocks in
-          let e : c.requires.levels.rank (clock_at c.args.scene.now.clocks.now i) ≡ c.requires.levels.rank (Sub c.args.k) = ap c.requires.levels.rank inside in omega (arith, e, up))
-          (c.run_clock.ensures.left c.requires.levels.rank c.requires.levels.ranks) c.requires.idle;
     }

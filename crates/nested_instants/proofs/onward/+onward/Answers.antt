@@ -12,17 +12,23 @@ use Rattle.nested_instants.proofs.Levels.{levels_at, levels_some, levels_under}
 use Rattle.nested_instants.proofs.SubSteps.{above_step, above_sub, samples_step, samples_sub, sub_ahead, sub_idle, sub_run, sub_skipped, sub_through, subs_next, subs_start}
 use Rattle.nested_instants.proofs.onward.+onward.Goals as goal
 
-pub run_clock-run_own-requires-clause-idle : goal.run_clock-run_own-requires-clause-idle
-run_clock-run_own-requires-clause-idle t c =
-    idle_above c.args.scene.now.clocks.now c.requires.ready.levels.rank c.args.clock (is_in c.args.scene.now.clocks.now c.args.clock) c.args.clocks.now c.run_subs.new.clocks (length c.args.scene.now.plan.now.nodes)
-    c.requires.ready.levels.ranks (sym c.requires.ready.scene.in_clocks) c.run_subs.ensures.clocks.stretch_room.in_rests
-    (λ i inside. let e : c.requires.ready.levels.rank (clock_at c.args.scene.now.clocks.now i) ≡ c.requires.ready.levels.rank c.args.clock = ap c.requires.ready.levels.rank inside in omega (arith, e))
-    (c.run_subs.ensures.above c.requires.ready.levels.rank c.requires.ready.levels.ranks) c.requires.ready.idle
+pub run_clock-run_own-requires-clause-ready : goal.run_clock-run_own-requires-clause-ready
+run_clock-run_own-requires-clause-ready t c = record {
+  scene = c.requires.ready.scene;
+  clocks = c.run_subs.ensures.clocks;
+  idle = idle_above c.args.scene.now.clocks.now c.requires.levels.rank c.args.clock (is_in c.args.scene.now.clocks.now c.args.clock) c.args.clocks.now c.run_subs.new.clocks (length c.args.scene.now.plan.now.nodes)
+      c.requires.levels.ranks (sym c.requires.ready.scene.in_clocks) c.run_subs.ensures.clocks.stretch_room.in_rests
+      (λ i inside. let e : c.requires.levels.rank (clock_at c.args.scene.now.clocks.now i) ≡ c.requires.levels.rank c.args.clock = ap c.requires.levels.rank inside in omega (arith, e))
+      (c.run_subs.ensures.above c.requires.levels.rank c.requires.levels.ranks) c.requires.ready.idle;
+  some = c.requires.ready.some;
+  short = c.requires.ready.short;
+  later = c.requires.ready.later;
+}
 
 pub run_clock-run_own-requires-clause-ahead : goal.run_clock-run_own-requires-clause-ahead
 run_clock-run_own-requires-clause-ahead t c =
-    ahead_above c.args.scene.now c.requires.ready.levels.rank c.args.clock (is_in c.args.scene.now.clocks.now c.args.clock) c.args.clocks.now c.run_subs.new.clocks c.args.many
-    (c.run_subs.ensures.above c.requires.ready.levels.rank c.requires.ready.levels.ranks) c.requires.ahead
+    ahead_above c.args.scene.now c.requires.levels.rank c.args.clock (is_in c.args.scene.now.clocks.now c.args.clock) c.args.clocks.now c.run_subs.new.clocks c.args.many
+    (c.run_subs.ensures.above c.requires.levels.rank c.requires.levels.ranks) c.requires.ahead
 
 pub run_clock-returns-clause-left : goal.run_clock-returns-clause-left
 run_clock-returns-clause-left t c rank ranks =
@@ -73,26 +79,28 @@ run_subs-run_sub-requires t c =
     let within : c.loop-i.i < length c.args.scene.now.plan.now.nodes = omega (arith, c.requires.ready.scene.in_clocks, c.loop-i-test.true) in
     let inside = c.loop-i.invariant.own c.loop-i-test.true in
     let here : clock_at c.args.scene.now.clocks.now c.loop-i.i ≡ c.args.clock = same_clock-true (clock_at c.args.scene.now.clocks.now c.loop-i.i) c.args.clock inside in
-    let above = c.loop-i.invariant.above c.requires.ready.levels.rank c.requires.ready.levels.ranks in
+    let above = c.loop-i.invariant.above c.requires.levels.rank c.requires.levels.ranks in
     let in_states : c.loop-i.i < length c.loop-i.clocks.states.items = omega (arith, c.loop-i.invariant.clocks.fit.size, within) in (
       omega arith,
       (
         record {
           scene = c.requires.ready.scene;
           clocks = c.loop-i.invariant.clocks;
-          levels = levels_at c.args.scene.now.clocks.now c.loop-i.i c.args.levels c.args.clock here c.requires.ready.levels;
           idle = subst (λ clock. IsIdle clock c.loop-i.clocks) (sym here)
-              (idle_above c.args.scene.now.clocks.now c.requires.ready.levels.rank c.args.clock (is_upto c.args.scene.now.clocks.now c.args.clock c.loop-i.i) c.args.clocks.now c.loop-i.clocks (length c.args.scene.now.plan.now.nodes)
-              c.requires.ready.levels.ranks (sym c.requires.ready.scene.in_clocks) c.loop-i.invariant.clocks.stretch_room.in_rests
-              (λ k upto. let e : c.requires.ready.levels.rank (clock_at c.args.scene.now.clocks.now k) ≡ c.requires.ready.levels.rank c.args.clock = ap c.requires.ready.levels.rank upto.1 in omega (arith, e)) above c.requires.ready.idle);
+              (idle_above c.args.scene.now.clocks.now c.requires.levels.rank c.args.clock (is_upto c.args.scene.now.clocks.now c.args.clock c.loop-i.i) c.args.clocks.now c.loop-i.clocks (length c.args.scene.now.plan.now.nodes)
+              c.requires.levels.ranks (sym c.requires.ready.scene.in_clocks) c.loop-i.invariant.clocks.stretch_room.in_rests
+              (λ k upto. let e : c.requires.levels.rank (clock_at c.args.scene.now.clocks.now k) ≡ c.requires.levels.rank c.args.clock = ap c.requires.levels.rank upto.1 in omega (arith, e)) above c.requires.ready.idle);
           some = c.requires.ready.some;
           short = c.requires.ready.short;
           later = c.requires.ready.later;
         },
         (
-          within,
-          λ both. pass_above c.args.scene.now c.requires.ready.levels.rank c.args.clock (is_upto c.args.scene.now.clocks.now c.args.clock c.loop-i.i) c.args.clocks.now c.loop-i.clocks c.loop-i.i c.args.many here inside
-              c.loop-i-test.true in_states (λ upto. let less = upto.0 in omega (arith, less)) above c.requires.through both,
+          levels_at c.args.scene.now.clocks.now c.loop-i.i c.args.levels c.args.clock here c.requires.levels,
+          (
+            within,
+            λ both. pass_above c.args.scene.now c.requires.levels.rank c.args.clock (is_upto c.args.scene.now.clocks.now c.args.clock c.loop-i.i) c.args.clocks.now c.loop-i.clocks c.loop-i.i c.args.many here inside
+                c.loop-i-test.true in_states (λ upto. let less = upto.0 in omega (arith, less)) above c.requires.through both,
+          ),
         ),
       ),
     )
@@ -133,30 +141,29 @@ run_sub-returns-then-not-passes_on-clause-run t c =
     sub_skipped c.args.scene.now c.requires.ready.scene.in_clocks c.args.i c.args.many c.requires.within c.args.clocks.now
     (sym c.passes_on.ensures ∙ c.if-not-passes_on.true)
 
-pub run_sub-keep-requires-clause-ranks : goal.run_sub-keep-requires-clause-ranks
-run_sub-keep-requires-clause-ranks t c = (c.requires.ready.levels.rank, c.requires.ready.levels.ranks)
-
 pub run_sub-run_clock-requires : goal.run_sub-run_clock-requires
 run_sub-run_clock-requires t c =
     let in_clocks : c.args.i < length c.args.scene.now.clocks.now = omega (arith, c.requires.within, c.requires.ready.scene.in_clocks) in
-    let some = levels_some c.args.scene.now.clocks.now c.args.i c.args.levels in_clocks c.requires.ready.levels in
-    let under = levels_under c.args.scene.now.clocks.now c.args.i c.args.levels in_clocks c.requires.ready.levels in
+    let some = levels_some c.args.scene.now.clocks.now c.args.i c.args.levels in_clocks c.requires.levels in
+    let under = levels_under c.args.scene.now.clocks.now c.args.i c.args.levels in_clocks c.requires.levels in
     let rest : c.args.many ≤ rest_at c.args.clocks.now c.args.i = c.requires.through (sym c.passes_on.ensures ∙ c.if-not-passes_on.false) in (
       omega (arith, some),
       (
         record {
           scene = c.requires.ready.scene;
           clocks = c.keep.ensures.clocks;
-          levels = under;
           idle = sub_idle c.args.i c.keep.new.clocks c.keep.ensures.kept;
           some = c.requires.ready.some;
           short = c.requires.ready.short;
           later = c.requires.ready.later;
         },
         (
-          sub_ahead c.args.scene.now c.args.i c.args.many c.args.clocks.now c.keep.new.clocks c.requires.ready.clocks.resting c.requires.ready.some rest c.keep.ensures.states c.keep.ensures.held,
-          sub_through c.args.scene.now c.args.i c.args.many c.args.clocks.now c.keep.new.clocks c.requires.ready.clocks.resting c.requires.ready.some rest c.keep.ensures.states c.keep.ensures.held
-              c.requires.ready.levels.rank c.requires.ready.levels.ranks in_clocks c.keep.ensures.others,
+          under,
+          (
+            sub_ahead c.args.scene.now c.args.i c.args.many c.args.clocks.now c.keep.new.clocks c.requires.ready.clocks.resting c.requires.ready.some rest c.keep.ensures.states c.keep.ensures.held,
+            sub_through c.args.scene.now c.args.i c.args.many c.args.clocks.now c.keep.new.clocks c.requires.ready.clocks.resting c.requires.ready.some rest c.keep.ensures.states c.keep.ensures.held
+                c.requires.levels.rank c.requires.levels.ranks in_clocks c.keep.ensures.others,
+          ),
         ),
       ),
     )

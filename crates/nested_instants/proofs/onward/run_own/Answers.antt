@@ -15,17 +15,17 @@ returns-clause-clocks c =
     let items = with_items_is c.args.clocks.now.states c.run_nodes.new.states many in
     record {
       fit = subst (AllFit c.args.scene.now) (sym items) c.run_nodes.ensures.fit;
-      in_times = c.requires.clocks.in_times;
-      chains = c.requires.clocks.chains;
-      latest = c.requires.clocks.latest;
-      room = c.requires.clocks.room;
+      in_times = c.requires.ready.clocks.in_times;
+      chains = c.requires.ready.clocks.chains;
+      latest = c.requires.ready.clocks.latest;
+      room = c.requires.ready.clocks.room;
       stretch_room = c.run_nodes.ensures.room;
-      resting = resting_own c.args.scene.now c.args.clocks.now _ c.requires.clocks.resting c.args.clock c.requires.idle
+      resting = resting_own c.args.scene.now c.args.clocks.now _ c.requires.ready.clocks.resting c.args.clock c.requires.ready.idle
           (λ i. ap (λ r. slice_index_or r.items i 0) c.run_nodes.ensures.rests)
           (λ i outside. ap (λ xs. slice_get xs i) items ∙ c.run_nodes.ensures.others i outside ∙ ap (λ xs. slice_get xs i) c.deref_mut.ensures.value)
           (λ i outside. ap (λ h. part_at h.items i) c.run_nodes.ensures.held);
-      rates = c.requires.clocks.rates;
-      frames = c.requires.clocks.frames;
+      rates = c.requires.ready.clocks.rates;
+      frames = c.requires.ready.clocks.frames;
     }
 
 pub returns-clause-others : goal.returns-clause-others
