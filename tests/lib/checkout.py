@@ -3,7 +3,7 @@ import os
 import shutil
 import subprocess
 
-from lib.common import TOP, built, sound, takes_text
+from lib.common import COMPANION, TOP, companion_path, sound
 
 SECONDS = 300
 RT = """#!/bin/sh
@@ -34,7 +34,8 @@ def commands():
 
 
 class Checkout:
-    """A copy of the commands, in a folder whose name has a blank and an umlaut, with the sources of programs that are not built."""
+    """A copy of the commands, in a folder whose name has a blank and an umlaut, with the sources of programs that are not built,
+    and with what tools/theorem reads of the other crates."""
 
     def __init__(self, programs, place):
         self.programs, self.place, self.top = programs, place, os.path.join(place, "a chäckout")
@@ -42,6 +43,10 @@ class Checkout:
         os.makedirs(self.top)
         for name in commands():
             (shutil.copytree if os.path.isdir(os.path.join(TOP, name)) else shutil.copy)(os.path.join(TOP, name), os.path.join(self.top, name))
+        for name in os.listdir(os.path.join(TOP, "crates")):
+            for part in ("src", "specs") if name not in ("script_grammar", *programs) else ():
+                if os.path.isdir(os.path.join(TOP, "crates", name, part)):
+                    shutil.copytree(os.path.join(TOP, "crates", name, part), os.path.join(self.top, "crates", name, part))
         self.write("a chäckout/.gitignore", b"out/\n")
         self.write("a chäckout/crates.txt", "\n".join(["script_grammar:"] + [f"{name}: script_grammar" for name in programs]).encode() + b"\n")
         for name in ("script_grammar", *programs):
@@ -66,7 +71,8 @@ class Checkout:
         """Starts a command, with the kit on PATH or not, and with more in the environment."""
         path = path or os.pathsep.join([os.path.join(self.place, "kit")] * kit + ["/usr/bin", "/bin"])
         options = {"stdout": subprocess.PIPE, "stderr": subprocess.PIPE, **options}
-        environment = {**os.environ, "PATH": path, "NOTES": self.notes, "PROGRAMS": self.built, **(more or {})}
+        own = {name: value for name, value in os.environ.items() if name != "LIQ_PROGRAMS"}
+        environment = {**own, "PATH": path, "NOTES": self.notes, "PROGRAMS": self.built, **(more or {})}
         return subprocess.Popen(words, cwd=self.work, stdin=subprocess.DEVNULL, env=environment, **options)
 
     def call(self, *words, **options):
@@ -92,12 +98,6 @@ class Checkout:
         return lines
 
 
-def takes_filter(words):
-    words.add_argument("--filter", metavar="PATH", type=os.path.abspath)
-    takes_text(words)
-
-
 def programs_of(call):
-    """The built programs, by the names of their crates. Where some are named, `true` stands for those that are not."""
-    given = {"liq_program": call.program, "where_program": call.filter}
-    return {name: given.get(name) or (shutil.which("true") if call.filter else built(name)) for name in names()}
+    """The built programs, by the names of their crates."""
+    return {"liq_program": call.program, COMPANION: companion_path(call)}

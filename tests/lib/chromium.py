@@ -7,7 +7,19 @@ import subprocess
 import time
 import urllib.request
 
-KEYS = {"Tab": 9, "ArrowRight": 39, "ArrowLeft": 37, "ArrowDown": 40, "End": 35, "Home": 36, "Enter": 13, "Escape": 27, " ": 32}
+KEYS = {"Tab": 9, "ArrowRight": 39, "ArrowLeft": 37, "ArrowDown": 40, "End": 35, "Home": 36, "Enter": 13, "Escape": 27, " ": 32, "/": 191}
+# The least contrast of a text and its ground, and where; TEXTS stands for the selectors of the elements with text.
+CONTRAST = """
+const numbers = c => (c.match(/[\\d.]+/g) || []).map(Number);
+const light = c => { const [r, g, b] = c.slice(0, 3).map(v => { v /= 255; return v <= .03928 ? v / 12.92 : ((v + .055) / 1.055) ** 2.4; }); return .2126 * r + .7152 * g + .0722 * b; };
+const ground = e => { for (; e; e = e.parentElement) { const c = numbers(getComputedStyle(e).backgroundColor); if (c.length && (c.length < 4 || c[3] > 0.99)) return c; } return [255, 255, 255]; };
+let least = [99, ''];
+for (const e of document.querySelectorAll('TEXTS')) {
+  if (!e.textContent.trim() || !e.offsetParent) continue;
+  const a = light(numbers(getComputedStyle(e).color)), b = light(ground(e)), ratio = (Math.max(a, b) + .05) / (Math.min(a, b) + .05);
+  if (ratio < least[0]) least = [ratio, e.tagName + ' ' + e.textContent.slice(0, 20)]; }
+return least;
+"""
 ARGUMENTS = ["--headless=new", "--no-sandbox", "--hide-scrollbars", "--disable-gpu", "--mute-audio"]
 
 
@@ -87,6 +99,9 @@ class Browser:
         for key in keys:
             for kind in ("keyDown", "keyUp"):
                 self.command("Input.dispatchKeyEvent", type=kind, key=key, code=key, windowsVirtualKeyCode=KEYS[key])
+
+    def type(self, text):
+        self.command("Input.insertText", text=text)
 
     def click(self, x, y):
         for kind in ("mousePressed", "mouseReleased"):

@@ -21,6 +21,32 @@ def built(name="liq_program"):
     return made.stdout.decode().strip()
 
 
+COMPANION = "about_program"
+
+
+def takes_companion(words):
+    """A runner for which an already built companion can be named, too: `--companion PATH`."""
+    words.add_argument("--companion", metavar="PATH", type=os.path.abspath)
+    takes_text(words)
+
+
+def companion_path(call):
+    """The companion that is named, or that lies beside the program, or the built one. Where it lies beside the program the
+    commands take both, too."""
+    folder = os.path.dirname(call.program)
+    beside = os.path.join(folder, COMPANION)
+    if call.companion or not os.access(beside, os.X_OK):
+        return call.companion or built(COMPANION)
+    os.environ["LIQ_PROGRAMS"] = folder
+    return beside
+
+
+def quick(command):
+    """The first words of a call of a command of Python: by the interpreter of this run, with UTF-8 as the commands set it
+    for themselves by a second start, and without the packages of the machine, on which none of them rests."""
+    return [sys.executable, "-S", "-X", "utf8", command]
+
+
 def takes_text(words):
     """A runner of which a part can be run alone."""
     words.add_argument("text", metavar="TEXT", nargs="?", default="")

@@ -93,7 +93,7 @@ def placed():
             yield source, place
         elif how == "files":
             for name in os.listdir(os.path.join(TOP, source)):
-                if name.endswith((".liq", ".py", ".md", ".js", ".css", ".png")):
+                if name.endswith((".liq", ".py", ".md", ".js", ".css", ".png", ".svg")):
                     yield f"{source}/{name}", f"{place}/{name}"
 
 
@@ -439,8 +439,8 @@ def forms_of_the_man_page():
 
 
 def forms_of_the_readme():
-    """The forms of its table of words."""
-    rows = [cells_of(line) for line in section(text_of("README.md"), "The words")]
+    """The forms of its table of the command line."""
+    rows = [cells_of(line) for line in section(text_of("README.md"), "The command line")]
     return dict(parts_of(" | ".join(row[0].strip("`") for row in rows if row and row[0].startswith("`"))))
 
 
@@ -457,7 +457,7 @@ def completions_that_differ():
     render, readme = ["liq", "render", "f", "1"], ["README.md"]
     rows = [(render + ["w"], "_liq", ["--window="]), (render + ["--wi"], "_liq", ["--window="]), (render + ["--trace", "="], "_liq", None),
             (render + ["--trace", "=", "READ"], "_liq", readme), (render + ["--trace=READ"], "_liq", readme), (render + ["--window", "=", "1"], "_liq", []),
-            (["liq", "check", "READ"], "_liq", readme), (["liq-where", "READ"], "_liq_file", readme), (["liq-doctor", "READ"], "_liq_file", readme)]
+            (["liq", "check", "READ"], "_liq", readme), (["liq-where", "READ"], "_liq_file", readme), (["liq-doctor", "READ"], "_liq_doctor", readme)]
     offered = [(words, completed(words, call), wanted) for words, call, wanted in rows]
     return [f"bash offers {got} behind {words}" for words, got, wanted in offered if got != wanted and (wanted is not None or "README.md" not in got)]
 

@@ -1,5 +1,8 @@
 """What the pages say of crates and of their statements, and the commands that they have. tests/run calls `checks`."""
 import glob
+import hashlib
+import importlib.machinery
+import importlib.util
 import os
 import re
 import subprocess
@@ -7,10 +10,15 @@ import subprocess
 from lib import contracts
 from lib.checkout import installed
 from lib.common import TOP
-from lib.documents import cells_of, crates_and_their_uses, documents, is_there, rows_of_tables, section, text_of
+from lib.documents import (cells_of, crates_and_their_uses, documents, is_there, rooms_of_crates, rows_of_tables,
+                           section, sources, text_of)
 
-# The most words that the page of a crate has.
+# The most words that the page of a crate has, and the most bytes of a drawing.
 MOST_WORDS = 300
+MOST_OF_A_FIGURE = 60 * 1024
+
+# The most words of a sentence, of a sentence of a page on average, of the README, and of all pages together.
+MOST_OF_SENTENCE, MOST_ON_AVERAGE, MOST_OF_README, MOST_OF_ALL = 45, 22, 1500, 75000
 
 # Operators of a plan, of several kinds: where all of them stand, operators are gone through one by one.
 OPERATORS = ("Mean", "Rotate", "Crossfade", "Blank")
@@ -74,11 +82,14 @@ def refusals_that_differ(_program):
 
 
 def statements_that_differ(_program):
-    """The count of the theorem on the page of promises is that of the tool, and no name of its definitions stands for two."""
-    count = told_by("theorem", "--count").strip()
-    told = count and count in text_of("docs/promises.md")
-    found = [] if told else [f"docs/promises.md does not tell the count: {count}"]
-    return found + [f"two definitions have one name: {row}" for row in told_by("theorem", "--twice").splitlines() if row]
+    """The counts of the theorem on the page of promises are those of the tool; in the theorem no name stands for two things, no
+    thing has two names, no name leads out of it, and all of it stands in chapters."""
+    page, count = text_of("docs/promises.md"), told_by("theorem", "--count").strip()
+    found = [] if count and count in page else [f"docs/promises.md does not tell the count: {count}"]
+    found += [f"a thing has two names: {row}" for row in told_by("theorem", "--under").splitlines() if row]
+    found += [f"two things have one name: {row}" for row in told_by("theorem", "--twice").splitlines() if row]
+    found += [f"a name leads out of the theorem: {row}" for row in told_by("theorem", "--open").splitlines() if row]
+    return found + (["a file of the theorem stands in no chapter"] if ". Others\n" in told_by("theorem") else [])
 
 
 def tools_that_fail(_program):
@@ -181,7 +192,107 @@ def crates_that_differ(_program):
             for crates, cell in named if crates for word in wrong_words(crates, cell)]
 
 
+def files_named(path):
+    """The files of the crates that a page names: by a path from the top, by one within a crate, or by its last part."""
+    if path.startswith("crates/"):
+        return glob.glob(os.path.join(TOP, path))
+    return glob.glob(f"{TOP}/crates/*/{path}") + glob.glob(f"{TOP}/crates/*/*/{path}")
+
+
+def stands_in(name, path):
+    """Whether a file declares a name: as a definition, a type, a constant, a function or a constructor."""
+    heads = r"^ *(?:abbrev |unfoldable |pub(?:\(\w+\))? |const |static )*(?:record |data |struct |enum |trait |fn |mod |law )?"
+    return re.search(heads + rf"{re.escape(name)}(?=[ :(<{{;,]|$)", contracts.text_of(path), re.M) is not None
+
+
+def names_that_stand_elsewhere(_program):
+    """A name that a page puts into a file, as `NAME` in `FILE`, is declared there; and a test that it names is there."""
+    found = []
+    paths = [path for end in ("crates/*_tests/src/*.rt", "tests/*", "tests/lib/*.py") for path in glob.glob(f"{TOP}/{end}")]
+    tests = "\n".join(contracts.text_of(path) for path in paths if os.path.isfile(path))
+    for page in documents():
+        text = text_of(page)
+        for name, path in re.findall(r"`(\w+)` in (?:its )?`([\w/.]+\.(?:antt|rt))`", text):
+            files = files_named(path)
+            if not any(stands_in(name, file) for file in files):
+                found.append(f"{page} says that {name} stands in {path}" + ("" if files else ", which is not there"))
+        found += [f"{page} names the test {name}" for name in re.findall(r"\bthe tests? `(\w+)`", text)
+                  if not re.search(rf"\b{name}\b", tests)]
+    return found
+
+
+def notices_that_are_missing(_program):
+    """Each library of the kit that crates.txt names stands in NOTICE, and each text that NOTICE names is there."""
+    notice, uses = text_of("NOTICE"), crates_and_their_uses()
+    found = [f"NOTICE does not name {name}" for name in sorted({name for names in uses.values() for name in names} - set(uses))
+             if not re.search(rf"\b{name}\b", notice)]
+    return found + [f"NOTICE names {path}" for path in re.findall(r"licences/[\w-]+", notice)
+                    if not os.path.isfile(os.path.join(TOP, path))]
+
+
+def pages_that_are_far(_program):
+    """Two links lead from the README to each page of docs/ at most."""
+    near = {"README.md"}
+    for _ in range(2):
+        linked = {(page, link) for page in near if page.endswith(".md") for link in re.findall(r"\]\(([^)\s#]+)", text_of(page))}
+        paths = {os.path.normpath(os.path.join(os.path.dirname(page), link)) for page, link in linked}
+        near |= {path for path in paths if os.path.isfile(os.path.join(TOP, path))}
+    return [f"more than two links lead to {page}" for page in documents() if page.startswith("docs/") and page not in near]
+
+
+def counter_of_sentences():
+    """The tool that counts sentences, as a module."""
+    loader = importlib.machinery.SourceFileLoader("sentences", os.path.join(TOP, "tools", "sentences"))
+    module = importlib.util.module_from_spec(importlib.util.spec_from_loader("sentences", loader))
+    loader.exec_module(module)
+    return module
+
+
+def wrong_sentences(page, sentences):
+    """What is wrong with the lengths of the sentences of a page."""
+    lengths = [len(sentence) for sentence in sentences]
+    average = sum(lengths) / max(1, len(lengths))
+    found = [f"{page} has a sentence of {len(sentence)} words: {' '.join(sentence[:8])} .." for sentence in sentences
+             if len(sentence) > MOST_OF_SENTENCE]
+    return found + ([f"{page} has {average:.1f} words a sentence"] if average > MOST_ON_AVERAGE else [])
+
+
+def sentences_that_are_long(_program):
+    """No sentence of a page has more than so many words, none of the pages more than so many on average; and the README and, as
+    tools/sentences counts them, all pages together have no more than theirs."""
+    counter, found, total = counter_of_sentences(), [], 0
+    for page in counter.pages([]):
+        sentences = [*counter.sentences_of(text_of(page))]
+        total += sum(map(len, sentences))
+        found += wrong_sentences(page, sentences)
+    length = len(text_of("README.md").split())
+    found += [f"README.md has {length} words"] if length > MOST_OF_README else []
+    return found + ([f"the pages have {total} words"] if total > MOST_OF_ALL else [])
+
+
+def figures_that_differ(_program):
+    """Each drawing of docs/figures is that of its source, by the digest that tools/figures wrote into it, is small, and is cited by
+    a page. Each definition that the source names is there, and the picture of the rooms has those of crates.txt."""
+    found, pages = [], "\n".join(map(text_of, documents()))
+    there = {word for path in sources() for word in re.findall(r"\w+", text_of(path))}
+    for path in sorted(glob.glob(os.path.join(glob.escape(TOP), "docs", "figures", "*.dot"))):
+        name, source = os.path.basename(path)[:-4], contracts.text_of(path)
+        drawn = text_of(f"docs/figures/{name}.svg") if is_there(f"docs/figures/{name}.svg", [""]) else ""
+        is_drawn = hashlib.sha256(source.encode()).hexdigest() in drawn
+        found += [] if is_drawn else [f"docs/figures/{name}.svg is not drawn from {name}.dot"]
+        found += [] if len(drawn.encode()) <= MOST_OF_A_FIGURE else [f"docs/figures/{name}.svg is too large"]
+        found += [] if f"figures/{name}.svg" in pages else [f"no page cites docs/figures/{name}.svg"]
+        labels = " ".join(re.findall(r'label="([^"]*)"', source)).replace("\\n", " ")
+        words = re.findall(r"\b(?:[A-Z][a-z]+){2,}\b|\b[a-z]+_[a-z_]+\b", labels)
+        found += [f"docs/figures/{name}.dot names {word}" for word in words if word not in there]
+    rooms = text_of("docs/figures/rooms.dot")
+    return found + [f"docs/figures/rooms.dot has no {room}" for room, _ in rooms_of_crates()
+                    if room != "tests" and f'label="{room}\\n' not in rooms]
+
+
 checks = {
+    "pages/sentences": sentences_that_are_long,
+    "pages/near": pages_that_are_far,
     "pages/crates": crates_that_differ,
     "pages/names": crates_that_are_missing,
     "pages/lengths": lengths_that_pass,
@@ -191,4 +302,7 @@ checks = {
     "pages/prove": proofs_that_fail,
     "pages/commands": commands_that_are_missing,
     "pages/lists": lists_that_are_not_told,
+    "pages/notices": notices_that_are_missing,
+    "pages/places": names_that_stand_elsewhere,
+    "pages/figures": figures_that_differ,
 }

@@ -8,7 +8,6 @@ for one another so, no order of the ticks has the trace. `shapes` has the statio
 import os
 import random
 import re
-import struct
 import subprocess
 import tempfile
 from typing import NamedTuple

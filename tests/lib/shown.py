@@ -76,10 +76,8 @@ def readme_differs(place):
         status, told = place.call(*words)
         place.wants(" ".join(words), (status, f"    {told.strip()}" in page), (0, True))
     place.write("f", script.replace(', single("jingle.wav")', ""))
-    refusal = re.search(r"Without the jingle it is refused: `([^`]*)`", page)[1]
+    refusal = re.search(r"Without the jingle the script is refused: `([^`]*)`", page)[1]
     place.says(refusal + "\n", "check", "f", status=1)
-    place.write("typo.liq", script.replace("single", "singel"))
-    place.says(shown_below("README.md", "what to do:").split("\n")[0] + "\n", "check", "typo.liq", status=1)
 
 
 def architecture_differs(place):
@@ -109,7 +107,7 @@ def clocks_differ(place):
     place.says("output A clock main infallible\noutput C clock b infallible\n", "check", "f")
     refused = script_of("docs/clocks.md", 1)
     place.write("f", refused)
-    line = re.search(r"It is told as `([^`]*)`", text_of("docs/clocks.md"))[1]
+    line = re.search(r"The report is `([^`]*)`", text_of("docs/clocks.md"))[1]
     place.says(f"E26 {line}\n", "check", "f", status=1)
     place.write("f", refused.replace('output.file(%wav, "A", ', "x = ")[:-2] + '\noutput.file(%wav, "A", blank())\n')
     place.says("E27 crossfade 1 lies in its own clock\n", "check", "f", status=1)

@@ -3,6 +3,7 @@ output. tests/cues and tests/page call it."""
 import os
 import struct
 import subprocess
+from array import array
 from typing import NamedTuple
 
 from lib.common import sound
@@ -69,7 +70,7 @@ def marked(file, length):
 
 def noise(rng, length):
     """Samples of no zeros."""
-    return [rng.randint(-9000, 9000) or 1 for _ in range(length)]
+    return [value >> 2 or 1 for value in array("h", rng.randbytes(2 * length))]
 
 
 def write_file(folder, name, data):
@@ -101,18 +102,12 @@ def samples_in(folder, name):
 
 def stretches_of(samples):
     """What marked samples say was played."""
-    found, start, file, first = [], None, 0, 0
-    before = 0
-    for n, value in enumerate(samples):
-        if value != before + 1 or before == 0:
-            if start is not None:
-                found.append(Stretch(start, n, file, first, (before - 1) % LONGEST))
-                start = None
-            if value:
-                start, (file, first) = n, divmod(value - 1, LONGEST)
-        before = value
-    if start is not None:
-        found.append(Stretch(start, len(samples), file, first, (before - 1) % LONGEST))
+    starts = [n for n, (before, value) in enumerate(zip((0, *samples), samples)) if value and (value != before + 1 or before == 0)]
+    ends = [n for n, (value, after) in enumerate(zip(samples, (*samples[1:], 0)), 1) if value and after != value + 1]
+    found = []
+    for start, end in zip(starts, ends):
+        file, first = divmod(samples[start] - 1, LONGEST)
+        found.append(Stretch(start, end, file, first, (samples[end - 1] - 1) % LONGEST))
     return found
 
 

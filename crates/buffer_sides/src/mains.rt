@@ -1,6 +1,5 @@
 // The main clocks of nodes.
 ghost use Rattle.std.specs.Prelude.{◌≡◌, slice_index_or};
-ghost use Rattle.clock_infer.specs.declared.clock_map.NodeClock.TheVariants.{Main as InMain};
 ghost use Rattle.stream_meaning.specs.Instants.{Setting};
 ghost use Rattle.run_records.specs.Buffers.{main_of, main_within};
 
@@ -26,7 +25,7 @@ pub fn main_of(plan: &Plan, clocks: &ClockMap, node: u32) -> u32
 
 // The clock of a node.
 fn clock_at(clocks: &ClockMap, node: u32) -> NodeClock
-    ensures { result ≡ slice_index_or clocks.now.of node (InMain 0) }
+    ensures { result ≡ slice_index_or clocks.now.of node (NodeClock.Main 0) }
 {
     let clock = clocks.of.as_slice().get(node as usize).copied();
     clock.unwrap_or(NodeClock::Main(0))

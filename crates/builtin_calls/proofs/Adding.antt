@@ -15,8 +15,8 @@ use Rattle.plan_core.specs.declared.sink.BufferPlan.{BufferPlan}
 use Rattle.plan_core.specs.Plans.{HasChildren, HasKind, IsInRange, IsNoReader, IsBuffer, IsWellFormed, crossfades_from, with_node, with_output, with_buffer, reader_of, is_output}
 use Rattle.plan_core.proofs.Grown.{node_keeps, output_keeps, buffer_keeps}
 use Rattle.plan_core.proofs.Lists.{some_same}
-use Rattle.script_values.specs.declared.fault.Fault.{Fault}
-use Rattle.script_values.specs.declared.fault.Fault.TheVariants.{TooLarge, TooManySources, SameOutput}
+use Rattle.script_values.specs.declared.fault.Stop.{Stop}
+use Rattle.script_values.specs.declared.fault.Stop.TheVariants.{TooLarge, TooManySources, SameOutput}
 use Rattle.script_values.specs.declared.fault.Limit.{Limit}
 use Rattle.script_values.specs.declared.fault.Limit.TheVariants.{Crossfades, Outputs}
 use Rattle.script_values.specs.declared.machine.Machine.{Machine}
@@ -52,14 +52,14 @@ pub then_keeps : (a b c : Machine) → Keeps a b → Keeps b c → Keeps a c
 then_keeps a b c first second = record { sound = λ s. second.sound (first.sound s); nodes = λ i one is. second.nodes i one (first.nodes i one is) }
 
 -- a test of a limit that was passed
-within_by : (b : Bool) (n most r : ℕ) (limit : Limit) → nat_le n most ≡ b → ◌≡◌ {A = Result ℕ Fault} (elim b [ true ↦ Ok n | false ↦ Err (TooLarge limit) ]) (Ok r) → (n ≡ r) × (n ≤ most)
+within_by : (b : Bool) (n most r : ℕ) (limit : Limit) → nat_le n most ≡ b → ◌≡◌ {A = Result ℕ Stop} (elim b [ true ↦ Ok n | false ↦ Err (TooLarge limit) ]) (Ok r) → (n ≡ r) × (n ≤ most)
 within_by true n most r limit test is = (ok_is n r is, grind arith)
 within_by false n most r limit test is = absurd cc
 
 pub within : (most : ℕ) (limit : Limit) (n r : ℕ) → at_most most limit n ≡ Ok r → (n ≡ r) × (n ≤ most)
 within most limit n r is = within_by (nat_le n most) n most r limit refl is
 
-few_by : (b : Bool) (cs rs : List ℕ) (limit : Limit) → nat_le (length cs) MAX_CHILDREN ≡ b → ◌≡◌ {A = Result (List ℕ) Fault} (elim b [ true ↦ Ok cs | false ↦ Err (TooLarge limit) ]) (Ok rs) → (cs ≡ rs) × (length rs ≤ MAX_CHILDREN)
+few_by : (b : Bool) (cs rs : List ℕ) (limit : Limit) → nat_le (length cs) MAX_CHILDREN ≡ b → ◌≡◌ {A = Result (List ℕ) Stop} (elim b [ true ↦ Ok cs | false ↦ Err (TooLarge limit) ]) (Ok rs) → (cs ≡ rs) × (length rs ≤ MAX_CHILDREN)
 few_by true cs rs limit test is =
     let same = ok_is cs rs is in
     let short : length cs ≤ MAX_CHILDREN = grind arith in
@@ -121,7 +121,7 @@ pub record Pushed (one : Node) (m : Machine) (x : ℕ × Machine) : Type 0 where
   pub nodes : x.1.plan.nodes ≡ m.plan.nodes ++ one ∷ []
 
 pushed_by : (b : Bool) (one : Node) (m : Machine) (x : ℕ × Machine) → nat_le MAX_NODES (length m.plan.nodes) ≡ b → IsOver m.plan.nodes one → IsNoReader one.op → crossfades_from m.plan.nodes one ≤ MAX_CROSSFADES
-    → ◌≡◌ {A = Result (ℕ × Machine) Fault} (elim b [ true ↦ Err TooManySources | false ↦ Ok (length m.plan.nodes, record m { plan = with_node m.plan one }) ]) (Ok x) → Pushed one m x
+    → ◌≡◌ {A = Result (ℕ × Machine) Stop} (elim b [ true ↦ Err TooManySources | false ↦ Ok (length m.plan.nodes, record m { plan = with_node m.plan one }) ]) (Ok x) → Pushed one m x
 pushed_by true one m x test over reader crossfades is = absurd cc
 pushed_by false one m x test over reader crossfades is =
     let room : length m.plan.nodes < MAX_NODES = grind arith in
@@ -180,7 +180,7 @@ sound_buffer m s k b source is room so =
     }
 
 buffered_by : (t : Bool) (m : Machine) (s : ℕ) (k : Kind) (b : BufferPlan) (x : Value × Machine) → nat_le MAX_NODES (length m.plan.nodes) ≡ t → IsSource m.plan.nodes k s → IsBuffer b
-    → ◌≡◌ {A = Result (Value × Machine) Fault} (elim t [ true ↦ Err TooManySources | false ↦ Ok (Source (length m.plan.nodes), record m { plan = with_buffer m.plan s k b }) ]) (Ok x) → Keeps m x.1
+    → ◌≡◌ {A = Result (Value × Machine) Stop} (elim t [ true ↦ Err TooManySources | false ↦ Ok (Source (length m.plan.nodes), record m { plan = with_buffer m.plan s k b }) ]) (Ok x) → Keeps m x.1
 buffered_by true m s k b x test source is done = absurd cc
 buffered_by false m s k b x test source is done =
     let room : length m.plan.nodes < MAX_NODES = grind arith in
@@ -208,7 +208,7 @@ sound_output m name s b w there few_outputs so =
     }
 
 put_by : (t u : Bool) (m : Machine) (name : List ℕ) (s : ℕ) (b w : Bool) (x : Value × Machine) → nat_lt (count_by is_output m.plan.sinks) MAX_OUTPUTS ≡ u → s < length m.plan.nodes
-    → ◌≡◌ {A = Result (Value × Machine) Fault} (elim t [ true ↦ Err (SameOutput name) | false ↦ elim u [ true ↦ Ok (UnitValue, record m { plan = with_output m.plan name s b w }) | false ↦ Err (TooLarge Outputs) ] ]) (Ok x) → Keeps m x.1
+    → ◌≡◌ {A = Result (Value × Machine) Stop} (elim t [ true ↦ Err (SameOutput name) | false ↦ elim u [ true ↦ Ok (UnitValue, record m { plan = with_output m.plan name s b w }) | false ↦ Err (TooLarge Outputs) ] ]) (Ok x) → Keeps m x.1
 put_by true u m name s b w x test there is = absurd cc
 put_by false false m name s b w x test there is = absurd cc
 put_by false true m name s b w x test there is =

@@ -6,12 +6,12 @@ use Rattle.plan_core.specs.declared.node.Node.{Node}
 use Rattle.plan_core.specs.declared.node.Op.TheVariants as op
 use Rattle.plan_core.specs.declared.sink.SinkPlan.TheVariants.{Output}
 use Rattle.typing_rules.specs.declared.uses.Builtin.TheVariants as builtins
-use Rattle.script_values.specs.declared.fault.Fault.TheVariants.{BadSetting, BadValue, SameOutput, TooLarge, Stuck}
+use Rattle.script_values.specs.declared.fault.Stop.TheVariants.{BadSetting, BadValue, SameOutput, TooLarge, Stuck}
 use Rattle.script_values.specs.declared.fault.Limit.TheVariants.{Children, Crossfades, Overlap, Outputs}
 use Rattle.script_values.specs.declared.machine.Machine.{Machine}
 use Rattle.script_values.specs.Machines.{some_millionths, first_machine}
 use Rattle.script_values.specs.Slots.{Argument}
-use Rattle.script_values.specs.Values.{Value, Int, Number, Text, UnitValue, Source, ListValue, no_values, more_values}
+use Rattle.script_values.specs.Values.{Value, Int, Number, TextValue, UnitValue, Source, ListValue, no_values, more_values}
 use Rattle.plan_core.specs.Plans.{with_node}
 use Rattle.builtin_calls.specs.Nodes.{few, push, add}
 use Rattle.builtin_calls.specs.Parts.{as_int, as_text, as_decimal, source_of, sources_of, nodes_from, plain_argument, plain_text, plain_decimal, plain_source, plain_sources, bool_or, int_or, text_or, decimal_or}
@@ -66,7 +66,7 @@ no_pitch : square 7 (Mono ∷ []) ((None, Number (some_millionths 0 tt)) ∷ [])
 unfolding square plain_decimal plain_argument as_decimal pitch_of
 no_pitch = refl
 
-random_mode : playlist 7 (Mono ∷ []) (labelled (codes "mode") (Text (codes "random")) ∷ (None, Text (codes "L")) ∷ []) slow ≡ Err (BadValue 7)
+random_mode : playlist 7 (Mono ∷ []) (labelled (codes "mode") (TextValue (codes "random")) ∷ (None, TextValue (codes "L")) ∷ []) slow ≡ Err (BadValue 7)
 unfolding playlist bool_or text_or as_text plain_text plain_argument
 random_mode = refl
 

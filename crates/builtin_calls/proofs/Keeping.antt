@@ -4,7 +4,7 @@ use Rattle.std.specs.Prelude.{slice_get, count_by, Some, ◌<ℤ◌, ◌≤ℤ�
 use Rattle.std.proofs.lemmas.Int.{ints}
 use Rattle.liq_base.specs.declared.limits.TheConstants.{MAX_CHILDREN, MAX_OUTPUTS, MAX_OVERLAP, MAX_PREFILL, MAX_CAPACITY, MAX_CROSSFADES, MIN_RATE, MAX_RATE, MAX_WORK}
 use Rattle.liq_base.specs.declared.memory.Kind.{Kind}
-use Rattle.liq_base.specs.declared.memory.Kind.TheVariants.{Mono, Stereo as Both}
+use Rattle.liq_base.specs.declared.memory.Kind.TheVariants.{Mono}
 use Rattle.fixed_text.specs.declared.decimal.Decimal.{Decimal}
 use Rattle.fixed_text.specs.Texts.{samples_in}
 use Rattle.plan_core.specs.declared.node.Op.{Op}
@@ -17,14 +17,14 @@ use Rattle.plan_core.specs.Plans.{HasChildren, HasKind, IsInRange, IsNoReader, I
 use Rattle.plan_core.proofs.Grown.{empty_keeps}
 use Rattle.typing_rules.specs.declared.uses.Builtin.{Builtin}
 use Rattle.typing_rules.specs.declared.uses.Builtin.TheVariants as builtins
-use Rattle.script_values.specs.declared.fault.Fault.{Fault}
-use Rattle.script_values.specs.declared.fault.Fault.TheVariants.{BadValue, BadSetting, TooMuchWork}
+use Rattle.script_values.specs.declared.fault.Stop.{Stop}
+use Rattle.script_values.specs.declared.fault.Stop.TheVariants.{BadValue, BadSetting, TooMuchWork}
 use Rattle.script_values.specs.declared.fault.Limit.TheVariants.{Crossfades, Overlap, Prefill, Capacity}
 use Rattle.script_values.specs.declared.machine.Machine.{Machine}
 use Rattle.script_values.specs.Machines.{some_millionths, first_machine, count_work}
 use Rattle.script_values.specs.Outcomes.{◌>>=◌}
 use Rattle.script_values.specs.Slots.{Argument}
-use Rattle.script_values.specs.Values.{Value, Int, Number, Text, TruthValue, UnitValue, FormatValue, Pred, Source, ListValue, TupleValue}
+use Rattle.script_values.specs.Values.{Value, Int, Number, TextValue, TruthValue, UnitValue, FormatValue, PredValue, Source, ListValue, TupleValue}
 use Rattle.builtin_calls.specs.Parts.{one_kind, plain_argument, plain_text, plain_decimal, plain_format, plain_source, plain_sources, plain_pairs, bool_or, int_or, text_or, decimal_or}
 use Rattle.builtin_calls.specs.Nodes.{at_most, few, crossfades_with, add, push, add_buffer}
 use Rattle.builtin_calls.specs.Times.{some_samples, overlap_samples, track_of, samples_of, pitch_of, chunks}
@@ -56,7 +56,7 @@ few_pairs_are nodes k given x is =
     let last : children ≡ x.1 = ap (λ (y : List Predicate × List ℕ). y.1) both in
     (subst (λ (l : List Predicate). ArePairs nodes k l x.1) first (subst (λ (l : List ℕ). ArePairs nodes k pairs.0.0 l) (short.0 ∙ last) are), subst (λ (l : List ℕ). length l ≤ MAX_CHILDREN) last short.1)
 
-above_by : (b : Bool) (at : ℕ) (d e : Decimal) → int_le d.millionths (pos 0) ≡ b → ◌≡◌ {A = Result Decimal Fault} (elim b [ true ↦ Err (BadValue at) | false ↦ Ok d ]) (Ok e) → pos 0 <ℤ e.millionths
+above_by : (b : Bool) (at : ℕ) (d e : Decimal) → int_le d.millionths (pos 0) ≡ b → ◌≡◌ {A = Result Decimal Stop} (elim b [ true ↦ Err (BadValue at) | false ↦ Ok d ]) (Ok e) → pos 0 <ℤ e.millionths
 above_by true at d e test is = absurd cc
 above_by false at d e test is =
     let above : pos 0 <ℤ d.millionths = grind (arith, ints) in
@@ -67,14 +67,14 @@ above_zero : (at : ℕ) (d e : Decimal) → pitch_of at d ≡ Ok e → pos 0 <�
 unfolding pitch_of
 above_zero at d e is = above_by (int_le d.millionths (pos 0)) at d e refl is
 
-some_by : (b : Bool) (at n r : ℕ) → nat_eq n 0 ≡ b → ◌≡◌ {A = Result ℕ Fault} (elim b [ true ↦ Err (BadValue at) | false ↦ Ok n ]) (Ok r) → 1 ≤ r
+some_by : (b : Bool) (at n r : ℕ) → nat_eq n 0 ≡ b → ◌≡◌ {A = Result ℕ Stop} (elim b [ true ↦ Err (BadValue at) | false ↦ Ok n ]) (Ok r) → 1 ≤ r
 some_by true at n r test is = absurd cc
 some_by false at n r test is =
     let some : 1 ≤ n = grind arith in
     let same = ok_is n r is in
     subst (λ (i : ℕ). 1 ≤ i) same some
 
-overlap_by : (b : Bool) (at n r : ℕ) → ◌≡◌ {A = Result ℕ Fault} (elim b [ true ↦ Err (BadValue at) | false ↦ some_samples at n ]) (Ok r) → 1 ≤ r
+overlap_by : (b : Bool) (at n r : ℕ) → ◌≡◌ {A = Result ℕ Stop} (elim b [ true ↦ Err (BadValue at) | false ↦ some_samples at n ]) (Ok r) → 1 ≤ r
 overlap_by true at n r is = absurd cc
 overlap_by false at n r is = some_by (nat_eq n 0) at n r refl is
 
@@ -124,7 +124,7 @@ a_buffer at held most p b is =
     let bound : capacity ≤ MAX_CAPACITY = omega (arith, is_capacity, below_capacity) in
     subst IsBuffer same (small, least, bound)
 
-opened_by : (b : Bool) (m c : Machine) → ◌≡◌ {A = Result Machine Fault} (elim b [ true ↦ Ok (record m { settings = record m.settings { last = m.settings.statement } }) | false ↦ Err BadSetting ]) (Ok c) → m.plan ≡ c.plan
+opened_by : (b : Bool) (m c : Machine) → ◌≡◌ {A = Result Machine Stop} (elim b [ true ↦ Ok (record m { settings = record m.settings { last = m.settings.statement } }) | false ↦ Err BadSetting ]) (Ok c) → m.plan ≡ c.plan
 opened_by true m c is = (let same = ok_is (record m { settings = record m.settings { last = m.settings.statement } }) c is in ap (λ (n : Machine). n.plan) same)
 opened_by false m c is = absurd cc
 
@@ -138,7 +138,7 @@ same_plan m n is = record {
   nodes = λ i one there. subst (λ (p : _). slice_get p.nodes i ≡ Some one) is there;
 }
 
-rate_by : (b : Bool) (n : ℤ) (r : ℕ) → (int_le (pos MIN_RATE) n && int_le n (pos MAX_RATE)) ≡ b → ◌≡◌ {A = Result ℕ Fault} (elim b [ true ↦ Ok (unsigned_abs n) | false ↦ Err BadSetting ]) (Ok r) → (MIN_RATE ≤ r) × (r ≤ MAX_RATE)
+rate_by : (b : Bool) (n : ℤ) (r : ℕ) → (int_le (pos MIN_RATE) n && int_le n (pos MAX_RATE)) ≡ b → ◌≡◌ {A = Result ℕ Stop} (elim b [ true ↦ Ok (unsigned_abs n) | false ↦ Err BadSetting ]) (Ok r) → (MIN_RATE ≤ r) × (r ≤ MAX_RATE)
 rate_by true n r test is =
     let same = ok_is (unsigned_abs n) r is in
     let low : pos MIN_RATE ≤ℤ n = grind (arith, ints) in
@@ -150,11 +150,11 @@ rate_is : (v : Value) (r : ℕ) → rate_of v ≡ Ok r → (MIN_RATE ≤ r) × (
 unfolding rate_of
 rate_is (Int n) r is = rate_by (int_le (pos MIN_RATE) n && int_le n (pos MAX_RATE)) n r refl is
 rate_is (Number d) r is = absurd cc
-rate_is (Text t) r is = absurd cc
+rate_is (TextValue t) r is = absurd cc
 rate_is (TruthValue b) r is = absurd cc
 rate_is UnitValue r is = absurd cc
 rate_is (FormatValue wide) r is = absurd cc
-rate_is (Pred p) r is = absurd cc
+rate_is (PredValue p) r is = absurd cc
 rate_is (Source i) r is = absurd cc
 rate_is (ListValue vs) r is = absurd cc
 rate_is (TupleValue vs) r is = absurd cc
@@ -205,7 +205,7 @@ set_duration_keeps v m x is =
     let state : record c { settings = record c.settings { duration = d } } ≡ x.1 = ap (λ (y : Value × Machine). y.1) (ok_is (UnitValue, record c { settings = record c.settings { duration = d } }) x step1.2) in
     same_plan m x.1 (opened_by m.settings.allowed m c step0.1 ∙ ap (λ (n : Machine). n.plan) state)
 
-setting_by : (s t : Bool) (v : Value) (m : Machine) (x : Value × Machine) → ◌≡◌ {A = Result (Value × Machine) Fault} (elim s [ true ↦ set_rate v m | false ↦ elim t [ true ↦ set_duration v m | false ↦ Ok (UnitValue, m) ] ]) (Ok x) → Keeps m x.1
+setting_by : (s t : Bool) (v : Value) (m : Machine) (x : Value × Machine) → ◌≡◌ {A = Result (Value × Machine) Stop} (elim s [ true ↦ set_rate v m | false ↦ elim t [ true ↦ set_duration v m | false ↦ Ok (UnitValue, m) ] ]) (Ok x) → Keeps m x.1
 setting_by true t v m x is = set_rate_keeps v m x is
 setting_by false true v m x is = set_duration_keeps v m x is
 setting_by false false v m x is = (let state : m ≡ x.1 = ap (λ (y : Value × Machine). y.1) (ok_is (UnitValue, m) x is) in subst (Keeps m) state (keeps_itself m))
@@ -335,18 +335,18 @@ amplify_keeps kinds given m x is =
 mean_keeps : (given : List Argument) (m : Machine) (x : Value × Machine) → mean given m ≡ Ok x → Keeps m x.1
 unfolding mean
 mean_keeps given m x is =
-    let step0 = after (plain_source m.plan.nodes Both given) (λ s. add (node op.Mean Mono (s.0 ∷ [])) m) x is in
+    let step0 = after (plain_source m.plan.nodes Kind.Stereo given) (λ s. add (node op.Mean Mono (s.0 ∷ [])) m) x is in
     let s = step0.0 in
-    let source = a_source m.plan.nodes Both given s step0.1 in
-    added (node (op.Mean) Mono (s.0 ∷ [])) m x step0.2 (one_over m.plan.nodes (op.Mean) Both Mono s.0 source refl (refl, refl) tt) (λ b e. cc)
+    let source = a_source m.plan.nodes Kind.Stereo given s step0.1 in
+    added (node (op.Mean) Mono (s.0 ∷ [])) m x step0.2 (one_over m.plan.nodes (op.Mean) Kind.Stereo Mono s.0 source refl (refl, refl) tt) (λ b e. cc)
 
 stereo_keeps : (given : List Argument) (m : Machine) (x : Value × Machine) → stereo given m ≡ Ok x → Keeps m x.1
 unfolding stereo
 stereo_keeps given m x is =
-    let step0 = after (plain_source m.plan.nodes Mono given) (λ s. add (node op.Stereo Both (s.0 ∷ [])) m) x is in
+    let step0 = after (plain_source m.plan.nodes Mono given) (λ s. add (node op.Stereo Kind.Stereo (s.0 ∷ [])) m) x is in
     let s = step0.0 in
     let source = a_source m.plan.nodes Mono given s step0.1 in
-    added (node (op.Stereo) Both (s.0 ∷ [])) m x step0.2 (one_over m.plan.nodes (op.Stereo) Mono Both s.0 source refl (refl, refl) tt) (λ b e. cc)
+    added (node (op.Stereo) Kind.Stereo (s.0 ∷ [])) m x step0.2 (one_over m.plan.nodes (op.Stereo) Mono Kind.Stereo s.0 source refl (refl, refl) tt) (λ b e. cc)
 
 crossfade_keeps : (at : ℕ) (kinds : List Kind) (given : List Argument) (m : Machine) (x : Value × Machine) → crossfade at kinds given m ≡ Ok x → Keeps m x.1
 unfolding crossfade
@@ -436,7 +436,7 @@ set_keeps given m x is =
     let value = step1.0 in
     setting_keeps key.0 value.0 m x step1.2
 
-counted_by : (b : Bool) (n : ℕ) (m c : Machine) → ◌≡◌ {A = Result Machine Fault} (elim b [ true ↦ Ok (record m { work = m.work + n }) | false ↦ Err TooMuchWork ]) (Ok c) → m.plan ≡ c.plan
+counted_by : (b : Bool) (n : ℕ) (m c : Machine) → ◌≡◌ {A = Result Machine Stop} (elim b [ true ↦ Ok (record m { work = m.work + n }) | false ↦ Err TooMuchWork ]) (Ok c) → m.plan ≡ c.plan
 counted_by true n m c is = (let same = ok_is (record m { work = m.work + n }) c is in ap (λ (d : Machine). d.plan) same)
 counted_by false n m c is = absurd cc
 

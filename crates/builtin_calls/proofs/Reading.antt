@@ -6,19 +6,19 @@ use Rattle.liq_base.specs.declared.memory.Kind.{Kind}
 use Rattle.liq_base.specs.declared.memory.Kind.TheVariants.{Mono, Stereo}
 use Rattle.time_pred.specs.Predicates.{Predicate}
 use Rattle.plan_core.specs.declared.node.Node.{Node}
-use Rattle.script_values.specs.declared.fault.Fault.{Fault}
-use Rattle.script_values.specs.declared.fault.Fault.TheVariants.{Stuck}
+use Rattle.script_values.specs.declared.fault.Stop.{Stop}
+use Rattle.script_values.specs.declared.fault.Stop.TheVariants.{Stuck}
 use Rattle.script_values.specs.Outcomes.{◌>>=◌}
 use Rattle.script_values.specs.Slots.{Argument}
-use Rattle.script_values.specs.Values.{ValueTree, ManyValues, no_values, more_values, Value, Int, Number, Text, TruthValue, UnitValue, FormatValue, Pred, Source, ListValue, TupleValue}
+use Rattle.script_values.specs.Values.{ValueTree, ManyValues, no_values, more_values, Value, Int, Number, TextValue, TruthValue, UnitValue, FormatValue, PredValue, Source, ListValue, TupleValue}
 use Rattle.builtin_calls.specs.Parts.{is_kind, of_kind, source_of, nodes_from, sources_of, pair_in, case_of, pred_of, pairs_from, pairs_of, plain_argument, plain_source, plain_sources, plain_pairs}
 
 -- the first step of steps that end well
-pub after : {A B : Type 0} (r : Result A Fault) (f : A → Result B Fault) (y : B) → (r >>= f) ≡ Ok y → (a : A) × (r ≡ Ok a) × (f a ≡ Ok y)
+pub after : {A B : Type 0} (r : Result A Stop) (f : A → Result B Stop) (y : B) → (r >>= f) ≡ Ok y → (a : A) × (r ≡ Ok a) × (f a ≡ Ok y)
 after (Ok a) f y is = (a, refl, is)
 after (Err e) f y is = absurd cc
 
-abbrev good : {A : Type 0} → A → Result A Fault
+abbrev good : {A : Type 0} → A → Result A Stop
 good x = Ok x
 
 pub ok_is : {A : Type 0} (x y : A) → good x ≡ good y → x ≡ y
@@ -36,7 +36,7 @@ same_kind Mono Stereo is = absurd cc
 same_kind Stereo Mono is = absurd cc
 same_kind Stereo Stereo is = refl
 
-passed : (b : Bool) (n r : ℕ) → ◌≡◌ {A = Result ℕ Fault} (elim b [ true ↦ Ok n | false ↦ Err Stuck ]) (Ok r) → (b ≡ true) × (n ≡ r)
+passed : (b : Bool) (n r : ℕ) → ◌≡◌ {A = Result ℕ Stop} (elim b [ true ↦ Ok n | false ↦ Err Stuck ]) (Ok r) → (b ≡ true) × (n ≡ r)
 passed true n r is = (refl, ok_is n r is)
 passed false n r is = absurd cc
 
@@ -51,11 +51,11 @@ unfolding source_of
 source_is nodes k (Source i) n is = found_of nodes k i n (slice_get nodes i) refl is
 source_is nodes k (Int i) n is = absurd cc
 source_is nodes k (Number d) n is = absurd cc
-source_is nodes k (Text t) n is = absurd cc
+source_is nodes k (TextValue t) n is = absurd cc
 source_is nodes k (TruthValue b) n is = absurd cc
 source_is nodes k UnitValue n is = absurd cc
 source_is nodes k (FormatValue wide) n is = absurd cc
-source_is nodes k (Pred p) n is = absurd cc
+source_is nodes k (PredValue p) n is = absurd cc
 source_is nodes k (ListValue vs) n is = absurd cc
 source_is nodes k (TupleValue vs) n is = absurd cc
 
@@ -72,11 +72,11 @@ sources_are nodes k (ListValue vs) rs is = nodes_are nodes k vs [] rs is (All-ni
 sources_are nodes k (Source i) rs is = absurd cc
 sources_are nodes k (Int i) rs is = absurd cc
 sources_are nodes k (Number d) rs is = absurd cc
-sources_are nodes k (Text t) rs is = absurd cc
+sources_are nodes k (TextValue t) rs is = absurd cc
 sources_are nodes k (TruthValue b) rs is = absurd cc
 sources_are nodes k UnitValue rs is = absurd cc
 sources_are nodes k (FormatValue wide) rs is = absurd cc
-sources_are nodes k (Pred p) rs is = absurd cc
+sources_are nodes k (PredValue p) rs is = absurd cc
 sources_are nodes k (TupleValue vs) rs is = absurd cc
 
 in_pair : (nodes : List Node) (k : Kind) (vs : ValueTree ManyValues) (x : Predicate × ℕ) → pair_in nodes k vs ≡ Ok x → IsSource nodes k x.1
@@ -97,11 +97,11 @@ pair_is nodes k (ListValue vs) x is = absurd cc
 pair_is nodes k (Source i) x is = absurd cc
 pair_is nodes k (Int i) x is = absurd cc
 pair_is nodes k (Number d) x is = absurd cc
-pair_is nodes k (Text t) x is = absurd cc
+pair_is nodes k (TextValue t) x is = absurd cc
 pair_is nodes k (TruthValue b) x is = absurd cc
 pair_is nodes k UnitValue x is = absurd cc
 pair_is nodes k (FormatValue wide) x is = absurd cc
-pair_is nodes k (Pred p) x is = absurd cc
+pair_is nodes k (PredValue p) x is = absurd cc
 
 -- sources of a kind, and as many predicates
 pub record ArePairs (nodes : List Node) (k : Kind) (ps : List Predicate) (ns : List ℕ) : Type 0 where
@@ -127,11 +127,11 @@ pairs_in_value nodes k (TupleValue vs) x is = absurd cc
 pairs_in_value nodes k (Source i) x is = absurd cc
 pairs_in_value nodes k (Int i) x is = absurd cc
 pairs_in_value nodes k (Number d) x is = absurd cc
-pairs_in_value nodes k (Text t) x is = absurd cc
+pairs_in_value nodes k (TextValue t) x is = absurd cc
 pairs_in_value nodes k (TruthValue b) x is = absurd cc
 pairs_in_value nodes k UnitValue x is = absurd cc
 pairs_in_value nodes k (FormatValue wide) x is = absurd cc
-pairs_in_value nodes k (Pred p) x is = absurd cc
+pairs_in_value nodes k (PredValue p) x is = absurd cc
 
 pub a_source : (nodes : List Node) (k : Kind) (given : List Argument) (x : ℕ × List Argument) → plain_source nodes k given ≡ Ok x → IsSource nodes k x.0
 unfolding plain_source

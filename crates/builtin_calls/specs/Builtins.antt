@@ -3,7 +3,7 @@
 use Rattle.std.specs.Prelude.{ℕ, ℤ, pos, int_lt, unsigned_abs, List, [], ◌∷◌, Bool, true, false, bytes_eq, codes, Result, Ok, Err}
 use Rattle.liq_base.specs.declared.limits.TheConstants.{MAX_OVERLAP, MAX_PREFILL, MAX_CAPACITY, MAX_CROSSFADES}
 use Rattle.liq_base.specs.declared.memory.Kind.{Kind}
-use Rattle.liq_base.specs.declared.memory.Kind.TheVariants.{Mono, Stereo as Both}
+use Rattle.liq_base.specs.declared.memory.Kind.TheVariants.{Mono}
 use Rattle.plan_core.specs.declared.node.Node.{Node}
 use Rattle.plan_core.specs.declared.node.Op.{Op}
 use Rattle.plan_core.specs.declared.node.Op.TheVariants as op
@@ -13,8 +13,8 @@ use Rattle.time_pred.specs.Predicates.{Predicate}
 use Rattle.fixed_text.specs.declared.decimal.Decimal.{Decimal}
 use Rattle.typing_rules.specs.declared.uses.Builtin.{Builtin}
 use Rattle.typing_rules.specs.declared.uses.Builtin.TheVariants as builtins
-use Rattle.script_values.specs.declared.fault.Fault.{Fault}
-use Rattle.script_values.specs.declared.fault.Fault.TheVariants.{BadValue}
+use Rattle.script_values.specs.declared.fault.Stop.{Stop}
+use Rattle.script_values.specs.declared.fault.Stop.TheVariants.{BadValue}
 use Rattle.script_values.specs.declared.fault.Limit.TheVariants.{Crossfades, Overlap, Prefill, Capacity}
 use Rattle.script_values.specs.declared.machine.Machine.{Machine}
 use Rattle.script_values.specs.Machines.{some_millionths}
@@ -55,7 +55,7 @@ single kinds given m = do
   add (node (op.Single file.0) k []) m
 
 -- the one mode of a playlist
-abbrev pub is_normal : ℕ → List ℕ → Result (Unit {0}) Fault
+abbrev pub is_normal : ℕ → List ℕ → Result (Unit {0}) Stop
 is_normal at mode =
     elim (bytes_eq mode (codes "normal")) [
       | true ↦ Ok tt
@@ -95,20 +95,20 @@ fail kinds m = do
   add (node op.Fail k []) m
 
 -- a list of sources, not too many of them
-unfoldable pub few_sources : List Node → Kind → List Argument → Result (List ℕ) Fault
+unfoldable pub few_sources : List Node → Kind → List Argument → Result (List ℕ) Stop
 few_sources nodes k given = do
   sources ← plain_sources nodes k given
   few sources.0
 
 -- a list of predicates and sources, not too many of them
-unfoldable pub few_pairs : List Node → Kind → List Argument → Result (List Predicate × List ℕ) Fault
+unfoldable pub few_pairs : List Node → Kind → List Argument → Result (List Predicate × List ℕ) Stop
 few_pairs nodes k given = do
   pairs ← plain_pairs nodes k given
   children ← few pairs.0.1
   Ok (pairs.0.0, children)
 
 -- track_sensitive=true
-unfoldable pub sensitive_or : List Argument → Result (Bool × List Argument) Fault
+unfoldable pub sensitive_or : List Argument → Result (Bool × List Argument) Stop
 sensitive_or given = bool_or (codes "track_sensitive") true given
 
 -- a node of this operator over a list of sources
@@ -133,7 +133,7 @@ switch kinds given m = do
   add (node (op.Switch sensitive.0 pairs.0) k pairs.1) m
 
 -- a seed, which is not below zero
-abbrev pub seed_of : ℕ → ℤ → Result ℕ Fault
+abbrev pub seed_of : ℕ → ℤ → Result ℕ Stop
 seed_of at n =
     elim (int_lt n (pos 0)) [
       | true ↦ Err (BadValue at)
@@ -167,17 +167,17 @@ amplify kinds given m = do
 -- mean(s): stereo to mono
 unfoldable pub mean : List Argument → Machine → Outcome
 mean given m = do
-  s ← plain_source m.plan.nodes Both given
+  s ← plain_source m.plan.nodes Kind.Stereo given
   add (node op.Mean Mono (s.0 ∷ [])) m
 
 -- stereo(s): mono to stereo
 unfoldable pub stereo : List Argument → Machine → Outcome
 stereo given m = do
   s ← plain_source m.plan.nodes Mono given
-  add (node op.Stereo Both (s.0 ∷ [])) m
+  add (node op.Stereo Kind.Stereo (s.0 ∷ [])) m
 
 -- the overlap of a crossfade of a source, in samples
-unfoldable pub short_overlap : ℕ → ℕ → Decimal → Plan → Result ℕ Fault
+unfoldable pub short_overlap : ℕ → ℕ → Decimal → Plan → Result ℕ Stop
 short_overlap at s duration plan = do
   overlap ← overlap_samples at plan.rate duration
   crossfades ← at_most MAX_CROSSFADES Crossfades (crossfades_with s plan)
@@ -206,7 +206,7 @@ mksafe kinds given m = do
   safe k s.0 m
 
 -- a buffer whose reader holds the one time before it plays, and that holds at most the other
-unfoldable pub buffer_plan : ℕ → Decimal → Decimal → Plan → Result BufferPlan Fault
+unfoldable pub buffer_plan : ℕ → Decimal → Decimal → Plan → Result BufferPlan Stop
 buffer_plan at held most plan = do
   pre ← samples_of at plan.rate held
   room ← samples_of at plan.rate most
@@ -232,6 +232,7 @@ clock kinds given m = do
   s ← plain_source m.plan.nodes k id.1
   add (node (op.Clock id.0) k (s.0 ∷ [])) m
 
+-- what a call of each builtin makes, of its kinds and its arguments
 unfoldable pub builtin : Builtin → ℕ → List Kind → List Argument → Machine → Outcome
 builtin builtins.OutputFile at kinds given m = output_file kinds given m
 builtin builtins.Set at kinds given m = set given m

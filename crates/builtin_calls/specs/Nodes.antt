@@ -6,8 +6,8 @@ use Rattle.plan_core.specs.declared.node.Node.{Node}
 use Rattle.plan_core.specs.declared.plan.Plan.{Plan}
 use Rattle.plan_core.specs.declared.sink.BufferPlan.{BufferPlan}
 use Rattle.plan_core.specs.Plans.{crossfades_from, crossfade_counts, with_node, with_buffer}
-use Rattle.script_values.specs.declared.fault.Fault.{Fault}
-use Rattle.script_values.specs.declared.fault.Fault.TheVariants.{TooManySources, TooLarge}
+use Rattle.script_values.specs.declared.fault.Stop.{Stop}
+use Rattle.script_values.specs.declared.fault.Stop.TheVariants.{TooManySources, TooLarge}
 use Rattle.script_values.specs.declared.fault.Limit.{Limit}
 use Rattle.script_values.specs.declared.fault.Limit.TheVariants.{Children, Crossfades}
 use Rattle.script_values.specs.declared.machine.Machine.{Machine}
@@ -15,7 +15,7 @@ use Rattle.script_values.specs.Outcomes.{◌>>=◌, Outcome}
 use Rattle.script_values.specs.Values.{Source}
 
 -- a number within a limit
-abbrev pub at_most : ℕ → Limit → ℕ → Result ℕ Fault
+abbrev pub at_most : ℕ → Limit → ℕ → Result ℕ Stop
 at_most most limit n =
     elim (nat_le n most) [
       | true ↦ Ok n
@@ -23,7 +23,7 @@ at_most most limit n =
     ]
 
 -- a list gives a node at most 65535 children
-abbrev pub few : List ℕ → Result (List ℕ) Fault
+abbrev pub few : List ℕ → Result (List ℕ) Stop
 few children =
     elim (nat_le (length children) MAX_CHILDREN) [
       | true ↦ Ok children
@@ -36,7 +36,7 @@ crossfades_with child plan = 1 + slice_index (crossfade_counts plan.nodes) child
 
 -- A node behind the others, and its number. No path down from it may have more than 4 crossfades: only a crossfade can
 -- come to that.
-unfoldable pub push : Node → Machine → Result (ℕ × Machine) Fault
+unfoldable pub push : Node → Machine → Result (ℕ × Machine) Stop
 push node m = do
   crossfades ← at_most MAX_CROSSFADES Crossfades (crossfades_from m.plan.nodes node)
   elim (nat_le MAX_NODES (length m.plan.nodes)) [

@@ -6,46 +6,51 @@ use Rattle.fixed_text.specs.declared.decimal.Decimal.{Decimal}
 use Rattle.time_pred.specs.Predicates.{Predicate}
 use Rattle.plan_core.specs.declared.node.Node.{Node}
 use Rattle.typing_rules.specs.Arguments.{argument}
-use Rattle.script_values.specs.declared.fault.Fault.{Fault}
-use Rattle.script_values.specs.declared.fault.Fault.TheVariants.{Stuck}
+use Rattle.script_values.specs.declared.fault.Stop.{Stop}
+use Rattle.script_values.specs.declared.fault.Stop.TheVariants.{Stuck}
 use Rattle.script_values.specs.Outcomes.{◌>>=◌}
 use Rattle.script_values.specs.Slots.{Argument}
-use Rattle.script_values.specs.Values.{ValueTree, ManyValues, no_values, more_values, Value, Int, Number, Text, TruthValue, FormatValue, Pred, Source, ListValue, TupleValue}
+use Rattle.script_values.specs.Values.{ValueTree, ManyValues, no_values, more_values, Value, Int, Number, TextValue, TruthValue, FormatValue, PredValue, Source, ListValue, TupleValue}
 
 -- the kind of a call with one open kind
-abbrev pub one_kind : List Kind → Result Kind Fault
+abbrev pub one_kind : List Kind → Result Kind Stop
 one_kind [] = Err Stuck
 one_kind (k ∷ ks) = Ok k
 
 -- values of one type
-unfoldable pub as_text : Value → Result (List ℕ) Fault
-as_text (Text t) = Ok t
+unfoldable pub as_text : Value → Result (List ℕ) Stop
+as_text (TextValue t) = Ok t
 as_text v = Err Stuck
 
-unfoldable pub as_decimal : Value → Result Decimal Fault
+-- a decimal, as the typing says
+unfoldable pub as_decimal : Value → Result Decimal Stop
 as_decimal (Number d) = Ok d
 as_decimal v = Err Stuck
 
-unfoldable pub as_int : Value → Result ℤ Fault
+-- an int, as the typing says
+unfoldable pub as_int : Value → Result ℤ Stop
 as_int (Int n) = Ok n
 as_int v = Err Stuck
 
-unfoldable pub as_bool : Value → Result Bool Fault
+-- a bool, as the typing says
+unfoldable pub as_bool : Value → Result Bool Stop
 as_bool (TruthValue b) = Ok b
 as_bool v = Err Stuck
 
 -- whether the samples of a format are wide
-unfoldable pub as_format : Value → Result Bool Fault
+unfoldable pub as_format : Value → Result Bool Stop
 as_format (FormatValue wide) = Ok wide
 as_format v = Err Stuck
 
+-- the kinds are the same
 abbrev pub is_kind : Kind → Kind → Bool
 is_kind Mono Mono = true
 is_kind Mono Stereo = false
 is_kind Stereo Mono = false
 is_kind Stereo Stereo = true
 
-abbrev pub of_kind : Kind → ℕ → Option Node → Result ℕ Fault
+-- the number of a node that is there and of this kind
+abbrev pub of_kind : Kind → ℕ → Option Node → Result ℕ Stop
 of_kind k n None = Err Stuck
 of_kind k n (Some node) =
     elim (is_kind k node.kind) [
@@ -54,103 +59,118 @@ of_kind k n (Some node) =
     ]
 
 -- a source of this kind, by the number of its node
-unfoldable pub source_of : List Node → Kind → Value → Result ℕ Fault
+unfoldable pub source_of : List Node → Kind → Value → Result ℕ Stop
 source_of nodes k (Source n) = of_kind k n (slice_get nodes n)
 source_of nodes k v = Err Stuck
 
 -- the sources of a list, behind these
-unfoldable pub nodes_from : List Node → Kind → ValueTree ManyValues → List ℕ → Result (List ℕ) Fault
+unfoldable pub nodes_from : List Node → Kind → ValueTree ManyValues → List ℕ → Result (List ℕ) Stop
 nodes_from nodes k no_values ns = Ok ns
 nodes_from nodes k (more_values v vs) ns = source_of nodes k v >>= λ n. nodes_from nodes k vs (ns ++ n ∷ [])
 
-unfoldable pub sources_of : List Node → Kind → Value → Result (List ℕ) Fault
+-- the nodes of a list of sources
+unfoldable pub sources_of : List Node → Kind → Value → Result (List ℕ) Stop
 sources_of nodes k (ListValue vs) = nodes_from nodes k vs []
 sources_of nodes k v = Err Stuck
 
-unfoldable pub pred_of : Value → Result Predicate Fault
-pred_of (Pred p) = Ok p
+-- a predicate, as the typing says
+unfoldable pub pred_of : Value → Result Predicate Stop
+pred_of (PredValue p) = Ok p
 pred_of v = Err Stuck
 
 -- a tuple of a predicate and the source that it stands for
-unfoldable pub pair_in : List Node → Kind → ValueTree ManyValues → Result (Predicate × ℕ) Fault
+unfoldable pub pair_in : List Node → Kind → ValueTree ManyValues → Result (Predicate × ℕ) Stop
 pair_in nodes k no_values = Err Stuck
 pair_in nodes k (more_values v no_values) = Err Stuck
 pair_in nodes k (more_values v (more_values w no_values)) = pred_of v >>= λ p. source_of nodes k w >>= λ n. Ok (p, n)
 pair_in nodes k (more_values v (more_values w (more_values x rest))) = Err Stuck
 
-unfoldable pub case_of : List Node → Kind → Value → Result (Predicate × ℕ) Fault
+-- a case of a switch: its predicate and its source
+unfoldable pub case_of : List Node → Kind → Value → Result (Predicate × ℕ) Stop
 case_of nodes k (TupleValue vs) = pair_in nodes k vs
 case_of nodes k v = Err Stuck
 
 -- the predicates and the sources of a list, behind these
 unfoldable pub pairs_from : List Node → Kind → ValueTree ManyValues → List Predicate → List ℕ
-    → Result (List Predicate × List ℕ) Fault
+    → Result (List Predicate × List ℕ) Stop
 pairs_from nodes k no_values ps ns = Ok (ps, ns)
 pairs_from nodes k (more_values v vs) ps ns = case_of nodes k v >>= λ x. pairs_from nodes k vs (ps ++ x.0 ∷ []) (ns
     ++ x.1 ∷ [])
 
-unfoldable pub pairs_of : List Node → Kind → Value → Result (List Predicate × List ℕ) Fault
+-- the cases of a switch: all predicates, and all sources
+unfoldable pub pairs_of : List Node → Kind → Value → Result (List Predicate × List ℕ) Stop
 pairs_of nodes k (ListValue vs) = pairs_from nodes k vs [] []
 pairs_of nodes k v = Err Stuck
 
 -- the value of a plain parameter, and the other arguments
-abbrev pub needed : Option (Value × List Argument) → Result (Value × List Argument) Fault
+abbrev pub needed : Option (Value × List Argument) → Result (Value × List Argument) Stop
 needed None = Err Stuck
 needed (Some x) = Ok x
 
-unfoldable pub plain_argument : List Argument → Result (Value × List Argument) Fault
+-- the first argument without a label, and the others
+unfoldable pub plain_argument : List Argument → Result (Value × List Argument) Stop
 plain_argument given = needed (argument None given)
 
-unfoldable pub plain_text : List Argument → Result (List ℕ × List Argument) Fault
+-- the first argument without a label, which is a text
+unfoldable pub plain_text : List Argument → Result (List ℕ × List Argument) Stop
 plain_text given = do
   x ← plain_argument given
   text ← as_text x.0
   Ok (text, x.1)
 
-unfoldable pub plain_decimal : List Argument → Result (Decimal × List Argument) Fault
+-- the first argument without a label, which is a decimal
+unfoldable pub plain_decimal : List Argument → Result (Decimal × List Argument) Stop
 plain_decimal given = do
   x ← plain_argument given
   number ← as_decimal x.0
   Ok (number, x.1)
 
-unfoldable pub plain_format : List Argument → Result (Bool × List Argument) Fault
+-- the first argument without a label, which is a format; true for 24 bits
+unfoldable pub plain_format : List Argument → Result (Bool × List Argument) Stop
 plain_format given = do
   x ← plain_argument given
   wide ← as_format x.0
   Ok (wide, x.1)
 
-unfoldable pub plain_source : List Node → Kind → List Argument → Result (ℕ × List Argument) Fault
+-- the first argument without a label, which is a source of this kind
+unfoldable pub plain_source : List Node → Kind → List Argument → Result (ℕ × List Argument) Stop
 plain_source nodes k given = do
   x ← plain_argument given
   source ← source_of nodes k x.0
   Ok (source, x.1)
 
-unfoldable pub plain_sources : List Node → Kind → List Argument → Result (List ℕ × List Argument) Fault
+-- the first argument without a label, which is a list of sources of this kind
+unfoldable pub plain_sources : List Node → Kind → List Argument → Result (List ℕ × List Argument) Stop
 plain_sources nodes k given = do
   x ← plain_argument given
   sources ← sources_of nodes k x.0
   Ok (sources, x.1)
 
-unfoldable pub plain_pairs : List Node → Kind → List Argument → Result ((List Predicate × List ℕ) × List Argument) Fault
+-- the first argument without a label, which is a list of cases with sources of this kind
+unfoldable pub plain_pairs : List Node → Kind → List Argument → Result ((List Predicate × List ℕ) × List Argument) Stop
 plain_pairs nodes k given = do
   x ← plain_argument given
   pairs ← pairs_of nodes k x.0
   Ok (pairs, x.1)
 
 -- the value of a labelled parameter, or its default, and the other arguments
-abbrev pub or_default : {A : Type 0} → (Value → Result A Fault) → A → List Argument → Option (Value × List Argument)
-    → Result (A × List Argument) Fault
+abbrev pub or_default : {A : Type 0} → (Value → Result A Stop) → A → List Argument → Option (Value × List Argument)
+    → Result (A × List Argument) Stop
 or_default read default given None = Ok (default, given)
 or_default read default given (Some x) = read x.0 >>= λ a. Ok (a, x.1)
 
-unfoldable pub bool_or : List ℕ → Bool → List Argument → Result (Bool × List Argument) Fault
+-- the bool with this label, or its default
+unfoldable pub bool_or : List ℕ → Bool → List Argument → Result (Bool × List Argument) Stop
 bool_or label default given = or_default as_bool default given (argument (Some label) given)
 
-unfoldable pub decimal_or : List ℕ → Decimal → List Argument → Result (Decimal × List Argument) Fault
+-- the decimal with this label, or its default
+unfoldable pub decimal_or : List ℕ → Decimal → List Argument → Result (Decimal × List Argument) Stop
 decimal_or label default given = or_default as_decimal default given (argument (Some label) given)
 
-unfoldable pub int_or : List ℕ → ℤ → List Argument → Result (ℤ × List Argument) Fault
+-- the int with this label, or its default
+unfoldable pub int_or : List ℕ → ℤ → List Argument → Result (ℤ × List Argument) Stop
 int_or label default given = or_default as_int default given (argument (Some label) given)
 
-unfoldable pub text_or : List ℕ → List ℕ → List Argument → Result (List ℕ × List Argument) Fault
+-- the text with this label, or its default
+unfoldable pub text_or : List ℕ → List ℕ → List Argument → Result (List ℕ × List Argument) Stop
 text_or label default given = or_default as_text default given (argument (Some label) given)

@@ -5,12 +5,13 @@ use Rattle.liq_base.specs.declared.limits.TheConstants.{MAX_OUTPUTS}
 use Rattle.plan_core.specs.declared.sink.SinkPlan.{SinkPlan}
 use Rattle.plan_core.specs.declared.sink.SinkPlan.TheVariants.{Output, Feed}
 use Rattle.plan_core.specs.Plans.{is_output, with_output}
-use Rattle.script_values.specs.declared.fault.Fault.TheVariants.{SameOutput, TooLarge}
+use Rattle.script_values.specs.declared.fault.Stop.TheVariants.{SameOutput, TooLarge}
 use Rattle.script_values.specs.declared.fault.Limit.TheVariants.{Outputs}
 use Rattle.script_values.specs.declared.machine.Machine.{Machine}
 use Rattle.script_values.specs.Outcomes.{Outcome}
 use Rattle.script_values.specs.Values.{UnitValue}
 
+-- the sink is an output of this name
 abbrev pub is_named : List ℕ → SinkPlan → Bool
 is_named name (Output other node fallible wide) = bytes_eq name other
 is_named name (Feed buffer node) = false

@@ -2,11 +2,11 @@
 use Rattle.std.specs.Prelude.{ℕ, ◌/◌, max, pos, int_le, int_lt, nat_eq, true, false, Result, Ok, Err}
 use Rattle.fixed_text.specs.declared.decimal.Decimal.{Decimal}
 use Rattle.fixed_text.specs.Texts.{samples_in}
-use Rattle.script_values.specs.declared.fault.Fault.{Fault}
-use Rattle.script_values.specs.declared.fault.Fault.TheVariants.{BadValue}
+use Rattle.script_values.specs.declared.fault.Stop.{Stop}
+use Rattle.script_values.specs.declared.fault.Stop.TheVariants.{BadValue}
 
 -- at least one sample
-abbrev pub some_samples : ℕ → ℕ → Result ℕ Fault
+abbrev pub some_samples : ℕ → ℕ → Result ℕ Stop
 some_samples at n =
     elim (nat_eq n 0) [
       | true ↦ Err (BadValue at)
@@ -14,7 +14,7 @@ some_samples at n =
     ]
 
 -- the samples of a time above zero, of which there must be one
-unfoldable pub overlap_samples : ℕ → ℕ → Decimal → Result ℕ Fault
+unfoldable pub overlap_samples : ℕ → ℕ → Decimal → Result ℕ Stop
 overlap_samples at rate d =
     elim (int_le d.millionths (pos 0)) [
       | true ↦ Err (BadValue at)
@@ -22,7 +22,7 @@ overlap_samples at rate d =
     ]
 
 -- the same of a track, where a time that is not above zero makes one endless track
-unfoldable pub track_of : ℕ → ℕ → Decimal → Result ℕ Fault
+unfoldable pub track_of : ℕ → ℕ → Decimal → Result ℕ Stop
 track_of at rate d =
     elim (int_le d.millionths (pos 0)) [
       | true ↦ Ok 0
@@ -30,7 +30,7 @@ track_of at rate d =
     ]
 
 -- the samples of a time that is not below zero
-unfoldable pub samples_of : ℕ → ℕ → Decimal → Result ℕ Fault
+unfoldable pub samples_of : ℕ → ℕ → Decimal → Result ℕ Stop
 samples_of at rate d =
     elim (int_lt d.millionths (pos 0)) [
       | true ↦ Err (BadValue at)
@@ -38,7 +38,7 @@ samples_of at rate d =
     ]
 
 -- a pitch above zero
-unfoldable pub pitch_of : ℕ → Decimal → Result Decimal Fault
+unfoldable pub pitch_of : ℕ → Decimal → Result Decimal Stop
 pitch_of at d =
     elim (int_le d.millionths (pos 0)) [
       | true ↦ Err (BadValue at)

@@ -12,7 +12,7 @@ use crate::settings::set;
 use crate::single_source::{amplify, buffer, clock, crossfade, mean, mksafe, stereo};
 use liq_base::Kind;
 use plan_core::Op;
-use script_values::{Fault, Given, Machine, Value};
+use script_values::{Given, Machine, Stop, Value};
 use std::alloc::Global;
 use typing_rules::Builtin;
 
@@ -25,7 +25,7 @@ pub fn builtin(
     kinds: &[Kind],
     given: Vec<Given>,
     machine: &mut Machine,
-) -> Result<Value, Fault>
+) -> Result<Value, Stop>
     ensures { Gives (λ v. (view_value v, machine.new)) result
         (builtin name at kinds.now (map view_given given.items) machine.old) }
 {
@@ -42,13 +42,13 @@ fn call(
     kinds: &[Kind],
     given: &mut Vec<Given>,
     machine: &mut Machine,
-) -> Result<Value, Fault>
+) -> Result<Value, Stop>
     ensures { Gives (λ v. (view_value v, machine.new)) result
         (builtin name at kinds.now (map view_given given.old.items) machine.old) }
 {
     match name {
-        Builtin::OutputFile => output_file(kinds, given, machine),
-        Builtin::Set => set(given, machine),
+        Builtin::OutputFile => output_file(alloc, kinds, given, machine),
+        Builtin::Set => set(alloc, given, machine),
         Builtin::Single => single(alloc, kinds, given, machine),
         Builtin::Playlist => playlist(alloc, at, kinds, given, machine),
         Builtin::Blank => blank(alloc, at, kinds, given, machine),

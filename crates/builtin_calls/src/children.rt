@@ -1,7 +1,7 @@
 // The builtins over a list of sources: `fallback`, `switch`, `sequence`, `rotate`, `random` and `add`.
 ghost use Rattle.std.specs.Prelude.{◌≡◌, ◌<◌, ◌≤◌, All, IfOk, length, map};
 ghost use Rattle.liq_base.specs.declared.limits.TheConstants.{MAX_CHILDREN};
-ghost use Rattle.time_pred.specs.View.{view_pred};
+ghost use Rattle.time_pred.specs.View.{view_shared};
 ghost use Rattle.script_values.specs.Gives.{Gives};
 ghost use Rattle.script_values.specs.View.{view_value};
 ghost use Rattle.script_values.specs.Views.{view_given};
@@ -12,7 +12,7 @@ use crate::parts::{bool_or, int_or, one_kind};
 use crate::sources::{Pairs, plain_pairs, plain_sources};
 use liq_base::Kind;
 use plan_core::{Draft, Items, Op, Preds};
-use script_values::{Fault, Given, Machine, Value};
+use script_values::{Given, Machine, Stop, Value};
 use std::alloc::Global;
 
 /// `fallback(track_sensitive=true, sources)`.
@@ -22,7 +22,7 @@ pub(crate) fn fallback(
     kinds: &[Kind],
     given: &mut Vec<Given>,
     machine: &mut Machine,
-) -> Result<Value, Fault>
+) -> Result<Value, Stop>
     ensures { Gives (λ v. (view_value v, machine.new)) result
         (fallback kinds.now (map view_given given.old.items) machine.old) }
 {
@@ -37,7 +37,7 @@ pub(crate) fn switch(
     kinds: &[Kind],
     given: &mut Vec<Given>,
     machine: &mut Machine,
-) -> Result<Value, Fault>
+) -> Result<Value, Stop>
     ensures { Gives (λ v. (view_value v, machine.new)) result
         (switch kinds.now (map view_given given.old.items) machine.old) }
 {
@@ -61,7 +61,7 @@ pub(crate) fn random(
     kinds: &[Kind],
     given: &mut Vec<Given>,
     machine: &mut Machine,
-) -> Result<Value, Fault>
+) -> Result<Value, Stop>
     ensures { Gives (λ v. (view_value v, machine.new)) result
         (random at kinds.now (map view_given given.old.items) machine.old) }
 {
@@ -80,7 +80,7 @@ pub(crate) fn sum(
     kinds: &[Kind],
     given: &mut Vec<Given>,
     machine: &mut Machine,
-) -> Result<Value, Fault>
+) -> Result<Value, Stop>
     ensures { Gives (λ v. (view_value v, machine.new)) result
         (add_sources kinds.now (map view_given given.old.items) machine.old) }
 {
@@ -96,7 +96,7 @@ pub(crate) fn over_sources(
     kinds: &[Kind],
     given: &mut Vec<Given>,
     machine: &mut Machine,
-) -> Result<Value, Fault>
+) -> Result<Value, Stop>
     ensures { Gives (λ v. (view_value v, machine.new)) result
         (over_sources op kinds.now (map view_given given.old.items) machine.old) }
 {
@@ -106,11 +106,11 @@ pub(crate) fn over_sources(
 }
 
 // A seed, which is not below zero.
-fn seed_of(at: u32, number: i64) -> Result<u64, Fault>
+fn seed_of(at: u32, number: i64) -> Result<u64, Stop>
     ensures { Gives (λ n. n) result (seed_of at number) }
 {
     if number < 0 {
-        return Err(Fault::BadValue(at));
+        return Err(Stop::BadValue(at));
     }
     Ok(number as u64)
 }
@@ -122,7 +122,7 @@ fn few_sources(
     plan: &Draft,
     kind: Kind,
     given: &mut Vec<Given>,
-) -> Result<Vec<u32>, Fault>
+) -> Result<Vec<u32>, Stop>
     ensures given { Gives (λ ns. ns.items) result (few_sources plan.now.nodes kind (map view_given given.old.items)) }
     ensures there { IfOk result (λ ns. All (λ n. n < length plan.now.nodes) ns.items) }
     ensures short { IfOk result (λ ns. length ns.items ≤ MAX_CHILDREN) }
@@ -134,13 +134,8 @@ fn few_sources(
 
 // The next plain parameter, a list of predicates and sources, not too many of them.
 #[tactic(auto, unfolding(crate::specs::Builtins::few_pairs))]
-fn few_pairs(
-    alloc: Global,
-    plan: &Draft,
-    kind: Kind,
-    given: &mut Vec<Given>,
-) -> Result<Pairs, Fault>
-    ensures given { Gives (λ ps. (map view_pred ps.preds.items, ps.sources.items)) result
+fn few_pairs(alloc: Global, plan: &Draft, kind: Kind, given: &mut Vec<Given>) -> Result<Pairs, Stop>
+    ensures given { Gives (λ ps. (map view_shared ps.preds.items, ps.sources.items)) result
         (few_pairs plan.now.nodes kind (map view_given given.old.items)) }
     ensures there { IfOk result (λ ps. All (λ n. n < length plan.now.nodes) ps.sources.items) }
     ensures short { IfOk result (λ ps. length ps.sources.items ≤ MAX_CHILDREN) }
@@ -152,7 +147,7 @@ fn few_pairs(
 
 // Whether a child plays on to the end of its track.
 #[tactic(auto, unfolding(crate::specs::Builtins::sensitive_or))]
-fn sensitive_or(given: &mut Vec<Given>) -> Result<bool, Fault>
+fn sensitive_or(given: &mut Vec<Given>) -> Result<bool, Stop>
     ensures { Gives (λ b. (b, map view_given given.new.items)) result (sensitive_or (map view_given given.old.items)) }
 {
     bool_or(given, "track_sensitive", true)

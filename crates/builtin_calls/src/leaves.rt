@@ -10,7 +10,7 @@ use crate::parts::{bool_or, decimal_or, one_kind, plain_decimal, plain_text, tex
 use crate::times::{no_time, pitch_of, track_of};
 use liq_base::{Kind, Text};
 use plan_core::{Items, Op};
-use script_values::{Fault, Given, Machine, Value};
+use script_values::{Given, Machine, Stop, Value};
 use std::alloc::Global;
 
 /// `single(file)`.
@@ -20,11 +20,11 @@ pub(crate) fn single(
     kinds: &[Kind],
     given: &mut Vec<Given>,
     machine: &mut Machine,
-) -> Result<Value, Fault>
+) -> Result<Value, Stop>
     ensures { Gives (λ v. (view_value v, machine.new)) result
         (single kinds.now (map view_given given.old.items) machine.old) }
 {
-    let file = plain_text(given)?;
+    let file = plain_text(alloc, given)?;
     let kind = one_kind(kinds)?;
     add(machine, Op::Single(file), kind, Items::new(alloc))
 }
@@ -37,14 +37,14 @@ pub(crate) fn playlist(
     kinds: &[Kind],
     given: &mut Vec<Given>,
     machine: &mut Machine,
-) -> Result<Value, Fault>
+) -> Result<Value, Stop>
     ensures { Gives (λ v. (view_value v, machine.new)) result
         (playlist at kinds.now (map view_given given.old.items) machine.old) }
 {
     let again = bool_or(given, "loop", true)?;
     let normal = Text::from_str(alloc, "normal")?;
-    let mode = text_or(given, "mode", normal)?;
-    let file = plain_text(given)?;
+    let mode = text_or(alloc, given, "mode", normal)?;
+    let file = plain_text(alloc, given)?;
     let kind = one_kind(kinds)?;
     is_normal(at, mode.as_str())?;
     add(
@@ -63,7 +63,7 @@ pub(crate) fn blank(
     kinds: &[Kind],
     given: &mut Vec<Given>,
     machine: &mut Machine,
-) -> Result<Value, Fault>
+) -> Result<Value, Stop>
     ensures { Gives (λ v. (view_value v, machine.new)) result
         (blank at kinds.now (map view_given given.old.items) machine.old) }
 {
@@ -81,7 +81,7 @@ pub(crate) fn square(
     kinds: &[Kind],
     given: &mut Vec<Given>,
     machine: &mut Machine,
-) -> Result<Value, Fault>
+) -> Result<Value, Stop>
     ensures { Gives (λ v. (view_value v, machine.new)) result
         (square at kinds.now (map view_given given.old.items) machine.old) }
 {
@@ -93,7 +93,7 @@ pub(crate) fn square(
 
 /// `fail()`.
 #[tactic(auto, unfolding(crate::specs::Builtins::fail))]
-pub(crate) fn fail(alloc: Global, kinds: &[Kind], machine: &mut Machine) -> Result<Value, Fault>
+pub(crate) fn fail(alloc: Global, kinds: &[Kind], machine: &mut Machine) -> Result<Value, Stop>
     ensures { Gives (λ v. (view_value v, machine.new)) result (fail kinds.now machine.old) }
 {
     let kind = one_kind(kinds)?;
@@ -101,11 +101,11 @@ pub(crate) fn fail(alloc: Global, kinds: &[Kind], machine: &mut Machine) -> Resu
 }
 
 // The one mode of a playlist.
-fn is_normal(at: u32, mode: &str) -> Result<(), Fault>
+fn is_normal(at: u32, mode: &str) -> Result<(), Stop>
     ensures { Gives (λ _. tt) result (is_normal at mode.now) }
 {
     if mode == "normal" {
         return Ok(());
     }
-    Err(Fault::BadValue(at))
+    Err(Stop::BadValue(at))
 }

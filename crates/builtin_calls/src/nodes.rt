@@ -9,44 +9,44 @@ ghost use Rattle.builtin_calls.specs.Nodes.{add, add_buffer, at_most, crossfades
 use liq_base::limits::{MAX_CHILDREN, MAX_CROSSFADES};
 use liq_base::{Kind, Memory};
 use plan_core::{BufferPlan, Draft, Items, Node, Op, PlanFault};
-use script_values::{Fault, Limit, Machine, Value};
+use script_values::{Limit, Machine, Stop, Value};
 use std::alloc::Global;
 
 /// A number within a limit.
-pub(crate) fn at_most(most: u32, limit: Limit, number: u64) -> Result<u32, Fault>
+pub(crate) fn at_most(most: u32, limit: Limit, number: u64) -> Result<u32, Stop>
     ensures { Gives (λ n. n) result (at_most most limit number) }
 {
     if number > u64::from(most) {
-        return Err(Fault::TooLarge(limit));
+        return Err(Stop::TooLarge(limit));
     }
     Ok(number as u32)
 }
 
 /// A list gives a node at most 65535 children.
-pub(crate) fn few(children: &[u32]) -> Result<(), Fault>
+pub(crate) fn few(children: &[u32]) -> Result<(), Stop>
     ensures given { Gives (λ _. children.now) result (few children.now) }
     ensures short { OnOk result (length children.now ≤ MAX_CHILDREN) }
 {
     if children.len() > MAX_CHILDREN as usize {
-        return Err(Fault::TooLarge(Limit::Children));
+        return Err(Stop::TooLarge(Limit::Children));
     }
     Ok(())
 }
 
 /// One crossfade more may stand over this node.
-pub(crate) fn room_over(plan: &Draft, child: u32) -> Result<(), Fault>
+pub(crate) fn room_over(plan: &Draft, child: u32) -> Result<(), Stop>
     ensures { Gives (λ _. crossfades_with child plan.now) result
         (at_most MAX_CROSSFADES Limit.Crossfades (crossfades_with child plan.now)) }
 {
     if plan.crossfades_of(child) >= MAX_CROSSFADES {
-        return Err(Fault::TooLarge(Limit::Crossfades));
+        return Err(Stop::TooLarge(Limit::Crossfades));
     }
     Ok(())
 }
 
 /// Adds a node behind the others, and answers its number.
 #[tactic(auto, unfolding(crate::specs::Nodes::push))]
-pub(crate) fn push(machine: &mut Machine, node: Node) -> Result<u32, Fault>
+pub(crate) fn push(machine: &mut Machine, node: Node) -> Result<u32, Stop>
     requires children { All (λ child. child < length machine.old.plan.nodes) node.children }
     requires few { length node.children ≤ MAX_CHILDREN }
     ensures given { Gives (λ n. (n, machine.new)) result (push node machine.old) }
@@ -54,12 +54,12 @@ pub(crate) fn push(machine: &mut Machine, node: Node) -> Result<u32, Fault>
     ensures longer { OnOk result (length machine.new.plan.nodes ≡ length machine.old.plan.nodes + 1) }
 {
     if machine.plan.crossfades_from(&node) > MAX_CROSSFADES {
-        return Err(Fault::TooLarge(Limit::Crossfades));
+        return Err(Stop::TooLarge(Limit::Crossfades));
     }
     match machine.plan.push_node(node) {
         Ok(number) => Ok(number),
-        Err(PlanFault::TooManySources) => Err(Fault::TooManySources),
-        Err(PlanFault::Memory) => Err(Fault::Memory),
+        Err(PlanFault::TooManySources) => Err(Stop::TooManySources),
+        Err(PlanFault::Memory) => Err(Stop::Memory),
     }
 }
 
@@ -70,7 +70,7 @@ pub(crate) fn add(
     op: Op,
     kind: Kind,
     children: Items<u32>,
-) -> Result<Value, Fault>
+) -> Result<Value, Stop>
     requires children { All (λ child. child < length machine.old.plan.nodes) children }
     requires few { length children ≤ MAX_CHILDREN }
     ensures { Gives (λ v. (view_value v, machine.new)) result (add (record {
@@ -91,13 +91,13 @@ pub(crate) fn add_buffer(
     source: u32,
     kind: Kind,
     buffer: BufferPlan,
-) -> Result<Value, Fault>
+) -> Result<Value, Stop>
     ensures { Gives (λ v. (view_value v, machine.new)) result (add_buffer source kind buffer machine.old) }
 {
     match machine.plan.push_buffer(alloc, source, kind, buffer) {
         Ok(number) => Ok(Value::Source(number)),
-        Err(PlanFault::TooManySources) => Err(Fault::TooManySources),
-        Err(PlanFault::Memory) => Err(Fault::Memory),
+        Err(PlanFault::TooManySources) => Err(Stop::TooManySources),
+        Err(PlanFault::Memory) => Err(Stop::Memory),
     }
 }
 

@@ -13,21 +13,23 @@ use crate::sources::plain_source;
 use liq_base::limits::MAX_OUTPUTS;
 use liq_base::{Kind, Text};
 use plan_core::SinkPlan;
-use script_values::{Fault, Given, Limit, Machine, Value};
+use script_values::{Given, Limit, Machine, Stop, Value};
+use std::alloc::Global;
 
 /// `output.file(fallible=false, format, name, s)`.
 #[tactic(auto, unfolding(crate::specs::Builtins::output_file))]
 pub(crate) fn output_file(
+    alloc: Global,
     kinds: &[Kind],
     given: &mut Vec<Given>,
     machine: &mut Machine,
-) -> Result<Value, Fault>
+) -> Result<Value, Stop>
     ensures { Gives (λ v. (view_value v, machine.new)) result
         (output_file kinds.now (map view_given given.old.items) machine.old) }
 {
     let fallible = bool_or(given, "fallible", false)?;
     let wide = plain_format(given)?;
-    let name = plain_text(given)?;
+    let name = plain_text(alloc, given)?;
     let kind = one_kind(kinds)?;
     let source = plain_source(&machine.plan, kind, given)?;
     add_output(machine, name, source, fallible, wide)
@@ -75,14 +77,14 @@ fn add_output(
     node: u32,
     fallible: bool,
     wide: bool,
-) -> Result<Value, Fault>
+) -> Result<Value, Stop>
     ensures { Gives (λ v. (view_value v, machine.new)) result (add_output name node fallible wide machine.old) }
 {
     if has_name(name.as_str(), machine.plan.plan().sinks.as_slice()) {
-        return Err(Fault::SameOutput(name));
+        return Err(Stop::SameOutput(name));
     }
     if outputs(machine.plan.plan().sinks.as_slice()) >= MAX_OUTPUTS as usize {
-        return Err(Fault::TooLarge(Limit::Outputs));
+        return Err(Stop::TooLarge(Limit::Outputs));
     }
     machine.plan.push_output(name, node, fallible, wide)?;
     Ok(Value::Nothing)

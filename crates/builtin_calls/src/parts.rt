@@ -7,43 +7,44 @@ ghost use Rattle.builtin_calls.specs.Parts.{as_bool, bool_or, as_decimal, decima
 
 use fixed_text::Decimal;
 use liq_base::{Kind, Text};
-use script_values::{Fault, Given, Value, argument};
+use script_values::{Given, Stop, Value, argument};
+use std::alloc::Global;
 
 /// The kind of a call with one open kind.
-pub(crate) fn one_kind(kinds: &[Kind]) -> Result<Kind, Fault>
+pub(crate) fn one_kind(kinds: &[Kind]) -> Result<Kind, Stop>
     ensures { Gives (λ k. k) result (one_kind kinds.now) }
 {
     match kinds {
-        [] => Err(Fault::Stuck),
+        [] => Err(Stop::Stuck),
         [kind, ..] => Ok(*kind),
     }
 }
 
 /// The value of the next plain parameter.
 #[tactic(auto, unfolding(crate::specs::Parts::plain_argument))]
-pub(crate) fn plain(given: &mut Vec<Given>) -> Result<Value, Fault>
+pub(crate) fn plain(given: &mut Vec<Given>) -> Result<Value, Stop>
     ensures { Gives (λ v. (view_value v, map view_given given.new.items)) result
         (plain_argument (map view_given given.old.items)) }
 {
     match argument(given, None) {
-        None => Err(Fault::Stuck),
+        None => Err(Stop::Stuck),
         Some(value) => Ok(value),
     }
 }
 
 /// The next plain parameter, a text.
 #[tactic(auto, unfolding(crate::specs::Parts::plain_text))]
-pub(crate) fn plain_text(given: &mut Vec<Given>) -> Result<Text, Fault>
+pub(crate) fn plain_text(alloc: Global, given: &mut Vec<Given>) -> Result<Text, Stop>
     ensures { Gives (λ t. (t, map view_given given.new.items)) result (plain_text (map view_given given.old.items)) }
 {
     let value = plain(given)?;
-    let text = as_text(value)?;
+    let text = as_text(alloc, value)?;
     Ok(text)
 }
 
 /// The next plain parameter, a decimal.
 #[tactic(auto, unfolding(crate::specs::Parts::plain_decimal))]
-pub(crate) fn plain_decimal(given: &mut Vec<Given>) -> Result<Decimal, Fault>
+pub(crate) fn plain_decimal(given: &mut Vec<Given>) -> Result<Decimal, Stop>
     ensures { Gives (λ d. (d, map view_given given.new.items)) result (plain_decimal (map view_given given.old.items)) }
 {
     let value = plain(given)?;
@@ -53,7 +54,7 @@ pub(crate) fn plain_decimal(given: &mut Vec<Given>) -> Result<Decimal, Fault>
 
 /// The next plain parameter, a format: whether its samples are wide.
 #[tactic(auto, unfolding(crate::specs::Parts::plain_format))]
-pub(crate) fn plain_format(given: &mut Vec<Given>) -> Result<bool, Fault>
+pub(crate) fn plain_format(given: &mut Vec<Given>) -> Result<bool, Stop>
     ensures { Gives (λ w. (w, map view_given given.new.items)) result (plain_format (map view_given given.old.items)) }
 {
     let value = plain(given)?;
@@ -63,7 +64,7 @@ pub(crate) fn plain_format(given: &mut Vec<Given>) -> Result<bool, Fault>
 
 /// A labelled bool, or its default.
 #[tactic(auto, unfolding(crate::specs::Parts::bool_or))]
-pub(crate) fn bool_or(given: &mut Vec<Given>, label: &str, default: bool) -> Result<bool, Fault>
+pub(crate) fn bool_or(given: &mut Vec<Given>, label: &str, default: bool) -> Result<bool, Stop>
     ensures { Gives (λ b. (b, map view_given given.new.items)) result
         (bool_or label.now default (map view_given given.old.items)) }
 {
@@ -82,7 +83,7 @@ pub(crate) fn decimal_or(
     given: &mut Vec<Given>,
     label: &str,
     default: Decimal,
-) -> Result<Decimal, Fault>
+) -> Result<Decimal, Stop>
     ensures { Gives (λ d. (d, map view_given given.new.items)) result
         (decimal_or label.now default (map view_given given.old.items)) }
 {
@@ -97,7 +98,7 @@ pub(crate) fn decimal_or(
 
 /// A labelled int, or its default.
 #[tactic(auto, unfolding(crate::specs::Parts::int_or))]
-pub(crate) fn int_or(given: &mut Vec<Given>, label: &str, default: i64) -> Result<i64, Fault>
+pub(crate) fn int_or(given: &mut Vec<Given>, label: &str, default: i64) -> Result<i64, Stop>
     ensures { Gives (λ n. (n, map view_given given.new.items)) result
         (int_or label.now default (map view_given given.old.items)) }
 {
@@ -112,65 +113,70 @@ pub(crate) fn int_or(given: &mut Vec<Given>, label: &str, default: i64) -> Resul
 
 /// A labelled text, or its default.
 #[tactic(auto, unfolding(crate::specs::Parts::text_or))]
-pub(crate) fn text_or(given: &mut Vec<Given>, label: &str, default: Text) -> Result<Text, Fault>
+pub(crate) fn text_or(
+    alloc: Global,
+    given: &mut Vec<Given>,
+    label: &str,
+    default: Text,
+) -> Result<Text, Stop>
     ensures { Gives (λ t. (t, map view_given given.new.items)) result
         (text_or label.now default (map view_given given.old.items)) }
 {
     match argument(given, Some(label)) {
         None => Ok(default),
         Some(value) => {
-            let text = as_text(value)?;
+            let text = as_text(alloc, value)?;
             Ok(text)
         }
     }
 }
 
 #[tactic(auto, unfolding(crate::specs::Parts::as_text))]
-fn as_text(value: Value) -> Result<Text, Fault>
+fn as_text(alloc: Global, value: Value) -> Result<Text, Stop>
     ensures { Gives (λ t. t) result (as_text (view_value value)) }
 {
     match value {
-        Value::Text(text) => Ok(text),
-        _ => Err(Fault::Stuck),
+        Value::Text(text) => Ok(text.copy(alloc)?),
+        _ => Err(Stop::Stuck),
     }
 }
 
 #[tactic(auto, unfolding(crate::specs::Parts::as_decimal))]
-fn as_decimal(value: Value) -> Result<Decimal, Fault>
+fn as_decimal(value: Value) -> Result<Decimal, Stop>
     ensures { Gives (λ d. d) result (as_decimal (view_value value)) }
 {
     match value {
         Value::Decimal(number) => Ok(number),
-        _ => Err(Fault::Stuck),
+        _ => Err(Stop::Stuck),
     }
 }
 
 #[tactic(auto, unfolding(crate::specs::Parts::as_int))]
-fn as_int(value: Value) -> Result<i64, Fault>
+fn as_int(value: Value) -> Result<i64, Stop>
     ensures { Gives (λ n. n) result (as_int (view_value value)) }
 {
     match value {
         Value::Int(number) => Ok(number),
-        _ => Err(Fault::Stuck),
+        _ => Err(Stop::Stuck),
     }
 }
 
 #[tactic(auto, unfolding(crate::specs::Parts::as_bool))]
-fn as_bool(value: Value) -> Result<bool, Fault>
+fn as_bool(value: Value) -> Result<bool, Stop>
     ensures { Gives (λ b. b) result (as_bool (view_value value)) }
 {
     match value {
         Value::Truth(truth) => Ok(truth),
-        _ => Err(Fault::Stuck),
+        _ => Err(Stop::Stuck),
     }
 }
 
 #[tactic(auto, unfolding(crate::specs::Parts::as_format))]
-fn as_format(value: Value) -> Result<bool, Fault>
+fn as_format(value: Value) -> Result<bool, Stop>
     ensures { Gives (λ w. w) result (as_format (view_value value)) }
 {
     match value {
         Value::Format { wide } => Ok(wide),
-        _ => Err(Fault::Stuck),
+        _ => Err(Stop::Stuck),
     }
 }

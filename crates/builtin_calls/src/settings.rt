@@ -9,24 +9,29 @@ ghost use Rattle.builtin_calls.specs.Settings.{duration_of, settings_opened, rat
 use crate::parts::{plain, plain_text};
 use fixed_text::Decimal;
 use liq_base::limits::{MAX_RATE, MIN_RATE};
-use script_values::{Fault, Given, Machine, Value};
+use script_values::{Given, Machine, Stop, Value};
+use std::alloc::Global;
 
 /// `set(key, value)`.
 #[tactic(auto, unfolding(crate::specs::Builtins::set))]
-pub(crate) fn set(given: &mut Vec<Given>, machine: &mut Machine) -> Result<Value, Fault>
+pub(crate) fn set(
+    alloc: Global,
+    given: &mut Vec<Given>,
+    machine: &mut Machine,
+) -> Result<Value, Stop>
     ensures { Gives (λ v. (view_value v, machine.new)) result (set (map view_given given.old.items) machine.old) }
 {
-    let key = plain_text(given)?;
+    let key = plain_text(alloc, given)?;
     let value = plain(given)?;
     setting(machine, key.as_str(), &value)
 }
 
 // A setting may stand here; it is the last one so far.
-fn opened(machine: &mut Machine) -> Result<(), Fault>
+fn opened(machine: &mut Machine) -> Result<(), Stop>
     ensures { Gives (λ _. machine.new) result (settings_opened machine.old) }
 {
     if !machine.settings.allowed {
-        return Err(Fault::BadSetting);
+        return Err(Stop::BadSetting);
     }
     machine.settings.last = machine.settings.statement;
     Ok(())
@@ -34,40 +39,40 @@ fn opened(machine: &mut Machine) -> Result<(), Fault>
 
 // A rate, in samples a second.
 #[tactic(auto, unfolding(crate::specs::Settings::rate_of))]
-fn rate_of(value: &Value) -> Result<u32, Fault>
+fn rate_of(value: &Value) -> Result<u32, Stop>
     ensures { Gives (λ n. n) result (rate_of (view_value value.now)) }
 {
     match value {
         Value::Int(number) => rate_within(*number),
-        _ => Err(Fault::BadSetting),
+        _ => Err(Stop::BadSetting),
     }
 }
 
-fn rate_within(number: i64) -> Result<u32, Fault>
+fn rate_within(number: i64) -> Result<u32, Stop>
     ensures { Gives (λ n. n) result (rate_within number) }
 {
     if number < i64::from(MIN_RATE) {
-        return Err(Fault::BadSetting);
+        return Err(Stop::BadSetting);
     }
     if number > i64::from(MAX_RATE) {
-        return Err(Fault::BadSetting);
+        return Err(Stop::BadSetting);
     }
     Ok(number as u32)
 }
 
 // A tick, in seconds.
 #[tactic(auto, unfolding(crate::specs::Settings::duration_of))]
-fn duration_of(value: &Value) -> Result<Decimal, Fault>
+fn duration_of(value: &Value) -> Result<Decimal, Stop>
     ensures { Gives (λ d. d) result (duration_of (view_value value.now)) }
 {
     match value {
         Value::Decimal(number) => Ok(*number),
-        _ => Err(Fault::BadSetting),
+        _ => Err(Stop::BadSetting),
     }
 }
 
 #[tactic(auto, unfolding(crate::specs::Settings::set_rate))]
-fn set_rate(machine: &mut Machine, value: &Value) -> Result<Value, Fault>
+fn set_rate(machine: &mut Machine, value: &Value) -> Result<Value, Stop>
     ensures { Gives (λ v. (view_value v, machine.new)) result (set_rate (view_value value.now) machine.old) }
 {
     opened(machine)?;
@@ -77,7 +82,7 @@ fn set_rate(machine: &mut Machine, value: &Value) -> Result<Value, Fault>
 }
 
 #[tactic(auto, unfolding(crate::specs::Settings::set_duration))]
-fn set_duration(machine: &mut Machine, value: &Value) -> Result<Value, Fault>
+fn set_duration(machine: &mut Machine, value: &Value) -> Result<Value, Stop>
     ensures { Gives (λ v. (view_value v, machine.new)) result (set_duration (view_value value.now) machine.old) }
 {
     opened(machine)?;
@@ -87,7 +92,7 @@ fn set_duration(machine: &mut Machine, value: &Value) -> Result<Value, Fault>
 }
 
 #[tactic(auto, unfolding(crate::specs::Settings::setting))]
-fn setting(machine: &mut Machine, key: &str, value: &Value) -> Result<Value, Fault>
+fn setting(machine: &mut Machine, key: &str, value: &Value) -> Result<Value, Stop>
     ensures { Gives (λ v. (view_value v, machine.new)) result (setting key.now (view_value value.now) machine.old) }
 {
     if key == "frame.audio.samplerate" {

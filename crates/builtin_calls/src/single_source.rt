@@ -13,7 +13,7 @@ use fixed_text::Decimal;
 use liq_base::limits::{MAX_CAPACITY, MAX_OVERLAP, MAX_PREFILL};
 use liq_base::{Kind, Text};
 use plan_core::{BufferPlan, Draft, Items, Node, Op};
-use script_values::{Fault, Given, Limit, Machine, Value};
+use script_values::{Given, Limit, Machine, Stop, Value};
 use std::alloc::Global;
 
 /// `amplify(k, s)`.
@@ -23,7 +23,7 @@ pub(crate) fn amplify(
     kinds: &[Kind],
     given: &mut Vec<Given>,
     machine: &mut Machine,
-) -> Result<Value, Fault>
+) -> Result<Value, Stop>
     ensures { Gives (λ v. (view_value v, machine.new)) result
         (amplify kinds.now (map view_given given.old.items) machine.old) }
 {
@@ -40,7 +40,7 @@ pub(crate) fn mean(
     alloc: Global,
     given: &mut Vec<Given>,
     machine: &mut Machine,
-) -> Result<Value, Fault>
+) -> Result<Value, Stop>
     ensures { Gives (λ v. (view_value v, machine.new)) result (mean (map view_given given.old.items) machine.old) }
 {
     let source = plain_source(&machine.plan, Kind::Stereo, given)?;
@@ -54,7 +54,7 @@ pub(crate) fn stereo(
     alloc: Global,
     given: &mut Vec<Given>,
     machine: &mut Machine,
-) -> Result<Value, Fault>
+) -> Result<Value, Stop>
     ensures { Gives (λ v. (view_value v, machine.new)) result (stereo (map view_given given.old.items) machine.old) }
 {
     let source = plain_source(&machine.plan, Kind::Mono, given)?;
@@ -70,7 +70,7 @@ pub(crate) fn crossfade(
     kinds: &[Kind],
     given: &mut Vec<Given>,
     machine: &mut Machine,
-) -> Result<Value, Fault>
+) -> Result<Value, Stop>
     ensures { Gives (λ v. (view_value v, machine.new)) result
         (crossfade at kinds.now (map view_given given.old.items) machine.old) }
 {
@@ -89,7 +89,7 @@ pub(crate) fn mksafe(
     kinds: &[Kind],
     given: &mut Vec<Given>,
     machine: &mut Machine,
-) -> Result<Value, Fault>
+) -> Result<Value, Stop>
     ensures { Gives (λ v. (view_value v, machine.new)) result
         (mksafe kinds.now (map view_given given.old.items) machine.old) }
 {
@@ -106,7 +106,7 @@ pub(crate) fn buffer(
     kinds: &[Kind],
     given: &mut Vec<Given>,
     machine: &mut Machine,
-) -> Result<Value, Fault>
+) -> Result<Value, Stop>
     ensures { Gives (λ v. (view_value v, machine.new)) result
         (buffer at kinds.now (map view_given given.old.items) machine.old) }
 {
@@ -125,12 +125,12 @@ pub(crate) fn clock(
     kinds: &[Kind],
     given: &mut Vec<Given>,
     machine: &mut Machine,
-) -> Result<Value, Fault>
+) -> Result<Value, Stop>
     ensures { Gives (λ v. (view_value v, machine.new)) result
         (clock kinds.now (map view_given given.old.items) machine.old) }
 {
     let unnamed = Text::from_str(alloc, "")?;
-    let id = text_or(given, "id", unnamed)?;
+    let id = text_or(alloc, given, "id", unnamed)?;
     let kind = one_kind(kinds)?;
     let source = plain_source(&machine.plan, kind, given)?;
     let children = one_child(alloc, source)?;
@@ -139,7 +139,7 @@ pub(crate) fn clock(
 
 // The overlap of a crossfade of this source, in samples.
 #[tactic(auto, unfolding(crate::specs::Builtins::short_overlap))]
-fn short_overlap(at: u32, plan: &Draft, source: u32, duration: Decimal) -> Result<u32, Fault>
+fn short_overlap(at: u32, plan: &Draft, source: u32, duration: Decimal) -> Result<u32, Stop>
     ensures { Gives (λ n. n) result (short_overlap at source duration plan.now) }
 {
     let samples = overlap_of(at, plan.plan().rate, duration)?;
@@ -149,7 +149,7 @@ fn short_overlap(at: u32, plan: &Draft, source: u32, duration: Decimal) -> Resul
 }
 
 #[tactic(auto, unfolding(crate::specs::Builtins::safe))]
-fn safe(alloc: Global, machine: &mut Machine, kind: Kind, source: u32) -> Result<Value, Fault>
+fn safe(alloc: Global, machine: &mut Machine, kind: Kind, source: u32) -> Result<Value, Stop>
     requires { source < length machine.old.plan.nodes }
     ensures { Gives (λ v. (view_value v, machine.new)) result (safe kind source machine.old) }
 {
@@ -165,7 +165,7 @@ fn safe(alloc: Global, machine: &mut Machine, kind: Kind, source: u32) -> Result
 
 // A buffer whose reader holds this time before it plays, and that holds at most the other time.
 #[tactic(auto, unfolding(crate::specs::Builtins::buffer_plan))]
-fn buffer_plan(at: u32, plan: &Draft, held: Decimal, most: Decimal) -> Result<BufferPlan, Fault>
+fn buffer_plan(at: u32, plan: &Draft, held: Decimal, most: Decimal) -> Result<BufferPlan, Stop>
     ensures { Gives (λ b. b) result (buffer_plan at held most plan.now) }
 {
     let rate = plan.plan().rate;

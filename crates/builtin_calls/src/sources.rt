@@ -1,6 +1,6 @@
 // The sources that a call's arguments give its parameters.
 ghost use Rattle.std.specs.Prelude.{◌≡◌, ◌<◌, All, IfOk, length, map, slice_get, []};
-ghost use Rattle.time_pred.specs.View.{view_pred};
+ghost use Rattle.time_pred.specs.View.{view_shared};
 ghost use Rattle.script_values.specs.Gives.{Gives};
 ghost use Rattle.script_values.specs.View.{view_value};
 ghost use Rattle.script_values.specs.Views.{view_given};
@@ -10,20 +10,20 @@ ghost use Rattle.builtin_calls.specs.Parts.{is_kind, nodes_from, of_kind, pair_i
 use crate::parts::plain;
 use liq_base::Kind;
 use plan_core::Draft;
-use script_values::{Fault, Given, Value};
+use script_values::{Given, Stop, Value};
 use std::alloc::Global;
-use time_pred::Pred;
+use time_pred::SharedPred;
 
 /// The sources of a `switch`, and the predicate of each.
 #[derive(Drop)]
 pub(crate) struct Pairs {
-    pub(crate) preds: Vec<Pred>,
+    pub(crate) preds: Vec<SharedPred>,
     pub(crate) sources: Vec<u32>,
 }
 
 /// The next plain parameter, a source of this kind, by the number of its node.
 #[tactic(auto, unfolding(crate::specs::Parts::plain_source))]
-pub(crate) fn plain_source(plan: &Draft, kind: Kind, given: &mut Vec<Given>) -> Result<u32, Fault>
+pub(crate) fn plain_source(plan: &Draft, kind: Kind, given: &mut Vec<Given>) -> Result<u32, Stop>
     ensures given { Gives (λ n. (n, map view_given given.new.items)) result
         (plain_source plan.now.nodes kind (map view_given given.old.items)) }
     ensures there { IfOk result (λ n. n < length plan.now.nodes) }
@@ -40,7 +40,7 @@ pub(crate) fn plain_sources(
     plan: &Draft,
     kind: Kind,
     given: &mut Vec<Given>,
-) -> Result<Vec<u32>, Fault>
+) -> Result<Vec<u32>, Stop>
     ensures given { Gives (λ ns. (ns.items, map view_given given.new.items)) result
         (plain_sources plan.now.nodes kind (map view_given given.old.items)) }
     ensures there { IfOk result (λ ns. All (λ n. n < length plan.now.nodes) ns.items) }
@@ -57,8 +57,8 @@ pub(crate) fn plain_pairs(
     plan: &Draft,
     kind: Kind,
     given: &mut Vec<Given>,
-) -> Result<Pairs, Fault>
-    ensures given { Gives (λ ps. ((map view_pred ps.preds.items, ps.sources.items), map view_given given.new.items))
+) -> Result<Pairs, Stop>
+    ensures given { Gives (λ ps. ((map view_shared ps.preds.items, ps.sources.items), map view_given given.new.items))
         result (plain_pairs plan.now.nodes kind (map view_given given.old.items)) }
     ensures there { IfOk result (λ ps. All (λ n. n < length plan.now.nodes) ps.sources.items) }
 {
@@ -68,22 +68,22 @@ pub(crate) fn plain_pairs(
 }
 
 // A source of this kind, by the number of its node. The value ends here, and so do those of the next two.
-fn as_source(plan: &Draft, kind: Kind, value: Value) -> Result<u32, Fault>
+fn as_source(plan: &Draft, kind: Kind, value: Value) -> Result<u32, Stop>
     ensures given { Gives (λ n. n) result (source_of plan.now.nodes kind (view_value value)) }
     ensures there { IfOk result (λ n. n < length plan.now.nodes) }
 {
     source_of(plan, kind, &value)
 }
 
-fn as_sources(alloc: Global, plan: &Draft, kind: Kind, value: Value) -> Result<Vec<u32>, Fault>
+fn as_sources(alloc: Global, plan: &Draft, kind: Kind, value: Value) -> Result<Vec<u32>, Stop>
     ensures given { Gives (λ ns. ns.items) result (sources_of plan.now.nodes kind (view_value value)) }
     ensures there { IfOk result (λ ns. All (λ n. n < length plan.now.nodes) ns.items) }
 {
     sources_of(alloc, plan, kind, &value)
 }
 
-fn as_pairs(alloc: Global, plan: &Draft, kind: Kind, value: Value) -> Result<Pairs, Fault>
-    ensures given { Gives (λ ps. (map view_pred ps.preds.items, ps.sources.items)) result
+fn as_pairs(alloc: Global, plan: &Draft, kind: Kind, value: Value) -> Result<Pairs, Stop>
+    ensures given { Gives (λ ps. (map view_shared ps.preds.items, ps.sources.items)) result
         (pairs_of plan.now.nodes kind (view_value value)) }
     ensures there { IfOk result (λ ps. All (λ n. n < length plan.now.nodes) ps.sources.items) }
 {
@@ -103,27 +103,27 @@ fn is_kind(wanted: Kind, kind: Kind) -> bool
 
 // A source of this kind, by the number of its node.
 #[tactic(auto, unfolding(crate::specs::Parts::source_of))]
-fn source_of(plan: &Draft, kind: Kind, value: &Value) -> Result<u32, Fault>
+fn source_of(plan: &Draft, kind: Kind, value: &Value) -> Result<u32, Stop>
     ensures given { Gives (λ n. n) result (source_of plan.now.nodes kind (view_value value.now)) }
     ensures there { IfOk result (λ n. n < length plan.now.nodes) }
 {
     match value {
         Value::Source(number) => of_kind(plan, kind, *number),
-        _ => Err(Fault::Stuck),
+        _ => Err(Stop::Stuck),
     }
 }
 
-fn of_kind(plan: &Draft, kind: Kind, number: u32) -> Result<u32, Fault>
+fn of_kind(plan: &Draft, kind: Kind, number: u32) -> Result<u32, Stop>
     ensures given { Gives (λ n. n) result (of_kind kind number (slice_get plan.now.nodes number)) }
     ensures there { IfOk result (λ n. n < length plan.now.nodes) }
 {
     match plan.plan().nodes.as_slice().get(number as usize) {
-        None => Err(Fault::Stuck),
+        None => Err(Stop::Stuck),
         Some(node) => {
             if is_kind(kind, node.kind) {
                 Ok(number)
             } else {
-                Err(Fault::Stuck)
+                Err(Stop::Stuck)
             }
         }
     }
@@ -131,17 +131,17 @@ fn of_kind(plan: &Draft, kind: Kind, number: u32) -> Result<u32, Fault>
 
 // The sources of a list.
 #[tactic(auto, unfolding(crate::specs::Parts::sources_of))]
-fn sources_of(alloc: Global, plan: &Draft, kind: Kind, value: &Value) -> Result<Vec<u32>, Fault>
+fn sources_of(alloc: Global, plan: &Draft, kind: Kind, value: &Value) -> Result<Vec<u32>, Stop>
     ensures given { Gives (λ ns. ns.items) result (sources_of plan.now.nodes kind (view_value value.now)) }
     ensures there { IfOk result (λ ns. All (λ n. n < length plan.now.nodes) ns.items) }
 {
     match value {
         Value::Listed(parts) => sources_in(alloc, plan, kind, parts),
-        _ => Err(Fault::Stuck),
+        _ => Err(Stop::Stuck),
     }
 }
 
-fn sources_in(alloc: Global, plan: &Draft, kind: Kind, parts: &[Value]) -> Result<Vec<u32>, Fault>
+fn sources_in(alloc: Global, plan: &Draft, kind: Kind, parts: &[Value]) -> Result<Vec<u32>, Stop>
     ensures given { Gives (λ ns. ns.items) result
         (nodes_from plan.now.nodes kind (many (map view_value parts.now)) []) }
     ensures there { IfOk result (λ ns. All (λ n. n < length plan.now.nodes) ns.items) }
@@ -155,54 +155,54 @@ fn sources_in(alloc: Global, plan: &Draft, kind: Kind, parts: &[Value]) -> Resul
 }
 
 #[tactic(auto, unfolding(crate::specs::Parts::pred_of))]
-fn pred_of(alloc: Global, value: &Value) -> Result<Pred, Fault>
-    ensures { Gives (λ p. view_pred p) result (pred_of (view_value value.now)) }
+fn pred_of(value: &Value) -> Result<SharedPred, Stop>
+    ensures { Gives (λ p. view_shared p) result (pred_of (view_value value.now)) }
 {
     match value {
-        Value::Pred(pred) => Ok(pred.copy(alloc)?),
-        _ => Err(Fault::Stuck),
+        Value::Pred(pred) => Ok(pred.share()?),
+        _ => Err(Stop::Stuck),
     }
 }
 
 // A predicate and the source that it stands for.
 #[tactic(auto, unfolding(crate::specs::Parts::case_of))]
-fn pair_of(alloc: Global, plan: &Draft, kind: Kind, value: &Value) -> Result<(Pred, u32), Fault>
-    ensures given { Gives (λ x. (view_pred x.0, x.1)) result (case_of plan.now.nodes kind (view_value value.now)) }
+fn pair_of(plan: &Draft, kind: Kind, value: &Value) -> Result<(SharedPred, u32), Stop>
+    ensures given { Gives (λ x. (view_shared x.0, x.1)) result (case_of plan.now.nodes kind (view_value value.now)) }
     ensures there { IfOk result (λ x. x.1 < length plan.now.nodes) }
 {
     match value {
-        Value::Tuple(parts) => pair_in(alloc, plan, kind, parts),
-        _ => Err(Fault::Stuck),
+        Value::Tuple(parts) => pair_in(plan, kind, parts),
+        _ => Err(Stop::Stuck),
     }
 }
 
 #[tactic(auto, unfolding(crate::specs::Parts::pair_in))]
-fn pair_in(alloc: Global, plan: &Draft, kind: Kind, parts: &[Value]) -> Result<(Pred, u32), Fault>
-    ensures given { Gives (λ x. (view_pred x.0, x.1)) result
+fn pair_in(plan: &Draft, kind: Kind, parts: &[Value]) -> Result<(SharedPred, u32), Stop>
+    ensures given { Gives (λ x. (view_shared x.0, x.1)) result
         (pair_in plan.now.nodes kind (many (map view_value parts.now))) }
     ensures there { IfOk result (λ x. x.1 < length plan.now.nodes) }
 {
     match parts {
-        [] => Err(Fault::Stuck),
-        [_] => Err(Fault::Stuck),
+        [] => Err(Stop::Stuck),
+        [_] => Err(Stop::Stuck),
         [first, second] => {
-            let pred = pred_of(alloc, first)?;
+            let pred = pred_of(first)?;
             let source = source_of(plan, kind, second)?;
             Ok((pred, source))
         }
-        [_, _, _, ..] => Err(Fault::Stuck),
+        [_, _, _, ..] => Err(Stop::Stuck),
     }
 }
 
-fn pairs_in(alloc: Global, plan: &Draft, kind: Kind, parts: &[Value]) -> Result<Pairs, Fault>
-    ensures given { Gives (λ ps. (map view_pred ps.preds.items, ps.sources.items)) result
+fn pairs_in(alloc: Global, plan: &Draft, kind: Kind, parts: &[Value]) -> Result<Pairs, Stop>
+    ensures given { Gives (λ ps. (map view_shared ps.preds.items, ps.sources.items)) result
         (pairs_from plan.now.nodes kind (many (map view_value parts.now)) [] []) }
     ensures there { IfOk result (λ ps. All (λ n. n < length plan.now.nodes) ps.sources.items) }
 {
     let mut preds = Vec::new(alloc);
     let mut sources = Vec::new(alloc);
     for part in parts {
-        let pair = pair_of(alloc, plan, kind, part)?;
+        let pair = pair_of(plan, kind, part)?;
         preds.push(pair.0)?;
         sources.push(pair.1)?;
     }
@@ -210,13 +210,13 @@ fn pairs_in(alloc: Global, plan: &Draft, kind: Kind, parts: &[Value]) -> Result<
 }
 
 #[tactic(auto, unfolding(crate::specs::Parts::pairs_of))]
-fn pairs_of(alloc: Global, plan: &Draft, kind: Kind, value: &Value) -> Result<Pairs, Fault>
-    ensures given { Gives (λ ps. (map view_pred ps.preds.items, ps.sources.items)) result
+fn pairs_of(alloc: Global, plan: &Draft, kind: Kind, value: &Value) -> Result<Pairs, Stop>
+    ensures given { Gives (λ ps. (map view_shared ps.preds.items, ps.sources.items)) result
         (pairs_of plan.now.nodes kind (view_value value.now)) }
     ensures there { IfOk result (λ ps. All (λ n. n < length plan.now.nodes) ps.sources.items) }
 {
     match value {
         Value::Listed(parts) => pairs_in(alloc, plan, kind, parts),
-        _ => Err(Fault::Stuck),
+        _ => Err(Stop::Stuck),
     }
 }

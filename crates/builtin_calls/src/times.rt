@@ -6,26 +6,26 @@ ghost use Rattle.script_values.specs.Machines.{some_millionths};
 ghost use Rattle.builtin_calls.specs.Times.{chunks, overlap_samples, pitch_of, samples_of, some_samples, track_of};
 
 use fixed_text::Decimal;
-use script_values::Fault;
+use script_values::Stop;
 
 /// The samples of a time that is not below zero.
 #[tactic(auto, unfolding(crate::specs::Times::samples_of))]
-pub(crate) fn samples_of(at: u32, rate: u32, time: Decimal) -> Result<u64, Fault>
+pub(crate) fn samples_of(at: u32, rate: u32, time: Decimal) -> Result<u64, Stop>
     ensures { Gives (λ n. n) result (samples_of at rate time) }
 {
     match time.samples(rate) {
-        None => Err(Fault::BadValue(at)),
+        None => Err(Stop::BadValue(at)),
         Some(samples) => Ok(samples),
     }
 }
 
 /// The samples of an overlap, which is above zero and has at least one.
 #[tactic(auto, unfolding(crate::specs::Times::overlap_samples))]
-pub(crate) fn overlap_of(at: u32, rate: u32, time: Decimal) -> Result<u64, Fault>
+pub(crate) fn overlap_of(at: u32, rate: u32, time: Decimal) -> Result<u64, Stop>
     ensures { Gives (λ n. n) result (overlap_samples at rate time) }
 {
     if time.millionths <= 0 {
-        return Err(Fault::BadValue(at));
+        return Err(Stop::BadValue(at));
     }
     let samples = some_samples(at, rate, time)?;
     Ok(samples)
@@ -33,7 +33,7 @@ pub(crate) fn overlap_of(at: u32, rate: u32, time: Decimal) -> Result<u64, Fault
 
 /// The samples of a track, or 0 for a time that is not above zero, which makes one endless track.
 #[tactic(auto, unfolding(crate::specs::Times::track_of))]
-pub(crate) fn track_of(at: u32, rate: u32, time: Decimal) -> Result<u64, Fault>
+pub(crate) fn track_of(at: u32, rate: u32, time: Decimal) -> Result<u64, Stop>
     ensures { Gives (λ n. n) result (track_of at rate time) }
 {
     if time.millionths <= 0 {
@@ -45,11 +45,11 @@ pub(crate) fn track_of(at: u32, rate: u32, time: Decimal) -> Result<u64, Fault>
 
 /// A pitch above zero.
 #[tactic(auto, unfolding(crate::specs::Times::pitch_of))]
-pub(crate) fn pitch_of(at: u32, pitch: Decimal) -> Result<Decimal, Fault>
+pub(crate) fn pitch_of(at: u32, pitch: Decimal) -> Result<Decimal, Stop>
     ensures { Gives (λ d. d) result (pitch_of at pitch) }
 {
     if pitch.millionths <= 0 {
-        return Err(Fault::BadValue(at));
+        return Err(Stop::BadValue(at));
     }
     Ok(pitch)
 }
@@ -99,15 +99,15 @@ pub(crate) fn ten_seconds() -> Decimal
 }
 
 // The samples of a time above zero, at least one.
-fn some_samples(at: u32, rate: u32, time: Decimal) -> Result<u64, Fault>
+fn some_samples(at: u32, rate: u32, time: Decimal) -> Result<u64, Stop>
     requires { pos 0 <ℤ time.millionths }
     ensures { Gives (λ n. n) result (some_samples at (samples_in time.millionths rate)) }
 {
     match time.samples(rate) {
-        None => Err(Fault::BadValue(at)),
+        None => Err(Stop::BadValue(at)),
         Some(samples) => {
             if samples == 0 {
-                return Err(Fault::BadValue(at));
+                return Err(Stop::BadValue(at));
             }
             Ok(samples)
         }

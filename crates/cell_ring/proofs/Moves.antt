@@ -1,6 +1,6 @@
 -- What becomes of the three lanes of a ring.
-use Rattle.std.proofs.Common.{◌≡◌, ◌≤◌, ◌+◌, ◌-◌, ◌∙◌, ◌++◌, ℕ, ℤ, List, length, take, drop, min, replicate, arith, ap, sym, append-nil, append_assoc}
-use Rattle.std.proofs.lemmas.List.{drop_all, length-append, length-replicate, replicate-append-replicate, take-replicate}
+use Rattle.std.proofs.Common.{◌≡◌, ◌≤◌, ◌+◌, ◌-◌, ◌∙◌, ◌++◌, ℕ, ℤ, List, length, take, drop, min, arith, ap, sym, append-nil}
+use Rattle.std.proofs.lemmas.List.{drop_all, length-append}
 use Rattle.circular_buffer.specs.Buffer.{Buffer, buffer, keep_last}
 use Rattle.frame_core.specs.declared.cell.Cell.{Cell}
 use Rattle.frame_core.specs.declared.cell.CellMark.{CellMark}
@@ -62,20 +62,3 @@ pub read_rest : (m : ℕ) (lane now : Buffer ℤ) (old : List ℤ) (n : ℕ) →
 read_rest m lane now old n least long fits is =
     let all : m ≡ n = omega (arith, least, long, fits) in
     is ∙ ap (λ k. buffer (drop k lane.items) lane.capacity) all
-
-pub front_gone : (marks now : Buffer CellMark) (k n : ℕ) → k + n ≡ length marks.items → now ≡ buffer (keep_last k marks.items) marks.capacity → now ≡ buffer (drop n marks.items) marks.capacity
-front_gone marks now k n long is =
-    let all : length marks.items - k ≡ n = omega (arith, long) in
-    is ∙ ap (λ m. buffer (drop m marks.items) marks.capacity) all
-
--- marks are appended, block by block
-pub block_more : (marks : List CellMark) (mark : CellMark) (done many size room : ℕ) (old now : Buffer CellMark) → many ≤ size
-    → length marks + (done + many) ≤ room → old ≡ buffer (marks ++ replicate done mark) room
-    → now ≡ buffer (keep_last old.capacity (old.items ++ take many (replicate size mark))) old.capacity → now ≡ buffer (marks ++ replicate (done + many) mark) room
-block_more marks mark done many size room old now part fits was is =
-    let whole : length (marks ++ replicate (done + many) mark) ≤ room = omega (arith, length-append marks (replicate (done + many) mark), length-replicate (done + many) mark, fits) in
-    is
-    ∙ ap (λ (b : Buffer CellMark). buffer (keep_last b.capacity (b.items ++ take many (replicate size mark))) b.capacity) was
-    ∙ ap (λ l. buffer (keep_last room ((marks ++ replicate done mark) ++ l)) room) (take-replicate many size mark part)
-    ∙ ap (λ l. buffer (keep_last room l) room) (append_assoc marks (replicate done mark) (replicate many mark) ∙ ap (λ l. marks ++ l) (replicate-append-replicate done many mark))
-    ∙ ap (λ l. buffer l room) (keep_whole room (marks ++ replicate (done + many) mark) whole)

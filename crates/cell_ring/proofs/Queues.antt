@@ -13,7 +13,7 @@ use Rattle.cell_ring.proofs.Lanes.{inner_there}
 use Rattle.frame_core.specs.declared.cell.CellMark.{CellMark}
 use Rattle.frame_core.specs.Chunks.{cells_in, mark_in}
 use Rattle.frame_core.proofs.Chunks.{cells-drop, cells_again, length-cells}
-use Rattle.cell_ring.proofs.Parts.{drop-parts, rest_behind}
+use Rattle.cell_ring.proofs.Parts.{drop-parts, least_gone, rest_behind}
 
 spare_on : (spare : Option (List Cell)) (gone count : ℕ) → spare_cells spare (gone + count) ≡ drop count (spare_cells spare gone)
 spare_on None gone count = sym (drop-nil {A = Cell} count)
@@ -41,11 +41,11 @@ module _ (spare : Option (List Cell)) (cells : List Cell) (lefts rights : List �
 
   -- the samples and marks of what is left of a spare chunk
   pub spare_lanes : spare ≡ Some cells
-      → cells_in (take (length lefts - first) (drop first lefts)) (take (length rights - first) (drop first rights)) (take (length marks - first) (drop first marks)) ≡ spare_cells spare gone
+      → cells_in (take (length lefts - first) (drop first lefts)) (take (length rights - first) (drop first rights)) (drop first marks) ≡ spare_cells spare gone
   spare_lanes some =
-      ap (λ xs. cells_in xs (take (length rights - first) (drop first rights)) (take (length marks - first) (drop first marks))) (rest_behind gone first lefts (omega (arith, least, long_lefts)))
-      ∙ ap (λ ys. cells_in (drop gone lefts) ys (take (length marks - first) (drop first marks))) (rest_behind gone first rights (omega (arith, least, long_rights)))
-      ∙ ap (λ ms. cells_in (drop gone lefts) (drop gone rights) ms) (rest_behind gone first marks (omega (arith, least, long_marks)))
+      ap (λ xs. cells_in xs (take (length rights - first) (drop first rights)) (drop first marks)) (rest_behind gone first lefts (omega (arith, least, long_lefts)))
+      ∙ ap (λ ys. cells_in (drop gone lefts) ys (drop first marks)) (rest_behind gone first rights (omega (arith, least, long_rights)))
+      ∙ ap (λ ms. cells_in (drop gone lefts) (drop gone rights) ms) (least_gone gone first marks (omega (arith, least, long_marks)))
       ∙ cells-drop gone lefts rights marks (omega (arith, long_lefts, long_marks)) (omega (arith, long_rights, long_marks))
       ∙ ap (drop gone) (chunk_lanes cells lefts rights marks l r m)
       ∙ sym (ap (λ s. spare_cells s gone) some)
@@ -103,6 +103,11 @@ pub held_cells : (cells spare all : List Cell) (lefts rights : List ℤ) (marks 
     → length cells + length marks ≡ length all
 held_cells cells spare all lefts rights marks l r is whole =
     omega (arith, length-cells lefts rights marks l r, ap length is, length-append cells spare, ap length whole)
+
+-- what is behind some of the marks of runs
+pub marks_behind : (whole : List CellMark) (skip behind next : ℕ) → behind ≡ min next (length (drop skip whole)) → drop (skip + behind) whole ≡ drop next (drop skip whole)
+marks_behind whole skip behind next least =
+    sym (drop-drop behind skip whole) ∙ least_gone next behind (drop skip whole) least
 
 -- a run of marks is a run of their cells
 pub run_of_marks : (title : ℕ) (lefts rights : List ℤ) (marks part : List CellMark) (cells : List Cell) (k most count : ℕ) → length lefts ≡ length marks → length rights ≡ length marks

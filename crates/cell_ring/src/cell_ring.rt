@@ -1,26 +1,25 @@
 // A ring of cells.
-ghost use Rattle.std.specs.Prelude.{◌≡◌, ◌+◌, ◌<◌, ◌≤◌, ◌^◌, [], ◌∷◌, ◌++◌, ℕ, true, false, length, map, take, drop, replicate, slice_get, IfOk};
-ghost use Rattle.circular_buffer.specs.Buffer.{buffer};
+ghost use Rattle.std.specs.Prelude.{◌≡◌, ◌+◌, ◌<◌, ◌≤◌, ◌^◌, [], ◌∷◌, ◌++◌, ℕ, true, false, length, map, take, drop, slice_get, IfOk};
 ghost use Rattle.frame_core.specs.Chunks.{cells_in};
+ghost use Rattle.frame_core.specs.MarkRuns.{marks_in};
 ghost use Rattle.frame_core.specs.Slots.{goes_on};
-ghost use Rattle.cell_ring.specs.Rings.{Ring, Runs, has_title, inner_cells};
-ghost use Rattle.cell_ring.specs.Lanes.{begins_none, has_name, slot_in};
+ghost use Rattle.cell_ring.specs.Rings.{Ring, has_title, inner_cells};
+ghost use Rattle.cell_ring.specs.Lanes.{slot_in};
 
+use crate::mark_ring::MarkRing;
 use circular_buffer::HeapCircularBuffer;
-use frame_core::{Cell, CellMark};
+use frame_core::{Cell, CellMark, MarkRun};
 use liq_base::Memory;
 use std::alloc::Global;
 use std::marker::Model;
 
-// How many marks are appended at once.
-const BLOCK: usize = 64;
-
-/// A queue of cells, which is reserved when it is made; no other call takes memory. Samples and marks are kept apart.
+/// A queue of cells, which is reserved when it is made; no other call takes memory. Samples are kept apart from marks,
+/// and of these runs of one title.
 #[derive(Drop)]
 pub struct CellRing {
     left: HeapCircularBuffer<i16>,
     right: HeapCircularBuffer<i16>,
-    marks: HeapCircularBuffer<CellMark>,
+    marks: MarkRing,
 }
 
 impl Model for CellRing {
@@ -45,7 +44,7 @@ impl CellRing {
     {
         let left = HeapCircularBuffer::with_capacity(alloc, room as usize)?;
         let right = HeapCircularBuffer::with_capacity(alloc, room as usize)?;
-        let marks = HeapCircularBuffer::with_capacity(alloc, room as usize)?;
+        let marks = MarkRing::new(alloc, room)?;
         Ok(CellRing { left, right, marks })
     }
 
@@ -54,14 +53,14 @@ impl CellRing {
         ensures len { result ≡ length self.now.cells }
         ensures within { result ≤ self.now.room }
     {
-        self.marks.len() as u32
+        self.left.len() as u32
     }
 
     /// How many cells it has room for.
     pub fn room(&self) -> u32
         ensures { result ≡ self.now.room }
     {
-        self.marks.capacity() as u32
+        self.left.capacity() as u32
     }
 
     /// The first cell.
@@ -71,7 +70,7 @@ impl CellRing {
         slot_in(
             self.left.front().copied(),
             self.right.front().copied(),
-            self.marks.front().copied(),
+            self.marks.front(),
         )
     }
 
@@ -82,13 +81,7 @@ impl CellRing {
         ensures ends { result < most → goes_on title (slice_get self.now.cells (from + result)) ≡ false }
         ensures within { result ≤ most }
     {
-        let most = most as usize;
-        let (front, back) = behind(&self.marks, from as usize);
-        let here = inner_marks(title, front, most);
-        if here < front.len() {
-            return here as u32;
-        }
-        (here + inner_marks(title, back, most - here)) as u32
+        self.marks.inner(title, from, most)
     }
 
     /// How many cells, from this one on and at most so many, have this title. The front cell is number 0.
@@ -97,13 +90,7 @@ impl CellRing {
         ensures ends { result < most → has_title title (slice_get self.now.cells (from + result)) ≡ false }
         ensures within { result ≤ most }
     {
-        let most = most as usize;
-        let (front, back) = behind(&self.marks, from as usize);
-        let here = titled_marks(title, front, most);
-        if here < front.len() {
-            return here as u32;
-        }
-        (here + titled_marks(title, back, most - here)) as u32
+        self.marks.titled(title, from, most)
     }
 
     /// Appends a cell.
@@ -113,24 +100,22 @@ impl CellRing {
     {
         self.left.push_back(cell.left);
         self.right.push_back(cell.right);
-        self.marks.push_back(CellMark {
-            first: cell.first,
-            title: cell.title,
-        });
+        self.marks.push(cell.first, cell.title, 1);
     }
 
-    /// Appends the cells of these samples and marks.
-    pub(crate) fn push_cells(&mut self, left: &[i16], right: &[i16], marks: &[CellMark])
-        requires same { (length left.now ≡ length marks.now) × (length right.now ≡ length marks.now) }
-        requires there { length self.old.cells + length marks.now ≤ self.old.room }
+    /// Appends the cells of these samples and of the marks of these runs, but for so many of the first.
+    pub(crate) fn push_cells(&mut self, left: &[i16], right: &[i16], runs: &[MarkRun], skip: u32)
+        requires same { (length left.now ≡ length (drop skip (marks_in runs.now)))
+            × (length right.now ≡ length (drop skip (marks_in runs.now))) }
+        requires there { length self.old.cells + length left.now ≤ self.old.room }
         ensures { self.new ≡ record {
-          cells = self.old.cells ++ cells_in left.now right.now marks.now;
+          cells = self.old.cells ++ cells_in left.now right.now (drop skip (marks_in runs.now));
           room = self.old.room;
         } }
     {
         self.left.extend_from_slice(left);
         self.right.extend_from_slice(right);
-        self.marks.extend_from_slice(marks);
+        self.marks.push_all(runs, skip);
     }
 
     /// Appends cells with this title and these samples, none of which begins a track.
@@ -144,7 +129,7 @@ impl CellRing {
     {
         self.left.extend_from_slice(left);
         self.right.extend_from_slice(right);
-        push_marks(&mut self.marks, title, left.len());
+        self.marks.push(false, title, left.len() as u32);
     }
 
     /// Takes the first cell away, if there is one.
@@ -153,7 +138,7 @@ impl CellRing {
     {
         self.left.pop_front();
         self.right.pop_front();
-        self.marks.pop_front();
+        self.marks.drop_front(1);
     }
 
     /// Moves the samples of the first cells out, as many as the slices are long.
@@ -167,7 +152,7 @@ impl CellRing {
         let count = left.len();
         self.left.read_into(left);
         self.right.read_into(right);
-        self.marks.truncate_front(self.marks.len() - count);
+        self.marks.drop_front(count as u32);
     }
 }
 
@@ -184,76 +169,4 @@ pub(crate) fn slot_in(left: Option<i16>, right: Option<i16>, mark: Option<CellMa
         first: mark.first,
         title: mark.title,
     })
-}
-
-// The marks from this one on, in the two parts of the block.
-fn behind(marks: &HeapCircularBuffer<CellMark>, from: usize) -> (&[CellMark], &[CellMark])
-    ensures { result.0.now ++ result.1.now ≡ drop from marks.now.items }
-{
-    let (front, back) = marks.as_slices();
-    let first = from.min(front.len());
-    let skip = (from - first).min(back.len());
-    (&front[first..], &back[skip..])
-}
-
-// Appends so many marks with this title, none of which begins a track.
-fn push_marks(marks: &mut HeapCircularBuffer<CellMark>, title: u32, count: usize)
-    requires { length marks.old.items + count ≤ marks.old.capacity }
-    ensures { marks.new ≡ buffer (marks.old.items ++ replicate count (record {
-      first = false;
-      title = title;
-    })) marks.old.capacity }
-{
-    let block = [CellMark {
-        first: false,
-        title,
-    }; BLOCK];
-    let mut done = 0;
-    while done < count {
-        let many = (count - done).min(BLOCK);
-        marks.extend_from_slice(&block[..many]);
-        done += many;
-    }
-}
-
-// How many marks, from the first one on and at most so many, have this title and begin no track.
-pub(crate) fn inner_marks(title: u32, marks: &[CellMark], most: usize) -> usize
-    ensures { Runs (begins_none title) marks.now most result }
-{
-    let mut count = 0;
-    while count < most && begins_none(title, marks.get(count).copied()) {
-        count += 1;
-    }
-    count
-}
-
-// How many marks, from the first one on and at most so many, have this title.
-fn titled_marks(title: u32, marks: &[CellMark], most: usize) -> usize
-    ensures { Runs (has_name title) marks.now most result }
-{
-    let mut count = 0;
-    while count < most && has_name(title, marks.get(count).copied()) {
-        count += 1;
-    }
-    count
-}
-
-// A mark with this title that begins no track.
-fn begins_none(title: u32, mark: Option<CellMark>) -> bool
-    ensures { result ≡ begins_none title mark }
-{
-    match mark {
-        Some(mark) => !mark.first && mark.title == title,
-        None => false,
-    }
-}
-
-// A mark with this title.
-fn has_name(title: u32, mark: Option<CellMark>) -> bool
-    ensures { result ≡ has_name title mark }
-{
-    match mark {
-        Some(mark) => mark.title == title,
-        None => false,
-    }
 }

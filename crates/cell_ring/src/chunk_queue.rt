@@ -1,12 +1,14 @@
 // Cells that come in chunks.
 ghost use Rattle.std.specs.Prelude.{◌≡◌, ◌+◌, ◌<◌, ◌≤◌, [], ◌++◌, ℕ, true, false, length, map, max, take, drop, slice_get, IfOk};
 ghost use Rattle.frame_core.specs.Chunks.{cells_in};
+ghost use Rattle.frame_core.specs.MarkRuns.{marks_in};
 ghost use Rattle.frame_core.specs.Slots.{goes_on};
 ghost use Rattle.cell_ring.specs.Rings.{Ring, spare_cells};
 ghost use Rattle.liq_base.specs.declared.limits.TheConstants.{MAX_FRAME};
 
-use crate::cell_ring::{CellRing, inner_marks, slot_in};
-use frame_core::{Cell, CellMark, Chunk};
+use crate::cell_ring::{CellRing, slot_in};
+use crate::mark_ring::walk_runs;
+use frame_core::{Cell, Chunk, MarkRun, mark_at};
 use liq_base::Memory;
 use std::alloc::Global;
 use std::marker::Model;
@@ -50,8 +52,8 @@ impl ChunkQueue {
     pub fn len(&self) -> u64
         ensures { result ≡ length self.now.cells }
     {
-        let (_, _, marks) = spare_of(&self.spare, self.gone);
-        u64::from(self.ring.len()) + marks.len() as u64
+        let (left, _, _, _) = spare_of(&self.spare, self.gone);
+        u64::from(self.ring.len()) + left.len() as u64
     }
 
     /// The first cell.
@@ -61,11 +63,11 @@ impl ChunkQueue {
         if self.ring.len() > 0 {
             return self.ring.front();
         }
-        let (left, right, marks) = spare_of(&self.spare, self.gone);
+        let (left, right, runs, skip) = spare_of(&self.spare, self.gone);
         slot_in(
             left.first().copied(),
             right.first().copied(),
-            marks.first().copied(),
+            mark_at(runs, skip),
         )
     }
 
@@ -82,9 +84,9 @@ impl ChunkQueue {
         if next < held {
             return here;
         }
-        let (_, _, marks) = spare_of(&self.spare, self.gone);
-        let behind = &marks[(next - held).min(marks.len())..];
-        here + inner_marks(title, behind, (most - here) as usize) as u32
+        let (left, _, runs, skip) = spare_of(&self.spare, self.gone);
+        let behind = (next - held).min(left.len()) as u32;
+        here + walk_runs(false, title, runs, skip + behind, most - here).count
     }
 
     /// Appends the cells of a chunk, where those that it holds are no more than its ring has room for.
@@ -92,14 +94,14 @@ impl ChunkQueue {
         requires { length self.old.cells ≤ self.old.room }
         ensures { self.new ≡ record { cells = self.old.cells ++ chunk; room = self.old.room } }
     {
-        let (left, right, marks) = spare_of(&self.spare, self.gone);
-        self.ring.push_cells(left, right, marks);
+        let (left, right, runs, skip) = spare_of(&self.spare, self.gone);
+        self.ring.push_cells(left, right, runs, skip);
         self.gone = 0;
         let wanted = u64::from(self.ring.len()) + u64::from(chunk.len());
         if wanted <= u64::from(self.ring.room()) {
             self.spare = None;
             self.ring
-                .push_cells(chunk.left(), chunk.right(), chunk.marks());
+                .push_cells(chunk.left(), chunk.right(), chunk.runs(), 0);
         } else {
             self.spare = Some(chunk);
         }
@@ -113,8 +115,8 @@ impl ChunkQueue {
             self.ring.pop();
             return;
         }
-        let (_, _, marks) = spare_of(&self.spare, self.gone);
-        if marks.len() > 0 {
+        let (left, _, _, _) = spare_of(&self.spare, self.gone);
+        if left.len() > 0 {
             self.gone += 1;
         }
     }
@@ -132,26 +134,31 @@ impl ChunkQueue {
         let (right_front, right_back) = right.split_at_mut(first);
         self.ring.take_into(left_front, right_front);
         let count = left_back.len();
-        let (left_spare, right_spare, _) = spare_of(&self.spare, self.gone);
+        let (left_spare, right_spare, _, _) = spare_of(&self.spare, self.gone);
         left_back.copy_from_slice(&left_spare[..count]);
         right_back.copy_from_slice(&right_spare[..count]);
         self.gone += count;
     }
 }
 
-// The samples and marks of what is left of a spare chunk of which so many cells have gone.
-fn spare_of(spare: &Option<Chunk>, gone: usize) -> (&[i16], &[i16], &[CellMark])
-    ensures cells { cells_in result.0.now result.1.now result.2.now ≡ spare_cells spare.now gone }
-    ensures same { (length result.0.now ≡ length result.2.now) × (length result.1.now ≡ length result.2.now) }
-    ensures fits { gone + length result.2.now ≤ max gone MAX_FRAME }
+// The samples of what is left of a spare chunk of which so many cells have gone; and its runs, with how many of their
+// marks have gone.
+fn spare_of(spare: &Option<Chunk>, gone: usize) -> (&[i16], &[i16], &[MarkRun], u32)
+    ensures cells { cells_in result.0.now result.1.now (drop result.3 (marks_in result.2.now))
+        ≡ spare_cells spare.now gone }
+    ensures same { (length result.0.now ≡ length (drop result.3 (marks_in result.2.now)))
+        × (length result.1.now ≡ length (drop result.3 (marks_in result.2.now))) }
+    ensures fits { gone + length result.0.now ≤ max gone MAX_FRAME }
+    ensures few { result.3 + length result.0.now ≤ MAX_FRAME }
 {
     let Some(chunk) = spare else {
-        return (&[], &[], &[]);
+        return (&[], &[], &[], 0);
     };
     let first = gone.min(chunk.len() as usize);
     (
         &chunk.left()[first..],
         &chunk.right()[first..],
-        &chunk.marks()[first..],
+        chunk.runs(),
+        first as u32,
     )
 }

@@ -3,6 +3,7 @@
 
 mod cell_ring;
 mod chunk_queue;
+mod mark_ring;
 
 pub use cell_ring::CellRing;
 pub use chunk_queue::ChunkQueue;

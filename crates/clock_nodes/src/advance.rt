@@ -1,6 +1,5 @@
 // The states of a clock's nodes go on by an instant.
 ghost use Rattle.std.specs.Prelude.{◌≡◌, ℕ, List, ◌∷◌, false, length, slice_get, slice_index_or};
-ghost use Rattle.clock_infer.specs.declared.clock_map.NodeClock.TheVariants.{Main as InMain};
 ghost use Rattle.frame_core.specs.Slots.{Slot as TheSlot};
 ghost use Rattle.stream_meaning.specs.Instants.{Setting, Moment, parts_upto, same_clock};
 ghost use Rattle.node_states.specs.States.{AreLong};
@@ -28,7 +27,7 @@ pub fn advance_all(
     requires in_demanded { length demanded.now ≡ length scene.now.plan.now.nodes }
     requires fit { AllFit scene.now states.old }
     ensures fit { AllFit scene.now states.new }
-    ensures others { (i : ℕ) → same_clock (slice_index_or scene.now.clocks.now i (InMain 0)) clock ≡ false
+    ensures others { (i : ℕ) → same_clock (slice_index_or scene.now.clocks.now i (NodeClock.Main 0)) clock ≡ false
         → slice_get states.new i ≡ slice_get states.old i }
     ensures stand { (setting : Setting) (sub : ℕ → ℕ → List TheSlot) (past : List Moment) (moment : Moment) (filled : ℕ
         → ℕ) →

@@ -2,7 +2,6 @@
 ghost use Rattle.std.specs.Prelude.{◌≡◌, ◌<◌, ◌≤◌, ℕ, suc, List, length, slice_index_or, IfOk};
 ghost use Rattle.liq_base.specs.declared.limits.TheConstants.{MAX_NODES};
 ghost use Rattle.clock_infer.specs.declared.clock_map.NodeClock.{NodeClock as Clock};
-ghost use Rattle.clock_infer.specs.declared.clock_map.NodeClock.TheVariants.{Main as InMain};
 ghost use Rattle.clock_nodes.specs.Nodes.{AreNodesOf, IsEnd, IsFirst, number_of};
 
 use clock_infer::NodeClock;
@@ -38,7 +37,7 @@ fn clock_number(clock: NodeClock) -> usize
 
 // A number above those of these clocks.
 fn numbers_of(clocks: &[NodeClock]) -> usize
-    ensures { (i : ℕ) → i < length clocks.now → number_of (slice_index_or clocks.now i (InMain 0)) < result }
+    ensures { (i : ℕ) → i < length clocks.now → number_of (slice_index_or clocks.now i (NodeClock.Main 0)) < result }
 {
     let mut count = 0;
     for clock in clocks {
@@ -51,13 +50,13 @@ fn numbers_of(clocks: &[NodeClock]) -> usize
 fn link_on(clocks: &[NodeClock], firsts: &mut [u32], nexts: &mut [u32])
     requires few { length clocks.now ≤ MAX_NODES }
     requires in_firsts { (i : ℕ) → i < length clocks.now
-        → number_of (slice_index_or clocks.now i (InMain 0)) < length firsts.old }
+        → number_of (slice_index_or clocks.now i (NodeClock.Main 0)) < length firsts.old }
     requires in_nexts { length nexts.old ≡ length clocks.now }
     requires none { (number : ℕ) → slice_index_or firsts.old number (length clocks.now) ≡ length clocks.now }
     ensures first { (clock : Clock)
         → IsFirst clocks.now clock 0 (slice_index_or firsts.new (number_of clock) (length clocks.now)) }
     ensures next { (i : ℕ) → i < length clocks.now
-        → IsFirst clocks.now (slice_index_or clocks.now i (InMain 0)) (suc i) (slice_index_or nexts.new i 0) }
+        → IsFirst clocks.now (slice_index_or clocks.now i (NodeClock.Main 0)) (suc i) (slice_index_or nexts.new i 0) }
 {
     let mut i = clocks.len();
     while i > 0 {
@@ -72,13 +71,13 @@ fn link_on(clocks: &[NodeClock], firsts: &mut [u32], nexts: &mut [u32])
 fn link_back(clocks: &[NodeClock], ends: &mut [u32], befores: &mut [u32])
     requires few { length clocks.now ≤ MAX_NODES }
     requires in_ends { (i : ℕ) → i < length clocks.now
-        → number_of (slice_index_or clocks.now i (InMain 0)) < length ends.old }
+        → number_of (slice_index_or clocks.now i (NodeClock.Main 0)) < length ends.old }
     requires in_befores { length befores.old ≡ length clocks.now }
     requires none { (number : ℕ) → slice_index_or ends.old number 0 ≡ 0 }
     ensures end { (clock : Clock)
         → IsEnd clocks.now clock (length clocks.now) (slice_index_or ends.new (number_of clock) 0) }
     ensures before { (i : ℕ) → i < length clocks.now
-        → IsEnd clocks.now (slice_index_or clocks.now i (InMain 0)) i (slice_index_or befores.new i 0) }
+        → IsEnd clocks.now (slice_index_or clocks.now i (NodeClock.Main 0)) i (slice_index_or befores.new i 0) }
 {
     for i in 0..clocks.len() {
         let number = clock_number(clocks[i]);
@@ -122,7 +121,7 @@ impl ClockNodes {
     pub fn after(&self, i: usize) -> usize
         requires { i < length self.now.nexts.items }
         ensures { (clocks : List Clock) → AreNodesOf clocks self.now
-            → IsFirst clocks (slice_index_or clocks i (InMain 0)) (suc i) result }
+            → IsFirst clocks (slice_index_or clocks i (NodeClock.Main 0)) (suc i) result }
     {
         self.nexts[i] as usize
     }
@@ -141,7 +140,7 @@ impl ClockNodes {
     pub fn before(&self, i: usize) -> usize
         requires { i < length self.now.befores.items }
         ensures { (clocks : List Clock) → AreNodesOf clocks self.now
-            → IsEnd clocks (slice_index_or clocks i (InMain 0)) i result }
+            → IsEnd clocks (slice_index_or clocks i (NodeClock.Main 0)) i result }
     {
         self.befores[i] as usize
     }

@@ -1,6 +1,7 @@
 // A feed of a clock.
-ghost use Rattle.std.specs.Prelude.{◌≡◌, ◌<◌, ◌≤◌, ◌+◌, ◌^◌, suc, [], All, None, Some, length, map, replicate, OnOk, OnErr};
+ghost use Rattle.std.specs.Prelude.{◌≡◌, ◌<◌, ◌≤◌, ◌+◌, ◌^◌, suc, [], All, None, Some, length, map, replicate, IfOk, IfSome, OnOk, OnErr};
 ghost use Rattle.frame_core.specs.Calls.{Adds};
+ghost use Rattle.frame_core.specs.Frames.{chunk_of};
 ghost use Rattle.cell_ring.specs.Rings.{inner_cells};
 ghost use Rattle.clock_outputs.specs.Feeds.{HasGiven, HaveGiven, HaveGivenSome, with_slots_from};
 ghost use Rattle.clock_outputs.specs.Segments.{segment_slots};
@@ -52,8 +53,17 @@ impl FeedPort {
     }
 }
 
+// The chunk of a feed that has given in this tick.
+#[derive(Drop)]
+struct Made<'a> {
+    node: u32,
+    frame: &'a Frame,
+    chunk: Chunk,
+    ghost is: { Some chunk ≡ chunk_of frame.now },
+}
+
 /// Gives the chunk of each feed that has cells to its buffer, in their order. Where memory is refused some of these
-/// gives were made, from the first on.
+/// gives were made, from the first on. Feeds that heard the same of one node give one chunk.
 pub fn give_all<T: Taps>(alloc: Global, feeds: &[FeedPort], taps: &mut T) -> Result<(), Memory>
     requires { All (λ feed. feed.buffer < T.buffers taps.old) feeds.now }
     ensures buffers { T.buffers taps.new ≡ T.buffers taps.old }
@@ -62,21 +72,44 @@ pub fn give_all<T: Taps>(alloc: Global, feeds: &[FeedPort], taps: &mut T) -> Res
     ensures stopped { OnErr result (HaveGivenSome T.stands feeds.now taps.old taps.new) }
     ensures feeds { OnErr result (0 < length feeds.now) }
 {
+    let mut made = Vec::new(alloc);
+    give_each(alloc, feeds, &mut made, taps)
+}
+
+// The same, with a list for the chunks that are made.
+fn give_each<'a, T: Taps>(
+    alloc: Global,
+    feeds: &'a [FeedPort],
+    made: &mut Vec<Made<'a>>,
+    taps: &mut T,
+) -> Result<(), Memory>
+    requires { All (λ feed. feed.buffer < T.buffers taps.old) feeds.now }
+    ensures buffers { T.buffers taps.new ≡ T.buffers taps.old }
+    ensures same { T.same taps.old taps.new }
+    ensures given { OnOk result (HaveGiven T.stands feeds.now (length feeds.now) taps.old taps.new) }
+    ensures stopped { OnErr result (HaveGivenSome T.stands feeds.now taps.old taps.new) }
+    ensures feeds { OnErr result (0 < length feeds.now) }
+{
     for k in 0..feeds.len() {
-        give_one(alloc, &feeds[k], taps)?;
+        give_one(alloc, &feeds[k], made, taps)?;
     }
     Ok(())
 }
 
 // Gives the chunk of a feed, if it has cells.
-fn give_one<T: Taps>(alloc: Global, feed: &FeedPort, taps: &mut T) -> Result<(), Memory>
+fn give_one<'a, T: Taps>(
+    alloc: Global,
+    feed: &'a FeedPort,
+    made: &mut Vec<Made<'a>>,
+    taps: &mut T,
+) -> Result<(), Memory>
     requires { feed.now.buffer < T.buffers taps.old }
     ensures buffers { T.buffers taps.new ≡ T.buffers taps.old }
     ensures same { T.same taps.old taps.new }
     ensures given { OnOk result (HasGiven T.stands feed.now taps.old taps.new) }
     ensures none { OnErr result (Adds T.stands taps.old taps.new []) }
 {
-    let Some(chunk) = Chunk::from_frame(alloc, &feed.frame)? else {
+    let Some(chunk) = chunk_of_feed(alloc, feed, made)? else {
         return Ok(());
     };
     match taps.give(feed.buffer, chunk) {
@@ -89,4 +122,40 @@ fn give_one<T: Taps>(alloc: Global, feed: &FeedPort, taps: &mut T) -> Result<(),
             Err(refused)
         }
     }
+}
+
+// The chunk of a feed, if it has cells: that of an earlier feed of its node, or a new one, which is noted.
+fn chunk_of_feed<'a>(
+    alloc: Global,
+    feed: &'a FeedPort,
+    made: &mut Vec<Made<'a>>,
+) -> Result<Option<Chunk>, Memory>
+    ensures cells { IfOk result (λ chunk. chunk ≡ chunk_of feed.now.frame) }
+{
+    if let Some(chunk) = shared_chunk(made, feed)? {
+        return Ok(Some(chunk));
+    }
+    let Some(chunk) = Chunk::from_frame(alloc, &feed.frame)? else {
+        return Ok(None);
+    };
+    let again = chunk.share()?;
+    made.push(Made {
+        node: feed.node,
+        frame: &feed.frame,
+        chunk,
+    })?;
+    Ok(Some(again))
+}
+
+// The chunk that an earlier feed of the same node made, if there is one.
+fn shared_chunk(made: &[Made<'_>], feed: &FeedPort) -> Result<Option<Chunk>, Memory>
+    ensures { IfOk result (λ found. IfSome found (λ chunk. Some chunk ≡ chunk_of feed.now.frame)) }
+{
+    for k in 0..made.len() {
+        let one = &made[k];
+        if one.node == feed.node && one.frame.is_same(&feed.frame) {
+            return Ok(Some(one.chunk.share()?));
+        }
+    }
+    Ok(None)
 }

@@ -9,7 +9,6 @@ ghost use Rattle.clock_infer.specs.Answers.{IsClockMap};
 ghost use Rattle.frame_core.specs.Library.{IsLibrary};
 ghost use Rattle.clock_ticks.specs.Standing.{IsClockState};
 ghost use Rattle.clock_ticks.specs.Hearings.{Heard, HeardSome};
-ghost use Rattle.clock_infer.specs.declared.clock_map.NodeClock.TheVariants.{Main as InMain};
 ghost use Rattle.clock_ticks.specs.Engines.{AreClocksOf, AreParts, EngineStands, EngineStopped, IsWhole, after_tick, feed_of, outputs_of, hearing_of, setting_of};
 ghost use Rattle.clock_ticks.specs.Pieces.{GotSomePieces};
 ghost use Rattle.stream_meaning.specs.Sinks.{cues, gaps, IsOutput};
@@ -143,14 +142,16 @@ fn run_parts<T: Taps>(parts: &mut EngineParts<'_>, taps: &mut T) -> Result<(), M
     ensures buffers { T.buffers taps.new ≡ T.buffers taps.old }
     ensures same { T.same taps.old taps.new }
     ensures heard { OnOk result
-        (Heard T.stands parts.old.scene (InMain parts.old.clock) parts.old.own.items parts.old.scene.plan.now.frame
+        (Heard T.stands parts.old.scene (NodeClock.Main parts.old.clock) parts.old.own.items
+        parts.old.scene.plan.now.frame
         (hearing_of parts.old taps.old) (hearing_of parts.new taps.new)) }
     ensures stopped { OnErr result
-        (HeardSome T.stands parts.old.scene (InMain parts.old.clock) parts.old.own.items
+        (HeardSome T.stands parts.old.scene (NodeClock.Main parts.old.clock) parts.old.own.items
         parts.old.scene.plan.now.frame
         (hearing_of parts.old taps.old) (hearing_of parts.new taps.new)) }
     ensures cues { parts.new.cues.keeping ≡ parts.old.cues.keeping }
-    ensures needs { OnErr result (HasReader parts.old.scene.plan.now parts.old.scene.clocks.now (InMain parts.old.clock)
+    ensures needs { OnErr result (HasReader parts.old.scene.plan.now parts.old.scene.clocks.now
+        (NodeClock.Main parts.old.clock)
         ⊎ (parts.old.cues.keeping ≡ true)) }
 {
     let clock = NodeClock::Main(parts.clock);
@@ -182,14 +183,16 @@ fn run_or_stop<T: Taps>(parts: &mut EngineParts<'_>, taps: &mut T) -> Result<(),
     ensures buffers { T.buffers taps.new ≡ T.buffers taps.old }
     ensures same { T.same taps.old taps.new }
     ensures heard { OnOk result
-        (Heard T.stands parts.old.scene (InMain parts.old.clock) parts.old.own.items parts.old.scene.plan.now.frame
+        (Heard T.stands parts.old.scene (NodeClock.Main parts.old.clock) parts.old.own.items
+        parts.old.scene.plan.now.frame
         (hearing_of parts.old taps.old) (hearing_of parts.new taps.new)) }
     ensures stopped { OnErr result
-        (HeardSome T.stands parts.old.scene (InMain parts.old.clock) parts.old.own.items
+        (HeardSome T.stands parts.old.scene (NodeClock.Main parts.old.clock) parts.old.own.items
         parts.old.scene.plan.now.frame
         (hearing_of parts.old taps.old) (hearing_of parts.new taps.new)) }
     ensures cues { parts.new.cues.keeping ≡ parts.old.cues.keeping }
-    ensures needs { OnErr result (HasReader parts.old.scene.plan.now parts.old.scene.clocks.now (InMain parts.old.clock)
+    ensures needs { OnErr result (HasReader parts.old.scene.plan.now parts.old.scene.clocks.now
+        (NodeClock.Main parts.old.clock)
         ⊎ (parts.old.cues.keeping ≡ true)) }
 {
     match run_parts(parts, taps) {

@@ -3,7 +3,6 @@ ghost use Rattle.std.specs.Prelude.{◌≡◌, ◌<◌, ◌≤◌, ◌||◌, ℕ
 ghost use Rattle.std.specs.List.{list_any};
 ghost use Rattle.liq_base.specs.declared.limits.TheConstants.{MAX_CHILDREN, MAX_NODES};
 ghost use Rattle.plan_core.specs.Plans.{AreNodes, IsInRange, IsWellFormed, sink_node};
-ghost use Rattle.clock_infer.specs.declared.clock_map.NodeClock.TheVariants.{Main as InMain};
 ghost use Rattle.frame_core.specs.Library.{IsLibrary};
 ghost use Rattle.stream_meaning.specs.Instants.{Setting, is_root, same_clock};
 ghost use Rattle.node_states.specs.declared.state.NodeState.{NodeState as State};
@@ -101,7 +100,7 @@ fn states_of(alloc: Global, scene: &Scene<'_>, clock: u32) -> Result<Vec<NodeSta
 
 // Whether this is the main clock of this number.
 pub fn is_main(of: NodeClock, clock: u32) -> bool
-    ensures { result ≡ same_clock of (InMain clock) }
+    ensures { result ≡ same_clock of (NodeClock.Main clock) }
 {
     match of {
         NodeClock::Main(m) => m == clock,
@@ -163,7 +162,7 @@ fn state_of(
 // Whether a main clock drives node i, which lies in it or in a sub-clock below it. It goes up by as many clocks as
 // there are nodes, which is more than nest in any plan.
 fn is_driven(clocks: &[NodeClock], clock: u32, i: u32) -> bool
-    ensures { result ≡ false → (rank : ℕ) → IsUnder clocks.now (InMain clock) rank i → ⊥ }
+    ensures { result ≡ false → (rank : ℕ) → IsUnder clocks.now (NodeClock.Main clock) rank i → ⊥ }
 {
     let mut at = i;
     for _ in 0..clocks.len() {
@@ -177,7 +176,7 @@ fn is_driven(clocks: &[NodeClock], clock: u32, i: u32) -> bool
 
 // The clock of a node.
 fn clock_at(clocks: &[NodeClock], i: u32) -> NodeClock
-    ensures { result ≡ slice_index_or clocks.now i (InMain 0) }
+    ensures { result ≡ slice_index_or clocks.now i (NodeClock.Main 0) }
 {
     match clocks.get(i as usize) {
         Some(clock) => *clock,
@@ -202,7 +201,7 @@ fn demand_roots(scene: &Scene<'_>, own: &mut [bool])
     requires none { (i : ℕ) → slice_index_or own.old i false ≡ false }
     ensures { (other : Setting) (i : ℕ) → i < length own.old
         → slice_index_or own.new i false
-        ≡ is_root (setting_over scene.now other) (slice_index_or scene.now.clocks.now i (InMain 0)) i }
+        ≡ is_root (setting_over scene.now other) (slice_index_or scene.now.clocks.now i (NodeClock.Main 0)) i }
 {
     demand_sinks(scene.plan.sinks.as_slice(), own);
     keep_roots(scene, own);
@@ -226,7 +225,7 @@ fn keep_roots(scene: &Scene<'_>, own: &mut [bool])
         ≡ list_any (λ sink. nat_eq (sink_node sink) i) scene.now.plan.now.sinks }
     ensures { (other : Setting) (i : ℕ) → i < length own.old
         → slice_index_or own.new i false
-        ≡ is_root (setting_over scene.now other) (slice_index_or scene.now.clocks.now i (InMain 0)) i }
+        ≡ is_root (setting_over scene.now other) (slice_index_or scene.now.clocks.now i (NodeClock.Main 0)) i }
 {
     for i in 0..scene.clocks.len() {
         own[i] = is_own_root(scene, scene.clocks[i], i, own[i]);

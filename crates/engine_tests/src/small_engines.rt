@@ -3,7 +3,7 @@ ghost use Rattle.std.specs.Prelude.{◌≡◌, Some, length, slice_get, IfOk};
 ghost use Rattle.plan_core.specs.Plans.{IsWellFormed};
 ghost use Rattle.plan_samples.specs.Stereos.{sole_node};
 ghost use Rattle.clock_infer.specs.Answers.{IsClockMap};
-ghost use Rattle.clock_infer.specs.declared.clock_map.NodeClock.TheVariants.{Main as InMain};
+ghost use Rattle.clock_infer.specs.declared.clock_map.NodeClock.{NodeClock};
 ghost use Rattle.frame_core.specs.Library.{IsLibrary};
 ghost use Rattle.clock_ticks.specs.Engines.{setting_of};
 ghost use Rattle.engine_tests.specs.SettingOver.{setting_over};
@@ -42,7 +42,7 @@ fn begun<'a>(
     requires library { IsLibrary library.now }
     requires leaves { length library.now.leaves ≡ length plan.now.nodes }
     requires sinks { sole_node plan.now.sinks ≡ Some node }
-    requires clock { slice_get clocks.now.of node ≡ Some (InMain 0) }
+    requires clock { slice_get clocks.now.of node ≡ Some (NodeClock.Main 0) }
     requires one { length outs.items ≡ 1 }
     ensures setting { IfOk result (λ engine. setting_of engine.parts ≡ setting_over plan.now library.now clocks.now) }
     ensures clock { IfOk result (λ engine. engine.parts.clock ≡ 0) }
@@ -125,7 +125,7 @@ fn check_clock(
     requires library { IsLibrary library.now }
     requires leaves { length library.now.leaves ≡ length plan.now.nodes }
     requires sinks { sole_node plan.now.sinks ≡ Some node }
-    requires clock { slice_get clocks.now.of node ≡ Some (InMain 0) }
+    requires clock { slice_get clocks.now.of node ≡ Some (NodeClock.Main 0) }
     requires buffers { length taps.old ≡ length plan.now.buffers }
 {
     let outs = one_sink(alloc)?;

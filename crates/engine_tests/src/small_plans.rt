@@ -3,7 +3,6 @@
 ghost use Rattle.std.specs.Prelude.{◌≡◌, ◌≤◌, [], Some, IfOk, length, slice_get, true};
 ghost use Rattle.plan_core.specs.Plans.{IsWellFormed};
 ghost use Rattle.plan_samples.specs.Stereos.{sole_node};
-ghost use Rattle.clock_infer.specs.declared.clock_map.NodeClock.TheVariants.{Main as InMain};
 ghost use Rattle.frame_core.specs.Library.{IsLibrary};
 
 use clock_infer::{ClockMap, NodeClock};
@@ -15,7 +14,7 @@ use plan_samples::CheckedDraft;
 use std::alloc::{AllocError, Global};
 use std::process::Abort;
 use std::test::Fail;
-use time_pred::Pred;
+use time_pred::{Pred, SharedPred};
 
 /// An operator of a small plan.
 #[derive(Clone, Copy)]
@@ -64,7 +63,10 @@ fn no_name(alloc: Global) -> Text
 
 // A switch with this predicate.
 fn switch(alloc: Global, pred: Pred) -> Result<Op, AllocError> {
-    let preds = Preds::from_vec(Vec::from_array(alloc, [pred])?);
+    let Ok(shared) = SharedPred::new(alloc, pred) else {
+        return Err(AllocError);
+    };
+    let preds = Preds::from_vec(Vec::from_array(alloc, [shared])?);
     Ok(Op::Switch {
         sensitive: true,
         preds,
@@ -171,7 +173,7 @@ fn is_main(clock: NodeClock, number: u32) -> bool
 
 /// Whether a node lies in the main clock of this number.
 pub(crate) fn lies_in(clocks: &ClockMap, node: u32, number: u32) -> bool
-    ensures { result ≡ true → slice_get clocks.now.of node ≡ Some (InMain number) }
+    ensures { result ≡ true → slice_get clocks.now.of node ≡ Some (NodeClock.Main number) }
 {
     match clocks.of.as_slice().get(node as usize) {
         Some(clock) => is_main(*clock, number),

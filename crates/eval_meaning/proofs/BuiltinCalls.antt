@@ -2,7 +2,7 @@
 use Rattle.std.proofs.Common.{◌≡◌, ℕ, List, [], ◌∷◌, Bool, true, false, Some, None, refl, sym, subst}
 use Rattle.std.specs.Prelude.{ℤ, pos, slice_get, ⊤, codes, map}
 use Rattle.liq_base.specs.declared.memory.Kind.{Kind}
-use Rattle.liq_base.specs.declared.memory.Kind.TheVariants.{Mono, Stereo as Both}
+use Rattle.liq_base.specs.declared.memory.Kind.TheVariants.{Mono}
 use Rattle.fixed_text.specs.declared.decimal.Decimal.{Decimal}
 use Rattle.plan_core.specs.declared.node.Node.{Node}
 use Rattle.plan_core.specs.declared.node.Op.{Op}
@@ -141,19 +141,19 @@ amplify_safe kinds given m j is_kinds whole =
     fixed m.plan.nodes (λ (y : ℕ × List Argument). Taking strip m.plan.nodes [] [] y.1) (Of (source j)) (plain_source m.plan.nodes k factor.1) (λ s. add (node (op.Amplify factor.0) k (s.0 ∷ [])) m) (source_step strip m.plan.nodes (codes "s") [] [] factor.1 k (strip_commutes None plain_other) (subst (λ (i : Kind). Taking strip m.plan.nodes (in_place (codes "s") ∷ []) (source i ∷ []) factor.1) (sym is_k) taking0)) (λ s taking2.
     subst (λ (i : Kind). Safe m.plan.nodes (Of (source i)) (add (node (op.Amplify factor.0) k (s.0 ∷ [])) m)) is_k (add_safe (node (op.Amplify factor.0) k (s.0 ∷ [])) m))))
 
-mean_safe : (given : List Argument) (m : Machine) → Taking all m.plan.nodes (perhaps (codes "id") ∷ in_place (codes "s") ∷ []) (base_type base.Text ∷ source Both ∷ []) given → Safe m.plan.nodes (Of (source Mono)) (mean given m)
+mean_safe : (given : List Argument) (m : Machine) → Taking all m.plan.nodes (perhaps (codes "id") ∷ in_place (codes "s") ∷ []) (base_type base.Text ∷ source Kind.Stereo ∷ []) given → Safe m.plan.nodes (Of (source Mono)) (mean given m)
 unfolding mean
 mean_safe given m whole =
-    let taking = behind_id m.plan.nodes (in_place (codes "s") ∷ []) (base_type base.Text) (source Both ∷ []) given whole in
-    fixed m.plan.nodes (λ (y : ℕ × List Argument). Taking strip m.plan.nodes [] [] y.1) (Of (source Mono)) (plain_source m.plan.nodes Both given) (λ s. add (node op.Mean Mono (s.0 ∷ [])) m) (source_step strip m.plan.nodes (codes "s") [] [] given Both (strip_commutes None plain_other) taking) (λ s taking0.
+    let taking = behind_id m.plan.nodes (in_place (codes "s") ∷ []) (base_type base.Text) (source Kind.Stereo ∷ []) given whole in
+    fixed m.plan.nodes (λ (y : ℕ × List Argument). Taking strip m.plan.nodes [] [] y.1) (Of (source Mono)) (plain_source m.plan.nodes Kind.Stereo given) (λ s. add (node op.Mean Mono (s.0 ∷ [])) m) (source_step strip m.plan.nodes (codes "s") [] [] given Kind.Stereo (strip_commutes None plain_other) taking) (λ s taking0.
     add_safe (node op.Mean Mono (s.0 ∷ [])) m)
 
-stereo_safe : (given : List Argument) (m : Machine) → Taking all m.plan.nodes (perhaps (codes "id") ∷ in_place (codes "s") ∷ []) (base_type base.Text ∷ source Mono ∷ []) given → Safe m.plan.nodes (Of (source Both)) (stereo given m)
+stereo_safe : (given : List Argument) (m : Machine) → Taking all m.plan.nodes (perhaps (codes "id") ∷ in_place (codes "s") ∷ []) (base_type base.Text ∷ source Mono ∷ []) given → Safe m.plan.nodes (Of (source Kind.Stereo)) (stereo given m)
 unfolding stereo
 stereo_safe given m whole =
     let taking = behind_id m.plan.nodes (in_place (codes "s") ∷ []) (base_type base.Text) (source Mono ∷ []) given whole in
-    fixed m.plan.nodes (λ (y : ℕ × List Argument). Taking strip m.plan.nodes [] [] y.1) (Of (source Both)) (plain_source m.plan.nodes Mono given) (λ s. add (node op.Stereo Both (s.0 ∷ [])) m) (source_step strip m.plan.nodes (codes "s") [] [] given Mono (strip_commutes None plain_other) taking) (λ s taking0.
-    add_safe (node op.Stereo Both (s.0 ∷ [])) m)
+    fixed m.plan.nodes (λ (y : ℕ × List Argument). Taking strip m.plan.nodes [] [] y.1) (Of (source Kind.Stereo)) (plain_source m.plan.nodes Mono given) (λ s. add (node op.Stereo Kind.Stereo (s.0 ∷ [])) m) (source_step strip m.plan.nodes (codes "s") [] [] given Mono (strip_commutes None plain_other) taking) (λ s taking0.
+    add_safe (node op.Stereo Kind.Stereo (s.0 ∷ [])) m)
 
 crossfade_safe : (at : ℕ) (kinds : List Kind) (given : List Argument) (m : Machine) (j : Kind) → j ∷ [] ≡ kinds → Taking all m.plan.nodes (perhaps (codes "id") ∷ perhaps (codes "duration") ∷ in_place (codes "s") ∷ []) (base_type base.Text ∷ base_type base.Decimal ∷ source j ∷ []) given → Safe m.plan.nodes (Of (source j)) (crossfade at kinds given m)
 unfolding crossfade

@@ -16,8 +16,8 @@ use Rattle.type_terms.specs.Ground.{Ground, Grounds, base_type, list, tuple, sou
 use Rattle.type_terms.specs.Ground as ground
 use Rattle.type_terms.specs.declared.ty.Base.TheVariants as base
 use Rattle.typing_rules.specs.Arguments.{Parameter, argument}
-use Rattle.script_values.specs.declared.fault.Fault.{Fault}
-use Rattle.script_values.specs.declared.fault.Fault.TheVariants.{Stuck, BadValue, BadSetting, TooLarge, TooManySources, SameOutput}
+use Rattle.script_values.specs.declared.fault.Stop.{Stop}
+use Rattle.script_values.specs.declared.fault.Stop.TheVariants.{Stuck, BadValue, BadSetting, TooLarge, TooManySources, SameOutput}
 use Rattle.script_values.specs.declared.fault.Limit.{Limit}
 use Rattle.script_values.specs.declared.fault.Limit.TheVariants.{Children, Crossfades, Overlap, Prefill, Capacity, Outputs}
 use Rattle.script_values.specs.declared.machine.Machine.{Machine}
@@ -38,17 +38,17 @@ use Rattle.eval_meaning.proofs.BuiltinTaking.{Taken, Taking, Commutes, Perhaps_f
 
 -- ---- steps behind steps, without a state
 
-pub then_not : {A B : Type 0} (P : A → Type 0) (Q : B → Type 0) (r : Result A Fault) (f : A → Result B Fault) → NotStuck P r → ((a : A) → P a → NotStuck Q (f a)) → NotStuck Q (r >>= f)
+pub then_not : {A B : Type 0} (P : A → Type 0) (Q : B → Type 0) (r : Result A Stop) (f : A → Result B Stop) → NotStuck P r → ((a : A) → P a → NotStuck Q (f a)) → NotStuck Q (r >>= f)
 then_not P Q (Ok a) f is later = later a is
 then_not P Q (Err e) f is later = is
 
-plain_by : {A : Type 0} (read : Value → Result A Fault) (P : A × List Argument → Type 0) (o : Taken) (x : Value × List Argument) → o ≡ Some x → NotStuck (λ a. P (a, x.1)) (read x.0) → NotStuck P (needed o >>= λ y. read y.0 >>= λ a. Ok (a, y.1))
+plain_by : {A : Type 0} (read : Value → Result A Stop) (P : A × List Argument → Type 0) (o : Taken) (x : Value × List Argument) → o ≡ Some x → NotStuck (λ a. P (a, x.1)) (read x.0) → NotStuck P (needed o >>= λ y. read y.0 >>= λ a. Ok (a, y.1))
 plain_by read P o x is done =
     subst (λ (p : Taken). NotStuck P (needed p >>= λ y. read y.0 >>= λ a. Ok (a, y.1))) (sym is)
     (then_not (λ a. P (a, x.1)) P (read x.0) (λ a. Ok (a, x.1)) done (λ a p. p))
 
 -- whatever is read, what holds of the arguments behind it
-pub weaker : {A : Type 0} (P : A → Type 0) (Q : Type 0) (r : Result A Fault) → Q → NotStuck P r → NotStuck (λ _. Q) r
+pub weaker : {A : Type 0} (P : A → Type 0) (Q : Type 0) (r : Result A Stop) → Q → NotStuck P r → NotStuck (λ _. Q) r
 weaker P Q (Ok a) q is = q
 weaker P Q (Err e) q is = is
 
@@ -56,13 +56,13 @@ weaker P Q (Err e) q is = is
 
 text_read : (ns : List Node) (v : Value) → IsA ns v (base_type base.Text) → NotStuck (λ _. ⊤) (as_text v)
 unfolding as_text
-text_read ns (value.Text t) is = tt
+text_read ns (value.TextValue t) is = tt
 text_read ns (value.Int n) is = absurd cc
 text_read ns (value.Number d) is = absurd cc
 text_read ns (value.TruthValue b) is = absurd cc
 text_read ns value.UnitValue is = absurd cc
 text_read ns (value.FormatValue wide) is = absurd cc
-text_read ns (value.Pred p) is = absurd cc
+text_read ns (value.PredValue p) is = absurd cc
 text_read ns (value.Source n) is = let e = is.2 in absurd cc
 text_read ns (value.ListValue vs) is = let e = is.1 in absurd cc
 text_read ns (value.TupleValue vs) is = let e = is.1 in absurd cc
@@ -70,12 +70,12 @@ text_read ns (value.TupleValue vs) is = let e = is.1 in absurd cc
 decimal_read : (ns : List Node) (v : Value) → IsA ns v (base_type base.Decimal) → NotStuck (λ _. ⊤) (as_decimal v)
 unfolding as_decimal
 decimal_read ns (value.Number d) is = tt
-decimal_read ns (value.Text t) is = absurd cc
+decimal_read ns (value.TextValue t) is = absurd cc
 decimal_read ns (value.Int n) is = absurd cc
 decimal_read ns (value.TruthValue b) is = absurd cc
 decimal_read ns value.UnitValue is = absurd cc
 decimal_read ns (value.FormatValue wide) is = absurd cc
-decimal_read ns (value.Pred p) is = absurd cc
+decimal_read ns (value.PredValue p) is = absurd cc
 decimal_read ns (value.Source n) is = let e = is.2 in absurd cc
 decimal_read ns (value.ListValue vs) is = let e = is.1 in absurd cc
 decimal_read ns (value.TupleValue vs) is = let e = is.1 in absurd cc
@@ -84,11 +84,11 @@ int_read : (ns : List Node) (v : Value) → IsA ns v (base_type base.Int) → No
 unfolding as_int
 int_read ns (value.Int n) is = tt
 int_read ns (value.Number d) is = absurd cc
-int_read ns (value.Text t) is = absurd cc
+int_read ns (value.TextValue t) is = absurd cc
 int_read ns (value.TruthValue b) is = absurd cc
 int_read ns value.UnitValue is = absurd cc
 int_read ns (value.FormatValue wide) is = absurd cc
-int_read ns (value.Pred p) is = absurd cc
+int_read ns (value.PredValue p) is = absurd cc
 int_read ns (value.Source n) is = let e = is.2 in absurd cc
 int_read ns (value.ListValue vs) is = let e = is.1 in absurd cc
 int_read ns (value.TupleValue vs) is = let e = is.1 in absurd cc
@@ -96,12 +96,12 @@ int_read ns (value.TupleValue vs) is = let e = is.1 in absurd cc
 bool_read : (ns : List Node) (v : Value) → IsA ns v (base_type base.Bool) → NotStuck (λ _. ⊤) (as_bool v)
 unfolding as_bool
 bool_read ns (value.TruthValue b) is = tt
-bool_read ns (value.Text t) is = absurd cc
+bool_read ns (value.TextValue t) is = absurd cc
 bool_read ns (value.Int n) is = absurd cc
 bool_read ns (value.Number d) is = absurd cc
 bool_read ns value.UnitValue is = absurd cc
 bool_read ns (value.FormatValue wide) is = absurd cc
-bool_read ns (value.Pred p) is = absurd cc
+bool_read ns (value.PredValue p) is = absurd cc
 bool_read ns (value.Source n) is = let e = is.2 in absurd cc
 bool_read ns (value.ListValue vs) is = let e = is.1 in absurd cc
 bool_read ns (value.TupleValue vs) is = let e = is.1 in absurd cc
@@ -109,21 +109,21 @@ bool_read ns (value.TupleValue vs) is = let e = is.1 in absurd cc
 format_read : (ns : List Node) (v : Value) → IsA ns v (base_type base.Format) → NotStuck (λ _. ⊤) (as_format v)
 unfolding as_format
 format_read ns (value.FormatValue wide) is = tt
-format_read ns (value.Text t) is = absurd cc
+format_read ns (value.TextValue t) is = absurd cc
 format_read ns (value.Int n) is = absurd cc
 format_read ns (value.Number d) is = absurd cc
 format_read ns (value.TruthValue b) is = absurd cc
 format_read ns value.UnitValue is = absurd cc
-format_read ns (value.Pred p) is = absurd cc
+format_read ns (value.PredValue p) is = absurd cc
 format_read ns (value.Source n) is = let e = is.2 in absurd cc
 format_read ns (value.ListValue vs) is = let e = is.1 in absurd cc
 format_read ns (value.TupleValue vs) is = let e = is.1 in absurd cc
 
 pred_read : (ns : List Node) (v : Value) → IsA ns v (base_type base.Pred) → NotStuck (λ _. ⊤) (pred_of v)
 unfolding pred_of
-pred_read ns (value.Pred p) is = tt
+pred_read ns (value.PredValue p) is = tt
 pred_read ns (value.FormatValue wide) is = absurd cc
-pred_read ns (value.Text t) is = absurd cc
+pred_read ns (value.TextValue t) is = absurd cc
 pred_read ns (value.Int n) is = absurd cc
 pred_read ns (value.Number d) is = absurd cc
 pred_read ns (value.TruthValue b) is = absurd cc
@@ -136,7 +136,7 @@ same_kind : (k : Kind) → is_kind k k ≡ true
 same_kind Mono = refl
 same_kind Stereo = refl
 
-of_by : (b : Bool) (n : ℕ) → b ≡ true → NotStuck (λ _. ⊤) (elim b as (λ _. Result ℕ Fault) [ true ↦ Ok n | false ↦ Err Stuck ])
+of_by : (b : Bool) (n : ℕ) → b ≡ true → NotStuck (λ _. ⊤) (elim b as (λ _. Result ℕ Stop) [ true ↦ Ok n | false ↦ Err Stuck ])
 of_by true n is = tt
 of_by false n is = absurd cc
 
@@ -149,12 +149,12 @@ source_read : (ns : List Node) (k : Kind) (v : Value) → IsA ns v (source k) �
 unfolding source_of
 source_read ns k (value.Source n) is = source_there ns k n is.0 is.1 is.2
 source_read ns k (value.FormatValue wide) is = absurd cc
-source_read ns k (value.Text t) is = absurd cc
+source_read ns k (value.TextValue t) is = absurd cc
 source_read ns k (value.Int n) is = absurd cc
 source_read ns k (value.Number d) is = absurd cc
 source_read ns k (value.TruthValue b) is = absurd cc
 source_read ns k value.UnitValue is = absurd cc
-source_read ns k (value.Pred p) is = absurd cc
+source_read ns k (value.PredValue p) is = absurd cc
 source_read ns k (value.ListValue vs) is = let e = is.1 in absurd cc
 source_read ns k (value.TupleValue vs) is = let e = is.1 in absurd cc
 
@@ -170,17 +170,17 @@ sources_read ns k (value.ListValue vs) is =
     let same : is.0 ≡ source k = (let e = is.1 in cc) in
     nodes_read ns k vs [] (subst (λ (t : Ground). AllAre ns vs t) same is.2)
 sources_read ns k (value.FormatValue wide) is = absurd cc
-sources_read ns k (value.Text t) is = absurd cc
+sources_read ns k (value.TextValue t) is = absurd cc
 sources_read ns k (value.Int n) is = absurd cc
 sources_read ns k (value.Number d) is = absurd cc
 sources_read ns k (value.TruthValue b) is = absurd cc
 sources_read ns k value.UnitValue is = absurd cc
-sources_read ns k (value.Pred p) is = absurd cc
+sources_read ns k (value.PredValue p) is = absurd cc
 sources_read ns k (value.Source n) is = let e = is.2 in absurd cc
 sources_read ns k (value.TupleValue vs) is = let e = is.1 in absurd cc
 
 abbrev pub pair_types : Kind → Grounds
-pair_types k = ground.more (base_type base.Pred) (ground.more (source k) ground.no_more)
+pair_types k = ground.and_more (base_type base.Pred) (ground.and_more (source k) ground.no_more)
 
 in_pair : (ns : List Node) (k : Kind) (vs : value.ValueTree value.ManyValues) → EachIs ns vs (pair_types k) → NotStuck (λ _. ⊤) (pair_in ns k vs)
 unfolding pair_in
@@ -201,12 +201,12 @@ pair_read ns k (value.TupleValue vs) is =
     let same : is.0 ≡ pair_types k = (let e = is.1 in cc) in
     in_pair ns k vs (subst (λ (t : Grounds). EachIs ns vs t) same is.2)
 pair_read ns k (value.FormatValue wide) is = absurd cc
-pair_read ns k (value.Text t) is = absurd cc
+pair_read ns k (value.TextValue t) is = absurd cc
 pair_read ns k (value.Int n) is = absurd cc
 pair_read ns k (value.Number d) is = absurd cc
 pair_read ns k (value.TruthValue b) is = absurd cc
 pair_read ns k value.UnitValue is = absurd cc
-pair_read ns k (value.Pred p) is = absurd cc
+pair_read ns k (value.PredValue p) is = absurd cc
 pair_read ns k (value.Source n) is = let e = is.2 in absurd cc
 pair_read ns k (value.ListValue vs) is = let e = is.1 in absurd cc
 
@@ -222,19 +222,19 @@ all_pairs_read ns k (value.ListValue vs) is =
     let same : is.0 ≡ tuple (pair_types k) = (let e = is.1 in cc) in
     pairs_read ns k vs [] [] (subst (λ (t : Ground). AllAre ns vs t) same is.2)
 all_pairs_read ns k (value.FormatValue wide) is = absurd cc
-all_pairs_read ns k (value.Text t) is = absurd cc
+all_pairs_read ns k (value.TextValue t) is = absurd cc
 all_pairs_read ns k (value.Int n) is = absurd cc
 all_pairs_read ns k (value.Number d) is = absurd cc
 all_pairs_read ns k (value.TruthValue b) is = absurd cc
 all_pairs_read ns k value.UnitValue is = absurd cc
-all_pairs_read ns k (value.Pred p) is = absurd cc
+all_pairs_read ns k (value.PredValue p) is = absurd cc
 all_pairs_read ns k (value.Source n) is = let e = is.2 in absurd cc
 all_pairs_read ns k (value.TupleValue vs) is = let e = is.1 in absurd cc
 
 -- ---- parameters
 
 module _ (S : List Argument → List Argument) (ns : List Node) (name : List ℕ) (ps : List Parameter) (ts : List Ground) (given : List Argument) where
-  needed_step : {A : Type 0} (t : Ground) (read : Value → Result A Fault) → ((v : Value) → IsA ns v t → NotStuck (λ _. ⊤) (read v)) → Commutes S None → Taking S ns (in_place name ∷ ps) (t ∷ ts) given
+  needed_step : {A : Type 0} (t : Ground) (read : Value → Result A Stop) → ((v : Value) → IsA ns v t → NotStuck (λ _. ⊤) (read v)) → Commutes S None → Taking S ns (in_place name ∷ ps) (t ∷ ts) given
       → NotStuck (λ (y : A × List Argument). Taking S ns ps ts y.1) (needed (argument None given) >>= λ y. read y.0 >>= λ a. Ok (a, y.1))
   needed_step {A = A} t read reads commutes taking =
       let found = take_plain S ns name ps t ts given commutes taking in
@@ -271,7 +271,7 @@ module _ (S : List Argument → List Argument) (ns : List Node) (name : List ℕ
       let found = take_plain S ns name ps t ts given commutes taking in
       subst (λ (o : Taken). NotStuck (λ (y : Value × List Argument). Taking S ns ps ts y.1) (needed o)) (sym found.is) found.others
 
-  optional_by : {A : Type 0} (t : Ground) (read : Value → Result A Fault) (default : A) → ((v : Value) → IsA ns v t → NotStuck (λ _. ⊤) (read v)) → (o : Taken) → Perhaps_found S ns ps t ts given o
+  optional_by : {A : Type 0} (t : Ground) (read : Value → Result A Stop) (default : A) → ((v : Value) → IsA ns v t → NotStuck (λ _. ⊤) (read v)) → (o : Taken) → Perhaps_found S ns ps t ts given o
       → NotStuck (λ (y : A × List Argument). Taking S ns ps ts y.1) (or_default read default given o)
   optional_by {A = A} t read default reads o (missing is rest) = subst (λ (p : Taken). NotStuck (λ (y : A × List Argument). Taking S ns ps ts y.1) (or_default read default given p)) (sym is) rest
   optional_by {A = A} t read default reads o (there found) =
@@ -300,11 +300,11 @@ module _ (S : List Argument → List Argument) (ns : List Node) (name : List ℕ
 pub kind_step : (kinds : List Kind) (j : Kind) → j ∷ [] ≡ kinds → NotStuck (λ (k : Kind). k ≡ j) (one_kind kinds)
 kind_step kinds j is = subst (λ (l : List Kind). NotStuck (λ (k : Kind). k ≡ j) (one_kind l)) is refl
 
-told_by : {A : Type 0} (b : Bool) (e : Fault) (r : Result A Fault) → IsTold e → NotStuck (λ _. ⊤) r → NotStuck (λ _. ⊤) (elim b as (λ _. Result A Fault) [ true ↦ Err e | false ↦ r ])
+told_by : {A : Type 0} (b : Bool) (e : Stop) (r : Result A Stop) → IsTold e → NotStuck (λ _. ⊤) r → NotStuck (λ _. ⊤) (elim b as (λ _. Result A Stop) [ true ↦ Err e | false ↦ r ])
 told_by true e r told is = told
 told_by false e r told is = is
 
-good_by : {A : Type 0} (b : Bool) (e : Fault) (x : A) → IsTold e → NotStuck (λ _. ⊤) (elim b as (λ _. Result A Fault) [ true ↦ Ok x | false ↦ Err e ])
+good_by : {A : Type 0} (b : Bool) (e : Stop) (x : A) → IsTold e → NotStuck (λ _. ⊤) (elim b as (λ _. Result A Stop) [ true ↦ Ok x | false ↦ Err e ])
 good_by true e x told = tt
 good_by false e x told = told
 
@@ -327,7 +327,7 @@ pub overlap_step : (at rate : ℕ) (d : Decimal) → NotStuck (λ _. ⊤) (overl
 unfolding overlap_samples
 overlap_step at rate d = told_by (int_le d.millionths (pos 0)) (BadValue at) (some_samples at (samples_in d.millionths rate)) tt (some_step at (samples_in d.millionths rate))
 
-track_by : (b : Bool) (at n : ℕ) → NotStuck (λ _. ⊤) (elim b as (λ _. Result ℕ Fault) [ true ↦ Ok 0 | false ↦ some_samples at n ])
+track_by : (b : Bool) (at n : ℕ) → NotStuck (λ _. ⊤) (elim b as (λ _. Result ℕ Stop) [ true ↦ Ok 0 | false ↦ some_samples at n ])
 track_by true at n = tt
 track_by false at n = some_step at n
 
@@ -378,7 +378,7 @@ abbrev one_more : Machine → Node → Machine
 one_more m one = record m { plan = with_node m.plan one }
 
 push_by : (a b : Bool) (c : ℕ) (one : Node) (m : Machine) → Safe m.plan.nodes (λ ns n. slice_get ns n ≡ Some one)
-    ((elim a as (λ _. Result ℕ Fault) [ true ↦ Ok c | false ↦ Err (TooLarge Crossfades) ]) >>= λ crossfades. elim b as (λ _. Result (ℕ × Machine) Fault) [ true ↦ Err TooManySources | false ↦ Ok (length m.plan.nodes, one_more m one) ])
+    ((elim a as (λ _. Result ℕ Stop) [ true ↦ Ok c | false ↦ Err (TooLarge Crossfades) ]) >>= λ crossfades. elim b as (λ _. Result (ℕ × Machine) Stop) [ true ↦ Err TooManySources | false ↦ Ok (length m.plan.nodes, one_more m one) ])
 push_by true true c one m = tt
 push_by true false c one m = (λ i old there_is. stays m.plan.nodes (one ∷ []) i old there_is, last_is m.plan.nodes one)
 push_by false b c one m = tt
@@ -387,7 +387,7 @@ pub push_safe : (one : Node) (m : Machine) → Safe m.plan.nodes (λ ns n. slice
 unfolding push
 push_safe one m = push_by (nat_le (crossfades_from m.plan.nodes one) MAX_CROSSFADES) (nat_le MAX_NODES (length m.plan.nodes)) (crossfades_from m.plan.nodes one) one m
 
-pushed_value : (ns : List Node) (one : Node) (r : Result (ℕ × Machine) Fault) → Safe ns (λ ks n. slice_get ks n ≡ Some one) r → Safe ns (Of (source one.kind)) (r >>= λ x. Ok (value.Source x.0, x.1))
+pushed_value : (ns : List Node) (one : Node) (r : Result (ℕ × Machine) Stop) → Safe ns (λ ks n. slice_get ks n ≡ Some one) r → Safe ns (Of (source one.kind)) (r >>= λ x. Ok (value.Source x.0, x.1))
 pushed_value ns one (Ok x) safe = (safe.0, (one, safe.1, refl))
 pushed_value ns one (Err e) safe = safe
 
@@ -421,11 +421,11 @@ rate_told : (v : Value) → NotStuck (λ _. ⊤) (rate_of v)
 unfolding rate_of
 rate_told (value.Int n) = good_by (int_le (pos MIN_RATE) n && int_le n (pos MAX_RATE)) BadSetting (unsigned_abs n) tt
 rate_told (value.Number d) = tt
-rate_told (value.Text t) = tt
+rate_told (value.TextValue t) = tt
 rate_told (value.TruthValue b) = tt
 rate_told value.UnitValue = tt
 rate_told (value.FormatValue wide) = tt
-rate_told (value.Pred p) = tt
+rate_told (value.PredValue p) = tt
 rate_told (value.Source n) = tt
 rate_told (value.ListValue vs) = tt
 rate_told (value.TupleValue vs) = tt
@@ -434,22 +434,22 @@ duration_told : (v : Value) → NotStuck (λ _. ⊤) (duration_of v)
 unfolding duration_of
 duration_told (value.Number d) = tt
 duration_told (value.Int n) = tt
-duration_told (value.Text t) = tt
+duration_told (value.TextValue t) = tt
 duration_told (value.TruthValue b) = tt
 duration_told value.UnitValue = tt
 duration_told (value.FormatValue wide) = tt
-duration_told (value.Pred p) = tt
+duration_told (value.PredValue p) = tt
 duration_told (value.Source n) = tt
 duration_told (value.ListValue vs) = tt
 duration_told (value.TupleValue vs) = tt
 
-rate_by : (b : Bool) (v : Value) (m : Machine) → Safe m.plan.nodes (Of unit) ((elim b as (λ _. Result Machine Fault) [ true ↦ Ok (record m { settings = record m.settings { last = m.settings.statement } }) | false ↦ Err BadSetting ]) >>= λ c. rate_of v >>= λ rate. Ok (value.UnitValue, record c { plan = record c.plan { rate = rate } }))
+rate_by : (b : Bool) (v : Value) (m : Machine) → Safe m.plan.nodes (Of unit) ((elim b as (λ _. Result Machine Stop) [ true ↦ Ok (record m { settings = record m.settings { last = m.settings.statement } }) | false ↦ Err BadSetting ]) >>= λ c. rate_of v >>= λ rate. Ok (value.UnitValue, record c { plan = record c.plan { rate = rate } }))
 rate_by true v m =
     let c : Machine = record m { settings = record m.settings { last = m.settings.statement } } in
     fixed m.plan.nodes (λ _. ⊤) (Of unit) (rate_of v) (λ rate. Ok (value.UnitValue, record c { plan = record c.plan { rate = rate } })) (rate_told v) (λ rate _. (λ i old there_is. there_is, refl))
 rate_by false v m = tt
 
-duration_by : (b : Bool) (v : Value) (m : Machine) → Safe m.plan.nodes (Of unit) ((elim b as (λ _. Result Machine Fault) [ true ↦ Ok (record m { settings = record m.settings { last = m.settings.statement } }) | false ↦ Err BadSetting ]) >>= λ c. duration_of v >>= λ d. Ok (value.UnitValue, record c { settings = record c.settings { duration = d } }))
+duration_by : (b : Bool) (v : Value) (m : Machine) → Safe m.plan.nodes (Of unit) ((elim b as (λ _. Result Machine Stop) [ true ↦ Ok (record m { settings = record m.settings { last = m.settings.statement } }) | false ↦ Err BadSetting ]) >>= λ c. duration_of v >>= λ d. Ok (value.UnitValue, record c { settings = record c.settings { duration = d } }))
 duration_by true v m =
     let c : Machine = record m { settings = record m.settings { last = m.settings.statement } } in
     fixed m.plan.nodes (λ _. ⊤) (Of unit) (duration_of v) (λ d. Ok (value.UnitValue, record c { settings = record c.settings { duration = d } })) (duration_told v) (λ d _. (λ i old there_is. there_is, refl))

@@ -7,7 +7,7 @@ use Rattle.plan_core.specs.declared.sink.SinkPlan.TheVariants.{Output}
 use Rattle.fixed_text.specs.declared.decimal.Decimal.{Decimal}
 use Rattle.script_grammar.specs.declared.tree.Literal.TheVariants as literal
 use Rattle.script_grammar.specs.declared.tree.CompareOp.TheVariants as op
-use Rattle.script_grammar.specs.Tree.{Tree, Many, none, more, AFull, AnExpr, AnOperand, AnArg, AStmt, Plain, Expr, And, Not, Alone, Compared, Sum, Product, Multiplied, Constant, Quoted, Truth, Named, Called, Chosen, Listed, Format, NamedCall, Arg, If, Param, Optional, Bind, Def, Stmt, BindPart, DefPart, CallPart, Script}
+use Rattle.script_grammar.specs.Tree.{Tree, Many, none, more, AFull, AnExpr, AnOperand, AnArg, AStmt, Plain, Expr, And, Not, Alone, Compared, Sum, Product, Multiplied, Constant, Quoted, Truth, Named, Called, Chosen, Listed, PlaceFormat, NamedCall, Arg, If, Param, Optional, Bind, Def, Stmt, BindPart, DefPart, CallPart, Script}
 use Rattle.typing_rules.specs.declared.uses.Use.{Use}
 use Rattle.typing_rules.specs.declared.uses.Builtin.TheVariants as builtins
 use Rattle.typing_rules.specs.declared.uses.KindOf.TheVariants as kind_of
@@ -177,7 +177,7 @@ calls_17 = refl
 
 -- def f() = blank() end  def g() = f() end  output.file(%wav, "A", g())  output.file(%wav, "B", g()), the first mono and the second stereo
 abbrev written : ℕ → List ℕ → Tree AStmt
-written at name = Stmt (CallPart (NamedCall at (codes "output.file") (more (unlabelled (at + 2) (Format (at + 2) None)) (more (unlabelled (at + 4) (Quoted (at + 4) name)) (more (unlabelled (at + 6) (Called (NamedCall (at + 6) (codes "g") none))) none))))) false
+written at name = Stmt (CallPart (NamedCall at (codes "output.file") (more (unlabelled (at + 2) (PlaceFormat (at + 2) None)) (more (unlabelled (at + 4) (Quoted (at + 4) name)) (more (unlabelled (at + 6) (Called (NamedCall (at + 6) (codes "g") none))) none))))) false
 
 abbrev two_kinds : Script
 two_kinds =
@@ -202,7 +202,7 @@ each_kind = refl
 
 -- output.file(%wav(samplesize=bits), "A", blank())
 abbrev sized : ℤ → Script
-sized bits = more (Stmt (CallPart (NamedCall 0 (codes "output.file") (more (unlabelled 1 (Format 1 (Some bits))) (more (unlabelled 8 (Quoted 8 (codes "A"))) (more (unlabelled 10 (Called (NamedCall 10 (codes "blank") none))) none))))) false) none
+sized bits = more (Stmt (CallPart (NamedCall 0 (codes "output.file") (more (unlabelled 1 (PlaceFormat 1 (Some bits))) (more (unlabelled 8 (Quoted 8 (codes "A"))) (more (unlabelled 10 (Called (NamedCall 10 (codes "blank") none))) none))))) false) none
 
 abbrev uses_of_sized : List Use
 uses_of_sized =

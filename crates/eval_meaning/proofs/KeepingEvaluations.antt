@@ -1,7 +1,7 @@
 -- What counting and the builtins keep true of the state, evaluation keeps.
 use Rattle.std.proofs.Common.{ℕ, zero, suc, List, [], ◌∷◌, ◌++◌, Bool, true, false, Option, Some, None, Result, Ok, Err}
 use Rattle.liq_base.specs.declared.memory.Kind.{Kind}
-use Rattle.script_grammar.specs.Tree.{Tree, Many, none, more, AFull, AnExpr, AnAnd, ANot, ACompare, ASum, AnAdded, AProduct, AMultiplied, AnOperand, ACall, AnArg, AnIf, AParam, AnInner, ADef, Negative, Plain, Expr, And, Not, Alone, Compared, Sum, Added, Product, Multiplied, Constant, Quoted, Truth, Named, Called, Chosen, Nothing, Paren, Tuple, Listed, Braces, Format, NamedCall, Arg, If, Param, Labelled, Optional, Inner, Bind, Def, APart, BindPart, DefPart, CallPart, IfPart}
+use Rattle.script_grammar.specs.Tree.{Tree, Many, none, more, AFull, AnExpr, AnAnd, ANot, ACompare, ASum, AnAdded, AProduct, AMultiplied, AnOperand, ACall, AnArg, AnIf, AParam, AnInner, ADef, Negative, Plain, Expr, And, Not, Alone, Compared, Sum, Added, Product, Multiplied, Constant, Quoted, Truth, Named, Called, Chosen, Nothing, Paren, Tuple, Listed, Braces, PlaceFormat, NamedCall, Arg, If, Param, Labelled, Optional, Inner, Bind, Def, APart, BindPart, DefPart, CallPart, IfPart}
 use Rattle.typing_rules.specs.declared.uses.Use.{Use}
 use Rattle.typing_rules.specs.declared.uses.Target.{Target}
 use Rattle.typing_rules.specs.declared.uses.Target.TheVariants as target
@@ -9,8 +9,8 @@ use Rattle.typing_rules.specs.Arguments.{argument}
 use Rattle.typing_rules.specs.Defs.{def_at}
 use Rattle.typing_rules.specs.Kinds.{kinds_of}
 use Rattle.typing_rules.specs.Uses.{use_at}
-use Rattle.script_values.specs.declared.fault.Fault.{Fault}
-use Rattle.script_values.specs.declared.fault.Fault.TheVariants.{Stuck}
+use Rattle.script_values.specs.declared.fault.Stop.{Stop}
+use Rattle.script_values.specs.declared.fault.Stop.TheVariants.{Stuck}
 use Rattle.script_values.specs.declared.machine.Machine.{Machine}
 use Rattle.script_values.specs.Machines.{count_work}
 use Rattle.script_values.specs.Numbers.{literal_value, negative, added, multiplied, compared, either, both, opposite, truth_of}
@@ -26,22 +26,22 @@ use Rattle.eval_meaning.specs.Scripts.{statement}
 
 -- ---- steps behind steps
 
-after : {A B : Type 0} (P : Machine → Type 0) (r : Result (A × Machine) Fault) (f : A × Machine → Result (B × Machine) Fault) → HoldsBehind P r → ((x : A × Machine) → P x.1 → HoldsBehind P (f x)) → HoldsBehind P (r >>= f)
+after : {A B : Type 0} (P : Machine → Type 0) (r : Result (A × Machine) Stop) (f : A × Machine → Result (B × Machine) Stop) → HoldsBehind P r → ((x : A × Machine) → P x.1 → HoldsBehind P (f x)) → HoldsBehind P (r >>= f)
 after P (Ok x) f is later = later x is
 after P (Err e) f is later = tt
 
-counted : {B : Type 0} {P : Machine → Type 0} → IsKept P → (n : ℕ) (m : Machine) (f : Machine → Result (B × Machine) Fault) → P m → ((c : Machine) → P c → HoldsBehind P (f c)) → HoldsBehind P (count_work n m >>= f)
+counted : {B : Type 0} {P : Machine → Type 0} → IsKept P → (n : ℕ) (m : Machine) (f : Machine → Result (B × Machine) Stop) → P m → ((c : Machine) → P c → HoldsBehind P (f c)) → HoldsBehind P (count_work n m >>= f)
 counted {P = P} kept n m f is later = behind (count_work n m) (kept.counts n m is) where
-  behind : (r : Result Machine Fault) → Leaves P r → HoldsBehind P (r >>= f)
+  behind : (r : Result Machine Stop) → Leaves P r → HoldsBehind P (r >>= f)
   behind (Ok c) held = later c held
   behind (Err e) held = tt
 
 -- a step that has no state
-fixed : {A B : Type 0} (P : Machine → Type 0) (r : Result A Fault) (f : A → Result (B × Machine) Fault) → ((x : A) → HoldsBehind P (f x)) → HoldsBehind P (r >>= f)
+fixed : {A B : Type 0} (P : Machine → Type 0) (r : Result A Stop) (f : A → Result (B × Machine) Stop) → ((x : A) → HoldsBehind P (f x)) → HoldsBehind P (r >>= f)
 fixed P (Ok x) f later = later x
 fixed P (Err e) f later = tt
 
-joined_keeps : {P : Machine → Type 0} → IsKept P → (op : Value → Value → Result Value Fault) (v : Value) (right : Outcome) → HoldsBehind P right → HoldsBehind P (operator_applied op v right)
+joined_keeps : {P : Machine → Type 0} → IsKept P → (op : Value → Value → Result Value Stop) (v : Value) (right : Outcome) → HoldsBehind P right → HoldsBehind P (operator_applied op v right)
 joined_keeps {P = P} kept op v right is =
     after P right (λ x. count_work 1 x.1 >>= λ c. op v x.0 >>= λ u. Ok (u, c)) is (λ x held.
     counted kept 1 x.1 (λ c. op v x.0 >>= λ u. Ok (u, c)) held (λ c still. fixed P (op v x.0) (λ u. Ok (u, c)) (λ u. still)))
@@ -133,7 +133,7 @@ mutual
 
   operand_keeps : {P : Machine → Type 0} → IsKept P → (s : Surroundings) → KeepsCalls P s → (e : Tree AnOperand) (m : Machine) → P m → HoldsBehind P (meaning.operand s e m)
   operand_keeps kept s calls (Constant at n) m is = counted kept 1 m (λ c. Ok (literal_value n, c)) is (λ c still. still)
-  operand_keeps kept s calls (Quoted at text) m is = counted kept 1 m (λ c. Ok (value.Text text, c)) is (λ c still. still)
+  operand_keeps kept s calls (Quoted at text) m is = counted kept 1 m (λ c. Ok (value.TextValue text, c)) is (λ c still. still)
   operand_keeps kept s calls (Truth at b) m is = counted kept 1 m (λ c. Ok (value.TruthValue b, c)) is (λ c still. still)
   operand_keeps kept s calls (Named at name) m is = named_keeps kept s (use_at at s.uses) m is
   operand_keeps kept s calls (Called k) m is = counted kept 1 m (λ c. meaning.call s k c) is (λ c still. call_keeps kept s calls k c still)
@@ -148,8 +148,8 @@ mutual
   operand_keeps {P = P} kept s calls (Listed at parts) m is =
       counted kept 1 m (λ c. meaning.fulls s parts [] c >>= λ z. Ok (value.ListValue (many z.0), z.1)) is (λ c still.
       after P (meaning.fulls s parts [] c) (λ z. Ok (value.ListValue (many z.0), z.1)) (fulls_keeps kept s calls parts [] c still) (λ z last. last))
-  operand_keeps kept s calls (Braces at pred) m is = counted kept 1 m (λ c. Ok (value.Pred (or_pred pred), c)) is (λ c still. still)
-  operand_keeps {P = P} kept s calls (Format at bits) m is = counted kept 1 m (λ c. meaning.format at bits >>= λ v. Ok (v, c)) is (λ c still. fixed P (meaning.format at bits) (λ v. Ok (v, c)) (λ v. still))
+  operand_keeps kept s calls (Braces at pred) m is = counted kept 1 m (λ c. Ok (value.PredValue (or_pred pred), c)) is (λ c still. still)
+  operand_keeps {P = P} kept s calls (PlaceFormat at bits) m is = counted kept 1 m (λ c. meaning.format at bits >>= λ v. Ok (v, c)) is (λ c still. fixed P (meaning.format at bits) (λ v. Ok (v, c)) (λ v. still))
 
   fulls_keeps : {P : Machine → Type 0} → IsKept P → (s : Surroundings) → KeepsCalls P s → (rest : Tree (Many AFull)) (vs : List Value) (m : Machine) → P m → HoldsBehind P (meaning.fulls s rest vs m)
   fulls_keeps kept s calls none vs m is = is

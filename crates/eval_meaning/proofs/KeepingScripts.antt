@@ -8,7 +8,7 @@ use Rattle.plan_core.specs.declared.plan.Plan.{Plan}
 use Rattle.plan_core.specs.Plans.{IsWellFormed, is_output}
 use Rattle.script_grammar.specs.Tree.{Tree, Many, none, more, AStmt, APart, Stmt, Script}
 use Rattle.typing_rules.specs.declared.uses.Use.{Use}
-use Rattle.script_values.specs.declared.fault.Fault.{Fault}
+use Rattle.script_values.specs.declared.fault.Stop.{Stop}
 use Rattle.script_values.specs.declared.fault.EvalFault.TheVariants as told
 use Rattle.script_values.specs.declared.machine.Machine.{Machine}
 use Rattle.script_values.specs.Machines.{count_work, first_machine}
@@ -22,11 +22,11 @@ use Rattle.eval_meaning.specs.Keeping.{IsKept, HoldsBehind, Leaves}
 use Rattle.eval_meaning.specs.Scripts.{Ending, and_then, closed, settings_ended, evaluation, ending_in, numbered, plan_of, settings_settled, statement, statements, tick_of, top_scope, turned}
 use Rattle.eval_meaning.proofs.KeepingEvaluations.{calls_keep, statement_keeps}
 
-left_by : (r : Result Machine Fault) (m : Machine) → ((c : Machine) → r ≡ Ok c → IsSound m → IsSound c) → IsSound m → Leaves IsSound r
+left_by : (r : Result Machine Stop) (m : Machine) → ((c : Machine) → r ≡ Ok c → IsSound m → IsSound c) → IsSound m → Leaves IsSound r
 left_by (Ok c) m each is = each c refl is
 left_by (Err e) m each is = tt
 
-kept_by : (r : Result (Value × Machine) Fault) (m : Machine) → ((x : Value × Machine) → r ≡ Ok x → IsSound m → IsSound x.1) → IsSound m → HoldsBehind IsSound r
+kept_by : (r : Result (Value × Machine) Stop) (m : Machine) → ((x : Value × Machine) → r ≡ Ok x → IsSound m → IsSound x.1) → IsSound m → HoldsBehind IsSound r
 kept_by (Ok x) m each is = each x refl is
 kept_by (Err e) m each is = tt
 
@@ -99,7 +99,7 @@ then_leaves : {A : Type 0} (r : Result (A × Machine) Ending) (f : A × Machine 
 then_leaves (Ok x) f is later = later x is
 then_leaves (Err e) f is later = tt
 
-in_keeps : {A : Type 0} (n : ℕ) (r : Result (A × Machine) Fault) → HoldsBehind IsSound r → HoldsBehind IsSound (ending_in n r)
+in_keeps : {A : Type 0} (n : ℕ) (r : Result (A × Machine) Stop) → HoldsBehind IsSound r → HoldsBehind IsSound (ending_in n r)
 in_keeps n (Ok x) is = is
 in_keeps n (Err e) is = tt
 

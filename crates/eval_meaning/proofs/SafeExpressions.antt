@@ -6,7 +6,7 @@ use Rattle.plan_core.specs.declared.node.Node.{Node}
 use Rattle.script_grammar.specs.declared.tree.Literal.{Literal}
 use Rattle.script_grammar.specs.declared.tree.Literal.TheVariants as literal
 use Rattle.script_grammar.specs.declared.tree.CompareOp.{CompareOp}
-use Rattle.script_grammar.specs.Tree.{Tree, Many, none, more, AFull, AnExpr, AnAnd, ANot, ACompare, ASum, AnAdded, AProduct, AMultiplied, AnOperand, ACall, AnArg, AnIf, APOr, Negative, Plain, Expr, And, Not, Alone, Compared, Sum, Added, Product, Multiplied, Constant, Quoted, Truth, Named, Called, Chosen, Nothing, Paren, Tuple, Listed, Braces, Format, NamedCall, Arg, If}
+use Rattle.script_grammar.specs.Tree.{Tree, Many, none, more, AFull, AnExpr, AnAnd, ANot, ACompare, ASum, AnAdded, AProduct, AMultiplied, AnOperand, ACall, AnArg, AnIf, APOr, Negative, Plain, Expr, And, Not, Alone, Compared, Sum, Added, Product, Multiplied, Constant, Quoted, Truth, Named, Called, Chosen, Nothing, Paren, Tuple, Listed, Braces, PlaceFormat, NamedCall, Arg, If}
 use Rattle.type_terms.specs.Ground.{Ground, Grounds, base_type, list, tuple, source, IsNumber, no_more}
 use Rattle.type_terms.specs.Ground as ground
 use Rattle.type_terms.specs.declared.ty.Base.TheVariants as base
@@ -18,8 +18,8 @@ use Rattle.typing_rules.specs.Kinds.{kinds_in, kinds_of, target_said}
 use Rattle.typing_rules.specs.Table.{IsCallOf}
 use Rattle.typing_rules.specs.Typing.{Sight, truth, literal_type, NameHas, Applied, Has, EachHas, HaveAll, AreGiven}
 use Rattle.typing_rules.specs.Uses.{use_at}
-use Rattle.script_values.specs.declared.fault.Fault.{Fault}
-use Rattle.script_values.specs.declared.fault.Fault.TheVariants as faults
+use Rattle.script_values.specs.declared.fault.Stop.{Stop}
+use Rattle.script_values.specs.declared.fault.Stop.TheVariants as faults
 use Rattle.script_values.specs.declared.machine.Machine.{Machine}
 use Rattle.script_values.specs.Machines.{count_work}
 use Rattle.script_values.specs.Numbers.{literal_value, negative, added, multiplied, compared, either, both, opposite, truth_of}
@@ -54,7 +54,7 @@ named_safe s t None g m knows has = absurd has
 named_safe s t (Some u) g m knows has = meant_safe s t u.target g m knows has
 
 -- a size other than 16
-abbrev of_other_size : ℕ → ℤ → Result Value Fault
+abbrev of_other_size : ℕ → ℤ → Result Value Stop
 of_other_size at n =
     elim (int_le n (pos 24) && int_le (pos 24) n) [
       | true ↦ Ok (value.FormatValue true)
@@ -110,11 +110,11 @@ all_push ns (u ∷ vs) v g held is = (held.0, all_push ns vs v g held.1 is)
 -- types before others
 abbrev before : List Ground → Grounds → Grounds
 before [] ts = ts
-before (h ∷ hs) ts = ground.more h (before hs ts)
+before (h ∷ hs) ts = ground.and_more h (before hs ts)
 
-before_push : (hs : List Ground) (h : Ground) (ts : Grounds) → before (hs ++ h ∷ []) ts ≡ before hs (ground.more h ts)
+before_push : (hs : List Ground) (h : Ground) (ts : Grounds) → before (hs ++ h ∷ []) ts ≡ before hs (ground.and_more h ts)
 before_push [] h ts = refl
-before_push (k ∷ hs) h ts = ap (ground.more k) (before_push hs h ts)
+before_push (k ∷ hs) h ts = ap (ground.and_more k) (before_push hs h ts)
 
 abbrev EachOf : List Node → List Value → List Ground → Type 0
 EachOf ns [] [] = Unit {0}
@@ -148,13 +148,13 @@ Runs s t g run = (m : Machine) → Knows s t m.plan.nodes → Safe m.plan.nodes 
 abbrev RunsOn : Surroundings → Sight → Ground → Ground → (Value → Machine → Outcome) → Type 0
 RunsOn s t h g next = (v : Value) (m : Machine) → Knows s t m.plan.nodes → IsA m.plan.nodes v h → Safe m.plan.nodes (Of g) (next v m)
 
-abbrev SafeAt : Ground → Ground → (Value → Value → Result Value Fault) → Type 0
+abbrev SafeAt : Ground → Ground → (Value → Value → Result Value Stop) → Type 0
 SafeAt g h op = (ns : List Node) (u w : Value) → IsA ns u g → IsA ns w h → NotStuck (λ (x : Value). IsA ns x g) (op u w)
 
 goes_on : (s : Surroundings) (t : Sight) (h g : Ground) (first : Machine → Outcome) (next : Value → Machine → Outcome) → Runs s t h first → RunsOn s t h g next → Runs s t g (λ m. first m >>= λ x. next x.0 x.1)
 goes_on s t h g first next a b m knows = after m.plan.nodes (Of h) (Of g) (first m) (λ x. next x.0 x.1) (a m knows) (λ x grows held. b x.0 x.1 (knows_later m.plan.nodes x.1.plan.nodes grows s t knows) held)
 
-linked : (s : Surroundings) (t : Sight) (g h k : Ground) (op : Value → Value → Result Value Fault) (run : Machine → Outcome) (next : Value → Machine → Outcome) → SafeAt g h op → Runs s t h run → RunsOn s t g k next → RunsOn s t g k (λ v m. operator_applied op v (run m) >>= λ x. next x.0 x.1)
+linked : (s : Surroundings) (t : Sight) (g h k : Ground) (op : Value → Value → Result Value Stop) (run : Machine → Outcome) (next : Value → Machine → Outcome) → SafeAt g h op → Runs s t h run → RunsOn s t g k next → RunsOn s t g k (λ v m. operator_applied op v (run m) >>= λ x. next x.0 x.1)
 linked s t g h k op run next safe a b v m knows held =
     after m.plan.nodes (Of g) (Of k) (operator_applied op v (run m)) (λ x. next x.0 x.1) (joined_safe m.plan.nodes g h op v (run m) (a m knows) (λ ks grows w is. safe ks v w (is_later m.plan.nodes ks grows v g held) is))
     (λ x grows made. b x.0 x.1 (knows_later m.plan.nodes x.1.plan.nodes grows s t knows) made)
@@ -168,7 +168,7 @@ counts_one s t g run a m knows = counted (Of g) 1 m run (λ work. a (record m { 
 is_made : (s : Surroundings) (t : Sight) (g : Ground) (v : Value) → ((ns : List Node) → IsA ns v g) → Runs s t g (λ c. Ok (v, c))
 is_made s t g v is m knows = (stays m.plan.nodes, is m.plan.nodes)
 
-is_found : (s : Surroundings) (t : Sight) (g : Ground) (r : Result Value Fault) → ((ns : List Node) → NotStuck (λ (u : Value). IsA ns u g) r) → Runs s t g (λ c. r >>= λ v. Ok (v, c))
+is_found : (s : Surroundings) (t : Sight) (g : Ground) (r : Result Value Stop) → ((ns : List Node) → NotStuck (λ (u : Value). IsA ns u g) r) → Runs s t g (λ c. r >>= λ v. Ok (v, c))
 is_found s t g r is m knows = fixed m.plan.nodes (λ (u : Value). IsA m.plan.nodes u g) (Of g) r (λ v. Ok (v, m)) (is m.plan.nodes) (λ v held. (stays m.plan.nodes, held))
 
 is_opposite : (s : Surroundings) (t : Sight) (inner : Machine → Outcome) → Runs s t truth inner → Runs s t truth (λ m. inner m >>= λ x. count_work 1 x.1 >>= λ c. opposite x.0 >>= λ u. Ok (u, c))
@@ -194,33 +194,33 @@ is_chosen s t g condition first second a b c m knows =
     ]))
 
 -- values of the types hs, and others of the types ts behind them
-abbrev RunAll : Surroundings → Sight → List Ground → Grounds → (List Value → Machine → Result (List Value × Machine) Fault) → Type 0
+abbrev RunAll : Surroundings → Sight → List Ground → Grounds → (List Value → Machine → Result (List Value × Machine) Stop) → Type 0
 RunAll s t hs ts run = (vs : List Value) (m : Machine) → Knows s t m.plan.nodes → EachOf m.plan.nodes vs hs → Safe m.plan.nodes (λ ks out. EachIs ks (many out) (before hs ts)) (run vs m)
 
-abbrev RunEach : Surroundings → Sight → Ground → (List Value → Machine → Result (List Value × Machine) Fault) → Type 0
+abbrev RunEach : Surroundings → Sight → Ground → (List Value → Machine → Result (List Value × Machine) Stop) → Type 0
 RunEach s t g run = (vs : List Value) (m : Machine) → Knows s t m.plan.nodes → AllAre m.plan.nodes (many vs) g → Safe m.plan.nodes (λ ks out. AllAre ks (many out) g) (run vs m)
 
-abbrev RunGiven : Surroundings → Sight → List (arguments.GivenArgument Ground) → List (arguments.GivenArgument Ground) → (List Argument → Machine → Result (List Argument × Machine) Fault) → Type 0
+abbrev RunGiven : Surroundings → Sight → List (arguments.GivenArgument Ground) → List (arguments.GivenArgument Ground) → (List Argument → Machine → Result (List Argument × Machine) Stop) → Type 0
 RunGiven s t hs gs run = (given : List Argument) (m : Machine) → Knows s t m.plan.nodes → AreA m.plan.nodes given hs → Safe m.plan.nodes (λ ks out. AreA ks out (hs ++ gs)) (run given m)
 
-is_tuple : (s : Surroundings) (t : Sight) (t1 t2 : Ground) (ts : Grounds) (f h : Machine → Outcome) (rest : List Value → Machine → Result (List Value × Machine) Fault) → Runs s t t1 f → Runs s t t2 h → RunAll s t (t1 ∷ t2 ∷ []) ts rest
-    → Runs s t (tuple (ground.more t1 (ground.more t2 ts))) (λ c. f c >>= λ x. h x.1 >>= λ y. rest (x.0 ∷ y.0 ∷ []) y.1 >>= λ z. Ok (value.TupleValue (many z.0), z.1))
+is_tuple : (s : Surroundings) (t : Sight) (t1 t2 : Ground) (ts : Grounds) (f h : Machine → Outcome) (rest : List Value → Machine → Result (List Value × Machine) Stop) → Runs s t t1 f → Runs s t t2 h → RunAll s t (t1 ∷ t2 ∷ []) ts rest
+    → Runs s t (tuple (ground.and_more t1 (ground.and_more t2 ts))) (λ c. f c >>= λ x. h x.1 >>= λ y. rest (x.0 ∷ y.0 ∷ []) y.1 >>= λ z. Ok (value.TupleValue (many z.0), z.1))
 is_tuple s t t1 t2 ts f h rest a b c m knows =
-    after m.plan.nodes (Of t1) (Of (tuple (ground.more t1 (ground.more t2 ts)))) (f m) (λ x. h x.1 >>= λ y. rest (x.0 ∷ y.0 ∷ []) y.1 >>= λ z. Ok (value.TupleValue (many z.0), z.1)) (a m knows) (λ x grows held.
-    after x.1.plan.nodes (Of t2) (Of (tuple (ground.more t1 (ground.more t2 ts)))) (h x.1) (λ y. rest (x.0 ∷ y.0 ∷ []) y.1 >>= λ z. Ok (value.TupleValue (many z.0), z.1)) (b x.1 (knows_later m.plan.nodes x.1.plan.nodes grows s t knows)) (λ y wider kept.
-    after y.1.plan.nodes (λ ks out. EachIs ks (many out) (ground.more t1 (ground.more t2 ts))) (Of (tuple (ground.more t1 (ground.more t2 ts)))) (rest (x.0 ∷ y.0 ∷ []) y.1) (λ z. Ok (value.TupleValue (many z.0), z.1))
+    after m.plan.nodes (Of t1) (Of (tuple (ground.and_more t1 (ground.and_more t2 ts)))) (f m) (λ x. h x.1 >>= λ y. rest (x.0 ∷ y.0 ∷ []) y.1 >>= λ z. Ok (value.TupleValue (many z.0), z.1)) (a m knows) (λ x grows held.
+    after x.1.plan.nodes (Of t2) (Of (tuple (ground.and_more t1 (ground.and_more t2 ts)))) (h x.1) (λ y. rest (x.0 ∷ y.0 ∷ []) y.1 >>= λ z. Ok (value.TupleValue (many z.0), z.1)) (b x.1 (knows_later m.plan.nodes x.1.plan.nodes grows s t knows)) (λ y wider kept.
+    after y.1.plan.nodes (λ ks out. EachIs ks (many out) (ground.and_more t1 (ground.and_more t2 ts))) (Of (tuple (ground.and_more t1 (ground.and_more t2 ts)))) (rest (x.0 ∷ y.0 ∷ []) y.1) (λ z. Ok (value.TupleValue (many z.0), z.1))
     (c (x.0 ∷ y.0 ∷ []) y.1 (knows_later x.1.plan.nodes y.1.plan.nodes wider s t (knows_later m.plan.nodes x.1.plan.nodes grows s t knows)) (is_later x.1.plan.nodes y.1.plan.nodes wider x.0 t1 held, (kept, tt)))
-    (λ z last all. (stays z.1.plan.nodes, (ground.more t1 (ground.more t2 ts), refl, all)))))
+    (λ z last all. (stays z.1.plan.nodes, (ground.and_more t1 (ground.and_more t2 ts), refl, all)))))
 
-is_list : (s : Surroundings) (t : Sight) (u : Ground) (run : List Value → Machine → Result (List Value × Machine) Fault) → RunEach s t u run → Runs s t (list u) (λ c. run [] c >>= λ z. Ok (value.ListValue (many z.0), z.1))
+is_list : (s : Surroundings) (t : Sight) (u : Ground) (run : List Value → Machine → Result (List Value × Machine) Stop) → RunEach s t u run → Runs s t (list u) (λ c. run [] c >>= λ z. Ok (value.ListValue (many z.0), z.1))
 is_list s t u run a m knows =
     after m.plan.nodes (λ ks out. AllAre ks (many out) u) (Of (list u)) (run [] m) (λ z. Ok (value.ListValue (many z.0), z.1)) (a [] m knows tt) (λ z last all. (stays z.1.plan.nodes, (u, refl, all)))
 
 all_end : (s : Surroundings) (t : Sight) (hs : List Ground) → RunAll s t hs no_more (λ vs m. Ok (vs, m))
 all_end s t hs vs m knows held = (stays m.plan.nodes, each_whole m.plan.nodes vs hs held)
 
-all_next : (s : Surroundings) (t : Sight) (hs : List Ground) (h : Ground) (ts : Grounds) (f : Machine → Outcome) (run : List Value → Machine → Result (List Value × Machine) Fault) → Runs s t h f → RunAll s t (hs ++ h ∷ []) ts run
-    → RunAll s t hs (ground.more h ts) (λ vs m. f m >>= λ x. run (vs ++ x.0 ∷ []) x.1)
+all_next : (s : Surroundings) (t : Sight) (hs : List Ground) (h : Ground) (ts : Grounds) (f : Machine → Outcome) (run : List Value → Machine → Result (List Value × Machine) Stop) → Runs s t h f → RunAll s t (hs ++ h ∷ []) ts run
+    → RunAll s t hs (ground.and_more h ts) (λ vs m. f m >>= λ x. run (vs ++ x.0 ∷ []) x.1)
 all_next s t hs h ts f run a b vs m knows held =
     subst (λ (us : Grounds). Safe m.plan.nodes (λ ks out. EachIs ks (many out) us) (f m >>= λ x. run (vs ++ x.0 ∷ []) x.1)) (before_push hs h ts)
     (after m.plan.nodes (Of h) (λ ks out. EachIs ks (many out) (before (hs ++ h ∷ []) ts)) (f m) (λ x. run (vs ++ x.0 ∷ []) x.1) (a m knows) (λ x grows is.
@@ -229,7 +229,7 @@ all_next s t hs h ts f run a b vs m knows held =
 each_end : (s : Surroundings) (t : Sight) (g : Ground) → RunEach s t g (λ vs m. Ok (vs, m))
 each_end s t g vs m knows held = (stays m.plan.nodes, held)
 
-each_next : (s : Surroundings) (t : Sight) (g : Ground) (f : Machine → Outcome) (run : List Value → Machine → Result (List Value × Machine) Fault) → Runs s t g f → RunEach s t g run → RunEach s t g (λ vs m. f m >>= λ x. run (vs ++ x.0 ∷ []) x.1)
+each_next : (s : Surroundings) (t : Sight) (g : Ground) (f : Machine → Outcome) (run : List Value → Machine → Result (List Value × Machine) Stop) → Runs s t g f → RunEach s t g run → RunEach s t g (λ vs m. f m >>= λ x. run (vs ++ x.0 ∷ []) x.1)
 each_next s t g f run a b vs m knows held =
     after m.plan.nodes (Of g) (λ ks out. AllAre ks (many out) g) (f m) (λ x. run (vs ++ x.0 ∷ []) x.1) (a m knows) (λ x grows is.
     b (vs ++ x.0 ∷ []) x.1 (knows_later m.plan.nodes x.1.plan.nodes grows s t knows) (all_push x.1.plan.nodes vs x.0 g (all_later m.plan.nodes x.1.plan.nodes grows (many vs) g held) is))
@@ -238,10 +238,10 @@ given_end : (s : Surroundings) (t : Sight) (hs : List (arguments.GivenArgument G
 given_end s t hs given m knows held = (stays m.plan.nodes, subst (λ (l : List (arguments.GivenArgument Ground)). AreA m.plan.nodes given l) (sym (append-nil hs)) held)
 
 -- a value behind its label
-abbrev labelled : Option (List ℕ) → Value × Machine → Result (Argument × Machine) Fault
+abbrev labelled : Option (List ℕ) → Value × Machine → Result (Argument × Machine) Stop
 labelled label x = Ok ((label, x.0), x.1)
 
-given_next : (s : Surroundings) (t : Sight) (hs : List (arguments.GivenArgument Ground)) (label : Option (List ℕ)) (h : Ground) (gs : List (arguments.GivenArgument Ground)) (f : Machine → Outcome) (run : List Argument → Machine → Result (List Argument × Machine) Fault) → Runs s t h f → RunGiven s t (hs ++ (label, h) ∷ []) gs run
+given_next : (s : Surroundings) (t : Sight) (hs : List (arguments.GivenArgument Ground)) (label : Option (List ℕ)) (h : Ground) (gs : List (arguments.GivenArgument Ground)) (f : Machine → Outcome) (run : List Argument → Machine → Result (List Argument × Machine) Stop) → Runs s t h f → RunGiven s t (hs ++ (label, h) ∷ []) gs run
     → RunGiven s t hs ((label, h) ∷ gs) (λ given m. (f m >>= labelled label) >>= λ x. run (given ++ x.0 ∷ []) x.1)
 given_next s t hs label h gs f run a b given m knows held =
     subst (λ (l : List (arguments.GivenArgument Ground)). Safe m.plan.nodes (λ ks out. AreA ks out l) ((f m >>= labelled label) >>= λ x. run (given ++ x.0 ∷ []) x.1)) (append_assoc hs ((label, h) ∷ []) gs)
@@ -249,7 +249,7 @@ given_next s t hs label h gs f run a b given m knows held =
     (after m.plan.nodes (Of h) (λ ks one. (one.0 ≡ label) × IsA ks one.1 h) (f m) (labelled label) (a m knows) (λ x grows is. (stays x.1.plan.nodes, (refl, is))))
     (λ x grows one. b (given ++ x.0 ∷ []) x.1 (knows_later m.plan.nodes x.1.plan.nodes grows s t knows) (are_push x.1.plan.nodes given hs x.0 (label, h) (are_later m.plan.nodes x.1.plan.nodes grows given hs held) one.0 one.1)))
 
-is_called : BuiltinsAreSafe → (s : Surroundings) (t : Sight) (at : ℕ) (gs : List (arguments.GivenArgument Ground)) (g : Ground) (run : List Argument → Machine → Result (List Argument × Machine) Fault) → Applied t at (t.target at) gs g → RunGiven s t [] gs run
+is_called : BuiltinsAreSafe → (s : Surroundings) (t : Sight) (at : ℕ) (gs : List (arguments.GivenArgument Ground)) (g : Ground) (run : List Argument → Machine → Result (List Argument × Machine) Stop) → Applied t at (t.target at) gs g → RunGiven s t [] gs run
     → Runs s t g (λ m. run [] m >>= λ x. meaning.applied s (use_at at s.uses) at x.0 x.1)
 is_called bs s t at gs g run has a m knows =
     after m.plan.nodes (λ ks given. AreA ks given gs) (Of g) (run [] m) (λ x. meaning.applied s (use_at at s.uses) at x.0 x.1) (a [] m knows tt) (λ x grows held.
@@ -410,7 +410,7 @@ of_constant s t at n g has = counts_one s t g (λ c. Ok (literal_value n, c)) (i
 
 of_quoted : (s : Surroundings) (t : Sight) (at : ℕ) (text : List ℕ) → OperandSafe s t (Quoted at text)
 unfolding meaning.operand
-of_quoted s t at text g has = counts_one s t g (λ c. Ok (value.Text text, c)) (is_made s t g (value.Text text) (λ ns. has))
+of_quoted s t at text g has = counts_one s t g (λ c. Ok (value.TextValue text, c)) (is_made s t g (value.TextValue text) (λ ns. has))
 
 of_truth : (s : Surroundings) (t : Sight) (at : ℕ) (b : Bool) → OperandSafe s t (Truth at b)
 unfolding meaning.operand
@@ -440,7 +440,7 @@ of_tuple : (s : Surroundings) (t : Sight) (at : ℕ) (f h : Tree AFull) (rest : 
 unfolding meaning.operand
 of_tuple s t at f h rest a b c g has =
     subst (λ (k : Ground). Runs s t k (meaning.operand s (Tuple at f h rest))) (sym has.3)
-    (counts_one s t (tuple (ground.more has.0 (ground.more has.1 has.2))) (λ c. full s f c >>= λ x. full s h x.1 >>= λ y. meaning.fulls s rest (x.0 ∷ y.0 ∷ []) y.1 >>= λ z. Ok (value.TupleValue (many z.0), z.1))
+    (counts_one s t (tuple (ground.and_more has.0 (ground.and_more has.1 has.2))) (λ c. full s f c >>= λ x. full s h x.1 >>= λ y. meaning.fulls s rest (x.0 ∷ y.0 ∷ []) y.1 >>= λ z. Ok (value.TupleValue (many z.0), z.1))
     (is_tuple s t has.0 has.1 has.2 (full s f) (full s h) (meaning.fulls s rest) (a has.0 has.4) (b has.1 has.5) (c has.2 (has.0 ∷ has.1 ∷ []) has.6)))
 
 of_listed : (s : Surroundings) (t : Sight) (at : ℕ) (parts : Tree (Many AFull)) → EachSafe s t parts → OperandSafe s t (Listed at parts)
@@ -451,9 +451,9 @@ of_listed s t at parts a g has =
 
 of_braces : (s : Surroundings) (t : Sight) (at : ℕ) (pred : Tree APOr) → OperandSafe s t (Braces at pred)
 unfolding meaning.operand
-of_braces s t at pred g has = counts_one s t g (λ c. Ok (value.Pred (or_pred pred), c)) (is_made s t g (value.Pred (or_pred pred)) (λ ns. has))
+of_braces s t at pred g has = counts_one s t g (λ c. Ok (value.PredValue (or_pred pred), c)) (is_made s t g (value.PredValue (or_pred pred)) (λ ns. has))
 
-of_format : (s : Surroundings) (t : Sight) (at : ℕ) (bits : Option ℤ) → OperandSafe s t (Format at bits)
+of_format : (s : Surroundings) (t : Sight) (at : ℕ) (bits : Option ℤ) → OperandSafe s t (PlaceFormat at bits)
 unfolding meaning.operand
 of_format s t at bits g has = counts_one s t g (λ c. meaning.format at bits >>= λ v. Ok (v, c)) (is_found s t g (meaning.format at bits) (λ ns. format_safe ns at bits g has))
 
@@ -547,7 +547,7 @@ mutual
   safe_operand bs s t (Tuple at f h rest) = of_tuple s t at f h rest (safe_full bs s t f) (safe_full bs s t h) (safe_alls bs s t rest)
   safe_operand bs s t (Listed at parts) = of_listed s t at parts (safe_each bs s t parts)
   safe_operand bs s t (Braces at pred) = of_braces s t at pred
-  safe_operand bs s t (Format at bits) = of_format s t at bits
+  safe_operand bs s t (PlaceFormat at bits) = of_format s t at bits
 
   safe_alls : BuiltinsAreSafe → (s : Surroundings) (t : Sight) (rest : Tree (Many AFull)) → AllsSafe s t rest
   safe_alls bs s t none = no_alls s t

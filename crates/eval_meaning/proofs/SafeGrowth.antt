@@ -5,8 +5,8 @@ use Rattle.plan_core.specs.declared.node.Node.{Node}
 use Rattle.type_terms.specs.Ground.{Ground, Grounds}
 use Rattle.typing_rules.specs.Arguments as arguments
 use Rattle.typing_rules.specs.Typing.{Sight, TypesByToken}
-use Rattle.script_values.specs.declared.fault.Fault.{Fault}
-use Rattle.script_values.specs.declared.fault.Fault.TheVariants as faults
+use Rattle.script_values.specs.declared.fault.Stop.{Stop}
+use Rattle.script_values.specs.declared.fault.Stop.TheVariants as faults
 use Rattle.script_values.specs.declared.machine.Machine.{Machine}
 use Rattle.script_values.specs.Machines.{count_work}
 use Rattle.script_values.specs.Outcomes.{◌>>=◌, Outcome}
@@ -27,11 +27,11 @@ mutual
   pub is_later : (a b : List Node) → Grows a b → (v : Value) (g : Ground) → IsA a v g → IsA b v g
   is_later a b grows (value.Int n) g is = is
   is_later a b grows (value.Number d) g is = is
-  is_later a b grows (value.Text t) g is = is
+  is_later a b grows (value.TextValue t) g is = is
   is_later a b grows (value.TruthValue t) g is = is
   is_later a b grows value.UnitValue g is = is
   is_later a b grows (value.FormatValue wide) g is = is
-  is_later a b grows (value.Pred p) g is = is
+  is_later a b grows (value.PredValue p) g is = is
   is_later a b grows (value.Source n) g is = (is.0, grows n is.0 is.1, is.2)
   is_later a b grows (value.ListValue vs) g is = (is.0, is.1, all_later a b grows vs is.0 is.2)
   is_later a b grows (value.TupleValue vs) g is = (is.0, is.1, each_later a b grows vs is.0 is.2)
@@ -65,20 +65,20 @@ knows_later a b grows s t knows = record {
 
 -- ---- steps
 
-wider : {A : Type 0} (a b : List Node) (Q : List Node → A → Type 0) (r : Result (A × Machine) Fault) → Grows a b → Safe b Q r → Safe a Q r
+wider : {A : Type 0} (a b : List Node) (Q : List Node → A → Type 0) (r : Result (A × Machine) Stop) → Grows a b → Safe b Q r → Safe a Q r
 wider a b Q (Ok x) grows safe = (grows_on a b x.1.plan.nodes grows safe.0, safe.1)
 wider a b Q (Err e) grows safe = safe
 
-pub after : {A B : Type 0} (ns : List Node) (Q : List Node → A → Type 0) (R : List Node → B → Type 0) (r : Result (A × Machine) Fault) (f : A × Machine → Result (B × Machine) Fault) → Safe ns Q r
+pub after : {A B : Type 0} (ns : List Node) (Q : List Node → A → Type 0) (R : List Node → B → Type 0) (r : Result (A × Machine) Stop) (f : A × Machine → Result (B × Machine) Stop) → Safe ns Q r
     → ((x : A × Machine) → Grows ns x.1.plan.nodes → Q x.1.plan.nodes x.0 → Safe x.1.plan.nodes R (f x)) → Safe ns R (r >>= f)
 after ns Q R (Ok x) f safe later = wider ns x.1.plan.nodes R (f x) safe.0 (later x safe.0 safe.1)
 after ns Q R (Err e) f safe later = safe
 
-pub fixed : {A B : Type 0} (ns : List Node) (P : A → Type 0) (R : List Node → B → Type 0) (r : Result A Fault) (f : A → Result (B × Machine) Fault) → NotStuck P r → ((x : A) → P x → Safe ns R (f x)) → Safe ns R (r >>= f)
+pub fixed : {A B : Type 0} (ns : List Node) (P : A → Type 0) (R : List Node → B → Type 0) (r : Result A Stop) (f : A → Result (B × Machine) Stop) → NotStuck P r → ((x : A) → P x → Safe ns R (f x)) → Safe ns R (r >>= f)
 fixed ns P R (Ok x) f is later = later x is
 fixed ns P R (Err e) f is later = is
 
-pub counted : {B : Type 0} (R : List Node → B → Type 0) (n : ℕ) (m : Machine) (f : Machine → Result (B × Machine) Fault) → ((work : ℕ) → Safe m.plan.nodes R (f (record m { work = work }))) → Safe m.plan.nodes R (count_work n m >>= f)
+pub counted : {B : Type 0} (R : List Node → B → Type 0) (n : ℕ) (m : Machine) (f : Machine → Result (B × Machine) Stop) → ((work : ℕ) → Safe m.plan.nodes R (f (record m { work = work }))) → Safe m.plan.nodes R (count_work n m >>= f)
 unfolding count_work
 counted R n m f later =
     elim (nat_le (m.work + n) MAX_WORK) as (λ b. Safe m.plan.nodes R ((elim b [ true ↦ Ok (record m { work = m.work + n }) | false ↦ Err faults.TooMuchWork ]) >>= f)) [
@@ -87,7 +87,7 @@ counted R n m f later =
     ]
 
 -- an operator behind its operand
-pub joined_safe : (ns : List Node) (g h : Ground) (op : Value → Value → Result Value Fault) (v : Value) (right : Outcome) → Safe ns (Of h) right
+pub joined_safe : (ns : List Node) (g h : Ground) (op : Value → Value → Result Value Stop) (v : Value) (right : Outcome) → Safe ns (Of h) right
     → ((ks : List Node) → Grows ns ks → (w : Value) → IsA ks w h → NotStuck (λ u. IsA ks u g) (op v w)) → Safe ns (Of g) (operator_applied op v right)
 joined_safe ns g h op v right safe later =
     after ns (Of h) (Of g) right (λ x. count_work 1 x.1 >>= λ c. op v x.0 >>= λ u. Ok (u, c)) safe (λ x grows held.

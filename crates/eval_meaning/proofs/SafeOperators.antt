@@ -9,8 +9,8 @@ use Rattle.script_grammar.specs.declared.tree.CompareOp.{CompareOp}
 use Rattle.type_terms.specs.Ground.{Ground, base_type, list, tuple, source, IsNumber}
 use Rattle.type_terms.specs.declared.ty.Base.TheVariants as base
 use Rattle.typing_rules.specs.Typing.{truth, literal_type}
-use Rattle.script_values.specs.declared.fault.Fault.{Fault}
-use Rattle.script_values.specs.declared.fault.Fault.TheVariants as faults
+use Rattle.script_values.specs.declared.fault.Stop.{Stop}
+use Rattle.script_values.specs.declared.fault.Stop.TheVariants as faults
 use Rattle.script_values.specs.Numbers.{int_at, of_millionths, or_bad_value, decimal_at, negative, added, plus_or_minus, multiplied, quotient, quotient_at, compared, either, both, opposite, truth_of}
 use Rattle.script_values.specs.Values as value
 use Rattle.script_values.specs.Values.{Value}
@@ -25,11 +25,11 @@ decimal = base_type base.Decimal
 pub int_value : (ns : List Node) (v : Value) → IsA ns v int → (n : ℤ) × (v ≡ value.Int n)
 int_value ns (value.Int n) is = (n, refl)
 int_value ns (value.Number d) is = absurd cc
-int_value ns (value.Text t) is = absurd cc
+int_value ns (value.TextValue t) is = absurd cc
 int_value ns (value.TruthValue b) is = absurd cc
 int_value ns value.UnitValue is = absurd cc
 int_value ns (value.FormatValue wide) is = absurd cc
-int_value ns (value.Pred p) is = absurd cc
+int_value ns (value.PredValue p) is = absurd cc
 int_value ns (value.Source n) is = let e = is.2 in absurd cc
 int_value ns (value.ListValue vs) is = let e = is.1 in absurd cc
 int_value ns (value.TupleValue vs) is = let e = is.1 in absurd cc
@@ -37,11 +37,11 @@ int_value ns (value.TupleValue vs) is = let e = is.1 in absurd cc
 pub decimal_value : (ns : List Node) (v : Value) → IsA ns v decimal → (d : Decimal) × (v ≡ value.Number d)
 decimal_value ns (value.Int n) is = absurd cc
 decimal_value ns (value.Number d) is = (d, refl)
-decimal_value ns (value.Text t) is = absurd cc
+decimal_value ns (value.TextValue t) is = absurd cc
 decimal_value ns (value.TruthValue b) is = absurd cc
 decimal_value ns value.UnitValue is = absurd cc
 decimal_value ns (value.FormatValue wide) is = absurd cc
-decimal_value ns (value.Pred p) is = absurd cc
+decimal_value ns (value.PredValue p) is = absurd cc
 decimal_value ns (value.Source n) is = let e = is.2 in absurd cc
 decimal_value ns (value.ListValue vs) is = let e = is.1 in absurd cc
 decimal_value ns (value.TupleValue vs) is = let e = is.1 in absurd cc
@@ -49,11 +49,11 @@ decimal_value ns (value.TupleValue vs) is = let e = is.1 in absurd cc
 pub truth_value : (ns : List Node) (v : Value) → IsA ns v truth → (b : Bool) × (v ≡ value.TruthValue b)
 truth_value ns (value.Int n) is = absurd cc
 truth_value ns (value.Number d) is = absurd cc
-truth_value ns (value.Text t) is = absurd cc
+truth_value ns (value.TextValue t) is = absurd cc
 truth_value ns (value.TruthValue b) is = (b, refl)
 truth_value ns value.UnitValue is = absurd cc
 truth_value ns (value.FormatValue wide) is = absurd cc
-truth_value ns (value.Pred p) is = absurd cc
+truth_value ns (value.PredValue p) is = absurd cc
 truth_value ns (value.Source n) is = let e = is.2 in absurd cc
 truth_value ns (value.ListValue vs) is = let e = is.1 in absurd cc
 truth_value ns (value.TupleValue vs) is = let e = is.1 in absurd cc
@@ -90,7 +90,7 @@ decimal_safe : (ns : List Node) (at : ℕ) (o : Option Decimal) → NotStuck (λ
 decimal_safe ns at (Some d) = refl
 decimal_safe ns at None = tt
 
-quotient_safe : (P : Value → Type 0) (at : ℕ) (made : ℤ → Result Value Fault) (o : Option ℤ) → ((n : ℤ) → NotStuck P (made n)) → NotStuck P (quotient_at at made o)
+quotient_safe : (P : Value → Type 0) (at : ℕ) (made : ℤ → Result Value Stop) (o : Option ℤ) → ((n : ℤ) → NotStuck P (made n)) → NotStuck P (quotient_at at made o)
 quotient_safe P at made None later = tt
 quotient_safe P at made (Some n) later = later n
 

@@ -19,8 +19,8 @@ use Rattle.typing_rules.specs.Scripts.{Entry, IsTypedTo, calls_behind, def_token
 use Rattle.typing_rules.specs.Typing.{Sight, TypesByToken, DefHas, Has, type_at}
 use Rattle.typing_rules.proofs.Knot.{IsKept, kept_from}
 use Rattle.typing_rules.proofs.Reading.{same_kinds, same_target}
-use Rattle.script_values.specs.declared.fault.Fault.{Fault}
-use Rattle.script_values.specs.declared.fault.Fault.TheVariants as faults
+use Rattle.script_values.specs.declared.fault.Stop.{Stop}
+use Rattle.script_values.specs.declared.fault.Stop.TheVariants as faults
 use Rattle.script_values.specs.declared.fault.EvalFault.TheVariants as told
 use Rattle.script_values.specs.declared.machine.Machine.{Machine}
 use Rattle.script_values.specs.Faults.{fault_in}
@@ -168,7 +168,7 @@ knows_top bs script uses slots es ns placed defs sees = record {
 
 -- ---- statements
 
-told_one : (n : ℕ) (e : Fault) → IsTold e → IsNotStuck {A = Machine} (Err (fault_in n e))
+told_one : (n : ℕ) (e : Stop) → IsTold e → IsNotStuck {A = Machine} (Err (fault_in n e))
 told_one n faults.Memory is = tt
 told_one n faults.BadSetting is = tt
 told_one n (faults.BadValue at) is = tt
@@ -178,7 +178,7 @@ told_one n (faults.SameOutput name) is = tt
 told_one n (faults.TooLarge limit) is = tt
 told_one n faults.Stuck is = absurd is
 
-stmt_then : {A : Type 0} (ns : List Node) (n : ℕ) (Q : List Node → A → Type 0) (r : Result (A × Machine) Fault) (f : A × Machine → Result Machine Ending) → Safe ns Q r → ((x : A × Machine) → Grows ns x.1.plan.nodes → Q x.1.plan.nodes x.0 → IsNotStuck (f x)) → IsNotStuck (and_then (ending_in n r) f)
+stmt_then : {A : Type 0} (ns : List Node) (n : ℕ) (Q : List Node → A → Type 0) (r : Result (A × Machine) Stop) (f : A × Machine → Result Machine Ending) → Safe ns Q r → ((x : A × Machine) → Grows ns x.1.plan.nodes → Q x.1.plan.nodes x.0 → IsNotStuck (f x)) → IsNotStuck (and_then (ending_in n r) f)
 stmt_then ns n Q (Ok x) f safe later = later x safe.0 safe.1
 stmt_then ns n Q (Err e) f safe later = told_one n e safe
 

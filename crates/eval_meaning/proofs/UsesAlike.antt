@@ -3,7 +3,7 @@ use Rattle.std.proofs.Common.{◌≡◌, ℤ, inl, inr, ℕ, List, [], ◌∷◌
 use Rattle.liq_base.specs.declared.memory.Kind.{Kind}
 use Rattle.script_grammar.specs.declared.tree.CompareOp.{CompareOp}
 use Rattle.script_grammar.specs.declared.tree.Literal.{Literal}
-use Rattle.script_grammar.specs.Tree.{Tree, APOr, Many, none, more, AFull, AnExpr, AnAnd, ANot, ACompare, ASum, AnAdded, AProduct, AMultiplied, AnOperand, ACall, AnArg, AnIf, AParam, AnInner, ADef, Negative, Plain, Expr, And, Not, Alone, Compared, Sum, Added, Product, Multiplied, Constant, Quoted, Truth, Named, Called, Chosen, Nothing, Paren, Tuple, Listed, Braces, Format, NamedCall, Arg, If, Param, Labelled, Optional, Inner, Bind, Def, APart, BindPart, DefPart, CallPart, IfPart}
+use Rattle.script_grammar.specs.Tree.{Tree, APOr, Many, none, more, AFull, AnExpr, AnAnd, ANot, ACompare, ASum, AnAdded, AProduct, AMultiplied, AnOperand, ACall, AnArg, AnIf, AParam, AnInner, ADef, Negative, Plain, Expr, And, Not, Alone, Compared, Sum, Added, Product, Multiplied, Constant, Quoted, Truth, Named, Called, Chosen, Nothing, Paren, Tuple, Listed, Braces, PlaceFormat, NamedCall, Arg, If, Param, Labelled, Optional, Inner, Bind, Def, APart, BindPart, DefPart, CallPart, IfPart}
 use Rattle.typing_rules.specs.declared.uses.Use.{Use}
 use Rattle.typing_rules.specs.declared.uses.Target.{Target}
 use Rattle.typing_rules.specs.declared.uses.Target.TheVariants as target
@@ -12,8 +12,8 @@ use Rattle.typing_rules.specs.Kinds.{IsOneOf, kinds_of, target_said}
 use Rattle.typing_rules.specs.Scoping as scoping
 use Rattle.typing_rules.specs.Scoping.{Name, inner_names, names, tokens_given, call_meant, bound, with_inner, with_inners, with_params}
 use Rattle.typing_rules.specs.Uses.{use_at}
-use Rattle.script_values.specs.declared.fault.Fault.{Fault}
-use Rattle.script_values.specs.declared.fault.Fault.TheVariants.{Stuck}
+use Rattle.script_values.specs.declared.fault.Stop.{Stop}
+use Rattle.script_values.specs.declared.fault.Stop.TheVariants.{Stuck}
 use Rattle.script_values.specs.declared.machine.Machine.{Machine}
 use Rattle.script_values.specs.Machines.{count_work}
 use Rattle.script_values.specs.Numbers.{added, multiplied, compared, either, both, opposite, truth_of}
@@ -86,14 +86,14 @@ alike_within s r ns slots alike = record {
 
 -- ---- steps behind steps
 
-then_each : {A B : Type 0} (r : Result A Fault) (f g : A → Result B Fault) → ((x : A) → f x ≡ g x) → (r >>= f) ≡ (r >>= g)
+then_each : {A B : Type 0} (r : Result A Stop) (f g : A → Result B Stop) → ((x : A) → f x ≡ g x) → (r >>= f) ≡ (r >>= g)
 then_each (Ok x) f g each = each x
 then_each (Err e) f g each = refl
 
-then_same : {A B : Type 0} (p r : Result A Fault) (f g : A → Result B Fault) → p ≡ r → ((x : A) → f x ≡ g x) → (p >>= f) ≡ (r >>= g)
+then_same : {A B : Type 0} (p r : Result A Stop) (f g : A → Result B Stop) → p ≡ r → ((x : A) → f x ≡ g x) → (p >>= f) ≡ (r >>= g)
 then_same p r f g same each = ap (λ x. x >>= f) same ∙ then_each r f g each
 
-joined_same : (op : Value → Value → Result Value Fault) (v : Value) (p r : Outcome) → p ≡ r → operator_applied op v p ≡ operator_applied op v r
+joined_same : (op : Value → Value → Result Value Stop) (v : Value) (p r : Outcome) → p ≡ r → operator_applied op v p ≡ operator_applied op v r
 joined_same op v p r same = ap (λ (x : Outcome). operator_applied op v x) same
 
 branch_same : (b : Bool) (p r p' r' : Outcome) → p ≡ p' → r ≡ r' → ◌≡◌ {A = Outcome} (elim b [ true ↦ p | false ↦ r ]) (elim b [ true ↦ p' | false ↦ r' ])
@@ -271,7 +271,7 @@ braces_of : (s r : Surroundings) (at : ℕ) (pred : Tree APOr) → SameOperand s
 unfolding meaning.operand
 braces_of s r at pred m = refl
 
-format_of : (s r : Surroundings) (at : ℕ) (bits : Option ℤ) → SameOperand s r (Format at bits)
+format_of : (s r : Surroundings) (at : ℕ) (bits : Option ℤ) → SameOperand s r (PlaceFormat at bits)
 unfolding meaning.operand
 format_of s r at bits m = refl
 
@@ -390,7 +390,7 @@ mutual
   operand_same s r sc (Tuple at f g rest) alike = tuple_of s r at f g rest (full_same s r sc f (first_of s r (names sc f) (names sc g) (names sc rest) alike)) (full_same s r sc g (second_of s r (names sc f) (names sc g) (names sc rest) alike)) (fulls_same s r sc rest (third_of s r (names sc f) (names sc g) (names sc rest) alike))
   operand_same s r sc (Listed at parts) alike = listed_of s r at parts (fulls_same s r sc parts alike)
   operand_same s r sc (Braces at pred) alike = braces_of s r at pred
-  operand_same s r sc (Format at bits) alike = format_of s r at bits
+  operand_same s r sc (PlaceFormat at bits) alike = format_of s r at bits
 
   fulls_same : (s r : Surroundings) (sc : scoping.Scope) (rest : Tree (Many AFull)) → Alike s r (names sc rest) → SameFulls s r rest
   fulls_same s r sc none alike = no_fulls s r

@@ -5,7 +5,7 @@ use Rattle.std.proofs.lemmas.List.Elements.{All-head, All-tail}
 use Rattle.script_grammar.specs.Ats.{ats}
 use Rattle.script_grammar.specs.Placed.{IsPlaced}
 use Rattle.script_grammar.specs.Spelling.{spell}
-use Rattle.script_grammar.specs.Tree.{Sort, Tree, ADef, AStmt, none, more, Stmt, BindPart, DefPart, CallPart, IfPart, Bind, Def, Inner, Param, Labelled, Optional, Negative, Plain, Expr, And, Not, Alone, Compared, Sum, Added, Product, Multiplied, Constant, Quoted, Truth, Named, Called, Chosen, Nothing, Paren, Tuple, Listed, Braces, Format, NamedCall, Arg, If, POr, PAnd, PNot, TrueAtom, FalseAtom, Mark, IntervalAtom, Grouped, Many, AnInner, Script}
+use Rattle.script_grammar.specs.Tree.{Sort, Tree, ADef, AStmt, none, more, Stmt, BindPart, DefPart, CallPart, IfPart, Bind, Def, Inner, Param, Labelled, Optional, Negative, Plain, Expr, And, Not, Alone, Compared, Sum, Added, Product, Multiplied, Constant, Quoted, Truth, Named, Called, Chosen, Nothing, Paren, Tuple, Listed, Braces, PlaceFormat, NamedCall, Arg, If, POr, PAnd, PNot, TrueAtom, FalseAtom, Mark, IntervalAtom, Grouped, Many, AnInner, Script}
 use Rattle.typing_rules.specs.declared.uses.Target.{Target}
 use Rattle.typing_rules.specs.Defs.{def_at}
 use Rattle.typing_rules.specs.Kinds.{Block, IsOneOf, IsUsedIn, blocks, is_of}
@@ -97,7 +97,7 @@ mutual
       later (names sc f ++ names sc g ++ names sc rest) at (ats f ++ (ats g ++ ats rest)) (three (names sc f) (names sc g) (names sc rest) (ats f) (ats g) (ats rest) (names_at sc f) (names_at sc g) (names_at sc rest))
   names_at sc (Listed at parts) = later (names sc parts) at (ats parts) (names_at sc parts)
   names_at sc (Braces at pred) = no_names (at ∷ [])
-  names_at sc (Format at bits) = no_names (at ∷ [])
+  names_at sc (PlaceFormat at bits) = no_names (at ∷ [])
   names_at sc (NamedCall at name args) = λ n is. ⊎_elim (λ same. inl (ap (λ (k : Name). k.at) same)) (λ inside. inr (names_at sc args n inside)) is
   names_at sc (Arg at label f) = later (names sc f) at (ats f) (names_at sc f)
   names_at sc (If at c t e) =

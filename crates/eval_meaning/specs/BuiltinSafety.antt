@@ -8,8 +8,8 @@ use Rattle.type_terms.specs.declared.ty.Base.TheVariants as base
 use Rattle.typing_rules.specs.declared.uses.Builtin.{Builtin}
 use Rattle.typing_rules.specs.Arguments as arguments
 use Rattle.typing_rules.specs.Table.{IsCallOf}
-use Rattle.script_values.specs.declared.fault.Fault.{Fault}
-use Rattle.script_values.specs.declared.fault.Fault.TheVariants as faults
+use Rattle.script_values.specs.declared.fault.Stop.{Stop}
+use Rattle.script_values.specs.declared.fault.Stop.TheVariants as faults
 use Rattle.script_values.specs.declared.machine.Machine.{Machine}
 use Rattle.script_values.specs.Slots.{Argument}
 use Rattle.script_values.specs.Values as value
@@ -25,11 +25,11 @@ abbrev mutual
   pub IsA : List Node → value.ValueTree value.OneValue → Ground → Type 0
   IsA ns (value.Int n) g = g ≡ base_type base.Int
   IsA ns (value.Number d) g = g ≡ base_type base.Decimal
-  IsA ns (value.Text t) g = g ≡ base_type base.Text
+  IsA ns (value.TextValue t) g = g ≡ base_type base.Text
   IsA ns (value.TruthValue b) g = g ≡ base_type base.Bool
   IsA ns value.UnitValue g = g ≡ base_type base.Unit
   IsA ns (value.FormatValue wide) g = g ≡ base_type base.Format
-  IsA ns (value.Pred p) g = g ≡ base_type base.Pred
+  IsA ns (value.PredValue p) g = g ≡ base_type base.Pred
   IsA ns (value.Source n) g = (node : Node) × (slice_get ns n ≡ Some node) × (g ≡ source node.kind)
   IsA ns (value.ListValue vs) g = (t : Ground) × (g ≡ list t) × AllAre ns vs t
   IsA ns (value.TupleValue vs) g = (ts : Grounds) × (g ≡ tuple ts) × EachIs ns vs ts
@@ -40,7 +40,7 @@ abbrev mutual
 
   pub EachIs : List Node → value.ValueTree value.ManyValues → Grounds → Type 0
   EachIs ns value.no_values ts = ts ≡ ground.no_more
-  EachIs ns (value.more_values v vs) ts = (t : Ground) × (us : Grounds) × (ts ≡ ground.more t us) × IsA ns v t
+  EachIs ns (value.more_values v vs) ts = (t : Ground) × (us : Grounds) × (ts ≡ ground.and_more t us) × IsA ns v t
       × EachIs ns vs us
 
 -- arguments of these types, each behind the same label
@@ -51,7 +51,7 @@ AreA ns (g ∷ gs) [] = ⊥
 AreA ns (g ∷ gs) (h ∷ hs) = (g.0 ≡ h.0) × IsA ns g.1 h.1 × AreA ns gs hs
 
 -- every fault but that of a value of a wrong type
-abbrev pub IsTold : Fault → Type 0
+abbrev pub IsTold : Stop → Type 0
 IsTold faults.Memory = ⊤
 IsTold faults.BadSetting = ⊤
 IsTold (faults.BadValue at) = ⊤
@@ -62,12 +62,12 @@ IsTold (faults.TooLarge limit) = ⊤
 IsTold faults.Stuck = ⊥
 
 -- a step without a state that is not stuck
-abbrev pub NotStuck : {A : Type 0} → (A → Type 0) → Result A Fault → Type 0
+abbrev pub NotStuck : {A : Type 0} → (A → Type 0) → Result A Stop → Type 0
 NotStuck P (Ok x) = P x
 NotStuck P (Err e) = IsTold e
 
 -- not stuck, no node is lost, and what is made is such over the nodes behind it
-abbrev pub Safe : {A : Type 0} → List Node → (List Node → A → Type 0) → Result (A × Machine) Fault → Type 0
+abbrev pub Safe : {A : Type 0} → List Node → (List Node → A → Type 0) → Result (A × Machine) Stop → Type 0
 Safe ns Q (Ok x) = Grows ns x.1.plan.nodes × Q x.1.plan.nodes x.0
 Safe ns Q (Err e) = IsTold e
 

@@ -33,16 +33,19 @@ holds_call (Arg at label f) = holds_call f
 -- numbers, texts, names, predicates, formats
 holds_call t = false
 
+-- the builtin is `set`
 abbrev pub is_set : Builtin → Bool
 is_set builtin.Set = true
 is_set b = false
 
+-- what the name means is the builtin `set`
 abbrev pub means_set : Option Target → Bool
 means_set (Some (target.Builtin b)) = is_set b
 means_set (Some (target.Def t)) = false
 means_set (Some (target.Slot t)) = false
 means_set None = false
 
+-- the statement is a call of `set` in whose arguments nothing is called
 abbrev pub is_setting : List Use → Tree APart → Bool
 is_setting uses (CallPart (NamedCall at name args)) = means_set (target_said (use_at at uses)) && not (holds_call args)
 is_setting uses (BindPart b) = false

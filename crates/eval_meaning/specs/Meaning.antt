@@ -1,7 +1,7 @@
 -- What an expression means: a value and the state behind it, or the first fault, by cases on the tree.
 use Rattle.std.specs.Prelude.{ℕ, zero, suc, ℤ, pos, List, [], ◌∷◌, ◌++◌, true, false, Option, Some, None, Result, Ok, Err, int_le, ◌&&◌}
 use Rattle.liq_base.specs.declared.memory.Kind.{Kind}
-use Rattle.script_grammar.specs.Tree.{Tree, Many, none, more, AFull, AnExpr, AnAnd, ANot, ACompare, ASum, AnAdded, AProduct, AMultiplied, AnOperand, ACall, AnArg, AnIf, AParam, AnInner, ADef, Negative, Plain, Expr, And, Not, Alone, Compared, Sum, Added, Product, Multiplied, Constant, Quoted, Truth, Named, Called, Chosen, Nothing, Paren, Tuple, Listed, Braces, Format, NamedCall, Arg, If, Param, Labelled, Optional, Inner, Bind, Def, Script}
+use Rattle.script_grammar.specs.Tree.{Tree, Many, none, more, AFull, AnExpr, AnAnd, ANot, ACompare, ASum, AnAdded, AProduct, AMultiplied, AnOperand, ACall, AnArg, AnIf, AParam, AnInner, ADef, Negative, Plain, Expr, And, Not, Alone, Compared, Sum, Added, Product, Multiplied, Constant, Quoted, Truth, Named, Called, Chosen, Nothing, Paren, Tuple, Listed, Braces, PlaceFormat, NamedCall, Arg, If, Param, Labelled, Optional, Inner, Bind, Def, Script}
 use Rattle.typing_rules.specs.declared.uses.Use.{Use}
 use Rattle.typing_rules.specs.declared.uses.Target.{Target}
 use Rattle.typing_rules.specs.declared.uses.Target.TheVariants as target
@@ -9,8 +9,8 @@ use Rattle.typing_rules.specs.Arguments.{argument}
 use Rattle.typing_rules.specs.Defs.{def_at}
 use Rattle.typing_rules.specs.Kinds.{kinds_of}
 use Rattle.typing_rules.specs.Uses.{use_at}
-use Rattle.script_values.specs.declared.fault.Fault.{Fault}
-use Rattle.script_values.specs.declared.fault.Fault.TheVariants.{BadValue, TooLarge, Stuck}
+use Rattle.script_values.specs.declared.fault.Stop.{Stop}
+use Rattle.script_values.specs.declared.fault.Stop.TheVariants.{BadValue, TooLarge, Stuck}
 use Rattle.script_values.specs.declared.fault.Limit.TheVariants.{Calls}
 use Rattle.script_values.specs.declared.machine.Machine.{Machine}
 use Rattle.script_values.specs.Values.{Value, many, size}
@@ -39,6 +39,7 @@ abbrev pub value_at : Option Value → Machine → Outcome
 value_at None m = Err Stuck
 value_at (Some v) m = count_work (size v) m >>= λ c. Ok (v, c)
 
+-- the value that a name has, where it names a value
 unfoldable pub named : Surroundings → Option Use → Machine → Outcome
 named s None m = Err Stuck
 named s (Some u) m =
@@ -48,6 +49,7 @@ named s (Some u) m =
       | target.Builtin b ↦ Err Stuck
     ]
 
+-- what a call makes, by what its name means
 abbrev pub applied_to : Surroundings → Target → ℕ → Option (List Kind) → List Argument → Machine → Outcome
 applied_to s target at None given m = Err Stuck
 applied_to s (target.Slot t) at (Some kinds) given m = Err Stuck
@@ -61,7 +63,7 @@ applied s (Some u) at given m = applied_to s u.target at (kinds_of s.kinds u.kin
 
 -- the format that `%wav` names at this token: its samples have 16 bits without a size and with 16, they are wide with
 -- 24, and no other size is one
-abbrev pub format : ℕ → Option ℤ → Result Value Fault
+abbrev pub format : ℕ → Option ℤ → Result Value Stop
 format at None = Ok (value.FormatValue false)
 format at (Some n) =
     elim (int_le n (pos 16) && int_le (pos 16) n) [
@@ -73,7 +75,7 @@ format at (Some n) =
     ]
 
 -- an operator on the value to its left and the operand to its right, which was evaluated
-abbrev pub operator_applied : (Value → Value → Result Value Fault) → Value → Outcome → Outcome
+abbrev pub operator_applied : (Value → Value → Result Value Stop) → Value → Outcome → Outcome
 operator_applied operator v right = right >>= λ x. count_work 1 x.1 >>= λ c. operator v x.0 >>= λ u. Ok (u, c)
 
 -- Operands are evaluated from the left. Work is counted when a Prim begins, and when an operator is about to be
@@ -128,7 +130,7 @@ unfoldable mutual
 
   pub operand : Surroundings → Tree AnOperand → Machine → Outcome
   operand s (Constant at n) m = count_work 1 m >>= λ c. Ok (literal_value n, c)
-  operand s (Quoted at text) m = count_work 1 m >>= λ c. Ok (value.Text text, c)
+  operand s (Quoted at text) m = count_work 1 m >>= λ c. Ok (value.TextValue text, c)
   operand s (Truth at b) m = count_work 1 m >>= λ c. Ok (value.TruthValue b, c)
   operand s (Named at name) m = named s (use_at at s.uses) m
   operand s (Called k) m = count_work 1 m >>= λ c. call s k c
@@ -139,11 +141,11 @@ unfoldable mutual
       ∷ y.0 ∷ []) y.1 >>= λ z. Ok (value.TupleValue (many z.0), z.1)
   operand s (Listed at parts) m = count_work 1 m >>= λ c. fulls s parts [] c >>= λ z. Ok
       (value.ListValue (many z.0), z.1)
-  operand s (Braces at pred) m = count_work 1 m >>= λ c. Ok (value.Pred (or_pred pred), c)
-  operand s (Format at bits) m = count_work 1 m >>= λ c. format at bits >>= λ v. Ok (v, c)
+  operand s (Braces at pred) m = count_work 1 m >>= λ c. Ok (value.PredValue (or_pred pred), c)
+  operand s (PlaceFormat at bits) m = count_work 1 m >>= λ c. format at bits >>= λ v. Ok (v, c)
 
   -- the values so far, and those of more
-  pub fulls : Surroundings → Tree (Many AFull) → List Value → Machine → Result (List Value × Machine) Fault
+  pub fulls : Surroundings → Tree (Many AFull) → List Value → Machine → Result (List Value × Machine) Stop
   fulls s none vs m = Ok (vs, m)
   fulls s (more f rest) vs m = full s f m >>= λ x. fulls s rest (vs ++ x.0 ∷ []) x.1
 
@@ -156,11 +158,11 @@ unfoldable mutual
   pub call : Surroundings → Tree ACall → Machine → Outcome
   call s (NamedCall at name args) m = arguments s args [] m >>= λ x. applied s (use_at at s.uses) at x.0 x.1
 
-  pub arguments : Surroundings → Tree (Many AnArg) → List Argument → Machine → Result (List Argument × Machine) Fault
+  pub arguments : Surroundings → Tree (Many AnArg) → List Argument → Machine → Result (List Argument × Machine) Stop
   arguments s none given m = Ok (given, m)
   arguments s (more a rest) given m = argued s a m >>= λ x. arguments s rest (given ++ x.0 ∷ []) x.1
 
-  pub argued : Surroundings → Tree AnArg → Machine → Result (Argument × Machine) Fault
+  pub argued : Surroundings → Tree AnArg → Machine → Result (Argument × Machine) Stop
   argued s (Arg at label f) m = full s f m >>= λ x. Ok ((label, x.0), x.1)
 
 -- values in parentheses, behind the count
@@ -175,23 +177,26 @@ all_of s parts m = fulls s parts [] m >>= λ z. Ok (value.ListValue (many z.0), 
 -- What a parameter takes of the arguments: its slot and the arguments that are left. A default is evaluated among the
 -- names before the def.
 abbrev pub taken_slot : ℕ → Option (Value × List Argument) → Machine
-    → Result ((SlotValue × List Argument) × Machine) Fault
+    → Result ((SlotValue × List Argument) × Machine) Stop
 taken_slot at None m = Err Stuck
 taken_slot at (Some x) m = Ok (((at, x.0), x.1), m)
 
+-- the value of a parameter: what was given for it, or else its default
 abbrev pub slot_or_default : ℕ → Option (Value × List Argument) → List Argument → Outcome → Machine
-    → Result ((SlotValue × List Argument) × Machine) Fault
+    → Result ((SlotValue × List Argument) × Machine) Stop
 slot_or_default at None given default m = default >>= λ x. Ok (((at, x.0), given), x.1)
 slot_or_default at (Some x) given default m = Ok (((at, x.0), x.1), m)
 
+-- the value of one parameter, and the arguments that are left
 unfoldable pub parameter : Surroundings → Tree AParam → List Argument → Machine
-    → Result ((SlotValue × List Argument) × Machine) Fault
+    → Result ((SlotValue × List Argument) × Machine) Stop
 parameter s (Param at name) given m = taken_slot at (argument None given) m
 parameter s (Labelled at name) given m = taken_slot at (argument (Some name) given) m
 parameter s (Optional at name d) given m = slot_or_default at (argument (Some name) given) given (full s d m) m
 
+-- the values of all parameters, in the order in which they stand
 unfoldable pub parameters : Surroundings → Tree (Many AParam) → List Argument → List SlotValue → Machine
-    → Result (List SlotValue × Machine) Fault
+    → Result (List SlotValue × Machine) Stop
 parameters s none given slots m = Ok (slots, m)
 parameters s (more p ps) given slots m = parameter s p given m >>= λ x. parameters s ps x.0.1 (slots ++ x.0.0 ∷ []) x.1
 
@@ -199,11 +204,13 @@ parameters s (more p ps) given slots m = parameter s p given m >>= λ x. paramet
 abbrev pub with_slots : Surroundings → List SlotValue → Surroundings
 with_slots s slots = record s { slots = slots ++ s.slots }
 
-unfoldable pub inner : Surroundings → Tree AnInner → List SlotValue → Machine → Result (SlotValue × Machine) Fault
+-- the value that a binding within a def makes
+unfoldable pub inner : Surroundings → Tree AnInner → List SlotValue → Machine → Result (SlotValue × Machine) Stop
 inner s (Inner (Bind at name f) semicolon) slots m = full (with_slots s slots) f m >>= λ x. Ok ((at, x.0), x.1)
 
+-- the values of all bindings within a def, each over those before it
 unfoldable pub inners : Surroundings → Tree (Many AnInner) → List SlotValue → Machine
-    → Result (List SlotValue × Machine) Fault
+    → Result (List SlotValue × Machine) Stop
 inners s none slots m = Ok (slots, m)
 inners s (more i is) slots m = inner s i slots m >>= λ x. inners s is (slots ++ x.0 ∷ []) x.1
 
@@ -218,6 +225,7 @@ pub record World : Type 0 where
   pub uses : List Use
   pub globals : List SlotValue
 
+-- what a call makes of the def that it means
 abbrev pub run : Surroundings → Option (Tree ADef) → List Argument → Machine → Outcome
 run s None given m = Err Stuck
 run s (Some d) given m = body s d given m

@@ -9,10 +9,12 @@ abbrev pub any_of : Predicate → pred.PredicateTree pred.PredicateParts → Pre
 any_of p pred.no_parts = p
 any_of p (pred.first_part q qs) = pred.Any (pred.first_part p (pred.first_part q qs))
 
+-- one predicate stays itself; several must all hold
 abbrev pub all_of : Predicate → pred.PredicateTree pred.PredicateParts → Predicate
 all_of p pred.no_parts = p
 all_of p (pred.first_part q qs) = pred.All (pred.first_part p (pred.first_part q qs))
 
+-- the predicate that a text in braces means
 unfoldable mutual
   pub or_pred : Tree APOr → Predicate
   or_pred (POr first rest) = any_of (and_pred first) (and_preds rest)

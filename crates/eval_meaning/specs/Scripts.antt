@@ -7,7 +7,7 @@ use Rattle.script_grammar.specs.Tree.{Tree, Many, none, more, AStmt, APart, Stmt
 use Rattle.plan_core.specs.declared.plan.Plan.{Plan}
 use Rattle.plan_core.specs.Plans.{is_output}
 use Rattle.typing_rules.specs.declared.uses.Use.{Use}
-use Rattle.script_values.specs.declared.fault.Fault.{Fault}
+use Rattle.script_values.specs.declared.fault.Stop.{Stop}
 use Rattle.script_values.specs.declared.fault.EvalFault.{EvalFault}
 use Rattle.script_values.specs.declared.fault.EvalFault.TheVariants as told
 use Rattle.script_values.specs.declared.machine.Machine.{Machine}
@@ -30,7 +30,7 @@ top_scope script uses globals = record {
 -- what a statement makes of the bindings and of the state. A call or an `if` that is a whole statement counts nothing
 -- itself
 unfoldable pub statement : Surroundings → Tree APart → List SlotValue → Machine
-    → Result (List SlotValue × Machine) Fault
+    → Result (List SlotValue × Machine) Stop
 statement s (BindPart (Bind at name f)) slots m = full s f m >>= λ x. Ok (slots ++ (at, x.0) ∷ [], x.1)
 statement s (DefPart d) slots m = Ok (slots, m)
 statement s (CallPart c) slots m = call s c m >>= λ x. Ok (slots, x.1)
@@ -45,7 +45,8 @@ abbrev pub and_then : {A B : Type 0} → Result A Ending → (A → Result B End
 and_then (Ok x) f = f x
 and_then (Err e) f = Err e
 
-abbrev pub ending_in : {A : Type 0} → ℕ → Result A Fault → Result A Ending
+-- a fault of statement n ends the evaluation there
+abbrev pub ending_in : {A : Type 0} → ℕ → Result A Stop → Result A Ending
 ending_in n (Ok x) = Ok x
 ending_in n (Err e) = Err (fault_in n e)
 
@@ -54,9 +55,11 @@ abbrev pub is_tick : ℤ → ℕ → Bool
 is_tick duration rate = int_le (pos 0) duration
     && (nat_le 1 (samples_in duration rate) && nat_le (samples_in duration rate) MAX_FRAME)
 
+-- the samples of a tick of this duration, where it is one
 abbrev pub tick_of : ℤ → ℕ → Option ℕ
 tick_of duration rate = elim (is_tick duration rate) [ true ↦ Some (samples_in duration rate) | false ↦ None ]
 
+-- the settings are over: the plan has its tick, or the last setting was bad
 abbrev pub closed : Machine → Option ℕ → Result Machine Ending
 closed m (Some frame) = Ok (record m {
   plan = record m.plan { frame = frame };

@@ -12,7 +12,7 @@ use crate::defs::Defs;
 use crate::globals::Globals;
 use crate::uses::Uses;
 use liq_base::{Kind, Memory};
-use script_values::{Fault, Machine, Slot, Value, copy, count_value, slot_at};
+use script_values::{Machine, Slot, Stop, Value, copy, count_value, slot_at};
 use std::alloc::Global;
 use typing_rules::{KindOf, Target};
 
@@ -35,16 +35,16 @@ pub fn named(
     scope: &Scope<'_>,
     machine: &mut Machine,
     at: u32,
-) -> Result<Value, Fault>
+) -> Result<Value, Stop>
     ensures { Gives (λ v. (view_value v, machine.new)) result
         (named (scope_of scope.now) (use_at at scope.now.uses.now.all.now) machine.old) }
 {
     match scope.uses.find(at) {
-        None => Err(Fault::Stuck),
+        None => Err(Stop::Stuck),
         Some(found) => match found.target {
             Target::Slot(slot) => slot_value(alloc, scope, machine, slot),
-            Target::Def(_) => Err(Fault::Stuck),
-            Target::Builtin(_) => Err(Fault::Stuck),
+            Target::Def(_) => Err(Stop::Stuck),
+            Target::Builtin(_) => Err(Stop::Stuck),
         },
     }
 }
@@ -68,7 +68,7 @@ pub fn kinds_of(
 }
 
 /// The format that `%wav` names: of 16 bits without a size and with 16, of 24 with 24, and of no other size.
-pub fn format(at: u32, size: Option<i64>) -> Result<Value, Fault>
+pub fn format(at: u32, size: Option<i64>) -> Result<Value, Stop>
     ensures { Gives (λ v. view_value v) result (format at size) }
 {
     match size {
@@ -79,7 +79,7 @@ pub fn format(at: u32, size: Option<i64>) -> Result<Value, Fault>
             } else if bits == 24 {
                 Ok(Value::Format { wide: true })
             } else {
-                Err(Fault::BadValue(at))
+                Err(Stop::BadValue(at))
             }
         }
     }
@@ -90,12 +90,12 @@ fn slot_value(
     scope: &Scope<'_>,
     machine: &mut Machine,
     at: u32,
-) -> Result<Value, Fault>
+) -> Result<Value, Stop>
     ensures { Gives (λ v. (view_value v, machine.new)) result
         (value_at (value_at_token at (scope_of scope.now).slots) machine.old) }
 {
     match lookup(scope, at) {
-        None => Err(Fault::Stuck),
+        None => Err(Stop::Stuck),
         Some(value) => {
             count_value(machine, value)?;
             let copied = copy(alloc, value)?;

@@ -24,10 +24,10 @@ use Rattle.script_grammar.proofs.Rows.{expr_seen, and_seen, sum_seen, product_se
 use Rattle.typing_rules.specs.Defs.{def_at}
 use Rattle.typing_rules.specs.Uses.{use_at}
 use Rattle.script_values.specs.Outcomes.{◌>>=◌, Outcome}
-use Rattle.script_values.specs.declared.fault.Fault.{Fault}
+use Rattle.script_values.specs.declared.fault.Stop.{Stop}
 use Rattle.script_values.specs.declared.machine.Machine.{Machine}
 use Rattle.script_values.specs.Gives.{Fails}
-use Rattle.script_values.specs.declared.fault.Fault.TheVariants.{TooLarge}
+use Rattle.script_values.specs.declared.fault.Stop.TheVariants.{TooLarge}
 use Rattle.script_values.specs.declared.fault.Limit.TheVariants.{Calls}
 use Rattle.script_values.specs.Values as value
 use Rattle.script_values.specs.Values.{Value, many}
@@ -77,11 +77,11 @@ pub factors_steps : (s : Surroundings) → Steps (meaning.factors s) (meaning.ti
 unfolding meaning.factors
 factors_steps s = record { opens = λ t ts v m. refl }
 
-abbrev pub with_last : {X : Type 0} → List X → X × Machine → Result (List X × Machine) Fault
+abbrev pub with_last : {X : Type 0} → List X → X × Machine → Result (List X × Machine) Stop
 with_last xs x = Ok (xs ++ x.0 ∷ [], x.1)
 
 -- a value behind the others
-pushed : {X B : Type 0} (r : Result (X × Machine) Fault) (xs : List X) (f : List X → Machine → Result B Fault) → (r >>= λ x. f (xs ++ x.0 ∷ []) x.1) ≡ ((r >>= with_last xs) >>= λ y. f y.0 y.1)
+pushed : {X B : Type 0} (r : Result (X × Machine) Stop) (xs : List X) (f : List X → Machine → Result B Stop) → (r >>= λ x. f (xs ++ x.0 ∷ []) x.1) ≡ ((r >>= with_last xs) >>= λ y. f y.0 y.1)
 pushed (Ok x) xs f = refl
 pushed (Err e) xs f = refl
 
@@ -98,8 +98,8 @@ unfolding meaning.inners
 inners_steps s = record { opens = λ t ts vs m. pushed (meaning.inner s t vs m) vs (λ ys n. meaning.inners s ts ys n) }
 
 -- one value more, as the program pushes it
-pub went : {X Y : Type 0} (view : X → Y) (r : Result (Y × Machine) Fault) (xs xs' : List X) (x : X) (n : Machine) → r ≡ Ok (view x, n) → xs' ≡ xs ++ x ∷ [] → (r >>= with_last (map view xs)) ≡ Ok (map view xs', n)
-went view r xs xs' x n is grown = ap (λ (q : Result _ Fault). q >>= with_last (map view xs)) is ∙ ap (λ (l : List _). Ok (l, n)) (sym (ap (map view) grown ∙ map_push view xs x))
+pub went : {X Y : Type 0} (view : X → Y) (r : Result (Y × Machine) Stop) (xs xs' : List X) (x : X) (n : Machine) → r ≡ Ok (view x, n) → xs' ≡ xs ++ x ∷ [] → (r >>= with_last (map view xs)) ≡ Ok (map view xs', n)
+went view r xs xs' x n is grown = ap (λ (q : Result _ Stop). q >>= with_last (map view xs)) is ∙ ap (λ (l : List _). Ok (l, n)) (sym (ap (map view) grown ∙ map_push view xs x))
 
 -- ---- the ends of the loops
 
@@ -134,24 +134,24 @@ inners_none s vs m = refl
 -- ---- a first part, and what comes behind it
 
 -- a fault of the first part is one of the whole
-pub first_fails : {A B : Type 0} (e : Fault) (a : Result A Fault) (r : Result B Fault) (f : A → Result B Fault) → r ≡ (a >>= f) → Fails e a → Fails e r
+pub first_fails : {A B : Type 0} (e : Stop) (a : Result A Stop) (r : Result B Stop) (f : A → Result B Stop) → r ≡ (a >>= f) → Fails e a → Fails e r
 first_fails e a r f is fault = fails_same e (a >>= f) r (sym is) (fails_on e a f fault)
 
 -- and without one the whole is what comes behind it
-pub then_first : {A B : Type 0} (a : Result A Fault) (r : Result B Fault) (f : A → Result B Fault) (x : A) → r ≡ (a >>= f) → a ≡ Ok x → r ≡ f x
-then_first a r f x is went = is ∙ ap (λ (q : Result _ Fault). q >>= f) went
+pub then_first : {A B : Type 0} (a : Result A Stop) (r : Result B Stop) (f : A → Result B Stop) (x : A) → r ≡ (a >>= f) → a ≡ Ok x → r ≡ f x
+then_first a r f x is went = is ∙ ap (λ (q : Result _ Stop). q >>= f) went
 
 -- ---- brackets
 
-same_after : {A B : Type 0} (r : Result A Fault) (f g : A → Result B Fault) → ((x : A) → f x ≡ g x) → (r >>= f) ≡ (r >>= g)
+same_after : {A B : Type 0} (r : Result A Stop) (f g : A → Result B Stop) → ((x : A) → f x ≡ g x) → (r >>= f) ≡ (r >>= g)
 same_after (Ok x) f g same = same x
 same_after (Err e) f g same = refl
 
-one_then : {A B C : Type 0} (a : Result A Fault) (k : A → Result B Fault) (f : B → Result C Fault) → (a >>= λ x. k x >>= f) ≡ ((a >>= k) >>= f)
+one_then : {A B C : Type 0} (a : Result A Stop) (k : A → Result B Stop) (f : B → Result C Stop) → (a >>= λ x. k x >>= f) ≡ ((a >>= k) >>= f)
 one_then (Ok x) k f = refl
 one_then (Err e) k f = refl
 
-two_then : {A B C D : Type 0} (a : Result A Fault) (b : A → Result B Fault) (k : A → B → Result C Fault) (f : C → Result D Fault) → (a >>= λ x. b x >>= λ y. k x y >>= f) ≡ ((a >>= λ x. b x >>= λ y. k x y) >>= f)
+two_then : {A B C D : Type 0} (a : Result A Stop) (b : A → Result B Stop) (k : A → B → Result C Stop) (f : C → Result D Stop) → (a >>= λ x. b x >>= λ y. k x y >>= f) ≡ ((a >>= λ x. b x >>= λ y. k x y) >>= f)
 two_then (Ok x) b k f = one_then (b x) (k x) f
 two_then (Err e) b k f = refl
 

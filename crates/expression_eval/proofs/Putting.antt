@@ -8,7 +8,7 @@ use Rattle.script_values.specs.Numbers.{truth_of}
 use Rattle.script_values.specs.Outcomes.{◌>>=◌, Outcome}
 use Rattle.script_values.specs.Values.{Value}
 use Rattle.script_values.specs.View.{view_value}
-use Rattle.script_values.specs.declared.fault.Fault.{Fault}
+use Rattle.script_values.specs.declared.fault.Stop.{Stop}
 use Rattle.script_values.specs.declared.machine.Machine.{Machine}
 use Rattle.script_values.specs.declared.value.Value as program
 use Rattle.script_grammar.specs.declared.tree.Compare as compare
@@ -26,16 +26,16 @@ use Rattle.expression_eval.proofs.Productions.{alone_means, choice_means, chosen
 -- ---- a first part, and what comes behind it
 
 -- a fault of the first part is one of the whole
-pub failed_gives : {A B : Type 0} (view : program.Value → B) (now : Place) (first : Result A Fault) (f : A → Result B Fault) → Failed now first → Gives view now (first >>= f)
+pub failed_gives : {A B : Type 0} (view : program.Value → B) (now : Place) (first : Result A Stop) (f : A → Result B Stop) → Failed now first → Gives view now (first >>= f)
 failed_gives view (Ok v) first f nothing = absurd nothing
 failed_gives view (Err e) first f fault = fails_on e first f fault
 
-pub failed_on : {A B : Type 0} (now : Place) (first : Result A Fault) (f : A → Result B Fault) → Failed now first → Failed now (first >>= f)
+pub failed_on : {A B : Type 0} (now : Place) (first : Result A Stop) (f : A → Result B Stop) → Failed now first → Failed now (first >>= f)
 failed_on (Ok v) first f nothing = absurd nothing
 failed_on (Err e) first f fault = fails_on e first f fault
 
-pub failed_same : {A : Type 0} (now : Place) (r q : Result A Fault) → r ≡ q → Failed now r → Failed now q
-failed_same now r q same is = subst (λ (x : Result _ Fault). Failed now x) same is
+pub failed_same : {A : Type 0} (now : Place) (r q : Result A Stop) → r ≡ q → Failed now r → Failed now q
+failed_same now r q same is = subst (λ (x : Result _ Stop). Failed now x) same is
 
 -- a step on the value of the first part is the whole
 pub then_goes : (old now : Place) (m n : Machine) (first : Outcome) (step : Value × Machine → Outcome) → Gives (λ v. (view_value v, m)) old first → Goes (λ v. step (v, m)) old now n → Gives (λ v. (view_value v, n)) now (first >>= step)
@@ -50,10 +50,10 @@ pub gives_same : (now : Place) (m : Machine) (whole meant : Outcome) → whole �
 gives_same now m whole meant same gives = subst (λ (o : Outcome). Gives (λ v. (view_value v, m)) now o) (sym same) gives
 
 -- what comes behind a first part that gives this
-pub behind_gives : {A : Type 0} (now : Place) (m : Machine) (whole : Outcome) (first : Result A Fault) (f : A → Outcome) (a : A) → whole ≡ (first >>= f) → first ≡ Ok a → Gives (λ v. (view_value v, m)) now (f a) → Gives (λ v. (view_value v, m)) now whole
-behind_gives now m whole first f a means went gives = gives_same now m whole (f a) (means ∙ ap (λ (o : Result _ Fault). o >>= f) went) gives
+pub behind_gives : {A : Type 0} (now : Place) (m : Machine) (whole : Outcome) (first : Result A Stop) (f : A → Outcome) (a : A) → whole ≡ (first >>= f) → first ≡ Ok a → Gives (λ v. (view_value v, m)) now (f a) → Gives (λ v. (view_value v, m)) now whole
+behind_gives now m whole first f a means went gives = gives_same now m whole (f a) (means ∙ ap (λ (o : Result _ Stop). o >>= f) went) gives
 
-pub failed_means : {A : Type 0} (now : Place) (m : Machine) (whole : Outcome) (first : Result A Fault) (f : A → Outcome) → whole ≡ (first >>= f) → Failed now first → Gives (λ v. (view_value v, m)) now whole
+pub failed_means : {A : Type 0} (now : Place) (m : Machine) (whole : Outcome) (first : Result A Stop) (f : A → Outcome) → whole ≡ (first >>= f) → Failed now first → Gives (λ v. (view_value v, m)) now whole
 failed_means now m whole first f means failed = gives_same now m whole (first >>= f) means (failed_gives (λ v. (view_value v, m)) now first f failed)
 
 -- an operator on what its operands give
@@ -68,7 +68,7 @@ goes_same (Ok v) now m f g same goes = gives_same now m (f (view_value v)) (g (v
 goes_same (Err e) now m f g same goes = goes
 
 -- a comparison whose left side has no value
-compare_stopped : (s : Surroundings) (e : compare.Compare) (m : Machine) (o : Option compared.Compared) (x : Fault) → (compare.out-Compare e).right ≡ o → Fails x (meaning.sum s (view_sum (compare.out-Compare e).left) m) → Fails x (meaning.compare s (view_compare e) m)
+compare_stopped : (s : Surroundings) (e : compare.Compare) (m : Machine) (o : Option compared.Compared) (x : Stop) → (compare.out-Compare e).right ≡ o → Fails x (meaning.sum s (view_sum (compare.out-Compare e).left) m) → Fails x (meaning.compare s (view_compare e) m)
 compare_stopped s e m None x is fault = fails_same x _ _ (sym (alone_means s e m is)) fault
 compare_stopped s e m (Some r) x is fault = first_fails x _ _ _ (compared_means s e r m is) fault
 
@@ -81,7 +81,7 @@ abbrev pub behind_truth : (Bool → Machine → Outcome) → Value × Machine �
 behind_truth f x = truth_of x.0 >>= λ b. f b x.1
 
 pub told : (old now : Place) (b : Bool) (m : Machine) (first : Outcome) (f : Bool → Machine → Outcome) → Gives (λ v. (view_value v, m)) old first → Tells old (Some b) now → (first >>= behind_truth f) ≡ f b m
-told (Ok v) now b m first f is tells = ap (λ (o : Outcome). o >>= behind_truth f) is ∙ ap (λ (r : Result Bool Fault). r >>= λ c. f c m) tells
+told (Ok v) now b m first f is tells = ap (λ (o : Outcome). o >>= behind_truth f) is ∙ ap (λ (r : Result Bool Stop). r >>= λ c. f c m) tells
 told (Err e) now b m first f fault nothing = absurd nothing
 
 pub untold : (old now : Place) (m : Machine) (first : Outcome) (f : Bool → Machine → Outcome) → Gives (λ v. (view_value v, m)) old first → Tells old None now → Gives (λ v. (view_value v, m)) now (first >>= behind_truth f)
@@ -152,12 +152,12 @@ plain_last (Ok x) before = refl
 plain_last (Err e) before = refl
 
 -- a value that is made of several, in the place
-pub made_gives : {A : Type 0} (now : Place) (m : Machine) (whole : Outcome) (first : Result A Fault) (f : A → Outcome) (a : A) (made : program.Value) → whole ≡ (first >>= f) → first ≡ Ok a → f a ≡ Ok (view_value made, m) → now ≡ Ok made → Gives (λ v. (view_value v, m)) now whole
-made_gives now m whole first f a made means went is put = subst (λ (p : Place). Gives (λ v. (view_value v, m)) p whole) (sym put) (means ∙ ap (λ (o : Result _ Fault). o >>= f) went ∙ is)
+pub made_gives : {A : Type 0} (now : Place) (m : Machine) (whole : Outcome) (first : Result A Stop) (f : A → Outcome) (a : A) (made : program.Value) → whole ≡ (first >>= f) → first ≡ Ok a → f a ≡ Ok (view_value made, m) → now ≡ Ok made → Gives (λ v. (view_value v, m)) now whole
+made_gives now m whole first f a made means went is put = subst (λ (p : Place). Gives (λ v. (view_value v, m)) p whole) (sym put) (means ∙ ap (λ (o : Result _ Stop). o >>= f) went ∙ is)
 
 -- a fault in the place ends the loop
-pub failed_stops : {S : Sort} {X A B : Type 0} (view : X → Tree S) {F : Tree (Many S) → A → Machine → Result B Fault} {step : Tree S → A → Machine → Result (A × Machine) Fault} → Steps F step
-    → (xs : List X) (i : ℕ) (x : X) (a : A) (m : Machine) (whole : Result B Fault) (now : Place) → F (listed (map view (drop i xs))) a m ≡ whole → i < length xs → x ≡ get_or xs i x → Failed now (step (view x) a m)
+pub failed_stops : {S : Sort} {X A B : Type 0} (view : X → Tree S) {F : Tree (Many S) → A → Machine → Result B Stop} {step : Tree S → A → Machine → Result (A × Machine) Stop} → Steps F step
+    → (xs : List X) (i : ℕ) (x : X) (a : A) (m : Machine) (whole : Result B Stop) (now : Place) → F (listed (map view (drop i xs))) a m ≡ whole → i < length xs → x ≡ get_or xs i x → Failed now (step (view x) a m)
     → Failed now whole
 failed_stops view steps xs i x a m whole (Ok v) so lt is nothing = absurd nothing
 failed_stops view steps xs i x a m whole (Err e) so lt is fault = stops view steps xs i x a m whole e so lt is fault

@@ -9,8 +9,8 @@ use Rattle.script_grammar.specs.declared.tree.ParamForm.{ParamForm}
 use Rattle.script_grammar.specs.declared.tree.ParamForm.TheVariants as form
 use Rattle.typing_rules.specs.Arguments.{argument, arguments_taken, others, parameters_of, token_of}
 use Rattle.script_values.specs.Outcomes.{◌>>=◌, Outcome}
-use Rattle.script_values.specs.declared.fault.Fault.{Fault}
-use Rattle.script_values.specs.declared.fault.Fault.TheVariants.{Stuck}
+use Rattle.script_values.specs.declared.fault.Stop.{Stop}
+use Rattle.script_values.specs.declared.fault.Stop.TheVariants.{Stuck}
 use Rattle.script_values.specs.declared.machine.Machine.{Machine}
 use Rattle.script_values.specs.declared.slots.Slot as program
 use Rattle.script_values.specs.declared.value.Value.{Value as AValue}
@@ -25,19 +25,19 @@ use Rattle.expression_eval.proofs.Loops.{Steps, fails_on, fails_same}
 
 -- ---- the loop
 
-abbrev pub with_slot : List (Option Value) → List SlotValue → SlotValue × Machine → Result ((List (Option Value) × List SlotValue) × Machine) Fault
+abbrev pub with_slot : List (Option Value) → List SlotValue → SlotValue × Machine → Result ((List (Option Value) × List SlotValue) × Machine) Stop
 with_slot os slots x = Ok ((os, slots ++ x.0 ∷ []), x.1)
 
 -- the slots from what is left to be taken, and from the slots so far
-abbrev pub from_taken : Surroundings → Tree (Many AParam) → List (Option Value) × List SlotValue → Machine → Result (List SlotValue × Machine) Fault
+abbrev pub from_taken : Surroundings → Tree (Many AParam) → List (Option Value) × List SlotValue → Machine → Result (List SlotValue × Machine) Stop
 from_taken s ts a m = all_filled s ts a.0 a.1 m
 
 -- one slot more
-abbrev pub one_filled : Surroundings → Tree AParam → List (Option Value) → List SlotValue → Machine → Result ((List (Option Value) × List SlotValue) × Machine) Fault
+abbrev pub one_filled : Surroundings → Tree AParam → List (Option Value) → List SlotValue → Machine → Result ((List (Option Value) × List SlotValue) × Machine) Stop
 one_filled s t [] slots m = Err Stuck
 one_filled s t (o ∷ os) slots m = filled s t o m >>= with_slot os slots
 
-bound : (r : Result (SlotValue × Machine) Fault) (os : List (Option Value)) (slots : List SlotValue) (s : Surroundings) (ts : Tree (Many AParam)) → (r >>= λ x. all_filled s ts os (slots ++ x.0 ∷ []) x.1) ≡ ((r >>= with_slot os slots) >>= λ y. from_taken s ts y.0 y.1)
+bound : (r : Result (SlotValue × Machine) Stop) (os : List (Option Value)) (slots : List SlotValue) (s : Surroundings) (ts : Tree (Many AParam)) → (r >>= λ x. all_filled s ts os (slots ++ x.0 ∷ []) x.1) ≡ ((r >>= with_slot os slots) >>= λ y. from_taken s ts y.0 y.1)
 bound (Ok x) os slots s ts = refl
 bound (Err e) os slots s ts = refl
 
@@ -57,10 +57,10 @@ filled_none s os slots m = refl
 pub slot_went : (s : Surroundings) (t : Tree AParam) (o : Option Value) (os rest : List (Option Value)) (xs xs' : List program.Slot) (x : program.Slot) (m n : Machine) → os ≡ o ∷ rest → filled s t o m ≡ Ok (view_slot x, n) → xs' ≡ xs ++ x ∷ [] → one_filled s t os (map view_slot xs) m ≡ Ok ((rest, map view_slot xs'), n)
 slot_went s t o os rest xs xs' x m n front is grown =
     ap (λ (l : List (Option Value)). one_filled s t l (map view_slot xs) m) front
-    ∙ ap (λ (q : Result (SlotValue × Machine) Fault). q >>= with_slot rest (map view_slot xs)) is ∙ ap (λ (l : List SlotValue). Ok ((rest, l), n)) (sym (ap (map view_slot) grown ∙ map_push view_slot xs x))
+    ∙ ap (λ (q : Result (SlotValue × Machine) Stop). q >>= with_slot rest (map view_slot xs)) is ∙ ap (λ (l : List SlotValue). Ok ((rest, l), n)) (sym (ap (map view_slot) grown ∙ map_push view_slot xs x))
 
 -- a fault of a slot
-pub slot_fails : (s : Surroundings) (t : Tree AParam) (o : Option Value) (os rest : List (Option Value)) (slots : List SlotValue) (m : Machine) (e : Fault) → os ≡ o ∷ rest → Fails e (filled s t o m) → Fails e (one_filled s t os slots m)
+pub slot_fails : (s : Surroundings) (t : Tree AParam) (o : Option Value) (os rest : List (Option Value)) (slots : List SlotValue) (m : Machine) (e : Stop) → os ≡ o ∷ rest → Fails e (filled s t o m) → Fails e (one_filled s t os slots m)
 slot_fails s t o os rest slots m e front fault = fails_same e (one_filled s t (o ∷ rest) slots m) (one_filled s t os slots m) (ap (λ (l : List (Option Value)). one_filled s t l slots m) (sym front)) (fails_on e (filled s t o m) (with_slot rest slots) fault)
 
 pub none_fails : (s : Surroundings) (t : Tree AParam) (os : List (Option Value)) (slots : List SlotValue) (m : Machine) → os ≡ [] → Fails Stuck (one_filled s t os slots m)
@@ -96,10 +96,10 @@ filled_by s p v m = ap (λ (t : ℕ). Ok ((t, v), m)) (param_token p.at p.name p
 abbrev AreFilled : Surroundings → Tree (Many AParam) → Type 0
 AreFilled s ps = (gs : List Argument) (slots : List SlotValue) (m : Machine) → meaning.parameters s ps gs slots m ≡ all_filled s ps (arguments_taken (parameters_of ps) gs) slots m
 
-abbrev then_others : Surroundings → Tree (Many AParam) → List SlotValue → (SlotValue × List Argument) × Machine → Result (List SlotValue × Machine) Fault
+abbrev then_others : Surroundings → Tree (Many AParam) → List SlotValue → (SlotValue × List Argument) × Machine → Result (List SlotValue × Machine) Stop
 then_others s ps slots x = meaning.parameters s ps x.0.1 (slots ++ x.0.0 ∷ []) x.1
 
-abbrev then_filled : Surroundings → Tree (Many AParam) → List (Option Value) → List SlotValue → SlotValue × Machine → Result (List SlotValue × Machine) Fault
+abbrev then_filled : Surroundings → Tree (Many AParam) → List (Option Value) → List SlotValue → SlotValue × Machine → Result (List SlotValue × Machine) Stop
 then_filled s ps os slots x = all_filled s ps os (slots ++ x.0 ∷ []) x.1
 
 abbrev first : Option (Value × List Argument) → Option Value

@@ -2,8 +2,8 @@
 use Rattle.std.specs.Prelude.{◌≡◌, ◌≢◌, ℕ, List, [], ◌∷◌, ◌++◌, map, get_or, Option, Some, None, option_map, Result, Ok, Err, ⊤}
 use Rattle.script_grammar.specs.Tree.{Tree, Many, none, more, AParam, Param, Labelled, Optional}
 use Rattle.typing_rules.specs.Arguments.{token_of}
-use Rattle.script_values.specs.declared.fault.Fault.{Fault}
-use Rattle.script_values.specs.declared.fault.Fault.TheVariants.{Stuck}
+use Rattle.script_values.specs.declared.fault.Stop.{Stop}
+use Rattle.script_values.specs.declared.fault.Stop.TheVariants.{Stuck}
 use Rattle.script_values.specs.declared.machine.Machine.{Machine}
 use Rattle.script_values.specs.declared.slots.Given.{Given as AGiven}
 use Rattle.script_values.specs.declared.value.Value.{Value as AValue}
@@ -39,7 +39,7 @@ AreKept None old new = (j : ℕ) → new j ≡ old j
 AreKept (Some i) old new = (j : ℕ) → j ≢ i → new j ≡ old j
 
 -- the slot of a parameter that takes this
-unfoldable pub filled : Surroundings → Tree AParam → Option Value → Machine → Result (SlotValue × Machine) Fault
+unfoldable pub filled : Surroundings → Tree AParam → Option Value → Machine → Result (SlotValue × Machine) Stop
 filled s p (Some v) m = Ok ((token_of p, v), m)
 filled s (Param at name) None m = Err Stuck
 filled s (Labelled at name) None m = Err Stuck
@@ -47,7 +47,7 @@ filled s (Optional at name d) None m = full s d m >>= λ x. Ok ((at, x.0), x.1)
 
 -- the slots of parameters that take these, behind others
 unfoldable pub all_filled : Surroundings → Tree (Many AParam) → List (Option Value) → List SlotValue → Machine
-    → Result (List SlotValue × Machine) Fault
+    → Result (List SlotValue × Machine) Stop
 all_filled s none os slots m = Ok (slots, m)
 all_filled s (more p ps) [] slots m = Err Stuck
 all_filled s (more p ps) (o ∷ os) slots m = filled s p o m >>= λ x. all_filled s ps os (slots ++ x.0 ∷ []) x.1

@@ -7,16 +7,16 @@ use Rattle.script_values.specs.Numbers.{truth_of}
 use Rattle.script_values.specs.Outcomes.{Outcome}
 use Rattle.script_values.specs.Values.{Value}
 use Rattle.script_values.specs.View.{view_value}
-use Rattle.script_values.specs.declared.fault.Fault.{Fault}
-use Rattle.script_values.specs.declared.fault.Fault.TheVariants as fault
+use Rattle.script_values.specs.declared.fault.Stop.{Stop}
+use Rattle.script_values.specs.declared.fault.Stop.TheVariants as fault
 use Rattle.script_values.specs.declared.machine.Machine.{Machine}
 use Rattle.script_values.specs.declared.value.Value as program
 
 abbrev pub Place : Type 0
-Place = Result program.Value Fault
+Place = Result program.Value Stop
 
 -- the place holds the fault of what is meant
-abbrev pub Failed : {Y : Type 0} → Place → Result Y Fault → Type 0
+abbrev pub Failed : {Y : Type 0} → Place → Result Y Stop → Type 0
 Failed (Ok v) meant = ⊥
 Failed (Err e) meant = Fails e meant
 
@@ -26,12 +26,12 @@ Goes step (Ok v) now m = Gives (λ w. (view_value w, m)) now (step (view_value v
 Goes step (Err e) now m = now ≡ Err e
 
 -- whether to go on: if so this is what is meant, else its fault is in the place
-abbrev pub GoesOn : {Y : Type 0} → Bool → Y → Place → Result Y Fault → Type 0
+abbrev pub GoesOn : {Y : Type 0} → Bool → Y → Place → Result Y Stop → Type 0
 GoesOn true y now meant = meant ≡ Ok y
 GoesOn false y now meant = Failed now meant
 
 -- what was made is what is meant; without it the fault of what is meant is in the place
-abbrev pub Makes : {X Y : Type 0} → (X → Y) → Option X → Place → Result Y Fault → Type 0
+abbrev pub Makes : {X Y : Type 0} → (X → Y) → Option X → Place → Result Y Stop → Type 0
 Makes view (Some x) now meant = meant ≡ Ok (view x)
 Makes view None now meant = Failed now meant
 

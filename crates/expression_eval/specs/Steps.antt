@@ -6,15 +6,15 @@ use Rattle.script_values.specs.Machines.{count_work}
 use Rattle.script_values.specs.Numbers.{added, both, compared, either, multiplied}
 use Rattle.script_values.specs.Outcomes.{◌>>=◌, Outcome}
 use Rattle.script_values.specs.Values.{Value}
-use Rattle.script_values.specs.declared.fault.Fault.{Fault}
+use Rattle.script_values.specs.declared.fault.Stop.{Stop}
 use Rattle.script_values.specs.declared.machine.Machine.{Machine}
 
 -- what was made, behind the count of 1
-abbrev pub after_count : Result Value Fault → Machine → Outcome
+abbrev pub after_count : Result Value Stop → Machine → Outcome
 after_count made m = count_work 1 m >>= λ c. made >>= λ v. Ok (v, c)
 
 -- what an operator makes of two values
-abbrev pub operation : Operator → Value → Value → Result Value Fault
+abbrev pub operation : Operator → Value → Value → Result Value Stop
 operation operator.Or = either
 operation operator.And = both
 operation (operator.Sum minus at) = added minus at

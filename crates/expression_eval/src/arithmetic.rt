@@ -12,7 +12,7 @@ use crate::operands::operand;
 use crate::steps::{Operator, operate};
 use eval_scope::Scope;
 use script_grammar::tree::{Added, Compare, CompareOp, Multiplied, Product, Sum};
-use script_values::{Fault, Machine, Value};
+use script_values::{Machine, Stop, Value};
 use std::alloc::Global;
 
 /// comparison: sum ((`==` | `!=` | `<` | `<=` | `>` | `>=`) sum)?
@@ -23,7 +23,7 @@ pub fn compare(
     left: usize,
     machine: &mut Machine,
     node: &Compare,
-    out: &mut Result<Value, Fault>,
+    out: &mut Result<Value, Stop>,
 )
     ensures { Gives (λ v. (view_value v, machine.new)) out.new
         (compare (scope_of scope.now) (view_compare node.now) machine.old) }
@@ -48,12 +48,12 @@ fn compare_with(
     machine: &mut Machine,
     op: CompareOp,
     right: &Sum,
-    out: &mut Result<Value, Fault>,
+    out: &mut Result<Value, Stop>,
 )
     ensures { Goes (λ v. operator_applied (compared op) v (sum (scope_of scope.now) (view_sum right.now) machine.old))
         out.old out.new machine.new }
 {
-    let mut other = Err(Fault::Memory);
+    let mut other = Err(Stop::Memory);
     sum(alloc, scope, left, machine, right, &mut other);
     operate(machine, Operator::Comparison(op), out, other);
 }
@@ -66,7 +66,7 @@ fn sum(
     left: usize,
     machine: &mut Machine,
     node: &Sum,
-    out: &mut Result<Value, Fault>,
+    out: &mut Result<Value, Stop>,
 )
     ensures { Gives (λ v. (view_value v, machine.new)) out.new
         (sum (scope_of scope.now) (view_sum node.now) machine.old) }
@@ -83,7 +83,7 @@ fn addends(
     left: usize,
     machine: &mut Machine,
     parts: &[Added],
-    out: &mut Result<Value, Fault>,
+    out: &mut Result<Value, Stop>,
 )
     ensures { Goes (λ v. addends (scope_of scope.now) (listed (map view_added parts.now)) v machine.old) out.old out.new
         machine.new }
@@ -105,11 +105,11 @@ fn added(
     left: usize,
     machine: &mut Machine,
     part: &Added,
-    out: &mut Result<Value, Fault>,
+    out: &mut Result<Value, Stop>,
 )
     ensures { Goes (λ v. plus (scope_of scope.now) (view_added part.now) v machine.old) out.old out.new machine.new }
 {
-    let mut other = Err(Fault::Memory);
+    let mut other = Err(Stop::Memory);
     product(alloc, scope, left, machine, &part.product, &mut other);
     let operator = Operator::Sum {
         minus: part.minus,
@@ -126,7 +126,7 @@ fn product(
     left: usize,
     machine: &mut Machine,
     node: &Product,
-    out: &mut Result<Value, Fault>,
+    out: &mut Result<Value, Stop>,
 )
     ensures { Gives (λ v. (view_value v, machine.new)) out.new
         (product (scope_of scope.now) (view_product node.now) machine.old) }
@@ -143,7 +143,7 @@ fn factors(
     left: usize,
     machine: &mut Machine,
     parts: &[Multiplied],
-    out: &mut Result<Value, Fault>,
+    out: &mut Result<Value, Stop>,
 )
     ensures { Goes (λ v. factors (scope_of scope.now) (listed (map view_multiplied parts.now)) v machine.old) out.old
         out.new machine.new }
@@ -165,12 +165,12 @@ fn multiplied(
     left: usize,
     machine: &mut Machine,
     part: &Multiplied,
-    out: &mut Result<Value, Fault>,
+    out: &mut Result<Value, Stop>,
 )
     ensures { Goes (λ v. times (scope_of scope.now) (view_multiplied part.now) v machine.old) out.old out.new
         machine.new }
 {
-    let mut other = Err(Fault::Memory);
+    let mut other = Err(Stop::Memory);
     operand(alloc, scope, left, machine, &part.operand, &mut other);
     let operator = Operator::Product {
         divide: part.divide,

@@ -9,7 +9,7 @@ use crate::preds::counted_pred;
 use crate::steps::{counted_format, counted_text, counted_value};
 use eval_scope::{Scope, named};
 use script_grammar::tree::Operand;
-use script_values::{Fault, Machine, Value, literal};
+use script_values::{Machine, Stop, Value, literal};
 use std::alloc::Global;
 
 /// The value of an operand without parts, behind its count. Of one with parts it makes none, as if memory were wanting:
@@ -21,7 +21,7 @@ pub fn atom(
     scope: &Scope<'_>,
     machine: &mut Machine,
     node: &Operand,
-) -> Result<Value, Fault>
+) -> Result<Value, Stop>
     ensures { Gives (λ v. (view_value v, machine.new)) result
         (operand (scope_of scope.now) (view_operand node.now) machine.old) }
 {
@@ -33,6 +33,6 @@ pub fn atom(
         Operand::Bool { at: _, value } => counted_value(machine, Value::Truth(*value)),
         Operand::Unit { at: _ } => counted_value(machine, Value::Nothing),
         Operand::Wav { at, size } => counted_format(machine, *at, *size),
-        _ => Err(Fault::Memory),
+        _ => Err(Stop::Memory),
     }
 }

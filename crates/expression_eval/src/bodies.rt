@@ -13,7 +13,7 @@ use crate::logic::expr;
 use crate::values::full;
 use eval_scope::Scope;
 use script_grammar::tree::{Def, Inner, Param, ParamForm};
-use script_values::{Fault, Given, Machine, Slot, Value};
+use script_values::{Given, Machine, Slot, Stop, Value};
 use std::alloc::Global;
 
 /// def: `def` NameOpen (param (`,` param)*)? `)` `=`? inner* expression `end`
@@ -28,12 +28,12 @@ pub fn body(
     machine: &mut Machine,
     def: &Def,
     given: Vec<Given>,
-) -> Result<Value, Fault>
+) -> Result<Value, Stop>
     ensures { Gives (λ v. (view_value v, machine.new)) result
         (body (base_of scope.now) (view_def def.now) (map view_given given.items) machine.old) }
 {
     if left == 0 {
-        return Err(Fault::Memory);
+        return Err(Stop::Memory);
     }
     let mut locals = parameters(alloc, scope, left, machine, &def.params, given)?;
     inners(alloc, scope, left, machine, &def.inner, &mut locals)?;
@@ -45,7 +45,7 @@ pub fn body(
         kinds: scope.kinds,
         calls: scope.calls,
     };
-    let mut out = Err(Fault::Memory);
+    let mut out = Err(Stop::Memory);
     expr(alloc, &inside, left - 1, machine, &def.result, &mut out);
     out
 }
@@ -61,7 +61,7 @@ fn parameters(
     machine: &mut Machine,
     params: &[Param],
     given: Vec<Given>,
-) -> Result<Vec<Slot>, Fault>
+) -> Result<Vec<Slot>, Stop>
     ensures { Gives (λ v. (map view_slot v.items, machine.new)) result
         (parameters (base_of scope.now) (listed (map view_param params.now)) (map view_given given.items) []
         machine.old) }
@@ -81,7 +81,7 @@ fn filled_parameters(
     machine: &mut Machine,
     params: &[Param],
     taken: Vec<Option<Value>>,
-) -> Result<Vec<Slot>, Fault>
+) -> Result<Vec<Slot>, Stop>
     ensures { Gives (λ v. (map view_slot v.items, machine.new)) result
         (all_filled (base_of scope.now) (listed (map view_param params.now)) (map view_taken taken.items) []
         machine.old) }
@@ -90,7 +90,7 @@ fn filled_parameters(
     let mut slots = Vec::new(alloc);
     'turns: for param in params {
         let Some(one) = rest.next() else {
-            return Err(Fault::Stuck);
+            return Err(Stop::Stuck);
         };
         let slot = parameter(alloc, scope, left, machine, param, one)?;
         slots.push(slot)?;
@@ -110,7 +110,7 @@ fn parameter(
     machine: &mut Machine,
     param: &Param,
     taken: Option<Value>,
-) -> Result<Slot, Fault>
+) -> Result<Slot, Stop>
     ensures { Gives (λ v. (view_slot v, machine.new)) result
         (filled (base_of scope.now) (view_param param.now) (view_taken taken) machine.old) }
 {
@@ -135,13 +135,13 @@ fn missing_parameter(
     left: usize,
     machine: &mut Machine,
     param: &Param,
-) -> Result<Slot, Fault>
+) -> Result<Slot, Stop>
     ensures { Gives (λ v. (view_slot v, machine.new)) result
         (filled (base_of scope.now) (view_param param.now) None machine.old) }
 {
     match &param.form {
-        ParamForm::Plain => Err(Fault::Stuck),
-        ParamForm::Labelled => Err(Fault::Stuck),
+        ParamForm::Plain => Err(Stop::Stuck),
+        ParamForm::Labelled => Err(Stop::Stuck),
         ParamForm::Optional(default) => {
             let outer = Scope {
                 defs: scope.defs,
@@ -171,7 +171,7 @@ fn inners(
     machine: &mut Machine,
     bindings: &[Inner],
     slots: &mut Vec<Slot>,
-) -> Result<(), Fault>
+) -> Result<(), Stop>
     ensures { Gives (λ _. (map view_slot slots.new.items, machine.new)) result
         (inners (base_of scope.now) (listed (map view_inner bindings.now)) (map view_slot slots.old.items)
         machine.old) }
@@ -195,7 +195,7 @@ fn inner(
     machine: &mut Machine,
     binding: &Inner,
     slots: &[Slot],
-) -> Result<Slot, Fault>
+) -> Result<Slot, Stop>
     ensures { Gives (λ v. (view_slot v, machine.new)) result
         (inner (base_of scope.now) (view_inner binding.now) (map view_slot slots.now) machine.old) }
 {

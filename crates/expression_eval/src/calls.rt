@@ -17,7 +17,7 @@ use builtin_calls::builtin;
 use eval_scope::{Scope, kinds_of};
 use liq_base::Kind;
 use script_grammar::tree::{Arg, Call};
-use script_values::{Fault, Given, Limit, Machine, Value};
+use script_values::{Given, Limit, Machine, Stop, Value};
 use std::alloc::Global;
 use typing_rules::{Target, Use};
 
@@ -30,11 +30,11 @@ pub fn call(
     left: usize,
     machine: &mut Machine,
     node: &Call,
-) -> Result<Value, Fault>
+) -> Result<Value, Stop>
     ensures { Gives (λ v. (view_value v, machine.new)) result
         (call (scope_of scope.now) (view_call node.now) machine.old) }
 {
-    let mut out = Err(Fault::Memory);
+    let mut out = Err(Stop::Memory);
     put_call(alloc, scope, left, machine, node, &mut out);
     out
 }
@@ -50,7 +50,7 @@ pub fn put_call(
     left: usize,
     machine: &mut Machine,
     node: &Call,
-    out: &mut Result<Value, Fault>,
+    out: &mut Result<Value, Stop>,
 )
     ensures { Gives (λ v. (view_value v, machine.new)) out.new
         (call (scope_of scope.now) (view_call node.now) machine.old) }
@@ -71,7 +71,7 @@ fn arguments(
     left: usize,
     machine: &mut Machine,
     args: &[Arg],
-    out: &mut Result<Value, Fault>,
+    out: &mut Result<Value, Stop>,
 ) -> Option<Vec<Given>>
     ensures { Makes (λ v. (map view_given v.items, machine.new)) result out.new
         (arguments (scope_of scope.now) (listed (map view_arg args.now)) [] machine.old) }
@@ -97,14 +97,14 @@ fn applied(
     machine: &mut Machine,
     at: u32,
     given: Vec<Given>,
-    out: &mut Result<Value, Fault>,
+    out: &mut Result<Value, Stop>,
 )
     ensures { Gives (λ v. (view_value v, machine.new)) out.new
         (applied (scope_of scope.now) (use_at at scope.now.uses.now.all.now) at (map view_given given.items)
         machine.old) }
 {
     match scope.uses.find(at) {
-        None => put(out, Err(Fault::Stuck)),
+        None => put(out, Err(Stop::Stuck)),
         Some(found) => put(
             out,
             applied_to(alloc, scope, left, machine, found, at, given),
@@ -122,15 +122,15 @@ fn applied_to(
     found: &Use,
     at: u32,
     given: Vec<Given>,
-) -> Result<Value, Fault>
+) -> Result<Value, Stop>
     ensures { Gives (λ v. (view_value v, machine.new)) result
         (applied_to (scope_of scope.now) found.now.target at (kinds_of scope.now.kinds.now found.now.kinds)
         (map view_given given.items) machine.old) }
 {
     match kinds_of(alloc, scope.kinds, found.kinds.as_slice())? {
-        None => Err(Fault::Stuck),
+        None => Err(Stop::Stuck),
         Some(kinds) => match found.target {
-            Target::Slot(_) => Err(Fault::Stuck),
+            Target::Slot(_) => Err(Stop::Stuck),
             Target::Def(def) => call_def(alloc, scope, left, machine, def, &kinds, given),
             Target::Builtin(name) => builtin(alloc, name, at, &kinds, given, machine),
         },
@@ -148,12 +148,12 @@ fn call_def(
     at: u32,
     kinds: &[Kind],
     given: Vec<Given>,
-) -> Result<Value, Fault>
+) -> Result<Value, Stop>
     ensures { Gives (λ v. (view_value v, machine.new)) result
         (called scope.now at kinds.now (map view_given given.items) machine.old) }
 {
     if scope.calls == 0 {
-        return Err(Fault::TooLarge(Limit::Calls));
+        return Err(Stop::TooLarge(Limit::Calls));
     }
     let inside = Scope {
         defs: scope.defs,
@@ -164,7 +164,7 @@ fn call_def(
         calls: scope.calls - 1,
     };
     match scope.defs.find(at) {
-        None => Err(Fault::Stuck),
+        None => Err(Stop::Stuck),
         Some(def) => body(alloc, &inside, left, machine, def, given),
     }
 }

@@ -9,7 +9,7 @@ use crate::steps::truth;
 use crate::values::put_full;
 use eval_scope::Scope;
 use script_grammar::tree::If;
-use script_values::{Fault, Machine, Value};
+use script_values::{Machine, Stop, Value};
 use std::alloc::Global;
 
 /// if: `if` value `then` value `else` value `end`
@@ -21,11 +21,11 @@ pub fn choice(
     left: usize,
     machine: &mut Machine,
     node: &If,
-) -> Result<Value, Fault>
+) -> Result<Value, Stop>
     ensures { Gives (λ v. (view_value v, machine.new)) result
         (choice (scope_of scope.now) (view_if node.now) machine.old) }
 {
-    let mut out = Err(Fault::Memory);
+    let mut out = Err(Stop::Memory);
     put_choice(alloc, scope, left, machine, node, &mut out);
     out
 }
@@ -41,7 +41,7 @@ pub fn put_choice(
     left: usize,
     machine: &mut Machine,
     node: &If,
-    out: &mut Result<Value, Fault>,
+    out: &mut Result<Value, Stop>,
 )
     ensures { Gives (λ v. (view_value v, machine.new)) out.new
         (choice (scope_of scope.now) (view_if node.now) machine.old) }

@@ -12,7 +12,7 @@ use crate::arithmetic::compare;
 use crate::steps::{Operator, negate, operate};
 use eval_scope::Scope;
 use script_grammar::tree::{And, Expr, Not};
-use script_values::{Fault, Machine, Value};
+use script_values::{Machine, Stop, Value};
 use std::alloc::Global;
 
 /// expression: and (`or` and)*
@@ -23,7 +23,7 @@ pub fn expr(
     left: usize,
     machine: &mut Machine,
     node: &Expr,
-    out: &mut Result<Value, Fault>,
+    out: &mut Result<Value, Stop>,
 )
     ensures { Gives (λ v. (view_value v, machine.new)) out.new
         (expr (scope_of scope.now) (view_expr node.now) machine.old) }
@@ -40,7 +40,7 @@ fn ors(
     left: usize,
     machine: &mut Machine,
     parts: &[And],
-    out: &mut Result<Value, Fault>,
+    out: &mut Result<Value, Stop>,
 )
     ensures { Goes (λ v. ors (scope_of scope.now) (listed (map view_and parts.now)) v machine.old) out.old out.new
         machine.new }
@@ -62,12 +62,12 @@ fn or_one(
     left: usize,
     machine: &mut Machine,
     part: &And,
-    out: &mut Result<Value, Fault>,
+    out: &mut Result<Value, Stop>,
 )
     ensures { Goes (λ v. operator_applied either v (conjunction (scope_of scope.now) (view_and part.now) machine.old))
         out.old out.new machine.new }
 {
-    let mut other = Err(Fault::Memory);
+    let mut other = Err(Stop::Memory);
     conjunction(alloc, scope, left, machine, part, &mut other);
     operate(machine, Operator::Or, out, other);
 }
@@ -80,7 +80,7 @@ fn conjunction(
     left: usize,
     machine: &mut Machine,
     node: &And,
-    out: &mut Result<Value, Fault>,
+    out: &mut Result<Value, Stop>,
 )
     ensures { Gives (λ v. (view_value v, machine.new)) out.new
         (conjunction (scope_of scope.now) (view_and node.now) machine.old) }
@@ -97,7 +97,7 @@ fn ands(
     left: usize,
     machine: &mut Machine,
     parts: &[Not],
-    out: &mut Result<Value, Fault>,
+    out: &mut Result<Value, Stop>,
 )
     ensures { Goes (λ v. ands (scope_of scope.now) (listed (map view_not parts.now)) v machine.old) out.old out.new
         machine.new }
@@ -119,12 +119,12 @@ fn and_one(
     left: usize,
     machine: &mut Machine,
     part: &Not,
-    out: &mut Result<Value, Fault>,
+    out: &mut Result<Value, Stop>,
 )
     ensures { Goes (λ v. operator_applied both v (negation (scope_of scope.now) (view_not part.now) machine.old))
         out.old out.new machine.new }
 {
-    let mut other = Err(Fault::Memory);
+    let mut other = Err(Stop::Memory);
     negation(alloc, scope, left, machine, part, &mut other);
     operate(machine, Operator::And, out, other);
 }
@@ -137,7 +137,7 @@ fn negation(
     left: usize,
     machine: &mut Machine,
     node: &Not,
-    out: &mut Result<Value, Fault>,
+    out: &mut Result<Value, Stop>,
 )
     ensures { Gives (λ v. (view_value v, machine.new)) out.new
         (negation (scope_of scope.now) (view_not node.now) machine.old) }

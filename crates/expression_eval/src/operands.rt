@@ -13,7 +13,7 @@ use crate::steps::{put, step};
 use crate::values::{fulls, put_full};
 use eval_scope::Scope;
 use script_grammar::tree::{self, Full};
-use script_values::{Fault, Machine, Value, listed, tuple};
+use script_values::{Machine, Stop, Value, listed, tuple};
 use std::alloc::Global;
 
 /// operand: call | if | `(` .. `)` | `[` .. `]` | one that holds no value
@@ -26,7 +26,7 @@ pub fn operand(
     left: usize,
     machine: &mut Machine,
     node: &tree::Operand,
-    out: &mut Result<Value, Fault>,
+    out: &mut Result<Value, Stop>,
 )
     ensures { Gives (λ v. (view_value v, machine.new)) out.new
         (operand (scope_of scope.now) (view_operand node.now) machine.old) }
@@ -72,7 +72,7 @@ fn grouped(
     left: usize,
     machine: &mut Machine,
     parts: &[Full],
-    out: &mut Result<Value, Fault>,
+    out: &mut Result<Value, Stop>,
 )
     ensures { Gives (λ v. (view_value v, machine.new)) out.new
         (grouped (scope_of scope.now) (listed (map view_full parts.now)) machine.old) }
@@ -92,7 +92,7 @@ fn pair(
     left: usize,
     machine: &mut Machine,
     parts: &[Full],
-    out: &mut Result<Value, Fault>,
+    out: &mut Result<Value, Stop>,
 )
     requires { 2 ≤ length parts.now }
     ensures { Gives (λ v. (view_value v, machine.new)) out.new
@@ -113,7 +113,7 @@ fn list(
     left: usize,
     machine: &mut Machine,
     parts: &[Full],
-    out: &mut Result<Value, Fault>,
+    out: &mut Result<Value, Stop>,
 )
     ensures { Gives (λ v. (view_value v, machine.new)) out.new
         (all_of (scope_of scope.now) (listed (map view_full parts.now)) machine.old) }

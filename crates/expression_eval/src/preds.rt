@@ -4,24 +4,24 @@ ghost use Rattle.eval_meaning.specs.Preds.{and_pred, atom_pred, not_pred, or_pre
 ghost use Rattle.script_grammar.specs.View.{listed, pand_of, por_of, view_pand, view_patom, view_pnot, view_por};
 ghost use Rattle.script_values.specs.Gives.{Gives};
 ghost use Rattle.expression_eval.specs.Steps.{after_count};
-ghost use Rattle.script_values.specs.Values.{Pred as a_pred};
+ghost use Rattle.script_values.specs.Values.{PredValue as a_pred};
 ghost use Rattle.script_values.specs.View.{view_value};
 ghost use Rattle.time_pred.specs.View.{view_pred};
 
 use liq_base::Memory;
 use script_grammar::predicate::{PAnd, PAtom, PNot, POr};
-use script_values::{Fault, Machine, Value, count};
+use script_values::{Machine, Stop, Value, count};
 use std::alloc::Global;
-use time_pred::Pred;
+use time_pred::{Pred, SharedPred};
 
 /// The value of a predicate in braces, which counts 1.
-pub fn counted_pred(alloc: Global, machine: &mut Machine, node: &POr) -> Result<Value, Fault>
+pub fn counted_pred(alloc: Global, machine: &mut Machine, node: &POr) -> Result<Value, Stop>
     ensures { Gives (λ v. (view_value v, machine.new)) result
         (after_count (Ok (a_pred (or_pred (view_por node.now)))) machine.old) }
 {
     count(machine, 1)?;
     let made = any_part(alloc, node)?;
-    Ok(Value::Pred(made))
+    Ok(Value::Pred(SharedPred::new(alloc, made)?))
 }
 
 #[cycle(pred)]

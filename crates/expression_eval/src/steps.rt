@@ -7,7 +7,7 @@ ghost use Rattle.expression_eval.specs.Steps.{after_count, operation};
 ghost use Rattle.script_values.specs.Gives.{Gives};
 ghost use Rattle.script_values.specs.Machines.{count_work};
 ghost use Rattle.script_values.specs.Numbers.{negative, opposite};
-ghost use Rattle.script_values.specs.Values.{Text as a_text};
+ghost use Rattle.script_values.specs.Values.{TextValue as a_text};
 ghost use Rattle.script_values.specs.View.{view_value};
 ghost use Rattle.script_values.specs.Views.{view_given};
 
@@ -15,11 +15,12 @@ use eval_scope::format;
 use liq_base::{Memory, Text};
 use script_grammar::tree::{CompareOp, Literal};
 use script_values::{
-    Fault, Given, Machine, Value, added, both, compared, copy_label, count, either, multiplied,
+    Given, Machine, Stop, Value, added, both, compared, copy_label, count, either, multiplied,
     negative, opposite, truth_of,
 };
 use std::alloc::Global;
 use std::mem;
+use std::rc::Rc;
 
 /// An operator on two values, with what it needs beside them.
 #[derive(Clone, Copy)]
@@ -41,7 +42,7 @@ pub enum Operator {
 }
 
 /// Writes a result into its place. What was there ends.
-pub fn put(out: &mut Result<Value, Fault>, made: Result<Value, Fault>)
+pub fn put(out: &mut Result<Value, Stop>, made: Result<Value, Stop>)
     ensures { out.new ≡ made }
 {
     *out = made;
@@ -53,8 +54,8 @@ pub fn put(out: &mut Result<Value, Fault>, made: Result<Value, Fault>)
 pub fn operate(
     machine: &mut Machine,
     operator: Operator,
-    out: &mut Result<Value, Fault>,
-    right: Result<Value, Fault>,
+    out: &mut Result<Value, Stop>,
+    right: Result<Value, Stop>,
 )
     ensures { Joins operator right machine.old out.old out.new machine.new }
 {
@@ -68,8 +69,8 @@ fn operated(
     machine: &mut Machine,
     operator: Operator,
     left: &Value,
-    right: Result<Value, Fault>,
-) -> Result<Value, Fault>
+    right: Result<Value, Stop>,
+) -> Result<Value, Stop>
     ensures { Joins operator right machine.old (Ok left.now) result machine.new }
 {
     match right {
@@ -80,7 +81,7 @@ fn operated(
 
 /// `not` of the value in the place, behind its count. A fault that is there stays.
 #[inline(never)]
-pub fn negate(machine: &mut Machine, out: &mut Result<Value, Fault>)
+pub fn negate(machine: &mut Machine, out: &mut Result<Value, Stop>)
     ensures { Goes (λ v. after_count (opposite v) machine.old) out.old out.new machine.new }
 {
     match out {
@@ -91,7 +92,7 @@ pub fn negate(machine: &mut Machine, out: &mut Result<Value, Fault>)
 
 /// The truth of the value in the place. `None` where there is none, and then the fault is in the place.
 #[inline(never)]
-pub fn truth(out: &mut Result<Value, Fault>) -> Option<bool>
+pub fn truth(out: &mut Result<Value, Stop>) -> Option<bool>
     ensures { Tells out.old result out.new }
 {
     let told = match out {
@@ -109,7 +110,7 @@ pub fn truth(out: &mut Result<Value, Fault>) -> Option<bool>
 
 /// Counts 1. `false` where that is too much, and then the fault is in the place.
 #[inline(never)]
-pub fn step(machine: &mut Machine, out: &mut Result<Value, Fault>) -> bool
+pub fn step(machine: &mut Machine, out: &mut Result<Value, Stop>) -> bool
     ensures { GoesOn result machine.new out.new (count_work 1 machine.old) }
 {
     match count(machine, 1) {
@@ -123,11 +124,11 @@ pub fn step(machine: &mut Machine, out: &mut Result<Value, Fault>) -> bool
 
 /// Moves the value in the place behind the others. `false` where there is none, and then a fault is in the place.
 #[inline(never)]
-pub fn kept_value(values: &mut Vec<Value>, out: &mut Result<Value, Fault>) -> bool
+pub fn kept_value(values: &mut Vec<Value>, out: &mut Result<Value, Stop>) -> bool
     ensures { GoesBehind (λ v. v) out.old result (map view_value values.old.items) (map view_value values.new.items)
         out.new }
 {
-    match mem::replace(out, Err(Fault::Memory)) {
+    match mem::replace(out, Err(Stop::Memory)) {
         Err(fault) => {
             *out = Err(fault);
             false
@@ -143,12 +144,12 @@ pub fn kept_argument(
     alloc: Global,
     label: &Option<Text>,
     given: &mut Vec<Given>,
-    out: &mut Result<Value, Fault>,
+    out: &mut Result<Value, Stop>,
 ) -> bool
     ensures { GoesBehind (λ v. (label.now, v)) out.old result (map view_given given.old.items)
         (map view_given given.new.items) out.new }
 {
-    match mem::replace(out, Err(Fault::Memory)) {
+    match mem::replace(out, Err(Stop::Memory)) {
         Err(fault) => {
             *out = Err(fault);
             false
@@ -172,7 +173,7 @@ fn labelled(
 }
 
 /// The number below zero, behind its count.
-pub fn counted_negative(machine: &mut Machine, at: u32, number: Literal) -> Result<Value, Fault>
+pub fn counted_negative(machine: &mut Machine, at: u32, number: Literal) -> Result<Value, Stop>
     ensures { Gives (λ v. (view_value v, machine.new)) result (after_count (negative at number) machine.old) }
 {
     count(machine, 1)?;
@@ -181,7 +182,7 @@ pub fn counted_negative(machine: &mut Machine, at: u32, number: Literal) -> Resu
 }
 
 /// A value that is there, behind the count of 1.
-pub fn counted_value(machine: &mut Machine, value: Value) -> Result<Value, Fault>
+pub fn counted_value(machine: &mut Machine, value: Value) -> Result<Value, Stop>
     ensures { Gives (λ v. (view_value v, machine.new)) result (after_count (Ok (view_value value)) machine.old) }
 {
     count(machine, 1)?;
@@ -189,15 +190,16 @@ pub fn counted_value(machine: &mut Machine, value: Value) -> Result<Value, Fault
 }
 
 /// A text of the script, behind the count of 1.
-pub fn counted_text(alloc: Global, machine: &mut Machine, text: &Text) -> Result<Value, Fault>
+pub fn counted_text(alloc: Global, machine: &mut Machine, text: &Text) -> Result<Value, Stop>
     ensures { Gives (λ v. (view_value v, machine.new)) result (after_count (Ok (a_text text.now)) machine.old) }
 {
     count(machine, 1)?;
-    Ok(Value::Text(text.copy(alloc)?))
+    let text = text.copy(alloc)?;
+    Ok(Value::Text(Rc::new(alloc, text)?))
 }
 
 /// The format that `%wav` names, behind the count of 1.
-pub fn counted_format(machine: &mut Machine, at: u32, size: Option<i64>) -> Result<Value, Fault>
+pub fn counted_format(machine: &mut Machine, at: u32, size: Option<i64>) -> Result<Value, Stop>
     ensures { Gives (λ v. (view_value v, machine.new)) result (after_count (format at size) machine.old) }
 {
     count(machine, 1)?;
@@ -210,7 +212,7 @@ fn counted_operation(
     operator: Operator,
     left: &Value,
     right: &Value,
-) -> Result<Value, Fault>
+) -> Result<Value, Stop>
     ensures { Gives (λ v. (view_value v, machine.new)) result
         (after_count (operation operator (view_value left.now) (view_value right.now)) machine.old) }
 {
@@ -219,7 +221,7 @@ fn counted_operation(
     Ok(made)
 }
 
-fn operation(operator: Operator, left: &Value, right: &Value) -> Result<Value, Fault>
+fn operation(operator: Operator, left: &Value, right: &Value) -> Result<Value, Stop>
     ensures { Gives (λ v. view_value v) result (operation operator (view_value left.now) (view_value right.now)) }
 {
     match operator {
@@ -231,7 +233,7 @@ fn operation(operator: Operator, left: &Value, right: &Value) -> Result<Value, F
     }
 }
 
-fn counted_opposite(machine: &mut Machine, value: &Value) -> Result<Value, Fault>
+fn counted_opposite(machine: &mut Machine, value: &Value) -> Result<Value, Stop>
     ensures { Gives (λ v. (view_value v, machine.new)) result
         (after_count (opposite (view_value value.now)) machine.old) }
 {

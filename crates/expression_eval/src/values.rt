@@ -17,7 +17,7 @@ use crate::steps::{counted_negative, kept_value, put};
 use eval_scope::Scope;
 use script_grammar::lone_operand;
 use script_grammar::tree::Full;
-use script_values::{Fault, Machine, Value};
+use script_values::{Machine, Stop, Value};
 use std::alloc::Global;
 
 /// value: expression | `-` Int | `-` Number
@@ -30,11 +30,11 @@ pub fn full(
     left: usize,
     machine: &mut Machine,
     node: &Full,
-) -> Result<Value, Fault>
+) -> Result<Value, Stop>
     ensures { Gives (λ v. (view_value v, machine.new)) result
         (full (scope_of scope.now) (view_full node.now) machine.old) }
 {
-    let mut out = Err(Fault::Memory);
+    let mut out = Err(Stop::Memory);
     put_full(alloc, scope, left, machine, node, &mut out);
     out
 }
@@ -50,13 +50,13 @@ pub fn put_full(
     left: usize,
     machine: &mut Machine,
     node: &Full,
-    out: &mut Result<Value, Fault>,
+    out: &mut Result<Value, Stop>,
 )
     ensures { Gives (λ v. (view_value v, machine.new)) out.new
         (full (scope_of scope.now) (view_full node.now) machine.old) }
 {
     if left == 0 {
-        put(out, Err(Fault::Memory));
+        put(out, Err(Stop::Memory));
         return;
     }
     match node {
@@ -78,7 +78,7 @@ pub fn fulls(
     left: usize,
     machine: &mut Machine,
     parts: &[Full],
-    out: &mut Result<Value, Fault>,
+    out: &mut Result<Value, Stop>,
 ) -> Option<Vec<Value>>
     ensures { Makes (λ v. (map view_value v.items, machine.new)) result out.new
         (fulls (scope_of scope.now) (listed (map view_full parts.now)) [] machine.old) }

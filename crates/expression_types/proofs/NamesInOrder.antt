@@ -1,7 +1,7 @@
 -- The tokens that a tree uses are those of its names, in whatever scope.
 use Rattle.std.proofs.Common.{◌≡◌, ◌∙◌, sym, ap, ap₂, refl, ℕ, List, ◌∷◌, ◌++◌, map}
 use Rattle.std.proofs.lemmas.List.{map-append}
-use Rattle.script_grammar.specs.Tree.{Sort, Tree, Many, AnInner, none, more, Stmt, BindPart, DefPart, CallPart, IfPart, Bind, Def, Inner, Param, Labelled, Optional, Negative, Plain, Expr, And, Not, Alone, Compared, Sum, Added, Product, Multiplied, Constant, Quoted, Truth, Named, Called, Chosen, Nothing, Paren, Tuple, Listed, Braces, Format, NamedCall, Arg, If, POr, PAnd, PNot, TrueAtom, FalseAtom, Mark, IntervalAtom, Grouped}
+use Rattle.script_grammar.specs.Tree.{Sort, Tree, Many, AnInner, none, more, Stmt, BindPart, DefPart, CallPart, IfPart, Bind, Def, Inner, Param, Labelled, Optional, Negative, Plain, Expr, And, Not, Alone, Compared, Sum, Added, Product, Multiplied, Constant, Quoted, Truth, Named, Called, Chosen, Nothing, Paren, Tuple, Listed, Braces, PlaceFormat, NamedCall, Arg, If, POr, PAnd, PNot, TrueAtom, FalseAtom, Mark, IntervalAtom, Grouped}
 use Rattle.typing_rules.specs.Scoping.{Name, Scope, inner_names, names, with_inner, with_inners, with_params}
 use Rattle.expression_types.specs.Order.{tokens_used}
 
@@ -53,7 +53,7 @@ mutual
       (both (tokens_used f) (tokens_used g) (names sc f) (names sc g) (names_in_order sc f) (names_in_order sc g)) (names_in_order sc rest)
   names_in_order sc (Listed at parts) = names_in_order sc parts
   names_in_order sc (Braces at pred) = refl
-  names_in_order sc (Format at size) = refl
+  names_in_order sc (PlaceFormat at size) = refl
   names_in_order sc (NamedCall at name args) = ap (λ (l : List ℕ). at ∷ l) (names_in_order sc args)
   names_in_order sc (Arg at label f) = names_in_order sc f
   names_in_order sc (If at c t e) =

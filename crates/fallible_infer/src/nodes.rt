@@ -4,13 +4,13 @@ ghost use Rattle.std.specs.List.{list_any, zip};
 ghost use Rattle.std.specs.Option.{option_map_or};
 ghost use Rattle.plan_core.specs.Plans.{IsWellFormed, HasChildren};
 ghost use Rattle.time_pred.specs.Predicates.{is_always};
-ghost use Rattle.time_pred.specs.View.{view_pred};
+ghost use Rattle.time_pred.specs.View.{view_shared};
 ghost use Rattle.fallible_infer.specs.Infallible.{mark_at, last_of, infallible_by, IsMarking};
 
 use liq_base::Memory;
 use plan_core::{Node, Op, Plan};
 use std::alloc::Global;
-use time_pred::Pred;
+use time_pred::SharedPred;
 
 /// For each node, by its number, whether it is infallible: whether it offers a cell at each instant, whatever the time
 /// of the week is and whatever buffers answer. `docs/fallible.md` has the rule.
@@ -42,11 +42,11 @@ fn some_child(children: &[u32], marks: &[bool]) -> bool
 }
 
 // Whether some child is infallible whose predicate is always true by its form.
-fn some_always(preds: &[Pred], children: &[u32], marks: &[bool]) -> bool
+fn some_always(preds: &[SharedPred], children: &[u32], marks: &[bool]) -> bool
     requires number { length children.now ≡ length preds.now }
     requires children { All (λ child. child < length marks.now) children.now }
     ensures { result ≡ list_any (λ pair. is_always pair.0
-        && mark_at marks.now pair.1) (zip (map view_pred preds.now) children.now) }
+        && mark_at marks.now pair.1) (zip (map view_shared preds.now) children.now) }
 {
     for (k, pred) in preds.iter().enumerate() {
         if pred.always() && marks[children[k] as usize] {

@@ -1,5 +1,6 @@
 -- The samples of a file from a place on, side by side.
-use Rattle.std.specs.Prelude.{◌≡◌, ℕ, zero, suc, ◌+◌, ◌/◌, ◌≤◌, ℤ, pos, List, ◌∷◌, length, replicate, take, drop, refl}
+use Rattle.std.specs.Prelude.{◌≡◌, ℕ, zero, suc, ◌+◌, ◌/◌, ◌≤◌, ℤ, pos, List, ◌∷◌, length, map, replicate, take, drop, refl}
+use Rattle.std.specs.List.{range_with_len}
 use Rattle.std.proofs.Common.{ap, sym, subst, ◌∙◌, arith}
 use Rattle.std.proofs.lemmas.List.{drop_more}
 use Rattle.liq_base.specs.Kinds.{channels_of}
@@ -52,3 +53,20 @@ mono_rights sound kind at n m held many is mono stereo within =
 -- in a mono source the right side is silent
 pub silent_rights : (sound : Sound) (kind : Kind) (at n : ℕ) → kind ≡ Mono → replicate n (pos 0) ≡ rights_from sound kind at n
 silent_rights sound kind at n mono = silent sound.kind sound.samples at n ∙ ap (λ k. rights_from sound k at n) (sym mono)
+
+-- the samples one by one
+pub singles_left : (samples : List ℤ) (kind : Kind) (at n : ℕ) → map (sample_at samples) (range_with_len at n) ≡ lefts_from (record { kind = Mono; samples = samples }) kind at n
+singles_left samples kind at zero = refl
+singles_left samples kind at (suc n) = ap (λ l. sample_at samples at ∷ l) (singles_left samples kind (at + 1) n)
+
+pub singles_right : (samples : List ℤ) (at n : ℕ) → map (sample_at samples) (range_with_len at n) ≡ rights_from (record { kind = Mono; samples = samples }) Stereo at n
+singles_right samples at zero = refl
+singles_right samples at (suc n) = ap (λ l. sample_at samples at ∷ l) (singles_right samples (at + 1) n)
+
+-- a place is below the number of samples
+pub below_all : (sound : Sound) (at : ℕ) → suc at ≤ length_of sound → suc at ≤ length sound.samples
+below_all sound at lt = by sound.kind lt
+  where
+    by : (kind : Kind) → suc at ≤ length sound.samples / channels_of kind → suc at ≤ length sound.samples
+    by Mono le = let it : suc at ≤ length sound.samples / 1 = le in omega (arith, it)
+    by Stereo le = let it : suc at ≤ length sound.samples / 2 = le in omega (arith, it)

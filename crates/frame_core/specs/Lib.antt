@@ -8,3 +8,5 @@ pub mod Order
 pub mod Calls
 pub mod Coded
 pub mod Chunks
+pub mod MarkRuns
+pub mod Held

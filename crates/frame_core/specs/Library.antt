@@ -40,6 +40,7 @@ pub record IsKept (files : List Sound) (names : List (List ℕ)) (lists : List (
   pub library : IsLibrary (record { files = files; names = names; leaves = leaves_of numbers lists })
   pub there : AreThere numbers lists
 
+-- a sound without samples
 abbrev pub no_sound : Sound
 no_sound = record { kind = Mono; samples = [] }
 

@@ -20,6 +20,7 @@ pub record IsSound (sound : Sound) : Type 0 where
   pub whole_blocks : length sound.samples % channels_of sound.kind ≡ 0
   pub some : 0 < length_of sound
 
+-- the sample at a place, and 0 past the end
 abbrev pub sample_at : List ℤ → ℕ → ℤ
 sample_at samples at = slice_index_or samples at (pos 0)
 
@@ -29,6 +30,7 @@ left_at Mono samples kind at = sample_at samples at
 left_at Stereo samples Stereo at = sample_at samples (2 * at)
 left_at Stereo samples Mono at = int_div (sample_at samples (2 * at) +ℤ sample_at samples (2 * at + 1)) (pos 2)
 
+-- the right sample at an instant: of a mono file its only one, and 0 for a mono source
 abbrev pub right_at : Kind → List ℤ → Kind → ℕ → ℤ
 right_at source samples Mono at = pos 0
 right_at Mono samples Stereo at = sample_at samples at

@@ -1,4 +1,4 @@
-// One sample of each channel, and what a cell has beside them.
+// One sample of each channel, and what cells have beside them.
 
 /// One sample of each channel, at one instant of a source.
 #[derive(Clone, Copy, Debug, PartialEq, Eq, Hash)]
@@ -24,4 +24,17 @@ pub struct CellMark {
 
     /// The title of that track.
     pub title: u32,
+}
+
+/// Marks of one title, of which the first alone may begin a track.
+#[derive(Clone, Copy, Debug)]
+pub struct MarkRun {
+    /// Whether a track begins at the first of them.
+    pub first: bool,
+
+    /// The title of that track.
+    pub title: u32,
+
+    /// How many they are.
+    pub count: u32,
 }

@@ -1,5 +1,5 @@
 // The slots of one tick.
-ghost use Rattle.std.specs.Prelude.{◌≡◌, ◌<◌, ◌≤◌, ◌+◌, length, replicate, slice_set, IfOk, IfSome, None};
+ghost use Rattle.std.specs.Prelude.{◌≡◌, ◌<◌, ◌≤◌, ◌+◌, length, replicate, slice_set, true, IfOk, IfSome, None};
 ghost use Rattle.std.specs.Simd.Lanes.{put_chunk};
 ghost use Rattle.frame_core.specs.Chunks.{slot_mark};
 ghost use Rattle.frame_core.specs.Slots.{slot_at};
@@ -114,6 +114,16 @@ impl Frame {
         (&self.marks, &self.left, &self.right)
     }
 
+    /// Whether another frame has the same slots, as far as a look at samples and marks tells: a frame with gaps may
+    /// have them where this answers no.
+    pub fn is_same(&self, other: &Frame) -> bool
+        ensures { result ≡ true → self.now ≡ other.now }
+    {
+        are_marks(&self.marks, &other.marks)
+            && are_samples(&self.left, &other.left)
+            && are_samples(&self.right, &other.right)
+    }
+
     /// The slot at a place, counted from 0.
     pub fn slot(&self, at: u32) -> Option<Cell>
         requires { at < length self.now }
@@ -155,6 +165,20 @@ impl Frame {
     {
         clear_marks(&mut self.marks, at as usize, len as usize);
     }
+}
+
+// Whether two lists of marks are the same.
+fn are_marks(one: &[Mark], other: &[Mark]) -> bool
+    ensures { result ≡ true → one.now ≡ other.now }
+{
+    one == other
+}
+
+// Whether two lists of samples are the same.
+fn are_samples(one: &[i16], other: &[i16]) -> bool
+    ensures { result ≡ true → one.now ≡ other.now }
+{
+    one == other
 }
 
 // Copies samples over those from a place on.

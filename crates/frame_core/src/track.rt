@@ -1,5 +1,9 @@
 // An audio file, held as samples.
-ghost use Rattle.std.specs.Prelude.{◌≡◌, ◌<◌, ◌≤◌, ◌+ℤ◌, ◌*◌, ◌+◌, ◌/◌, ◌^◌, ℕ, ℤ, pos, length, int_div, nat_eq};
+ghost use Rattle.std.specs.Prelude.{◌≡◌, ◌<◌, ◌≤◌, ◌+ℤ◌, ◌*◌, ◌+◌, ◌/◌, ◌^◌, ℕ, ℤ, pos, length, map, take, drop, int_div, nat_eq};
+ghost use Rattle.std.specs.List.{range_with_len};
+ghost use Rattle.liq_base.specs.Kinds.{channels_of};
+ghost use Rattle.frame_core.specs.Bytes.{samples_from};
+ghost use Rattle.frame_core.specs.Held.{are_inside, samples_held};
 ghost use Rattle.frame_core.specs.Sounds.{Sound, IsSound, cell_of, lefts_from, length_of, rights_from, sample_at};
 ghost use Rattle.liq_base.specs.declared.memory.Kind.TheVariants.{Mono, Stereo};
 
@@ -11,17 +15,33 @@ use std::marker::Model;
 #[derive(Debug, Drop)]
 pub struct Track {
     kind: Kind,
-    samples: Vec<i16>,
+    held: Held,
+}
+
+/// Samples as numbers, or as they stand in a file.
+#[derive(Debug, Drop)]
+pub enum Held {
+    Numbers(Vec<i16>),
+    Bytes(Raw),
+}
+
+/// Samples of two bytes, the lower first: so many bytes from a place on.
+#[derive(Debug, Drop)]
+pub struct Raw {
+    pub bytes: Vec<u8>,
+    pub from: usize,
+    pub size: usize,
 }
 
 impl Model for Track {
     ghost use Rattle.frame_core.specs.Sounds.{Sound, IsSound};
+    ghost use Rattle.frame_core.specs.Held.{are_inside, samples_held};
 
     ghost Value = { Sound };
 
-    ghost view = { λ t. record { kind = t.kind; samples = t.samples.items } };
+    ghost view = { λ t. record { kind = t.kind; samples = samples_held t.held } };
 
-    ghost invariant = { λ t. IsSound (record { kind = t.kind; samples = t.samples.items }) };
+    ghost invariant = { λ t. IsSound (record { kind = t.kind; samples = samples_held t.held }) × are_inside t.held };
 }
 
 impl Track {
@@ -30,7 +50,38 @@ impl Track {
         requires { IsSound (record { kind = kind; samples = samples.items }) }
         ensures { result ≡ record { kind = kind; samples = samples.items } }
     {
-        Track { kind, samples }
+        Track {
+            kind,
+            held: Held::Numbers(samples),
+        }
+    }
+
+    /// The file whose samples stand in so many of these bytes from a place on.
+    pub fn of_bytes(kind: Kind, bytes: Vec<u8>, from: usize, size: usize) -> Track
+        requires inside { from + size ≤ length bytes.items }
+        requires sound { IsSound (record { kind = kind; samples = samples_from (take size (drop from bytes.items)) }) }
+        ensures { result ≡ record { kind = kind; samples = samples_from (take size (drop from bytes.items)) } }
+    {
+        Track {
+            kind,
+            held: Held::Bytes(Raw { bytes, from, size }),
+        }
+    }
+
+    // How many samples it has.
+    fn count(&self) -> usize
+        ensures count { result ≡ length self.now.samples }
+        ensures few { result < 2 ^ 63 }
+    {
+        count_held(&self.held)
+    }
+
+    // The sample at a place.
+    fn sample(&self, at: usize) -> i16
+        requires { at < length self.now.samples }
+        ensures { result ≡ sample_at self.now.samples at }
+    {
+        held_at(&self.held, at)
     }
 
     /// How many channels it has.
@@ -45,7 +96,7 @@ impl Track {
         ensures samples { result ≡ length_of self.now }
         ensures some { 0 < result }
     {
-        let samples = self.samples.len() as u64;
+        let samples = self.count() as u64;
         match self.kind {
             Kind::Mono => samples,
             Kind::Stereo => samples / 2,
@@ -59,29 +110,31 @@ impl Track {
         ensures { result ≡ cell_of self.now title kind at }
     {
         let first = at == 0;
+        // So it is known that twice the place is a number.
+        let _count = self.count();
         let at = at as usize;
         match (self.kind, kind) {
             (Kind::Mono, Kind::Mono) => Cell {
-                left: self.samples[at],
+                left: self.sample(at),
                 right: 0,
                 first,
                 title,
             },
             (Kind::Mono, Kind::Stereo) => Cell {
-                left: self.samples[at],
-                right: self.samples[at],
+                left: self.sample(at),
+                right: self.sample(at),
                 first,
                 title,
             },
             (Kind::Stereo, Kind::Mono) => Cell {
-                left: half_sum(self.samples[2 * at], self.samples[2 * at + 1]),
+                left: half_sum(self.sample(2 * at), self.sample(2 * at + 1)),
                 right: 0,
                 first,
                 title,
             },
             (Kind::Stereo, Kind::Stereo) => Cell {
-                left: self.samples[2 * at],
-                right: self.samples[2 * at + 1],
+                left: self.sample(2 * at),
+                right: self.sample(2 * at + 1),
                 first,
                 title,
             },
@@ -97,23 +150,154 @@ impl Track {
         ensures left { left.new ≡ lefts_from self.now kind at (length left.old) }
         ensures right { right.new ≡ rights_from self.now kind at (length left.old) }
     {
-        let from = at as usize;
-        match (self.kind, kind) {
-            (Kind::Mono, Kind::Mono) => {
-                left.copy_from_slice(&self.samples[from..from + left.len()]);
-                right.fill(0);
-            }
-            (Kind::Mono, Kind::Stereo) => {
-                let samples = &self.samples[from..from + left.len()];
-                left.copy_from_slice(samples);
-                right.copy_from_slice(samples);
-            }
-            (Kind::Stereo, Kind::Mono) => {
-                halve_pairs(&self.samples, from, left);
-                right.fill(0);
-            }
-            (Kind::Stereo, Kind::Stereo) => part_pairs(&self.samples, from, left, right),
+        match &self.held {
+            Held::Numbers(samples) => read_numbers(
+                self.kind,
+                samples,
+                at as usize,
+                kind,
+                left,
+                right,
+            ),
+            Held::Bytes(raw) => read_bytes(self.kind, body_of(raw), at as usize, kind, left, right),
         }
+    }
+}
+
+// How many samples are held.
+fn count_held(held: &Held) -> usize
+    requires { are_inside held.now }
+    ensures count { result ≡ length (samples_held held.now) }
+    ensures few { result < 2 ^ 63 }
+{
+    match held {
+        Held::Numbers(samples) => samples.len(),
+        Held::Bytes(raw) => raw.size / 2,
+    }
+}
+
+// The sample at a place.
+fn held_at(held: &Held, at: usize) -> i16
+    requires inside { are_inside held.now }
+    requires there { at < length (samples_held held.now) }
+    ensures { result ≡ sample_at (samples_held held.now) at }
+{
+    match held {
+        Held::Numbers(samples) => samples[at],
+        Held::Bytes(raw) => number_at(body_of(raw), at),
+    }
+}
+
+// The bytes of the samples.
+fn body_of(raw: &Raw) -> &[u8]
+    requires { raw.now.from + raw.now.size ≤ length raw.now.bytes.items }
+    ensures { result.now ≡ take raw.now.size (drop raw.now.from raw.now.bytes.items) }
+{
+    let (_, body) = raw.bytes.split_at(raw.from);
+    &body[..raw.size]
+}
+
+// The sample at a place of some bytes.
+fn number_at(bytes: &[u8], at: usize) -> i16
+    requires { 2 * at + 1 < length bytes.now }
+    ensures { result ≡ sample_at (samples_from bytes.now) at }
+{
+    i16::from_le_bytes([bytes[2 * at], bytes[2 * at + 1]])
+}
+
+// The samples of as many cells as the slices are long, of numbers.
+fn read_numbers(
+    own: Kind,
+    samples: &[i16],
+    at: usize,
+    kind: Kind,
+    left: &mut [i16],
+    right: &mut [i16],
+)
+    requires same { length right.old ≡ length left.old }
+    requires within { at + length left.old ≤ length_of (record { kind = own; samples = samples.now }) }
+    ensures left { left.new ≡ lefts_from (record { kind = own; samples = samples.now }) kind at (length left.old) }
+    ensures right { right.new ≡ rights_from (record { kind = own; samples = samples.now }) kind at (length left.old) }
+{
+    match (own, kind) {
+        (Kind::Mono, Kind::Mono) => {
+            left.copy_from_slice(&samples[at..at + left.len()]);
+            right.fill(0);
+        }
+        (Kind::Mono, Kind::Stereo) => {
+            let samples = &samples[at..at + left.len()];
+            left.copy_from_slice(samples);
+            right.copy_from_slice(samples);
+        }
+        (Kind::Stereo, Kind::Mono) => {
+            halve_pairs(samples, at, left);
+            right.fill(0);
+        }
+        (Kind::Stereo, Kind::Stereo) => part_pairs(samples, at, left, right),
+    }
+}
+
+// The same of bytes.
+fn read_bytes(own: Kind, bytes: &[u8], at: usize, kind: Kind, left: &mut [i16], right: &mut [i16])
+    requires same { length right.old ≡ length left.old }
+    requires within { 2 * channels_of own * (at + length left.old) ≤ length bytes.now }
+    ensures left { left.new
+        ≡ lefts_from (record { kind = own; samples = samples_from bytes.now }) kind at (length left.old) }
+    ensures right { right.new
+        ≡ rights_from (record { kind = own; samples = samples_from bytes.now }) kind at (length left.old) }
+{
+    match (own, kind) {
+        (Kind::Mono, Kind::Mono) => {
+            read_singles(bytes, at, left);
+            right.fill(0);
+        }
+        (Kind::Mono, Kind::Stereo) => {
+            read_singles(bytes, at, left);
+            read_singles(bytes, at, right);
+        }
+        (Kind::Stereo, Kind::Mono) => {
+            read_halves(bytes, at, left);
+            right.fill(0);
+        }
+        (Kind::Stereo, Kind::Stereo) => read_pairs(bytes, at, left, right),
+    }
+}
+
+// The samples that stand in bytes, from a place on.
+fn read_singles(bytes: &[u8], at: usize, into: &mut [i16])
+    requires { 2 * (at + length into.old) ≤ length bytes.now }
+    ensures { into.new ≡ map (sample_at (samples_from bytes.now)) (range_with_len at (length into.old)) }
+{
+    for j in 0..into.len() {
+        into[j] = number_at(bytes, at + j);
+    }
+}
+
+// The two samples of each block that stands in bytes, from a place on.
+fn read_pairs(bytes: &[u8], at: usize, left: &mut [i16], right: &mut [i16])
+    requires same { length right.old ≡ length left.old }
+    requires within { 4 * (at + length left.old) ≤ length bytes.now }
+    ensures left { left.new
+        ≡ lefts_from (record { kind = Stereo; samples = samples_from bytes.now }) Stereo at (length left.old) }
+    ensures right { right.new
+        ≡ rights_from (record { kind = Stereo; samples = samples_from bytes.now }) Stereo at (length left.old) }
+{
+    for j in 0..left.len() {
+        let place = 2 * (at + j);
+        left[j] = number_at(bytes, place);
+        right[j] = number_at(bytes, place + 1);
+    }
+}
+
+// Half the sum of the two samples of each block that stands in bytes, from a place on.
+fn read_halves(bytes: &[u8], at: usize, halves: &mut [i16])
+    requires { 4 * (at + length halves.old) ≤ length bytes.now }
+    ensures { halves.new
+        ≡ lefts_from (record { kind = Stereo; samples = samples_from bytes.now }) Mono at (length halves.old) }
+{
+    for j in 0..halves.len() {
+        let place = 2 * (at + j);
+        halves[j] = half_sum(number_at(bytes, place), number_at(bytes, place + 1));
     }
 }
 

@@ -1,7 +1,7 @@
 -- What the steps of a walk through types lead to, and the walk as a whole.
 use Rattle.std.proofs.Common.{◌≡◌, ◌∙◌, sym, ap, ap₂, subst, refl, arith, ℕ, zero, suc, ◌<◌, ◌≤◌, inl, inr, Bool, true, false, not, List, [], ◌∷◌, ◌++◌, Some, Result, Ok, Err, OnOk}
 use Rattle.liq_base.specs.declared.memory.Kind.{Kind}
-use Rattle.type_terms.specs.Ground.{Assignment, list, tuple, source, more, size, sizes}
+use Rattle.type_terms.specs.Ground.{Assignment, list, tuple, source, and_more, size, sizes}
 use Rattle.type_terms.specs.Nested.{parts}
 use Rattle.type_terms.specs.Resolved.{IsFreeType, IsFreeKind}
 use Rattle.type_terms.specs.Table.{Table, Solves, IsOver, bound_at, extra}
@@ -143,7 +143,7 @@ parts_same a b (one_more t ts) e = (
 
 parts_below : (a b : Assignment) (n : ℕ) (ts : Terms) → Every (IsSameBelow a b n) (parts ts) → sizes (meanings a ts) < n → meanings a ts ≡ meanings b ts
 parts_below a b n no_terms h l = refl
-parts_below a b n (one_more t ts) h l = ap₂ more (h.0 (omega arith)) (parts_below a b n ts h.1 (omega arith))
+parts_below a b n (one_more t ts) h l = ap₂ and_more (h.0 (omega arith)) (parts_below a b n ts h.1 (omega arith))
 
 tuple_below : (a b : Assignment) (n : ℕ) (ts : Terms) → Every (IsSameBelow a b n) (parts ts) → IsSameBelow a b n (tuple_term ts)
 tuple_below a b n ts h l = ap tuple (parts_below a b n ts h (omega arith))

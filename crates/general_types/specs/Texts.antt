@@ -1,5 +1,5 @@
 -- The kinds in the text of a def. No contract of a public call cites this.
-use Rattle.std.specs.Prelude.{◌≡◌, ℕ, ◌<◌, ◌≤◌, List, length, map, take, Option, Some, None, slice_get}
+use Rattle.std.specs.Prelude.{◌≡◌, ℕ, ◌+◌, ◌<◌, ◌≤◌, List, [], ◌∷◌, length, map, take, Option, Some, None, slice_get}
 use Rattle.std.specs.List.{flat_map}
 use Rattle.type_terms.specs.Naming.{instance}
 use Rattle.type_terms.specs.Resolved.{IsResolved}
@@ -16,6 +16,11 @@ use Rattle.general_types.specs.declared.generalising.TextKind.{TextKind}
 use Rattle.general_types.specs.declared.generalising.TextKind.TheVariants.{Open, Outer}
 use Rattle.general_types.specs.Holding.{HeldVariables}
 use Rattle.general_types.specs.Numbering.{AreSettled, IsFront, kind_parameters, place_of, type_parameter}
+
+-- of each parameter how many before it are open, where so many are before the first
+abbrev pub open_counts : ℕ → List KindParameter → List ℕ
+open_counts n [] = []
+open_counts n (p ∷ ps) = n ∷ open_counts (n + length (open_numbers 0 (p ∷ []))) ps
 
 -- variable i, of which this is known, in a text; so many open ones are before it
 abbrev pub variable_in_text : ℕ → ℕ → Option KindParameter → TextKind

@@ -1,12 +1,12 @@
 // The general type of a def.
-ghost use Rattle.std.specs.Prelude.{◌≡◌, ◌++◌, ◌≤◌, List, [], length, map, IfOk, OnOk};
+ghost use Rattle.std.specs.Prelude.{◌≡◌, ◌++◌, ◌∷◌, ◌<◌, ◌≤◌, List, [], length, map, take, IfOk, OnOk};
 ghost use Rattle.type_terms.specs.Table.{IsOver};
 ghost use Rattle.type_terms.specs.Term.{Term, source_term, term_of};
 ghost use Rattle.type_instances.specs.Schemes.{AreAmong, IsSchemeOver, open_numbers, scheme_of};
 ghost use Rattle.general_types.specs.Generals.{AreTextKindsOver, IsGeneral, IsNumberedText};
 ghost use Rattle.general_types.specs.Holding.{IsHeldBy};
 ghost use Rattle.general_types.specs.Numbering.{kind_parameter, kind_parameters as the_kind_parameters, type_parameter};
-ghost use Rattle.general_types.specs.Texts.{text_kind as the_text_kind};
+ghost use Rattle.general_types.specs.Texts.{open_counts, text_kind as the_text_kind};
 
 use crate::holding::Held;
 use crate::numbering::number_def;
@@ -110,6 +110,7 @@ fn generalise_with(
     let mut kinds = Vec::new(alloc);
     let mut text = Vec::new(alloc);
     say_parameters(
+        alloc,
         subst,
         held,
         type_numbers.as_slice(),
@@ -133,6 +134,7 @@ fn generalise_with(
 
 /// Says what the variables of these numbers may stand for, and the text over them. The three lists are empty at first.
 fn say_parameters(
+    alloc: Global,
     subst: &Subst,
     held: &Held,
     type_numbers: &[u64],
@@ -153,7 +155,7 @@ fn say_parameters(
 {
     push_types(types, subst, held, type_numbers)?;
     push_kinds(kinds, held, kind_numbers, read)?;
-    push_text(text, kinds.as_slice(), named)?;
+    push_text(alloc, text, kinds.as_slice(), named)?;
     Ok(())
 }
 
@@ -231,23 +233,45 @@ fn push_kinds(
     Ok(())
 }
 
-/// How many of the parameters are open.
-fn open_count(parameters: &[KindParameter]) -> u64
-    ensures { result ≡ length (open_numbers 0 parameters.now) }
+/// 1 for an open parameter, else 0.
+fn one_if_open(parameter: KindParameter) -> u64
+    ensures open { result ≡ length (open_numbers 0 (parameter ∷ [])) }
+    ensures few { result ≤ 1 }
 {
-    let mut count = 0;
-    for parameter in parameters {
-        match parameter {
-            KindParameter::Open => count += 1,
-            KindParameter::Unread => continue,
-            KindParameter::Outer(_) => continue,
-        }
+    match parameter {
+        KindParameter::Open => 1,
+        KindParameter::Unread => 0,
+        KindParameter::Outer(_) => 0,
     }
-    count
+}
+
+/// Of each parameter how many before it are open, put into an empty list.
+fn push_open_counts(counts: &mut Vec<u64>, parameters: &[KindParameter]) -> Result<(), Memory>
+    requires { counts.old.items ≡ [] }
+    ensures { OnOk result (counts.new.items ≡ open_counts 0 parameters.now) }
+{
+    let mut count: u64 = 0;
+    for parameter in parameters {
+        counts.push(count)?;
+        let one = one_if_open(*parameter);
+        count += one;
+    }
+    Ok(())
+}
+
+/// How many of the parameters before this one are open.
+fn open_before(parameters: &[KindParameter], counts: &[u64], number: u64) -> u64
+    requires counts { counts.now ≡ open_counts 0 parameters.now }
+    requires inside { number < length parameters.now }
+    ensures { result ≡ length (open_numbers 0 (take number parameters.now)) }
+{
+    let _ = parameters;
+    counts[number as usize]
 }
 
 /// A kind of the general type, as the text of the def has it.
-fn text_kind(parameters: &[KindParameter], kind: KindTerm) -> TextKind
+fn text_kind(parameters: &[KindParameter], counts: &[u64], kind: KindTerm) -> TextKind
+    requires { counts.now ≡ open_counts 0 parameters.now }
     ensures { result ≡ the_text_kind parameters.now kind }
 {
     let KindTerm::Var(number) = kind else {
@@ -255,7 +279,7 @@ fn text_kind(parameters: &[KindParameter], kind: KindTerm) -> TextKind
     };
     match parameters.get(number as usize) {
         Some(KindParameter::Outer(outer)) => TextKind::Outer(KindTerm::Var(*outer)),
-        Some(KindParameter::Open) => TextKind::Open(open_count(&parameters[..number as usize])),
+        Some(KindParameter::Open) => TextKind::Open(open_before(parameters, counts, number)),
         // A text names no others.
         Some(KindParameter::Unread) => TextKind::Outer(kind),
         None => TextKind::Outer(kind),
@@ -264,6 +288,7 @@ fn text_kind(parameters: &[KindParameter], kind: KindTerm) -> TextKind
 
 /// Adds kinds of the general type, as the text of the def has them, to an empty list.
 fn push_text(
+    alloc: Global,
     text: &mut Vec<TextKind>,
     parameters: &[KindParameter],
     kinds: &[KindTerm],
@@ -271,8 +296,10 @@ fn push_text(
     requires { text.old.items ≡ [] }
     ensures { OnOk result (text.new.items ≡ map (the_text_kind parameters.now) kinds.now) }
 {
+    let mut counts = Vec::new(alloc);
+    push_open_counts(&mut counts, parameters)?;
     for kind in kinds {
-        text.push(text_kind(parameters, *kind))?;
+        text.push(text_kind(parameters, &counts, *kind))?;
     }
     Ok(())
 }

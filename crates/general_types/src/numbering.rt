@@ -135,7 +135,7 @@ fn all_numbered(
     ensures { IfOk result (λ us. AreNumbered types.old.keys kinds.old.keys types.new.keys kinds.new.keys
         (map term_of tys.now) (map term_of us.items)) }
 {
-    let mut places = Vec::new(alloc);
+    let mut places = Vec::with_capacity(alloc, tys.len())?;
     for ty in tys {
         let next = numbered(alloc, types, kinds, ty, levels)?;
         places.push(next)?;
@@ -148,7 +148,7 @@ fn all_resolved(alloc: Global, subst: &Subst, tys: &[Ty]) -> Result<Vec<Ty>, Mem
     requires over { AreAmong (length subst.now.types) (length subst.now.kinds) (map term_of tys.now) }
     ensures { IfOk result (λ us. AreSettled subst.now (map term_of tys.now) (map term_of us.items)) }
 {
-    let mut settled = Vec::new(alloc);
+    let mut settled = Vec::with_capacity(alloc, tys.len())?;
     for ty in tys {
         let next = resolved(alloc, subst, ty)?;
         settled.push(next)?;
@@ -160,7 +160,7 @@ fn all_resolved(alloc: Global, subst: &Subst, tys: &[Ty]) -> Result<Vec<Ty>, Mem
 fn sources(alloc: Global, kinds: &[KindTerm]) -> Result<Vec<Ty>, Memory>
     ensures { IfOk result (λ us. map term_of us.items ≡ map source_term kinds.now) }
 {
-    let mut types = Vec::new(alloc);
+    let mut types = Vec::with_capacity(alloc, kinds.len())?;
     for kind in kinds {
         types.push(Ty::Source(*kind))?;
     }

@@ -12,15 +12,17 @@ use Rattle.liq_base.specs.declared.closed.Closed.{Closed, End, File', Lost'}
 
 abbrev pub entries : Closed → List (List ℕ × List ℕ)
 entries End = []
-entries (File' p name bytes left pieces next) = (string_bytes name, bytes.items) ∷ entries next
-entries (Lost' p name bytes left pieces next) = entries next
+entries (File' p name bytes left pieces faults next) = (string_bytes name, bytes.items) ∷ entries next
+entries (Lost' p name bytes left pieces faults next) = entries next
 
 -- what is told of each sink that was closed, the newest last
 abbrev pub closings : Closed → List Closing
 closings End = []
-closings (File' p name bytes left pieces next) = closings next ++ closing_of (string_bytes name) bytes.items left pieces
+closings (File' p name bytes left pieces faults next) = closings next
+    ++ closing_of (string_bytes name) bytes.items left pieces faults
     ∷ []
-closings (Lost' p name bytes left pieces next) = closings next ++ closing_of (string_bytes name) bytes.items left pieces
+closings (Lost' p name bytes left pieces faults next) = closings next
+    ++ closing_of (string_bytes name) bytes.items left pieces faults
     ∷ []
 
 abbrev pub stored : List ℕ → List (List ℕ × List ℕ) → Option (List ℕ)

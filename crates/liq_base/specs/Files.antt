@@ -6,12 +6,15 @@ use Rattle.std.specs.Cmp.Lexicographic.{slice_cmp}
 use Rattle.std.specs.FinMap.{FinMap, get, insert}
 use Rattle.liq_base.specs.Pieces.{IsPrefix, SinkTold}
 
+-- the files of a shelf, by their names
 abbrev pub Files : Type 0
 Files = FinMap (slice_cmp nat_cmp) (List ℕ)
 
+-- the bytes of a file, if it is there
 abbrev pub file_at : Files → List ℕ → Option (List ℕ)
 file_at files name = get files name
 
+-- the files, with these bytes at this name
 abbrev pub with_file : Files → List ℕ → List ℕ → Files
 with_file files name bytes = insert files name bytes
 

@@ -41,12 +41,14 @@ files_code = map.code (coded_list coded_ℕ) (coded_list coded_ℕ)
 
 abbrev closing_code : Coded Closing
 closing_code = code_by (List ℕ
-    × (ℕ × (ℕ × ℕ))) (coded× (coded_list coded_ℕ) (coded× coded_ℕ (coded× coded_ℕ coded_ℕ)))
-    (λ c. (c.name, (c.room, (c.bytes, c.pieces)))) (λ p. record {
+    × (ℕ × (ℕ × (ℕ × ℕ))))
+    (coded× (coded_list coded_ℕ) (coded× coded_ℕ (coded× coded_ℕ (coded× coded_ℕ coded_ℕ))))
+    (λ c. (c.name, (c.room, (c.bytes, (c.pieces, c.faults))))) (λ p. record {
       name = p.0;
       room = p.1.0;
       bytes = p.1.1.0;
-      pieces = p.1.1.1;
+      pieces = p.1.1.1.0;
+      faults = p.1.1.1.1;
     }) (λ _. refl)
 
 abbrev append_code : Coded FailingAppend
@@ -175,7 +177,9 @@ files_after failed files out = if failed then files else with_file files out.nam
 abbrev pub after_close : ShelfState → NamedState → ShelfState
 after_close shelf out = record shelf {
   files = files_after (close_fails shelf) shelf.files out;
-  closed = shelf.closed ++ closing_of out.name out.sink.held (out.sink.room - length out.sink.held) out.sink.calls ∷ [];
+  closed =
+      shelf.closed ++ closing_of out.name out.sink.held (out.sink.room
+      - length out.sink.held) out.sink.calls out.sink.faults ∷ [];
   closes = one_more shelf.closes;
   write_faults = raised shelf.write_faults (close_fails shelf || nat_lt 0 out.sink.faults);
 }

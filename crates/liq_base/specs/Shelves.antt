@@ -5,22 +5,28 @@ use Rattle.liq_base.specs.Counts.{Rose}
 use Rattle.liq_base.specs.Pieces.{SinkTold}
 use Rattle.liq_base.specs.Files.{Files}
 
--- what is told of a sink that was closed: its name, for how many bytes it was created, how many it held, and how many
--- pieces it had got
+-- what is told of a sink that was closed: its name, for how many bytes it was created, how many it held, how many
+-- pieces it had got, and how often it had failed
 pub record Closing : Type 0 where
   pub name : List ℕ
   pub room : ℕ
   pub bytes : ℕ
   pub pieces : ℕ
+  pub faults : ℕ
 
--- that of a sink of this name, which holds these bytes, takes so many more and got so many pieces
-abbrev pub closing_of : (name held : List ℕ) → (left pieces : ℕ) → Closing
-closing_of name held left pieces = record {
+-- that of a sink of this name, which holds these bytes, takes so many more, got so many pieces and failed so often
+abbrev pub closing_of : (name held : List ℕ) → (left pieces faults : ℕ) → Closing
+closing_of name held left pieces faults = record {
   name = name;
   room = length held + left;
   bytes = length held;
   pieces = pieces;
+  faults = faults;
 }
+
+-- that closing, as of a sink that had not failed
+abbrev pub without_faults : Closing → Closing
+without_faults closing = record closing { faults = 0 }
 
 -- The files, the names of the sinks that were made and what is told of those that were closed, in their order and also
 -- where a closing failed, each where it is told; how often a read failed, and how often a creation or a closing failed
@@ -75,7 +81,7 @@ pub record IsFresh (name : List ℕ) (room : ℕ) (shelf : ShelfTold) (out : Sin
 abbrev pub Lists : SinkTold → (before after : Option (List Closing)) → Type 0
 Lists out before after =
     ForSome out.name (λ name. ForSome out.held (λ held. ForSome out.room (λ left. ForSome out.appends (λ pieces. after
-    ≡ noted (closing_of name held left pieces) before))))
+    ≡ noted (closing_of name held left pieces out.faults) before))))
 
 -- a sink that told this was closed, whatever was answered, and none made
 pub record OnlyClosed (out : SinkTold) (old new : ShelfTold) : Type 0 where

@@ -29,6 +29,8 @@ pub(crate) struct Entry {
     pub left: u64,
     /// How many pieces it had got, at most as many as a `u64` counts.
     pub pieces: u64,
+    /// How often it had failed.
+    pub faults: u64,
     pub next: Closed,
 }
 
@@ -54,6 +56,7 @@ impl Entry {
             bytes: Vec::new(alloc),
             left: 0,
             pieces: 0,
+            faults: 0,
             next: Closed::End,
         };
         Ok(Box::new(alloc, entry)?)

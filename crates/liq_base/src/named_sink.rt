@@ -56,12 +56,14 @@ impl NamedSink {
         ensures bytes { result.value.bytes.items ≡ self.sink.held }
         ensures left { result.value.left ≡ self.sink.room - length self.sink.held }
         ensures pieces { result.value.pieces ≡ self.sink.calls }
+        ensures faults { result.value.faults ≡ self.sink.faults }
     {
         let NamedSink { name, sink, entry } = self;
         let mut entry = entry;
         entry.name = name;
         entry.left = sink.left();
         entry.pieces = sink.calls();
+        entry.faults = sink.faults();
         entry.bytes = sink.into_bytes();
         entry
     }

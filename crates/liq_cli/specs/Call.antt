@@ -17,6 +17,7 @@ pub record Outside : Type 0 where
   pub out : SinkTold
   pub err : SinkTold
 
+-- all that is outside of the call, as its objects tell it
 abbrev pub outside_of : (shelf : ShelfTold) (out err : SinkTold) → Outside
 outside_of shelf out err = record { shelf = shelf; out = out; err = err }
 
@@ -24,6 +25,7 @@ outside_of shelf out err = record { shelf = shelf; out = out; err = err }
 abbrev pub sure_of : Files → ShelfTold → ShelfTold
 sure_of files shelf = record shelf { files = Some files; reads = 0; writes = 0 }
 
+-- the same, where the shelf tells these files and never fails
 abbrev pub over : Files → Outside → Outside
 over files outside = record { shelf = sure_of files outside.shelf; out = outside.out; err = outside.err }
 
@@ -89,6 +91,7 @@ pub record RenderingBroke (words : List (List ℕ)) (old new : Outside) : Type 0
   pub out_kept : new.out ≡ old.out
   pub err_kept : new.err ≡ old.err
 
+-- one of the four writings broke off: usage, a fault's line, a report, a rendering
 abbrev pub WriteFailed : (words : List (List ℕ)) → (old new : Outside) → Type 0
 WriteFailed words old new = UsageBroke words old new ⊎ LineBroke words old new ⊎ ReportBroke words old new
     ⊎ RenderingBroke words old new

@@ -1,7 +1,6 @@
 // The instants of a clock and of the sub-clocks below it.
 ghost use Rattle.std.specs.Prelude.{◌≡◌, ◌<◌, ℕ, length, slice_index_or, OnOk, OnErr};
 ghost use Rattle.clock_infer.specs.declared.clock_map.NodeClock.{NodeClock as Clock};
-ghost use Rattle.clock_infer.specs.declared.clock_map.NodeClock.TheVariants.{Main as InMain};
 ghost use Rattle.clock_instants.specs.Takes.{HasReader};
 ghost use Rattle.nested_instants.specs.Clocks.{AllSettled, AreClockStates, AreLeft, CanMakeInstants, HasRanks, InstantMade, InstantStopped, IsIdle, NodeSettled, NodeStopped, SettlingStopped, is_in, is_node};
 
@@ -62,21 +61,22 @@ fn settle<T: Taps>(
     levels: usize,
     taps: &mut T,
 ) -> Result<(), Memory>
-    requires ready { CanMakeInstants scene.now own.now (slice_index_or scene.now.clocks.now k (InMain 0)) levels
+    requires ready { CanMakeInstants scene.now own.now (slice_index_or scene.now.clocks.now k (NodeClock.Main 0)) levels
         (T.buffers taps.old) clocks.old }
-    requires idle { IsIdle (slice_index_or scene.now.clocks.now k (InMain 0)) clocks.old }
+    requires idle { IsIdle (slice_index_or scene.now.clocks.now k (NodeClock.Main 0)) clocks.old }
     requires within { k < length scene.now.plan.now.nodes }
     ensures clocks { AreClockStates scene.now clocks.new }
     ensures buffers { T.buffers taps.new ≡ T.buffers taps.old }
     ensures same { T.same taps.old taps.new }
     ensures left { OnOk result ((rank : Clock → ℕ) → HasRanks scene.now.clocks.now rank
-        → AreLeft scene.now.clocks.now rank (rank (slice_index_or scene.now.clocks.now k (InMain 0))) (is_node k)
+        → AreLeft scene.now.clocks.now rank (rank (slice_index_or scene.now.clocks.now k (NodeClock.Main 0)))
+        (is_node k)
         clocks.old clocks.new) }
     ensures settled { OnOk result
         (NodeSettled T.stands scene.now own.now k clocks.old clocks.new taps.old taps.new) }
     ensures stopped { OnErr result (NodeStopped T.stands scene.now own.now k clocks.old taps.old taps.new) }
     ensures reads { OnErr result
-        (HasReader scene.now.plan.now scene.now.clocks.now (slice_index_or scene.now.clocks.now k (InMain 0))) }
+        (HasReader scene.now.plan.now scene.now.clocks.now (slice_index_or scene.now.clocks.now k (NodeClock.Main 0))) }
 {
     while clocks.states[k as usize].wants() {
         let time = clocks.times[k as usize];

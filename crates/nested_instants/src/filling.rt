@@ -1,7 +1,6 @@
 // What a crossfade takes of the instants of its sub-clock.
 ghost use Rattle.std.specs.Prelude.{◌≡◌, ◌<◌, ◌≤◌, ◌+◌, ◌++◌, ◌∷◌, ℕ, suc, List, [], Some, true, is_some, length, slice_get, slice_index_or};
 ghost use Rattle.clock_infer.specs.declared.clock_map.NodeClock.{NodeClock as Clock};
-ghost use Rattle.clock_infer.specs.declared.clock_map.NodeClock.TheVariants.{Main as InMain, Sub as InSub};
 ghost use Rattle.frame_core.specs.Slots.{Slot, title_of};
 ghost use Rattle.frame_core.specs.Library.{Sounds};
 ghost use Rattle.op_leaf.specs.Lanes.{AreTitled, IsLane};
@@ -45,7 +44,7 @@ pub fn child_of(nodes: &[Node], k: u32) -> u32
 pub fn fill_child(scene: &Scene<'_>, clocks: &mut ClockStates, k: u32)
     requires clocks { AreClockStates scene.now clocks.old }
     requires within { k < length scene.now.plan.now.nodes }
-    requires idle { IsIdle (slice_index_or scene.now.clocks.now k (InMain 0)) clocks.old }
+    requires idle { IsIdle (slice_index_or scene.now.clocks.now k (NodeClock.Main 0)) clocks.old }
     requires wants { wants_at clocks.old.states.items k ≡ true }
     ensures clocks { AreClockStates scene.now clocks.new }
     ensures latest { clocks.new.latest ≡ clocks.old.latest }
@@ -77,13 +76,14 @@ pub fn fill_child(scene: &Scene<'_>, clocks: &mut ClockStates, k: u32)
 pub fn fill_on(scene: &Scene<'_>, clocks: &mut ClockStates, k: u32, time: WeekTime, levels: usize)
     requires ready { AreStatesAt scene.now time clocks.old }
     requires within { k < length scene.now.plan.now.nodes }
-    requires levels { HasLevels scene.now.clocks.now (slice_index_or scene.now.clocks.now k (InMain 0)) levels }
-    requires idle { IsIdle (slice_index_or scene.now.clocks.now k (InMain 0)) clocks.old }
+    requires levels { HasLevels scene.now.clocks.now (slice_index_or scene.now.clocks.now k (NodeClock.Main 0)) levels }
+    requires idle { IsIdle (slice_index_or scene.now.clocks.now k (NodeClock.Main 0)) clocks.old }
     requires none { rest_at clocks.old k ≡ 0 }
     ensures clocks { AreClockStates scene.now clocks.new }
     ensures no_more { left_at clocks.new.states.items k ≤ left_at clocks.old.states.items k }
     ensures left { (rank : Clock → ℕ) → HasRanks scene.now.clocks.now rank
-        → AreLeft scene.now.clocks.now rank (rank (slice_index_or scene.now.clocks.now k (InMain 0))) (is_node k)
+        → AreLeft scene.now.clocks.now rank (rank (slice_index_or scene.now.clocks.now k (NodeClock.Main 0)))
+        (is_node k)
         clocks.old clocks.new }
     ensures filled { FilledOn scene.now k time clocks.old clocks.new }
 {
@@ -103,16 +103,16 @@ fn goes_for(scene: &Scene<'_>, clocks: &ClockStates, k: u32, time: WeekTime) -> 
     requires ready { AreStatesAt scene.now time clocks.now }
     requires within { k < length scene.now.plan.now.nodes }
     ensures later { result ≤ time.rate }
-    ensures ahead { AllLieAhead scene.now (InSub k) clocks.now.room.held.items clocks.now.states.items result }
-    ensures through { AllPassOn scene.now (InSub k) clocks.now.room.held.items clocks.now.states.items
+    ensures ahead { AllLieAhead scene.now (NodeClock.Sub k) clocks.now.room.held.items clocks.now.states.items result }
+    ensures through { AllPassOn scene.now (NodeClock.Sub k) clocks.now.room.held.items clocks.now.states.items
         clocks.now.room.rests.items result }
     ensures gave { 0 < result
         → is_some (part_at clocks.now.latest.parts.items (crossfaded scene.now.plan.now.nodes k)).slot ≡ true }
     ensures goes { (other : Setting) (sub : ℕ → ℕ → List Slot) (past : List Moment) (filled : ℕ → ℕ) →
         let setting = setting_over scene.now other in
-        IsBehind setting sub (InSub k) past filled time clocks.now.latest.parts.items clocks.now.room.held.items
+        IsBehind setting sub (NodeClock.Sub k) past filled time clocks.now.latest.parts.items clocks.now.room.held.items
         clocks.now.states.items clocks.now.room.rests.items
-        → 0 < result → GoesOnFor setting sub (InSub k) past result filled clocks.now.room.held.items
+        → 0 < result → GoesOnFor setting sub (NodeClock.Sub k) past result filled clocks.now.room.held.items
         clocks.now.states.items }
 {
     let child = child_of(scene.plan.nodes.as_slice(), k);

@@ -1,6 +1,5 @@
 // The end of an instant of a clock whose crossfades have their items.
 ghost use Rattle.std.specs.Prelude.{◌≡◌, ℕ, false, length, slice_get, slice_index_or};
-ghost use Rattle.clock_infer.specs.declared.clock_map.NodeClock.TheVariants.{Main as InMain};
 ghost use Rattle.stream_meaning.specs.Instants.{part_at, same_clock};
 ghost use Rattle.nested_instants.specs.Clocks.{AreClockStates, IsIdle};
 ghost use Rattle.clock_instants.specs.Finishing.{InstantFinished};
@@ -24,12 +23,12 @@ pub fn finish(
     requires clocks { AreClockStates scene.now clocks.old }
     requires idle { IsIdle clock clocks.old }
     ensures clocks { AreClockStates scene.now clocks.new }
-    ensures kept { (i : ℕ) → same_clock (slice_index_or scene.now.clocks.now i (InMain 0)) clock ≡ false
+    ensures kept { (i : ℕ) → same_clock (slice_index_or scene.now.clocks.now i (NodeClock.Main 0)) clock ≡ false
         → part_at clocks.new.room.held.items i ≡ part_at clocks.old.room.held.items i }
     ensures rests { clocks.new.room.rests ≡ clocks.old.room.rests }
     ensures left { clocks.new.room.left ≡ clocks.old.room.left }
     ensures right { clocks.new.room.right ≡ clocks.old.room.right }
-    ensures others { (i : ℕ) → same_clock (slice_index_or scene.now.clocks.now i (InMain 0)) clock ≡ false
+    ensures others { (i : ℕ) → same_clock (slice_index_or scene.now.clocks.now i (NodeClock.Main 0)) clock ≡ false
         → slice_get clocks.new.states.items i ≡ slice_get clocks.old.states.items i }
     ensures times { clocks.new.times.items ≡ clocks.old.times.items }
     ensures finished { InstantFinished scene.now own.now clock at.second clocks.old.states.items clocks.new.states.items

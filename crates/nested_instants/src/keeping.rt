@@ -1,7 +1,6 @@
 // What is kept of a sub-clock's latest instant.
 ghost use Rattle.std.specs.Prelude.{◌≡◌, ◌<◌, ◌≤◌, ◌+◌, ℕ, List, Some, length, slice_get, slice_index_or};
 ghost use Rattle.clock_infer.specs.declared.clock_map.NodeClock.{NodeClock as Clock};
-ghost use Rattle.clock_infer.specs.declared.clock_map.NodeClock.TheVariants.{Main as InMain, Sub as InSub};
 ghost use Rattle.frame_core.specs.Slots.{Slot};
 ghost use Rattle.stream_meaning.specs.Instants.{Setting, Moment};
 ghost use Rattle.node_states.specs.declared.time.WeekTime.{WeekTime as Time};
@@ -23,11 +22,11 @@ pub fn keep(scene: &Scene<'_>, clocks: &mut ClockStates, k: u32, rest: u32)
     requires ranks { (rank : Clock → ℕ) × HasRanks scene.now.clocks.now rank }
     requires clocks { AreClockStates scene.now clocks.old }
     requires within { k < length scene.now.plan.now.nodes }
-    requires idle { IsIdle (slice_index_or scene.now.clocks.now k (InMain 0)) clocks.old }
+    requires idle { IsIdle (slice_index_or scene.now.clocks.now k (NodeClock.Main 0)) clocks.old }
     requires ahead { 0 < rest
-        → AllLieAhead scene.now (InSub k) clocks.old.room.held.items clocks.old.states.items rest }
+        → AllLieAhead scene.now (NodeClock.Sub k) clocks.old.room.held.items clocks.old.states.items rest }
     requires through { 0 < rest
-        → AllPassOn scene.now (InSub k) clocks.old.room.held.items clocks.old.states.items
+        → AllPassOn scene.now (NodeClock.Sub k) clocks.old.room.held.items clocks.old.states.items
         clocks.old.room.rests.items rest }
     ensures clocks { AreClockStates scene.now clocks.new }
     ensures kept { rest_at clocks.new k ≡ rest }

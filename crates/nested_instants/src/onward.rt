@@ -1,7 +1,6 @@
 // Instants of a clock that go on as its latest one did, with those of the sub-clocks below it.
 ghost use Rattle.std.specs.Prelude.{◌≡◌, ◌<◌, ◌≤◌, ◌&&◌, ℕ, List, true, false, length, slice_get, slice_index_or};
 ghost use Rattle.clock_infer.specs.declared.clock_map.NodeClock.{NodeClock as Clock};
-ghost use Rattle.clock_infer.specs.declared.clock_map.NodeClock.TheVariants.{Main as InMain, Sub as InSub};
 ghost use Rattle.frame_core.specs.Slots.{Slot as TheSlot};
 ghost use Rattle.stream_meaning.specs.Instants.{Setting, Moment, same_clock};
 ghost use Rattle.op_mix.specs.Stretches.{samples_of};
@@ -73,8 +72,8 @@ fn run_subs(scene: &Scene<'_>, clocks: &mut ClockStates, clock: NodeClock, many:
 // Makes those of the sub-clock of node i, if it is such a crossfade, and takes the sub-clock's time on.
 #[cycle(onward)]
 fn run_sub(scene: &Scene<'_>, clocks: &mut ClockStates, i: u32, many: u32, levels: usize)
-    requires ready { CanRunClock scene.now (slice_index_or scene.now.clocks.now i (InMain 0)) many clocks.old }
-    requires levels { HasLevels scene.now.clocks.now (slice_index_or scene.now.clocks.now i (InMain 0)) levels }
+    requires ready { CanRunClock scene.now (slice_index_or scene.now.clocks.now i (NodeClock.Main 0)) many clocks.old }
+    requires levels { HasLevels scene.now.clocks.now (slice_index_or scene.now.clocks.now i (NodeClock.Main 0)) levels }
     requires within { i < length scene.now.plan.now.nodes }
     requires through { (gave_at clocks.old.room.held.items i && passes_at clocks.old.states.items i) ≡ true
         → many ≤ rest_at clocks.old i }
@@ -82,10 +81,12 @@ fn run_sub(scene: &Scene<'_>, clocks: &mut ClockStates, i: u32, many: u32, level
     ensures latest { clocks.new.latest ≡ clocks.old.latest }
     ensures held { clocks.new.room.held ≡ clocks.old.room.held }
     ensures above { (rank : Clock → ℕ) → HasRanks scene.now.clocks.now rank
-        → AreAbove scene.now.clocks.now rank (rank (slice_index_or scene.now.clocks.now i (InMain 0))) (is_node i)
+        → AreAbove scene.now.clocks.now rank (rank (slice_index_or scene.now.clocks.now i (NodeClock.Main 0)))
+        (is_node i)
         clocks.old clocks.new }
     ensures samples { (rank : Clock → ℕ) → HasRanks scene.now.clocks.now rank
-        → AreSamplesLeft scene.now.clocks.now rank (rank (InSub i)) (is_in scene.now.clocks.now (InSub i)) many
+        → AreSamplesLeft scene.now.clocks.now rank (rank (NodeClock.Sub i))
+        (is_in scene.now.clocks.now (NodeClock.Sub i)) many
         clocks.old clocks.new }
     ensures run { SubClockMade scene.now i many clocks.old clocks.new }
 {
@@ -118,11 +119,11 @@ fn run_own(scene: &Scene<'_>, clocks: &mut ClockStates, clock: NodeClock, many: 
     ensures times { clocks.new.times ≡ clocks.old.times }
     ensures held { clocks.new.room.held ≡ clocks.old.room.held }
     ensures rests { clocks.new.room.rests ≡ clocks.old.room.rests }
-    ensures others { (i : ℕ) → same_clock (slice_index_or scene.now.clocks.now i (InMain 0)) clock ≡ false
+    ensures others { (i : ℕ) → same_clock (slice_index_or scene.now.clocks.now i (NodeClock.Main 0)) clock ≡ false
         → slice_get clocks.new.states.items i ≡ slice_get clocks.old.states.items i }
-    ensures left { (i : ℕ) → same_clock (slice_index_or scene.now.clocks.now i (InMain 0)) clock ≡ false
+    ensures left { (i : ℕ) → same_clock (slice_index_or scene.now.clocks.now i (NodeClock.Main 0)) clock ≡ false
         → samples_of clocks.new.room.left.items i many ≡ samples_of clocks.old.room.left.items i many }
-    ensures right { (i : ℕ) → same_clock (slice_index_or scene.now.clocks.now i (InMain 0)) clock ≡ false
+    ensures right { (i : ℕ) → same_clock (slice_index_or scene.now.clocks.now i (NodeClock.Main 0)) clock ≡ false
         → samples_of clocks.new.room.right.items i many ≡ samples_of clocks.old.room.right.items i many }
     ensures laned { (i : ℕ) → laned_at clocks.old i → laned_at clocks.new i }
     ensures run { (other : Setting) (sub : ℕ → ℕ → List TheSlot) (past : List Moment) (filled : ℕ → ℕ) →

@@ -1,6 +1,5 @@
 // The beginning of an instant of a clock.
 ghost use Rattle.std.specs.Prelude.{◌≡◌, ℕ, false, slice_get, slice_index_or, OnOk, OnErr};
-ghost use Rattle.clock_infer.specs.declared.clock_map.NodeClock.TheVariants.{Main as InMain};
 ghost use Rattle.stream_meaning.specs.Instants.{same_clock};
 ghost use Rattle.clock_instants.specs.Takes.{HasReader, ReadersAreIn};
 ghost use Rattle.nested_instants.specs.Clocks.{AreClockStates, ClockOpened, IsIdle, OpeningStopped};
@@ -30,7 +29,7 @@ pub fn begin_clock<T: Taps>(
     ensures clocks { AreClockStates scene.now clocks.new }
     ensures buffers { T.buffers taps.new ≡ T.buffers taps.old }
     ensures same { T.same taps.old taps.new }
-    ensures others { (i : ℕ) → same_clock (slice_index_or scene.now.clocks.now i (InMain 0)) clock ≡ false
+    ensures others { (i : ℕ) → same_clock (slice_index_or scene.now.clocks.now i (NodeClock.Main 0)) clock ≡ false
         → slice_get clocks.new.states.items i ≡ slice_get clocks.old.states.items i }
     ensures times { clocks.new.times.items ≡ clocks.old.times.items }
     ensures room { clocks.new.room ≡ clocks.old.room }

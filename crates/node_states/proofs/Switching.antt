@@ -4,18 +4,18 @@ use Rattle.std.specs.Prelude.{Bool}
 use Rattle.liq_base.specs.declared.memory.Kind.{Kind}
 use Rattle.plan_core.specs.declared.node.Op.TheVariants.{Switch}
 use Rattle.time_pred.specs.Predicates.{Predicate, holds}
-use Rattle.time_pred.specs.View.{view_pred}
-use Rattle.time_pred.specs.declared.pred.Pred.{Pred}
+use Rattle.time_pred.specs.View.{view_shared}
+use Rattle.time_pred.specs.declared.shared.SharedPred.{SharedPred}
 use Rattle.stream_meaning.specs.Operators.{Choice, Eligible, Where, marks_at, Picks, work_of}
 
-seen_marks : (preds : List Pred) (second : ℕ) → map (λ pred. holds (view_pred pred) second) preds ≡ map (λ pred. holds pred second) (map view_pred preds)
+seen_marks : (preds : List SharedPred) (second : ℕ) → map (λ pred. holds (view_shared pred) second) preds ≡ map (λ pred. holds pred second) (map view_shared preds)
 seen_marks [] second = refl
-seen_marks (pred ∷ preds) second = ap (λ marks. holds (view_pred pred) second ∷ marks) (seen_marks preds second)
+seen_marks (pred ∷ preds) second = ap (λ marks. holds (view_shared pred) second ∷ marks) (seen_marks preds second)
 
 -- what the predicates of a switch say is which of its children are eligible
-pub switch_marks : (rate i : ℕ) (kind : Kind) (sensitive : Bool) (seen : List Pred) (preds : List Predicate) (choice : Choice) (eligible : Eligible) (second children : ℕ)
-    → map view_pred seen ≡ preds → work_of rate i kind (Switch sensitive preds) ≡ Picks choice eligible
-    → map (λ pred. holds (view_pred pred) second) seen ≡ marks_at eligible second children
+pub switch_marks : (rate i : ℕ) (kind : Kind) (sensitive : Bool) (seen : List SharedPred) (preds : List Predicate) (choice : Choice) (eligible : Eligible) (second children : ℕ)
+    → map view_shared seen ≡ preds → work_of rate i kind (Switch sensitive preds) ≡ Picks choice eligible
+    → map (λ pred. holds (view_shared pred) second) seen ≡ marks_at eligible second children
 switch_marks rate i kind sensitive seen preds choice eligible second children are is =
     let same : Where preds ≡ eligible = cc in
     seen_marks seen second ∙ ap (map (λ pred. holds pred second)) are ∙ ap (λ e. marks_at e second children) same

@@ -4,11 +4,11 @@ ghost use Rattle.liq_base.specs.declared.memory.Kind.{Kind};
 ghost use Rattle.plan_core.specs.Plans.{HasChildren};
 ghost use Rattle.stream_meaning.specs.Operators.{Choice, Eligible, marks_at, Picks, work_of};
 ghost use Rattle.time_pred.specs.Predicates.{holds};
-ghost use Rattle.time_pred.specs.View.{view_pred};
+ghost use Rattle.time_pred.specs.View.{view_shared};
 
 use fixed_text::WeekSecond;
 use plan_core::Op;
-use time_pred::Pred;
+use time_pred::SharedPred;
 
 // The seconds of a week.
 const WEEK: u32 = 604_800;
@@ -28,9 +28,9 @@ pub fn mark_eligible(op: &Op, at: WeekSecond, marks: &mut [bool])
 }
 
 // Tests each predicate.
-fn test_all(preds: &[Pred], at: WeekSecond, marks: &mut [bool])
+fn test_all(preds: &[SharedPred], at: WeekSecond, marks: &mut [bool])
     requires { length marks.old ≡ length preds.now }
-    ensures { marks.new ≡ map (λ pred. holds (view_pred pred) at.second) preds.now }
+    ensures { marks.new ≡ map (λ pred. holds (view_shared pred) at.second) preds.now }
 {
     for child in 0..preds.len() {
         marks[child] = preds[child].holds(at);
@@ -53,12 +53,12 @@ pub fn steady_seconds(op: &Op, at: WeekSecond) -> u32
 }
 
 // For how many seconds each predicate stays.
-fn least_steady(preds: &[Pred], at: WeekSecond) -> u32
+fn least_steady(preds: &[SharedPred], at: WeekSecond) -> u32
     ensures some { 0 < result }
     ensures most { result ≤ 604800 }
     ensures stays { (j : ℕ) → j < result
-        → map (λ pred. holds (view_pred pred) ((at.second + j) % 604800)) preds.now
-        ≡ map (λ pred. holds (view_pred pred) at.second) preds.now }
+        → map (λ pred. holds (view_shared pred) ((at.second + j) % 604800)) preds.now
+        ≡ map (λ pred. holds (view_shared pred) at.second) preds.now }
 {
     let mut least = WEEK;
     for pred in preds {

@@ -48,6 +48,7 @@ settled most r Flag (next ∷ pieces) =
     ++ settled most (drop (overlap_of most r next.cells) next.cells) next.border pieces
     else held_back most r
 
+-- the slots of the pieces from here on, as far as they are settled
 abbrev pub settled_from : ℕ → List Piece → List Slot
 settled_from most [] = []
 settled_from most (piece ∷ pieces) = settled most piece.cells piece.border pieces

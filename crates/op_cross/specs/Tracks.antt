@@ -14,11 +14,13 @@ pub record Piece : Type 0 where
   pub cells : List Cell
   pub border : Border
 
+-- the track has ended
 abbrev pub is_closed : Border → Bool
 is_closed Flag = true
 is_closed Gap = true
 is_closed Unended = false
 
+-- a track begins with the first of these slots
 abbrev pub begins_track : List Slot → Bool
 begins_track [] = false
 begins_track (slot ∷ slots) = is_first slot

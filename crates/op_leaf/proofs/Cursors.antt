@@ -7,7 +7,7 @@ use Rattle.std.proofs.lemmas.List.Sums.{sum_by_more, sum_by_more_le}
 use Rattle.std.specs.List.{All}
 use Rattle.frame_core.specs.Sounds.{Sound, IsSound, cell_of, length_of}
 use Rattle.frame_core.specs.Library.{Sounds, IsLibrary, no_sound, sound_at, title_at, tracks_of}
-use Rattle.op_leaf.specs.declared.files.Files.{Files}
+use Rattle.op_leaf.specs.declared.files.FilesState.{FilesState}
 use Rattle.op_leaf.specs.Leaves.{files_slot, place_in_round, sounds_of, total_of}
 use Rattle.op_leaf.specs.Standing.{FilesArePlacedIn, FilesStandAt}
 use Rattle.op_leaf.proofs.Positions.{joined-within, joined-past}
@@ -30,7 +30,7 @@ some_samples library node track is at_node at_track =
     (All-get_or IsSound library.files (get_or (tracks_of library node) track 0) no_sound file is.sounds).some
 
 -- what it offers within a file
-pub files-here : (library : Sounds) (files : Files) (position : ℕ) → FilesArePlacedIn library files → FilesStandAt library files position →
+pub files-here : (library : Sounds) (files : FilesState) (position : ℕ) → FilesArePlacedIn library files → FilesStandAt library files position →
     files.track < length (tracks_of library files.node) →
     files_slot library files.node files.again files.kind position ≡ Some (cell_of (sound_at library files.node files.track) (title_at library files.node files.track) files.kind files.at)
 files-here library files position placed stands there =
@@ -47,7 +47,7 @@ take-whole (sound ∷ sounds) zero h = absurd (omega arith)
 take-whole (sound ∷ sounds) (suc n) h = ap (λ rest. sound ∷ rest) (take-whole sounds n (omega arith))
 
 -- and past the last one
-pub files-over : (library : Sounds) (files : Files) (position : ℕ) → FilesStandAt library files position →
+pub files-over : (library : Sounds) (files : FilesState) (position : ℕ) → FilesStandAt library files position →
     length (tracks_of library files.node) ≤ files.track →
     files_slot library files.node files.again files.kind position ≡ None
 files-over library files position stands over =

@@ -4,7 +4,7 @@ use Rattle.std.specs.List.{range_with_len}
 use Rattle.frame_core.specs.Sounds.{Sound, cell_of, lefts_from, length_of, rights_from}
 use Rattle.frame_core.specs.Library.{IsLibrary, Sounds, no_sound, sound_at, title_at, tracks_of}
 use Rattle.frame_core.specs.Slots.{title_of, slot_left, slot_right}
-use Rattle.op_leaf.specs.declared.files.Files.{Files}
+use Rattle.op_leaf.specs.declared.files.FilesState.{FilesState}
 use Rattle.op_leaf.specs.Inner.{LieInFile, lefts_of, rights_of}
 use Rattle.op_leaf.specs.Leaves.{files_slot, place_in_round, sounds_of, total_of}
 use Rattle.op_leaf.specs.Standing.{FilesStandAt}
@@ -20,7 +20,7 @@ ranged_same f g a b (suc n) same =
     ∙ ap (λ l. g b ∷ l) (ranged_same f g (a + 1) (b + 1) n (λ i low.
     let p : a + 1 + i ≡ a + suc i = omega arith in let q : b + suc i ≡ b + 1 + i = omega arith in ap f p ∙ same (suc i) (omega (arith, low)) ∙ ap g q))
 
-module _ (library : Sounds) (files : Files) (position n : ℕ) (stands : FilesStandAt library files position) (lie : LieInFile library files n) where
+module _ (library : Sounds) (files : FilesState) (position n : ℕ) (stands : FilesStandAt library files position) (lie : LieInFile library files n) where
   abbrev All : List Sound
   All = sounds_of library files.node
 

@@ -7,7 +7,7 @@ use Rattle.frame_core.specs.Slots.{Slot, title_of, goes_on, is_inner}
 use Rattle.frame_core.specs.Sounds.{Sound, length_of}
 use Rattle.frame_core.specs.Library.{IsLibrary, Sounds, no_sound, sound_at, tracks_of}
 use Rattle.op_leaf.specs.declared.blank.Blank.{Blank}
-use Rattle.op_leaf.specs.declared.files.Files.{Files}
+use Rattle.op_leaf.specs.declared.files.FilesState.{FilesState}
 use Rattle.op_leaf.specs.Inner.{going_from, inner_from, stretch_from, titled_stretch}
 use Rattle.op_leaf.specs.Leaves.{blank_cell, files_slot, place_in_round, sounds_of, total_of}
 use Rattle.op_leaf.specs.Standing.{BlankStandsAt, FilesArePlacedIn, FilesStandAt}
@@ -103,7 +103,7 @@ pub further_is : (at n : ℕ) → 0 < n → not (nat_eq (at + n) 0) ≡ true
 further_is at n some = let e : nat_eq (at + n) 0 ≡ false = grind (arith, nat_tests, some) in ap not e
 
 -- the cells of a file behind its first one begin no track
-pub file_inner : (library : Sounds) (files : Files) (position n : ℕ) → FilesArePlacedIn library files → FilesStandAt library files position → files.track < length (tracks_of library files.node)
+pub file_inner : (library : Sounds) (files : FilesState) (position n : ℕ) → FilesArePlacedIn library files → FilesStandAt library files position → files.track < length (tracks_of library files.node)
     → 0 < n → files.at + n < length_of (sound_at library files.node files.track)
     → is_inner (files_slot library files.node files.again files.kind (position + n)) ≡ true
 file_inner library files position n placed stands there some within =
@@ -117,7 +117,7 @@ file_inner library files position n placed stands there some within =
     ∙ further_is files.at n some
 
 -- behind a file another one begins, or nothing follows
-module _ (library : Sounds) (files : Files) (position n : ℕ) (is : IsLibrary library) (placed : FilesArePlacedIn library files) (stands : FilesStandAt library files position)
+module _ (library : Sounds) (files : FilesState) (position n : ℕ) (is : IsLibrary library) (placed : FilesArePlacedIn library files) (stands : FilesStandAt library files position)
     (there : files.track < length (tracks_of library files.node)) (ends : files.at + suc n ≡ length_of (sound_at library files.node files.track)) where
   abbrev All : List Sound
   All = sounds_of library files.node
@@ -156,7 +156,7 @@ module _ (library : Sounds) (files : Files) (position n : ℕ) (is : IsLibrary l
       let f : position + suc n ≡ suc (position + n) = omega arith in
       ap (λ q. is_inner (files_slot library files.node files.again files.kind q)) f ∙ next_by (nat_lt Next (length (tracks_of library files.node))) refl
 
-pub file_ends : (library : Sounds) (files : Files) (position n : ℕ) → IsLibrary library → FilesArePlacedIn library files → FilesStandAt library files position → files.track < length (tracks_of library files.node)
+pub file_ends : (library : Sounds) (files : FilesState) (position n : ℕ) → IsLibrary library → FilesArePlacedIn library files → FilesStandAt library files position → files.track < length (tracks_of library files.node)
     → 0 < n → files.at + n ≡ length_of (sound_at library files.node files.track)
     → is_inner (files_slot library files.node files.again files.kind (position + n)) ≡ false
 file_ends library files position zero is placed stands there some ends = absurd (omega (arith, some))

@@ -5,7 +5,7 @@ use Rattle.frame_core.specs.Library.{Sounds, sound_at, tracks_of}
 use Rattle.frame_core.specs.Slots.{Slot, title_of, goes_on, is_inner, slot_left, slot_right}
 use Rattle.frame_core.specs.Sounds.{length_of}
 use Rattle.op_leaf.specs.declared.blank.Blank.{Blank}
-use Rattle.op_leaf.specs.declared.files.Files.{Files}
+use Rattle.op_leaf.specs.declared.files.FilesState.{FilesState}
 use Rattle.op_leaf.specs.declared.leaf.Cursor.{Cursor}
 use Rattle.op_leaf.specs.declared.leaf.Cursor.TheVariants.{Track, Silence, Wave, Nothing}
 use Rattle.op_leaf.specs.declared.leaf.LeafState.{LeafState}
@@ -39,7 +39,7 @@ abbrev pub rights_of : (slots : ℕ → Slot) → (position count : ℕ) → Lis
 rights_of slots position count = map (λ q. slot_right (slots q)) (range_with_len position count)
 
 -- so many cells from the cursor on lie in its file
-pub record LieInFile (library : Sounds) (files : Files) (count : ℕ) : Type 0 where
+pub record LieInFile (library : Sounds) (files : FilesState) (count : ℕ) : Type 0 where
   pub there : files.track < length (tracks_of library files.node)
   pub within : files.at + count ≤ length_of (sound_at library files.node files.track)
 

@@ -28,6 +28,7 @@ abbrev pub flag_front : List Cell → List Cell
 flag_front [] = []
 flag_front (cell ∷ cells) = record { left = cell.left; right = cell.right; first = true; title = cell.title } ∷ cells
 
+-- there is a cell
 abbrev pub holds_some : List Cell → Bool
 holds_some [] = false
 holds_some (cell ∷ cells) = true

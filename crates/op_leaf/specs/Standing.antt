@@ -2,7 +2,7 @@
 use Rattle.std.specs.Prelude.{◌≡◌, ◌<◌, not, ℕ, ◌+◌, ◌*◌, ◌%◌, min, nat_eq, length, take, if◌then◌else◌, unsigned_abs}
 use Rattle.frame_core.specs.Sounds.{length_of}
 use Rattle.frame_core.specs.Library.{Sounds, tracks_of, sound_at}
-use Rattle.op_leaf.specs.declared.files.Files.{Files}
+use Rattle.op_leaf.specs.declared.files.FilesState.{FilesState}
 use Rattle.op_leaf.specs.declared.blank.Blank.{Blank}
 use Rattle.op_leaf.specs.declared.square.Square.{Square}
 use Rattle.op_leaf.specs.declared.leaf.Leaf.{Leaf}
@@ -13,13 +13,13 @@ use Rattle.op_leaf.specs.declared.leaf.Cursor.TheVariants.{Track, Silence, Wave,
 use Rattle.op_leaf.specs.Leaves.{place_in_round, sounds_of, total_of}
 
 -- the files before the cursor and its place in its own file make up the position
-abbrev pub FilesStandAt : Sounds → Files → ℕ → Type 0
+abbrev pub FilesStandAt : Sounds → FilesState → ℕ → Type 0
 FilesStandAt library files position =
     total_of (take files.track (sounds_of library files.node)) + files.at
     ≡ place_in_round (sounds_of library files.node) files.again position
 
 -- the library has the node's files, and the cursor is within one of them or past the last
-pub record FilesArePlacedIn (library : Sounds) (files : Files) : Type 0 where
+pub record FilesArePlacedIn (library : Sounds) (files : FilesState) : Type 0 where
   pub there : files.node < length library.leaves
   pub within : files.track < length (tracks_of library files.node)
       → files.at < length_of (sound_at library files.node files.track)

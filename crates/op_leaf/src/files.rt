@@ -11,7 +11,7 @@ use liq_base::Kind;
 
 /// The files of a node between two instants.
 #[derive(Debug, Drop)]
-pub struct Files {
+pub struct FilesState {
     /// The node whose files these are.
     pub node: u32,
 
@@ -28,14 +28,14 @@ pub struct Files {
     pub at: u64,
 }
 
-impl Files {
+impl FilesState {
     /// At the start of the first file.
-    pub fn new(node: u32, again: bool, kind: Kind) -> Files
+    pub fn new(node: u32, again: bool, kind: Kind) -> FilesState
         ensures start { result ≡ record { node = node; again = again; kind = kind; track = 0; at = 0 } }
         ensures placed { (library : Sounds) → IsLibrary library → node < length library.leaves
             → FilesArePlacedIn library result }
     {
-        Files {
+        FilesState {
             node,
             again,
             kind,

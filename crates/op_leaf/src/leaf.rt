@@ -8,7 +8,7 @@ ghost use Rattle.op_leaf.specs.Leaves.{leaf_slot, HasRate, HasTracksOf};
 ghost use Rattle.op_leaf.specs.Standing.{leaf_of, IsPlacedIn, StandsAt};
 
 use crate::blank::Blank;
-use crate::files::Files;
+use crate::files::FilesState;
 use crate::square::Square;
 use fixed_text::Decimal;
 use frame_core::{Cell, Library, goes_on};
@@ -48,7 +48,7 @@ pub struct LeafState {
 
 #[derive(Debug, Drop)]
 enum Cursor {
-    Track(Files),
+    Track(FilesState),
     Silence(Blank),
     Wave(Square),
     Nothing,
@@ -63,7 +63,7 @@ impl LeafState {
         ensures stands { (library : Sounds) → StandsAt library result 0 }
     {
         let cursor = match leaf {
-            Leaf::Files { node, again, kind } => Cursor::Track(Files::new(node, again, kind)),
+            Leaf::Files { node, again, kind } => Cursor::Track(FilesState::new(node, again, kind)),
             Leaf::Blank { track } => Cursor::Silence(Blank::new(track)),
             Leaf::Square { pitch, rate, kind } => Cursor::Wave(Square::new(pitch, rate, kind)),
             Leaf::Never => Cursor::Nothing,

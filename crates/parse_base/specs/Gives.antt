@@ -5,6 +5,7 @@ use Rattle.script_lex.specs.declared.token.TokenKind.{TokenKind}
 use Rattle.parse_base.specs.declared.fault.Fault.{Fault}
 use Rattle.parse_base.specs.declared.fault.Fault.TheVariants as faults
 
+-- what a token is, without where it stands
 abbrev pub token_kind : Token → TokenKind
 token_kind t = t.kind
 

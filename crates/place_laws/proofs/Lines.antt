@@ -2,18 +2,22 @@
 use Rattle.std.proofs.Common.{◌≡◌, ℕ, ◌+◌, ◌-◌, ◌<◌, ◌^◌, List, [], ◌∷◌, ◌++◌, length, Option, Some, None, refl, sym, ap, ◌∙◌, arith, append_assoc, subst, codes, decimal}
 use Rattle.std.proofs.lemmas.Fmt.{decimal_digit}
 use Rattle.std.proofs.lemmas.List.{append_cancel_right, length-append}
-use Rattle.script_lex.specs.declared.token.LexFault.TheVariants.{BadByte, UnclosedString, NumberTooLarge, TextTooLong, Memory as lex_memory}
-use Rattle.script_parse.specs.declared.fault.ParseFault.TheVariants.{Syntax, TooDeep, Memory as parse_memory}
-use Rattle.typing_rules.specs.declared.fault.TypeFault.TheVariants.{UnknownName, MissingArgument, ExtraArgument, RepeatedName, TypeClash, Memory as type_memory}
-use Rattle.script_values.specs.declared.fault.EvalFault.TheVariants.{BadSetting, BadValue, TooMuchWork, TooManySources, NoOutput, SameOutput, TooLarge, Memory as eval_memory}
+use Rattle.script_lex.specs.declared.token.LexFault.{LexFault}
+use Rattle.script_lex.specs.declared.token.LexFault.TheVariants.{BadByte, UnclosedString, NumberTooLarge, TextTooLong}
+use Rattle.script_parse.specs.declared.fault.ParseFault.{ParseFault}
+use Rattle.script_parse.specs.declared.fault.ParseFault.TheVariants.{Syntax, TooDeep}
+use Rattle.typing_rules.specs.declared.fault.TypeFault.{TypeFault}
+use Rattle.typing_rules.specs.declared.fault.TypeFault.TheVariants.{UnknownName, MissingArgument, ExtraArgument, RepeatedName, TypeClash}
+use Rattle.script_values.specs.declared.fault.EvalFault.{EvalFault}
+use Rattle.script_values.specs.declared.fault.EvalFault.TheVariants.{BadSetting, BadValue, TooMuchWork, TooManySources, NoOutput, SameOutput, TooLarge}
 use Rattle.wav_io.specs.declared.fault.WavFault.{WavFault}
 use Rattle.wav_io.specs.declared.fault.WavFault.TheVariants.{NotRiff, NoFormat, BadFormat, NotPcm, NoData, Empty}
 use Rattle.track_library.specs.declared.fault.LoadFault.{LoadFault}
-use Rattle.track_library.specs.declared.fault.LoadFault.TheVariants.{Missing, BadAudio, FileTooLarge, AllTooLarge, ReadFault, Memory as load_memory}
+use Rattle.track_library.specs.declared.fault.LoadFault.TheVariants.{Missing, BadAudio, FileTooLarge, AllTooLarge, ReadFault}
 use Rattle.clock_infer.specs.declared.clock_map.ClockFault.{ClockFault}
-use Rattle.clock_infer.specs.declared.clock_map.ClockFault.TheVariants.{TwoClocks, Nested, TooManyClocks, Memory as clock_memory}
+use Rattle.clock_infer.specs.declared.clock_map.ClockFault.TheVariants.{TwoClocks, Nested, TooManyClocks}
 use Rattle.script_plan.specs.declared.fault.ScriptFault.{ScriptFault}
-use Rattle.script_plan.specs.declared.fault.ScriptFault.TheVariants.{Lex, Parse, «Type» as Typing, Eval, Memory as script_memory}
+use Rattle.script_plan.specs.declared.fault.ScriptFault.TheVariants.{Lex, Parse, Eval}
 use Rattle.stations.specs.declared.fault.StationFault.TheVariants.{Files, FallibleOutput, Clocks, OutputTooLong}
 use Rattle.refusal_lines.specs.declared.fault.Fault.{Fault}
 use Rattle.refusal_lines.specs.declared.fault.Fault.TheVariants.{NoScript, Script, SameFile, Station, Replay}
@@ -96,30 +100,30 @@ script_names (Lex (NumberTooLarge at)) line e =
     of_text (Some (Byte at)) (codes "E04 number too large at" ++ (codes " " ++ decimal at)) _ line (three (codes "E04 number too large at") (codes " ") (decimal at) (codes "\n")) e
     (numbered Byte _ at (ends_at (codes "E04 number too large") (codes " at ") at))
 script_names (Lex TextTooLong) line e = of_text None (codes "E05 script too long") _ line refl e (λ named h. h)
-script_names (Lex lex_memory) line e = no_line line e
+script_names (Lex LexFault.Memory) line e = no_line line e
 script_names (Parse (Syntax at)) line e =
     of_text (Some (Token at)) (codes "E06 syntax at token" ++ (codes " " ++ decimal at)) _ line (three (codes "E06 syntax at token") (codes " ") (decimal at) (codes "\n")) e
     (numbered Token _ at (ends_at (codes "E06 syntax") (codes " at token ") at))
 script_names (Parse (TooDeep at)) line e =
     of_text (Some (Token at)) (codes "E07 too deep at token" ++ (codes " " ++ decimal at)) _ line (three (codes "E07 too deep at token") (codes " ") (decimal at) (codes "\n")) e
     (numbered Token _ at (ends_at (codes "E07 too deep") (codes " at token ") at))
-script_names (Parse parse_memory) line e = no_line line e
-script_names (Typing (UnknownName stmt at)) line e =
+script_names (Parse ParseFault.Memory) line e = no_line line e
+script_names (ScriptFault.Type (UnknownName stmt at)) line e =
     of_text (Some (Token at)) (codes "E08" ++ codes " statement " ++ decimal stmt ++ codes ": " ++ codes "unknown name" ++ codes " at token " ++ decimal at) _ line refl e
     (numbered Token _ at (ends_in_token (codes "E08" ++ codes " statement " ++ decimal stmt ++ codes ": " ++ codes "unknown name") (codes " at token ") at))
-script_names (Typing (MissingArgument stmt at label)) line e =
+script_names (ScriptFault.Type (MissingArgument stmt at label)) line e =
     of_text (Some (Token at)) (codes "E09" ++ codes " statement " ++ decimal stmt ++ codes ": " ++ (codes "missing argument " ++ label) ++ codes " at token " ++ decimal at) _ line refl e
     (numbered Token _ at (ends_in_token (codes "E09" ++ codes " statement " ++ decimal stmt ++ codes ": " ++ (codes "missing argument " ++ label)) (codes " at token ") at))
-script_names (Typing (ExtraArgument stmt at)) line e =
+script_names (ScriptFault.Type (ExtraArgument stmt at)) line e =
     of_text (Some (Token at)) (codes "E10" ++ codes " statement " ++ decimal stmt ++ codes ": " ++ codes "extra argument" ++ codes " at token " ++ decimal at) _ line refl e
     (numbered Token _ at (ends_in_token (codes "E10" ++ codes " statement " ++ decimal stmt ++ codes ": " ++ codes "extra argument") (codes " at token ") at))
-script_names (Typing (RepeatedName stmt at)) line e =
+script_names (ScriptFault.Type (RepeatedName stmt at)) line e =
     of_text (Some (Token at)) (codes "E11" ++ codes " statement " ++ decimal stmt ++ codes ": " ++ codes "repeated name" ++ codes " at token " ++ decimal at) _ line refl e
     (numbered Token _ at (ends_in_token (codes "E11" ++ codes " statement " ++ decimal stmt ++ codes ": " ++ codes "repeated name") (codes " at token ") at))
-script_names (Typing (TypeClash stmt)) line e =
+script_names (ScriptFault.Type (TypeClash stmt)) line e =
     of_text (Some (Clash stmt)) (codes "E12" ++ codes " statement " ++ decimal stmt ++ codes ": " ++ codes "types clash") _ line refl e
     (numbered Clash _ stmt (leads_text 58 stmt (codes " ") (codes "types clash")))
-script_names (Typing type_memory) line e = no_line line e
+script_names (ScriptFault.Type TypeFault.Memory) line e = no_line line e
 script_names (Eval (BadSetting stmt)) line e =
     of_text (Some (Statement stmt)) (codes "E13" ++ codes " statement " ++ decimal stmt ++ codes ": " ++ codes "bad setting") _ line refl e
     (numbered Statement _ stmt (leads_text 58 stmt (codes " ") (codes "bad setting")))
@@ -136,8 +140,8 @@ script_names (Eval (SameOutput name)) line e =
     (λ small. text_is (codes "E18 two outputs ") name)
 script_names (Eval (TooLarge limit)) line e =
     of_text None (codes "E19 too large:" ++ (codes " " ++ limit_name limit)) _ line (three (codes "E19 too large:") (codes " ") (limit_name limit) (codes "\n")) e (λ named h. h)
-script_names (Eval eval_memory) line e = no_line line e
-script_names script_memory line e = no_line line e
+script_names (Eval EvalFault.Memory) line e = no_line line e
+script_names ScriptFault.Memory line e = no_line line e
 
 file_names : (fault : LoadFault) → NamesItsPlace (Station (Files fault))
 file_names (Missing name) line e =
@@ -151,7 +155,7 @@ file_names (FileTooLarge name) line e =
     (λ small. text_is (codes "E23 file too large ") name)
 file_names AllTooLarge line e = of_text None (codes "E24 files too large") _ line refl e (λ named h. h)
 file_names (ReadFault name) line e = no_line line e
-file_names load_memory line e = no_line line e
+file_names LoadFault.Memory line e = no_line line e
 
 clock_names : (fault : ClockFault) → NamesItsPlace (Station (Clocks fault))
 clock_names (TwoClocks node first second) line e =
@@ -162,7 +166,7 @@ clock_names (Nested node) line e =
     (three (codes "E27 crossfade ") (decimal node) (codes " lies in its own clock") (codes "\n")) e
     (numbered Source _ node (leads 32 node (codes "lies in its own clock")))
 clock_names TooManyClocks line e = of_text None (codes "E28 too many clocks") _ line refl e (λ named h. h)
-clock_names clock_memory line e = no_line line e
+clock_names ClockFault.Memory line e = no_line line e
 
 pub names_its_place : (fault : Fault) → NamesItsPlace fault
 names_its_place NoScript line e = of_text None (codes "E01 no script") _ line refl e (λ named h. h)

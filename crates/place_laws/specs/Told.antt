@@ -13,7 +13,7 @@ use Rattle.track_library.specs.declared.fault.LoadFault.TheVariants.{Missing, Ba
 use Rattle.clock_infer.specs.declared.clock_map.ClockFault.{ClockFault}
 use Rattle.clock_infer.specs.declared.clock_map.ClockFault.TheVariants.{TwoClocks, Nested}
 use Rattle.script_plan.specs.declared.fault.ScriptFault.{ScriptFault}
-use Rattle.script_plan.specs.declared.fault.ScriptFault.TheVariants.{Lex, Parse, «Type» as Typing, Eval}
+use Rattle.script_plan.specs.declared.fault.ScriptFault.TheVariants.{Lex, Parse, Eval}
 use Rattle.stations.specs.declared.fault.StationFault.{StationFault}
 use Rattle.stations.specs.declared.fault.StationFault.TheVariants.{Files, FallibleOutput, Clocks, OutputTooLong}
 use Rattle.refusal_lines.specs.declared.fault.Fault.{Fault}
@@ -56,7 +56,7 @@ eval_place fault = None
 abbrev pub script_place : ScriptFault → Option Named
 script_place (Lex fault) = lex_place fault
 script_place (Parse fault) = parse_place fault
-script_place (Typing fault) = type_place fault
+script_place (ScriptFault.Type fault) = type_place fault
 script_place (Eval fault) = eval_place fault
 script_place fault = None
 

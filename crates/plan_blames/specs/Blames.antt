@@ -12,7 +12,7 @@ use Rattle.time_pred.specs.Predicates.{is_always}
 use Rattle.fallible_infer.specs.Infallible.{mark_at}
 use Rattle.clock_infer.specs.declared.clock_map.ClockMap.{ClockMap}
 use Rattle.clock_infer.specs.declared.clock_map.ClockName.{ClockName}
-use Rattle.clock_infer.specs.declared.clock_map.ClockName.TheVariants.{Named, Sub as SubClock, AnyMain}
+use Rattle.clock_infer.specs.declared.clock_map.ClockName.TheVariants.{Named, AnyMain}
 use Rattle.clock_infer.specs.declared.clock_map.ClockFault.{ClockFault}
 use Rattle.clock_infer.specs.declared.clock_map.ClockFault.TheVariants.{TwoClocks, Nested, TooManyClocks, Memory}
 use Rattle.clock_forcings.specs.Forcings.{id_or}
@@ -46,7 +46,7 @@ reason _ children = childless_words children
 -- a clock that was asked for
 abbrev pub name_text : ClockName → List ℕ
 name_text (Named id) = escaped id
-name_text (SubClock k) = codes "crossfade " ++ decimal k
+name_text (ClockName.Sub k) = codes "crossfade " ++ decimal k
 name_text AnyMain = codes "an output"
 
 abbrev pub both_names : (first second : ClockName) → List ℕ
@@ -59,7 +59,7 @@ clock_asks id k _ = false
 -- whether source k is one that asks for this clock: a clock of this id, or this crossfade
 abbrev pub asks : ClockName → (k : ℕ) → Op → Bool
 asks (Named id) k op = clock_asks id k op
-asks (SubClock j) k op = nat_eq j k
+asks (ClockName.Sub j) k op = nat_eq j k
 asks AnyMain k op = false
 
 abbrev pub either_asks : (first second : ClockName) → (k : ℕ) → Op → Bool

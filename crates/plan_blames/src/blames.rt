@@ -3,7 +3,7 @@ ghost use Rattle.std.specs.Prelude.{◌≡◌, ◌++◌, [], IfOk, OnOk, codes, 
 ghost use Rattle.std.specs.List.{list_any};
 ghost use Rattle.fallible_infer.specs.Infallible.{mark_at};
 ghost use Rattle.time_pred.specs.Predicates.{is_always};
-ghost use Rattle.time_pred.specs.View.{view_pred};
+ghost use Rattle.time_pred.specs.View.{view_shared};
 ghost use Rattle.plan_blames.specs.Blames.{asking, asking_words, asks, both_names, childless_words, clock_asks, clock_red, clock_words, edge_red, either_asks, name_text, nested_words, node_red, reason, reason_words, red_words, refused_node, shared_words};
 
 use crate::ids::id_of;
@@ -12,7 +12,7 @@ use clock_infer::{ClockFault, ClockMap, ClockName};
 use liq_base::Memory;
 use plan_core::{Node, Op, SinkPlan};
 use std::alloc::Global;
-use time_pred::Pred;
+use time_pred::SharedPred;
 
 /// The mark of a source, or `false` where there is none.
 pub fn mark(marks: &[bool], number: usize) -> bool
@@ -159,9 +159,9 @@ fn push_reason(into: &mut Vec<u8>, op: &Op, children: &[u32]) -> Result<(), Memo
     }
 }
 
-fn push_switch_reason(into: &mut Vec<u8>, preds: &[Pred]) -> Result<(), Memory>
+fn push_switch_reason(into: &mut Vec<u8>, preds: &[SharedPred]) -> Result<(), Memory>
     ensures { OnOk result (into.new.items ≡ into.old.items
-        ++ (if list_any is_always (map view_pred preds.now) then [] else codes "\\nno case is always true")) }
+        ++ (if list_any is_always (map view_shared preds.now) then [] else codes "\\nno case is always true")) }
 {
     if some_always(preds) {
         Ok(())
@@ -171,8 +171,8 @@ fn push_switch_reason(into: &mut Vec<u8>, preds: &[Pred]) -> Result<(), Memory>
 }
 
 // Whether some predicate is always true by its form.
-fn some_always(preds: &[Pred]) -> bool
-    ensures { result ≡ list_any is_always (map view_pred preds.now) }
+fn some_always(preds: &[SharedPred]) -> bool
+    ensures { result ≡ list_any is_always (map view_shared preds.now) }
 {
     for pred in preds {
         if pred.always() {

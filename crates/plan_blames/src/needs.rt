@@ -2,11 +2,11 @@
 ghost use Rattle.std.specs.Prelude.{◌≡◌, ◌≢◌, ℕ, IfSome, IsNone, false, true, map, slice_get};
 ghost use Rattle.fallible_infer.specs.Infallible.{last_of};
 ghost use Rattle.time_pred.specs.Predicates.{is_always};
-ghost use Rattle.time_pred.specs.View.{view_pred};
+ghost use Rattle.time_pred.specs.View.{view_shared};
 ghost use Rattle.plan_blames.specs.Needs.{HasOther, IsAlone, IsOnly, is_last, needs, some_case, some_child};
 
 use plan_core::Op;
-use time_pred::Pred;
+use time_pred::SharedPred;
 
 /// Whether a source of this operator over these children, where it may offer nothing, does so for this one.
 pub fn needs(op: &Op, children: &[u32], child: u64) -> bool
@@ -20,8 +20,8 @@ pub fn needs(op: &Op, children: &[u32], child: u64) -> bool
 }
 
 // Whether a predicate of this child is always true by its form.
-fn is_sure(preds: &[Pred], children: &[u32], child: u64) -> bool
-    ensures { result ≡ some_case (map view_pred preds.now) children.now child }
+fn is_sure(preds: &[SharedPred], children: &[u32], child: u64) -> bool
+    ensures { result ≡ some_case (map view_shared preds.now) children.now child }
 {
     let count = preds.len().min(children.len());
     for k in 0..count {
@@ -65,8 +65,8 @@ pub fn only_needed(op: &Op, children: &[u32]) -> Option<u32>
 }
 
 // The only child whose predicate is always true by its form.
-fn only_sure(preds: &[Pred], children: &[u32]) -> Option<u32>
-    ensures { IsOnly (some_case (map view_pred preds.now) children.now) result }
+fn only_sure(preds: &[SharedPred], children: &[u32]) -> Option<u32>
+    ensures { IsOnly (some_case (map view_shared preds.now) children.now) result }
 {
     match first_sure(preds, children) {
         Some(first) => lone_sure(preds, children, first),
@@ -75,9 +75,9 @@ fn only_sure(preds: &[Pred], children: &[u32]) -> Option<u32>
 }
 
 // The first child whose predicate is always true by its form.
-fn first_sure(preds: &[Pred], children: &[u32]) -> Option<u32>
-    ensures some { IfSome result (λ child. some_case (map view_pred preds.now) children.now child ≡ true) }
-    ensures none { IsNone result → (child : ℕ) → some_case (map view_pred preds.now) children.now child ≡ false }
+fn first_sure(preds: &[SharedPred], children: &[u32]) -> Option<u32>
+    ensures some { IfSome result (λ child. some_case (map view_shared preds.now) children.now child ≡ true) }
+    ensures none { IsNone result → (child : ℕ) → some_case (map view_shared preds.now) children.now child ≡ false }
 {
     let count = preds.len().min(children.len());
     for k in 0..count {
@@ -89,9 +89,9 @@ fn first_sure(preds: &[Pred], children: &[u32]) -> Option<u32>
 }
 
 // This one, where no predicate of another child is always true by its form.
-fn lone_sure(preds: &[Pred], children: &[u32], first: u32) -> Option<u32>
-    requires { some_case (map view_pred preds.now) children.now first ≡ true }
-    ensures { IsOnly (some_case (map view_pred preds.now) children.now) result }
+fn lone_sure(preds: &[SharedPred], children: &[u32], first: u32) -> Option<u32>
+    requires { some_case (map view_shared preds.now) children.now first ≡ true }
+    ensures { IsOnly (some_case (map view_shared preds.now) children.now) result }
 {
     if other_sure(preds, children, first) {
         return None;
@@ -100,9 +100,9 @@ fn lone_sure(preds: &[Pred], children: &[u32], first: u32) -> Option<u32>
 }
 
 // Whether a predicate of another child is always true by its form.
-fn other_sure(preds: &[Pred], children: &[u32], first: u32) -> bool
-    ensures yes { result ≡ true → HasOther (some_case (map view_pred preds.now) children.now) first }
-    ensures no { result ≡ false → IsAlone (some_case (map view_pred preds.now) children.now) first }
+fn other_sure(preds: &[SharedPred], children: &[u32], first: u32) -> bool
+    ensures yes { result ≡ true → HasOther (some_case (map view_shared preds.now) children.now) first }
+    ensures no { result ≡ false → IsAlone (some_case (map view_shared preds.now) children.now) first }
 {
     let count = preds.len().min(children.len());
     for k in 0..count {
@@ -114,9 +114,9 @@ fn other_sure(preds: &[Pred], children: &[u32], first: u32) -> bool
 }
 
 // Whether a predicate is always true by its form, of another child than this one.
-fn is_other_case(pred: &Pred, child: u32, first: u32) -> bool
-    ensures yes { result ≡ true → (is_always (view_pred pred.now) ≡ true) × (child ≢ first) }
-    ensures no { result ≡ false → is_always (view_pred pred.now) ≡ true → child ≡ first }
+fn is_other_case(pred: &SharedPred, child: u32, first: u32) -> bool
+    ensures yes { result ≡ true → (is_always (view_shared pred.now) ≡ true) × (child ≢ first) }
+    ensures no { result ≡ false → is_always (view_shared pred.now) ≡ true → child ≡ first }
 {
     if pred.always() { child != first } else { false }
 }

@@ -3,7 +3,7 @@ use Rattle.std.specs.Prelude.{◌≡◌, ◌≢◌, ℕ, ◌+◌, ◌^◌, ◌<�
 use Rattle.std.specs.Option.{option_map_or}
 use Rattle.liq_base.specs.declared.limits.TheConstants.{MIN_RATE, MAX_RATE, MAX_FRAME, MAX_NODES, MAX_CHILDREN, MAX_CROSSFADES, MAX_OVERLAP, MAX_PREFILL, MAX_CAPACITY}
 use Rattle.liq_base.specs.declared.memory.Kind.{Kind}
-use Rattle.liq_base.specs.declared.memory.Kind.TheVariants.{Mono, Stereo as Both}
+use Rattle.liq_base.specs.declared.memory.Kind.TheVariants.{Mono}
 use Rattle.plan_core.specs.declared.node.Node.{Node}
 use Rattle.plan_core.specs.declared.node.Op.{Op}
 use Rattle.plan_core.specs.declared.node.Op.TheVariants.{Single, Playlist, Blank, Square, Fail, Switch, Amplify, Mean, Stereo, Crossfade, Buffer, Clock}
@@ -32,8 +32,8 @@ HasChildren _ n = ⊤
 -- the kind of a node of this operator, over children of a kind: the children's, but a mean is mono over stereo, and a
 -- stereo is stereo over mono
 abbrev pub HasKind : Op → (children : Kind) → Kind → Type 0
-HasKind Mean children kind = (children ≡ Both) × (kind ≡ Mono)
-HasKind Stereo children kind = (children ≡ Mono) × (kind ≡ Both)
+HasKind Mean children kind = (children ≡ Kind.Stereo) × (kind ≡ Mono)
+HasKind Stereo children kind = (children ≡ Mono) × (kind ≡ Kind.Stereo)
 HasKind _ children kind = kind ≡ children
 
 -- a pitch is above 0, and an overlap has at least a sample
@@ -75,6 +75,7 @@ greatest (n ∷ ns) = max n (greatest ns)
 abbrev pub crossfades_over : List ℕ → Node → ℕ
 crossfades_over counts node = own_crossfades node.op + greatest (map (λ child. slice_index counts child) node.children)
 
+-- for each node, how many crossfades lie within each other at most on a way down from it
 abbrev pub counts_after : List ℕ → List Node → List ℕ
 counts_after counts [] = counts
 counts_after counts (node ∷ nodes) = counts_after (counts ++ crossfades_over counts node ∷ []) nodes
@@ -146,12 +147,15 @@ pub record IsWellFormed (plan : Plan) : Type 0 where
 abbrev pub with_node : Plan → Node → Plan
 with_node plan node = record plan { nodes = plan.nodes ++ node ∷ [] }
 
+-- the plan with one more output
 abbrev pub with_output : Plan → (name : List ℕ) (node : ℕ) (fallible wide : Bool) → Plan
 with_output plan name node fallible wide = record plan { sinks = plan.sinks ++ Output name node fallible wide ∷ [] }
 
+-- the node that reads a buffer
 abbrev pub reader_of : (buffer : ℕ) → Kind → Node
 reader_of buffer kind = record { op = Buffer buffer; kind = kind; children = [] }
 
+-- the plan with one more buffer, its reader and its feed
 abbrev pub with_buffer : Plan → (source : ℕ) → Kind → BufferPlan → Plan
 with_buffer plan source kind buffer = record plan {
   nodes = plan.nodes ++ reader_of (length plan.buffers) kind ∷ [];

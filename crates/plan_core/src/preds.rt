@@ -1,14 +1,14 @@
 // The predicates of a switch.
 ghost use Rattle.std.specs.Prelude.{◌≡◌, map, length};
-ghost use Rattle.time_pred.specs.View.{view_pred};
+ghost use Rattle.time_pred.specs.View.{view_shared};
 
 use std::marker::Model;
-use time_pred::Pred;
+use time_pred::SharedPred;
 
 /// The predicates of a switch, one for each child. Contracts see the list of them as plain trees.
 #[derive(Debug, Drop)]
 pub struct Preds {
-    preds: Vec<Pred>,
+    preds: Vec<SharedPred>,
 }
 
 impl Model for Preds {
@@ -21,29 +21,29 @@ impl Model for Preds {
 
     ghost coded = { coded_list predicate_code };
 
-    ghost use Rattle.time_pred.specs.View.{view_pred};
+    ghost use Rattle.time_pred.specs.View.{view_shared};
 
-    ghost view = { λ s. map view_pred s.preds.items };
+    ghost view = { λ s. map view_shared s.preds.items };
 }
 
 impl Preds {
     /// The predicates of a `Vec`. It takes no memory.
-    pub fn from_vec(preds: Vec<Pred>) -> Preds
-        ensures { result ≡ map view_pred preds.items }
+    pub fn from_vec(preds: Vec<SharedPred>) -> Preds
+        ensures { result ≡ map view_shared preds.items }
     {
         Preds { preds }
     }
 
     /// The `Vec` of the predicates. It takes no memory.
-    pub fn into_vec(self) -> Vec<Pred>
-        ensures { map view_pred result.items ≡ self }
+    pub fn into_vec(self) -> Vec<SharedPred>
+        ensures { map view_shared result.items ≡ self }
     {
         self.preds
     }
 
     /// The predicates, to be read.
-    pub fn as_slice(&self) -> &[Pred]
-        ensures { map view_pred result.now ≡ self.now }
+    pub fn as_slice(&self) -> &[SharedPred]
+        ensures { map view_shared result.now ≡ self.now }
     {
         self.preds.as_slice()
     }

@@ -6,13 +6,15 @@ use crate::places::Places;
 use file_sinks::{FileSink, read_rest, unopened};
 use liq_base::{Failed, Fetched, Shelf, ShelfFault};
 use std::alloc::Global;
-use std::fs::File;
+use std::fs::{self, File};
 use std::rt::Files;
 
 /// The files of the system, by their paths, for one run: each real file is created once.
 #[derive(Drop)]
 pub struct FileShelf<'a, R: Files<File = File> + Alloc<A = Global>> {
     rt: &'a R,
+    // Whether regular files alone are read.
+    regular: bool,
     outputs: Places,
     read_faults: u64,
     write_faults: u64,
@@ -26,6 +28,21 @@ impl<'a, R: Files<File = File> + Alloc<A = Global>> FileShelf<'a, R> {
     {
         FileShelf {
             rt,
+            regular: false,
+            outputs: Places::new(rt.alloc()),
+            read_faults: 0,
+            write_faults: 0,
+        }
+    }
+
+    /// The files, of which those are read that are regular. A read of another, which may wait, is a failure.
+    pub fn regular(rt: &'a R) -> FileShelf<'a, R>
+        ensures reads { result.read_faults ≡ 0 }
+        ensures writes { result.write_faults ≡ 0 }
+    {
+        FileShelf {
+            rt,
+            regular: true,
             outputs: Places::new(rt.alloc()),
             read_faults: 0,
             write_faults: 0,
@@ -42,7 +59,11 @@ impl<'a, R: Files<File = File> + Alloc<A = Global>> Shelf for FileShelf<'a, R> {
 
     fn read(&mut self, name: &str, into: &mut Vec<u8>, most: u64) -> Result<Fetched, ShelfFault> {
         let before = into.len();
-        let fetched = read_file(self.rt, name, into, most);
+        let fetched = if self.regular && may_wait(self.rt, name) {
+            Err(ShelfFault::Failed)
+        } else {
+            read_file(self.rt, name, into, most)
+        };
         match fetched {
             Ok(Fetched::Found) => return Ok(Fetched::Found),
             Err(ShelfFault::Failed) => self.read_faults = self.read_faults.saturating_add(1),
@@ -66,6 +87,14 @@ impl<'a, R: Files<File = File> + Alloc<A = Global>> Shelf for FileShelf<'a, R> {
             self.write_faults = self.write_faults.saturating_add(1);
         }
         closed
+    }
+}
+
+// Whether something is there that is no regular file.
+fn may_wait<R: Files<File = File>>(rt: &R, name: &str) -> bool {
+    match fs::metadata(rt, name) {
+        Ok(found) => !found.is_file(),
+        Err(_) => false,
     }
 }
 

@@ -1,25 +1,25 @@
 -- The line of each fault, with its line end. `docs/faults.md` has the table.
 use Rattle.std.specs.Prelude.{ℕ, List, [], ◌++◌, codes, decimal}
 use Rattle.script_lex.specs.declared.token.LexFault.{LexFault}
-use Rattle.script_lex.specs.declared.token.LexFault.TheVariants.{BadByte, UnclosedString, NumberTooLarge, TextTooLong, Memory as lex_memory}
+use Rattle.script_lex.specs.declared.token.LexFault.TheVariants.{BadByte, UnclosedString, NumberTooLarge, TextTooLong}
 use Rattle.script_parse.specs.declared.fault.ParseFault.{ParseFault}
-use Rattle.script_parse.specs.declared.fault.ParseFault.TheVariants.{Syntax, TooDeep, Memory as parse_memory}
+use Rattle.script_parse.specs.declared.fault.ParseFault.TheVariants.{Syntax, TooDeep}
 use Rattle.typing_rules.specs.declared.fault.TypeFault.{TypeFault}
-use Rattle.typing_rules.specs.declared.fault.TypeFault.TheVariants.{UnknownName, MissingArgument, ExtraArgument, RepeatedName, TypeClash, Memory as type_memory}
+use Rattle.typing_rules.specs.declared.fault.TypeFault.TheVariants.{UnknownName, MissingArgument, ExtraArgument, RepeatedName, TypeClash}
 use Rattle.script_values.specs.declared.fault.Limit.{Limit}
 use Rattle.script_values.specs.declared.fault.Limit.TheVariants.{Calls, Outputs, Children, Crossfades, Overlap, Prefill, Capacity}
 use Rattle.script_values.specs.declared.fault.EvalFault.{EvalFault}
-use Rattle.script_values.specs.declared.fault.EvalFault.TheVariants.{BadSetting, BadValue, TooMuchWork, TooManySources, NoOutput, SameOutput, TooLarge, Memory as eval_memory}
+use Rattle.script_values.specs.declared.fault.EvalFault.TheVariants.{BadSetting, BadValue, TooMuchWork, TooManySources, NoOutput, SameOutput, TooLarge}
 use Rattle.wav_io.specs.declared.fault.WavFault.{WavFault}
 use Rattle.wav_io.specs.declared.fault.WavFault.TheVariants.{NotRiff, NoFormat, BadFormat, NotPcm, NoData, Empty}
 use Rattle.track_library.specs.declared.fault.LoadFault.{LoadFault}
-use Rattle.track_library.specs.declared.fault.LoadFault.TheVariants.{Missing, BadAudio, FileTooLarge, AllTooLarge, ReadFault, Memory as load_memory}
+use Rattle.track_library.specs.declared.fault.LoadFault.TheVariants.{Missing, BadAudio, FileTooLarge, AllTooLarge, ReadFault}
 use Rattle.clock_infer.specs.declared.clock_map.ClockName.{ClockName}
 use Rattle.clock_infer.specs.declared.clock_map.ClockName.TheVariants.{Named, Sub, AnyMain}
 use Rattle.clock_infer.specs.declared.clock_map.ClockFault.{ClockFault}
-use Rattle.clock_infer.specs.declared.clock_map.ClockFault.TheVariants.{TwoClocks, Nested, TooManyClocks, Memory as clock_memory}
+use Rattle.clock_infer.specs.declared.clock_map.ClockFault.TheVariants.{TwoClocks, Nested, TooManyClocks}
 use Rattle.script_plan.specs.declared.fault.ScriptFault.{ScriptFault}
-use Rattle.script_plan.specs.declared.fault.ScriptFault.TheVariants.{Lex, Parse, «Type» as Typing, Eval, Memory as script_memory}
+use Rattle.script_plan.specs.declared.fault.ScriptFault.TheVariants.{Lex, Parse, Eval}
 use Rattle.stations.specs.declared.fault.StationFault.{StationFault}
 use Rattle.stations.specs.declared.fault.StationFault.TheVariants.{Files, FallibleOutput, Clocks, OutputTooLong}
 use Rattle.refusal_lines.specs.declared.fault.Fault.{Fault}
@@ -34,13 +34,13 @@ token_line (BadByte at) = at_place (codes "E02 bad byte at") at
 token_line (UnclosedString at) = at_place (codes "E03 string not closed at") at
 token_line (NumberTooLarge at) = at_place (codes "E04 number too large at") at
 token_line TextTooLong = codes "E05 script too long\n"
-token_line lex_memory = []
+token_line LexFault.Memory = []
 
 -- the tokens that are no script
 abbrev pub syntax_line : ParseFault → List ℕ
 syntax_line (Syntax at) = at_place (codes "E06 syntax at token") at
 syntax_line (TooDeep at) = at_place (codes "E07 too deep at token") at
-syntax_line parse_memory = []
+syntax_line ParseFault.Memory = []
 
 -- names, arguments and types
 abbrev pub type_line : TypeFault → List ℕ
@@ -49,7 +49,7 @@ type_line (MissingArgument stmt at label) = at_token (codes "E09") stmt (codes "
 type_line (ExtraArgument stmt at) = at_token (codes "E10") stmt (codes "extra argument") at
 type_line (RepeatedName stmt at) = at_token (codes "E11") stmt (codes "repeated name") at
 type_line (TypeClash stmt) = at_statement (codes "E12") stmt (codes "types clash")
-type_line type_memory = []
+type_line TypeFault.Memory = []
 
 -- a limit of the language, as a line names it
 abbrev pub limit_name : Limit → List ℕ
@@ -70,7 +70,7 @@ plan_line TooManySources = codes "E16 too many sources\n"
 plan_line NoOutput = codes "E17 no output\n"
 plan_line (SameOutput name) = of_name (codes "E18 two outputs") name
 plan_line (TooLarge limit) = of_name (codes "E19 too large:") (limit_name limit)
-plan_line eval_memory = []
+plan_line EvalFault.Memory = []
 
 -- the number of what is wrong with a WAV file
 abbrev pub wav_number : WavFault → ℕ
@@ -88,7 +88,7 @@ file_line (BadAudio name fault) = of_audio (codes "E21 bad audio") name (wav_num
 file_line (FileTooLarge name) = of_name (codes "E23 file too large") name
 file_line AllTooLarge = codes "E24 files too large\n"
 file_line (ReadFault name) = []
-file_line load_memory = []
+file_line LoadFault.Memory = []
 
 -- a clock in which a node must lie
 abbrev pub clock_in_words : ClockName → List ℕ
@@ -102,15 +102,15 @@ clock_line (TwoClocks node first second) = of_clocks (codes "E26 source") node (
     (clock_in_words second)
 clock_line (Nested node) = codes "E27 crossfade " ++ decimal node ++ codes " lies in its own clock\n"
 clock_line TooManyClocks = codes "E28 too many clocks\n"
-clock_line clock_memory = []
+clock_line ClockFault.Memory = []
 
 -- a script that has no plan; want of memory is no refusal
 abbrev pub script_line : ScriptFault → List ℕ
 script_line (Lex fault) = token_line fault
 script_line (Parse fault) = syntax_line fault
-script_line (Typing fault) = type_line fault
+script_line (ScriptFault.Type fault) = type_line fault
 script_line (Eval fault) = plan_line fault
-script_line script_memory = []
+script_line ScriptFault.Memory = []
 
 -- a plan that is not rendered
 abbrev pub station_line : StationFault → List ℕ

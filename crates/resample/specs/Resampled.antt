@@ -38,6 +38,7 @@ interpolated before behind part whole = int_div ((before *ℤ pos (whole - part)
 abbrev pub block_before : (from to j : ℕ) → ℕ
 block_before from to j = j * from / to
 
+-- how many parts of a sample instant j lies behind a sample of the file
 abbrev pub parts_behind : (from to j : ℕ) → ℕ
 parts_behind from to j = (j * from) % to
 
@@ -45,6 +46,7 @@ parts_behind from to j = (j * from) % to
 abbrev pub sample_before : (from to : ℕ) → Kind → List ℤ → (j side : ℕ) → ℤ
 sample_before from to kind samples j side = side_at kind samples (block_before from to j) side
 
+-- the sample of the file behind instant j, the last one at its end
 abbrev pub sample_behind : (from to : ℕ) → Kind → List ℤ → (j side : ℕ) → ℤ
 sample_behind from to kind samples j side = side_at kind samples
     (min (block_before from to j + 1) (blocks_of kind samples - 1)) side

@@ -27,6 +27,7 @@ abbrev pub got_by : Setting → (clocks : ℕ) → (accepted : ℕ → ℕ → �
 got_by setting clocks accepted b n = length
     (somes (takes_of b (joined_upto (calls_in setting clocks accepted (reader setting b)) n)))
 
+-- how many chunks of a buffer its clock had put, accepted ones alone, before its tick n
 abbrev pub kept_by : Setting → (clocks : ℕ) → (accepted : ℕ → ℕ → ℕ → Bool) → (b n : ℕ) → ℕ
 kept_by setting clocks accepted b n = length
     (somes (puts_to b (joined_upto (calls_in setting clocks accepted (feeder setting b)) n)))

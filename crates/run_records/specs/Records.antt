@@ -20,6 +20,7 @@ Window = List (Option (List Cell)) × List (Option (List Cell))
 pub record Run : Type 0 where
   pub buffers : List (List Window)
 
+-- the windows of a buffer
 abbrev pub windows_of : Run → (buffer : ℕ) → List Window
 windows_of run buffer = slice_index_or run.buffers buffer []
 
@@ -27,6 +28,7 @@ windows_of run buffer = slice_index_or run.buffers buffer []
 abbrev pub puts_of : Run → (buffer : ℕ) → List (Option (List Cell))
 puts_of run buffer = flat_map (λ (window : Window). window.0) (windows_of run buffer)
 
+-- the answers that the takes of a buffer got, window after window
 abbrev pub answers_of : Run → (buffer : ℕ) → List Answer
 answers_of run buffer = flat_map (λ (window : Window). window.1) (windows_of run buffer)
 
@@ -38,6 +40,7 @@ setting_in setting run = answered setting (answers_of run)
 abbrev pub setting_then : Setting → Run → (rest : ℕ → List Answer) → Setting
 setting_then setting run rest = answered setting (λ buffer. answers_of run buffer ++ rest buffer)
 
+-- how many chunks a buffer holds at most
 abbrev pub capacity_of : Setting → (buffer : ℕ) → ℕ
 capacity_of setting buffer = option_map_or (λ plan. plan.capacity) (slice_get setting.plan.buffers buffer) 0
 

@@ -6,8 +6,8 @@ use Rattle.script_grammar.specs.Tree.{more, Script}
 use Rattle.script_grammar.specs.View.{listed, view_stmt, view_part}
 use Rattle.script_grammar.specs.declared.tree.Stmt.{Stmt}
 use Rattle.typing_rules.specs.declared.uses.Use.{Use}
-use Rattle.script_values.specs.declared.fault.Fault.{Fault}
-use Rattle.script_values.specs.declared.fault.Fault.TheVariants as faults
+use Rattle.script_values.specs.declared.fault.Stop.{Stop}
+use Rattle.script_values.specs.declared.fault.Stop.TheVariants as faults
 use Rattle.script_values.specs.declared.fault.EvalFault.{EvalFault}
 use Rattle.script_values.specs.declared.fault.EvalFault.TheVariants as told
 use Rattle.script_values.specs.declared.machine.Machine.{Machine}
@@ -18,14 +18,14 @@ use Rattle.eval_meaning.specs.Safety.{IsNotStuck}
 use Rattle.eval_meaning.specs.Scripts.{Ending, Ends, and_then, ending_in, settings_settled, statements, turned}
 
 -- a fault of a statement is told with its number
-pub ends_in : {A : Type 0} (n : ℕ) (e : Fault) (r : Result A Fault) → Fails e r → Ends (unwrap_or (fault_in n e) told.Memory) (ending_in n r)
+pub ends_in : {A : Type 0} (n : ℕ) (e : Stop) (r : Result A Stop) → Fails e r → Ends (unwrap_or (fault_in n e) told.Memory) (ending_in n r)
 ends_in n faults.Memory r is = tt
-ends_in n faults.BadSetting r is = ap (λ (x : Result _ Fault). ending_in n x) is
-ends_in n (faults.BadValue at) r is = ap (λ (x : Result _ Fault). ending_in n x) is
-ends_in n faults.TooMuchWork r is = ap (λ (x : Result _ Fault). ending_in n x) is
-ends_in n faults.TooManySources r is = ap (λ (x : Result _ Fault). ending_in n x) is
-ends_in n (faults.SameOutput name) r is = ap (λ (x : Result _ Fault). ending_in n x) is
-ends_in n (faults.TooLarge limit) r is = ap (λ (x : Result _ Fault). ending_in n x) is
+ends_in n faults.BadSetting r is = ap (λ (x : Result _ Stop). ending_in n x) is
+ends_in n (faults.BadValue at) r is = ap (λ (x : Result _ Stop). ending_in n x) is
+ends_in n faults.TooMuchWork r is = ap (λ (x : Result _ Stop). ending_in n x) is
+ends_in n faults.TooManySources r is = ap (λ (x : Result _ Stop). ending_in n x) is
+ends_in n (faults.SameOutput name) r is = ap (λ (x : Result _ Stop). ending_in n x) is
+ends_in n (faults.TooLarge limit) r is = ap (λ (x : Result _ Stop). ending_in n x) is
 ends_in n faults.Stuck r is = tt
 
 -- a fault ends the script
@@ -86,12 +86,12 @@ turn_not_stuck script uses stmts i s n k slots m whole so lt is next safe =
     (subst (λ (r : Result Machine Ending). IsNotStuck r) (sym so ∙ front script uses stmts i s n k slots m lt is next) safe)
 
 -- a fault that evaluation has is told
-pub fault_is_told : {A : Type 0} (n : ℕ) (fault : Fault) (meant : Result A Fault) → Fails fault meant → IsNotStuck (ending_in n meant) → fault ≢ faults.Stuck
+pub fault_is_told : {A : Type 0} (n : ℕ) (fault : Stop) (meant : Result A Stop) → Fails fault meant → IsNotStuck (ending_in n meant) → fault ≢ faults.Stuck
 fault_is_told n fault meant fails safe is =
-    let stuck : meant ≡ Err faults.Stuck = subst (λ (e : Fault). Fails e meant) is fails in
-    subst (λ (r : Result _ Fault). IsNotStuck (ending_in n r)) stuck safe
+    let stuck : meant ≡ Err faults.Stuck = subst (λ (e : Stop). Fails e meant) is fails in
+    subst (λ (r : Result _ Stop). IsNotStuck (ending_in n r)) stuck safe
 
-pub is_told : (n : ℕ) (fault : Fault) → fault ≢ faults.Stuck → None ≡ fault_in n fault → ⊥
+pub is_told : (n : ℕ) (fault : Stop) → fault ≢ faults.Stuck → None ≡ fault_in n fault → ⊥
 is_told n faults.Memory other is = absurd cc
 is_told n faults.BadSetting other is = absurd cc
 is_told n (faults.BadValue at) other is = absurd cc

@@ -9,7 +9,7 @@ ghost use Rattle.script_grammar.specs.Placed.{IsPlaced};
 ghost use Rattle.script_grammar.specs.Tree.{BindPart as a_binding};
 ghost use Rattle.script_grammar.specs.View.{listed, view_bind, view_call, view_full, view_if, view_part, view_script, view_stmt};
 ghost use Rattle.script_values.specs.declared.fault.EvalFault.TheVariants as told;
-ghost use Rattle.script_values.specs.declared.fault.Fault.TheVariants.{Stuck};
+ghost use Rattle.script_values.specs.declared.fault.Stop.TheVariants.{Stuck};
 ghost use Rattle.script_values.specs.Faults.{fault_in};
 ghost use Rattle.script_values.specs.Gives.{Gives};
 ghost use Rattle.script_values.specs.View.{view_value};
@@ -22,7 +22,7 @@ use fixed_text::Decimal;
 use liq_base::limits::{MAX_CALLS, MAX_FRAME};
 use plan_core::{Plan, SinkPlan};
 use script_grammar::tree::{Bind, Call, Full, If, Script, Stmt, StmtPart};
-use script_values::{EvalFault, Fault, Machine, Slot, Value, fault_in};
+use script_values::{EvalFault, Machine, Slot, Stop, Value, fault_in};
 use std::alloc::Global;
 use typing_rules::Use;
 
@@ -127,7 +127,7 @@ pub(crate) fn turn(
 
 // The fault of the script, for one of its statement of this number.
 #[tactic(auto, using(crate::proofs::Statements::is_told))]
-fn told(stmt: u32, fault: Fault) -> EvalFault
+fn told(stmt: u32, fault: Stop) -> EvalFault
     requires { fault ≢ Stuck }
     ensures { result ≡ unwrap_or (fault_in stmt fault) told.Memory }
 {
@@ -194,7 +194,7 @@ fn statement(
     part: &StmtPart,
     globals: &mut Globals,
     machine: &mut Machine,
-) -> Result<(), Fault>
+) -> Result<(), Stop>
     ensures { Gives (λ _. (map view_slot globals.new.all.items, machine.new)) result
         (statement (top_scope (view_script defs.now.script.now) uses.now.all.now (map view_slot globals.old.all.items))
         (view_part part.now) (map view_slot globals.old.all.items) machine.old) }
@@ -221,7 +221,7 @@ fn binding(
     bind: &Bind,
     globals: &mut Globals,
     machine: &mut Machine,
-) -> Result<(), Fault>
+) -> Result<(), Stop>
     ensures { Gives (λ _. (map view_slot globals.new.all.items, machine.new)) result
         (statement (top_scope (view_script defs.now.script.now) uses.now.all.now (map view_slot globals.old.all.items))
         (a_binding (view_bind bind.now)) (map view_slot globals.old.all.items) machine.old) }
@@ -238,7 +238,7 @@ fn top_full(
     globals: &Globals,
     machine: &mut Machine,
     node: &Full,
-) -> Result<Value, Fault>
+) -> Result<Value, Stop>
     ensures { Gives (λ v. (view_value v, machine.new)) result
         (full (top_scope (view_script defs.now.script.now) uses.now.all.now (map view_slot globals.now.all.items))
         (view_full node.now) machine.old) }
@@ -261,7 +261,7 @@ fn top_call(
     globals: &Globals,
     machine: &mut Machine,
     node: &Call,
-) -> Result<Value, Fault>
+) -> Result<Value, Stop>
     ensures { Gives (λ v. (view_value v, machine.new)) result
         (call (top_scope (view_script defs.now.script.now) uses.now.all.now (map view_slot globals.now.all.items))
         (view_call node.now) machine.old) }
@@ -284,7 +284,7 @@ fn top_choice(
     globals: &Globals,
     machine: &mut Machine,
     node: &If,
-) -> Result<Value, Fault>
+) -> Result<Value, Stop>
     ensures { Gives (λ v. (view_value v, machine.new)) result
         (choice (top_scope (view_script defs.now.script.now) uses.now.all.now (map view_slot globals.now.all.items))
         (view_if node.now) machine.old) }

@@ -7,7 +7,7 @@ use Rattle.script_lex.specs.declared.token.Symbol.TheVariants as sign
 use Rattle.script_grammar.specs.declared.tree.Literal.TheVariants as literal
 use Rattle.script_grammar.specs.declared.tree.CompareOp.{CompareOp}
 use Rattle.script_grammar.specs.declared.tree.CompareOp.TheVariants as op
-use Rattle.script_grammar.specs.Tree.{Tree, Many, none, more, AFull, AnExpr, AnAnd, ANot, ACompare, ASum, AnAdded, AProduct, AMultiplied, AnOperand, Negative, Plain, Expr, And, Not, Alone, Compared, Sum, Added, Product, Multiplied, Constant, Quoted, Truth, Named, Called, Chosen, Nothing, Paren, Tuple, Listed, Braces, Format, NamedCall, If}
+use Rattle.script_grammar.specs.Tree.{Tree, Many, none, more, AFull, AnExpr, AnAnd, ANot, ACompare, ASum, AnAdded, AProduct, AMultiplied, AnOperand, Negative, Plain, Expr, And, Not, Alone, Compared, Sum, Added, Product, Multiplied, Constant, Quoted, Truth, Named, Called, Chosen, Nothing, Paren, Tuple, Listed, Braces, PlaceFormat, NamedCall, If}
 use Rattle.script_grammar.specs.Spelling.{spell, each_after, op_token, literal_token}
 use Rattle.script_grammar.specs.Read.{next}
 use Rattle.script_grammar.specs.Kinds.{is_or, is_and, is_not, is_assign, is_semicolon, is_open_round, is_close_round, is_close_square, is_added, is_multiplied, is_minus}
@@ -85,8 +85,8 @@ operand_binds (Paren f) v e = refl
 operand_binds (Tuple at f g rest) v e = refl
 operand_binds (Listed at ts) v e = refl
 operand_binds (Braces at p) v e = refl
-operand_binds (Format at None) v e = refl
-operand_binds (Format at (Some x)) v e = refl
+operand_binds (PlaceFormat at None) v e = refl
+operand_binds (PlaceFormat at (Some x)) v e = refl
 
 pub expr_binds : (t : Tree AnExpr) (u : List TokenKind) → next is_assign u ≡ false → binds (spell t ++ u) ≡ false
 expr_binds = expr_first (λ w. binds w ≡ false) operand_binds (λ v. refl)
@@ -126,8 +126,8 @@ operand_begins (Paren f) v e = refl
 operand_begins (Tuple at f g rest) v e = refl
 operand_begins (Listed at ts) v e = refl
 operand_begins (Braces at p) v e = refl
-operand_begins (Format at None) v e = refl
-operand_begins (Format at (Some x)) v e = refl
+operand_begins (PlaceFormat at None) v e = refl
+operand_begins (PlaceFormat at (Some x)) v e = refl
 
 -- a token that is none of the first tokens of operands is not the first of one
 module _ (is : TokenKind → Bool) (other : (k : TokenKind) → begins_operand k ≡ true → is k ≡ false) where
@@ -305,8 +305,8 @@ operand_optional (Tuple at f g rest) v e =
     by_name ((spell f ++ (Symbol sign.Comma ∷ more_parts)) ++ v) (subst (λ (w : List TokenKind). binds w ≡ false) (sym (append_assoc (spell f) (Symbol sign.Comma ∷ more_parts) v)) (full_binds f (Symbol sign.Comma ∷ (more_parts ++ v)) refl))
 operand_optional (Listed at ts) v e = refl
 operand_optional (Braces at p) v e = refl
-operand_optional (Format at None) v e = refl
-operand_optional (Format at (Some x)) v e = refl
+operand_optional (PlaceFormat at None) v e = refl
+operand_optional (PlaceFormat at (Some x)) v e = refl
 
 pub expr_optional : (t : Tree AnExpr) (u : List TokenKind) → next is_assign u ≡ false → optional (spell t ++ u) ≡ false
 expr_optional = expr_first (λ w. optional w ≡ false) operand_optional (λ v. refl)

@@ -4,7 +4,7 @@ use Rattle.script_lex.specs.declared.token.TokenKind.{TokenKind}
 use Rattle.script_lex.specs.declared.token.TokenKind.TheVariants.{Keyword, Symbol}
 use Rattle.script_lex.specs.declared.token.Keyword.TheVariants as word
 use Rattle.script_lex.specs.declared.token.Symbol.TheVariants as sign
-use Rattle.script_grammar.specs.Tree.{Sort, APOr, APAnd, APNot, APAtom, AFull, Tree, Many, none, more, Stmt, BindPart, DefPart, CallPart, IfPart, Bind, Def, Inner, Param, Labelled, Optional, Negative, Plain, Expr, And, Not, Alone, Compared, Sum, Added, Product, Multiplied, Constant, Quoted, Truth, Named, Called, Chosen, Nothing, Paren, Tuple, Listed, Braces, Format, NamedCall, Arg, If, POr, PAnd, PNot, TrueAtom, FalseAtom, Mark, IntervalAtom, Grouped, Script}
+use Rattle.script_grammar.specs.Tree.{Sort, APOr, APAnd, APNot, APAtom, AFull, Tree, Many, none, more, Stmt, BindPart, DefPart, CallPart, IfPart, Bind, Def, Inner, Param, Labelled, Optional, Negative, Plain, Expr, And, Not, Alone, Compared, Sum, Added, Product, Multiplied, Constant, Quoted, Truth, Named, Called, Chosen, Nothing, Paren, Tuple, Listed, Braces, PlaceFormat, NamedCall, Arg, If, POr, PAnd, PNot, TrueAtom, FalseAtom, Mark, IntervalAtom, Grouped, Script}
 use Rattle.script_grammar.specs.Spelling.{spell, each_after, with_commas, token_if, label, spelling}
 use Rattle.script_grammar.specs.Bare.{bare}
 use Rattle.script_grammar.specs.Placed.{IsPlaced, IsBehind, IsApart}
@@ -49,7 +49,7 @@ mutual
   spell_bare (Tuple at f g rest) = rw (spell_bare f, spell_bare g, behind_bare (Symbol sign.Comma) rest) refl
   spell_bare (Listed at parts) = rw (commas_bare parts) refl
   spell_bare (Braces at pred) = rw (spell_bare pred) refl
-  spell_bare (Format at size) = refl
+  spell_bare (PlaceFormat at size) = refl
   spell_bare (NamedCall at name args) = rw (commas_bare args) refl
   spell_bare (Arg at name value) = rw (spell_bare value) refl
   spell_bare (If at c t e) = rw (spell_bare c, spell_bare t, spell_bare e) refl
@@ -136,7 +136,7 @@ abbrev mutual
       Tuple i (settle (i + 1) f) (settle (i + 1 + length (spell f) + 1) g) (settle_behind (i + 1 + length (spell f) + 1 + length (spell g)) rest)
   settle i (Listed at parts) = Listed i (settle_apart (i + 1) parts)
   settle i (Braces at pred) = Braces i pred
-  settle i (Format at size) = Format i size
+  settle i (PlaceFormat at size) = PlaceFormat i size
   settle i (NamedCall at name args) = NamedCall i name (settle_apart (i + 1) args)
   settle i (Arg at name value) = Arg i name (settle (i + length (label name)) value)
   settle i (If at c t e) = If i (settle (i + 1) c) (settle (i + 2 + length (spell c)) t) (settle (i + 3 + length (spell c) + length (spell t)) e)
@@ -207,7 +207,7 @@ mutual
       tuple_same p.0 (settles (i + 1) f p.1) (at_place (ap (λ (k : ℕ). k + 1) (length_bare (i + 1) f)) g ∙ settles second g p.2) (behind_at third rest ∙ settles_behind (second + length (spell g)) rest p.3)
   settles i (Listed at parts) p = rw (p.0, settles_apart (i + 1) parts p.1) refl
   settles i (Braces at pred) p = rw (p, predicate_bare pred tt) refl
-  settles i (Format at size) p = rw p refl
+  settles i (PlaceFormat at size) p = rw p refl
   settles i (NamedCall at name args) p = rw (p.0, settles_apart (i + 1) args p.1) refl
   settles i (Arg at name value) p = rw (p.0, settles (i + length (label name)) value p.1) refl
   settles i (If at c t e) p =

@@ -11,7 +11,7 @@ use Rattle.script_grammar.specs.declared.tree.Literal.{Literal}
 use Rattle.script_grammar.specs.declared.tree.Literal.TheVariants as literal
 use Rattle.script_grammar.specs.declared.tree.CompareOp.{CompareOp}
 use Rattle.script_grammar.specs.declared.tree.CompareOp.TheVariants as op
-use Rattle.script_grammar.specs.Tree.{Tree, Many, none, more, AFull, AnExpr, AnAnd, ANot, ACompare, ASum, AProduct, AnOperand, AnArg, Negative, Plain, Expr, And, Not, Alone, Compared, Sum, Added, Product, Multiplied, Constant, Quoted, Truth, Named, Called, Chosen, Listed, Braces, Format, NamedCall, Arg, If}
+use Rattle.script_grammar.specs.Tree.{Tree, Many, none, more, AFull, AnExpr, AnAnd, ANot, ACompare, ASum, AProduct, AnOperand, AnArg, Negative, Plain, Expr, And, Not, Alone, Compared, Sum, Added, Product, Multiplied, Constant, Quoted, Truth, Named, Called, Chosen, Listed, Braces, PlaceFormat, NamedCall, Arg, If}
 use Rattle.script_grammar.specs.Spelling.{spell, each_after, with_commas, literal_token, op_token, option_name, token_if, wav_tokens}
 use Rattle.script_grammar.specs.Placed.{IsPlaced, IsApart}
 use Rattle.script_grammar.specs.Read.{Read, Reader, ◌>>=◌, made, both, next, expect}
@@ -215,7 +215,7 @@ module _ {stamp : ℕ → ℕ} {total : ℕ} where
       operand_out (Symbol sign.OpenCurly ∷ r) =
           behind_front (λ x. Braces (stamp (suc (length r))) x.0) (Symbol sign.OpenCurly ∷ []) refl (λ x. refl) (λ i x h p. first h)
           ((both_sound tt por_sound (expect_sound is_close_curly (Symbol sign.CloseCurly) only_close_curly)).outcome r)
-      operand_out (Wav ∷ r) = behind_front (Format (stamp (suc (length r)))) (Wav ∷ []) refl (λ o. wav_spelled o) (λ i o h p. first h) (wav_out loose r)
+      operand_out (Wav ∷ r) = behind_front (PlaceFormat (stamp (suc (length r)))) (Wav ∷ []) refl (λ o. wav_spelled o) (λ i o h p. first h) (wav_out loose r)
       operand_out w = refused w some_operand
 
       operand_sound : Sound stamp total (operand loose stamp full) spell IsPlaced

@@ -7,7 +7,7 @@ use Rattle.script_lex.specs.declared.token.Keyword.TheVariants as word
 use Rattle.script_lex.specs.declared.token.Symbol.TheVariants as sign
 use Rattle.script_grammar.specs.declared.tree.Literal.TheVariants as literal
 use Rattle.script_grammar.specs.declared.tree.CompareOp.{CompareOp}
-use Rattle.script_grammar.specs.Tree.{Tree, Many, none, more, AFull, AnAnd, ANot, ACompare, ASum, AnAdded, AProduct, AMultiplied, AnOperand, APOr, Negative, Plain, Expr, And, Not, Alone, Compared, Sum, Added, Product, Multiplied, Constant, Quoted, Truth, Named, Called, Chosen, Listed, Braces, Format, NamedCall, Arg, If}
+use Rattle.script_grammar.specs.Tree.{Tree, Many, none, more, AFull, AnAnd, ANot, ACompare, ASum, AnAdded, AProduct, AMultiplied, AnOperand, APOr, Negative, Plain, Expr, And, Not, Alone, Compared, Sum, Added, Product, Multiplied, Constant, Quoted, Truth, Named, Called, Chosen, Listed, Braces, PlaceFormat, NamedCall, Arg, If}
 use Rattle.script_grammar.specs.Spelling.{option_name}
 use Rattle.script_grammar.specs.Bare.{bare}
 use Rattle.script_grammar.specs.Read.{Read, Reader, ◌>>=◌, made, both, next, expect, perhaps, many, behind, chain, closed}
@@ -313,7 +313,7 @@ module _ (stamp : ℕ → ℕ) (full full' : Reader (Tree AFull)) (n n' : ℕ) (
     operand_arm (Symbol sign.OpenRound) = reads (made_at (λ l. round_or_unit (stamp (suc l))) (round_or_unit 0) (λ l a. round_bare (stamp (suc l)) a) (closed_steady is_comma is_close_round loud_comma lf))
     operand_arm (Symbol sign.OpenSquare) = reads (made_at (λ l. Listed (stamp (suc l))) (Listed 0) (λ l a. refl) (closed_steady is_comma is_close_square loud_comma lf))
     operand_arm (Symbol sign.OpenCurly) = reads (made_at (λ l (x : Tree APOr × Unit {0}). Braces (stamp (suc l)) x.0) (λ (x : Tree APOr × Unit {0}). Braces 0 x.0) (λ l a. refl) (both_near por_steady (expect_steady is_close_curly)))
-    operand_arm Wav = reads (made_at (λ l. Format (stamp (suc l))) (Format 0) (λ l a. refl) wav_steady)
+    operand_arm Wav = reads (made_at (λ l. PlaceFormat (stamp (suc l))) (PlaceFormat 0) (λ l a. refl) wav_steady)
     operand_arm k = fault (λ u. refl) (λ u. refl)
 
     operand_steady : Steady bare loose (suc n) (suc n') (operand loose stamp full) (operand loose no_place full')

@@ -8,7 +8,7 @@ use Rattle.script_lex.specs.declared.token.Symbol.TheVariants as sign
 use Rattle.script_grammar.specs.declared.tree.Literal.TheVariants as literal
 use Rattle.script_grammar.specs.declared.tree.CompareOp.{CompareOp}
 use Rattle.script_grammar.specs.declared.tree.CompareOp.TheVariants as op
-use Rattle.script_grammar.specs.Tree.{Tree, Many, none, more, AFull, AnExpr, AnAnd, ANot, ACompare, ASum, AnAdded, AProduct, AMultiplied, AnOperand, ACall, AnArg, AnIf, Negative, Plain, Expr, And, Not, Alone, Compared, Sum, Added, Product, Multiplied, Constant, Quoted, Truth, Named, Called, Chosen, Nothing, Paren, Tuple, Listed, Braces, Format, NamedCall, Arg, If}
+use Rattle.script_grammar.specs.Tree.{Tree, Many, none, more, AFull, AnExpr, AnAnd, ANot, ACompare, ASum, AnAdded, AProduct, AMultiplied, AnOperand, ACall, AnArg, AnIf, Negative, Plain, Expr, And, Not, Alone, Compared, Sum, Added, Product, Multiplied, Constant, Quoted, Truth, Named, Called, Chosen, Nothing, Paren, Tuple, Listed, Braces, PlaceFormat, NamedCall, Arg, If}
 use Rattle.script_grammar.specs.Spelling.{spell, each_after, with_commas, op_token, option_name}
 use Rattle.script_grammar.specs.Bare.{bare}
 use Rattle.script_grammar.specs.Read.{Read, Reader, ◌>>=◌, made, both, next, expect, many, closed}
@@ -161,8 +161,8 @@ module _ (full : Reader (Tree AFull)) (n : ℕ) (lf : Reads full spell bare (End
         round_again (more f (more g rest)) (spell f ++ (Symbol sign.Comma ∷ (spell g ++ (b ++ k)))) u (sym (append_assoc (spell f) (Symbol sign.Comma ∷ (spell g ++ b)) k ∙ ap (λ (z : List TokenKind). spell f ++ (Symbol sign.Comma ∷ z)) (append_assoc (spell g) b k))) (omega arith)
     operand_again (Listed at ts) u e short = lift (squares_reads.again ts u tt (omega arith)) (Listed 0)
     operand_again (Braces at p) u e short = lift (braces_reads.again (p, tt) u tt (omega arith)) (λ x. Braces 0 x.0)
-    operand_again (Format at None) u e short = lift (wav_none loose u e.1) (Format 0)
-    operand_again (Format at (Some x)) u e short = lift (wav_some loose x u) (Format 0)
+    operand_again (PlaceFormat at None) u e short = lift (wav_none loose u e.1) (PlaceFormat 0)
+    operand_again (PlaceFormat at (Some x)) u e short = lift (wav_some loose x u) (PlaceFormat 0)
 
     operand_reads : Reads (operand loose no_place full) spell bare (Ends loose 6) (suc n)
     operand_reads = record { again = operand_again }

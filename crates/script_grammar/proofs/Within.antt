@@ -6,7 +6,7 @@ use Rattle.script_lex.specs.declared.token.TokenKind.{TokenKind}
 use Rattle.script_lex.specs.declared.token.TokenKind.TheVariants.{Name, NameOpen, Keyword, Symbol}
 use Rattle.script_lex.specs.declared.token.Keyword.TheVariants as word
 use Rattle.script_lex.specs.declared.token.Symbol.TheVariants as sign
-use Rattle.script_grammar.specs.Tree.{Sort, Tree, Many, AStmt, AnOperand, ASum, ACompare, AnAnd, AFull, none, more, Stmt, BindPart, DefPart, CallPart, IfPart, Bind, Def, Inner, Param, Labelled, Optional, Negative, Plain, Expr, And, Not, Alone, Compared, Sum, Added, Product, Multiplied, Constant, Quoted, Truth, Named, Called, Chosen, Nothing, Paren, Tuple, Listed, Braces, Format, NamedCall, Arg, If, POr, PAnd, PNot, TrueAtom, FalseAtom, Mark, IntervalAtom, Grouped}
+use Rattle.script_grammar.specs.Tree.{Sort, Tree, Many, AStmt, AnOperand, ASum, ACompare, AnAnd, AFull, none, more, Stmt, BindPart, DefPart, CallPart, IfPart, Bind, Def, Inner, Param, Labelled, Optional, Negative, Plain, Expr, And, Not, Alone, Compared, Sum, Added, Product, Multiplied, Constant, Quoted, Truth, Named, Called, Chosen, Nothing, Paren, Tuple, Listed, Braces, PlaceFormat, NamedCall, Arg, If, POr, PAnd, PNot, TrueAtom, FalseAtom, Mark, IntervalAtom, Grouped}
 use Rattle.script_grammar.specs.Spelling.{spell, each_after, with_commas, token_if, label, literal_token, truth_token, op_token, wav_tokens, added_token, multiplied_token}
 use Rattle.script_grammar.specs.Placed.{IsPlaced, IsBehind, IsApart}
 use Rattle.script_grammar.specs.Ats.{ats}
@@ -30,8 +30,8 @@ operand_some (Paren f) = omega arith
 operand_some (Tuple at f g rest) = omega arith
 operand_some (Listed at parts) = omega arith
 operand_some (Braces at pred) = omega arith
-operand_some (Format at None) = omega arith
-operand_some (Format at (Some size)) = omega arith
+operand_some (PlaceFormat at None) = omega arith
+operand_some (PlaceFormat at (Some size)) = omega arith
 
 sum_some : (t : Tree ASum) → 0 < length (spell t)
 sum_some (Sum (Product p ms) rest) =
@@ -162,7 +162,7 @@ mutual
   within i (Listed at parts) p =
       let n0 = length-append (with_commas parts) (Symbol sign.CloseSquare ∷ []) in
       first i (length (spell (Listed at parts))) at (ats parts) (omega (arith, p.0)) (omega (arith, p.0, n0)) (wider (i + 1) (length (with_commas parts)) i (length (spell (Listed at parts))) (ats parts) (omega (arith, n0)) (omega (arith, n0)) (within_apart (i + 1) parts p.1))
-  within i (Format at size) p =
+  within i (PlaceFormat at size) p =
       let some = wav_some size in
       alone i (length (wav_tokens size)) at (omega (arith, p)) (omega (arith, p, some))
   within i (NamedCall at name args) p =

@@ -1,6 +1,6 @@
 -- The fields at of a tree, each before those of the trees below it, and these from left to right.
 use Rattle.std.specs.Prelude.{ℕ, List, [], ◌∷◌, ◌++◌}
-use Rattle.script_grammar.specs.Tree.{Sort, Tree, none, more, Stmt, BindPart, DefPart, CallPart, IfPart, Bind, Def, Inner, Param, Labelled, Optional, Negative, Plain, Expr, And, Not, Alone, Compared, Sum, Added, Product, Multiplied, Constant, Quoted, Truth, Named, Called, Chosen, Nothing, Paren, Tuple, Listed, Braces, Format, NamedCall, Arg, If, POr, PAnd, PNot, TrueAtom, FalseAtom, Mark, IntervalAtom, Grouped}
+use Rattle.script_grammar.specs.Tree.{Sort, Tree, none, more, Stmt, BindPart, DefPart, CallPart, IfPart, Bind, Def, Inner, Param, Labelled, Optional, Negative, Plain, Expr, And, Not, Alone, Compared, Sum, Added, Product, Multiplied, Constant, Quoted, Truth, Named, Called, Chosen, Nothing, Paren, Tuple, Listed, Braces, PlaceFormat, NamedCall, Arg, If, POr, PAnd, PNot, TrueAtom, FalseAtom, Mark, IntervalAtom, Grouped}
 
 abbrev pub ats : {s : Sort} → Tree s → List ℕ
 ats none = []
@@ -38,7 +38,7 @@ ats (Paren f) = ats f
 ats (Tuple at f g rest) = at ∷ (ats f ++ (ats g ++ ats rest))
 ats (Listed at parts) = at ∷ ats parts
 ats (Braces at pred) = at ∷ []
-ats (Format at size) = at ∷ []
+ats (PlaceFormat at size) = at ∷ []
 ats (NamedCall at name args) = at ∷ ats args
 ats (Arg at name value) = at ∷ ats value
 ats (If at c t e) = at ∷ (ats c ++ (ats t ++ ats e))

@@ -1,6 +1,6 @@
 -- A tree without its places: each number at is 0. Two trees are equal but for their fields at where their bare trees
 -- are equal.
-use Rattle.script_grammar.specs.Tree.{Sort, Tree, none, more, Stmt, BindPart, DefPart, CallPart, IfPart, Bind, Def, Inner, Param, Labelled, Optional, Negative, Plain, Expr, And, Not, Alone, Compared, Sum, Added, Product, Multiplied, Constant, Quoted, Truth, Named, Called, Chosen, Nothing, Paren, Tuple, Listed, Braces, Format, NamedCall, Arg, If, POr, PAnd, PNot, TrueAtom, FalseAtom, Mark, IntervalAtom, Grouped}
+use Rattle.script_grammar.specs.Tree.{Sort, Tree, none, more, Stmt, BindPart, DefPart, CallPart, IfPart, Bind, Def, Inner, Param, Labelled, Optional, Negative, Plain, Expr, And, Not, Alone, Compared, Sum, Added, Product, Multiplied, Constant, Quoted, Truth, Named, Called, Chosen, Nothing, Paren, Tuple, Listed, Braces, PlaceFormat, NamedCall, Arg, If, POr, PAnd, PNot, TrueAtom, FalseAtom, Mark, IntervalAtom, Grouped}
 
 abbrev pub bare : {s : Sort} → Tree s → Tree s
 bare none = none
@@ -38,7 +38,7 @@ bare (Paren f) = Paren (bare f)
 bare (Tuple at f g rest) = Tuple 0 (bare f) (bare g) (bare rest)
 bare (Listed at parts) = Listed 0 (bare parts)
 bare (Braces at pred) = Braces 0 (bare pred)
-bare (Format at size) = Format 0 size
+bare (PlaceFormat at size) = PlaceFormat 0 size
 bare (NamedCall at name args) = NamedCall 0 name (bare args)
 bare (Arg at label value) = Arg 0 label (bare value)
 bare (If at c t e) = If 0 (bare c) (bare t) (bare e)

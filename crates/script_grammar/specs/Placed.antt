@@ -3,7 +3,7 @@ use Rattle.std.specs.Prelude.{◌≡◌, ℕ, ◌+◌, length}
 use Rattle.script_lex.specs.declared.token.TokenKind.TheVariants.{Keyword, Symbol}
 use Rattle.script_lex.specs.declared.token.Keyword.TheVariants as word
 use Rattle.script_lex.specs.declared.token.Symbol.TheVariants as sign
-use Rattle.script_grammar.specs.Tree.{Sort, Tree, Many, none, more, Stmt, BindPart, DefPart, CallPart, IfPart, Bind, Def, Inner, Param, Labelled, Optional, Negative, Plain, Expr, And, Not, Alone, Compared, Sum, Added, Product, Multiplied, Constant, Quoted, Truth, Named, Called, Chosen, Nothing, Paren, Tuple, Listed, Braces, Format, NamedCall, Arg, If, POr, PAnd, PNot, TrueAtom, FalseAtom, Mark, IntervalAtom, Grouped}
+use Rattle.script_grammar.specs.Tree.{Sort, Tree, Many, none, more, Stmt, BindPart, DefPart, CallPart, IfPart, Bind, Def, Inner, Param, Labelled, Optional, Negative, Plain, Expr, And, Not, Alone, Compared, Sum, Added, Product, Multiplied, Constant, Quoted, Truth, Named, Called, Chosen, Nothing, Paren, Tuple, Listed, Braces, PlaceFormat, NamedCall, Arg, If, POr, PAnd, PNot, TrueAtom, FalseAtom, Mark, IntervalAtom, Grouped}
 use Rattle.script_grammar.specs.Spelling.{spell, with_commas, token_if, label}
 
 -- a tree; a list of trees, each behind a token; and with commas between. A list's trees alone stand one after another.
@@ -52,7 +52,7 @@ abbrev mutual
       × IsBehind (i + 1 + length (spell f) + 1 + length (spell g)) rest
   IsPlaced i (Listed at parts) = (at ≡ i) × IsApart (i + 1) parts
   IsPlaced i (Braces at pred) = at ≡ i
-  IsPlaced i (Format at size) = at ≡ i
+  IsPlaced i (PlaceFormat at size) = at ≡ i
   IsPlaced i (NamedCall at name args) = (at ≡ i) × IsApart (i + 1) args
   IsPlaced i (Arg at name value) = (at ≡ i) × IsPlaced (i + length (label name)) value
   -- "if" condition "then" value "else" value "end"

@@ -9,7 +9,7 @@ use Rattle.script_lex.specs.declared.token.Symbol.TheVariants as sign
 use Rattle.script_grammar.specs.declared.tree.Literal.{Literal}
 use Rattle.script_grammar.specs.declared.tree.Literal.TheVariants as literal
 use Rattle.script_grammar.specs.declared.tree.CompareOp.{CompareOp}
-use Rattle.script_grammar.specs.Tree.{Tree, Many, none, more, AFull, AnExpr, AnAnd, ANot, ACompare, ASum, AnAdded, AProduct, AMultiplied, AnOperand, ACall, AnArg, AnIf, Negative, Plain, Expr, And, Not, Alone, Compared, Sum, Added, Product, Multiplied, Constant, Quoted, Truth, Named, Called, Chosen, Nothing, Paren, Tuple, Listed, Braces, Format, NamedCall, Arg, If}
+use Rattle.script_grammar.specs.Tree.{Tree, Many, none, more, AFull, AnExpr, AnAnd, ANot, ACompare, ASum, AnAdded, AProduct, AMultiplied, AnOperand, ACall, AnArg, AnIf, Negative, Plain, Expr, And, Not, Alone, Compared, Sum, Added, Product, Multiplied, Constant, Quoted, Truth, Named, Called, Chosen, Nothing, Paren, Tuple, Listed, Braces, PlaceFormat, NamedCall, Arg, If}
 use Rattle.script_grammar.specs.Spelling.{option_name}
 use Rattle.script_grammar.specs.Read.{Reader, ◌>>=◌, made, both, next, expect, perhaps, many, chain, closed}
 use Rattle.script_grammar.specs.Kinds.{is_or, is_and, is_not, is_assign, is_comma, is_close_round, is_close_square, is_close_curly, is_open_round, is_then, is_else, is_end, is_added, is_multiplied, op_of}
@@ -108,7 +108,7 @@ operand loose stamp full (Symbol sign.OpenSquare
     ∷ r) = closed is_comma is_close_square full r >>= made (Listed (stamp (suc (length r))))
 operand loose stamp full (Symbol sign.OpenCurly
     ∷ r) = both por (expect is_close_curly) r >>= made (λ x. Braces (stamp (suc (length r))) x.0)
-operand loose stamp full (Wav ∷ r) = wav loose r >>= made (Format (stamp (suc (length r))))
+operand loose stamp full (Wav ∷ r) = wav loose r >>= made (PlaceFormat (stamp (suc (length r))))
 operand loose stamp full w = Err (length w)
 
 unfoldable pub multiplied : Bool → (ℕ → ℕ) → Reader (Tree AFull) → Reader (Tree AMultiplied)

@@ -8,16 +8,19 @@ use Rattle.script_grammar.specs.declared.tree.Literal.{Literal}
 use Rattle.script_grammar.specs.declared.tree.Literal.TheVariants as literal
 use Rattle.script_grammar.specs.declared.tree.CompareOp.{CompareOp}
 use Rattle.script_grammar.specs.declared.tree.CompareOp.TheVariants as op
-use Rattle.script_grammar.specs.Tree.{Sort, Tree, Many, none, more, Stmt, BindPart, DefPart, CallPart, IfPart, Bind, Def, Inner, Param, Labelled, Optional, Negative, Plain, Expr, And, Not, Alone, Compared, Sum, Added, Product, Multiplied, Constant, Quoted, Truth, Named, Called, Chosen, Nothing, Paren, Tuple, Listed, Braces, Format, NamedCall, Arg, If, POr, PAnd, PNot, TrueAtom, FalseAtom, Mark, IntervalAtom, Grouped, Script}
+use Rattle.script_grammar.specs.Tree.{Sort, Tree, Many, none, more, Stmt, BindPart, DefPart, CallPart, IfPart, Bind, Def, Inner, Param, Labelled, Optional, Negative, Plain, Expr, And, Not, Alone, Compared, Sum, Added, Product, Multiplied, Constant, Quoted, Truth, Named, Called, Chosen, Nothing, Paren, Tuple, Listed, Braces, PlaceFormat, NamedCall, Arg, If, POr, PAnd, PNot, TrueAtom, FalseAtom, Mark, IntervalAtom, Grouped, Script}
 
+-- the token of a number
 abbrev pub literal_token : Literal → TokenKind
 literal_token (literal.Int n) = Int n
 literal_token (literal.Number d) = Number d
 
+-- the token of a truth value
 abbrev pub truth_token : Bool → TokenKind
 truth_token true = Keyword word.True
 truth_token false = Keyword word.False
 
+-- the token of a comparison
 abbrev pub op_token : CompareOp → TokenKind
 op_token op.Equal = Symbol sign.Equal
 op_token op.Differs = Symbol sign.Differs
@@ -26,10 +29,12 @@ op_token op.AtMost = Symbol sign.AtMost
 op_token op.Greater = Symbol sign.Greater
 op_token op.AtLeast = Symbol sign.AtLeast
 
+-- the token of a sum, or of a difference
 abbrev pub added_token : Bool → TokenKind
 added_token true = Symbol sign.Minus
 added_token false = Symbol sign.Plus
 
+-- the token of a product, or of a quotient
 abbrev pub multiplied_token : Bool → TokenKind
 multiplied_token true = Symbol sign.Slash
 multiplied_token false = Symbol sign.Star
@@ -39,6 +44,7 @@ abbrev pub token_if : TokenKind → Bool → List TokenKind
 token_if k true = k ∷ []
 token_if k false = []
 
+-- the tokens of a label, if there is one
 abbrev pub label : Option (List ℕ) → List TokenKind
 label (Some name) = Name name ∷ Symbol sign.Assign ∷ []
 label None = []
@@ -47,6 +53,7 @@ label None = []
 abbrev pub option_name : List ℕ
 option_name = 115 ∷ 97 ∷ 109 ∷ 112 ∷ 108 ∷ 101 ∷ 115 ∷ 105 ∷ 122 ∷ 101 ∷ []
 
+-- the tokens of a format
 abbrev pub wav_tokens : Option ℤ → List TokenKind
 wav_tokens None = Wav ∷ []
 wav_tokens (Some size) = Wav ∷ Symbol sign.OpenRound ∷ Name option_name ∷ Symbol sign.Assign ∷ Int size
@@ -94,7 +101,7 @@ abbrev mutual
       ++ (Symbol sign.CloseRound ∷ [])))))
   spell (Listed at parts) = Symbol sign.OpenSquare ∷ (with_commas parts ++ (Symbol sign.CloseSquare ∷ []))
   spell (Braces at pred) = Symbol sign.OpenCurly ∷ (spell pred ++ (Symbol sign.CloseCurly ∷ []))
-  spell (Format at size) = wav_tokens size
+  spell (PlaceFormat at size) = wav_tokens size
   spell (NamedCall at name args) = NameOpen name ∷ (with_commas args ++ (Symbol sign.CloseRound ∷ []))
   spell (Arg at name value) = label name ++ spell value
   spell (If at c t e) = Keyword word.If ∷ (spell c ++ (Keyword word.Then

@@ -85,7 +85,7 @@ pub data Tree : Sort → Type 0 where
   Listed : (at : ℕ) → Tree (Many AFull) → Tree AnOperand
   --      | "{" POr "}" | "%wav" ("(" Name "=" Int ")")?
   Braces : (at : ℕ) → Tree APOr → Tree AnOperand
-  Format : (at : ℕ) → (size : Option ℤ) → Tree AnOperand
+  PlaceFormat : (at : ℕ) → (size : Option ℤ) → Tree AnOperand
   -- Call = NameOpen (Arg ("," Arg)*)? ")"
   NamedCall : (at : ℕ) → (name : List ℕ) → Tree (Many AnArg) → Tree ACall
   -- Arg = Full | Name "=" Full

@@ -1,6 +1,6 @@
 -- The tree that a program's tree stands for.
 use Rattle.std.specs.Prelude.{ℕ, map, List, [], ◌∷◌, false}
-use Rattle.script_grammar.specs.Tree.{Sort, Tree, AStmt, APart, ABind, ADef, AnInner, AParam, AFull, AnExpr, AnAnd, ANot, ACompare, ASum, AnAdded, AProduct, AMultiplied, AnOperand, ACall, AnArg, AnIf, APOr, APAnd, APNot, APAtom, Many, none, more, Stmt, BindPart, DefPart, CallPart, IfPart, Bind, Def, Inner, Param, Labelled, Optional, Negative, Plain, Expr, And, Not, Alone, Compared, Sum, Added, Product, Multiplied, Constant, Quoted, Truth, Named, Called, Chosen, Nothing, Paren, Tuple, Listed, Braces, Format, NamedCall, Arg, If, POr, PAnd, PNot, TrueAtom, FalseAtom, Mark, IntervalAtom, Grouped, Script}
+use Rattle.script_grammar.specs.Tree.{Sort, Tree, AStmt, APart, ABind, ADef, AnInner, AParam, AFull, AnExpr, AnAnd, ANot, ACompare, ASum, AnAdded, AProduct, AMultiplied, AnOperand, ACall, AnArg, AnIf, APOr, APAnd, APNot, APAtom, Many, none, more, Stmt, BindPart, DefPart, CallPart, IfPart, Bind, Def, Inner, Param, Labelled, Optional, Negative, Plain, Expr, And, Not, Alone, Compared, Sum, Added, Product, Multiplied, Constant, Quoted, Truth, Named, Called, Chosen, Nothing, Paren, Tuple, Listed, Braces, PlaceFormat, NamedCall, Arg, If, POr, PAnd, PNot, TrueAtom, FalseAtom, Mark, IntervalAtom, Grouped, Script}
 use Rattle.script_grammar.specs.declared.tree.Full.{Full}
 use Rattle.script_grammar.specs.declared.tree.Full.TheVariants as full
 use Rattle.script_grammar.specs.declared.tree.Expr as expr
@@ -136,7 +136,7 @@ abbrev mutual
   view_operand (operand.Tuple' at shape parts) = tuple_of at (view_fulls parts)
   view_operand (operand.List' at shape parts) = Listed at (view_fulls parts)
   view_operand (operand.Braces at pred) = Braces at (view_por pred)
-  view_operand (operand.Wav at size) = Format at size
+  view_operand (operand.Wav at size) = PlaceFormat at size
 
   pub view_fulls : {m : _} → operand.Row_of-Full m → Tree (Many AFull)
   view_fulls operand.end_of-Full = none

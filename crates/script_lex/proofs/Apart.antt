@@ -1,6 +1,6 @@
 -- Taking readings apart.
 use Rattle.std.proofs.Common.{◌≡◌, ℕ, ◌+◌, Bool, true, false, List, ◌∷◌, ◌++◌, length, sym, ap, ◌∙◌, Ok, Err, if◌then◌else◌, length-append}
-use Rattle.script_lex.specs.Spelling.{IsLongest, Fault, Bad, OpenText, Large, FaultAt}
+use Rattle.script_lex.specs.Spelling.{IsLongest, LexStop, Bad, OpenText, Large, FaultAt}
 use Rattle.script_lex.specs.Reading.{Found, Read, front}
 use Rattle.script_lex.proofs.Fronts.{front_is}
 
@@ -16,7 +16,7 @@ abbrev pub FoundAt : List ℕ → Found → Type 0
 FoundAt bytes found = IsLongest found.0 bytes found.1
 
 -- a fault that stands at the front without a shape
-abbrev pub StopsAt : Fault → List ℕ → Type 0
+abbrev pub StopsAt : LexStop → List ℕ → Type 0
 StopsAt (Bad left) bytes = FaultAt (Bad left) bytes
 StopsAt (OpenText left) bytes = FaultAt (OpenText left) bytes
 StopsAt (Large left) bytes = ⊥

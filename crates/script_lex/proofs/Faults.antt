@@ -5,7 +5,7 @@ use Rattle.std.proofs.Math.Seq.{take-append-add, take-append_seam}
 use Rattle.std.specs.Str.{is_utf8}
 use Rattle.std.specs.Str.Lossy.{utf8_valid_len}
 use Rattle.script_lex.specs.Reading.{body_end, text_at, text_from, front}
-use Rattle.script_lex.specs.Spelling.{IsBadInText, Fault, Bad, IsQuote}
+use Rattle.script_lex.specs.Spelling.{IsBadInText, LexStop, Bad, IsQuote}
 use Rattle.script_lex.proofs.Fronts.{choose, front_is}
 use Rattle.script_lex.proofs.Apart.{StopsAt, chosen, differ}
 use Rattle.script_lex.proofs.Pieces.{Stop}
@@ -47,7 +47,7 @@ invalid q quote t rest stop never =
     let left : length (drop n t ++ rest) ≡ length (t ++ rest) - n = let d = length-drop n t in let e = length-append (drop n t) rest in let f = length-append t rest in omega arith in
     subst (IsBadInText (q ∷ (t ++ rest))) left bad
 
-pub text_fault : (q : ℕ) → IsQuote q → (bs : List ℕ) (f : Fault) → text_at q bs ≡ Err f → StopsAt f (q ∷ bs)
+pub text_fault : (q : ℕ) → IsQuote q → (bs : List ℕ) (f : LexStop) → text_at q bs ≡ Err f → StopsAt f (q ∷ bs)
 unfolding text_at
 text_fault q quote bs f is =
     let s = stop_split q quote bs in
@@ -69,6 +69,6 @@ text_fault q quote bs f is =
     let stops : length (body_end q (s.0 ++ stop.1)).1 ≡ length stop.1 = ap T (ap (body_end q) (sym s.1)) in
     let bad = invalid q quote s.0 stop.1 stops (ap is_utf8 (sym before) ∙ u) in
     let place : length (s.0 ++ stop.1) - utf8_valid_len s.0 ≡ length bs - utf8_valid_len (front bs stop.1) = ap (λ z. length z - utf8_valid_len s.0) (sym s.1) ∙ ap (λ z. length bs - utf8_valid_len z) (sym before) in
-    let F : Fault → Type 0 = λ z. StopsAt z (q ∷ bs) in
+    let F : LexStop → Type 0 = λ z. StopsAt z (q ∷ bs) in
     let B : List ℕ → Type 0 = λ x. IsBadInText (q ∷ x) (length bs - utf8_valid_len (front bs stop.1)) in
     subst F same (inr (subst B (sym s.1) (subst (IsBadInText (q ∷ (s.0 ++ stop.1))) place bad))))

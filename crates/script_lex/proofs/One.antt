@@ -1,7 +1,7 @@
 -- At one place stands one token, or one fault.
 use Rattle.std.proofs.Common.{◌≡◌, ◌≢◌, ℕ, List, [], ◌∷◌, ◌++◌, length, refl, sym, ap, ◌∙◌, subst, arith, Ok, Err, ⊎_elim}
 use Rattle.std.specs.List.{flat_map}
-use Rattle.script_lex.specs.Spelling.{Shape, ANumber, AText, SpellsShape, IsLongest, IsToken, Means, is_within, Fault, Bad, OpenText, Large, FaultAt, IsUnclosed, IsBadInText, BeginsNothing, IsQuote, meant_bytes}
+use Rattle.script_lex.specs.Spelling.{Shape, ANumber, AText, SpellsShape, IsLongest, IsToken, Means, is_within, LexStop, Bad, OpenText, Large, FaultAt, IsUnclosed, IsBadInText, BeginsNothing, IsQuote, meant_bytes}
 use Rattle.script_lex.specs.Reading.{Found, Read, shape_at}
 use Rattle.script_lex.specs.declared.token.TokenKind.{TokenKind}
 use Rattle.script_lex.specs.declared.token.TokenKind.TheVariants as kinds
@@ -88,7 +88,7 @@ no_slash : (q : ℕ) (r last : List ℕ) → IsQuote q → last ≡ q ∷ r → 
 no_slash q r last quote is slash = let same = cons_head q 92 r [] (sym is ∙ slash) in ⊎_elim (λ e. omega arith) (λ e. omega arith) quote
 
 -- a shape that stands there leaves no fault
-stops_never : (bs : List ℕ) (f : Found) → FoundAt bs f → (e : Fault) → StopsAt e bs → ⊥
+stops_never : (bs : List ℕ) (f : Found) → FoundAt bs f → (e : LexStop) → StopsAt e bs → ⊥
 stops_never bs f a (Bad left) stop =
     ⊎_elim
     (λ n. n.0.no_shape f.0 a.text f.1 a.split a.spelled)
@@ -108,7 +108,7 @@ bad_open bs left t u =
     let one = halts_one bs (bad_halt bs left t) (cut_halt bs u) in
     ⊎_elim (λ e. t.no_piece.no_end.0 (one.1 ∙ e)) (λ e. t.no_piece.no_end.1 (one.1 ∙ e)) u.cut
 
-one_stop : (bs : List ℕ) (e g : Fault) → StopsAt e bs → StopsAt g bs → e ≡ g
+one_stop : (bs : List ℕ) (e g : LexStop) → StopsAt e bs → StopsAt g bs → e ≡ g
 one_stop bs (Bad m) (Bad n) a b =
     ⊎_elim
     (λ x. ⊎_elim (λ y. ap Bad (x.1 ∙ sym y.1)) (λ y. absurd (nothing_text bs x.0 (bad_halt bs n y))) b)
@@ -141,7 +141,7 @@ token_one bs k l r s a b =
     let M : Shape → Type 0 = λ x. Means x k in
     (means_one b.shape k l (subst M (ap first same) a.means) b.means, ap second same)
 
-pub token_never : (bs : List ℕ) (k : TokenKind) (r : List ℕ) (e : Fault) → IsToken bs k r → FaultAt e bs → ⊥
+pub token_never : (bs : List ℕ) (k : TokenKind) (r : List ℕ) (e : LexStop) → IsToken bs k r → FaultAt e bs → ⊥
 token_never bs k r (Bad n) a stop = stops_never bs (a.shape, r) a.longest (Bad n) stop
 token_never bs k r (OpenText n) a stop = stops_never bs (a.shape, r) a.longest (OpenText n) stop
 token_never bs k r (Large n) a stop =
@@ -153,7 +153,7 @@ token_never bs k r (Large n) a stop =
 pub token_some : (bs : List ℕ) (k : TokenKind) (r : List ℕ) → IsToken bs k r → bs ≢ []
 token_some bs k r a = some_front bs (a.shape, r) a.longest
 
-pub fault_one : (bs : List ℕ) (e g : Fault) → FaultAt e bs → FaultAt g bs → e ≡ g
+pub fault_one : (bs : List ℕ) (e g : LexStop) → FaultAt e bs → FaultAt g bs → e ≡ g
 fault_one bs (Large m) (Large n) a b = ap Large (a.1 ∙ sym b.1)
 fault_one bs (Large m) (Bad n) a b = absurd (stops_never bs (a.0.shape, a.0.rest) a.0.longest (Bad n) b)
 fault_one bs (Large m) (OpenText n) a b = absurd (stops_never bs (a.0.shape, a.0.rest) a.0.longest (OpenText n) b)
@@ -164,7 +164,7 @@ fault_one bs (Bad m) (OpenText n) a b = one_stop bs (Bad m) (OpenText n) a b
 fault_one bs (OpenText m) (Bad n) a b = one_stop bs (OpenText m) (Bad n) a b
 fault_one bs (OpenText m) (OpenText n) a b = one_stop bs (OpenText m) (OpenText n) a b
 
-pub fault_some : (bs : List ℕ) (e : Fault) → FaultAt e bs → bs ≢ []
+pub fault_some : (bs : List ℕ) (e : LexStop) → FaultAt e bs → bs ≢ []
 fault_some bs (Bad n) a = ⊎_elim (λ x. x.0.some) (λ x. λ empty. halt_some bs (bad_halt bs n x) empty) a
   where
     halt_some : (bs : List ℕ) → Halt bs → bs ≢ []

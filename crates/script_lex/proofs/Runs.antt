@@ -1,9 +1,9 @@
 -- The runs of tokens, and how they end.
 use Rattle.std.proofs.Common.{◌≡◌, ◌≢◌, ℕ, ◌-◌, ◌<◌, List, [], ◌∷◌, ◌++◌, length, refl, sym, ap, ◌∙◌, subst, arith, length-append, Ok, Err, Option, Some, None, false}
-use Rattle.script_lex.specs.Spelling.{IsToken, IsLongest, Fault, Bad, OpenText, Large, FaultAt}
+use Rattle.script_lex.specs.Spelling.{IsToken, IsLongest, LexStop, Bad, OpenText, Large, FaultAt}
 use Rattle.script_lex.specs.Tokens.{between, Leads, EndsBy, Runs}
 use Rattle.script_lex.specs.Reading.{Read, shape_at}
-use Rattle.script_lex.specs.Gives.{Gives, Refuses, IfFault, RunsInto}
+use Rattle.script_lex.specs.Gives.{Gives, Refuses, IfFault, RunsInto, RunsTo}
 use Rattle.script_lex.specs.declared.token.Token.{Token}
 use Rattle.script_lex.specs.declared.token.TokenKind.{TokenKind}
 use Rattle.script_lex.specs.declared.refusal.Refusal.{Refusal}
@@ -40,8 +40,8 @@ refused_fault bs e some gives = by_read (shape_at bs) e refl gives
     by_read (Ok found) (refusals.BadByte n) is g = absurd g
     by_read (Ok found) (refusals.UnclosedString n) is g = absurd g
     by_read (Err f) (refusals.NumberTooLarge n) is g = absurd g
-    by_read (Err f) (refusals.BadByte n) is g = let P : Fault → Type 0 = λ x. StopsAt x bs in subst P g (shape_fault bs f some is)
-    by_read (Err f) (refusals.UnclosedString n) is g = let P : Fault → Type 0 = λ x. StopsAt x bs in subst P g (shape_fault bs f some is)
+    by_read (Err f) (refusals.BadByte n) is g = let P : LexStop → Type 0 = λ x. StopsAt x bs in subst P g (shape_fault bs f some is)
+    by_read (Err f) (refusals.UnclosedString n) is g = let P : LexStop → Type 0 = λ x. StopsAt x bs in subst P g (shape_fault bs f some is)
 
 -- one token more
 leads_push : (total : ℕ) (bytes before after : List ℕ) (ts : List Token) (t : Token) → Leads total bytes ts before → IsToken (between false before) t.kind after → t.start ≡ total - length (between false before) → t.end ≡ total - length after → Leads total bytes (ts ++ t ∷ []) after
@@ -56,30 +56,37 @@ turn text before rest after ts t leads behind stands start end =
     leads_push (length text) text before after ts t leads (subst P (sym behind) stands) (start ∙ ap (λ (l : List ℕ). length text - length l) (sym behind)) end
 
 -- a fault behind the tokens
-pub fault_run : (text before rest : List ℕ) (ts : List Token) (e : Refusal) → Leads (length text) text ts before → between false before ≡ rest → rest ≢ [] → Refuses (shape_at rest) (length rest) e → IfFault e (RunsInto text)
+pub fault_run : (text before rest : List ℕ) (ts : List Token) (e : Refusal) → Leads (length text) text ts before → between false before ≡ rest → rest ≢ [] → Refuses (shape_at rest) (length rest) e → IfFault e (RunsTo text ts)
 fault_run text before rest ts e leads behind some refuses = by_fault e (refused_fault rest e some refuses)
   where
-    run : (f : Fault) → FaultAt f rest → RunsInto text f
-    run f stands = let P : List ℕ → Type 0 = λ b. FaultAt f b in (ts, (before, leads, subst P (sym behind) stands))
+    run : (f : LexStop) → FaultAt f rest → RunsTo text ts f
+    run f stands = let P : List ℕ → Type 0 = λ b. FaultAt f b in (before, leads, subst P (sym behind) stands)
 
-    by_fault : (e : Refusal) → IfFault e (λ f. FaultAt f rest) → IfFault e (RunsInto text)
+    by_fault : (e : Refusal) → IfFault e (λ f. FaultAt f rest) → IfFault e (RunsTo text ts)
     by_fault refusals.Memory h = tt
     by_fault (refusals.BadByte n) h = run (Bad n) h
     by_fault (refusals.UnclosedString n) h = run (OpenText n) h
     by_fault (refusals.NumberTooLarge n) h = run (Large n) h
 
+-- behind these tokens is behind some
+pub runs_into : (text : List ℕ) (ts : List Token) (e : Refusal) → IfFault e (RunsTo text ts) → IfFault e (RunsInto text)
+runs_into text ts refusals.Memory h = tt
+runs_into text ts (refusals.BadByte n) h = (ts, h)
+runs_into text ts (refusals.UnclosedString n) h = (ts, h)
+runs_into text ts (refusals.NumberTooLarge n) h = (ts, h)
+
 -- how a run ends is told by what is left
-ends_one : (bs : List ℕ) (e g : Option Fault) → EndsBy e bs → EndsBy g bs → e ≡ g
+ends_one : (bs : List ℕ) (e g : Option LexStop) → EndsBy e bs → EndsBy g bs → e ≡ g
 ends_one bs None None a b = refl
 ends_one bs None (Some f) a b = absurd (fault_some bs f b a)
 ends_one bs (Some f) None a b = absurd (fault_some bs f a b)
 ends_one bs (Some f) (Some g) a b = ap Some (fault_one bs f g a b)
 
-ends_never : (bs : List ℕ) (e : Option Fault) (k : TokenKind) (r : List ℕ) → EndsBy e bs → IsToken bs k r → ⊥
+ends_never : (bs : List ℕ) (e : Option LexStop) (k : TokenKind) (r : List ℕ) → EndsBy e bs → IsToken bs k r → ⊥
 ends_never bs None k r a t = token_some bs k r t a
 ends_never bs (Some f) k r a t = token_never bs k r f t a
 
-end_here : (total : ℕ) (bytes rest : List ℕ) (e : Option Fault) → bytes ≡ rest → EndsBy e (between false rest) → EndsBy e (between false bytes)
+end_here : (total : ℕ) (bytes rest : List ℕ) (e : Option LexStop) → bytes ≡ rest → EndsBy e (between false rest) → EndsBy e (between false bytes)
 end_here total bytes rest e is a = let P : List ℕ → Type 0 = λ l. EndsBy e (between false l) in subst P (sym is) a
 
 same_token : (t u : Token) → t.kind ≡ u.kind → t.start ≡ u.start → t.end ≡ u.end → t ≡ u
@@ -89,7 +96,7 @@ both : {A : Type 0} (t u : A) (ts us : List A) → t ≡ u → ts ≡ us → t �
 both t u ts us head tail = ap (λ x. x ∷ ts) head ∙ ap (λ (xs : List _). u ∷ xs) tail
 
 -- one text has one run
-leads_one : (total : ℕ) (bytes : List ℕ) (ts us : List Token) (x y : List ℕ) (e g : Option Fault) → Leads total bytes ts x → Leads total bytes us y → EndsBy e (between false x) → EndsBy g (between false y) → (ts ≡ us) × (e ≡ g)
+leads_one : (total : ℕ) (bytes : List ℕ) (ts us : List Token) (x y : List ℕ) (e g : Option LexStop) → Leads total bytes ts x → Leads total bytes us y → EndsBy e (between false x) → EndsBy g (between false y) → (ts ≡ us) × (e ≡ g)
 leads_one total bytes [] [] x y e g a b p q = (refl, ends_one (between false bytes) e g (end_here total bytes x e a p) (end_here total bytes y g b q))
 leads_one total bytes [] (u ∷ us) x y e g a b p q = absurd (ends_never (between false bytes) e u.kind b.0 (end_here total bytes x e a p) b.1)
 leads_one total bytes (t ∷ ts) [] x y e g a b p q = absurd (ends_never (between false bytes) g t.kind a.0 (end_here total bytes y g b q) a.1)
@@ -100,5 +107,5 @@ leads_one total bytes (t ∷ ts) (u ∷ us) x y e g a b p q =
     let same = same_token t u one.0 (a.2 ∙ sym b.2) (a.3 ∙ ap (λ (l : List ℕ). total - length l) one.1 ∙ sym b.3) in
     (both t u ts us same more.0, more.1)
 
-pub runs_one : (text : List ℕ) (ts us : List Token) (e g : Option Fault) → Runs text ts e → Runs text us g → (ts ≡ us) × (e ≡ g)
+pub runs_one : (text : List ℕ) (ts us : List Token) (e g : Option LexStop) → Runs text ts e → Runs text us g → (ts ≡ us) × (e ≡ g)
 runs_one text ts us e g a b = leads_one (length text) text ts us a.0 b.0 e g a.1 b.1 a.2 b.2

@@ -8,7 +8,7 @@ use Rattle.std.specs.Str.Lossy.{utf8_valid_len}
 use Rattle.std.specs.List.{flat_map}
 use Rattle.script_lex.specs.Bytes.{is_escapable}
 use Rattle.script_lex.specs.Reading.{Found, body_end, unescaped, tail, text_at, text_from, front}
-use Rattle.script_lex.specs.Spelling.{Shape, AText, SpellsShape, IsUnclosed, IsBadInText, Fault, Bad, OpenText, BeginsNoPiece, IsQuote, written, meant_bytes, TextPiece, PlainPiece, Escaped, IsPiece, ArePieces}
+use Rattle.script_lex.specs.Spelling.{Shape, AText, SpellsShape, IsUnclosed, IsBadInText, LexStop, Bad, OpenText, BeginsNoPiece, IsQuote, written, meant_bytes, TextPiece, PlainPiece, Escaped, IsPiece, ArePieces}
 use Rattle.script_lex.specs.declared.body.BodyEnd.{BodyEnd}
 use Rattle.script_lex.specs.declared.body.BodyEnd.TheVariants as ends
 use Rattle.script_lex.proofs.Fronts.{choose, front_is}
@@ -106,15 +106,15 @@ read_valid q quote t rest ends.Closed utf8 stop left f is =
 read_valid q quote t rest ends.Broken utf8 stop left f is = cc
 read_valid q quote t rest ends.Cut utf8 stop left f is = cc
 
-pub fault_valid : (q : ℕ) → IsQuote q → (t rest : List ℕ) (e : BodyEnd) → IsUtf8 t → body_end q (t ++ rest) ≡ (e, rest) → (left : ℕ) → left ≡ suc (length (t ++ rest)) → (f : Fault) → text_from t rest e left ≡ Err f → StopsAt f (q ∷ (t ++ rest))
+pub fault_valid : (q : ℕ) → IsQuote q → (t rest : List ℕ) (e : BodyEnd) → IsUtf8 t → body_end q (t ++ rest) ≡ (e, rest) → (left : ℕ) → left ≡ suc (length (t ++ rest)) → (f : LexStop) → text_from t rest e left ≡ Err f → StopsAt f (q ∷ (t ++ rest))
 fault_valid q quote t rest ends.Closed utf8 stop left size f is = cc
 fault_valid q quote t rest ends.Broken utf8 stop left size f is =
     let same : Bad (length rest) ≡ f = cc in
-    let P : Fault → Type 0 = λ x. StopsAt x (q ∷ (t ++ rest)) in
+    let P : LexStop → Type 0 = λ x. StopsAt x (q ∷ (t ++ rest)) in
     subst P same (inr (broken_bad q quote t rest utf8 stop))
 fault_valid q quote t rest ends.Cut utf8 stop left size f is =
     let same : OpenText left ≡ f = cc in
-    let P : Fault → Type 0 = λ x. StopsAt x (q ∷ (t ++ rest)) in
+    let P : LexStop → Type 0 = λ x. StopsAt x (q ∷ (t ++ rest)) in
     subst P same (cut_unclosed q quote t rest utf8 stop, size)
 
 pub text_found : (q : ℕ) → IsQuote q → (bs : List ℕ) (f : Found) → text_at q bs ≡ Ok f → FoundAt (q ∷ bs) f

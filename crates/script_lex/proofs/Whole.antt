@@ -2,7 +2,7 @@
 use Rattle.std.proofs.Common.{◌≡◌, ◌≢◌, ℕ, true, false, List, [], ◌∷◌, length, refl, sym, ap, ◌∙◌, subst, Option, Some, None, Ok, Err, inl, ⊎_elim}
 use Rattle.std.specs.Char.{is_ascii_digit}
 use Rattle.script_lex.specs.Bytes.{is_letter, is_quote}
-use Rattle.script_lex.specs.Spelling.{Fault, Bad, BeginsNothing, IsQuote}
+use Rattle.script_lex.specs.Spelling.{LexStop, Bad, BeginsNothing, IsQuote}
 use Rattle.script_lex.specs.Reading.{Found, Read, word_at, number_at, text_at, wav_at, symbol_at, first_of_two, sign_or_bad, shape_at}
 use Rattle.script_lex.proofs.Fronts.{choose}
 use Rattle.script_lex.proofs.Firsts.{Quote, Sign, class_of, quote_class, digit_not_letter, is_quote_of}
@@ -53,16 +53,16 @@ sign_found b bs sign (Some g) s wav symbol f is = subst (FoundAt (b ∷ bs)) (ok
 sign_found b bs sign None (Some g) wav symbol f is = subst (FoundAt (b ∷ bs)) (ok_is g f is) (symbol_found b bs sign wav g symbol)
 sign_found b bs sign None None wav symbol f is = absurd (found_never f (length (b ∷ bs)) is)
 
-err_never : (f : Found) (e : Fault) → let x : Read = Ok f in x ≡ Err e → ⊥
+err_never : (f : Found) (e : LexStop) → let x : Read = Ok f in x ≡ Err e → ⊥
 err_never f e is = cc
 
-err_is : (a e : Fault) → let x : Read = Err a in x ≡ Err e → a ≡ e
+err_is : (a e : LexStop) → let x : Read = Err a in x ≡ Err e → a ≡ e
 err_is a e is = cc
 
 no_quote : (b q : ℕ) (bs rest : List ℕ) → class_of b ≡ Sign → IsQuote q → b ∷ bs ≡ q ∷ rest → ⊥
 no_quote b q bs rest sign quote is = let same : b ≡ q = cc in let k : Sign ≡ Quote = sym sign ∙ ap class_of same ∙ quote_class q quote in cc
 
-sign_fault : (b : ℕ) (bs : List ℕ) → class_of b ≡ Sign → (w s : Option Found) → wav_at (b ∷ bs) ≡ w → symbol_at b bs ≡ s → (e : Fault) → sign_or_bad (first_of_two w s) (length (b ∷ bs)) ≡ Err e → StopsAt e (b ∷ bs)
+sign_fault : (b : ℕ) (bs : List ℕ) → class_of b ≡ Sign → (w s : Option Found) → wav_at (b ∷ bs) ≡ w → symbol_at b bs ≡ s → (e : LexStop) → sign_or_bad (first_of_two w s) (length (b ∷ bs)) ≡ Err e → StopsAt e (b ∷ bs)
 sign_fault b bs sign (Some g) s wav symbol e is = absurd (err_never g e is)
 sign_fault b bs sign None (Some g) wav symbol e is = absurd (err_never g e is)
 sign_fault b bs sign None None wav symbol e is =
@@ -71,7 +71,7 @@ sign_fault b bs sign None None wav symbol e is =
       no_shape = λ shape text rest at s. symbol_nothing b bs sign wav symbol shape text rest at s;
       no_quote = λ q rest quote at. no_quote b q bs rest sign quote at;
     } in
-    let P : Fault → Type 0 = λ x. StopsAt x (b ∷ bs) in
+    let P : LexStop → Type 0 = λ x. StopsAt x (b ∷ bs) in
     subst P (err_is (Bad (length (b ∷ bs))) e is) (inl (nothing, refl))
 
 found_by : (b : ℕ) (bs : List ℕ) → Dispatch b bs → (f : Found) → shape_at (b ∷ bs) ≡ Ok f → FoundAt (b ∷ bs) f
@@ -86,13 +86,13 @@ unfolding shape_at
 shape_found [] f is = absurd (found_never f 0 is)
 shape_found (b ∷ bs) f is = found_by b bs (dispatch b bs) f is
 
-fault_by : (b : ℕ) (bs : List ℕ) → Dispatch b bs → (e : Fault) → shape_at (b ∷ bs) ≡ Err e → StopsAt e (b ∷ bs)
+fault_by : (b : ℕ) (bs : List ℕ) → Dispatch b bs → (e : LexStop) → shape_at (b ∷ bs) ≡ Err e → StopsAt e (b ∷ bs)
 fault_by b bs (ByLetter l) e is = absurd (err_never (word_at (b ∷ bs)) e (sym (at_letter b bs l) ∙ is))
 fault_by b bs (ByDigit d) e is = absurd (err_never (number_at (b ∷ bs)) e (sym (at_digit b bs d) ∙ is))
 fault_by b bs (ByQuote quote) e is = text_fault b quote bs e (sym (at_quote b bs quote) ∙ is)
 fault_by b bs (BySign at sign) e is = sign_fault b bs sign (wav_at (b ∷ bs)) (symbol_at b bs) refl refl e (sym at ∙ is)
 
 -- and where none is read, the fault stands there
-pub shape_fault : (bs : List ℕ) (e : Fault) → bs ≢ [] → shape_at bs ≡ Err e → StopsAt e bs
+pub shape_fault : (bs : List ℕ) (e : LexStop) → bs ≢ [] → shape_at bs ≡ Err e → StopsAt e bs
 shape_fault [] e some is = absurd (some refl)
 shape_fault (b ∷ bs) e some is = fault_by b bs (dispatch b bs) e is

@@ -1,6 +1,6 @@
 -- What a function returned, against the shape that is read.
 use Rattle.std.specs.Prelude.{◌≡◌, ℕ, true, false, Result, Ok, Err, List, Some}
-use Rattle.script_lex.specs.Spelling.{Fault, Bad, OpenText, Large, Means, is_within}
+use Rattle.script_lex.specs.Spelling.{LexStop, Bad, OpenText, Large, Means, is_within}
 use Rattle.script_lex.specs.Reading.{Read}
 use Rattle.script_lex.specs.Tokens.{Runs, placed_fault}
 use Rattle.script_lex.specs.declared.token.Token.{Token}
@@ -34,7 +34,7 @@ left_of (refusals.UnclosedString n) = n
 left_of (refusals.NumberTooLarge n) = n
 
 -- a fact of the fault, which want of memory is not
-abbrev pub IfFault : Refusal → (Fault → Type 0) → Type 0
+abbrev pub IfFault : Refusal → (LexStop → Type 0) → Type 0
 IfFault refusals.Memory P = Unit {0}
 IfFault (refusals.BadByte n) P = P (Bad n)
 IfFault (refusals.UnclosedString n) P = P (OpenText n)
@@ -48,5 +48,9 @@ told_as total (refusals.UnclosedString n) = placed_fault total (OpenText n)
 told_as total (refusals.NumberTooLarge n) = placed_fault total (Large n)
 
 -- the fault of a text, behind some tokens
-abbrev pub RunsInto : List ℕ → Fault → Type 0
+abbrev pub RunsInto : List ℕ → LexStop → Type 0
 RunsInto text fault = (ts : List Token) × Runs text ts (Some fault)
+
+-- the fault of a text, behind these tokens
+abbrev pub RunsTo : List ℕ → List Token → LexStop → Type 0
+RunsTo text ts fault = Runs text ts (Some fault)

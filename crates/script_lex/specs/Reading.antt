@@ -6,7 +6,7 @@ use Rattle.std.specs.Str.Lossy.{utf8_valid_len}
 use Rattle.std.specs.Char.{is_ascii_digit}
 use Rattle.script_lex.specs.Bytes.{is_letter, is_word, is_quote, is_unit, is_escapable, is_inner, starts_part, starts_digit}
 use Rattle.script_lex.specs.Words.{keyword_of, symbol_of, symbol_with_equals}
-use Rattle.script_lex.specs.Spelling.{Shape, AWord, AnOpen, AnInt, ANumber, ATime, AText, AWav, ASymbol, Fault, Bad, OpenText}
+use Rattle.script_lex.specs.Spelling.{Shape, AWord, AnOpen, AnInt, ANumber, ATime, AText, AWav, ASymbol, LexStop, Bad, OpenText}
 use Rattle.script_lex.specs.declared.token.Keyword.{Keyword}
 use Rattle.script_lex.specs.declared.token.Symbol.{Symbol}
 use Rattle.script_lex.specs.declared.body.BodyEnd.{BodyEnd}
@@ -18,7 +18,7 @@ Found = Shape × List ℕ
 
 -- that, or the fault
 abbrev pub Read : Type 0
-Read = Result Found Fault
+Read = Result Found LexStop
 
 -- what stands before the rest
 abbrev pub front : List ℕ → List ℕ → List ℕ

@@ -13,6 +13,7 @@ use Rattle.script_lex.specs.declared.token.Symbol.{Symbol}
 use Rattle.script_lex.specs.declared.token.TokenKind.{TokenKind}
 use Rattle.script_lex.specs.declared.token.TokenKind.TheVariants as kinds
 
+-- how a token is written, before its value is computed
 pub data Shape : Type 0 where
   AWord : List ℕ → Shape
   AnOpen : (name : List ℕ) → Shape
@@ -53,6 +54,7 @@ abbrev pub part_text : Option (List ℕ) → ℕ → List ℕ
 part_text None unit = []
 part_text (Some digits) unit = digits ++ unit ∷ []
 
+-- where there are digits, they are decimal ones
 abbrev pub IsDigits : Option (List ℕ) → Type 0
 IsDigits None = Unit {0}
 IsDigits (Some digits) = IsNumeral 10 digits
@@ -67,6 +69,7 @@ abbrev pub IsShortTime : (day hour minute second : Option (List ℕ)) → List �
 IsShortTime day (Some hour) (Some minute) None text = text ≡ part_text day 119 ++ (part_text (Some hour) 104 ++ minute)
 IsShortTime day hour minute second text = ⊥
 
+-- the text is a time of these parts, some part is there, or it is a short form of one
 pub record IsTimeText (day hour minute second : Option (List ℕ)) (text : List ℕ) : Type 0 where
   pub day_digits : IsDigits day
   pub hour_digits : IsDigits hour
@@ -80,10 +83,12 @@ pub data TextPiece : Type 0 where
   PlainPiece : ℕ → TextPiece
   Escaped : ℕ → TextPiece
 
+-- the bytes of a character of a text as they stand in the script
 abbrev pub written : TextPiece → List ℕ
 written (PlainPiece c) = encode_utf8 c
 written (Escaped c) = 92 ∷ c ∷ []
 
+-- the bytes that a character of a text means
 abbrev pub meant_bytes : TextPiece → List ℕ
 meant_bytes (PlainPiece c) = encode_utf8 c
 meant_bytes (Escaped c) = c ∷ []
@@ -94,10 +99,12 @@ abbrev pub IsPiece : ℕ → TextPiece → Type 0
 IsPiece quote (PlainPiece c) = IsScalar c × (32 ≤ c) × (c ≢ 127) × (c ≢ 92) × (c ≢ quote)
 IsPiece quote (Escaped c) = is_escapable c ≡ true
 
+-- each of these may stand in a text with this quote
 abbrev pub ArePieces : ℕ → List TextPiece → Type 0
 ArePieces quote [] = Unit {0}
 ArePieces quote (p ∷ ps) = IsPiece quote p × ArePieces quote ps
 
+-- the byte is a quote, `"` or `'`
 abbrev pub IsQuote : ℕ → Type 0
 IsQuote q = (q ≡ 34) ⊎ (q ≡ 39)
 
@@ -139,9 +146,11 @@ abbrev pub kind_of_word : List ℕ → Option Keyword → TokenKind
 kind_of_word word None = kinds.Name word
 kind_of_word word (Some keyword) = kinds.Keyword keyword
 
+-- the value of digits, where there are some
 abbrev pub values : Option (List ℕ) → Option ℕ
 values = option_map (λ digits. digits_value 10 digits)
 
+-- the time that these digits mean
 abbrev pub mark_of : (day hour minute second : Option (List ℕ)) → TimeMark
 mark_of day hour minute second = record {
   day = values day;
@@ -178,10 +187,10 @@ pub record IsToken (bytes : List ℕ) (kind : TokenKind) (rest : List ℕ) : Typ
   pub means : Means shape kind
 
 -- where a fault stands, as the number of bytes from there on
-pub data Fault : Type 0 where
-  Bad : (left : ℕ) → Fault
-  OpenText : (left : ℕ) → Fault
-  Large : (left : ℕ) → Fault
+pub data LexStop : Type 0 where
+  Bad : (left : ℕ) → LexStop
+  OpenText : (left : ℕ) → LexStop
+  Large : (left : ℕ) → LexStop
 
 -- a number that passes its bound stands at the front of bytes
 pub record IsTooLarge (bytes : List ℕ) : Type 0 where
@@ -224,7 +233,7 @@ pub record BeginsNothing (bytes : List ℕ) : Type 0 where
   pub no_quote : (quote : ℕ) (rest : List ℕ) → IsQuote quote → bytes ≢ quote ∷ rest
 
 -- the fault that stands at the front of bytes
-abbrev pub FaultAt : Fault → List ℕ → Type 0
+abbrev pub FaultAt : LexStop → List ℕ → Type 0
 FaultAt (Bad left) bytes = (BeginsNothing bytes × (left ≡ length bytes)) ⊎ IsBadInText bytes left
 FaultAt (OpenText left) bytes = IsUnclosed bytes × (left ≡ length bytes)
 FaultAt (Large left) bytes = IsTooLarge bytes × (left ≡ length bytes)

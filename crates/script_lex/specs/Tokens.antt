@@ -2,7 +2,7 @@
 use Rattle.std.specs.Prelude.{◌≡◌, ℕ, ◌-◌, ◌<◌, ◌≤◌, Bool, true, false, ◌==◌, List, [], ◌∷◌, length, Option, Some, None, if◌then◌else◌}
 use Rattle.liq_base.specs.declared.limits.TheConstants.{MAX_SCRIPT_BYTES}
 use Rattle.script_lex.specs.Bytes.{is_blank}
-use Rattle.script_lex.specs.Spelling.{IsToken, Fault, Bad, OpenText, Large, FaultAt}
+use Rattle.script_lex.specs.Spelling.{IsToken, LexStop, Bad, OpenText, Large, FaultAt}
 use Rattle.script_lex.specs.declared.token.Token.{Token}
 use Rattle.script_lex.specs.declared.token.LexFault.{LexFault}
 use Rattle.script_lex.specs.declared.token.LexFault.TheVariants as faults
@@ -21,15 +21,16 @@ Leads total bytes (t ∷ ts) rest =
     × (t.end ≡ total - length after) × Leads total after ts rest
 
 -- how a text ends behind its tokens: nothing is left, or a fault stands there
-abbrev pub EndsBy : Option Fault → List ℕ → Type 0
+abbrev pub EndsBy : Option LexStop → List ℕ → Type 0
 EndsBy None bytes = bytes ≡ []
 EndsBy (Some fault) bytes = FaultAt fault bytes
 
-abbrev pub Runs : List ℕ → List Token → Option Fault → Type 0
+-- the text is these tokens, and then ends by a fault, or as a script does
+abbrev pub Runs : List ℕ → List Token → Option LexStop → Type 0
 Runs text ts end = (rest : List ℕ) × Leads (length text) text ts rest × EndsBy end (between false rest)
 
 -- the fault, with its place from the text's start
-abbrev pub placed_fault : ℕ → Fault → LexFault
+abbrev pub placed_fault : ℕ → LexStop → LexFault
 placed_fault total (Bad left) = faults.BadByte (total - left)
 placed_fault total (OpenText left) = faults.UnclosedString (total - left)
 placed_fault total (Large left) = faults.NumberTooLarge (total - left)
@@ -37,7 +38,7 @@ placed_fault total (Large left) = faults.NumberTooLarge (total - left)
 -- a fault stands behind some tokens, at its place
 abbrev pub StandsIn : List ℕ → LexFault → Type 0
 StandsIn text fault = (length text ≤ MAX_SCRIPT_BYTES)
-    × ((ts : List Token) × (stop : Fault) × Runs text ts (Some stop) × (fault ≡ placed_fault (length text) stop))
+    × ((ts : List Token) × (stop : LexStop) × Runs text ts (Some stop) × (fault ≡ placed_fault (length text) stop))
 
 -- the tokens of a text
 abbrev pub AreTokens : List ℕ → List Token → Type 0
@@ -50,3 +51,18 @@ HasFault text faults.Memory = ⊥
 HasFault text (faults.BadByte at) = StandsIn text (faults.BadByte at)
 HasFault text (faults.UnclosedString at) = StandsIn text (faults.UnclosedString at)
 HasFault text (faults.NumberTooLarge at) = StandsIn text (faults.NumberTooLarge at)
+
+-- these tokens stand in a text, and then nothing, or this fault
+pub record StopsAt (text : List ℕ) (tokens : List Token) (fault : LexFault) : Type 0 where
+  pub fits : length text ≤ MAX_SCRIPT_BYTES
+  pub stop : LexStop
+  pub runs : Runs text tokens (Some stop)
+  pub placed : fault ≡ placed_fault (length text) stop
+
+abbrev pub IsFront : (text : List ℕ) → List Token → Option LexFault → Type 0
+IsFront text tokens None = AreTokens text tokens
+IsFront text tokens (Some faults.TextTooLong) = (MAX_SCRIPT_BYTES < length text) × (tokens ≡ [])
+IsFront text tokens (Some faults.Memory) = ⊥
+IsFront text tokens (Some (faults.BadByte at)) = StopsAt text tokens (faults.BadByte at)
+IsFront text tokens (Some (faults.UnclosedString at)) = StopsAt text tokens (faults.UnclosedString at)
+IsFront text tokens (Some (faults.NumberTooLarge at)) = StopsAt text tokens (faults.NumberTooLarge at)

@@ -21,6 +21,7 @@ keyword_of word =
     else (if bytes_eq word (codes "not") then Some Not
     else None)))))))))
 
+-- how a sign is written
 abbrev pub symbol_text : Symbol → List ℕ
 symbol_text symbols.Assign = codes "="
 symbol_text symbols.Equal = codes "=="

@@ -1,15 +1,17 @@
 // All tokens of a script.
-ghost use Rattle.std.specs.Prelude.{◌≡◌, ◌≢◌, ◌≤◌, ◌-◌, ◌⊎◌, List, length, None, Err, IfOk, IfErr, IsOkUnless};
-ghost use Rattle.script_lex.specs.Tokens.{Runs, AreTokens, HasFault};
-ghost use Rattle.script_lex.specs.Gives.{IfFault, RunsInto, left_of, told_as};
+ghost use Rattle.std.specs.Prelude.{◌≡◌, ◌≢◌, ◌≤◌, ◌-◌, ◌⊎◌, [], List, length, Some, None, Err, IfOk, IfErr, OnOk, IsOkUnless};
+ghost use Rattle.script_lex.specs.Tokens.{Runs, AreTokens, HasFault, IsFront};
+ghost use Rattle.script_lex.specs.Gives.{IfFault, RunsInto, RunsTo, left_of, told_as};
 ghost use Rattle.script_lex.specs.declared.token.Token.{Token};
 ghost use Rattle.script_lex.specs.declared.token.LexFault.{LexFault};
 ghost use Rattle.script_lex.specs.declared.token.LexFault.TheVariants as faults;
+ghost use Rattle.script_lex.specs.declared.refusal.Refusal.TheVariants as refusals;
 
 use crate::refusal::Refusal;
 use crate::scan::token_at;
 use crate::spans::after_blanks;
 use crate::token::{LexFault, Token};
+use liq_base::Memory;
 use liq_base::limits::MAX_SCRIPT_BYTES;
 use std::alloc::Global;
 
@@ -34,6 +36,39 @@ pub fn lex(alloc: Global, text: &[u8]) -> Result<Vec<Token>, LexFault>
     match tokens(alloc, text) {
         Ok(tokens) => Ok(tokens),
         Err(refusal) => Err(told_as(text.len(), refusal)),
+    }
+}
+
+/// The tokens of a script as far as they go, and the fault that stands behind them, if the script has no tokens.
+pub fn lex_front(alloc: Global, text: &[u8]) -> Result<(Vec<Token>, Option<LexFault>), Memory>
+    ensures { IfOk result (λ front. IsFront text.now front.0.items front.1) }
+{
+    if text.len() as u64 > MAX_SCRIPT_BYTES {
+        return Ok((Vec::new(alloc), Some(LexFault::TextTooLong)));
+    }
+    let mut made = Vec::with_capacity(alloc, text.len() / BYTES_A_TOKEN)?;
+    match read_tokens(alloc, text, &mut made) {
+        Ok(()) => Ok((made, None)),
+        Err(refusal) => front_of(text.len(), made, refusal),
+    }
+}
+
+// Tokens behind which a text of so many bytes is refused.
+fn front_of(
+    total: usize,
+    made: Vec<Token>,
+    refusal: Refusal,
+) -> Result<(Vec<Token>, Option<LexFault>), Memory>
+    requires within { left_of refusal ≤ total }
+    requires small { total ≤ MAX_SCRIPT_BYTES }
+    ensures made { IfOk result (λ front. front.0 ≡ made) }
+    ensures stop { IfOk result (λ front. (front.1 ≡ Some (told_as total refusal)) × (refusal ≢ refusals.Memory)) }
+{
+    match refusal {
+        Refusal::Memory => Err(Memory),
+        Refusal::BadByte(_) => Ok((made, Some(told_as(total, refusal)))),
+        Refusal::UnclosedString(_) => Ok((made, Some(told_as(total, refusal)))),
+        Refusal::NumberTooLarge(_) => Ok((made, Some(told_as(total, refusal)))),
     }
 }
 
@@ -68,6 +103,18 @@ fn tokens(alloc: Global, text: &[u8]) -> Result<Vec<Token>, Refusal>
     ensures within { IfErr result (λ e. left_of e ≤ length text.now) }
 {
     let mut made = Vec::with_capacity(alloc, text.len() / BYTES_A_TOKEN)?;
+    read_tokens(alloc, text, &mut made)?;
+    Ok(made)
+}
+
+// Adds the tokens of a text that is not too long, as far as they go.
+fn read_tokens(alloc: Global, text: &[u8], made: &mut Vec<Token>) -> Result<(), Refusal>
+    requires small { length text.now ≤ MAX_SCRIPT_BYTES }
+    requires empty { made.old.items ≡ [] }
+    ensures tokens { OnOk result (Runs text.now made.new.items None) }
+    ensures fault { IfErr result (λ e. IfFault e (RunsTo text.now made.new.items)) }
+    ensures within { IfErr result (λ e. left_of e ≤ length text.now) }
+{
     let mut rest = after_blanks(text);
     while !rest.is_empty() {
         let (kind, after) = token_at(alloc, rest)?;
@@ -76,5 +123,5 @@ fn tokens(alloc: Global, text: &[u8]) -> Result<Vec<Token>, Refusal>
         made.push(Token { kind, start, end })?;
         rest = after_blanks(after);
     }
-    Ok(made)
+    Ok(())
 }

@@ -12,5 +12,5 @@ mod time;
 mod token;
 mod word;
 
-pub use lexer::lex;
+pub use lexer::{lex, lex_front};
 pub use token::{Keyword, LexFault, Symbol, Token, TokenKind};

@@ -20,6 +20,7 @@ pub record IsSyntaxPlace (tokens : List TokenKind) (k : ℕ) : Type 0 where
   pub no_more : k < length tokens → Begins (take (k + 1) tokens) → ⊥
   pub no_script : (s : Script) → spelling s ≡ tokens → ⊥
 
+-- a token that goes one level deeper
 abbrev pub opens : TokenKind → Bool
 opens (NameOpen name) = true
 opens (Symbol sign.OpenRound) = true
@@ -29,6 +30,7 @@ opens (Keyword word.If) = true
 opens (Keyword word.Def) = true
 opens k = false
 
+-- a token that comes back from one level
 abbrev pub closes : TokenKind → Bool
 closes (Symbol sign.CloseRound) = true
 closes (Symbol sign.CloseSquare) = true

@@ -4,7 +4,7 @@ use Rattle.liq_base.specs.declared.limits.TheConstants.{MAX_SCRIPT_BYTES}
 use Rattle.script_lex.specs.declared.token.LexFault.{LexFault}
 use Rattle.script_lex.specs.declared.token.LexFault.TheVariants as faults
 use Rattle.script_lex.specs.declared.token.Token.{Token}
-use Rattle.script_lex.specs.Spelling.{Fault}
+use Rattle.script_lex.specs.Spelling.{LexStop}
 use Rattle.script_lex.specs.Tokens.{AreTokens, HasFault, StandsIn, placed_fault}
 use Rattle.script_lex.proofs.Lexed.{no_fault}
 use Rattle.script_lex.proofs.Runs.{runs_one}
@@ -26,7 +26,7 @@ is_of text (faults.BadByte at) has = inr has
 is_of text (faults.UnclosedString at) has = inr has
 is_of text (faults.NumberTooLarge at) has = inr has
 
-some_is : (f g : Fault) → ◌≡◌ {A = Option Fault} (Some f) (Some g) → f ≡ g
+some_is : (f g : LexStop) → ◌≡◌ {A = Option LexStop} (Some f) (Some g) → f ≡ g
 some_is f g is = cc
 
 standing_one : (text : List ℕ) (f g : LexFault) → StandsIn text f → StandsIn text g → f ≡ g

@@ -3,7 +3,7 @@ use Rattle.std.proofs.Common.{◌≡◌, ℕ, ℤ, pos, negsuc, ◌≤ℤ◌, Bo
 use Rattle.std.proofs.lemmas.Int.{ints}
 use Rattle.std.specs.Prelude.{◌<ℤ◌, int_le}
 use Rattle.fixed_text.specs.declared.decimal.Decimal.{Decimal}
-use Rattle.script_values.specs.declared.fault.Fault.TheVariants.{BadValue}
+use Rattle.script_values.specs.declared.fault.Stop.TheVariants.{BadValue}
 use Rattle.script_values.specs.Values.{Int, Number}
 use Rattle.script_values.specs.Numbers.{int_at, decimal_by, of_millionths, decimal_at, or_bad_value}
 

@@ -1,8 +1,8 @@
 -- Worked rows on the definitions, by computation.
 use Rattle.std.proofs.Common.{◌≡◌, pos, negsuc, true, false, [], ◌∷◌, Ok, Err, refl}
 use Rattle.script_grammar.specs.declared.tree.CompareOp.TheVariants as op
-use Rattle.script_values.specs.declared.fault.Fault.TheVariants.{BadValue, TooMuchWork, Stuck}
-use Rattle.script_values.specs.Values.{many, size, Int, Number, Text, TruthValue, UnitValue, ListValue, TupleValue}
+use Rattle.script_values.specs.declared.fault.Stop.TheVariants.{BadValue, TooMuchWork, Stuck}
+use Rattle.script_values.specs.Values.{many, size, Int, Number, TextValue, TruthValue, UnitValue, ListValue, TupleValue}
 use Rattle.script_values.specs.Numbers.{int_at, of_millionths, quotient, added, multiplied, compared}
 use Rattle.script_values.specs.Machines.{some_millionths, first_machine, count_work}
 
@@ -42,7 +42,7 @@ unfolding compared
 two_types = refl
 
 -- the size of `[(1, "a"), ((), true)]`
-list_of_pairs : size (ListValue (many (TupleValue (many (Int (pos 1) ∷ Text (97 ∷ []) ∷ [])) ∷ TupleValue (many (UnitValue ∷ TruthValue true ∷ [])) ∷ []))) ≡ 7
+list_of_pairs : size (ListValue (many (TupleValue (many (Int (pos 1) ∷ TextValue (97 ∷ []) ∷ [])) ∷ TupleValue (many (UnitValue ∷ TruthValue true ∷ [])) ∷ []))) ≡ 7
 list_of_pairs = refl
 
 -- 999999 is not too much, and one more is

@@ -1,7 +1,7 @@
 -- Counting work.
 use Rattle.std.proofs.Common.{◌≡◌, ℕ, ◌+◌, ◌<◌, ◌≤◌, true, false, Ok, Err, refl, sym, ap, ◌∙◌, arith, min, nat_le, le-leb, ◌⊎◌, inl, inr}
 use Rattle.std.proofs.lemmas.Bool.{cases_lt}
-use Rattle.script_values.specs.declared.fault.Fault.TheVariants.{TooMuchWork}
+use Rattle.script_values.specs.declared.fault.Stop.TheVariants.{TooMuchWork}
 use Rattle.script_values.specs.declared.machine.Machine.{Machine}
 use Rattle.script_values.specs.Machines.{count_work}
 

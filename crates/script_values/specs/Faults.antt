@@ -1,12 +1,12 @@
 -- The fault of a script, for a fault within one of its statements.
 use Rattle.std.specs.Prelude.{ℕ, Option, Some, None}
-use Rattle.script_values.specs.declared.fault.Fault.{Fault}
-use Rattle.script_values.specs.declared.fault.Fault.TheVariants as inside
+use Rattle.script_values.specs.declared.fault.Stop.{Stop}
+use Rattle.script_values.specs.declared.fault.Stop.TheVariants as inside
 use Rattle.script_values.specs.declared.fault.EvalFault.{EvalFault}
 use Rattle.script_values.specs.declared.fault.EvalFault.TheVariants as fault
 
 -- nothing for a value of a wrong type, which no typed script comes to
-abbrev pub fault_in : ℕ → Fault → Option EvalFault
+abbrev pub fault_in : ℕ → Stop → Option EvalFault
 fault_in stmt inside.Memory = Some fault.Memory
 fault_in stmt inside.BadSetting = Some (fault.BadSetting stmt)
 fault_in stmt (inside.BadValue at) = Some (fault.BadValue stmt at)

@@ -1,10 +1,10 @@
 -- What a function of the evaluator returned, against what evaluation gives.
 use Rattle.std.specs.Prelude.{◌≡◌, Result, Ok, Err}
-use Rattle.script_values.specs.declared.fault.Fault.{Fault}
-use Rattle.script_values.specs.declared.fault.Fault.TheVariants.{Memory, BadSetting, BadValue, TooMuchWork, TooManySources, SameOutput, TooLarge, Stuck}
+use Rattle.script_values.specs.declared.fault.Stop.{Stop}
+use Rattle.script_values.specs.declared.fault.Stop.TheVariants.{Memory, BadSetting, BadValue, TooMuchWork, TooManySources, SameOutput, TooLarge, Stuck}
 
 -- want of memory is free, and every other fault is the one of evaluation
-abbrev pub Fails : {Y : Type 0} → Fault → Result Y Fault → Type 0
+abbrev pub Fails : {Y : Type 0} → Stop → Result Y Stop → Type 0
 Fails Memory meant = Unit {0}
 Fails BadSetting meant = meant ≡ Err BadSetting
 Fails (BadValue at) meant = meant ≡ Err (BadValue at)
@@ -15,6 +15,6 @@ Fails (TooLarge limit) meant = meant ≡ Err (TooLarge limit)
 Fails Stuck meant = meant ≡ Err Stuck
 
 -- what was returned, seen by view, is what evaluation gives
-abbrev pub Gives : {X Y : Type 0} → (X → Y) → Result X Fault → Result Y Fault → Type 0
+abbrev pub Gives : {X Y : Type 0} → (X → Y) → Result X Stop → Result Y Stop → Type 0
 Gives view (Ok x) meant = meant ≡ Ok (view x)
 Gives view (Err e) meant = Fails e meant

@@ -3,8 +3,8 @@ use Rattle.std.specs.Prelude.{ℕ, ◌+◌, pos, T, true, false, [], nat_le, Res
 use Rattle.liq_base.specs.declared.limits.TheConstants.{MAX_WORK}
 use Rattle.fixed_text.specs.declared.decimal.Decimal.{Decimal}
 use Rattle.script_values.specs.declared.machine.Machine.{Machine}
-use Rattle.script_values.specs.declared.fault.Fault.{Fault}
-use Rattle.script_values.specs.declared.fault.Fault.TheVariants.{TooMuchWork}
+use Rattle.script_values.specs.declared.fault.Stop.{Stop}
+use Rattle.script_values.specs.declared.fault.Stop.TheVariants.{TooMuchWork}
 
 -- so many millionths, which are few enough
 abbrev pub some_millionths : (m : ℕ) → T (nat_le m 1000000000000000) → Decimal
@@ -18,7 +18,8 @@ first_machine = record {
   settings = record { duration = some_millionths 40000 tt; last = 0; statement = 0; allowed = true };
 }
 
-unfoldable pub count_work : ℕ → Machine → Result Machine Fault
+-- adds the cost of a step; past the bound there is too much work
+unfoldable pub count_work : ℕ → Machine → Result Machine Stop
 count_work steps m =
     elim (nat_le (m.work + steps) MAX_WORK) [
       | true ↦ Ok (record m { work = m.work + steps })

@@ -5,12 +5,12 @@ use Rattle.script_grammar.specs.declared.tree.Literal.{Literal}
 use Rattle.script_grammar.specs.declared.tree.Literal.TheVariants as literal
 use Rattle.script_grammar.specs.declared.tree.CompareOp.{CompareOp}
 use Rattle.script_grammar.specs.declared.tree.CompareOp.TheVariants as op
-use Rattle.script_values.specs.declared.fault.Fault.{Fault}
-use Rattle.script_values.specs.declared.fault.Fault.TheVariants.{BadValue, Stuck}
+use Rattle.script_values.specs.declared.fault.Stop.{Stop}
+use Rattle.script_values.specs.declared.fault.Stop.TheVariants.{BadValue, Stuck}
 use Rattle.script_values.specs.Values.{Value, Int, Number, TruthValue}
 
 -- an int that a script may have
-unfoldable pub int_at : ℕ → ℤ → Result Value Fault
+unfoldable pub int_at : ℕ → ℤ → Result Value Stop
 int_at at n =
     elim (int_le (negsuc 9223372036854775807) n && int_le n (pos 9223372036854775807)) [
       | true ↦ Ok (Int n)
@@ -24,30 +24,37 @@ decimal_by m true true above below = Some (record { millionths = m; low = above 
 decimal_by m true false above below = None
 decimal_by m false high above below = None
 
+-- the decimal of so many millionths, within its bounds
 unfoldable pub of_millionths : ℤ → Option Decimal
 of_millionths m = decimal_by m (int_le (negsuc 999999999999999) m) (int_le m (pos 1000000000000000))
     (λ t. record { le = t }) (λ t. record { le = t })
 
-abbrev pub or_bad_value : ℕ → Option Decimal → Result Value Fault
+-- a decimal, or a bad value at this token
+abbrev pub or_bad_value : ℕ → Option Decimal → Result Value Stop
 or_bad_value at (Some d) = Ok (Number d)
 or_bad_value at None = Err (BadValue at)
 
-abbrev pub decimal_at : ℕ → ℤ → Result Value Fault
+-- the decimal of so many millionths, or a bad value at this token
+abbrev pub decimal_at : ℕ → ℤ → Result Value Stop
 decimal_at at m = or_bad_value at (of_millionths m)
 
+-- the value of a number as it is written
 abbrev pub literal_value : Literal → Value
 literal_value (literal.Int n) = Int n
 literal_value (literal.Number d) = Number d
 
-unfoldable pub negative : ℕ → Literal → Result Value Fault
+-- the value of a number behind a minus
+unfoldable pub negative : ℕ → Literal → Result Value Stop
 negative at (literal.Int n) = int_at at (neg_ℤ n)
 negative at (literal.Number d) = decimal_at at (neg_ℤ d.millionths)
 
+-- a difference, or a sum
 abbrev pub plus_or_minus : Bool → ℤ → ℤ → ℤ
 plus_or_minus true a b = a -ℤ b
 plus_or_minus false a b = a +ℤ b
 
-unfoldable pub added : Bool → ℕ → Value → Value → Result Value Fault
+-- the sum or the difference of two ints, or of two decimals
+unfoldable pub added : Bool → ℕ → Value → Value → Result Value Stop
 added minus at (Int a) (Int b) = int_at at (plus_or_minus minus a b)
 added minus at (Number a) (Number b) = decimal_at at (plus_or_minus minus a.millionths b.millionths)
 added minus at v w = Err Stuck
@@ -60,11 +67,13 @@ quotient a b =
       | false ↦ Some (int_div a b)
     ]
 
-abbrev pub quotient_at : ℕ → (ℤ → Result Value Fault) → Option ℤ → Result Value Fault
+-- a quotient, or a bad value where the divisor is 0
+abbrev pub quotient_at : ℕ → (ℤ → Result Value Stop) → Option ℤ → Result Value Stop
 quotient_at at made None = Err (BadValue at)
 quotient_at at made (Some n) = made n
 
-unfoldable pub multiplied : Bool → ℕ → Value → Value → Result Value Fault
+-- the product or the quotient of two ints, or of two decimals, rounded to a millionth as the language says
+unfoldable pub multiplied : Bool → ℕ → Value → Value → Result Value Stop
 multiplied false at (Int a) (Int b) = int_at at (a *ℤ b)
 multiplied true at (Int a) (Int b) = quotient_at at (int_at at) (quotient a b)
 multiplied false at (Number a) (Number b) = decimal_at at (int_div (a.millionths *ℤ b.millionths) (pos 1000000))
@@ -72,6 +81,7 @@ multiplied true at (Number a) (Number b) = quotient_at at (decimal_at at)
     (quotient (a.millionths *ℤ pos 1000000) b.millionths)
 multiplied divide at v w = Err Stuck
 
+-- whether a comparison holds
 abbrev pub is_so : CompareOp → ℤ → ℤ → Bool
 is_so op.Equal a b = int_le a b && int_le b a
 is_so op.Differs a b = int_lt a b || int_lt b a
@@ -80,24 +90,28 @@ is_so op.AtMost a b = int_le a b
 is_so op.Greater a b = int_lt b a
 is_so op.AtLeast a b = int_le b a
 
-unfoldable pub compared : CompareOp → Value → Value → Result Value Fault
+-- the truth of a comparison of two ints, or of two decimals
+unfoldable pub compared : CompareOp → Value → Value → Result Value Stop
 compared o (Int a) (Int b) = Ok (TruthValue (is_so o a b))
 compared o (Number a) (Number b) = Ok (TruthValue (is_so o a.millionths b.millionths))
 compared o v w = Err Stuck
 
-unfoldable pub either : Value → Value → Result Value Fault
+-- `or` of two truth values
+unfoldable pub either : Value → Value → Result Value Stop
 either (TruthValue a) (TruthValue b) = Ok (TruthValue (a || b))
 either v w = Err Stuck
 
-unfoldable pub both : Value → Value → Result Value Fault
+-- `and` of two truth values
+unfoldable pub both : Value → Value → Result Value Stop
 both (TruthValue a) (TruthValue b) = Ok (TruthValue (a && b))
 both v w = Err Stuck
 
-unfoldable pub opposite : Value → Result Value Fault
+-- `not` of a truth value
+unfoldable pub opposite : Value → Result Value Stop
 opposite (TruthValue a) = Ok (TruthValue (not a))
 opposite v = Err Stuck
 
 -- the truth of a condition
-unfoldable pub truth_of : Value → Result Bool Fault
+unfoldable pub truth_of : Value → Result Bool Stop
 truth_of (TruthValue a) = Ok a
 truth_of v = Err Stuck

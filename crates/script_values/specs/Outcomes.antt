@@ -1,15 +1,15 @@
 -- What a step of evaluation comes to, and the steps behind it.
 use Rattle.std.specs.Prelude.{Result, Ok, Err}
-use Rattle.script_values.specs.declared.fault.Fault.{Fault}
+use Rattle.script_values.specs.declared.fault.Stop.{Stop}
 use Rattle.script_values.specs.declared.machine.Machine.{Machine}
 use Rattle.script_values.specs.Values.{Value}
 
 -- the first fault ends the steps
 infixl 10 ◌>>=◌
-abbrev pub ◌>>=◌ : {A B : Type 0} → Result A Fault → (A → Result B Fault) → Result B Fault
+abbrev pub ◌>>=◌ : {A B : Type 0} → Result A Stop → (A → Result B Stop) → Result B Stop
 (Ok x) >>= f = f x
 (Err e) >>= f = Err e
 
 -- a value, and the state behind it
 abbrev pub Outcome : Type 0
-Outcome = Result (Value × Machine) Fault
+Outcome = Result (Value × Machine) Stop

@@ -3,6 +3,7 @@ use Rattle.std.specs.Prelude.{ℕ, List, [], ◌∷◌, Option, Some, None, cond
 use Rattle.typing_rules.specs.Arguments as arguments
 use Rattle.script_values.specs.Values.{Value}
 
+-- a value, with the token that binds it
 abbrev pub SlotValue : Type 0
 SlotValue = ℕ × Value
 

@@ -3,26 +3,29 @@ use Rattle.std.specs.Prelude.{ℕ, ◌+◌, ℤ, List, [], ◌∷◌, Bool}
 use Rattle.fixed_text.specs.declared.decimal.Decimal.{Decimal}
 use Rattle.time_pred.specs.Predicates.{Predicate}
 
+-- one value, or a list of them
 pub data ValueSort : Type 0 where
   OneValue : ValueSort
   ManyValues : ValueSort
 
+-- the values of a script
 pub data ValueTree : ValueSort → Type 0 where
   no_values : ValueTree ManyValues
   more_values : ValueTree OneValue → ValueTree ManyValues → ValueTree ManyValues
   Int : ℤ → ValueTree OneValue
   Number : Decimal → ValueTree OneValue
-  Text : List ℕ → ValueTree OneValue
+  TextValue : List ℕ → ValueTree OneValue
   TruthValue : Bool → ValueTree OneValue
   UnitValue : ValueTree OneValue
   -- a format of samples of 24 bits, or of 16
   FormatValue : (wide : Bool) → ValueTree OneValue
-  Pred : Predicate → ValueTree OneValue
+  PredValue : Predicate → ValueTree OneValue
   -- a source is the number of its node
   Source : ℕ → ValueTree OneValue
   ListValue : ValueTree ManyValues → ValueTree OneValue
   TupleValue : ValueTree ManyValues → ValueTree OneValue
 
+-- one value
 abbrev pub Value : Type 0
 Value = ValueTree OneValue
 
@@ -41,11 +44,11 @@ size no_values = 0
 size (more_values v vs) = size v + size vs
 size (Int n) = 1
 size (Number d) = 1
-size (Text t) = 1
+size (TextValue t) = 1
 size (TruthValue b) = 1
 size UnitValue = 1
 size (FormatValue wide) = 1
-size (Pred p) = 1
+size (PredValue p) = 1
 size (Source n) = 1
 size (ListValue vs) = size vs + 1
 size (TupleValue vs) = size vs + 1

@@ -1,17 +1,17 @@
 -- The value that a program's value stands for.
-use Rattle.time_pred.specs.View.{view_pred}
+use Rattle.time_pred.specs.View.{view_shared}
 use Rattle.script_values.specs.declared.value.Value as value
-use Rattle.script_values.specs.Values.{ValueTree, OneValue, ManyValues, no_values, more_values, Int, Number, Text, TruthValue, UnitValue, FormatValue, Pred, Source, ListValue, TupleValue}
+use Rattle.script_values.specs.Values.{ValueTree, OneValue, ManyValues, no_values, more_values, Int, Number, TextValue, TruthValue, UnitValue, FormatValue, PredValue, Source, ListValue, TupleValue}
 
 abbrev mutual
   pub view_value : value.Value → ValueTree OneValue
   view_value (value.Int n) = Int n
   view_value (value.Decimal d) = Number d
-  view_value (value.Text t) = Text t
+  view_value (value.Text t) = TextValue t.value
   view_value (value.Truth b) = TruthValue b
   view_value value.Nothing = UnitValue
   view_value (value.Format wide) = FormatValue wide
-  view_value (value.Pred p) = Pred (view_pred p)
+  view_value (value.Pred p) = PredValue (view_shared p)
   view_value (value.Source n) = Source n
   view_value (value.Listed' shape parts) = ListValue (view_values parts)
   view_value (value.Tuple' shape parts) = TupleValue (view_values parts)

@@ -1,6 +1,6 @@
 // Why a script has no plan.
 ghost use Rattle.std.specs.Prelude.{◌≡◌, ◌≢◌, Some};
-ghost use Rattle.script_values.specs.declared.fault.Fault.TheVariants as faults;
+ghost use Rattle.script_values.specs.declared.fault.Stop.TheVariants as faults;
 ghost use Rattle.script_values.specs.Faults.{fault_in};
 
 use liq_base::{Memory, Text};
@@ -77,7 +77,7 @@ pub enum EvalFault {
 
 /// Why evaluation ends within a statement.
 #[derive(Debug, Drop)]
-pub enum Fault {
+pub enum Stop {
     /// Memory was refused.
     Memory,
 
@@ -103,42 +103,42 @@ pub enum Fault {
     Stuck,
 }
 
-impl From<Memory> for Fault {
+impl From<Memory> for Stop {
     ghost from_gives = { λ _ e. e ≡ faults.Memory };
 
-    fn from(_refused: Memory) -> Fault {
-        Fault::Memory
+    fn from(_refused: Memory) -> Stop {
+        Stop::Memory
     }
 }
 
-impl From<AllocError> for Fault {
+impl From<AllocError> for Stop {
     ghost from_gives = { λ _ e. e ≡ faults.Memory };
 
-    fn from(_refused: AllocError) -> Fault {
-        Fault::Memory
+    fn from(_refused: AllocError) -> Stop {
+        Stop::Memory
     }
 }
 
-impl<T: Drop> From<AllocFailed<T>> for Fault {
+impl<T: Drop> From<AllocFailed<T>> for Stop {
     ghost from_gives = { λ _ e. e ≡ faults.Memory };
 
-    fn from(_refused: AllocFailed<T>) -> Fault {
-        Fault::Memory
+    fn from(_refused: AllocFailed<T>) -> Stop {
+        Stop::Memory
     }
 }
 
 /// The fault of a script, where this one comes in its statement of this number. A value of a wrong type is none.
-pub fn fault_in(stmt: u32, fault: Fault) -> Option<EvalFault>
+pub fn fault_in(stmt: u32, fault: Stop) -> Option<EvalFault>
     ensures { result ≡ fault_in stmt fault }
 {
     match fault {
-        Fault::Memory => Some(EvalFault::Memory),
-        Fault::BadSetting => Some(EvalFault::BadSetting { stmt }),
-        Fault::BadValue(at) => Some(EvalFault::BadValue { stmt, at }),
-        Fault::TooMuchWork => Some(EvalFault::TooMuchWork { stmt }),
-        Fault::TooManySources => Some(EvalFault::TooManySources),
-        Fault::SameOutput(name) => Some(EvalFault::SameOutput(name)),
-        Fault::TooLarge(limit) => Some(EvalFault::TooLarge(limit)),
-        Fault::Stuck => None,
+        Stop::Memory => Some(EvalFault::Memory),
+        Stop::BadSetting => Some(EvalFault::BadSetting { stmt }),
+        Stop::BadValue(at) => Some(EvalFault::BadValue { stmt, at }),
+        Stop::TooMuchWork => Some(EvalFault::TooMuchWork { stmt }),
+        Stop::TooManySources => Some(EvalFault::TooManySources),
+        Stop::SameOutput(name) => Some(EvalFault::SameOutput(name)),
+        Stop::TooLarge(limit) => Some(EvalFault::TooLarge(limit)),
+        Stop::Stuck => None,
     }
 }

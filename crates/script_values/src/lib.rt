@@ -7,7 +7,7 @@ mod numbers;
 mod slots;
 mod value;
 
-pub use fault::{EvalFault, Fault, Limit, fault_in};
+pub use fault::{EvalFault, Limit, Stop, fault_in};
 pub use machine::{Machine, Settings, count, count_value};
 pub use numbers::{
     added, both, compared, either, literal, multiplied, negative, opposite, truth_of,

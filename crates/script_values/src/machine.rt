@@ -6,7 +6,7 @@ ghost use Rattle.script_values.specs.Values.{size};
 ghost use Rattle.script_values.specs.View.{view_value};
 
 use crate::value::size;
-use crate::{Fault, Value};
+use crate::{Stop, Value};
 use fixed_text::Decimal;
 use liq_base::limits::MAX_WORK;
 use plan_core::Draft;
@@ -58,19 +58,19 @@ impl Machine {
 }
 
 /// Counts so much work, or refuses it where the work passes 999999.
-pub fn count(machine: &mut Machine, steps: u64) -> Result<(), Fault>
+pub fn count(machine: &mut Machine, steps: u64) -> Result<(), Stop>
     ensures { Gives (λ _. machine.new) result (count_work steps machine.old) }
 {
     let work = machine.work.saturating_add(steps);
     if work > u64::from(MAX_WORK) {
-        return Err(Fault::TooMuchWork);
+        return Err(Stop::TooMuchWork);
     }
     machine.work = work;
     Ok(())
 }
 
 /// Counts the size of a value.
-pub fn count_value(machine: &mut Machine, value: &Value) -> Result<(), Fault>
+pub fn count_value(machine: &mut Machine, value: &Value) -> Result<(), Stop>
     ensures { Gives (λ _. machine.new) result (count_work (size (view_value value.now)) machine.old) }
 {
     count(machine, size(value))

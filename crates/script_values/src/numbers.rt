@@ -4,7 +4,7 @@ ghost use Rattle.script_values.specs.Gives.{Gives};
 ghost use Rattle.script_values.specs.Numbers.{added, both, compared, decimal_at, either, is_so, int_at, literal_value, multiplied, negative, opposite, plus_or_minus, quotient, quotient_at, truth_of};
 ghost use Rattle.script_values.specs.View.{view_value};
 
-use crate::{Fault, Value};
+use crate::{Stop, Value};
 use fixed_text::Decimal;
 use script_grammar::tree::{CompareOp, Literal};
 
@@ -20,7 +20,7 @@ pub fn literal(number: Literal) -> Value
 
 /// The number below zero.
 #[tactic(auto, unfolding(crate::specs::Numbers::negative))]
-pub fn negative(at: u32, number: Literal) -> Result<Value, Fault>
+pub fn negative(at: u32, number: Literal) -> Result<Value, Stop>
     ensures { Gives (λ v. view_value v) result (negative at number) }
 {
     match number {
@@ -31,63 +31,63 @@ pub fn negative(at: u32, number: Literal) -> Result<Value, Fault>
 
 /// A sum, or with `minus` a difference.
 #[tactic(auto, unfolding(crate::specs::Numbers::added))]
-pub fn added(minus: bool, at: u32, left: &Value, right: &Value) -> Result<Value, Fault>
+pub fn added(minus: bool, at: u32, left: &Value, right: &Value) -> Result<Value, Stop>
     ensures { Gives (λ v. view_value v) result (added minus at (view_value left.now) (view_value right.now)) }
 {
     match (left, right) {
         (Value::Int(a), Value::Int(b)) => int_sum(minus, at, *a, *b),
         (Value::Decimal(a), Value::Decimal(b)) => decimal_sum(minus, at, *a, *b),
-        _ => Err(Fault::Stuck),
+        _ => Err(Stop::Stuck),
     }
 }
 
 /// Whether one of two holds.
 #[tactic(auto, unfolding(crate::specs::Numbers::either))]
-pub fn either(left: &Value, right: &Value) -> Result<Value, Fault>
+pub fn either(left: &Value, right: &Value) -> Result<Value, Stop>
     ensures { Gives (λ v. view_value v) result (either (view_value left.now) (view_value right.now)) }
 {
     match (left, right) {
         (Value::Truth(a), Value::Truth(b)) => Ok(Value::Truth(*a || *b)),
-        _ => Err(Fault::Stuck),
+        _ => Err(Stop::Stuck),
     }
 }
 
 /// Whether both hold.
 #[tactic(auto, unfolding(crate::specs::Numbers::both))]
-pub fn both(left: &Value, right: &Value) -> Result<Value, Fault>
+pub fn both(left: &Value, right: &Value) -> Result<Value, Stop>
     ensures { Gives (λ v. view_value v) result (both (view_value left.now) (view_value right.now)) }
 {
     match (left, right) {
         (Value::Truth(a), Value::Truth(b)) => Ok(Value::Truth(*a && *b)),
-        _ => Err(Fault::Stuck),
+        _ => Err(Stop::Stuck),
     }
 }
 
 /// Whether it does not hold.
 #[tactic(auto, unfolding(crate::specs::Numbers::opposite))]
-pub fn opposite(value: &Value) -> Result<Value, Fault>
+pub fn opposite(value: &Value) -> Result<Value, Stop>
     ensures { Gives (λ v. view_value v) result (opposite (view_value value.now)) }
 {
     match value {
         Value::Truth(truth) => Ok(Value::Truth(!*truth)),
-        _ => Err(Fault::Stuck),
+        _ => Err(Stop::Stuck),
     }
 }
 
 /// The truth of a condition.
 #[tactic(auto, unfolding(crate::specs::Numbers::truth_of))]
-pub fn truth_of(value: &Value) -> Result<bool, Fault>
+pub fn truth_of(value: &Value) -> Result<bool, Stop>
     ensures { Gives (λ b. b) result (truth_of (view_value value.now)) }
 {
     match value {
         Value::Truth(truth) => Ok(*truth),
-        _ => Err(Fault::Stuck),
+        _ => Err(Stop::Stuck),
     }
 }
 
 /// A product, or with `divide` a quotient.
 #[tactic(auto, unfolding(crate::specs::Numbers::multiplied))]
-pub fn multiplied(divide: bool, at: u32, left: &Value, right: &Value) -> Result<Value, Fault>
+pub fn multiplied(divide: bool, at: u32, left: &Value, right: &Value) -> Result<Value, Stop>
     ensures { Gives (λ v. view_value v) result (multiplied divide at (view_value left.now) (view_value right.now)) }
 {
     match (left, right) {
@@ -105,13 +105,13 @@ pub fn multiplied(divide: bool, at: u32, left: &Value, right: &Value) -> Result<
                 decimal_product(at, *a, *b)
             }
         }
-        _ => Err(Fault::Stuck),
+        _ => Err(Stop::Stuck),
     }
 }
 
 /// Whether two numbers compare so.
 #[tactic(auto, unfolding(crate::specs::Numbers::compared))]
-pub fn compared(op: CompareOp, left: &Value, right: &Value) -> Result<Value, Fault>
+pub fn compared(op: CompareOp, left: &Value, right: &Value) -> Result<Value, Stop>
     ensures { Gives (λ v. view_value v) result (compared op (view_value left.now) (view_value right.now)) }
 {
     match (left, right) {
@@ -119,32 +119,32 @@ pub fn compared(op: CompareOp, left: &Value, right: &Value) -> Result<Value, Fau
         (Value::Decimal(a), Value::Decimal(b)) => {
             Ok(Value::Truth(holds(op, a.millionths, b.millionths)))
         }
-        _ => Err(Fault::Stuck),
+        _ => Err(Stop::Stuck),
     }
 }
 
 // An int that a script may have.
-fn int(at: u32, number: i128) -> Result<Value, Fault>
+fn int(at: u32, number: i128) -> Result<Value, Stop>
     ensures { Gives (λ v. view_value v) result (int_at at number) }
 {
     if number < -9_223_372_036_854_775_808 {
-        return Err(Fault::BadValue(at));
+        return Err(Stop::BadValue(at));
     }
     if number > 9_223_372_036_854_775_807 {
-        return Err(Fault::BadValue(at));
+        return Err(Stop::BadValue(at));
     }
     Ok(Value::Int(number as i64))
 }
 
 // A decimal of so many millionths.
-fn decimal(at: u32, millionths: i128) -> Result<Value, Fault>
+fn decimal(at: u32, millionths: i128) -> Result<Value, Stop>
     ensures { Gives (λ v. view_value v) result (decimal_at at millionths) }
 {
     if millionths < -1_000_000_000_000_000 {
-        return Err(Fault::BadValue(at));
+        return Err(Stop::BadValue(at));
     }
     if millionths > 1_000_000_000_000_000 {
-        return Err(Fault::BadValue(at));
+        return Err(Stop::BadValue(at));
     }
     Ok(Value::Decimal(Decimal {
         millionths: millionths as i64,
@@ -152,7 +152,7 @@ fn decimal(at: u32, millionths: i128) -> Result<Value, Fault>
 }
 
 // A sum of ints, or with `minus` a difference.
-fn int_sum(minus: bool, at: u32, a: i64, b: i64) -> Result<Value, Fault>
+fn int_sum(minus: bool, at: u32, a: i64, b: i64) -> Result<Value, Stop>
     ensures { Gives (λ v. view_value v) result (int_at at (plus_or_minus minus a b)) }
 {
     if minus {
@@ -163,7 +163,7 @@ fn int_sum(minus: bool, at: u32, a: i64, b: i64) -> Result<Value, Fault>
 }
 
 // The same of decimals.
-fn decimal_sum(minus: bool, at: u32, a: Decimal, b: Decimal) -> Result<Value, Fault>
+fn decimal_sum(minus: bool, at: u32, a: Decimal, b: Decimal) -> Result<Value, Stop>
     ensures { Gives (λ v. view_value v) result (decimal_at at (plus_or_minus minus a.millionths b.millionths)) }
 {
     if minus {
@@ -186,26 +186,26 @@ fn divided(a: i128, b: i64) -> Option<i128>
     Some(a / i128::from(b))
 }
 
-fn int_quotient(at: u32, a: i64, b: i64) -> Result<Value, Fault>
+fn int_quotient(at: u32, a: i64, b: i64) -> Result<Value, Stop>
     ensures { Gives (λ v. view_value v) result (quotient_at at (int_at at) (quotient a b)) }
 {
     match divided(i128::from(a), b) {
-        None => Err(Fault::BadValue(at)),
+        None => Err(Stop::BadValue(at)),
         Some(number) => int(at, number),
     }
 }
 
-fn decimal_quotient(at: u32, a: Decimal, b: Decimal) -> Result<Value, Fault>
+fn decimal_quotient(at: u32, a: Decimal, b: Decimal) -> Result<Value, Stop>
     ensures { Gives (λ v. view_value v) result
         (quotient_at at (decimal_at at) (quotient (a.millionths *ℤ pos 1000000) b.millionths)) }
 {
     match divided(i128::from(a.millionths) * 1_000_000, b.millionths) {
-        None => Err(Fault::BadValue(at)),
+        None => Err(Stop::BadValue(at)),
         Some(millionths) => decimal(at, millionths),
     }
 }
 
-fn int_product(at: u32, a: i64, b: i64) -> Result<Value, Fault>
+fn int_product(at: u32, a: i64, b: i64) -> Result<Value, Stop>
     ensures { Gives (λ v. view_value v) result (int_at at (a *ℤ b)) }
 {
     int(at, i128::from(a) * i128::from(b))
@@ -223,7 +223,7 @@ fn in_units(millionths: i128) -> i128
     millionths / 1_000_000
 }
 
-fn decimal_product(at: u32, a: Decimal, b: Decimal) -> Result<Value, Fault>
+fn decimal_product(at: u32, a: Decimal, b: Decimal) -> Result<Value, Stop>
     ensures { Gives (λ v. view_value v) result (decimal_at at (int_div (a.millionths *ℤ b.millionths) (pos 1000000))) }
 {
     decimal(at, in_units(product(a.millionths, b.millionths)))

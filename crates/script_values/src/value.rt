@@ -6,7 +6,8 @@ ghost use Rattle.script_values.specs.View.{view_value};
 use fixed_text::Decimal;
 use liq_base::{Memory, Text};
 use std::alloc::Global;
-use time_pred::Pred;
+use std::rc::Rc;
+use time_pred::SharedPred;
 
 /// A value of a script.
 #[derive(Debug, Drop)]
@@ -18,7 +19,7 @@ pub enum Value {
     Decimal(Decimal),
 
     /// A text.
-    Text(Text),
+    Text(Rc<Text>),
 
     /// A bool.
     Truth(bool),
@@ -33,7 +34,7 @@ pub enum Value {
     },
 
     /// A predicate on the time of the week.
-    Pred(Pred),
+    Pred(SharedPred),
 
     /// A source, by the number of its node.
     Source(u32),
@@ -65,11 +66,11 @@ pub fn copy(alloc: Global, value: &Value) -> Result<Value, Memory>
     match value {
         Value::Int(number) => Ok(Value::Int(*number)),
         Value::Decimal(number) => Ok(Value::Decimal(*number)),
-        Value::Text(text) => Ok(Value::Text(text.copy(alloc)?)),
+        Value::Text(text) => Ok(Value::Text(text.clone()?)),
         Value::Truth(truth) => Ok(Value::Truth(*truth)),
         Value::Nothing => Ok(Value::Nothing),
         Value::Format { wide } => Ok(Value::Format { wide: *wide }),
-        Value::Pred(pred) => Ok(Value::Pred(pred.copy(alloc)?)),
+        Value::Pred(pred) => Ok(Value::Pred(pred.share()?)),
         Value::Source(node) => Ok(Value::Source(*node)),
         Value::Listed(parts) => Ok(Value::Listed(copies(alloc, parts)?)),
         Value::Tuple(parts) => Ok(Value::Tuple(copies(alloc, parts)?)),
@@ -105,7 +106,7 @@ fn sizes(parts: &[Value]) -> u64
 fn copies(alloc: Global, parts: &[Value]) -> Result<Vec<Value>, Memory>
     ensures { IfOk result (λ copies. map view_value copies.items ≡ map view_value parts.now) }
 {
-    let mut copies = Vec::new(alloc);
+    let mut copies = Vec::with_capacity(alloc, parts.len())?;
     for part in parts {
         copies.push(copy(alloc, part)?)?;
     }

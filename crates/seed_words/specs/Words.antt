@@ -9,6 +9,7 @@ unfoldable pub generator_after : (seed n : ℕ) → Lcg
 generator_after seed zero = pcg32_of_seed (pcg32_seed 16 seed)
 generator_after seed (suc n) = (pcg32 (generator_after seed n)).1
 
+-- the n-th word of chance of a seed
 abbrev pub word : (seed n : ℕ) → ℕ
 word seed n = (pcg32 (generator_after seed n)).0
 

@@ -9,11 +9,11 @@ use Rattle.plan_core.specs.declared.plan.Plan.{Plan}
 use Rattle.plan_core.specs.Plans.{IsWellFormed}
 use Rattle.clock_infer.specs.declared.clock_map.ClockMap.{ClockMap}
 use Rattle.clock_infer.specs.declared.clock_map.ClockFault.{ClockFault}
-use Rattle.clock_infer.specs.declared.clock_map.ClockFault.TheVariants.{TwoClocks, Nested, TooManyClocks, Memory as clock_memory}
+use Rattle.clock_infer.specs.declared.clock_map.ClockFault.TheVariants.{TwoClocks, Nested, TooManyClocks}
 use Rattle.clock_infer.specs.Answers.{IsCause, IsClockMap}
 use Rattle.track_library.specs.Walk.{Ends, load_of}
 use Rattle.track_library.specs.declared.fault.LoadFault.{LoadFault}
-use Rattle.track_library.specs.declared.fault.LoadFault.TheVariants.{Missing, BadAudio, FileTooLarge, AllTooLarge, ReadFault, Memory as load_memory}
+use Rattle.track_library.specs.declared.fault.LoadFault.TheVariants.{Missing, BadAudio, FileTooLarge, AllTooLarge, ReadFault}
 use Rattle.stations.specs.Findings.{Fails, Fits, IsFound, IsLoaded, rules_of}
 use Rattle.station_check.specs.Halts.{HaltsFor, ClockHalts, GapHalts, LengthHalts, RestHalts, load_halt, clock_halt}
 use Rattle.station_check.specs.Steps.{FitsBy, IsUngapped, OnlyCause, OnlyClocks}
@@ -30,36 +30,36 @@ loading old new reads plan (BadAudio name fault) ends = λ files t ticks. found_
 loading old new reads plan (FileTooLarge name) ends = λ files t ticks. found_file files plan ticks (FileTooLarge name) (ends files t) (ends files t)
 loading old new reads plan AllTooLarge ends = λ files t ticks. found_file files plan ticks AllTooLarge (ends files t) (ends files t)
 loading old new reads plan (ReadFault name) ends = ends.0
-loading old new reads plan load_memory ends = tt
+loading old new reads plan LoadFault.Memory ends = tt
 
 -- the clocks that are answered are the only ones
 pub clocks_found : (plan : Plan) (result : Result ClockMap ClockFault) (clocks : ClockMap) → result ≡ Ok clocks → IsClockMap plan clocks
-    → ((fault : ClockFault) → fault ≢ clock_memory → IsCause plan fault → IsErrOf result fault ⊎ IsErrOf result clock_memory)
-    → ((map : ClockMap) → IsClockMap plan map → (result ≡ Ok map) ⊎ IsErrOf result clock_memory)
+    → ((fault : ClockFault) → fault ≢ ClockFault.Memory → IsCause plan fault → IsErrOf result fault ⊎ IsErrOf result ClockFault.Memory)
+    → ((map : ClockMap) → IsClockMap plan map → (result ≡ Ok map) ⊎ IsErrOf result ClockFault.Memory)
     → OnlyClocks plan clocks
 clocks_found plan result clocks is map exact only = record {
   map = map;
-  only = λ other theirs. ⊎_elim (λ (e : result ≡ Ok other). cc) (λ (e : result ≡ Err clock_memory). absurd cc) (only other theirs);
-  apart = λ fault meant cause. ⊎_elim (λ (e : result ≡ Err fault). cc) (λ (e : result ≡ Err clock_memory). cc) (exact fault meant cause);
+  only = λ other theirs. ⊎_elim (λ (e : result ≡ Ok other). cc) (λ (e : result ≡ Err ClockFault.Memory). absurd cc) (only other theirs);
+  apart = λ fault meant cause. ⊎_elim (λ (e : result ≡ Err fault). cc) (λ (e : result ≡ Err ClockFault.Memory). cc) (exact fault meant cause);
 }
 
 -- a fault of clocks that is answered is the only one
-one_cause : (plan : Plan) (result : Result ClockMap ClockFault) (fault : ClockFault) → result ≡ Err fault → fault ≢ clock_memory → IsCause plan fault
-    → ((other : ClockFault) → other ≢ clock_memory → IsCause plan other → IsErrOf result other ⊎ IsErrOf result clock_memory)
-    → ((map : ClockMap) → IsClockMap plan map → (result ≡ Ok map) ⊎ IsErrOf result clock_memory)
+one_cause : (plan : Plan) (result : Result ClockMap ClockFault) (fault : ClockFault) → result ≡ Err fault → fault ≢ ClockFault.Memory → IsCause plan fault
+    → ((other : ClockFault) → other ≢ ClockFault.Memory → IsCause plan other → IsErrOf result other ⊎ IsErrOf result ClockFault.Memory)
+    → ((map : ClockMap) → IsClockMap plan map → (result ≡ Ok map) ⊎ IsErrOf result ClockFault.Memory)
     → OnlyCause plan fault
 one_cause plan result fault is meant cause exact only = record {
   of_plan = meant;
   cause = cause;
   only = λ other theirs told. ⊎_elim (λ (e : result ≡ Err other). cc)
-      (λ (e : result ≡ Err clock_memory). let same : fault ≡ clock_memory = cc in absurd (meant same)) (exact other theirs told);
+      (λ (e : result ≡ Err ClockFault.Memory). let same : fault ≡ ClockFault.Memory = cc in absurd (meant same)) (exact other theirs told);
   apart = λ clocks map. ⊎_elim (λ (e : result ≡ Ok clocks). cc)
-      (λ (e : result ≡ Err clock_memory). let same : fault ≡ clock_memory = cc in meant same) (only clocks map);
+      (λ (e : result ≡ Err ClockFault.Memory). let same : fault ≡ ClockFault.Memory = cc in meant same) (only clocks map);
 }
 
 pub cause_found : (plan : Plan) (result : Result ClockMap ClockFault) (fault : ClockFault) → result ≡ Err fault → IsCause plan fault
-    → ((other : ClockFault) → other ≢ clock_memory → IsCause plan other → IsErrOf result other ⊎ IsErrOf result clock_memory)
-    → ((map : ClockMap) → IsClockMap plan map → (result ≡ Ok map) ⊎ IsErrOf result clock_memory)
+    → ((other : ClockFault) → other ≢ ClockFault.Memory → IsCause plan other → IsErrOf result other ⊎ IsErrOf result ClockFault.Memory)
+    → ((map : ClockMap) → IsClockMap plan map → (result ≡ Ok map) ⊎ IsErrOf result ClockFault.Memory)
     → ClockHalts plan (clock_halt fault)
 cause_found plan result (TwoClocks node first second) is cause exact only =
     record { clock_fault = TwoClocks node first second; fault_is = refl; only_cause = one_cause plan result (TwoClocks node first second) is (λ e. cc) cause exact only }
@@ -67,7 +67,7 @@ cause_found plan result (Nested node) is cause exact only =
     record { clock_fault = Nested node; fault_is = refl; only_cause = one_cause plan result (Nested node) is (λ e. cc) cause exact only }
 cause_found plan result TooManyClocks is cause exact only =
     record { clock_fault = TooManyClocks; fault_is = refl; only_cause = one_cause plan result TooManyClocks is (λ e. cc) cause exact only }
-cause_found plan result clock_memory is cause exact only = tt
+cause_found plan result ClockFault.Memory is cause exact only = tt
 
 -- what each step of the rest ends with
 pub gap_ends : (plan : Plan) (ticks : ℕ) (halt : Halt) → IsWellFormed plan → GapHalts plan halt → RestHalts plan ticks halt

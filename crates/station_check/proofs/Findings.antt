@@ -9,7 +9,8 @@ use Rattle.clock_infer.specs.declared.clock_map.ClockMap.{ClockMap}
 use Rattle.clock_infer.specs.declared.clock_map.ClockFault.{ClockFault}
 use Rattle.track_library.specs.declared.fault.LoadFault.{LoadFault}
 use Rattle.track_library.specs.declared.fault.LoadFault.TheVariants.{Missing, BadAudio, FileTooLarge, AllTooLarge, ReadFault, Memory}
-use Rattle.stations.specs.declared.fault.StationFault.TheVariants.{Files as Unloaded, FallibleOutput, Clocks, OutputTooLong}
+use Rattle.stations.specs.declared.fault.StationFault.{StationFault}
+use Rattle.stations.specs.declared.fault.StationFault.TheVariants.{FallibleOutput, Clocks, OutputTooLong}
 use Rattle.stations.specs.Findings.{Finding, Fits, Fails, IsFileFault, IsFinding, IsFound, IsLoaded, IsSafe, IsUnloaded, IsUnsafe, first_name, is_too_long}
 use Rattle.station_check.specs.Steps.{IsUngapped, OnlyCause, OnlyClocks}
 use Rattle.station_check.proofs.Firsts.{one_refused}
@@ -39,16 +40,16 @@ module _ (files : Files) (plan : Plan) (ticks : ℕ) where
       let e : Some name ≡ None = sym unsafe.first ∙ one_refused plan unsafe.mark safe.mark well unsafe.marking safe.marking ∙ safe.none in
       cc
 
-  only_file : (fault : LoadFault) → IsUnloaded files plan fault → (other : Finding) → IsFinding files plan ticks other → other ≡ Fails (Unloaded fault)
+  only_file : (fault : LoadFault) → IsUnloaded files plan fault → (other : Finding) → IsFinding files plan ticks other → other ≡ Fails (StationFault.Files fault)
   only_file fault fails (Fits library clocks) h = absurd (loads_both _ _ _ h.clocked.safe.loaded fails)
-  only_file fault fails (Fails (Unloaded other)) h = ap (λ f. Fails (Unloaded f)) (same_err _ _ _ fails (unloaded other h))
+  only_file fault fails (Fails (StationFault.Files other)) h = ap (λ f. Fails (StationFault.Files f)) (same_err _ _ _ fails (unloaded other h))
   only_file fault fails (Fails (FallibleOutput name)) h = absurd (loads_both _ _ _ h.loaded fails)
   only_file fault fails (Fails (Clocks other)) h = absurd (loads_both _ _ _ h.safe.loaded fails)
   only_file fault fails (Fails (OutputTooLong name)) h = absurd (loads_both _ _ _ h.clocked.safe.loaded fails)
 
   only_unsafe : IsWellFormed plan → (name : List ℕ) → IsUnsafe files plan name → (other : Finding) → IsFinding files plan ticks other → other ≡ Fails (FallibleOutput name)
   only_unsafe well name unsafe (Fits library clocks) h = absurd (refused_none well name library unsafe h.clocked.safe)
-  only_unsafe well name unsafe (Fails (Unloaded other)) h = absurd (loads_both _ _ _ unsafe.loaded (unloaded other h))
+  only_unsafe well name unsafe (Fails (StationFault.Files other)) h = absurd (loads_both _ _ _ unsafe.loaded (unloaded other h))
   only_unsafe well name unsafe (Fails (FallibleOutput other)) h =
       let e : Some other ≡ Some name = sym h.first ∙ one_refused plan h.mark unsafe.mark well h.marking unsafe.marking ∙ unsafe.first in
       let same : other ≡ name = cc in
@@ -59,7 +60,7 @@ module _ (files : Files) (plan : Plan) (ticks : ℕ) where
   only_unclocked : IsWellFormed plan → (fault : ClockFault) (library : Sounds) → IsSafe files plan library → OnlyCause plan fault
       → (other : Finding) → IsFinding files plan ticks other → other ≡ Fails (Clocks fault)
   only_unclocked well fault library safe one (Fits other clocks) h = absurd (one.apart clocks h.clocked.map)
-  only_unclocked well fault library safe one (Fails (Unloaded other)) h = absurd (loads_both _ _ _ safe.loaded (unloaded other h))
+  only_unclocked well fault library safe one (Fails (StationFault.Files other)) h = absurd (loads_both _ _ _ safe.loaded (unloaded other h))
   only_unclocked well fault library safe one (Fails (FallibleOutput name)) h = absurd (refused_none well name library h safe)
   only_unclocked well fault library safe one (Fails (Clocks other)) h = ap (λ f. Fails (Clocks f)) (one.only other h.of_plan h.cause)
   only_unclocked well fault library safe one (Fails (OutputTooLong name)) h = absurd (one.apart h.clocks h.clocked.map)
@@ -69,7 +70,7 @@ module _ (files : Files) (plan : Plan) (ticks : ℕ) where
   only_long well name library clocks safe one first (Fits other more) h =
       let e : Some name ≡ None = sym first ∙ h.none in
       absurd cc
-  only_long well name library clocks safe one first (Fails (Unloaded other)) h = absurd (loads_both _ _ _ safe.loaded (unloaded other h))
+  only_long well name library clocks safe one first (Fails (StationFault.Files other)) h = absurd (loads_both _ _ _ safe.loaded (unloaded other h))
   only_long well name library clocks safe one first (Fails (FallibleOutput other)) h = absurd (refused_none well other library h safe)
   only_long well name library clocks safe one first (Fails (Clocks other)) h = absurd (one.apart other h.of_plan h.cause)
   only_long well name library clocks safe one first (Fails (OutputTooLong other)) h =
@@ -81,7 +82,7 @@ module _ (files : Files) (plan : Plan) (ticks : ℕ) where
       → first_name (is_too_long plan ticks) plan.sinks ≡ None → (other : Finding) → IsFinding files plan ticks other → other ≡ Fits library clocks
   only_fits well library clocks safe one none (Fits other more) h =
       ap (λ l. Fits l more) (same_ok _ _ _ safe.loaded h.clocked.safe.loaded) ∙ ap (λ m. Fits library m) (one.only more h.clocked.map)
-  only_fits well library clocks safe one none (Fails (Unloaded other)) h = absurd (loads_both _ _ _ safe.loaded (unloaded other h))
+  only_fits well library clocks safe one none (Fails (StationFault.Files other)) h = absurd (loads_both _ _ _ safe.loaded (unloaded other h))
   only_fits well library clocks safe one none (Fails (FallibleOutput other)) h = absurd (refused_none well other library h safe)
   only_fits well library clocks safe one none (Fails (Clocks other)) h = absurd (one.apart other h.of_plan h.cause)
   only_fits well library clocks safe one none (Fails (OutputTooLong other)) h =
@@ -90,7 +91,7 @@ module _ (files : Files) (plan : Plan) (ticks : ℕ) where
 
 -- what each step of a check finds
 pub found_file : (files : Files) (plan : Plan) (ticks : ℕ) (fault : LoadFault) → IsUnloaded files plan fault → IsFileFault files plan fault
-    → IsFound files plan ticks (Fails (Unloaded fault))
+    → IsFound files plan ticks (Fails (StationFault.Files fault))
 found_file files plan ticks fault fails holds = record { holds = holds; only = only_file files plan ticks fault fails }
 
 safe_of : (files : Files) (plan : Plan) (library : Sounds) → IsUngapped plan → IsLoaded files plan library → IsSafe files plan library

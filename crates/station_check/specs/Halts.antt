@@ -7,12 +7,12 @@ use Rattle.liq_base.specs.Shelves.{ShelfTold}
 use Rattle.frame_core.specs.Library.{Sounds}
 use Rattle.plan_core.specs.declared.plan.Plan.{Plan}
 use Rattle.clock_infer.specs.declared.clock_map.ClockFault.{ClockFault}
-use Rattle.clock_infer.specs.declared.clock_map.ClockFault.TheVariants.{TwoClocks, Nested, TooManyClocks, Memory as clock_memory}
+use Rattle.clock_infer.specs.declared.clock_map.ClockFault.TheVariants.{TwoClocks, Nested, TooManyClocks}
 use Rattle.fallible_infer.specs.Infallible.{IsMarking, refuses}
 use Rattle.track_library.specs.declared.fault.LoadFault.{LoadFault}
-use Rattle.track_library.specs.declared.fault.LoadFault.TheVariants.{Missing, BadAudio, FileTooLarge, AllTooLarge, ReadFault, Memory as load_memory}
+use Rattle.track_library.specs.declared.fault.LoadFault.TheVariants.{Missing, BadAudio, FileTooLarge, AllTooLarge, ReadFault}
 use Rattle.stations.specs.declared.fault.StationFault.{StationFault}
-use Rattle.stations.specs.declared.fault.StationFault.TheVariants.{Files as Unloaded, FallibleOutput, Clocks, OutputTooLong}
+use Rattle.stations.specs.declared.fault.StationFault.TheVariants.{FallibleOutput, Clocks, OutputTooLong}
 use Rattle.stations.specs.Findings.{Fails, IsFound, IsLoaded, first_name, is_too_long}
 use Rattle.station_check.specs.Steps.{OnlyCause}
 use Rattle.station_check.specs.declared.halt.Halt.{Halt}
@@ -27,18 +27,18 @@ HaltsFor old new IsTold Memory = ⊤
 
 -- how a check ends at a fault of files, and at one of clocks
 abbrev pub load_halt : LoadFault → Halt
-load_halt (Missing name) = Refused (Unloaded (Missing name))
-load_halt (BadAudio name fault) = Refused (Unloaded (BadAudio name fault))
-load_halt (FileTooLarge name) = Refused (Unloaded (FileTooLarge name))
-load_halt AllTooLarge = Refused (Unloaded AllTooLarge)
+load_halt (Missing name) = Refused (StationFault.Files (Missing name))
+load_halt (BadAudio name fault) = Refused (StationFault.Files (BadAudio name fault))
+load_halt (FileTooLarge name) = Refused (StationFault.Files (FileTooLarge name))
+load_halt AllTooLarge = Refused (StationFault.Files AllTooLarge)
 load_halt (ReadFault name) = Read
-load_halt load_memory = Memory
+load_halt LoadFault.Memory = Memory
 
 abbrev pub clock_halt : ClockFault → Halt
 clock_halt (TwoClocks node first second) = Refused (Clocks (TwoClocks node first second))
 clock_halt (Nested node) = Refused (Clocks (Nested node))
 clock_halt TooManyClocks = Refused (Clocks TooManyClocks)
-clock_halt clock_memory = Memory
+clock_halt ClockFault.Memory = Memory
 
 -- the first output that needs an infallible node and has none
 pub record IsGapped (plan : Plan) (fault : StationFault) : Type 0 where

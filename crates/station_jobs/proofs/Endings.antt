@@ -13,7 +13,7 @@ use Rattle.station_check.specs.declared.halt.Halt.{Halt as CheckHalt}
 use Rattle.station_check.specs.declared.halt.Halt.TheVariants.{Refused as check_refused, Read as check_read, Memory as check_memory}
 use Rattle.station_check.specs.Halts.{HaltsFor}
 use Rattle.refusal_lines.specs.declared.fault.Fault.{Fault}
-use Rattle.refusal_lines.specs.declared.fault.Fault.TheVariants.{Script, Station as Unfit}
+use Rattle.refusal_lines.specs.declared.fault.Fault.TheVariants.{Script}
 use Rattle.station_jobs.specs.declared.halt.Halt.{Halt}
 use Rattle.station_jobs.specs.declared.halt.Halt.TheVariants.{Memory, Refused as refused_for}
 use Rattle.station_jobs.specs.Verdicts.{HasPlan, clash_of}
@@ -74,7 +74,7 @@ pub check_ends : {T : Type 0} (laws : ScriptLaws) (file : List ℕ) (trace : Opt
     → ForSome first.files (λ files. HasPlan files file plan) → clash_of plan trace cues ≡ None → OnlyRead first old → (h : CheckHalt)
     → HaltsFor old new (λ files fault. IsFound files plan ticks (Fails fault)) h → EndsFor {T = T} file trace cues ticks first new (Err (halt_of_check h))
 check_ends laws file trace cues ticks first old new plan there apart read (check_refused fault) halts =
-    ends_refused file trace cues ticks first new (Unfit fault) (λ files t. plan_outcome laws files file trace cues ticks plan (there files t) apart (Fails fault) (halts files (read.files ∙ t)))
+    ends_refused file trace cues ticks first new (Fault.Station fault) (λ files t. plan_outcome laws files file trace cues ticks plan (there files t) apart (Fails fault) (halts files (read.files ∙ t)))
 check_ends laws file trace cues ticks first old new plan there apart read check_read halts = record {
   fault = λ other at. absurd (cc);
   read = λ at. (let low = read.reads in omega (arith, halts, low));

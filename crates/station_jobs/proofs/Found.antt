@@ -6,7 +6,8 @@ use Rattle.plan_core.specs.declared.plan.Plan.{Plan}
 use Rattle.script_plan.specs.declared.fault.ScriptFault.{ScriptFault}
 use Rattle.script_plan.specs.Plans.{IsPlan, IsPlanFault}
 use Rattle.stations.specs.Findings.{Fails, Finding, Fits, IsRenderable, IsFinding, IsFound, IsStationFault}
-use Rattle.refusal_lines.specs.declared.fault.Fault.TheVariants.{NoScript, Script, SameFile, Station as Unfit, Replay as Untold}
+use Rattle.refusal_lines.specs.declared.fault.Fault.{Fault}
+use Rattle.refusal_lines.specs.declared.fault.Fault.TheVariants.{NoScript, Script, SameFile}
 use Rattle.station_jobs.specs.Verdicts.{HasPlan, clash_of}
 use Rattle.station_jobs.specs.Prepared.{Found, IsOneOutcome, IsOutcome, Lost, Outcome}
 
@@ -35,8 +36,8 @@ no_script files file trace cues ticks none = record { holds = none; only = only 
   only (Lost NoScript) is = refl
   only (Lost (Script fault)) is = absurd (not_there (file_at files file) is.script none is.there)
   only (Lost (SameFile name)) is = absurd (not_there (file_at files file) is.has_plan.script none is.has_plan.there)
-  only (Lost (Unfit fault)) is = absurd (not_there (file_at files file) is.has_plan.script none is.has_plan.there)
-  only (Lost (Untold fault)) is = absurd is
+  only (Lost (Fault.Station fault)) is = absurd (not_there (file_at files file) is.has_plan.script none is.has_plan.there)
+  only (Lost (Fault.Replay fault)) is = absurd is
 
 -- the script has a fault
 module _ (laws : ScriptLaws) (files : Files) (file : List ℕ) (trace : Option (List ℕ)) (cues : Bool) (ticks : ℕ) (text : List ℕ) (there : file_at files file ≡ Some text) where
@@ -49,8 +50,8 @@ module _ (laws : ScriptLaws) (files : Files) (file : List ℕ) (trace : Option (
   script_only fault told (Lost (Script other)) is =
       ap (λ f. Lost (Script f)) (laws.fault text other fault (subst (λ t. IsPlanFault t other) (same_file (file_at files file) text is.script there is.there) is.is_fault) told)
   script_only fault told (Lost (SameFile name)) is = absurd (laws.apart text is.plan fault (plan_there is.plan is.has_plan) told)
-  script_only fault told (Lost (Unfit other)) is = absurd (laws.apart text is.plan fault (plan_there is.plan is.has_plan) told)
-  script_only fault told (Lost (Untold other)) is = absurd is
+  script_only fault told (Lost (Fault.Station other)) is = absurd (laws.apart text is.plan fault (plan_there is.plan is.has_plan) told)
+  script_only fault told (Lost (Fault.Replay other)) is = absurd is
 
   pub script_has : (fault : ScriptFault) → IsPlanFault text fault → IsOneOutcome files file trace cues ticks (Lost (Script fault))
   script_has fault told = record { holds = record { script = text; there = there; is_fault = told }; only = script_only fault told }
@@ -74,8 +75,8 @@ module _ (laws : ScriptLaws) (files : Files) (file : List ℕ) (trace : Option (
     clash_only name clash (Lost (Script fault)) is = no_fault fault is.script is.there is.is_fault
     clash_only name clash (Lost (SameFile other)) is =
         ap (λ n. Lost (SameFile n)) (same_file (clash_of plan trace cues) name other clash (ap (λ (p : Plan). clash_of p trace cues) (sym (same_plan is.plan is.has_plan)) ∙ is.clash))
-    clash_only name clash (Lost (Unfit fault)) is = absurd (both_ways plan is.plan trace cues name (same_plan is.plan is.has_plan) clash is.apart)
-    clash_only name clash (Lost (Untold fault)) is = absurd is
+    clash_only name clash (Lost (Fault.Station fault)) is = absurd (both_ways plan is.plan trace cues name (same_plan is.plan is.has_plan) clash is.apart)
+    clash_only name clash (Lost (Fault.Replay fault)) is = absurd is
 
     pub clash_has : (name : List ℕ) → clash_of plan trace cues ≡ Some name → IsOneOutcome files file trace cues ticks (Lost (SameFile name))
     clash_has name clash = record { holds = record { plan = plan; has_plan = has_this; clash = clash }; only = clash_only name clash }
@@ -84,7 +85,7 @@ module _ (laws : ScriptLaws) (files : Files) (file : List ℕ) (trace : Option (
     module _ (apart : clash_of plan trace cues ≡ None) where
       abbrev outcome_by : Finding → Outcome
       outcome_by (Fits library clocks) = Found plan library clocks
-      outcome_by (Fails fault) = Lost (Unfit fault)
+      outcome_by (Fails fault) = Lost (Fault.Station fault)
 
       -- an outcome of this script is what is found of its plan
       record By (outcome : Outcome) : Type 0 where
@@ -99,9 +100,9 @@ module _ (laws : ScriptLaws) (files : Files) (file : List ℕ) (trace : Option (
       by (Lost NoScript) is = absurd (not_there (file_at files file) text is there)
       by (Lost (Script fault)) is = no_fault fault is.script is.there is.is_fault
       by (Lost (SameFile name)) is = absurd (both_ways is.plan plan trace cues name (sym (same_plan is.plan is.has_plan)) is.clash apart)
-      by (Lost (Unfit fault)) is =
+      by (Lost (Fault.Station fault)) is =
           record { finding = Fails fault; is = subst (λ p. IsStationFault files p ticks fault) (same_plan is.plan is.has_plan) is.is_fault; same = refl }
-      by (Lost (Untold fault)) is = absurd is
+      by (Lost (Fault.Replay fault)) is = absurd is
 
       holds : (finding : Finding) → IsFinding files plan ticks finding → IsOutcome files file trace cues ticks (outcome_by finding)
       holds (Fits library clocks) is = record { has_plan = has_this; apart = apart; renderable = is }
@@ -116,7 +117,7 @@ module _ (laws : ScriptLaws) (files : Files) (file : List ℕ) (trace : Option (
 -- what is found of the plan of a script is the script's outcome
 abbrev pub outcome_with : Plan → Finding → Outcome
 outcome_with plan (Fits library clocks) = Found plan library clocks
-outcome_with plan (Fails fault) = Lost (Unfit fault)
+outcome_with plan (Fails fault) = Lost (Fault.Station fault)
 
 pub plan_outcome : (laws : ScriptLaws) (files : Files) (file : List ℕ) (trace : Option (List ℕ)) (cues : Bool) (ticks : ℕ) (plan : Plan) → HasPlan files file plan
     → clash_of plan trace cues ≡ None → (finding : Finding) → IsFound files plan ticks finding → IsOneOutcome files file trace cues ticks (outcome_with plan finding)

@@ -1,5 +1,5 @@
 -- What a job leaves, by the way that it ends.
-use Rattle.std.proofs.Common.{◌≡◌, ◌⊎◌, ◌<◌, ◌≤◌, ℕ, Bool, true, false, List, map, refl, sym, ap, subst, ◌∙◌, inl, inr, arith}
+use Rattle.std.proofs.Common.{◌≡◌, ◌⊎◌, ◌<◌, ◌≤◌, ◌++◌, ℕ, Bool, true, false, List, map, refl, sym, ap, subst, ◌∙◌, inl, inr, arith}
 use Rattle.std.specs.Prelude.{Option, Some, None, Result, Ok, Err, IfOk, IfErr, String, string_bytes}
 use Rattle.std.specs.Option.{ForSome}
 use Rattle.std.specs.declared.alloc.Global.{Global}
@@ -20,7 +20,7 @@ use Rattle.run_records.specs.Records.{AreWindows, Run, setting_in}
 use Rattle.run_records.specs.Rounds.{HasNoJoin}
 use Rattle.trace_records.specs.Listings.{LeadOnward}
 use Rattle.trace_records.specs.Traces.{base_of}
-use Rattle.stations.specs.Creations.{CreatedFront, HaveClosed, HaveListed, after_making, closings_of, names_of}
+use Rattle.stations.specs.Creations.{CreatedFront, HaveClosed, HaveListed, after_making, closings_of, names_in, names_of}
 use Rattle.stations.specs.Findings.{IsRenderable, IsFit}
 use Rattle.stations.specs.Outputs.{HoldsEnds, HoldsSome, HoldsUpto, OutputPart, with_outputs}
 use Rattle.stations.specs.Renderings.{BeginsAsOneThread, HasOneRecord, IsDetermined, RendersAsOneThread, WrotePart}
@@ -28,6 +28,7 @@ use Rattle.stations.specs.Stations.{InRounds, IsBegun, IsLawful, Station, Way, b
 use Rattle.stations.specs.Streams.{HasNoGaps, ends_of, output_files, parts_with}
 use Rattle.stations.specs.Traces.{later_files}
 use Rattle.stations.specs.Reports.{check_report_of, report_of}
+use Rattle.stations.proofs.Making.{files_named}
 use Rattle.stations.proofs.Parts.{ends_within}
 use Rattle.station_render.specs.Faults.{is_device}
 use Rattle.station_render.specs.declared.fault.RenderFault.{RenderFault}
@@ -36,7 +37,7 @@ use Rattle.station_render.specs.Runs.{IsRendered, IsTold}
 use Rattle.station_render.specs.declared.rendered.Rendered.{Rendered as Shown}
 use Rattle.station_jobs.specs.declared.halt.Halt.{Halt}
 use Rattle.station_jobs.specs.declared.halt.Halt.TheVariants.{Read, Write, Memory as no_memory, Refused as refused_for}
-use Rattle.refusal_lines.specs.declared.fault.Fault.TheVariants.{Replay as Untold}
+use Rattle.refusal_lines.specs.declared.fault.Fault.{Fault}
 use Rattle.station_jobs.specs.Words.{Asked, Check, Replay, cues_of, asked_file, start_of, asked_ticks, trace_name}
 use Rattle.station_jobs.specs.Verdicts.{Verdict, Usage, Refused, Accepted, IsVerdictOn, files_for}
 use Rattle.station_jobs.specs.Jobs.{BrokeOff, IsBroken, IsDone, IsStarved}
@@ -96,7 +97,7 @@ pub ended_untold : {T : Type 0} (laws : TraceLaws) (file : List ℕ) (start tick
 ended_untold laws file start ticks trace first old new plan library clocks one read (refused_for fault) ends kept = (
   λ files t.
       let is = ends.fault fault refl files (read.files ∙ t) in
-      for_one (Replay file start ticks trace) files (Denied (Untold is.untold)) (λ v. v ≡ Refused fault)
+      for_one (Replay file start ticks trace) files (Denied (Fault.Replay is.untold)) (λ v. v ≡ Refused fault)
       (replay_ruled file start ticks trace files plan library clocks (one files t) (Untells is.untold)
       (one_told laws files trace (base_of plan library clocks start) clocks.running ticks (Untells is.untold) is.is_fault))
       (ap Refused (sym is.fault_is)),
@@ -136,11 +137,12 @@ module _ (asked : Asked) (first old new : ShelfTold) (plan : Plan) (library : So
   station = station_for asked plan library clocks way
 
   -- what is left is told from before
-  some_from : (device : Bool) (files : Files) (parts : List OutputPart) (now : Files) → HoldsSome device files parts now old new → HoldsSome device files parts now first new
-  some_from device files parts now some = record {
+  some_from : (idle : Type 0) (device : Bool) (files : Files) (parts : List OutputPart) (now : Files) → HoldsSome idle device files parts now old new → HoldsSome idle device files parts now first new
+  some_from idle device files parts now some = record {
     created = some.created;
     others = some.others;
     outputs_are = some.outputs_are;
+    unbegun = some.unbegun;
     told = some.told ∙ ap (after_making (map (λ output. output.name) some.created)) read.created;
     begun = subst (λ (closed : Option (List Closing)). HaveClosed 1 (map (λ output. output.name) some.created) closed new.closed) read.closed some.begun;
     first = some.first;
@@ -171,13 +173,13 @@ module _ (asked : Asked) (first old new : ShelfTold) (plan : Plan) (library : So
       record {
         run = stopped.run;
         begun = stopped.begun;
-        parts = λ rest. some_and new.files (λ now. HoldsSome device files (parts_with station stopped.run stopped.begun rest) now old new)
-            (λ now. HoldsSome device files (parts_with station stopped.run stopped.begun rest) now first new)
-            (some_from device files (parts_with station stopped.run stopped.begun rest)) (stopped.parts rest);
+        parts = λ rest. some_and new.files (λ now. HoldsSome ((m : ℕ) → stopped.begun.made m ≡ 0) device files (parts_with station stopped.run stopped.begun rest) now old new)
+            (λ now. HoldsSome ((m : ℕ) → stopped.begun.made m ≡ 0) device files (parts_with station stopped.run stopped.begun rest) now first new)
+            (some_from ((m : ℕ) → stopped.begun.made m ≡ 0) device files (parts_with station stopped.run stopped.begun rest)) (stopped.parts rest);
       },
       laws.begins (files_for asked files) station stopped.run fit.plan_is (one files t).holds.prepared.renderable early stopped.begun,
     );
-    front = front_from front;
+    front = λ run. subst (λ ns. CreatedFront ns first new) (sym (files_named station run)) (front_from front);
   }
   broke device files t (inr stopped) front = record {
     left = inr (
@@ -185,11 +187,13 @@ module _ (asked : Asked) (first old new : ShelfTold) (plan : Plan) (library : So
         run = stopped.run;
         lawful = stopped.lawful;
         part = some_and new.files (Behind old files stopped.run) (Behind first files stopped.run) (behind_from files stopped.run) stopped.part;
+        more = stopped.more;
+        created = stopped.created ∙ ap (after_making (names_in station.plan.sinks ++ stopped.more)) read.created;
       },
       laws.one (files_for asked files) station stopped.run fit.plan_is (one files t).holds.prepared.renderable early stopped.lawful,
       laws.renders (files_for asked files) station stopped.run fit.plan_is (one files t).holds.prepared.renderable early stopped.lawful,
     );
-    front = front_from front;
+    front = λ run. subst (λ ns. CreatedFront ns first new) (sym (files_named station run)) (front_from front);
   }
 
   -- what holds of the station holds of the verdict
@@ -223,7 +227,7 @@ module _ (asked : Asked) (first old new : ShelfTold) (plan : Plan) (library : So
           run = is.run;
           lawful = is.lawful;
           written = is.all_written files (read.files ∙ t);
-          created = is.made ∙ ap (after_making (names_of station)) read.created;
+          created = is.made ∙ ap (after_making (names_of station)) read.created ∙ ap (λ ns. after_making ns first.created) (sym (files_named station is.run));
           closed = subst (λ (closed : Option (List Closing)). HaveListed (closings_of station is.run) closed new.closed) read.closed is.closed;
           report_is = report_is is.run is.told;
           no_gaps = laws.gapless own station is.run fit.plan_is renderable early;

@@ -8,7 +8,6 @@ use Rattle.clock_infer.specs.declared.clock_map.ClockMap.{ClockMap}
 use Rattle.stations.specs.Stations.{Again, InRounds, InWindows, Station, Way}
 use Rattle.trace_records.specs.Traces.{base_of}
 use Rattle.refusal_lines.specs.declared.fault.Fault.{Fault}
-use Rattle.refusal_lines.specs.declared.fault.Fault.TheVariants.{Replay as Untold}
 use Rattle.station_jobs.specs.Words.{Asked, Check, Make, Render, Replay, cues_of, asked_file, start_of, asked_ticks, trace_name}
 use Rattle.station_jobs.specs.Verdicts.{Verdict, Usage, Refused, IsVerdictOn, IsPrepared, IsStation, IsTraceFault, IsWayFor, files_for, verdict_for, way_in}
 use Rattle.station_jobs.specs.Prepared.{Denied, ForEach, ForOne, Found, Granted, IsGranted, IsOneOutcome, IsOneRuling, IsRuling, Lost, Outcome, Ruling, verdict_of, station_for}
@@ -141,7 +140,7 @@ plain_ruled asked way plain files plan library clocks one =
 -- what is found of the trace of a replay is its ruling
 abbrev pub ruling_told : Plan → Sounds → ClockMap → Told → Ruling
 ruling_told plan library clocks (Tells trace) = Granted plan library clocks (Again trace)
-ruling_told plan library clocks (Untells fault) = Denied (Untold fault)
+ruling_told plan library clocks (Untells fault) = Denied (Fault.Replay fault)
 
 module _ (file : List ℕ) (start ticks : ℕ) (trace : List ℕ) (files : Files) where
   -- of the trace of an outcome this is found

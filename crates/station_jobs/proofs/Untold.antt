@@ -5,7 +5,7 @@ use Rattle.std.specs.Option.{ForSome}
 use Rattle.liq_base.specs.Files.{Files, file_at}
 use Rattle.liq_base.specs.Shelves.{ShelfTold}
 use Rattle.stream_meaning.specs.Instants.{Setting}
-use Rattle.refusal_lines.specs.declared.fault.Fault.TheVariants.{Replay as Untold}
+use Rattle.refusal_lines.specs.declared.fault.Fault.{Fault}
 use Rattle.refusal_lines.specs.declared.replay_lines.ReplayFault.{ReplayFault}
 use Rattle.station_jobs.specs.declared.halt.Halt.{Halt}
 use Rattle.station_jobs.specs.declared.halt.Halt.TheVariants.{Memory, Refused as refused_for}
@@ -22,7 +22,7 @@ module _ (name : List ℕ) (base : Setting) (clocks N : ℕ) (old new : ShelfTol
   }
 
   -- for a fault of the trace
-  pub ends_told : {T : Type 0} (fault : ReplayFault) → ForSome old.files (λ files. IsReplayFault files name base clocks N fault) → TraceEnds {T = T} name base clocks N old new (Err (refused_for (Untold fault)))
+  pub ends_told : {T : Type 0} (fault : ReplayFault) → ForSome old.files (λ files. IsReplayFault files name base clocks N fault) → TraceEnds {T = T} name base clocks N old new (Err (refused_for (Fault.Replay fault)))
   ends_told fault is = record {
     fault = λ other at files t. record { untold = fault; fault_is = (cc); is_fault = is files t };
     read = λ at. absurd (cc);

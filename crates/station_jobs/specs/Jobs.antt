@@ -1,5 +1,5 @@
 -- What is done for a verdict.
-use Rattle.std.specs.Prelude.{◌≡◌, ◌⊎◌, ℕ, List, Bool, false, Some}
+use Rattle.std.specs.Prelude.{◌≡◌, ◌⊎◌, ℕ, List, Bool, false, Some, map}
 use Rattle.liq_base.specs.Files.{Files}
 use Rattle.liq_base.specs.Shelves.{OnlyRead, ShelfTold}
 use Rattle.fallible_infer.specs.Infallible.{IsMarking}
@@ -7,7 +7,7 @@ use Rattle.run_records.specs.Ordered.{IsOrdered}
 use Rattle.run_records.specs.Records.{AreWindows, Run}
 use Rattle.run_records.specs.Rounds.{HasNoJoin}
 use Rattle.trace_records.specs.Listings.{LeadOnward}
-use Rattle.stations.specs.Creations.{CreatedFront, HaveListed, after_making, closings_of, names_of}
+use Rattle.stations.specs.Creations.{CreatedFront, HaveListed, after_making, closings_of}
 use Rattle.stations.specs.Outputs.{with_outputs}
 use Rattle.stations.specs.Renderings.{BeginsAsOneThread, HasOneRecord, IsDetermined, RendersAsOneThread, StoppedBehindTicks, StoppedInTicks}
 use Rattle.stations.specs.Stations.{Station, IsLawful, bare, setting_of_run}
@@ -25,6 +25,10 @@ IsOrderedOnward station run = (window : ℕ)
     → LeadOnward (bare station) station.clocks.running listing
     → IsOrdered (setting_of_run station run) station.clocks.running lawful.accepted station.ticks
 
+-- the names of the files of a run, in their order; they rest on the station alone
+abbrev pub names_of : Station → Run → List (List ℕ)
+names_of station run = map (λ file. file.name) (files_of station run)
+
 -- A run wrote all outputs, then their cue files, where these are wanted, and then its trace, if one is wanted; the
 -- shelf made and closed these files in this order, and no other, each with room for just its bytes; and this is the
 -- report. A replay's run is the record of its trace. On one thread and in a replay there is no other run, so it always
@@ -34,7 +38,7 @@ pub record Wrote (station : Station) (files : Files) (old new : ShelfTold) (repo
   pub run : Run
   pub lawful : IsLawful station run
   pub written : new.files ≡ Some (with_outputs files (files_of station run))
-  pub created : new.created ≡ after_making (names_of station) old.created
+  pub created : new.created ≡ after_making (names_of station run) old.created
   pub closed : HaveListed (closings_of station run) old.closed new.closed
   pub report_is : report ≡ report_of station run
   pub no_gaps : HasNoGaps station run
@@ -76,7 +80,7 @@ pub record BrokeOff (station : Station) (device : Bool) (files : Files) (old new
       × (IsDetermined station → BeginsAsOneThread station stopped.run))
       ⊎ ((stopped : StoppedBehindTicks station files old new) × HasOneRecord station stopped.run
       × (HasNoJoin (bare station) station.clocks.running → RendersAsOneThread station stopped.run))
-  pub front : CreatedFront (names_of station) old new
+  pub front : (run : Run) → CreatedFront (names_of station run) old new
 
 -- that of a verdict did
 abbrev pub IsBroken : Verdict → (device : Bool) → Files → (old new : ShelfTold) → Type 0

@@ -19,7 +19,7 @@ use Rattle.station_render.specs.declared.fault.RenderFault.TheVariants.{Write as
 use Rattle.station_render.specs.Runs.{name_in}
 use Rattle.station_render.specs.declared.job.Job.{Job}
 use Rattle.refusal_lines.specs.declared.fault.Fault.{Fault}
-use Rattle.refusal_lines.specs.declared.fault.Fault.TheVariants.{SameFile, Script, Station as Unfit, Replay as Untold}
+use Rattle.refusal_lines.specs.declared.fault.Fault.TheVariants.{SameFile, Script}
 use Rattle.refusal_lines.specs.declared.replay_lines.ReplayFault.{ReplayFault}
 use Rattle.station_jobs.specs.Words.{Asked, cues_of, asked_file, start_of, asked_ticks, trace_name}
 use Rattle.station_jobs.specs.Verdicts.{Verdict, Refused, Accepted, IsScriptFault, IsVerdictOn, IsPrepared, IsRefusal, IsWayFor, files_for, verdict_for}
@@ -103,7 +103,7 @@ pub record EndsFor {T : Type 0} (file : List ℕ) (trace : Option (List ℕ)) (c
 -- a fault is one of the trace in the file of this name
 pub record HasFaultOf (files : Files) (name : List ℕ) (base : Setting) (clocks N : ℕ) (fault : Fault) : Type 0 where
   pub untold : ReplayFault
-  pub fault_is : fault ≡ Untold untold
+  pub fault_is : fault ≡ Fault.Replay untold
   pub is_fault : IsReplayFault files name base clocks N untold
 
 -- why the reading of a trace ended: a fault only where it is the trace's, and a read fault only where a read failed
@@ -116,7 +116,7 @@ pub record TraceEnds {T : Type 0} (name : List ℕ) (base : Setting) (clocks N :
 
 -- a replay ended for this fault of its trace, or memory was refused for it
 abbrev pub IsUntold : ReplayFault → Halt → Type 0
-IsUntold fault halt = (halt ≡ refused_for (Untold fault)) ⊎ (halt ≡ Memory)
+IsUntold fault halt = (halt ≡ refused_for (Fault.Replay fault)) ⊎ (halt ≡ Memory)
 
 -- why a test of the names of files ended: this is the name of two
 pub record ClashEnds {T : Type 0} (clash : Option (List ℕ)) (result : Result T Halt) : Type 0 where
@@ -176,7 +176,7 @@ halt_of_script (script_fault.Eval fault) = refused_for (Script (script_fault.Eva
 halt_of_script script_fault.Memory = Memory
 
 abbrev pub halt_of_check : CheckHalt → Halt
-halt_of_check (check_refused fault) = refused_for (Unfit fault)
+halt_of_check (check_refused fault) = refused_for (Fault.Station fault)
 halt_of_check check_read = Read
 halt_of_check check_memory = Memory
 

@@ -23,9 +23,11 @@ abbrev pub counted_part : (name : List ℕ) (samples gaps : ℕ) → List ℕ
 counted_part name samples gaps = codes "output " ++ name ++ codes " samples " ++ decimal samples ++ codes " gaps "
     ++ decimal gaps
 
+-- the end of a line of a summary: the sum of the samples
 abbrev pub sum_part : (sum : ℤ) → List ℕ
 sum_part sum = codes " sum " ++ signed_decimal sum ++ codes "\n"
 
+-- a line of a summary, with the sum of the samples
 abbrev pub summed_line : (name : List ℕ) (samples gaps : ℕ) (sum : ℤ) → List ℕ
 summed_line name samples gaps sum = counted_part name samples gaps ++ sum_part sum
 

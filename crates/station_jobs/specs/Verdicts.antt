@@ -18,7 +18,7 @@ use Rattle.stations.specs.Stations.{Station, Way, InRounds, InWindows}
 use Rattle.stations.specs.Findings.{IsRenderable, IsStationFault}
 use Rattle.trace_records.specs.Traces.{base_of}
 use Rattle.refusal_lines.specs.declared.fault.Fault.{Fault}
-use Rattle.refusal_lines.specs.declared.fault.Fault.TheVariants.{NoScript, Script, SameFile, Station as Unfit, Replay as Untold}
+use Rattle.refusal_lines.specs.declared.fault.Fault.TheVariants.{NoScript, Script, SameFile}
 use Rattle.refusal_lines.specs.declared.replay_lines.ReplayFault.{ReplayFault}
 use Rattle.workload_gen.specs.Files.{workload}
 use Rattle.station_jobs.specs.Replays.{IsReplayFault, IsWayOf}
@@ -33,6 +33,7 @@ pub data Verdict : Type 0 where
   Accepted : Station → Verdict
   Made : Files → Station → Verdict
 
+-- the line that words of no form are answered with
 abbrev pub usage_line : List ℕ
 usage_line = codes "usage: check FILE | render FILE N [--one-thread] [--window=W] [--start=D:HH:MM:SS] [--trace=NAME] [--cues] | make SEED SIZE | replay FILE N TRACE [--start=D:HH:MM:SS]\n"
 
@@ -105,8 +106,8 @@ abbrev pub IsScriptFault : Files → (file : List ℕ) (trace : Option (List ℕ
 IsScriptFault files file trace cues ticks NoScript = file_at files file ≡ None
 IsScriptFault files file trace cues ticks (Script fault) = HasPlanFault files file fault
 IsScriptFault files file trace cues ticks (SameFile name) = HasClash files file trace cues name
-IsScriptFault files file trace cues ticks (Unfit fault) = HasUnfitPlan files file trace cues ticks fault
-IsScriptFault files file trace cues ticks (Untold fault) = ⊥
+IsScriptFault files file trace cues ticks (Fault.Station fault) = HasUnfitPlan files file trace cues ticks fault
+IsScriptFault files file trace cues ticks (Fault.Replay fault) = ⊥
 
 -- the script is accepted, and these are its plan, with its audio files and clocks
 pub record IsPrepared (files : Files) (file : List ℕ) (trace : Option (List ℕ)) (cues : Bool) (ticks : ℕ) (plan : Plan)
@@ -122,7 +123,7 @@ pub record HasUntold (files : Files) (file : List ℕ) (start ticks : ℕ) (trac
   pub clocks : ClockMap
   pub prepared : IsPrepared files file None false ticks plan library clocks
   pub untold : ReplayFault
-  pub fault_is : fault ≡ Untold untold
+  pub fault_is : fault ≡ Fault.Replay untold
   pub is_fault : IsReplayFault files trace (base_of plan library clocks start) clocks.running ticks untold
 
 -- a fault of the trace of a replay

@@ -33,24 +33,28 @@ start_of (Render file start ticks window trace cues) = start
 start_of (Make seed size) = 0
 start_of (Replay file start ticks trace) = start
 
+-- how many ticks the words ask for
 abbrev pub asked_ticks : Asked → ℕ
 asked_ticks (Check file) = 0
 asked_ticks (Render file start ticks window trace cues) = ticks
 asked_ticks (Make seed size) = 500
 asked_ticks (Replay file start ticks trace) = ticks
 
+-- the name of the trace that the words ask for, if any
 abbrev pub trace_name : Asked → Option (List ℕ)
 trace_name (Check file) = None
 trace_name (Render file start ticks window trace cues) = trace
 trace_name (Make seed size) = None
 trace_name (Replay file start ticks trace) = None
 
+-- whether the words ask for cue files
 abbrev pub cues_of : Asked → Bool
 cues_of (Check file) = false
 cues_of (Render file start ticks window trace cues) = cues
 cues_of (Make seed size) = false
 cues_of (Replay file start ticks trace) = false
 
+-- the bytes of the words
 abbrev pub texts : List (String Global) → List (List ℕ)
 texts words = map string_bytes words
 
@@ -63,6 +67,7 @@ pub record Options : Type 0 where
   pub trace : Option (List ℕ)
   pub cues : Bool
 
+-- before any option was read
 abbrev pub no_options : Options
 no_options = record { one_thread = false; window = None; start = None; trace = None; cues = false }
 
@@ -103,29 +108,34 @@ pub record SaysOneThread (word : List ℕ) (before after : Options) : Type 0 whe
   pub once : before.one_thread ≡ false
   pub after_is : after ≡ record before { one_thread = true }
 
+-- the word says how many ticks a window has, for the first time
 pub record SaysWindow (word : List ℕ) (before after : Options) : Type 0 where
   pub window : ℕ
   pub word_is : IsWindow word window
   pub once : before.window ≡ None
   pub after_is : after ≡ record before { window = Some window }
 
+-- the word says when the rendering begins, for the first time
 pub record SaysStart (word : List ℕ) (before after : Options) : Type 0 where
   pub start : ℕ
   pub word_is : IsStart word start
   pub once : before.start ≡ None
   pub after_is : after ≡ record before { start = Some start }
 
+-- the word says the name of the trace, for the first time
 pub record SaysTrace (word : List ℕ) (before after : Options) : Type 0 where
   pub name : List ℕ
   pub word_is : IsTraceName word name
   pub once : before.trace ≡ None
   pub after_is : after ≡ record before { trace = Some name }
 
+-- the word asks for cue files, for the first time
 pub record SaysCues (word : List ℕ) (before after : Options) : Type 0 where
   pub word_is : word ≡ codes "--cues"
   pub once : before.cues ≡ false
   pub after_is : after ≡ record before { cues = true }
 
+-- the word is one of the five options, and was not there before
 abbrev pub IsOption : (word : List ℕ) (before after : Options) → Type 0
 IsOption word before after =
     SaysOneThread word before after ⊎ SaysWindow word before after ⊎ SaysStart word before after

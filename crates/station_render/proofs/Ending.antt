@@ -121,11 +121,18 @@ module _ {O : Type 0} (told : O → SinkTold) (station : Station) (first old new
             (will_list told first world station.ticks few sinks order groups whole.whole)));
       }
 
+  -- where no other is left, all were created
+  all_created : (ran : RanPart told first station order groups old.created) → ran.parts.others ≡ [] → old.created ≡ after_making (names_in station.plan.sinks) first.created
+  all_created ran none =
+      let name : Written → List ℕ = λ output. output.name in
+      let all : ran.parts.created ≡ written station.plan.sinks = sym (append-nil ran.parts.created) ∙ ap (λ (ys : List Written). ran.parts.created ++ ys) (sym none) ∙ sym ran.parts.all in
+      ran.parts.made_are ∙ ap (λ (ys : List Written). after_making (map name ys) first.created) all ∙ ap (λ ns. after_making ns first.created) (sym (names_written station.plan.sinks))
+
   -- a fault came while they were closed
-  pub ends_written : (rendered : Rendered) → RanWhole told first station order groups rendered
+  pub ends_written : (rendered : Rendered) → RanWhole told first station order groups rendered → (ran : RanPart told first station order groups old.created) → ran.parts.others ≡ [] → new.created ≡ old.created
       → ForSome old.files (λ files. (outputs : List OutputPart) → AreCreated (HoldsBody told) outputs order groups → IsSomeAnd new.files (λ now. HoldsEnds old.writes files outputs now new.writes))
       → ForSome first.files (λ files. StoppedBehindTicks station files first new)
-  ends_written rendered whole closed files at =
+  ends_written rendered whole ran none kept closed files at =
       let world : Setting = setting_of_run station whole.run in
       let ends = closed files (same.files_kept ∙ at) (ends_of station whole.run) (bodies_held told first world station.ticks files at station.plan.sinks order groups whole.whole) in
       record {
@@ -133,14 +140,16 @@ module _ {O : Type 0} (told : O → SinkTold) (station : Station) (first old new
         lawful = whole.lawful;
         part = some_and new.files (λ now. HoldsEnds old.writes files (ends_of station whole.run) now new.writes) _
             (λ now found. inl (ends_within first.writes old.writes new.writes same.writes_grew files (ends_of station whole.run) now found)) ends;
+        more = [];
+        created = kept ∙ all_created ran none ∙ ap (λ ns. after_making ns first.created) (sym (append-nil (names_in station.plan.sinks)));
       }
 
   -- some were created, and all of them closed
-  pub some_written : (device : Bool) (ran : RanPart told first station order groups old.created) → (device ≡ true → (ran.parts.others ≡ []) ⊎ Rose first.writes old.writes ⊎ Rose old.writes new.writes) → new.created ≡ old.created
+  pub some_written : (device : Bool) (ran : RanPart told first station order groups old.created) → ((ran.parts.others ≡ []) ⊎ ((m : ℕ) → ran.begun.made m ≡ 0)) → (device ≡ true → (ran.parts.others ≡ []) ⊎ Rose first.writes old.writes ⊎ Rose old.writes new.writes) → new.created ≡ old.created
       → ((ns : List (List ℕ)) → AreCreated (WillClose told old.closed) ns order groups → HaveClosed 1 ns old.closed new.closed)
       → ForSome old.files (λ files. (outputs : List OutputPart) → AreCreated (HoldsSoMuch told) outputs order groups → IsSomeAnd new.files (λ now. HoldsParts old.writes files outputs now new.writes))
       → ForSome first.files (λ files. StoppedInTicks station device files first new)
-  some_written device ran risen kept closes closed files at = record {
+  some_written device ran unbegun risen kept closes closed files at = record {
     run = ran.run;
     begun = ran.begun;
     parts = λ rest.
@@ -153,10 +162,11 @@ module _ {O : Type 0} (told : O → SinkTold) (station : Station) (first old new
         (λ output sink is. is.holds (inl (ap is_some at))) created order groups (ran.parts.parts rest) in
         let parts = closed files (same.files_kept ∙ at) (map (front_file world station.ticks made tried) created) (created_mapped (front_file world station.ticks made tried) (HoldsSoMuch told) created order groups are) in
         some_and new.files (λ now. HoldsParts old.writes files (map (front_file world station.ticks made tried) created) now new.writes)
-        (λ now. HoldsSome device files (parts_with station ran.run ran.begun rest) now first new)
+        (λ now. HoldsSome ((m : ℕ) → ran.begun.made m ≡ 0) device files (parts_with station ran.run ran.begun rest) now first new)
         (λ now found. record {
           created = map (front_file world station.ticks made tried) created;
           others = map (front_file world station.ticks made tried) ran.parts.others;
+          unbegun = unbegun_by (front_file world station.ticks made tried) unbegun;
           told = kept ∙ ran.parts.made_are ∙ ap (λ ns. after_making ns first.created) (fronts_named world station.ticks made tried created);
           begun = subst (λ ns. HaveClosed 1 ns first.closed new.closed) (fronts_named world station.ticks made tried created) (created_closed told first old new order refl same.closed_kept ran.parts closes);
           outputs_are = fronts_are world station.ticks made tried station.plan.sinks ∙ ap (map (front_file world station.ticks made tried)) ran.parts.all ∙ map-append (front_file world station.ticks made tried) created ran.parts.others;
@@ -167,6 +177,10 @@ module _ {O : Type 0} (told : O → SinkTold) (station : Station) (first old new
         }) parts;
   }
     where
+      unbegun_by : (f : Written → OutputPart) → ((ran.parts.others ≡ []) ⊎ ((m : ℕ) → ran.begun.made m ≡ 0)) → ((map f ran.parts.others ≡ []) ⊎ ((m : ℕ) → ran.begun.made m ≡ 0))
+      unbegun_by f (inl none) = inl (ap (map f) none)
+      unbegun_by f (inr idle) = inr idle
+
       by_cause : (f : Written → OutputPart) → (ran.parts.others ≡ []) ⊎ Rose first.writes old.writes ⊎ Rose old.writes new.writes
           → (map f ran.parts.others ≡ []) ⊎ Rose first.writes old.writes ⊎ Rose old.writes new.writes
       by_cause f (inl none) = inl (ap (map f) none)

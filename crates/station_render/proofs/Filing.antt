@@ -100,7 +100,7 @@ module _ (name bytes : List ℕ) (old made new : ShelfTold) (first last : SinkTo
       subst (λ told. HaveClosed 0 (name ∷ []) told new.closed) only.closed
       (closed_as 0 name last made.closed new.closed
       (λ told at. let there = sym only.closed ∙ at in
-      (moved.named ∙ fresh_named name (length bytes) old first fresh (inr (ap is_some there)), moved.tells (fresh_told name (length bytes) old first fresh told there)))
+      (moved.named ∙ fresh_named name (length bytes) old first fresh (inr (ap is_some there)), (moved.tells (fresh_told name (length bytes) old first fresh told there), λ more. absurd (omega (arith, more)))))
       closing.closed)
 
   left_by : {E : Type 0} (r : Result (Unit {0}) E) → IsMoved bytes first last

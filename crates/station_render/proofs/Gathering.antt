@@ -156,7 +156,7 @@ not_begun setting clocks ticks (Again trace) may =
         made = λ m. 0;
         tried = λ m. 0;
         within = λ m. record { least = omega arith; most = omega arith; no_fewer = omega arith; one_more = omega arith };
-        came = there.1;
+        came = (there.1, λ m n is other. absurd (omega (arith, is)));
       };
       none = λ k. refl;
     }
@@ -252,7 +252,7 @@ module _ {S : Type 0} {told : S → SinkTold} {setting : Setting} {clocks ticks 
           made = came.made;
           tried = came.tried;
           within = λ m. subst (λ n. IsWithin 0 n (came.made m) (came.tried m)) ticks_are (came.within m);
-          came = record { ticks_are = ticks_are; of = ran.of };
+          came = (record { ticks_are = ticks_are; of = ran.of }, came.one);
         };
         part = came.part;
         failed = λ failed sink is. let write = came.write failed sink is in failed_at told failed write.place new write.before write.after write.is write.rose;

@@ -23,7 +23,7 @@ use Rattle.stations.specs.Renderings.{WrotePart}
 use Rattle.stations.specs.Stations.{Station, Way, InRounds, InWindows, Again, setting_of_run}
 use Rattle.stations.specs.Streams.{output_files}
 use Rattle.stations.specs.Traces.{later_files, traced, traces_in}
-use Rattle.stations.proofs.Making.{front_made, then_listed}
+use Rattle.stations.proofs.Making.{front_made, then_listed, then_made}
 use Rattle.stations.proofs.Parts.{both_outputs, upto_front, upto_none, upto_then}
 use Rattle.station_render.specs.Faults.{ended_by_device, is_device}
 use Rattle.station_render.specs.Marks.{cue_file, cue_files_if, cue_files_with, cues_of}
@@ -85,14 +85,16 @@ one_part before after name bytes part files at =
 
 -- the outputs were written, and then the files behind them
 module _ (station : Station) (first mid : ShelfTold) (rendered : Rendered) (wrote : WroteOutputs station first mid rendered) where
-  pub later_part : (device : Bool) (last : ShelfTold) (later : List OutputFile) → later_files station wrote.run ≡ later → ForSome mid.files (λ files. IsSomeAnd last.files (HoldsUpto files later))
+  pub later_part : mid.created ≡ after_making (names_in station.plan.sinks) first.created → (names : List (List ℕ)) (device : Bool) (last : ShelfTold) → CreatedFront names mid last → (later : List OutputFile) → later_files station wrote.run ≡ later → ForSome mid.files (λ files. IsSomeAnd last.files (HoldsUpto files later))
       → ForSome first.files (λ files. WrotePart station device files first last)
-  later_part device last later is part files at =
+  later_part made names device last front later is part files at =
       let outputs = output_files station wrote.run in
       inr (record {
         run = wrote.run;
         lawful = wrote.lawful;
         part = some_and last.files (HoldsUpto (with_outputs files outputs) later) _ (λ now upto. inr (subst (λ l. HoldsUpto (with_outputs files outputs) l now) (sym is) upto)) (part (with_outputs files outputs) (wrote.outputs_written files at));
+        more = front.made;
+        created = then_made (names_in station.plan.sinks) front.made first.created mid.created last.created made front.told;
       })
 
   pub later_whole : (later : List OutputFile) (last : ShelfTold) (said : Rendered) → later_files station wrote.run ≡ later → IsTold station wrote.run said

@@ -7,25 +7,27 @@ use Rattle.std.proofs.lemmas.Bool.{true≢false}
 use Rattle.std.proofs.lemmas.List.{length-replicate}
 use Rattle.liq_base.specs.Counts.{one_more_append}
 use Rattle.liq_base.specs.Pieces.{HasRoom, SinkTold, TookPiece, grown}
-use Rattle.liq_base.specs.Shelves.{Closing, IsFresh, Lists, ShelfTold, closing_of as closing_told, noted}
+use Rattle.liq_base.specs.Shelves.{Closing, IsFresh, Lists, ShelfTold, closing_of as closing_told, without_faults}
 use Rattle.plan_core.specs.declared.sink.SinkPlan.{SinkPlan}
 use Rattle.plan_core.specs.declared.sink.SinkPlan.TheVariants.{Output, Feed}
 use Rattle.frame_core.specs.Calls.{Answer}
 use Rattle.stream_meaning.specs.Instants.{Setting, answered}
 use Rattle.stations.specs.Creations.{CreatedFront, HaveClosed, HaveListed, after_making, closing_at_once, closings_in, names_in}
 use Rattle.stations.specs.Outputs.{OutputFile}
-use Rattle.stations.specs.Streams.{body_size, file_bytes, output_bytes, zeros_after}
-use Rattle.stations.proofs.Lengths.{file_long}
+use Rattle.run_records.specs.Buffers.{main_of as main_clock}
+use Rattle.stream_meaning.specs.Sinks.{ticks_bytes}
+use Rattle.stations.specs.Streams.{body_size, file_bytes, header_for, output_bytes, zeros_after}
+use Rattle.stations.proofs.Lengths.{file_long, header_long}
 use Rattle.stations.proofs.Making.{closed_any, none_closed, none_listed, one_closed, one_listed, then_closed, then_listed}
-use Rattle.station_render.specs.Listed.{AreTold, EndsAs, IsMeasured, TellsSinks, WillClose, WillList}
+use Rattle.station_render.specs.Listed.{AreTold, EndsAs, HasHeader, IsMeasured, TellsSinks, WillClose, WillList}
 use Rattle.station_render.specs.OutputSinks.{HasEnded, MayHaveTaken, has_one, last_byte, owed_by, size_by, size_of}
-use Rattle.station_render.specs.Renders.{AreBegun, IsPart, IsWhole, Written, body_of, closing_of, debt_of, whole_size, written}
+use Rattle.station_render.specs.Renders.{AreBegun, IsPart, IsWhole, Written, body_of, closing_of, debt_of, front_file, whole_size, written}
 use Rattle.station_render.specs.Shelves.{TookAtOnce}
 use Rattle.station_render.specs.declared.output_sink.OutputSink.{OutputSink}
 use Rattle.station_render.specs.Sinks.{AreCreated, HoldsWhole, WasTaken}
 use Rattle.station_render.proofs.Creating.{created_as, created_mapped, names_written}
 use Rattle.station_render.proofs.Dealing.{first_so, others_so}
-use Rattle.station_render.proofs.Measures.{fresh_empty, fresh_measured, fresh_named, fresh_told, moved_named, moved_told, took_size, took_told}
+use Rattle.station_render.proofs.Measures.{fresh_empty, fresh_measured, fresh_named, fresh_told, front_header, moved_header, moved_named, moved_told, took_size, took_told}
 
 -- what a size says of the bytes held and the room left
 record IsSized (held : Option (List ℕ)) (left : Option ℕ) (size : ℕ) : Type 0 where
@@ -45,27 +47,31 @@ there_is None some = absurd (true≢false (sym some))
 there_is (Some item) some = (item, refl)
 
 -- the closing of a sink that ends so lists this
-pub listed_as : (closing : Closing) (last : SinkTold) (before after : Option (List Closing)) → EndsAs closing last → Lists last before after → after ≡ noted closing before
+pub listed_as : (closing : Closing) (last : SinkTold) (before after : Option (List Closing)) → EndsAs closing last → Lists last before after → HaveListed (closing ∷ []) before after
 listed_as closing last before after ends lists =
     let sized = sized_by last.held last.room closing.room ends.size_is in
     let same : Some sized.bytes ≡ Some ends.held = sym sized.holds ∙ ends.holds in
     let held_is : sized.bytes ≡ ends.held = cc in
-    let whole : closing_told closing.name sized.bytes sized.room closing.pieces ≡ closing = λ i. record {
+    let one : Closing = closing_told closing.name sized.bytes sized.room closing.pieces last.faults in
+    let whole : without_faults one ≡ closing = λ i. record {
       name = closing.name;
       room = sized.sums i;
       bytes = (ap length held_is ∙ ends.long) i;
       pieces = closing.pieces;
+      faults = (sym ends.sound) i;
     } in
-    lists closing.name ends.named sized.bytes sized.holds sized.room sized.leaves closing.pieces ends.pieces_are ∙ ap (λ c. noted c before) whole
+    one_listed closing one before after whole (lists closing.name ends.named sized.bytes sized.holds sized.room sized.leaves closing.pieces ends.pieces_are)
 
 -- that of a sink that tells all lists its name
-pub closed_as : (least : ℕ) (name : List ℕ) (last : SinkTold) (before after : Option (List Closing)) → ForSome before (λ told. (last.name ≡ Some name) × AreTold least last) → Lists last before after
+pub closed_as : (least : ℕ) (name : List ℕ) (last : SinkTold) (before after : Option (List Closing)) → ForSome before (λ told. (last.name ≡ Some name) × (AreTold least last × (0 < least → HasHeader last))) → Lists last before after
     → HaveClosed least (name ∷ []) before after
 closed_as least name last before after tells lists told at =
     let is = tells told at in
-    let size = there_is (size_of last) is.1.size_told in
+    let all = is.1.0 in
+    let size = there_is (size_of last) all.size_told in
     let sized = sized_by last.held last.room size.0 size.1 in
-    one_closed (closing_told name sized.bytes sized.room is.1.pieces) before after is.1.enough (lists name is.0 sized.bytes sized.holds sized.room sized.leaves is.1.pieces is.1.pieces_are) told at
+    one_closed (closing_told name sized.bytes sized.room all.pieces last.faults) before after all.enough (λ more none. is.1.1 more none sized.bytes sized.holds)
+    (lists name is.0 sized.bytes sized.holds sized.room sized.leaves all.pieces all.pieces_are) told at
 
 -- the first sink was closed, and then the others
 pub closed_then : {O : Type 0} (told : O → SinkTold) (order rest : List ℕ) (clock : ℕ) (split : order ≡ clock ∷ rest) (old new : List (List (OutputSink O))) (sink : OutputSink O) (taken : WasTaken clock old sink new)
@@ -80,7 +86,7 @@ closed_then told order rest clock split old new sink taken last moved before bet
     let left : AreCreated (WillClose told between) ns rest new =
     created_as So (WillClose told between) (λ y x is more there. is said at) ns rest new (others_so So clock rest old new sink taken n ns these) in
     then_closed (n ∷ []) ns before between after
-    (closed_as 1 n last before between (λ more there. let was = first more there in (moved_named (told sink.sink) last moved ∙ was.0, moved_told (told sink.sink) last moved was.1)) lists)
+    (closed_as 1 n last before between (λ more there. let was = first more there in (moved_named (told sink.sink) last moved ∙ was.0, (moved_told (told sink.sink) last moved was.1.0, λ low. moved_header (told sink.sink) last moved was.1.1))) lists)
     (others ns left) said at
 
 -- no sink was there
@@ -108,7 +114,21 @@ listed_then told order rest clock split old new sink taken last ended before bet
     let first = (first_so So clock rest old new sink taken closing closings these).0 said at last ended in
     let left : AreCreated (WillList told between) closings rest new =
     created_as So (WillList told between) (λ y x is more there. is said at) closings rest new (others_so So clock rest old new sink taken closing closings these) in
-    then_listed (closing ∷ []) closings before between after (one_listed closing before between (listed_as closing last before between first lists)) (others closings left) said at
+    then_listed (closing ∷ []) closings before between after (listed_as closing last before between first lists) (others closings left) said at
+
+-- such a sink holds its header
+front_long : (world : Setting) (ticks : ℕ) (made tried : ℕ → ℕ) (output : Written) → 44 ≤ length (front_file world ticks made tried output).least
+front_long world ticks made tried output =
+    let header = header_for world output.wide ticks output.node in
+    let sums = length-append header (ticks_bytes world output.wide output.node (made (main_clock world output.node))) in
+    let long = header_long world output.wide ticks output.node in
+    omega (arith, sums, long)
+
+will_close : {O : Type 0} (told : O → SinkTold) (first : ShelfTold) (world : Setting) (ticks : ℕ) (made tried : ℕ → ℕ) (output : Written) (sink : OutputSink O) → IsPart told first world ticks made tried output sink
+    → WillClose told first.closed output.name sink
+will_close told first world ticks made tried output sink is before at =
+    let holds = is.holds (inr (ap is_some at)) in
+    (holds.named, (is.measured before at, front_header (front_file world ticks made tried output) (told sink.sink) holds (front_long world ticks made tried output)))
 
 -- the sinks that were made were closed, and had got a piece
 pub created_closed : {O : Type 0} {setting : Setting} {answers : (ℕ → List Answer) → ℕ → List Answer} {ticks : ℕ} {made tried : ℕ → ℕ} {order : List ℕ} {groups : List (List (OutputSink O))} {created_now : Option (List (List ℕ))}
@@ -119,7 +139,7 @@ created_closed {setting = setting} {answers = answers} {ticks = ticks} {made = m
     subst (λ (z : Option (List Closing) × List ℕ). AreCreated (WillClose told z.0) names z.1 groups → HaveClosed 1 names z.0 last.closed) (λ i. (same i, order_is i)) (closes names)
     (created_mapped (λ (output : Written). output.name) (WillClose told first.closed) begun.created order groups
     (created_as (IsPart told first (answered setting (answers (λ buffer. []))) ticks made tried) (λ output sink. WillClose told first.closed output.name sink)
-    (λ output sink is before at. ((is.holds (inr (ap is_some at))).named, is.measured before at)) begun.created order groups (begun.parts (λ buffer. []))))
+    (will_close told first (answered setting (answers (λ buffer. []))) ticks made tried) begun.created order groups (begun.parts (λ buffer. []))))
 
 -- they are the first ones
 pub front_closed : {O : Type 0} (told : O → SinkTold) (first now last : ShelfTold) (setting : Setting) (answers : (ℕ → List Answer) → ℕ → List Answer) (ticks : ℕ) (made tried : ℕ → ℕ) (order order_now : List ℕ) (groups : List (List (OutputSink O)))
@@ -146,7 +166,7 @@ part_closed told first world ticks made tried sinks order groups are =
     subst (λ ns. AreCreated (WillClose told first.closed) ns order groups) (sym (names_written sinks))
     (created_mapped (λ (output : Written). output.name) (WillClose told first.closed) (written sinks) order groups
     (created_as (IsPart told first world ticks made tried) (λ output sink. WillClose told first.closed output.name sink)
-    (λ output sink is before at. ((is.holds (inr (ap is_some at))).named, is.measured before at)) (written sinks) order groups are))
+    (will_close told first world ticks made tried) (written sinks) order groups are))
 
 -- the closings of the outputs of a plan
 closings_are : (setting : Setting) (ticks : ℕ) (sinks : List SinkPlan) → closings_in setting ticks sinks ≡ map (closing_of setting ticks) (written sinks)
@@ -191,6 +211,7 @@ module _ (world : Setting) (ticks : ℕ) (few : ticks + 2 < 2 ^ 64) (output : Wr
         holds = ap (λ (s : SinkTold). s.held) same ∙ held.holds;
         long = omega (arith, long, none);
         pieces_are = ap (λ (s : SinkTold). s.appends) same ∙ is.pieces_are ∙ ap (λ n. Some n) count;
+        sound = refl;
       }
   will_end true sink last owes held is took =
       let one = owes_one (size % 2) sink.room (mod-lt size {m = 2} (omega arith)) owes in
@@ -205,6 +226,7 @@ module _ (world : Setting) (ticks : ℕ) (few : ticks + 2 < 2 ^ 64) (output : Wr
         holds = took.held_grew ∙ ap (grown (0 ∷ [])) held.holds;
         long = omega (arith, long, more, rest);
         pieces_are = took.once ∙ ap one_more_append is.pieces_are ∙ ap (λ n. Some n) count;
+        sound = refl;
       }
 
 -- after a run that made all ticks, the closings will list these
@@ -227,6 +249,7 @@ module _ (name : List ℕ) (bytes : List ℕ) (shelf : ShelfTold) (first : SinkT
     holds = ap (λ (s : SinkTold). s.held) same ∙ fresh_empty name (length bytes) shelf first fresh tells;
     long = refl;
     pieces_are = ap (λ (s : SinkTold). s.appends) same ∙ measured.pieces_are;
+    sound = refl;
   }
   ends_at_once (byte ∷ text) is last took tells measured =
       let whole = byte ∷ text in
@@ -238,6 +261,7 @@ module _ (name : List ℕ) (bytes : List ℕ) (shelf : ShelfTold) (first : SinkT
         holds = took.held_grew ∙ ap (grown whole) (fresh_empty name (length bytes) shelf first fresh tells);
         long = refl;
         pieces_are = took.once ∙ ap one_more_append measured.pieces_are ∙ refl;
+        sound = refl;
       }
 
   pub listed_at_once : (last : SinkTold) → TookAtOnce bytes first last → (before after : Option (List Closing)) → before ≡ shelf.closed → Lists last before after
@@ -245,4 +269,4 @@ module _ (name : List ℕ) (bytes : List ℕ) (shelf : ShelfTold) (first : SinkT
   listed_at_once last took before after same lists told at =
       let closing = closing_at_once (record { name = name; bytes = bytes }) in
       let ends = ends_at_once bytes refl last took (inr (ap is_some at)) (fresh_measured name (length bytes) shelf first fresh told at) in
-      one_listed closing shelf.closed after (listed_as closing last before after ends lists ∙ ap (noted closing) same) told at
+      subst (λ cs. HaveListed (closing ∷ []) cs after) same (listed_as closing last before after ends lists) told at

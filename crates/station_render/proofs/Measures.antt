@@ -1,14 +1,16 @@
 -- What a sink tells, after it took a piece.
-use Rattle.std.proofs.Common.{◌≡◌, ◌<◌, ◌≤◌, ◌+◌, ◌-◌, ◌^◌, ◌∙◌, ◌++◌, ℕ, zero, suc, Bool, true, false, List, [], ◌∷◌, length, length-append, append-nil, arith, refl, ap, sym, subst, inl, inr}
+use Rattle.std.proofs.Common.{◌≡◌, ◌<◌, ◌≤◌, ◌+◌, ◌-◌, ◌^◌, ◌∙◌, ◌++◌, ℕ, zero, suc, Bool, true, false, List, [], ◌∷◌, length, length-append, append-nil, arith, refl, ap, sym, subst, inl, inr, ◌⊎◌}
 use Rattle.std.specs.Prelude.{Option, Some, None, IsSome, is_some, min}
 use Rattle.std.specs.Fn.{iterate}
 use Rattle.std.specs.Option.{ForSome}
 use Rattle.liq_base.specs.Counts.{one_more_append}
 use Rattle.liq_base.specs.Created.{is_told}
-use Rattle.liq_base.specs.Pieces.{HasRoom, SinkTold, TookPiece, grown, narrowed}
+use Rattle.liq_base.specs.Pieces.{HasRoom, IsPrefix, SinkTold, TookPiece, grown, narrowed}
 use Rattle.liq_base.specs.Shelves.{IsFresh, ShelfTold}
-use Rattle.station_render.specs.Listed.{AreTold, IsMeasured, TellsSinks}
+use Rattle.stations.specs.Outputs.{OutputPart}
+use Rattle.station_render.specs.Listed.{AreTold, HasHeader, IsMeasured, TellsSinks}
 use Rattle.station_render.specs.OutputSinks.{MayHaveTaken, owed_by, output_told, size_by, size_of, told_name, told_number}
+use Rattle.station_render.specs.Sinks.{HoldsFront}
 use Rattle.station_render.specs.declared.output_sink.OutputSink.{OutputSink}
 
 -- the size stays
@@ -41,6 +43,38 @@ took_told taken old new took least tells = record {
 pub moved_told : (old new : SinkTold) → MayHaveTaken old new → AreTold 1 old → AreTold 1 new
 moved_told old new (inl same) tells = subst (AreTold 1) (sym same) tells
 moved_told old new (inr took) tells = took_told took.0 old new took.1 1 tells
+
+-- a header stays
+grown_long : (taken : List ℕ) (before : Option (List ℕ)) (held : List ℕ) → grown taken before ≡ Some held → ForSome before (λ h. 44 ≤ length h) → 44 ≤ length held
+grown_long taken None held at long = absurd (cc)
+grown_long taken (Some before) held at long =
+    let same : Some (before ++ taken) ≡ Some held = at in
+    let is : before ++ taken ≡ held = cc in
+    let sums = length-append before taken in
+    let whole = ap length is in
+    let low : 44 ≤ length before = long before refl in
+    omega (arith, sums, whole, low)
+
+pub moved_header : (old new : SinkTold) → MayHaveTaken old new → HasHeader old → HasHeader new
+moved_header old new (inl same) has = subst HasHeader (sym same) has
+moved_header old new (inr took) has = λ none held at.
+    let fewer = took.1.faults_grew in
+    let sound : old.faults ≡ 0 = omega (arith, fewer, none) in
+    grown_long took.0 old.held held (sym took.1.held_grew ∙ at) (has sound)
+
+-- what a sink holds of an output begins with its header
+pub front_header : (output : OutputPart) (sink : SinkTold) → HoldsFront output sink → 44 ≤ length output.least → HasHeader sink
+front_header output sink holds long none held at = header holds.least
+  where
+    header : IsPrefix output.least holds.part ⊎ (0 < sink.faults) → 44 ≤ length held
+    header (inl front) =
+        let same : Some holds.part ≡ Some held = sym holds.holds ∙ at in
+        let is : holds.part ≡ held = cc in
+        let one = ap length is in
+        let two = ap length front.whole_is in
+        let sums = length-append output.least front.rest in
+        omega (arith, one, two, sums, long)
+    header (inr failed) = absurd (omega (arith, failed, none))
 
 -- whatever the pieces are
 pub told_any : (least : ℕ) (sink : SinkTold) → AreTold least sink → AreTold 0 sink

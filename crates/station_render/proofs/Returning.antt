@@ -65,18 +65,20 @@ module _ (plan : Plan) (library : Sounds) (clocks : ClockMap) (start ticks : ℕ
   pub starved : {O : Type 0} (told : O → SinkTold) (shelf : ShelfTold) (groups : List (List (OutputSink O))) (way : Way) (trace : Option (List ℕ)) (cues : Bool)
       → HasRecord setting clocks.running ticks way → (made_now : Option (List (List ℕ))) → made_now ≡ after_making (names_in plan.sinks) shelf.created
       → AreCreated (IsReady told shelf setting ticks) (written plan.sinks) (order_of setting (written plan.sinks)) groups
-      → RanPart told shelf (station way trace cues) (order_of setting (written plan.sinks)) groups made_now
+      → (ran : RanPart told shelf (station way trace cues) (order_of setting (written plan.sinks)) groups made_now) × ((m : ℕ) → ran.begun.made m ≡ 0)
   starved told shelf groups way trace cues may made_now is ready =
       let none = not_begun setting clocks.running ticks way may in
-      let made = none.begun.made in let tried = none.begun.tried in
-      record {
-        run = none.run;
-        begun = none.begun;
-        parts = begun_all told shelf setting (answers_with way none.run) ticks made tried (order_of setting (written plan.sinks)) groups made_now is
-            (λ rest. created_as (IsReady told shelf setting ticks) (IsPart told shelf (answered setting (answers_with way none.run rest)) ticks made tried)
-            (part_of_ready told shelf setting ticks made tried none.none (answers_with way none.run rest))
-            (written plan.sinks) (order_of setting (written plan.sinks)) groups ready);
-      }
+      let made = none.begun.made in let tried = none.begun.tried in (
+        record {
+          run = none.run;
+          begun = none.begun;
+          parts = begun_all told shelf setting (answers_with way none.run) ticks made tried (order_of setting (written plan.sinks)) groups made_now is
+              (λ rest. created_as (IsReady told shelf setting ticks) (IsPart told shelf (answered setting (answers_with way none.run rest)) ticks made tried)
+              (part_of_ready told shelf setting ticks made tried none.none (answers_with way none.run rest))
+              (written plan.sinks) (order_of setting (written plan.sinks)) groups ready);
+        },
+        none.none,
+      )
 
 -- what a job fits has a meaning
 pub is_setting : {plan : Plan} {library : Sounds} {clocks : ClockMap} {start ticks : ℕ} → IsFit plan library clocks ticks → start < 604800 → IsSetting (setting_for plan library clocks start) clocks

@@ -24,12 +24,16 @@ pub record AreTold (least : ℕ) (sink : SinkTold) : Type 0 where
   pub pieces_are : sink.appends ≡ Some pieces
   pub enough : least ≤ pieces
 
--- where a shelf tells of its closings, a sink tells what that of its own will list, and that is of this name and of a
--- piece at least
+-- a sink that did not fail holds a header, of 44 bytes at least
+abbrev pub HasHeader : SinkTold → Type 0
+HasHeader sink = sink.faults ≡ 0 → ForSome sink.held (λ held. 44 ≤ length held)
+
+-- where a shelf tells of its closings, a sink tells what that of its own will list, and that is of this name, of a
+-- piece at least, and of a whole header, if it did not fail
 abbrev pub WillClose : {O : Type 0} → (told : O → SinkTold) → (closed : Option (List Closing)) → List ℕ → OutputSink O
     → Type 0
 WillClose told closed name output = ForSome closed (λ before. ((told output.sink).name ≡ Some name)
-    × AreTold 1 (told output.sink))
+    × (AreTold 1 (told output.sink) × HasHeader (told output.sink)))
 
 -- once a sink got the byte that it owes, its closing lists this
 pub record EndsAs (closing : Closing) (last : SinkTold) : Type 0 where
@@ -39,6 +43,7 @@ pub record EndsAs (closing : Closing) (last : SinkTold) : Type 0 where
   pub holds : last.held ≡ Some held
   pub long : length held ≡ closing.bytes
   pub pieces_are : last.appends ≡ Some closing.pieces
+  pub sound : closing.faults ≡ 0
 
 -- so it will be of an output
 abbrev pub WillList : {O : Type 0} → (told : O → SinkTold) → (closed : Option (List Closing)) → Closing → OutputSink O

@@ -85,6 +85,7 @@ closing_of setting ticks output = record {
   room = length (file_bytes setting output.wide ticks output.node);
   bytes = length (file_bytes setting output.wide ticks output.node);
   pieces = suc ticks + body_size setting output.wide ticks output.node % 2;
+  faults = 0;
 }
 
 -- the bytes of an output's file: 44 of its header, those of its samples, and a zero byte where these are odd

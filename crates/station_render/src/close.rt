@@ -62,7 +62,8 @@ pub(crate) fn close_broken<S: Shelf>(
     requires { HaveSizes order.now (lists_of groups.items) }
     ensures same { result ≡ fault }
     ensures part { (station : Station) (first : ShelfTold) → OnlyCreates first (S.told shelf.old)
-        → RanPart S.Out.told first station order.now (lists_of groups.items) (S.told shelf.old).created
+        → (ran : RanPart S.Out.told first station order.now (lists_of groups.items) (S.told shelf.old).created)
+        → ((m : ℕ) → ran.begun.made m ≡ 0)
         → (is_device fault ≡ true → Rose first.writes (S.told shelf.old).writes
         ⊎ HasFailed (inner S.Out.told) (lists_of groups.items))
         → ForSome first.files (λ files. WrotePart station (is_device fault) files first (S.told shelf.new)) }

@@ -1,7 +1,6 @@
 // What an output begins with.
 ghost use Rattle.std.specs.Prelude.{◌≡◌, ◌<◌, ◌≤◌, ◌*◌, ℕ, Some, length, slice_get, is_none, false};
 ghost use Rattle.plan_core.specs.Plans.{IsWellFormed};
-ghost use Rattle.clock_infer.specs.declared.clock_map.NodeClock.TheVariants.{Main as InMain};
 ghost use Rattle.stream_meaning.specs.Sinks.{block_length};
 ghost use Rattle.wav_io.specs.Header.{header_at};
 ghost use Rattle.stations.specs.Streams.{header_bytes_at};
@@ -27,8 +26,8 @@ pub(crate) struct Opening {
 
 // The number of a sink's clock.
 pub(crate) fn clock_of(clocks: &ClockMap, node: u32) -> u32
-    requires { (m : ℕ) × (slice_get clocks.now.of node ≡ Some (InMain m)) }
-    ensures { slice_get clocks.now.of node ≡ Some (InMain result) }
+    requires { (m : ℕ) × (slice_get clocks.now.of node ≡ Some (NodeClock.Main m)) }
+    ensures { slice_get clocks.now.of node ≡ Some (NodeClock.Main result) }
 {
     match clocks.of.as_slice()[node as usize] {
         NodeClock::Main(clock) => clock,
@@ -47,9 +46,9 @@ pub(crate) fn opening_of(
     requires plan { IsWellFormed plan.now }
     requires within { node < length plan.now.nodes }
     requires few { ticks ≤ 1000000000 }
-    requires clock { (m : ℕ) × (slice_get clocks.now.of node ≡ Some (InMain m)) }
+    requires clock { (m : ℕ) × (slice_get clocks.now.of node ≡ Some (NodeClock.Main m)) }
     requires fits { is_none (header_at wide (node_kind plan.now node) plan.now.rate (ticks * plan.now.frame)) ≡ false }
-    ensures clock { slice_get clocks.now.of node ≡ Some (InMain result.clock) }
+    ensures clock { slice_get clocks.now.of node ≡ Some (NodeClock.Main result.clock) }
     ensures header { result.header
         ≡ header_bytes_at wide (node_kind plan.now node) plan.now.rate (ticks * plan.now.frame) }
     ensures body { result.body ≡ ticks * (plan.now.frame * block_length wide (node_kind plan.now node)) }

@@ -1,5 +1,5 @@
 // The outputs of a plan are opened, with the engines that write into them.
-ghost use Rattle.std.specs.Prelude.{◌≡◌, ◌≤◌, ◌⊎◌, [], IfErr, IfOk, IsErrOf, OnErr, OnOk};
+ghost use Rattle.std.specs.Prelude.{◌≡◌, ◌≤◌, ◌⊎◌, ℕ, [], IfErr, IfOk, IsErrOf, OnErr, OnOk};
 ghost use Rattle.std.specs.Option.{ForSome};
 ghost use Rattle.liq_base.specs.Counts.{Rose};
 ghost use Rattle.stations.specs.Creations.{CreatedFront, after_making, names_in};
@@ -85,8 +85,8 @@ fn open_all<'a, S: Shelf>(
     ensures keeping { IfOk result (λ engines. AreKeeping job.now.cues engines.items) }
     ensures part { OnErr result ((way : Way)
         → HasRecord (setting_by job.now) job.now.ready.now.clocks.running job.now.ticks way
-        → RanPart S.Out.told (S.told shelf.old) (station_in job.now way) order.new.items (lists_of groups.new.items)
-        (S.told shelf.new).created) }
+        → (ran : RanPart S.Out.told (S.told shelf.old) (station_in job.now way) order.new.items
+        (lists_of groups.new.items) (S.told shelf.new).created) × ((m : ℕ) → ran.begun.made m ≡ 0)) }
     ensures cause { IsErrOf result RenderFault.Write
         → Rose (S.told shelf.old).writes (S.told shelf.new).writes
         ⊎ HasFailed (inner S.Out.told) (lists_of groups.new.items) }

@@ -130,4 +130,4 @@ pub begins_as_one : BeginWindows → BeginRounds → AreRounds → AreOne → (s
 begins_as_one windows rounds are_rounds are_one station run is InRounds begun determined = λ alone are. rounds (bare station) station.clocks is station.clocks.running station.ticks run alone begun.came.rounds are
 begins_as_one windows rounds are_rounds are_one station run is (InWindows window) begun (inl alone) = absurd cc
 begins_as_one windows rounds are_rounds are_one station run is (InWindows window) begun (inr local) = λ alone are. windows (bare station) station.clocks is window station.ticks run alone local begun.came.windows are
-begins_as_one windows rounds are_rounds are_one station run is (Again trace) begun determined = again_as_one are_rounds are_one station run is trace begun.came determined
+begins_as_one windows rounds are_rounds are_one station run is (Again trace) begun determined = again_as_one are_rounds are_one station run is trace begun.came.0 determined

@@ -1,10 +1,10 @@
 -- What a shelf tells of the sinks that it made, sink after sink.
-use Rattle.std.proofs.Common.{◌≡◌, ◌≤◌, ◌∙◌, ◌++◌, ℕ, List, [], ◌∷◌, map, refl, ap, sym, append_assoc, arith, Bool, true, false}
+use Rattle.std.proofs.Common.{◌≡◌, ◌≤◌, ◌<◌, ◌∙◌, ◌++◌, ℕ, List, [], ◌∷◌, map, refl, ap, sym, append_assoc, arith, Bool, true, false}
 use Rattle.std.specs.Prelude.{Option, Some, None}
 use Rattle.std.proofs.lemmas.List.{append-nil, map-append}
 use Rattle.std.proofs.lemmas.List.Elements.{All-append, All-cons, All-nil}
 use Rattle.std.specs.Option.{ForSome}
-use Rattle.liq_base.specs.Shelves.{Closing, ShelfTold, noted}
+use Rattle.liq_base.specs.Shelves.{Closing, ShelfTold, noted, without_faults}
 use Rattle.plan_core.specs.declared.sink.SinkPlan.{SinkPlan}
 use Rattle.plan_core.specs.declared.sink.SinkPlan.TheVariants.{Output, Feed}
 use Rattle.stream_meaning.specs.Instants.{Setting}
@@ -41,15 +41,18 @@ none_closed {least} before after same told at = record {
   closings = [];
   names_are = refl;
   pieces_are = All-nil (λ (closing : Closing). least ≤ closing.pieces);
+  headers_are = All-nil (λ (closing : Closing). 0 < least → closing.faults ≡ 0 → 44 ≤ closing.bytes);
   told = same ∙ at ∙ ap Some (sym (append-nil told));
 }
 
 -- one more was
-pub one_closed : {least : ℕ} (closing : Closing) (before after : Option (List Closing)) → least ≤ closing.pieces → after ≡ noted closing before → HaveClosed least (closing.name ∷ []) before after
-one_closed {least} closing before after enough is told at = record {
+pub one_closed : {least : ℕ} (closing : Closing) (before after : Option (List Closing)) → least ≤ closing.pieces → (0 < least → closing.faults ≡ 0 → 44 ≤ closing.bytes) → after ≡ noted closing before
+    → HaveClosed least (closing.name ∷ []) before after
+one_closed {least} closing before after enough headed is told at = record {
   closings = closing ∷ [];
   names_are = refl;
   pieces_are = All-cons (λ (c : Closing). least ≤ c.pieces) closing [] enough (All-nil (λ (c : Closing). least ≤ c.pieces));
+  headers_are = All-cons (λ (c : Closing). 0 < least → c.faults ≡ 0 → 44 ≤ c.bytes) closing [] headed (All-nil (λ (c : Closing). 0 < least → c.faults ≡ 0 → 44 ≤ c.bytes));
   told = is ∙ ap (noted closing) at;
 }
 
@@ -62,6 +65,7 @@ then_closed {least} xs ys before between after first others told at =
       closings = one.closings ++ more.closings;
       names_are = map-append (λ (closing : Closing). closing.name) one.closings more.closings ∙ (λ i. one.names_are i ++ more.names_are i);
       pieces_are = All-append (λ (closing : Closing). least ≤ closing.pieces) one.closings more.closings one.pieces_are more.pieces_are;
+      headers_are = All-append (λ (closing : Closing). 0 < least → closing.faults ≡ 0 → 44 ≤ closing.bytes) one.closings more.closings one.headers_are more.headers_are;
       told = more.told ∙ ap Some (append_assoc told one.closings more.closings);
     }
 
@@ -69,21 +73,30 @@ then_closed {least} xs ys before between after first others told at =
 pub closed_any : (least : ℕ) (names : List (List ℕ)) (before after : Option (List Closing)) → HaveClosed least names before after → HaveClosed 0 names before after
 closed_any least names before after closed told at =
     let is = closed told at in
-    record { closings = is.closings; names_are = is.names_are; pieces_are = λ k d low. omega arith; told = is.told }
+    record {
+      closings = is.closings;
+      names_are = is.names_are;
+      pieces_are = λ k d low. omega arith;
+      headers_are = λ k d low more. absurd (omega (arith, more));
+      told = is.told;
+    }
 
 -- these closings were listed, and then those
 pub none_listed : (before after : Option (List Closing)) → after ≡ before → HaveListed [] before after
-none_listed before after same told at = same ∙ at ∙ ap Some (sym (append-nil told))
+none_listed before after same told at = record { more = []; same = refl; told = same ∙ at ∙ ap Some (sym (append-nil told)) }
 
-pub one_listed : (closing : Closing) (before after : Option (List Closing)) → after ≡ noted closing before → HaveListed (closing ∷ []) before after
-one_listed closing before after is told at = is ∙ ap (noted closing) at
+pub one_listed : (closing one : Closing) (before after : Option (List Closing)) → without_faults one ≡ closing → after ≡ noted one before → HaveListed (closing ∷ []) before after
+one_listed closing one before after same is told at = record { more = one ∷ []; same = ap (λ c. c ∷ []) same; told = is ∙ ap (noted one) at }
 
 pub then_listed : (xs ys : List Closing) (before between after : Option (List Closing)) → HaveListed xs before between → HaveListed ys between after → HaveListed (xs ++ ys) before after
-then_listed xs ys before between after first others told at = others (told ++ xs) (first told at) ∙ ap Some (append_assoc told xs ys)
-
--- what was listed was closed, by the names of it
-pub closed_listed : (closings : List Closing) (before after : Option (List Closing)) → HaveListed closings before after → HaveClosed 0 (map (λ closing. closing.name) closings) before after
-closed_listed closings before after listed told at = record { closings = closings; names_are = refl; pieces_are = λ k d low. omega arith; told = listed told at }
+then_listed xs ys before between after first others told at =
+    let one = first told at in
+    let rest = others (told ++ one.more) one.told in
+    record {
+      more = one.more ++ rest.more;
+      same = map-append without_faults one.more rest.more ∙ (λ i. one.same i ++ rest.same i);
+      told = rest.told ∙ ap Some (append_assoc told one.more rest.more);
+    }
 
 -- all of them are a front of them, and so are none
 pub all_made : (names : List (List ℕ)) (old new : ShelfTold) → new.created ≡ after_making names old.created → HaveClosed 0 names old.closed new.closed → CreatedFront names old new

@@ -78,16 +78,17 @@ pub upto_all : (files : Files) (outputs : List OutputFile) → HoldsUpto files o
 upto_all files outputs = record { whole = outputs; others = []; outputs_are = sym (append-nil outputs); part = refl }
 
 -- nothing was created, for want of memory
-pub none_written : (station : Station) (run : Run) → IsBegun station run → (old new : ShelfTold) → old.writes ≤ new.writes → new.files ≡ old.files → new.created ≡ old.created → new.closed ≡ old.closed
+pub none_written : (station : Station) (run : Run) (begun : IsBegun station run) → ((m : ℕ) → begun.made m ≡ 0) → (old new : ShelfTold) → old.writes ≤ new.writes → new.files ≡ old.files → new.created ≡ old.created → new.closed ≡ old.closed
     → ForSome old.files (λ files. StoppedInTicks station false files old new)
-none_written station run begun old new low same kept unclosed files told = record {
+none_written station run begun idle old new low same kept unclosed files told = record {
   run = run;
   begun = begun;
-  parts = λ rest. subst (λ a. IsSomeAnd a (λ now. HoldsSome false files (parts_with station run begun rest) now old new)) (sym (same ∙ told))
+  parts = λ rest. subst (λ a. IsSomeAnd a (λ now. HoldsSome ((m : ℕ) → begun.made m ≡ 0) false files (parts_with station run begun rest) now old new)) (sym (same ∙ told))
       (record {
         created = [];
         others = parts_with station run begun rest;
         outputs_are = refl;
+        unbegun = inr idle;
         told = kept ∙ none_more old.created;
         begun = none_closed old.closed new.closed unclosed;
         first = old.writes;

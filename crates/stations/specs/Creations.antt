@@ -1,7 +1,7 @@
 -- The names under which a rendering creates its files, in order, and what a shelf tells of them.
 use Rattle.std.specs.Prelude.{◌≡◌, ℕ, suc, ◌+◌, ◌%◌, List, [], ◌∷◌, ◌++◌, length, Option, Some, None, map}
 use Rattle.std.specs.Option.{ForSome}
-use Rattle.liq_base.specs.Shelves.{Closing, ShelfTold}
+use Rattle.liq_base.specs.Shelves.{Closing, ShelfTold, without_faults}
 use Rattle.plan_core.specs.declared.sink.SinkPlan.{SinkPlan}
 use Rattle.plan_core.specs.declared.sink.SinkPlan.TheVariants.{Output, Feed}
 use Rattle.run_records.specs.Records.{Run}
@@ -59,6 +59,7 @@ closings_in setting ticks (Output name node fallible wide ∷ sinks) =
       room = length (file_bytes setting wide ticks node);
       bytes = length (file_bytes setting wide ticks node);
       pieces = suc ticks + body_size setting wide ticks node % 2;
+      faults = 0;
     } ∷ closings_in setting ticks sinks
 closings_in setting ticks (Feed buffer node ∷ sinks) = closings_in setting ticks sinks
 
@@ -74,6 +75,7 @@ closing_at_once file = record {
   room = length file.bytes;
   bytes = length file.bytes;
   pieces = pieces_of file.bytes;
+  faults = 0;
 }
 
 -- what a shelf lists of all files of a run, once they are closed: of its outputs, then of its cue files, and then of
@@ -83,6 +85,12 @@ closings_of station run =
     closings_in (setting_of_run station run) station.ticks station.plan.sinks
     ++ map closing_at_once (later_files station run)
 
--- where a shelf tells of its closings, these came, one after another, and no other
+-- these closings came, one after another, and no other; how often their sinks had failed is left open
+pub record AreListed (closings before : List Closing) (after : Option (List Closing)) : Type 0 where
+  pub more : List Closing
+  pub same : map without_faults more ≡ closings
+  pub told : after ≡ Some (before ++ more)
+
+-- the same, where the shelf tells of its closings
 abbrev pub HaveListed : List Closing → (before after : Option (List Closing)) → Type 0
-HaveListed closings before after = ForSome before (λ told. after ≡ Some (told ++ closings))
+HaveListed closings before after = ForSome before (λ told. AreListed closings told after)

@@ -12,7 +12,6 @@ use Rattle.plan_core.specs.declared.sink.SinkPlan.TheVariants.{Output, Feed}
 use Rattle.plan_core.specs.Plans.{IsWellFormed}
 use Rattle.clock_infer.specs.declared.clock_map.ClockMap.{ClockMap}
 use Rattle.clock_infer.specs.declared.clock_map.ClockFault.{ClockFault}
-use Rattle.clock_infer.specs.declared.clock_map.ClockFault.TheVariants.{Memory as no_memory}
 use Rattle.clock_infer.specs.Answers.{IsClockMap, IsCause}
 use Rattle.fallible_infer.specs.Infallible.{IsMarking, refuses}
 use Rattle.wav_io.specs.Header.{header_at}
@@ -22,7 +21,7 @@ use Rattle.track_library.specs.declared.fault.LoadFault.TheVariants.{Missing, Ba
 use Rattle.track_library.specs.Singles.{HaveSingles}
 use Rattle.track_library.specs.Walk.{load_of}
 use Rattle.stations.specs.declared.fault.StationFault.{StationFault}
-use Rattle.stations.specs.declared.fault.StationFault.TheVariants.{Files as Unloaded, FallibleOutput, Clocks, OutputTooLong}
+use Rattle.stations.specs.declared.fault.StationFault.TheVariants.{FallibleOutput, Clocks, OutputTooLong}
 
 -- what may be loaded: files at the rate of the plan, each of at most 2^28 bytes and all of at most 2^32
 abbrev pub rules_of : Plan → Rules
@@ -38,6 +37,7 @@ abbrev pub first_name : (such : SinkPlan → Bool) → List SinkPlan → Option 
 first_name such [] = None
 first_name such (sink ∷ sinks) = if such sink then Some (sink_name sink) else first_name such sinks
 
+-- whether a node is mono or stereo
 abbrev pub node_kind : Plan → (node : ℕ) → Kind
 node_kind plan node = option_map_or (λ node. node.kind) (slice_get plan.nodes node) Stereo
 
@@ -85,7 +85,7 @@ pub record IsUnsafe (files : Files) (plan : Plan) (name : List ℕ) : Type 0 whe
 pub record IsUnclocked (files : Files) (plan : Plan) (fault : ClockFault) : Type 0 where
   pub library : Sounds
   pub safe : IsSafe files plan library
-  pub of_plan : fault ≢ no_memory
+  pub of_plan : fault ≢ ClockFault.Memory
   pub cause : IsCause plan fault
 
 -- the output of this name is the first that is too long
@@ -104,8 +104,9 @@ IsFileFault files plan AllTooLarge = IsUnloaded files plan AllTooLarge
 IsFileFault files plan (ReadFault name) = ⊥
 IsFileFault files plan Memory = ⊥
 
+-- what each fault of a station means
 abbrev pub IsStationFault : Files → Plan → (ticks : ℕ) → StationFault → Type 0
-IsStationFault files plan ticks (Unloaded fault) = IsFileFault files plan fault
+IsStationFault files plan ticks (StationFault.Files fault) = IsFileFault files plan fault
 IsStationFault files plan ticks (FallibleOutput name) = IsUnsafe files plan name
 IsStationFault files plan ticks (Clocks fault) = IsUnclocked files plan fault
 IsStationFault files plan ticks (OutputTooLong name) = IsTooLong files plan ticks name

@@ -1,5 +1,5 @@
 -- What a rendering writes, and what a shelf holds after it.
-use Rattle.std.specs.Prelude.{◌≡◌, ◌⊎◌, ◌≤◌, All, Bool, true, ℕ, List, [], ◌∷◌, ◌++◌, Option, Some, None, map}
+use Rattle.std.specs.Prelude.{◌≡◌, ◌⊎◌, ◌≤◌, ◌<◌, All, Bool, true, ℕ, List, [], ◌∷◌, ◌++◌, Option, Some, None, map}
 use Rattle.std.specs.Option.{ForSome}
 use Rattle.liq_base.specs.Counts.{Rose}
 use Rattle.liq_base.specs.Files.{Files, HoldsPart, with_file}
@@ -43,28 +43,32 @@ after_making more None = None
 after_making more (Some before) = Some (before ++ more)
 
 -- Sinks of these names were closed, one after another, and no other, each of which had got so many pieces at least.
+-- Where that is one or more, the first piece is a header, of 44 bytes: a sink that had not failed holds it whole.
 -- `before` and `after` is what the shelf tells of its closings.
 pub record AreClosed (least : ℕ) (names : List (List ℕ)) (before : List Closing) (after : Option (List Closing)) : Type
     0 where
   pub closings : List Closing
   pub names_are : map (λ closing. closing.name) closings ≡ names
   pub pieces_are : All (λ closing. least ≤ closing.pieces) closings
+  pub headers_are : All (λ closing. 0 < least → closing.faults ≡ 0 → 44 ≤ closing.bytes) closings
   pub told : after ≡ Some (before ++ closings)
 
 -- the same, where the shelf tells of its closings
 abbrev pub HaveClosed : (least : ℕ) → List (List ℕ) → (before after : Option (List Closing)) → Type 0
 HaveClosed least names before after = ForSome before (λ closings. AreClosed least names closings after)
 
--- So it is for the first of the outputs, which were created, as the shelf tells of the sinks that it made; the others
--- were not. Files do not tell which were created. Each of them had got a piece when it was closed, its header or a
--- front of it, also where the creation of the next one failed. `first` is where the count stood when their closings
--- began. Where a device failed and not all were created, the count rose before that, as a creation failed, which then
--- excuses no file; or it rose at a closing, as a header broke off.
-pub record HoldsSome (device : Bool) (files : Files) (outputs : List OutputPart) (after : Files)
+-- So it is for the first of the outputs, which were created, as the shelf tells of the sinks that it made; the
+-- others were not. Files do not tell which were created. Each of them had got a piece when it was closed, its
+-- header, also where the creation of the next one failed; or a front of its header, and its own sink had failed.
+-- `first` is where the count stood when their closings began. Where a device failed and not all were created, the
+-- count rose before that, as a creation failed, which then excuses no file; or it rose at a closing, as a header
+-- broke off. Where not all were created, no tick was made, which is `idle`.
+pub record HoldsSome (idle : Type 0) (device : Bool) (files : Files) (outputs : List OutputPart) (after : Files)
     (old new : ShelfTold) : Type 0 where
   pub created : List OutputPart
   pub others : List OutputPart
   pub outputs_are : outputs ≡ created ++ others
+  pub unbegun : (others ≡ []) ⊎ idle
   pub told : new.created ≡ after_making (map (λ output. output.name) created) old.created
   pub begun : HaveClosed 1 (map (λ output. output.name) created) old.closed new.closed
   pub first : ℕ
@@ -76,6 +80,7 @@ pub record HoldsSome (device : Bool) (files : Files) (outputs : List OutputPart)
 abbrev pub whole_of : OutputPart → OutputFile
 whole_of output = record { name = output.name; bytes = output.most }
 
+-- an output without its last zero byte
 abbrev pub unended : OutputPart → OutputPart
 unended output = record { name = output.name; least = output.least; most = output.least }
 

@@ -1,11 +1,12 @@
 -- What a rendering leaves that was broken off, and what threads render beside one thread.
-use Rattle.std.specs.Prelude.{◌≡◌, ◌⊎◌, Bool, ℕ, List, IsSomeAnd, ⊤}
+use Rattle.std.specs.Prelude.{◌≡◌, ◌⊎◌, ◌++◌, Bool, ℕ, List, IsSomeAnd, ⊤}
 use Rattle.liq_base.specs.Files.{Files}
 use Rattle.liq_base.specs.Shelves.{ShelfTold}
 use Rattle.frame_core.specs.Calls.{Answer}
 use Rattle.run_records.specs.Records.{IsRounds, Run, setting_in}
 use Rattle.stream_meaning.specs.Instants.{Setting}
 use Rattle.run_records.specs.Rounds.{BeginsRounds, HasNoJoin}
+use Rattle.stations.specs.Creations.{after_making, names_in}
 use Rattle.stations.specs.Cues.{cue_files}
 use Rattle.stations.specs.Outputs.{HoldsEnds, HoldsSome, HoldsUpto, with_outputs}
 use Rattle.stations.specs.Reports.{report_of}
@@ -21,15 +22,19 @@ pub record StoppedInTicks (station : Station) (device : Bool) (files : Files) (o
   pub run : Run
   pub begun : IsBegun station run
   pub parts : (rest : ℕ → List Answer)
-      → IsSomeAnd new.files (λ now. HoldsSome device files (parts_with station run begun rest) now old new)
+      → IsSomeAnd new.files (λ now. HoldsSome ((m : ℕ) → begun.made m ≡ 0) device files
+      (parts_with station run begun rest) now old new)
 
 -- A run made all its ticks, and what came behind them broke off: a last zero byte or a closing of the outputs; or, once
--- all outputs were written, a file among the cue files and the trace.
+-- all outputs were written, a file among the cue files and the trace. All outputs had been created, and of the files
+-- behind them maybe some.
 pub record StoppedBehindTicks (station : Station) (files : Files) (old new : ShelfTold) : Type 0 where
   pub run : Run
   pub lawful : IsLawful station run
   pub part : IsSomeAnd new.files (λ now. HoldsEnds old.writes files (ends_of station run) now new.writes
       ⊎ HoldsUpto (with_outputs files (output_files station run)) (later_files station run) now)
+  pub more : List (List ℕ)
+  pub created : new.created ≡ after_making (names_in station.plan.sinks ++ more) old.created
 
 -- what a rendering leaves, whatever it ended with
 abbrev pub WrotePart : Station → (device : Bool) → Files → (old new : ShelfTold) → Type 0

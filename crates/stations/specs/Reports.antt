@@ -16,6 +16,7 @@ abbrev pub rendered_line : (name : List ℕ) (samples gaps : ℕ) → List ℕ
 rendered_line name samples gaps =
     codes "output " ++ name ++ codes " samples " ++ decimal samples ++ codes " gaps " ++ decimal gaps ++ codes "\n"
 
+-- a line for each output of a rendering
 abbrev pub rendered_lines : Station → Run → List SinkPlan → List ℕ
 rendered_lines station run [] = []
 rendered_lines station run (Output name node fallible wide ∷ sinks) =
@@ -30,6 +31,7 @@ answers_line buffer accepted full got empty =
     codes "buffer " ++ decimal buffer ++ codes " accepted " ++ decimal accepted ++ codes " full " ++ decimal full
     ++ codes " got " ++ decimal got ++ codes " empty " ++ decimal empty ++ codes "\n"
 
+-- the line of a buffer after a rendering: how its puts and takes were answered
 abbrev pub answered_line : Run → (buffer : ℕ) → List ℕ
 answered_line run buffer = answers_line buffer
     (count_by is_some (puts_of run buffer)) (count_by is_none (puts_of run buffer))
@@ -53,6 +55,7 @@ main_name names (Sub k) = []
 abbrev pub clock_name : ClockMap → (node : ℕ) → List ℕ
 clock_name clocks node = main_name clocks.names (slice_index_or clocks.of node (Main 0))
 
+-- the word by which a report calls a node infallible or fallible
 abbrev pub fallible_word : Bool → List ℕ
 fallible_word infallible = if infallible then codes "infallible" else codes "fallible"
 
@@ -62,6 +65,7 @@ checked_line clocks mark name node =
     codes "output " ++ name ++ codes " clock " ++ clock_name clocks node ++ codes " " ++ fallible_word (mark node)
     ++ codes "\n"
 
+-- a line for each output of a check
 abbrev pub checked_lines : ClockMap → (mark : ℕ → Bool) → List SinkPlan → List ℕ
 checked_lines clocks mark [] = []
 checked_lines clocks mark (Output name node fallible wide ∷ sinks) =
@@ -75,11 +79,13 @@ joining_line buffer from to plan =
     codes "buffer " ++ decimal buffer ++ codes " from " ++ from ++ codes " to " ++ to
     ++ codes " pre " ++ decimal plan.pre ++ codes " capacity " ++ decimal plan.capacity ++ codes "\n"
 
+-- the line of a buffer after a check: the clocks that it joins
 abbrev pub buffer_line : Station → (buffer : ℕ) → BufferPlan → List ℕ
 buffer_line station buffer plan =
     joining_line buffer (slice_index_or station.clocks.names (feeder (bare station) buffer) [])
     (slice_index_or station.clocks.names (reader (bare station) buffer) []) plan
 
+-- a line for each buffer of a check
 abbrev pub buffer_lines : Station → (buffer : ℕ) → List BufferPlan → List ℕ
 buffer_lines station buffer [] = []
 buffer_lines station buffer (plan ∷ plans) = buffer_line station buffer plan ++ buffer_lines station (suc buffer) plans

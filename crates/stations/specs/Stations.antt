@@ -1,5 +1,5 @@
 -- What an accepted script renders.
-use Rattle.std.specs.Prelude.{◌≡◌, ℕ, ◌+◌, ◌++◌, List, [], Option, Bool}
+use Rattle.std.specs.Prelude.{◌≡◌, ℕ, suc, ◌+◌, ◌++◌, List, [], Option, Bool}
 use Rattle.frame_core.specs.Library.{Sounds}
 use Rattle.plan_core.specs.declared.plan.Plan.{Plan}
 use Rattle.clock_infer.specs.declared.clock_map.ClockMap.{ClockMap}
@@ -7,7 +7,7 @@ use Rattle.stream_meaning.specs.Instants.{Setting, answered}
 use Rattle.frame_core.specs.Calls.{Answer}
 use Rattle.run_records.specs.Records.{AreRoundsBegun, AreWindowsBegun, AreWindows, IsRounds, IsWithin, Run, answers_of, setting_in, ticks_by}
 use Rattle.trace_log.specs.Values.{TraceValue}
-use Rattle.trace_records.specs.Traces.{IsRecordOf}
+use Rattle.trace_records.specs.Traces.{IsRecordOf, base_of}
 use Rattle.stations.specs.declared.ready.Ready.{Ready}
 
 -- how a station is rendered: on one thread, in rounds; by threads, in windows of so many ticks; or again, on one
@@ -32,13 +32,7 @@ pub record Station : Type 0 where
 
 -- what the streams of a station rest on, but for the answers of its buffers
 abbrev pub bare : Station → Setting
-bare station = record {
-  plan = station.plan;
-  library = station.library;
-  clocks = station.clocks.of;
-  start = station.start;
-  answers = λ buffer. [];
-}
+bare station = base_of station.plan station.library station.clocks station.start
 
 -- what they rest on in a run
 abbrev pub setting_of_run : Station → Run → Setting
@@ -54,6 +48,7 @@ answers_with (Again trace) run rest = answers_of run
 abbrev pub setting_after : Way → Setting → Run → (rest : ℕ → List Answer) → Setting
 setting_after way setting run rest = answered setting (answers_with way run rest)
 
+-- the setting of a run that broke off, had it gone on with these answers
 abbrev pub setting_with : Station → Run → (rest : ℕ → List Answer) → Setting
 setting_with station run rest = setting_after station.way (bare station) run rest
 
@@ -81,12 +76,16 @@ pub record AreWindowsAt (setting : Setting) (clocks ticks window : ℕ) (run : R
   pub made_are : (m : ℕ) → made m ≡ windows.made m
   pub tried_are : (m : ℕ) → tried m ≡ windows.tried m
 
+-- one thread stopped in a tick of one clock, if in any
+abbrev pub IsOfOneTick : (made tried : ℕ → ℕ) → Type 0
+IsOfOneTick made tried = (m n : ℕ) → tried m ≡ suc (made m) → tried n ≡ suc (made n) → m ≡ n
+
 -- the record of a run in which each clock made and tried so many ticks; that of a replay is whole, in whatever order
 -- its clocks make theirs
 abbrev pub CameTo : Setting → (clocks ticks : ℕ) → Way → Run → (made tried : ℕ → ℕ) → Type 0
 CameTo setting clocks ticks InRounds run made tried = AreRoundsAt setting clocks ticks run made tried
 CameTo setting clocks ticks (InWindows window) run made tried = AreWindowsAt setting clocks ticks window run made tried
-CameTo setting clocks ticks (Again trace) run made tried = IsReplay setting clocks ticks trace run
+CameTo setting clocks ticks (Again trace) run made tried = IsReplay setting clocks ticks trace run × IsOfOneTick made tried
 
 -- Or they came so far: each made so many of their ticks, and tried no more, or the one in which it stopped.
 pub record IsBegunIn (setting : Setting) (clocks ticks : ℕ) (way : Way) (run : Run) : Type 0 where
@@ -99,6 +98,7 @@ pub record IsBegunIn (setting : Setting) (clocks ticks : ℕ) (way : Way) (run :
 abbrev pub IsLawful : Station → Run → Type 0
 IsLawful station run = IsLawfulIn (bare station) station.clocks.running station.ticks station.way run
 
+-- the run is a lawful one that may have broken off
 abbrev pub IsBegun : Station → Run → Type 0
 IsBegun station run = IsBegunIn (bare station) station.clocks.running station.ticks station.way run
 

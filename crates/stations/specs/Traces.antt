@@ -20,6 +20,7 @@ traces_in InRounds station run = []
 traces_in (InWindows window) station run = traced station.trace (trace_of window station.ticks run)
 traces_in (Again trace) station run = []
 
+-- the trace that a run leaves, if one is wanted
 abbrev pub traces_of : Station → Run → List OutputFile
 traces_of station run = traces_in station.way station run
 

@@ -11,6 +11,7 @@ pub mod Crossed
 pub mod Offering
 pub mod Unfailing
 pub mod Turning
+mod Leaves
 mod Plans
 mod Rows
 mod CallRows

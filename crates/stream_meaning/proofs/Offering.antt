@@ -14,7 +14,7 @@ use Rattle.plan_core.specs.declared.node.Op.TheVariants.{Single, Switch, Crossfa
 use Rattle.clock_infer.specs.Ties.{fades}
 use Rattle.fallible_infer.specs.Infallible.{Rests, ByNothing, ByItself, OnSome, OnCases, OnLast, infallible_by, rests_of, rests_on}
 use Rattle.time_pred.specs.Predicates.{Predicate}
-use Rattle.op_leaf.specs.declared.leaf.Leaf.TheVariants.{Blank as Blanks, Square as Squares}
+use Rattle.op_leaf.specs.declared.leaf.Leaf.{Leaf}
 use Rattle.op_leaf.specs.Leaves.{file_of, joined_slot, place_in_round, total_of}
 use Rattle.op_leaf.proofs.Positions.{joined-within, sounds_in}
 use Rattle.op_leaf.proofs.Cursors.{sounds-at}
@@ -51,8 +51,8 @@ length_mapped f (x ∷ xs) = ap suc (length_mapped f xs)
 -- a work that offers where what it rests on does
 abbrev GoesWith : Rests → Work → Type 0
 GoesWith ByNothing work = ⊤
-GoesWith ByItself (Plays (Blanks track)) = ⊤
-GoesWith ByItself (Plays (Squares pitch rate kind)) = ⊤
+GoesWith ByItself (Plays (Leaf.Blank track)) = ⊤
+GoesWith ByItself (Plays (Leaf.Square pitch rate kind)) = ⊤
 GoesWith OnSome (Picks (Selects (First sensitive)) Every) = ⊤
 GoesWith OnSome (Picks (TakesTurns turn) eligible) = ⊤
 GoesWith OnSome (Mixes mixing) = ⊤
@@ -67,8 +67,8 @@ module _ (setting : Setting) (sub : ℕ → ℕ → List Slot) (past : List Mome
   offers_by : (rests : Rests) (work : Work) → GoesWith rests work → AreMarked mark slot children → IsWithin work → rests_on mark rests children ≡ true
       → IsSome (part_by setting sub past i work (map slot children)).slot
   offers_by ByNothing work goes marked within so = absurd (false≢true so)
-  offers_by ByItself (Plays (Blanks track)) goes marked within so = refl
-  offers_by ByItself (Plays (Squares pitch rate kind)) goes marked within so = refl
+  offers_by ByItself (Plays (Leaf.Blank track)) goes marked within so = refl
+  offers_by ByItself (Plays (Leaf.Square pitch rate kind)) goes marked within so = refl
   offers_by OnSome (Picks (Selects (First sensitive)) Every) goes marked within so =
       let found = any_offers mark slot children marked so in
       picked_some (map slot children) (last_pick past i) _

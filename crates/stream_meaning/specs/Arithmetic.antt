@@ -10,6 +10,7 @@ cells_of [] = []
 cells_of (None ∷ slots) = cells_of slots
 cells_of (Some cell ∷ slots) = cell ∷ cells_of slots
 
+-- the sum of one sample of each cell
 abbrev pub total_by : (Cell → ℤ) → List Cell → ℤ
 total_by sample [] = pos 0
 total_by sample (cell ∷ cells) = sample cell +ℤ total_by sample cells
@@ -54,6 +55,7 @@ pub data Mixing : Type 0 where
   Doubles : Mixing
   Passes : Mixing
 
+-- what a node makes of the one cell that it gets
 abbrev pub changed : Mixing → Cell → Cell
 changed (Adds normalize) cell = cell
 changed (Scales millionths) cell = amplified millionths cell
@@ -66,6 +68,7 @@ abbrev pub changed_slot : Mixing → List Cell → Slot
 changed_slot mixing [] = None
 changed_slot mixing (cell ∷ cells) = Some (changed mixing cell)
 
+-- what a node makes of the slots of its children
 abbrev pub mix_slot : Mixing → List Slot → Slot
 mix_slot (Adds normalize) slots = summed_slot normalize (cells_of slots)
 mix_slot (Scales millionths) slots = changed_slot (Scales millionths) (cells_of slots)

@@ -26,14 +26,12 @@ joined_between calls from to = joined_upto (λ j. calls (from + j)) (to - from)
 
 -- what a reader takes where its clock begins a tick after these instants
 abbrev pub takes_by : Setting → List Moment → ℕ → Work → List Call
-takes_by setting past i (Plays leaf) = []
-takes_by setting past i (Picks choice eligible) = []
-takes_by setting past i (Mixes mixing) = []
-takes_by setting past i (Fades overlap) = []
 takes_by setting past i (Reads buffer) =
     let reading = reading_after setting i buffer past in
     map (Took buffer) (reader_takes (next_answers (setting.answers buffer) reading) reading.reader)
+takes_by setting past i _ = []
 
+-- the takes of node i, if it lies in this clock
 abbrev pub takes_in : Setting → Bool → List Moment → ℕ → Option Node → List Call
 takes_in setting inside past i None = []
 takes_in setting false past i (Some node) = []
@@ -55,13 +53,11 @@ ran_by sub k overlap (moment ∷ past) = run_of overlap (sub k) (position past k
 -- the calls of the instants that a crossfade's sub-clock makes at the instant after these; `below k m` are those of its
 -- instant m
 abbrev pub fades_by : (sub : ℕ → ℕ → List Slot) → (below : ℕ → ℕ → List Call) → List Moment → ℕ → Work → List Call
-fades_by sub below past k (Plays leaf) = []
-fades_by sub below past k (Picks choice eligible) = []
-fades_by sub below past k (Mixes mixing) = []
 fades_by sub below past k (Fades overlap) = joined_between (below k) (ran_by sub k overlap past)
     (run_of overlap (sub k) (position past k))
-fades_by sub below past k (Reads buffer) = []
+fades_by sub below past k _ = []
 
+-- the calls that crossfade k makes of its sub-clock, if it lies in this clock
 abbrev pub fades_in : Setting → (sub : ℕ → ℕ → List Slot) → (below : ℕ → ℕ → List Call) → Bool → List Moment → ℕ
     → Option Node → List Call
 fades_in setting sub below inside past k None = []
@@ -82,6 +78,7 @@ calls_at setting sub (suc depth) clock past =
 abbrev pub calls_of : Setting → (sub : ℕ → ℕ → List Slot) → NodeClock → List Moment → List Call
 calls_of setting sub clock past = calls_at setting sub (suc (length setting.plan.nodes)) clock past
 
+-- the call by which cells are given to a buffer; no cell, no call
 abbrev pub given : (buffer : ℕ) → List Cell → Bool → List Call
 given buffer [] accepted = []
 given buffer (cell ∷ cells) accepted = Given buffer (cell ∷ cells) accepted ∷ []
@@ -92,9 +89,11 @@ give_by setting accepted m t (Output name node fallible wide) = []
 give_by setting accepted m t (Feed buffer node) =
     if lies_in setting (Main m) node then given buffer (feed_cells setting node t) (accepted buffer) else []
 
+-- the calls by which main clock m feeds its buffers at the end of tick t
 abbrev pub gives_of_tick : Setting → (accepted : ℕ → Bool) → (m t : ℕ) → List Call
 gives_of_tick setting accepted m t = flat_map (give_by setting accepted m t) setting.plan.sinks
 
+-- the calls by which main clock m reads buffers during tick t
 abbrev pub takes_of_tick : Setting → (m t : ℕ) → List Call
 takes_of_tick setting m t = joined_upto
     (λ j. calls_of setting (sub_of setting) (Main m)

@@ -43,15 +43,18 @@ answered setting answers = record {
 abbrev pub with_rest : Setting → (answers rest : ℕ → List Answer) → Setting
 with_rest setting answers rest = answered setting (λ buffer. answers buffer ++ rest buffer)
 
+-- the clock in which node i lies
 abbrev pub clock_of : Setting → ℕ → NodeClock
 clock_of setting i = slice_index_or setting.clocks i (Main 0)
 
+-- the clocks are the same
 abbrev pub same_clock : NodeClock → NodeClock → Bool
 same_clock (Main m) (Main n) = nat_eq m n
 same_clock (Main m) (Sub k) = false
 same_clock (Sub j) (Main m) = false
 same_clock (Sub j) (Sub k) = nat_eq j k
 
+-- node i lies in this clock
 abbrev pub lies_in : Setting → NodeClock → ℕ → Bool
 lies_in setting clock i = same_clock (clock_of setting i) clock
 
@@ -59,6 +62,7 @@ lies_in setting clock i = same_clock (clock_of setting i) clock
 abbrev pub second_at : Setting → ℕ → ℕ
 second_at setting n = (setting.start + n / setting.plan.rate) % 604800
 
+-- how many samples a buffer holds before its reader plays
 abbrev pub prefill : Setting → ℕ → ℕ
 prefill setting buffer = option_map_or (λ plan. plan.pre) (slice_get setting.plan.buffers buffer) 0
 
@@ -72,9 +76,11 @@ pub record Moment : Type 0 where
   pub parts : List Part
   pub demands : List Bool
 
+-- a node that offers nothing and uses no child
 abbrev pub silent : Part
 silent = record { slot = None; pick = None }
 
+-- what node i did at this instant
 abbrev pub part_at : List Part → ℕ → Part
 part_at parts i = slice_index_or parts i silent
 
@@ -145,9 +151,11 @@ reading_after setting i buffer [] = new_reading setting buffer
 reading_after setting i buffer (moment ∷ past) =
     read_on (gives moment i) (reading_at setting buffer (length past) (reading_after setting i buffer past))
 
+-- what the children offered at this instant
 abbrev pub slots_at : List Part → List ℕ → List Slot
 slots_at parts children = map (λ child. (part_at parts child).slot) children
 
+-- a node that offers this and chooses no child
 abbrev pub unpicked : Slot → Part
 unpicked slot = record { slot = slot; pick = None }
 
@@ -168,6 +176,7 @@ part_by setting sub past i (Fades overlap) slots = unpicked (item_of overlap (su
 part_by setting sub past i (Reads buffer) slots =
     unpicked (reader_slot (reading_at setting buffer (length past) (reading_after setting i buffer past)).reader)
 
+-- what node i does
 abbrev pub work_at : Setting → ℕ → Node → Work
 work_at setting i node = work_of setting.plan.rate i node.kind node.op
 
@@ -198,11 +207,9 @@ offering parts (child ∷ children) =
 
 -- the children that a node uses
 abbrev pub uses_by : List Part → Work → List ℕ → (pick : Option ℕ) → List ℕ
-uses_by parts (Plays leaf) children pick = []
 uses_by parts (Picks choice eligible) children pick = child_at children pick
 uses_by parts (Mixes mixing) children pick = offering parts children
-uses_by parts (Fades overlap) children pick = []
-uses_by parts (Reads buffer) children pick = []
+uses_by parts _ children pick = []
 
 -- what each of these nodes uses, from node i on
 abbrev pub uses_from : Setting → List Part → ℕ → List Node → List (List ℕ)
@@ -231,6 +238,7 @@ abbrev pub is_root : Setting → NodeClock → ℕ → Bool
 is_root setting (Main m) i = list_any (λ sink. nat_eq (sink_node sink) i) setting.plan.sinks
 is_root setting (Sub k) i = nat_eq (crossfaded setting.plan.nodes k) i
 
+-- an instant of a clock: what its nodes offered, and which were demanded
 abbrev pub moment_of : Setting → NodeClock → List Part → Moment
 moment_of setting clock parts = record {
   parts = parts;

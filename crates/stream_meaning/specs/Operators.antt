@@ -6,13 +6,12 @@ use Rattle.time_pred.specs.Predicates.{Predicate, holds}
 use Rattle.plan_core.specs.declared.node.Op.{Op}
 use Rattle.plan_core.specs.declared.node.Op.TheVariants.{Single, Playlist, Blank, Square, Fail, Fallback, Switch, Sequence, Rotate, Random, Add, Amplify, Mean, Stereo, Crossfade, Buffer, Clock}
 use Rattle.op_leaf.specs.declared.leaf.Leaf.{Leaf}
-use Rattle.op_leaf.specs.declared.leaf.Leaf.TheVariants.{Files, Blank as Blanks, Square as Squares, Never}
+use Rattle.op_leaf.specs.declared.leaf.Leaf.TheVariants.{Files, Never}
 use Rattle.op_select.specs.declared.rule.Rule.{Rule}
 use Rattle.op_select.specs.declared.rule.Rule.TheVariants.{First, Turns}
 use Rattle.op_select.specs.Selection.{pick_of}
 use Rattle.frame_core.specs.Slots.{Slot}
 use Rattle.op_turn.specs.declared.turn.Turn.{Turn}
-use Rattle.op_turn.specs.declared.turn.Turn.TheVariants.{Rotate as Rotates, Random as Draws}
 use Rattle.op_turn.specs.Turns.{used_child}
 use Rattle.stream_meaning.specs.Arithmetic.{Mixing, Adds, Scales, Halves, Doubles, Passes}
 
@@ -21,6 +20,7 @@ pub data Eligible : Type 0 where
   Every : Eligible
   Where : List Predicate → Eligible
 
+-- which children may be chosen in this second of the week
 abbrev pub marks_at : Eligible → (second children : ℕ) → List Bool
 marks_at Every second children = replicate children true
 marks_at (Where preds) second children = map (λ pred. holds pred second) preds
@@ -39,6 +39,7 @@ child_used (TakesTurns turn) slots eligible last choices = used_child turn (reco
   choices = choices;
 }) slots
 
+-- what a node does: it plays, picks a child, mixes its children, fades from track to track, or reads a buffer
 pub data Work : Type 0 where
   Plays : Leaf → Work
   Picks : Choice → Eligible → Work
@@ -50,14 +51,14 @@ pub data Work : Type 0 where
 abbrev pub work_of : (rate i : ℕ) → Kind → Op → Work
 work_of rate i kind (Single file) = Plays (Files i true kind)
 work_of rate i kind (Playlist file again) = Plays (Files i again kind)
-work_of rate i kind (Blank track) = Plays (Blanks track)
-work_of rate i kind (Square pitch) = Plays (Squares pitch rate kind)
+work_of rate i kind (Blank track) = Plays (Leaf.Blank track)
+work_of rate i kind (Square pitch) = Plays (Leaf.Square pitch rate kind)
 work_of rate i kind Fail = Plays Never
 work_of rate i kind (Fallback sensitive) = Picks (Selects (First sensitive)) Every
 work_of rate i kind (Switch sensitive preds) = Picks (Selects (First sensitive)) (Where preds)
 work_of rate i kind Sequence = Picks (Selects Turns) Every
-work_of rate i kind Rotate = Picks (TakesTurns Rotates) Every
-work_of rate i kind (Random seed) = Picks (TakesTurns (Draws seed)) Every
+work_of rate i kind Rotate = Picks (TakesTurns Turn.Rotate) Every
+work_of rate i kind (Random seed) = Picks (TakesTurns (Turn.Random seed)) Every
 work_of rate i kind (Add normalize) = Mixes (Adds normalize)
 work_of rate i kind (Amplify factor) = Mixes (Scales factor.millionths)
 work_of rate i kind Mean = Mixes Halves

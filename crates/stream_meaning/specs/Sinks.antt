@@ -38,6 +38,7 @@ wide_sink (Feed buffer node) = false
 abbrev pub is_wide : Setting → (sink : ℕ) → Bool
 is_wide setting sink = option_map_or wide_sink (slice_get setting.plan.sinks sink) false
 
+-- whether node i is mono or stereo
 abbrev pub kind_of : Setting → ℕ → Kind
 kind_of setting i = option_map_or (λ node. node.kind) (slice_get setting.plan.nodes i) Stereo
 

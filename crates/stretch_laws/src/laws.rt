@@ -1,7 +1,6 @@
 // The laws of a stretch of instants. Each is the contract of a function that does nothing.
 ghost use Rattle.std.specs.Prelude.{◌≡◌, ◌<◌, ◌≤◌, ◌+◌, ℕ, suc, true, Some, List, [], length, map, slice_get};
-ghost use Rattle.clock_infer.specs.declared.clock_map.NodeClock.{NodeClock as Clock};
-ghost use Rattle.clock_infer.specs.declared.clock_map.NodeClock.TheVariants.{Sub as InSub};
+ghost use Rattle.clock_infer.specs.declared.clock_map.NodeClock.{NodeClock};
 ghost use Rattle.frame_core.specs.Slots.{Slot as TheSlot, title_of, is_inner};
 ghost use Rattle.op_cross.specs.Crossfade.{cross};
 ghost use Rattle.op_cross.specs.Runs.{item_of, run_of};
@@ -21,11 +20,12 @@ ghost use Rattle.stretch_laws.specs.Stretches.{AreFilled, AreQuiet, IsLike, IsNo
 /// begins a track behind that. What a node knows of the past counts on.
 pub fn stretches_stay_alike()
     ensures like { (setting : Setting) (sub : ℕ → ℕ
-        → List TheSlot) (clock : Clock) (past : List Moment) (instants j : ℕ)
+        → List TheSlot) (clock : NodeClock) (past : List Moment) (instants j : ℕ)
         → AreNodes setting.plan.nodes → IsStretch setting sub clock past instants → 0 < j → j < instants
         → IsLike (moment_after setting sub clock past)
         (moment_after setting sub clock (going_on setting sub clock j past)) }
-    ensures on { (setting : Setting) (sub : ℕ → ℕ → List TheSlot) (clock : Clock) (past : List Moment) (instants j : ℕ)
+    ensures on { (setting : Setting) (sub : ℕ → ℕ → List TheSlot) (clock : NodeClock) (past : List Moment)
+        (instants j : ℕ)
         → AreNodes setting.plan.nodes → IsStretch setting sub clock past instants → j ≤ instants
         → IsOn setting sub clock past j (going_on setting sub clock j past) }
 {}
@@ -34,19 +34,19 @@ pub fn stretches_stay_alike()
 /// cells, a node that chooses the cells of one child, and a mix what it makes of those of its children.
 pub fn stretches_have_lanes()
     ensures played { (setting : Setting) (sub : ℕ → ℕ
-        → List TheSlot) (clock : Clock) (past : List Moment) (instants i j : ℕ) (node : TheNode) (leaf : TheLeaf)
+        → List TheSlot) (clock : NodeClock) (past : List Moment) (instants i j : ℕ) (node : TheNode) (leaf : TheLeaf)
         → AreNodes setting.plan.nodes → IsStretch setting sub clock past instants → IsNode setting clock i node
         → work_at setting i node ≡ Plays leaf
         → j < instants → gives (moment_after setting sub clock past) i ≡ true
         → lane setting sub clock past j i ≡ leaf_slot setting.library leaf (gives_before past i + j) }
     ensures faded { (setting : Setting) (sub : ℕ → ℕ
-        → List TheSlot) (clock : Clock) (past : List Moment) (instants i j overlap : ℕ) (node : TheNode)
+        → List TheSlot) (clock : NodeClock) (past : List Moment) (instants i j overlap : ℕ) (node : TheNode)
         → AreNodes setting.plan.nodes → IsStretch setting sub clock past instants → IsNode setting clock i node
         → work_at setting i node ≡ Fades overlap
         → j < instants → gives (moment_after setting sub clock past) i ≡ true
         → lane setting sub clock past j i ≡ item_of overlap (sub i) (position past i + j) }
     ensures read { (setting : Setting) (sub : ℕ → ℕ
-        → List TheSlot) (clock : Clock) (past : List Moment) (instants i j buffer : ℕ) (node : TheNode)
+        → List TheSlot) (clock : NodeClock) (past : List Moment) (instants i j buffer : ℕ) (node : TheNode)
         → AreNodes setting.plan.nodes → IsStretch setting sub clock past instants → IsNode setting clock i node
         → work_at setting i node ≡ Reads buffer
         → 0 < j → j < instants → gives (moment_after setting sub clock past) i ≡ true
@@ -54,12 +54,12 @@ pub fn stretches_have_lanes()
         ≡ reader_slot (read_by j
         (reading_at setting buffer (length past) (reading_after setting i buffer past)).reader) }
     ensures mixed { (setting : Setting) (sub : ℕ → ℕ
-        → List TheSlot) (clock : Clock) (past : List Moment) (instants i j : ℕ) (node : TheNode) (mixing : Mixing)
+        → List TheSlot) (clock : NodeClock) (past : List Moment) (instants i j : ℕ) (node : TheNode) (mixing : Mixing)
         → AreNodes setting.plan.nodes → IsStretch setting sub clock past instants → IsNode setting clock i node
         → work_at setting i node ≡ Mixes mixing
         → lane setting sub clock past j i ≡ mix_slot mixing (map (lane setting sub clock past j) node.children) }
     ensures chosen { (setting : Setting) (sub : ℕ → ℕ
-        → List TheSlot) (clock : Clock) (past : List Moment) (instants i j place child : ℕ) (node : TheNode)
+        → List TheSlot) (clock : NodeClock) (past : List Moment) (instants i j place child : ℕ) (node : TheNode)
         (choice : Choice) (eligible : Eligible)
         → AreNodes setting.plan.nodes → IsStretch setting sub clock past instants → IsNode setting clock i node
         → work_at setting i node ≡ Picks choice eligible
@@ -71,7 +71,8 @@ pub fn stretches_have_lanes()
 
 /// Over a stretch a node that gives keeps its title.
 pub fn stretches_keep_titles()
-    ensures { (setting : Setting) (sub : ℕ → ℕ → List TheSlot) (clock : Clock) (past : List Moment) (instants i j : ℕ)
+    ensures { (setting : Setting) (sub : ℕ → ℕ → List TheSlot) (clock : NodeClock) (past : List Moment)
+        (instants i j : ℕ)
         → AreNodes setting.plan.nodes → IsStretch setting sub clock past instants → j < instants
         → gives (moment_after setting sub clock past) i ≡ true
         → title_of (lane setting sub clock past j i) ≡ title_of (offer (moment_after setting sub clock past) i) }
@@ -82,12 +83,13 @@ pub fn stretches_keep_titles()
 pub fn sub_clocks_give_cells()
     ensures { (setting : Setting) (sub : ℕ → ℕ → List TheSlot) (k first instants n many : ℕ)
         → AreNodes setting.plan.nodes → IsMeaning setting sub
-        → IsStretch setting sub (InSub k) (first_instants setting sub (InSub k) first) instants
-        → gives (moment_after setting sub (InSub k) (first_instants setting sub (InSub k) first))
+        → IsStretch setting sub (NodeClock.Sub k) (first_instants setting sub (NodeClock.Sub k) first) instants
+        → gives (moment_after setting sub (NodeClock.Sub k) (first_instants setting sub (NodeClock.Sub k) first))
         (crossfaded setting.plan.nodes k) ≡ true
         → first < n → n + many ≤ first + instants
         → AreFilled setting sub k n many
-        (title_of (offer (moment_after setting sub (InSub k) (first_instants setting sub (InSub k) first))
+        (title_of (offer (moment_after setting sub (NodeClock.Sub k)
+        (first_instants setting sub (NodeClock.Sub k) first))
         (crossfaded setting.plan.nodes k))) }
 {}
 
@@ -120,11 +122,11 @@ pub fn cells_pass_through()
 /// no calls, it makes none.
 pub fn stretches_make_no_calls()
     ensures takes { (setting : Setting) (sub : ℕ → ℕ
-        → List TheSlot) (clock : Clock) (past : List Moment) (instants i : ℕ)
+        → List TheSlot) (clock : NodeClock) (past : List Moment) (instants i : ℕ)
         → AreNodes setting.plan.nodes → IsStretch setting sub clock past instants → suc i < instants
         → takes_at setting clock (going_on setting sub clock (suc i) past) ≡ [] }
     ensures calls { (setting : Setting) (sub : ℕ → ℕ
-        → List TheSlot) (clock : Clock) (past : List Moment) (instants i : ℕ)
+        → List TheSlot) (clock : NodeClock) (past : List Moment) (instants i : ℕ)
         → AreNodes setting.plan.nodes → IsStretch setting sub clock past instants → suc i < instants
         → GoDown setting sub
         → AreQuiet setting sub clock past instants

@@ -8,6 +8,7 @@ pub data PredicateSort : Type 0 where
   OnePredicate : PredicateSort
   PredicateParts : PredicateSort
 
+-- predicates over the time of the week, and lists of them
 pub data PredicateTree : PredicateSort → Type 0 where
   Always : PredicateTree OnePredicate
   Never : PredicateTree OnePredicate
@@ -19,6 +20,7 @@ pub data PredicateTree : PredicateSort → Type 0 where
   no_parts : PredicateTree PredicateParts
   first_part : PredicateTree OnePredicate → PredicateTree PredicateParts → PredicateTree PredicateParts
 
+-- one predicate
 abbrev pub Predicate : Type 0
 Predicate = PredicateTree OnePredicate
 

@@ -1,5 +1,7 @@
 -- The plain tree that a predicate stands for.
+use Rattle.std.specs.Arc.{arc_value}
 use Rattle.time_pred.specs.declared.pred.Pred as pred
+use Rattle.time_pred.specs.declared.shared.SharedPred.{SharedPred}
 use Rattle.time_pred.specs.Predicates.{PredicateTree, OnePredicate, PredicateParts, Always, Never, At, Between, Negated, All, Any, no_parts, first_part}
 
 abbrev mutual
@@ -15,3 +17,7 @@ abbrev mutual
   pub view_parts : {m : _} → pred.Row_of-Pred m → PredicateTree PredicateParts
   view_parts pred.end_of-Pred = no_parts
   view_parts (pred.more_of-Pred p rest) = first_part (view_pred p) (view_parts rest)
+
+-- the same of a predicate that is held in several places
+abbrev pub view_shared : SharedPred → PredicateTree OnePredicate
+view_shared shared = view_pred (arc_value shared.pred)

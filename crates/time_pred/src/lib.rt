@@ -3,5 +3,7 @@
 
 mod mark;
 mod pred;
+mod shared;
 
 pub use pred::Pred;
+pub use shared::SharedPred;

@@ -26,6 +26,7 @@ line window buffer log = codes "window " ++ decimal window ++ codes " buffer " +
 abbrev pub window_count : ℕ → ℕ → ℕ
 window_count ticks window = (ticks + (window - 1)) / window
 
+-- what a window of a buffer answered
 abbrev pub log_at : List (List Answers) → ℕ → ℕ → Answers
 log_at buffers buffer window = slice_index_or (slice_index_or buffers buffer []) window no_answers
 
@@ -42,6 +43,7 @@ lines_below buffers many (suc k) = lines_below buffers many k ++ place_line buff
 abbrev pub places_of : TraceValue → ℕ
 places_of t = window_count t.ticks t.window * length t.buffers
 
+-- the text of a trace
 unfoldable pub trace_text : TraceValue → List ℕ
 trace_text t = header t.ticks t.window (length t.buffers) ++ lines_below t.buffers (length t.buffers) (places_of t)
 

@@ -47,6 +47,14 @@ within_by : (here : Bool) (N n a : ℕ) → n < N → a ≤ N → IsWithin 0 N (
 within_by true N n a low few = record { least = omega arith; most = omega (arith, low); no_fewer = omega arith; one_more = omega arith }
 within_by false N n a low few = record { least = omega arith; most = omega (arith, few); no_fewer = omega arith; one_more = omega arith }
 
+-- the clock that stopped is this one
+stopped_here : (here : Bool) (n a : ℕ) → cond here (suc n) a ≡ suc (cond here n a) → here ≡ true
+stopped_here true n a is = refl
+stopped_here false n a is = absurd (omega (arith, is))
+
+is_here : (m k : ℕ) → nat_eq m k ≡ true → m ≡ k
+is_here m k on = grind (arith, nat_tests, on)
+
 module _ {S : Type 0} (told : S → SinkTold) (setting : Setting) (N : ℕ) where
   abbrev Part : (least most : ℕ) → ClockEngine S → ClockEngine S → Type 0
   Part least most before after = HasRunPart told (λ rest. setting) least most before after
@@ -86,6 +94,7 @@ module _ {S : Type 0} (told : S → SinkTold) (setting : Setting) (N : ℕ) wher
     made = λ m. N;
     tried = λ m. N;
     within = λ m. record { least = omega arith; most = omega arith; no_fewer = omega arith; one_more = omega arith };
+    one = λ m n stopped other. absurd (omega (arith, stopped));
     part = record { size = run.size; each = λ j before after was at. part_all before after (run.each j before after was at) };
     write = λ failed sink e. absurd (no_write_here end is failed sink e);
   }
@@ -100,6 +109,7 @@ module _ {S : Type 0} (told : S → SinkTold) (setting : Setting) (N : ℕ) wher
     made = λ m. 0;
     tried = λ m. 0;
     within = λ m. record { least = omega arith; most = omega arith; no_fewer = omega arith; one_more = omega arith };
+    one = λ m n stopped other. absurd (omega (arith, stopped));
     part = record { size = refl; each = λ j before after was at. subst (Part 0 0 before) (some_inj (sym was ∙ at)) (part_none before) };
     write = λ failed sink e. absurd (no_write_here end (λ done. is) failed sink e);
   }
@@ -114,6 +124,7 @@ module _ {S : Type 0} (told : S → SinkTold) (setting : Setting) (N : ℕ) wher
         made = put_at k n made;
         tried = put_at k (suc n) made;
         within = λ m. within_by (nat_eq m k) N n (made m) less (few m);
+        one = λ i j is other. is_here i k (stopped_here (nat_eq i k) n (made i) is) ∙ sym (is_here j k (stopped_here (nat_eq j k) n (made j) other));
         part = record {
           size = changed.size ∙ size;
           each = λ j before engine was is. elim (same_or_other k j) [

@@ -1,5 +1,5 @@
 -- What a replay leaves.
-use Rattle.std.specs.Prelude.{◌≡◌, ℕ, true, false, List}
+use Rattle.std.specs.Prelude.{◌≡◌, ℕ, suc, true, false, List}
 use Rattle.std.specs.List.{flat_map}
 use Rattle.liq_base.specs.Pieces.{SinkTold}
 use Rattle.stream_meaning.specs.Instants.{Setting}
@@ -33,7 +33,7 @@ pub record HasReplayedAll {S : Type 0} (told : S → SinkTold) (base : Setting) 
   pub logs_are : logs ≡ logs_of_run run
 
 -- A replay in this setting came so far: of its N ticks each clock made so many, and tried no more, or the one in which
--- it stopped. Each output holds its bytes of the ticks that its clock made, and then a front of those of the one that
+-- it stopped, which no two did. Each output holds its bytes of the ticks that its clock made, and then a front of those of the one that
 -- it tried. A write that ended the replay is one of the clock that it names. In which order the clocks make their ticks
 -- is not told.
 pub record HasReplayedTo {S : Type 0} (told : S
@@ -41,6 +41,7 @@ pub record HasReplayedTo {S : Type 0} (told : S
   pub made : ℕ → ℕ
   pub tried : ℕ → ℕ
   pub within : (m : ℕ) → IsWithin 0 N (made m) (tried m)
+  pub one : (m n : ℕ) → tried m ≡ suc (made m) → tried n ≡ suc (made n) → m ≡ n
   pub part : HaveRunPart told (λ rest. setting) made tried first now
   pub write : (failed sink : ℕ) → end ≡ Write failed sink → IsWriteEnd told failed first now end
 

@@ -86,7 +86,6 @@ pub fn find_record(
     let mut taps = ToldTaps {
         buffers,
         course: Course::Goes,
-        alloc,
     };
     let mut turns = Vec::new(alloc);
     let fits = judge(

@@ -11,6 +11,8 @@ use Rattle.stream_meaning.specs.Settings.{IsSetting}
 use Rattle.trace_turns.specs.declared.ends.Ends.{Ends}
 use Rattle.trace_turns.specs.declared.live.LiveClock.{LiveClock}
 use Rattle.trace_records.specs.Clocks.{Log}
+use Rattle.trace_records.specs.Passes.{IsOrderedText, IsRefused}
+use Rattle.trace_records.proofs.Passing.{refused_none}
 use Rattle.trace_turns.specs.Answering.{BufferState}
 use Rattle.trace_turns.specs.declared.course.TurnMade.{TurnMade}
 use Rattle.trace_turns.specs.declared.told.Mark.{Mark}
@@ -86,6 +88,15 @@ module _ (base : Setting) (clocks : ClockMap) (is : IsSetting base clocks) (W N 
       pub paused_now : IsPaused base (timed text W N) (mains feeders readers) old.engine.parts.clock from old.engine.parts old.marks.items (live.waiting text fit).full
       paused_now = subst (λ (k : ℕ). IsPaused base (timed text W N) (mains feeders readers) k from old.engine.parts old.marks.items (live.waiting text fit).full) (sym (live.clock m old at))
           (subst (λ (n : ℕ). IsPaused base (timed text W N) (mains feeders readers) m n old.engine.parts old.marks.items (live.waiting text fit).full) from_is ((live.waiting text fit).paused m old at))
+
+      -- where its turn tells that no clock makes its next tick, no record has the text
+      pub refused_now : m < clocks.running
+          → ((full : List BufferState) → AreFit base W N text states ends → AreFull states full → AreUnlost readers old.engine.parts.clock old.marks.items states
+          → IsPaused base (timed text W N) (mains feeders readers) old.engine.parts.clock from old.engine.parts old.marks.items full → IsRefused base W N text (chunks_of full) old.engine.parts.clock)
+          → IsOrderedText base clocks.running W N text → ⊥
+      refused_now low told ordered = refused_none base clocks is W N text (made_of made) (chunks_of (live.waiting text fit).full) m (live.waiting text fit).at low
+          (subst (λ (k : ℕ). IsRefused base W N text (chunks_of (live.waiting text fit).full) k) (live.clock m old at)
+          (told (live.waiting text fit).full (live.fit text fit) (live.waiting text fit).fills unlost_now paused_now)) ordered
 
       pub flown_now : (n : ℕ) (new : LiveClock) (others : List BufferState)
           → ((full : List BufferState) → AreFit base W N text states ends → AreFull states full → AreUnlost readers old.engine.parts.clock old.marks.items states

@@ -225,6 +225,26 @@ module _ (score : Score) (W N m : ℕ) (ends : List Ends) (opening : List Buffer
           (λ ends_now. ends_full (at_ends ends_now));
     }
 
+    off_full : IsOffEnd taps_new.buffers.items ends (n / W) → IsOffEnd now.full_now ends (n / W)
+    off_full o =
+        let low : o.buffer < length taps_new.buffers.items = o.known in
+        record {
+          buffer = o.buffer;
+          known = (let many = now.fills_now.many in omega (arith, low, many));
+          off = λ s e end. let fill = now.fills_now.each o.buffer s low in o.off s e (record {
+            puts = λ fed. end.puts (ap (λ (x : BufferState). x.fed) fill.same ∙ fed) ∙ ap (λ (x : BufferState). Some x.put_at) fill.same;
+            takes = λ read. end.takes (ap (λ (x : BufferState). x.read) fill.same ∙ read) ∙ ap (λ (x : BufferState). Some x.take_at) fill.same;
+          });
+        }
+
+    fails_full : (taps_new.course ≡ Fails) ⊎ ((taps_new.course ≡ Goes) × EndsWith W N n × IsOffEnd taps_new.buffers.items ends (n / W)) → (taps_new.course ≡ Fails) ⊎ ((taps_new.course ≡ Goes) × EndsWith W N n × IsOffEnd now.full_now ends (n / W))
+    fails_full (inl failing) = inl failing
+    fails_full (inr off) = inr (off.0, off.1, off_full off.2)
+
+    -- a call that has no right answer
+    pub flows_fail : (taps_new.course ≡ Fails) ⊎ ((taps_new.course ≡ Goes) × EndsWith W N n × IsOffEnd taps_new.buffers.items ends (n / W)) → IsRefused base W N score.text score.chunks m
+    flows_fail failed = fails_there told outs_old outs_new n less some parts parts_new flown.full run_now over_new clock_new made.more made.engine now.full_now now.same_now taps_new.course now.stand_now (fails_full failed)
+
   pub all_made : (n : ℕ) (parts : EngineParts) (states : List BufferState) → n ≡ N → Runs n parts states → HasTurned base W N score.text m N score.chunks (chunks_of states)
   all_made n parts states e run =
       let last : Runs N parts states = subst (λ (k : ℕ). Runs k parts states) e run in

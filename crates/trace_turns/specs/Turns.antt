@@ -11,7 +11,6 @@ use Rattle.clock_ticks.specs.Engines.{EngineStands, setting_of}
 use Rattle.plan_core.specs.declared.sink.SinkPlan.{SinkPlan}
 use Rattle.plan_core.specs.declared.sink.SinkPlan.TheVariants.{Output, Feed}
 use Rattle.clock_infer.specs.declared.clock_map.NodeClock.{NodeClock}
-use Rattle.clock_infer.specs.declared.clock_map.NodeClock.TheVariants.{Main as InMain}
 use Rattle.clock_infer.specs.declared.clock_map.ClockMap.{ClockMap}
 use Rattle.stream_meaning.specs.Settings.{IsSetting}
 use Rattle.trace_turns.specs.declared.course.Course.{Course}
@@ -160,7 +159,8 @@ HaveBegun feeders readers m old new = (b : ℕ) (d : BufferState) → b < length
 
 -- an output of clock m
 abbrev pub is_output_in : List NodeClock → (m : ℕ) → SinkPlan → Bool
-is_output_in clocks m (Output name node fallible wide) = same_clock (slice_index_or clocks node (InMain 0)) (InMain m)
+is_output_in clocks m (Output name node fallible wide) = same_clock (slice_index_or clocks node (NodeClock.Main 0))
+    (NodeClock.Main m)
 is_output_in clocks m (Feed buffer node) = false
 
 -- how many there are among these sinks

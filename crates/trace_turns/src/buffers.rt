@@ -12,13 +12,13 @@ ghost use Rattle.trace_turns.specs.Turns.{AreEnds, AreSides};
 
 use crate::ends::Ends;
 use crate::flat::flatten;
-use crate::station::Sides;
+use crate::station::{Sides, clock_at};
 use crate::told::ToldBuffer;
 use buffer_ends::BufferLog;
 use buffer_sides::{feeders, main_of, readers};
-use clock_infer::ClockMap;
+use clock_infer::{ClockMap, NodeClock};
 use liq_base::Memory;
-use plan_core::{BufferPlan, Plan};
+use plan_core::{BufferPlan, Op, Plan};
 use std::alloc::Global;
 use std::collections::VecDeque;
 use trace_records::are_legal;
@@ -96,6 +96,59 @@ fn mains_of(
     Ok(mains)
 }
 
+// The overlap of a crossfade.
+fn overlap_of(plan: &Plan, node: u32) -> u64 {
+    let Some(node) = plan.nodes.as_slice().get(node as usize) else {
+        return 0;
+    };
+    match node.op {
+        Op::Crossfade { overlap } => u64::from(overlap),
+        _ => 0,
+    }
+}
+
+// How many cells the reader that is this node takes in a tick at most, where an empty take counts as the samples of a
+// tick. A crossfade gives a tick of n samples when its sub-clock has run at most twice as many and twice the overlap.
+fn reach_of(plan: &Plan, clocks: &ClockMap, node: u32) -> u64 {
+    let frame = u64::from(plan.frame);
+    let mut times = 1u64;
+    let mut more = 0u64;
+    let mut at = node;
+    for _level in 0..plan.nodes.len() {
+        match clock_at(clocks.of.as_slice(), at) {
+            NodeClock::Main(_) => break,
+            NodeClock::Sub(crossfade) => {
+                let overlap = overlap_of(plan, crossfade);
+                let twice = overlap.saturating_add(1).saturating_mul(2);
+                more = more.saturating_add(times.saturating_mul(twice));
+                times = times.saturating_mul(2);
+                at = crossfade;
+            }
+        }
+    }
+    let run = times.saturating_mul(frame).saturating_add(more);
+    run.saturating_mul(2)
+        .saturating_add(frame.saturating_mul(3))
+}
+
+// The same of the reader of each buffer, with what it wants before it begins to play.
+fn reaches_of(
+    alloc: Global,
+    plan: &Plan,
+    clocks: &ClockMap,
+    nodes: &[u32],
+) -> Result<Vec<u64>, Memory> {
+    let mut reaches = Vec::new(alloc);
+    for b in 0..nodes.len() {
+        let pre = match plan.buffers.as_slice().get(b) {
+            Some(buffer) => buffer.pre,
+            None => 0,
+        };
+        reaches.push(reach_of(plan, clocks, nodes[b]).saturating_add(pre))?;
+    }
+    Ok(reaches)
+}
+
 /// The main clocks of each buffer's feed and reader.
 pub fn sides_of(alloc: Global, plan: &Plan, clocks: &ClockMap) -> Result<Sides, Memory>
     requires { IsWellFormed plan.now }
@@ -106,10 +159,13 @@ pub fn sides_of(alloc: Global, plan: &Plan, clocks: &ClockMap) -> Result<Sides, 
     let read = readers(alloc, plan)?;
     let feeders = mains_of(alloc, plan, clocks, &fed)?;
     let readers = mains_of(alloc, plan, clocks, &read)?;
+    let reaches = reaches_of(alloc, plan, clocks, &read)?;
     Ok(Sides {
         feeders,
         readers,
         nodes: read,
+        reaches,
+        frame: u64::from(plan.frame),
     })
 }
 

@@ -6,13 +6,15 @@ ghost use Rattle.trace_turns.specs.Turns.{AreFit, chunks_of, base_at};
 ghost use Rattle.trace_turns.specs.Live.{AreNewClocks};
 ghost use Rattle.trace_turns.specs.Searches.{AreFound, MaySearch, TellOn};
 ghost use Rattle.trace_turns.specs.Thin.{AreKept};
+ghost use Rattle.trace_turns.specs.declared.find.Search.TheVariants.{Found as HasFound, Refused as HasRefused};
 
 use crate::course::TurnMade;
 use crate::ends::Ends;
 use crate::live::{LiveClock, end_clocks, make_clocks};
-use crate::onward::live_turn;
+use crate::onward::{Reached, live_turn, may_try, may_turn};
 use crate::station::{Sides, Station};
 use crate::taps::{ToldTaps, forget_run};
+use crate::told::ToldBuffer;
 use crate::turn::{Turn, run_turn};
 use liq_base::Memory;
 use std::alloc::Global;
@@ -72,9 +74,47 @@ fn search_chunks(
     Ok(true)
 }
 
-// Goes over the clocks in order, again and again, and lets each go on as far as it can with the chunks that are there.
-// Answers whether all ticks were made; it ends where a call was not answered as was foreseen, or where a pass over all
-// clocks made no tick more.
+/// What a search came to.
+#[derive(Clone, Copy)]
+pub enum Search {
+    /// All ticks were made.
+    Found,
+    /// No record whose ticks can be ordered has this text.
+    Refused,
+    /// It does not know.
+    Open,
+}
+
+// The clock that is tried where none seems to have its chunks: one with a reader below a crossfade, at best one whose
+// next takes can be answered, and of these that which has made the fewest ticks. The number of clocks where there is
+// none.
+fn to_try(
+    lives: &[LiveClock<'_>],
+    buffers: &[ToldBuffer],
+    sides: &Sides,
+    made: &[u64],
+    ticks: u64,
+) -> usize {
+    let mut best = lives.len();
+    let mut few = ticks;
+    let mut sure = false;
+    for k in 0..lives.len() {
+        if k >= made.len() || made[k] >= ticks {
+            continue;
+        }
+        let (unsure, answered) = may_try(&lives[k], buffers, sides);
+        if unsure && (answered && !sure || answered == sure && made[k] < few) {
+            best = k;
+            few = made[k];
+            sure = answered;
+        }
+    }
+    best
+}
+
+// Goes over the clocks in order, again and again, and lets each that seems to have its chunks go on as far as it can. A
+// pass that made no tick is followed by one that tries a clock; it ends where this made none, or a call was not
+// answered as was foreseen.
 fn pass_on(
     alloc: Global,
     station: &Station<'_>,
@@ -85,42 +125,59 @@ fn pass_on(
     ends: &[Ends],
     window: u64,
     ticks: u64,
-) -> Result<bool, Memory>
+) -> Result<Search, Memory>
     requires search { MaySearch station.now sides.now ends.now window ticks turns.old.items taps.old.buffers.items }
     requires lives { AreNewClocks (base_at station.now) station.now.clocks.now.running lives.old.items }
-    ensures found { IfOk result (λ found. found ≡ true
+    ensures found { IfOk result (λ search. search ≡ HasFound
         → AreFound station.now ends.now window ticks taps.old.buffers.items turns.new.items) }
-    ensures fit { IfOk result (λ found. TellOn station.now ends.now window ticks taps.old.buffers.items
+    ensures none { IfOk result (λ search. search ≡ HasRefused → (text : ℕ → Log)
+        → AreFit (base_at station.now) window ticks text taps.old.buffers.items ends.now
+        → IsOrderedText (base_at station.now) station.now.clocks.now.running window ticks text → ⊥) }
+    ensures fit { IfOk result (λ search. TellOn station.now ends.now window ticks taps.old.buffers.items
         taps.new.buffers.items) }
-    ensures many { IfOk result (λ found. length taps.new.buffers.items ≡ length taps.old.buffers.items) }
+    ensures many { IfOk result (λ search. length taps.new.buffers.items ≡ length taps.old.buffers.items) }
 {
     let running = station.clocks.running;
     let mut made = vec![in alloc; 0; running as usize]?;
     let mut left = running as u64 * ticks;
+    let mut tried = running as usize;
+    let mut tries = 1u64;
     while left > 0 {
         let before = left;
         for clock in 0..running {
             let from = made[clock as usize];
             let live = &mut lives[clock as usize];
-            let reached = live_turn(alloc, live, taps, sides, ends, window, ticks, from)?;
-            match reached {
-                Some(count) => {
+            let tries_it = clock as usize == tried;
+            if !tries_it && !may_turn(live, &taps.buffers, sides, ends, window, ticks, from) {
+                continue;
+            }
+            match live_turn(
+                alloc, live, taps, sides, ends, window, ticks, from, tries_it,
+            )? {
+                Reached::Made(count) => {
                     note_turn(turns, clock, count)?;
                     left -= count - from;
                     made[clock as usize] = count;
                 }
-                None => return Ok(false),
+                Reached::Waits => return Ok(Search::Open),
+                Reached::Refused => return Ok(Search::Refused),
             }
         }
-        if left == before {
-            return Ok(false);
+        if left < before {
+            tried = running as usize;
+            tries = 1;
+            continue;
         }
+        if tries == 0 {
+            return Ok(Search::Open);
+        }
+        tries = 0;
+        tried = to_try(lives, &taps.buffers, sides, &made, ticks);
     }
-    Ok(true)
+    Ok(Search::Found)
 }
 
-// Makes the ticks of each clock by one engine, and answers whether all were made. Where the plan has no buffer none is
-// made.
+// Makes the ticks of each clock by one engine. Where the plan has no buffer none is made.
 fn find_live(
     alloc: Global,
     station: &Station<'_>,
@@ -130,16 +187,19 @@ fn find_live(
     ends: &[Ends],
     window: u64,
     ticks: u64,
-) -> Result<bool, Memory>
+) -> Result<Search, Memory>
     requires { MaySearch station.now sides.now ends.now window ticks turns.old.items taps.old.buffers.items }
-    ensures found { IfOk result (λ found. found ≡ true
+    ensures found { IfOk result (λ search. search ≡ HasFound
         → AreFound station.now ends.now window ticks taps.old.buffers.items turns.new.items) }
-    ensures fit { IfOk result (λ found. TellOn station.now ends.now window ticks taps.old.buffers.items
+    ensures none { IfOk result (λ search. search ≡ HasRefused → (text : ℕ → Log)
+        → AreFit (base_at station.now) window ticks text taps.old.buffers.items ends.now
+        → IsOrderedText (base_at station.now) station.now.clocks.now.running window ticks text → ⊥) }
+    ensures fit { IfOk result (λ search. TellOn station.now ends.now window ticks taps.old.buffers.items
         taps.new.buffers.items) }
-    ensures many { IfOk result (λ found. length taps.new.buffers.items ≡ length taps.old.buffers.items) }
+    ensures many { IfOk result (λ search. length taps.new.buffers.items ≡ length taps.old.buffers.items) }
 {
     if station.plan.buffers.as_slice().is_empty() {
-        return Ok(false);
+        return Ok(Search::Open);
     }
     let mut lives = Vec::new(alloc);
     let found = match make_clocks(alloc, station, &mut lives) {
@@ -153,7 +213,7 @@ fn find_live(
 }
 
 // The turns in which the clocks make all their ticks, and whether they do. Where engines that go on from turn to turn
-// do not make them all, the search by new engines decides from the beginning.
+// do not tell, the search by new engines decides from the beginning.
 fn search_turns(
     alloc: Global,
     station: &Station<'_>,
@@ -173,8 +233,10 @@ fn search_turns(
     ensures fit { IfOk result (λ found. TellOn station.now ends.now window ticks taps.old.buffers.items
         taps.new.buffers.items) }
 {
-    if find_live(alloc, station, taps, turns, sides, ends, window, ticks)? {
-        return Ok(true);
+    match find_live(alloc, station, taps, turns, sides, ends, window, ticks)? {
+        Search::Found => return Ok(true),
+        Search::Refused => return Ok(false),
+        Search::Open => {}
     }
     forget_run(&mut taps.buffers);
     turns.clear();

@@ -1,6 +1,5 @@
 // What a replay runs over.
 ghost use Rattle.std.specs.Prelude.{◌≡◌, length, slice_index_or, IfOk};
-ghost use Rattle.clock_infer.specs.declared.clock_map.NodeClock.TheVariants.{Main as InMain};
 ghost use Rattle.stream_meaning.specs.Instants.{Setting, same_clock};
 ghost use Rattle.clock_ticks.specs.Engines.{outputs_of};
 ghost use Rattle.trace_turns.specs.Turns.{is_output_in, outputs_in};
@@ -22,17 +21,20 @@ pub struct Station<'a> {
     pub start: WeekSecond,
 }
 
-/// By a buffer's number, the main clocks of its feed and of its reader, and the reader's node.
+/// By a buffer's number, the main clocks of its feed and of its reader, and the reader's node. Of a reader that lies
+/// below crossfades, how many cells it takes in a tick at most, where an empty take counts as the samples of a tick.
 #[derive(Drop)]
 pub struct Sides {
     pub feeders: Vec<u32>,
     pub readers: Vec<u32>,
     pub nodes: Vec<u32>,
+    pub reaches: Vec<u64>,
+    pub frame: u64,
 }
 
-// The clock of a node.
-fn clock_at(clocks: &[NodeClock], node: u32) -> NodeClock
-    ensures { result ≡ slice_index_or clocks.now node (InMain 0) }
+/// The clock of a node.
+pub fn clock_at(clocks: &[NodeClock], node: u32) -> NodeClock
+    ensures { result ≡ slice_index_or clocks.now node (NodeClock.Main 0) }
 {
     match clocks.get(node as usize) {
         Some(clock) => *clock,
@@ -42,7 +44,7 @@ fn clock_at(clocks: &[NodeClock], node: u32) -> NodeClock
 
 // Whether it is a main clock of this number.
 fn is_main(of: NodeClock, clock: u32) -> bool
-    ensures { result ≡ same_clock of (InMain clock) }
+    ensures { result ≡ same_clock of (NodeClock.Main clock) }
 {
     match of {
         NodeClock::Main(m) => m == clock,

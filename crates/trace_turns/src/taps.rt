@@ -12,7 +12,6 @@ use crate::course::Course;
 use crate::told::{Mark, Put, Taken, ToldBuffer};
 use frame_core::{Chunk, Gave, Taps};
 use liq_base::Memory;
-use std::alloc::Global;
 
 /// The buffers of a plan in the run of one clock. They answer as a trace tells as long as each call has a right answer.
 /// From the first on that has none, takes are empty and chunks that are given are dropped.
@@ -20,18 +19,17 @@ use std::alloc::Global;
 pub struct ToldTaps {
     pub buffers: Vec<ToldBuffer>,
     pub course: Course,
-    pub alloc: Global,
 }
 
 // Takes of one of the buffers.
-fn take_from(alloc: Global, buffers: &mut Vec<ToldBuffer>, buffer: u32) -> Result<Taken, Memory>
+fn take_from(buffers: &mut Vec<ToldBuffer>, buffer: u32) -> Result<Taken, Memory>
     requires { buffer < length buffers.old.items }
     ensures taken { IfOk result (λ taken. (s : BufferState) × (buffers.new.items ≡ slice_set buffers.old.items buffer s)
         × ((d : BufferState) → TakesOn (slice_index_or buffers.old.items buffer d) taken s)) }
     ensures memory { OnErr result (buffers.new.items ≡ buffers.old.items) }
     ensures same { SameBuffers buffers.old.items buffers.new.items }
 {
-    buffers[buffer as usize].take(alloc)
+    buffers[buffer as usize].take()
 }
 
 // Puts to one of the buffers.
@@ -124,7 +122,7 @@ impl ToldTaps {
             × (self.new.buffers.items ≡ self.old.buffers.items)) }
         ensures same { SameBuffers self.old.buffers.items self.new.buffers.items }
     {
-        match take_from(self.alloc, &mut self.buffers, buffer)? {
+        match take_from(&mut self.buffers, buffer)? {
             Taken::Chunk(chunk) => Ok(Some(chunk)),
             Taken::Empty => Ok(None),
             Taken::Waits => {

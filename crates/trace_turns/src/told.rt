@@ -5,7 +5,6 @@ ghost use Rattle.trace_turns.specs.Marks.{HasLetGo, IsWithin, mark_of, resumed};
 
 use frame_core::Chunk;
 use liq_base::Memory;
-use std::alloc::Global;
 use std::collections::VecDeque;
 use std::marker::Model;
 use std::mem;
@@ -46,6 +45,9 @@ pub const NO_MARK: Mark = Mark {
     take_at: 0,
     got: 0,
 };
+
+// How many takes are looked at before a tick.
+const LOOKS: u32 = 1024;
 
 /// A buffer in the run of one clock, which answers as a trace tells. The chunks that were put to it stay until they are
 /// let go.
@@ -168,16 +170,16 @@ impl ToldBuffer {
         }
     }
 
-    /// Whether the chunks that are there suffice for its next takes, up to one that is told to be empty or until so
-    /// many cells were got.
-    pub fn serves(&self, cells: u64) -> bool {
-        if self.got < self.gone {
+    /// Whether the chunks that are there suffice for the takes behind this mark, up to one that is told to be empty or
+    /// until so many cells were got.
+    pub fn serves(&self, mark: Mark, cells: u64) -> bool {
+        if mark.got < self.gone {
             return false;
         }
         let mut left = cells;
-        let mut next = self.got - self.gone;
-        for gets in &self.takes[self.take_at..] {
-            if left == 0 || !*gets {
+        let mut next = mark.got - self.gone;
+        for at in mark.take_at..self.takes.len() {
+            if left == 0 || !self.takes[at] {
                 return true;
             }
             if next >= self.held.len() {
@@ -187,6 +189,44 @@ impl ToldBuffer {
             next += 1;
         }
         true
+    }
+
+    /// Whether they suffice for all the takes behind this mark up to that of number `end`, or for as many of them as
+    /// such a reach has, in which an empty take counts as so many samples of a tick. No more than a few are looked at.
+    pub fn serves_far(&self, mark: Mark, end: usize, reach: u64, frame: u64) -> bool {
+        if mark.got < self.gone {
+            return false;
+        }
+        let mut left = reach;
+        let mut next = mark.got - self.gone;
+        let mut looks = LOOKS;
+        for at in mark.take_at..self.takes.len() {
+            if left == 0 || at >= end {
+                return true;
+            }
+            if looks == 0 {
+                return false;
+            }
+            looks -= 1;
+            if !self.takes[at] {
+                left = left.saturating_sub(frame);
+                continue;
+            }
+            if next >= self.held.len() {
+                return false;
+            }
+            left = left.saturating_sub(u64::from(self.held[next].len()));
+            next += 1;
+        }
+        true
+    }
+
+    /// Whether the next take behind this mark can be answered.
+    pub fn serves_one(&self, mark: Mark) -> bool {
+        if mark.take_at >= self.takes.len() || !self.takes[mark.take_at] {
+            return true;
+        }
+        mark.got >= self.gone && mark.got < self.put
     }
 
     // Both its ends are the clock's.
@@ -204,7 +244,7 @@ impl ToldBuffer {
     }
 
     /// Takes as the trace tells.
-    pub fn take(&mut self, alloc: Global) -> Result<Taken, Memory>
+    pub fn take(&mut self) -> Result<Taken, Memory>
         ensures taken { IfOk result (λ taken. TakesOn self.old taken self.new) }
         ensures same { SameBuffer self.old self.new }
         ensures memory { OnErr result (self.new ≡ self.old) }
@@ -213,7 +253,7 @@ impl ToldBuffer {
             return Ok(Taken::Never);
         }
         if self.takes[self.take_at] {
-            return self.take_chunk(alloc);
+            return self.take_chunk();
         }
         if self.is_list() && self.left() != 0 {
             return Ok(Taken::Never);
@@ -223,7 +263,7 @@ impl ToldBuffer {
     }
 
     // Takes the next chunk, which the trace tells.
-    fn take_chunk(&mut self, alloc: Global) -> Result<Taken, Memory>
+    fn take_chunk(&mut self) -> Result<Taken, Memory>
         requires gets { slice_get self.old.takes self.old.take_at ≡ Some true }
         ensures taken { IfOk result (λ taken. TakesOn self.old taken self.new) }
         ensures same { SameBuffer self.old self.new }
@@ -238,7 +278,7 @@ impl ToldBuffer {
         if self.got < self.gone {
             return Ok(Taken::Lost);
         }
-        let chunk = self.held[self.got - self.gone].copy(alloc)?;
+        let chunk = self.held[self.got - self.gone].share()?;
         self.take_at += 1;
         self.got += 1;
         Ok(Taken::Chunk(chunk))

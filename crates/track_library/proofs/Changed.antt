@@ -1,9 +1,10 @@
 -- Audio files at the rate of the script, and what they count for.
-use Rattle.std.proofs.Common.{Bool, true, false, ◌≡◌, ◌≤◌, ◌<◌, ℕ, ℤ, ◌+◌, ◌*◌, List, length, refl, sym, ap, ◌∙◌, arith}
+use Rattle.std.proofs.Common.{Bool, true, false, not, ◌≡◌, ◌≤◌, ◌<◌, ℕ, ℤ, ◌+◌, ◌*◌, List, length, refl, sym, ap, ◌∙◌, subst, take, drop, arith}
 use Rattle.std.specs.Prelude.{Result, Ok, Err}
 use Rattle.liq_base.specs.Kinds.{channels_of}
 use Rattle.liq_base.specs.declared.memory.Kind.{Kind}
 use Rattle.liq_base.specs.declared.memory.Kind.TheVariants.{Mono, Stereo}
+use Rattle.frame_core.specs.Bytes.{samples_from}
 use Rattle.frame_core.specs.Sounds.{IsSound, Sound}
 use Rattle.wav_io.specs.Reading.{AreBlocks, Wav, read_of}
 use Rattle.wav_io.proofs.Heads.{is_file}
@@ -80,3 +81,26 @@ own_bytes bytes wav few read =
     let is = ap (λ (s : Sound). length s.samples) (own_sound bytes wav few read) in
     let twice_is = two_each wav.wide wav.body in
     omega (arith, file.heads, is, twice_is)
+
+-- a file whose blocks stand at a place
+abbrev pub wav_at : Kind → (rate : ℕ) → (wide : Bool) → (at size : ℕ) → List ℕ → Wav
+wav_at kind rate wide at size bytes = record { kind = kind; rate = rate; wide = wide; body = take size (drop at bytes) }
+
+is_narrow : (wide : Bool) → not wide ≡ true → wide ≡ false
+is_narrow false h = refl
+is_narrow true h = cc
+
+-- a file of 16 bits at the rate of the script is what its bytes hold
+pub kept_sound : (bytes : List ℕ) (wav : Wav) (rate : ℕ) (track : Sound) → length bytes ≤ 268435456 → read_of bytes ≡ Ok wav → wav.rate ≡ rate → not wav.wide ≡ true
+    → track ≡ sound_with wav.kind (samples_from wav.body) → track ≡ sound_in rate (read_of bytes)
+kept_sound bytes wav rate track few read same narrow is =
+    is
+    ∙ ap (λ wide. sound_with wav.kind (samples_at wide wav.body)) (sym (is_narrow wav.wide narrow))
+    ∙ sym (own_sound bytes wav few read)
+    ∙ ap (λ n. sound_of n wav) same
+    ∙ ap (sound_in rate) (sym read)
+
+pub kept_blocks : (bytes : List ℕ) (wav : Wav) → read_of bytes ≡ Ok wav → not wav.wide ≡ true → IsSound (sound_with wav.kind (samples_from wav.body))
+kept_blocks bytes wav read narrow =
+    subst (λ wide. IsSound (sound_with wav.kind (samples_at wide wav.body))) (is_narrow wav.wide narrow)
+    (blocks_sound wav.wide wav.kind wav.body (is_file bytes wav read).blocks)

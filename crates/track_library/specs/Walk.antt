@@ -62,6 +62,7 @@ audio_in rules bytes (Err fault) = Err (NotWav fault)
 audio_in rules bytes (Ok wav) = of_at_most rules.file
     (sound_of rules.rate wav, counted_bytes (length bytes) (sound_of rules.rate wav))
 
+-- what becomes of the bytes of an audio file, or why there are none
 abbrev pub audio_opened : Rules → Result (List ℕ) Unusable → Result Audio Unusable
 audio_opened rules (Err fault) = Err fault
 audio_opened rules (Ok bytes) = audio_in rules bytes (read_of bytes)
@@ -114,6 +115,7 @@ abbrev pub use_of : ℕ → Heard → List ℕ → Option (Result ℕ Unusable) 
 use_of all heard name (Some found) audio = Ok (heard, found)
 use_of all heard name None audio = first_use all heard name audio
 
+-- an audio file is used: one that was met before is the same file
 abbrev pub use_audio : Rules → Files → Heard → List ℕ → Result (Heard × Result ℕ Unusable) LoadFault
 use_audio rules files heard name = use_of rules.all heard name (entry_of name heard.names) (audio_at rules files name)
 
@@ -135,6 +137,7 @@ entry_played leaf (Err fault) = Err fault
 entry_played leaf (Ok (heard, Err fault)) = Ok (heard, leaf)
 entry_played leaf (Ok (heard, Ok number)) = Ok (heard, leaf ++ number ∷ [])
 
+-- one more entry of a list
 abbrev pub entry_next : Rules → Files → List ℕ → Result (Heard × List ℕ) LoadFault → Result (Heard × List ℕ) LoadFault
 entry_next rules files name (Err fault) = Err fault
 entry_next rules files name (Ok (heard, leaf)) = entry_played leaf (use_audio rules files heard name)
@@ -167,11 +170,13 @@ abbrev pub list_of : List (List ℕ × List (List ℕ)) → List ℕ → Option 
 list_of lists name (Some names) fresh = Ok (lists, names)
 list_of lists name None fresh = first_list lists name fresh
 
+-- a list is used: one that was met before is the same list
 abbrev pub use_list : Files → List (List ℕ × List (List ℕ)) → List ℕ
     → Result (List (List ℕ × List (List ℕ)) × List (List ℕ)) LoadFault
 use_list files lists name = list_of lists name (entry_of name lists)
     (list_in name (bytes_in (2 ^ 20) (file_at files name)))
 
+-- the lists that are known stand beside what is heard
 abbrev pub with_lists : List (List ℕ × List (List ℕ)) → Result (Heard × List ℕ) LoadFault
     → Result (Walked × List ℕ) LoadFault
 with_lists lists (Err fault) = Err fault
@@ -192,10 +197,12 @@ leaf_of rules files (Playlist name again) walked = playlist_leaf rules files wal
     (use_list files walked.lists name)
 leaf_of rules files _ walked = Ok (walked, [])
 
+-- one more leaf, with the files that it plays
 abbrev pub leaf_added : List (List ℕ) → Result (Walked × List ℕ) LoadFault → Result (Walked × List (List ℕ)) LoadFault
 leaf_added leaves (Err fault) = Err fault
 leaf_added leaves (Ok (walked, leaf)) = Ok (walked, leaves ++ leaf ∷ [])
 
+-- one more node of the plan
 abbrev pub node_next : Rules → Files → Node → Result (Walked × List (List ℕ)) LoadFault
     → Result (Walked × List (List ℕ)) LoadFault
 node_next rules files node (Err fault) = Err fault
@@ -207,6 +214,7 @@ abbrev pub nodes_walked : Rules → Files → List Node → Result (Walked × Li
 nodes_walked rules files [] walked = walked
 nodes_walked rules files (node ∷ nodes) walked = nodes_walked rules files nodes (node_next rules files node walked)
 
+-- the sounds of a plan once all nodes were met, or the first fault
 abbrev pub sounds_or_fault : Result (Walked × List (List ℕ)) LoadFault → Result Sounds LoadFault
 sounds_or_fault (Err fault) = Err fault
 sounds_or_fault (Ok (walked, leaves)) = Ok (record {
@@ -215,6 +223,7 @@ sounds_or_fault (Ok (walked, leaves)) = Ok (record {
   leaves = leaves;
 })
 
+-- before the first node
 abbrev pub nothing_met : Walked
 nothing_met = record { lists = []; heard = record { names = []; sounds = []; titles = []; bytes = 0 } }
 

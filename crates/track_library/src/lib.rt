@@ -15,10 +15,11 @@ mod samples;
 mod undecoded;
 mod walk;
 
-pub use fault::LoadFault;
+pub use fault::{LoadFault, Unusable};
 pub use laws::own_rate_changes_nothing;
-pub use list::read_list;
+pub use list::{cut_cr, cut_line, cut_mark, read_list};
 pub use plan_files::PlanFiles;
-pub use rules::Sizes;
+pub use reading::{block_count, written_bytes};
+pub use rules::{Rules, Sizes};
 pub use samples::read_samples;
 pub use walk::{find_files, load};

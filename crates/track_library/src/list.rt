@@ -26,7 +26,7 @@ pub fn read_list(alloc: Global, bytes: &[u8]) -> Result<Vec<Text>, Memory>
 }
 
 /// The bytes behind the byte order mark at their start.
-fn cut_mark(bytes: &[u8]) -> &[u8]
+pub fn cut_mark(bytes: &[u8]) -> &[u8]
     ensures { result.now ≡ without_mark bytes.now }
 {
     match bytes.strip_prefix(MARK.as_slice()) {
@@ -36,7 +36,7 @@ fn cut_mark(bytes: &[u8]) -> &[u8]
 }
 
 /// The first line of some bytes, and what stands behind its LF.
-fn cut_line(bytes: &[u8]) -> (&[u8], &[u8])
+pub fn cut_line(bytes: &[u8]) -> (&[u8], &[u8])
     requires { 0 < length bytes.now }
     ensures cut { lines bytes.now ≡ result.0.now ∷ lines result.1.now }
     ensures shorter { length result.1.now < length bytes.now }
@@ -65,7 +65,7 @@ fn line_name(line: &[u8]) -> Option<&str>
 }
 
 /// The line without the CR at its end.
-fn cut_cr(line: &[u8]) -> &[u8]
+pub fn cut_cr(line: &[u8]) -> &[u8]
     ensures { result.now ≡ without_cr line.now }
 {
     match line.strip_suffix(b"\r".as_slice()) {

@@ -89,7 +89,7 @@ fn use_bytes(bytes: Vec<u8>, rules: Rules) -> Result<(Undecoded, u64), Unusable>
 }
 
 /// How many bytes a file with these blocks has at another rate, with samples of 16 bits.
-fn written_bytes(wide: bool, kind: Kind, blocks: &[u8], from: u32, to: u32) -> u64
+pub fn written_bytes(wide: bool, kind: Kind, blocks: &[u8], from: u32, to: u32) -> u64
     requires blocks { AreBlocks wide kind blocks.now }
     requires few { length blocks.now ≤ 268435456 }
     requires rates { AreRates from to }
@@ -101,7 +101,7 @@ fn written_bytes(wide: bool, kind: Kind, blocks: &[u8], from: u32, to: u32) -> u
 }
 
 /// How many blocks these are.
-fn block_count(wide: bool, kind: Kind, blocks: &[u8]) -> u64
+pub fn block_count(wide: bool, kind: Kind, blocks: &[u8]) -> u64
     requires blocks { AreBlocks wide kind blocks.now }
     requires few { length blocks.now ≤ 268435456 }
     ensures count { result ≡ blocks_of kind (samples_at wide blocks.now) }

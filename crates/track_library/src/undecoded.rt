@@ -4,7 +4,7 @@ ghost use Rattle.frame_core.specs.Sounds.{IsSound};
 ghost use Rattle.wav_io.specs.Reading.{read_of};
 ghost use Rattle.track_library.specs.Files.{IsUsed, sound_in};
 
-use crate::recording::{record, track_at};
+use crate::recording::track_of;
 use frame_core::Track;
 use liq_base::Memory;
 use std::alloc::Global;
@@ -40,13 +40,12 @@ impl Undecoded {
         Undecoded { bytes, rate }
     }
 
-    /// The track of the file. Of its bytes, its samples and those at the rate of the script at most two are held at one
-    /// time.
+    /// The track of the file. Samples of 16 bits at the rate of the script stay in its bytes. Else of its bytes, its
+    /// samples and those at the rate of the script at most two are held at one time.
     pub fn decode(self, alloc: Global) -> Result<Track, Memory>
         ensures track { IfOk result (λ track. track ≡ self) }
     {
         let Undecoded { bytes, rate } = self;
-        let recording = record(alloc, bytes)?;
-        track_at(alloc, recording, rate)
+        track_of(alloc, bytes, rate)
     }
 }

@@ -2,7 +2,7 @@
 use Rattle.std.specs.Prelude.{⊤}
 use Rattle.std.proofs.Common.{◌≡◌, subst, ℕ, List, [], ◌∷◌, ◌++◌, Option, Some, None, Bool, true, false, nat_eq}
 use Rattle.liq_base.specs.declared.memory.Kind.{Kind}
-use Rattle.script_grammar.specs.Tree.{Sort, Tree, Many, AParam, AnInner, AnArg, AFull, ADef, none, more, Stmt, BindPart, DefPart, CallPart, IfPart, Bind, Def, Inner, Param, Labelled, Optional, Negative, Plain, Expr, And, Not, Alone, Compared, Sum, Added, Product, Multiplied, Constant, Quoted, Truth, Named, Called, Chosen, Nothing, Paren, Tuple, Listed, Braces, Format, NamedCall, Arg, If, POr, PAnd, PNot, TrueAtom, FalseAtom, Mark, IntervalAtom, Grouped, Script}
+use Rattle.script_grammar.specs.Tree.{Sort, Tree, Many, AParam, AnInner, AnArg, AFull, ADef, none, more, Stmt, BindPart, DefPart, CallPart, IfPart, Bind, Def, Inner, Param, Labelled, Optional, Negative, Plain, Expr, And, Not, Alone, Compared, Sum, Added, Product, Multiplied, Constant, Quoted, Truth, Named, Called, Chosen, Nothing, Paren, Tuple, Listed, Braces, PlaceFormat, NamedCall, Arg, If, POr, PAnd, PNot, TrueAtom, FalseAtom, Mark, IntervalAtom, Grouped, Script}
 use Rattle.type_terms.specs.Ground.{Ground, Grounds}
 use Rattle.typing_rules.specs.declared.uses.Target.{Target}
 use Rattle.typing_rules.specs.declared.uses.Target.TheVariants as target
@@ -75,7 +75,7 @@ module _ (ts us : Targets) (kinds : Kinds) (calls others : Calls) (call : (at t 
         (h.0, h.1, h.2, h.3, moved types f (same_left ts us (tokens_used f) (tokens_used x) front) h.0 h.4, moved types x (same_right ts us (tokens_used f) (tokens_used x) front) h.1 h.5, moved_all types rest (same_right ts us (tokens_used f ++ tokens_used x) (tokens_used rest) a) h.2 h.6)
     moved types (Listed at parts) a g h = (h.0, h.1, moved_each types parts a h.0 h.2)
     moved types (Braces at pred) a g h = h
-    moved types (Format at size) a g h = h
+    moved types (PlaceFormat at size) a g h = h
     moved types (NamedCall at name args) a g h = (h.0, moved_given types args a.1 h.0 h.1, subst (λ (o : Option Target). Applied (seen us types kinds others) at o h.0 g) a.0 (call_moves types at (ts at) h.0 g h.2))
     moved types (If at c t e) a g h =
         let front = same_left ts us (tokens_used c ++ tokens_used t) (tokens_used e) a in

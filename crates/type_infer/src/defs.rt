@@ -73,6 +73,7 @@ fn type_def_with<'a>(
         None => Ok(None),
         Some(parts) => {
             let typed = general_def(alloc, subst, held, def, &parts, uses)?;
+            subst.spend(typed.general.places())?;
             Ok(Some(typed))
         }
     }

@@ -1,5 +1,5 @@
 // General types.
-use type_terms::Ty;
+use type_terms::{Ty, places};
 
 /// What a type variable of a general type may stand for: anything, int or decimal, or what a variable of the
 /// substitution stands for.
@@ -31,4 +31,27 @@ pub struct General {
     pub result: Ty,
     pub types: Vec<TypeParameter>,
     pub kinds: Vec<KindParameter>,
+}
+
+impl General {
+    /// How many places a call of it takes: the nodes of its types, 17 for each type variable, as its new one allows 16,
+    /// and four for each kind.
+    pub fn places(&self) -> u64 {
+        let types = (self.types.len() as u64).saturating_mul(17);
+        let variables = (self.kinds.len() as u64)
+            .saturating_mul(4)
+            .saturating_add(types);
+        all_places(&self.params)
+            .saturating_add(places(&self.result))
+            .saturating_add(variables)
+    }
+}
+
+/// The places of all these types.
+fn all_places(tys: &[Ty]) -> u64 {
+    let mut sum: u64 = 0;
+    for ty in tys {
+        sum = sum.saturating_add(places(ty));
+    }
+    sum
 }

@@ -31,6 +31,8 @@ pub fn instantiate(alloc: Global, subst: &mut Subst, general: &General) -> Resul
     ensures counted { IfOk result (λ i. length i.kinds.items ≡ length (open_numbers 0 (scheme_of general.now).kinds)) }
     ensures grows { Grows subst.old subst.new }
 {
+    let many = general.places();
+    subst.spend(many)?;
     let types = new_types(alloc, subst, &general.types)?;
     let numbers = new_kinds(alloc, subst, &general.kinds)?;
     let call = instance_with(alloc, general, &types, &numbers)?;
@@ -143,7 +145,7 @@ fn new_types(
     ensures new { IfOk result (λ ns. AreNewTypes subst.old subst.new parameters.now ns.items) }
     ensures grows { Grows subst.old subst.new }
 {
-    let mut numbers = Vec::new(alloc);
+    let mut numbers = Vec::with_capacity(alloc, parameters.len())?;
     for parameter in parameters {
         let next = new_type(subst, *parameter)?;
         numbers.push(next)?;
@@ -161,7 +163,7 @@ fn new_kinds(
     ensures new { IfOk result (λ ns. AreNewKinds subst.old subst.new parameters.now ns.items) }
     ensures grows { Grows subst.old subst.new }
 {
-    let mut numbers = Vec::new(alloc);
+    let mut numbers = Vec::with_capacity(alloc, parameters.len())?;
     for parameter in parameters {
         let next = new_kind(subst, *parameter)?;
         numbers.push(next)?;

@@ -4,7 +4,7 @@ use Rattle.script_lex.specs.declared.token.TokenKind.{TokenKind}
 use Rattle.script_lex.specs.declared.token.TokenKind.TheVariants.{Keyword, Symbol}
 use Rattle.script_lex.specs.declared.token.Keyword.TheVariants as word
 use Rattle.script_lex.specs.declared.token.Symbol.TheVariants as sign
-use Rattle.script_grammar.specs.Tree.{Sort, Tree, Many, AnInner, none, more, Stmt, BindPart, DefPart, CallPart, IfPart, Bind, Def, Inner, Param, Labelled, Optional, Negative, Plain, Expr, And, Not, Alone, Compared, Sum, Added, Product, Multiplied, Constant, Quoted, Truth, Named, Called, Chosen, Nothing, Paren, Tuple, Listed, Braces, Format, NamedCall, Arg, If, POr, PAnd, PNot, TrueAtom, FalseAtom, Mark, IntervalAtom, Grouped}
+use Rattle.script_grammar.specs.Tree.{Sort, Tree, Many, AnInner, none, more, Stmt, BindPart, DefPart, CallPart, IfPart, Bind, Def, Inner, Param, Labelled, Optional, Negative, Plain, Expr, And, Not, Alone, Compared, Sum, Added, Product, Multiplied, Constant, Quoted, Truth, Named, Called, Chosen, Nothing, Paren, Tuple, Listed, Braces, PlaceFormat, NamedCall, Arg, If, POr, PAnd, PNot, TrueAtom, FalseAtom, Mark, IntervalAtom, Grouped}
 use Rattle.script_grammar.specs.Spelling.{spell, each_after, with_commas, token_if, label, op_token}
 use Rattle.script_grammar.specs.Placed.{IsPlaced, IsBehind, IsApart}
 use Rattle.typing_rules.specs.Scoping.{Name, Scope, inner_names, names, with_inner, with_inners, with_params}
@@ -102,7 +102,7 @@ mutual
   rise sc i (Listed at parts) p =
       let n = length-append (with_commas parts) (Symbol sign.CloseSquare ∷ []) in
       widen i (i + 1) (i + 1 + length (with_commas parts)) (i + length (spell (Listed at parts))) (names sc parts) (omega arith) (omega (arith, n)) (rise_apart sc (i + 1) parts p.1)
-  rise sc i (Format at size) p = omega arith
+  rise sc i (PlaceFormat at size) p = omega arith
   rise sc i (NamedCall at name args) p =
       let n = length-append (with_commas args) (Symbol sign.CloseRound ∷ []) in
       (omega (arith, p.0), widen (at + 1) (i + 1) (i + 1 + length (with_commas args)) (i + length (spell (NamedCall at name args))) (names sc args) (omega (arith, p.0)) (omega (arith, n)) (rise_apart sc (i + 1) args p.1))

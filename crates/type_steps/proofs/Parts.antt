@@ -18,8 +18,8 @@ use Rattle.type_steps.proofs.Tables.{over_later, follows_same, follows_both, mea
 -- ---- one more of a tuple's parts
 
 abbrev pub last_ground : Grounds → Ground → Grounds
-last_ground no_more g = ground.more g no_more
-last_ground (ground.more h hs) g = ground.more h (last_ground hs g)
+last_ground no_more g = ground.and_more g no_more
+last_ground (ground.and_more h hs) g = ground.and_more h (last_ground hs g)
 
 abbrev pub last_term : Terms → Term → Terms
 last_term no_terms t = one_more t no_terms
@@ -31,7 +31,7 @@ terms_last (u ∷ us) t = ap (one_more u) (terms_last us t)
 
 meanings_last : (a : Assignment) (us : Terms) (t : Term) → meanings a (last_term us t) ≡ last_ground (meanings a us) (meaning a t)
 meanings_last a no_terms t = refl
-meanings_last a (one_more u us) t = ap (ground.more (meaning a u)) (meanings_last a us t)
+meanings_last a (one_more u us) t = ap (ground.and_more (meaning a u)) (meanings_last a us t)
 
 over_last : (s : Table) (us : Terms) (t : Term) → IsOver s (tuple_term us) → IsOver s t → IsOver s (tuple_term (last_term us t))
 over_last s no_terms t o h = (h, tt)
@@ -42,10 +42,10 @@ all_last z [] x gs g h e = (g, no_more, ap (λ hs. last_ground hs g) h, e, refl)
 all_last z (y ∷ ts) x gs g h e = (h.0, last_ground h.1 g, ap (λ hs. last_ground hs g) h.2, h.3, all_last z ts x h.1 g h.4 e)
 
 all_before : (z : Sight) (ts : List (Tree AFull)) (x : Tree AFull) (gs : Grounds) → HaveAll z (listed (ts ++ x ∷ [])) gs → (hs : Grounds) × (g : Ground) × (gs ≡ last_ground hs g) × HaveAll z (listed ts) hs × Has z x g
-all_before z [] x gs h = (no_more, h.0, h.2 ∙ ap (ground.more h.0) h.4, refl, h.3)
+all_before z [] x gs h = (no_more, h.0, h.2 ∙ ap (ground.and_more h.0) h.4, refl, h.3)
 all_before z (y ∷ ts) x gs h = with_rest (all_before z ts x h.1 h.4) where
   with_rest : ((hs : Grounds) × (g : Ground) × (h.1 ≡ last_ground hs g) × HaveAll z (listed ts) hs × Has z x g) → (hs : Grounds) × (g : Ground) × (gs ≡ last_ground hs g) × HaveAll z (listed (y ∷ ts)) hs × Has z x g
-  with_rest r = (ground.more h.0 r.0, r.1, h.2 ∙ ap (ground.more h.0) r.2, (h.0, r.0, refl, h.3, r.3), r.4)
+  with_rest r = (ground.and_more h.0 r.0, r.1, h.2 ∙ ap (ground.and_more h.0) r.2, (h.0, r.0, refl, h.3, r.3), r.4)
 
 pub all_none : (s : Table) (env : Env) (fs : List Found) → AreUsesOver s fs → InfersAll s s env none no_terms fs fs
 all_none s env fs o = record {
@@ -91,7 +91,7 @@ pub all_front_none : (s : Table) (env : Env) (ts us : List (Tree AFull)) (old : 
 all_front_none s env ts us old n a m k gs p q = let r = front (sight_under env a k) ts gs p in n a m k r.0 r.1 q where
   front : (z : Sight) (vs : List (Tree AFull)) (gs : Grounds) → HaveAll z (listed (vs ++ us)) gs → (hs : Grounds) × HaveAll z (listed vs) hs
   front z [] gs h = (no_more, refl)
-  front z (v ∷ vs) gs h = let r = front z vs h.1 h.4 in (ground.more h.0 r.0, (h.0, r.0, refl, h.3, r.1))
+  front z (v ∷ vs) gs h = let r = front z vs h.1 h.4 in (ground.and_more h.0 r.0, (h.0, r.0, refl, h.3, r.1))
 
 -- ---- the tuple
 
@@ -103,17 +103,17 @@ tuple_infers s s1 s2 env at f h rest us n old new o g d = record {
   sound = λ a m k p. both a k (d.sound a m) (g.sound a (d.follows.solves a m) k p);
   complete = λ a m k v p q.
       reach g.follows
-      (g.complete a m k (ground.more p.0 (ground.more p.1 p.2)) (p.0, ground.more p.1 p.2, refl, p.4, (p.1, p.2, refl, p.5, p.6)) q) (λ b1 m1 g1 p1.
+      (g.complete a m k (ground.and_more p.0 (ground.and_more p.1 p.2)) (p.0, ground.and_more p.1 p.2, refl, p.4, (p.1, p.2, refl, p.5, p.6)) q) (λ b1 m1 g1 p1.
       ends (d.complete b1 m1) (λ b2 m2 g2. (
         d.sound b2 m2 ∙ sym (meaning_over s1 b1 b2 (tuple_term us) g.over g2) ∙ ap tuple p1.0 ∙ sym p.3,
         found_over s1 env b1 b2 k new (env_later s s1 env g.follows o) g.uses g2 p1.1,
       )));
 } where
   both : (a : Assignment) (k : Places) → a.type_of n ≡ tuple (meanings a us) → HaveAll (sight_under env a k) (more f (more h rest)) (meanings a us) × AreFound env a k old → Has (sight_under env a k) (Tuple at f h rest) (a.type_of n) × AreFound env a k old
-  both a k is w = ((w.0.0, w.0.4.0, w.0.4.1, is ∙ ap tuple (w.0.2 ∙ ap (ground.more w.0.0) w.0.4.2), w.0.3, w.0.4.3, w.0.4.4), w.1)
+  both a k is w = ((w.0.0, w.0.4.0, w.0.4.1, is ∙ ap tuple (w.0.2 ∙ ap (ground.and_more w.0.0) w.0.4.2), w.0.3, w.0.4.3, w.0.4.4), w.1)
 
 pub tuple_none : (s : Table) (env : Env) (at : ℕ) (f h : Tree AFull) (rest : Tree (Many AFull)) (old : List Found) → HaveNoTypes s env (more f (more h rest)) old → HasNoType s env (Tuple at f h rest) old
-tuple_none s env at f h rest old n a m k v p q = n a m k (ground.more p.0 (ground.more p.1 p.2)) (p.0, ground.more p.1 p.2, refl, p.4, (p.1, p.2, refl, p.5, p.6)) q
+tuple_none s env at f h rest old n a m k v p q = n a m k (ground.and_more p.0 (ground.and_more p.1 p.2)) (p.0, ground.and_more p.1 p.2, refl, p.4, (p.1, p.2, refl, p.5, p.6)) q
 
 -- ---- one more argument
 

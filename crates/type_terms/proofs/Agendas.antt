@@ -7,7 +7,7 @@ use Rattle.type_terms.specs.Agenda.{Agenda, AllEqualBelow, EqualBelow, IsTakenUp
 use Rattle.type_terms.specs.Differ.{Settles}
 use Rattle.type_terms.specs.declared.differ.Difference.{Difference}
 use Rattle.type_terms.specs.declared.differ.Difference.TheVariants.{Same, Clash, Bind, BindKind}
-use Rattle.type_terms.specs.Ground.{Assignment, list, tuple, more, size, sizes}
+use Rattle.type_terms.specs.Ground.{Assignment, list, tuple, and_more, size, sizes}
 use Rattle.type_terms.specs.Pairs.{AllEqual, AllOver, IsSplit, pairs, part_count, parts_of, zipped}
 use Rattle.type_terms.specs.Table.{IsOver, MeetsBindings, Solves, Table, extra}
 use Rattle.type_terms.specs.Term.{Term, Terms, base_term, source_term, list_term, meaning, meanings, no_terms, one_more, term_of, tuple_term, variable}
@@ -32,7 +32,7 @@ zipped_below : (a : Assignment) (n : ℕ) (ts us : Terms) → part_count ts ≡ 
 zipped_below a n no_terms no_terms l h k = refl
 zipped_below a n no_terms (one_more u us) l h k = absurd (omega arith)
 zipped_below a n (one_more t ts) no_terms l h k = absurd (omega arith)
-zipped_below a n (one_more t ts) (one_more u us) l h k = ap₂ more (h.0 (omega arith)) (zipped_below a n ts us (omega arith) h.1 (omega arith))
+zipped_below a n (one_more t ts) (one_more u us) l h k = ap₂ and_more (h.0 (omega arith)) (zipped_below a n ts us (omega arith) h.1 (omega arith))
 
 -- two types are equal where their parts are
 split_below : (a : Assignment) (n : ℕ) (t u : Term) → IsSplit t u → AllEqualBelow a n (parts_of t u) → EqualBelow a n t u

@@ -1,6 +1,6 @@
 -- Variables of types that stand side by side, and their new numbers.
 use Rattle.std.proofs.Common.{◌≡◌, ◌∙◌, sym, ap, ap₂, refl, ℕ, ◌+◌, ◌<◌, map, take, List, [], ◌∷◌, ◌++◌, length, get_or, append_assoc, append-nil, Result, Ok, Err, IfOk}
-use Rattle.type_terms.specs.Ground.{Assignment, list, tuple, source, more}
+use Rattle.type_terms.specs.Ground.{Assignment, list, tuple, source, and_more}
 use Rattle.type_terms.specs.Naming.{type_variables, all_type_variables, kind_variables, all_kind_variables, kind_instance, instance, instances, behind}
 use Rattle.type_terms.specs.Term.{Term, Terms, base_term, list_term, tuple_term, source_term, variable, no_terms, one_more, meaning, meanings, kind_meaning, term_of, terms_of}
 use Rattle.type_terms.specs.declared.ty.KindTerm.{KindTerm}
@@ -72,7 +72,7 @@ mutual
 
   instances_meaning : (types kinds : List ℕ) (a : Assignment) (ts : Terms) → meanings a (instances types kinds ts) ≡ meanings (behind types kinds a) ts
   instances_meaning types kinds a no_terms = refl
-  instances_meaning types kinds a (one_more t ts) = ap₂ more (instance_meaning types kinds a t) (instances_meaning types kinds a ts)
+  instances_meaning types kinds a (one_more t ts) = ap₂ and_more (instance_meaning types kinds a t) (instances_meaning types kinds a ts)
 
 pub means_behind : (types kinds : List ℕ) (t : Term) (r : Result Ty Memory) → IfOk r (λ u. term_of u ≡ instance types kinds t) → IfOk r (λ u. (a : Assignment) → meaning a (term_of u) ≡ meaning (behind types kinds a) t)
 means_behind types kinds t (Ok u) h = λ a. ap (meaning a) h ∙ instance_meaning types kinds a t

@@ -1,6 +1,6 @@
 -- Each shape of a settled type.
 use Rattle.std.proofs.Common.{◌≡◌, ◌∙◌, sym, ap, ap₂, subst, refl, ℕ, ◌+◌, ◌<◌, ◌≤◌, List, [], ◌∷◌, ◌++◌, map, take, take_all, length, get_or, None}
-use Rattle.type_terms.specs.Ground.{Assignment, list, tuple, source, more, no_more}
+use Rattle.type_terms.specs.Ground.{Assignment, list, tuple, source, and_more, no_more}
 use Rattle.type_terms.specs.Term.{Term, InTerm, InTerms, InKind, meaning, meanings, kind_meaning, list_term, tuple_term, source_term, term_of, terms_of}
 use Rattle.type_terms.specs.Table.{Table, Solves, MeetsBindings, MeetsKinds, kind_at}
 use Rattle.type_terms.specs.declared.ty.Ty.{Ty}
@@ -34,13 +34,13 @@ pub record AreResolved (s : Table) (ts us : List Term) : Type 0 where
   pub same : (a : Assignment) → Solves a s → meanings a (terms_of us) ≡ meanings a (terms_of ts)
 
 meaning_last : (a : Assignment) (ts us : List Term) (t u : Term) → meanings a (terms_of us) ≡ meanings a (terms_of ts) → meaning a u ≡ meaning a t → meanings a (terms_of (us ++ (u ∷ []))) ≡ meanings a (terms_of (ts ++ (t ∷ [])))
-meaning_last a [] [] t u e f = ap (λ x. more x no_more) f
+meaning_last a [] [] t u e f = ap (λ x. and_more x no_more) f
 meaning_last a [] (y ∷ us) t u e f = cc
 meaning_last a (x ∷ ts) [] t u e f = cc
 meaning_last a (x ∷ ts) (y ∷ us) t u e f =
     let h : meaning a y ≡ meaning a x = cc in
     let r : meanings a (terms_of us) ≡ meanings a (terms_of ts) = cc in
-    ap₂ more h (meaning_last a ts us t u r f)
+    ap₂ and_more h (meaning_last a ts us t u r f)
 
 free_last : (s : Table) (us : List Term) (u : Term) → InTerms (IsFreeType s) (IsFreeKind s) (terms_of us) → InTerm (IsFreeType s) (IsFreeKind s) u → InTerms (IsFreeType s) (IsFreeKind s) (terms_of (us ++ (u ∷ [])))
 free_last s [] u h f = (f, tt)

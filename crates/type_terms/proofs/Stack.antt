@@ -1,7 +1,7 @@
 -- Stacks of pairs, and the parts of two types.
 use Rattle.std.proofs.Common.{◌≡◌, ◌∙◌, sym, ap, ap₂, subst, refl, ℕ, zero, suc, ◌+◌, ◌<◌, List, [], ◌∷◌, ◌++◌, map, take, length, get_or, add-one, append_assoc, arith}
 use Rattle.std.specs.Borrow.{Bor}
-use Rattle.type_terms.specs.Ground.{Ground, Grounds, Assignment, list, tuple, more}
+use Rattle.type_terms.specs.Ground.{Ground, Grounds, Assignment, list, tuple, and_more}
 use Rattle.type_terms.specs.Term.{Term, Terms, list_term, tuple_term, no_terms, one_more, term_of, terms_of, meaning, meanings}
 use Rattle.type_terms.specs.Table.{Table, IsOver}
 use Rattle.type_terms.specs.declared.ty.Ty.{Ty}
@@ -46,10 +46,10 @@ list_same x y e = cc
 tuple_same : (x y : Grounds) → tuple x ≡ tuple y → x ≡ y
 tuple_same x y e = cc
 
-head_same : (x y : Ground) (xs ys : Grounds) → more x xs ≡ more y ys → x ≡ y
+head_same : (x y : Ground) (xs ys : Grounds) → and_more x xs ≡ and_more y ys → x ≡ y
 head_same x y xs ys e = cc
 
-tail_same : (x y : Ground) (xs ys : Grounds) → more x xs ≡ more y ys → xs ≡ ys
+tail_same : (x y : Ground) (xs ys : Grounds) → and_more x xs ≡ and_more y ys → xs ≡ ys
 tail_same x y xs ys e = cc
 
 zipped_equal : (a : Assignment) (ts us : Terms) → meanings a ts ≡ meanings a us → AllEqual a (zipped ts us)
@@ -61,7 +61,7 @@ equal_zipped : (a : Assignment) (ts us : Terms) → part_count ts ≡ part_count
 equal_zipped a no_terms no_terms l h = refl
 equal_zipped a no_terms (one_more u us) l h = absurd (omega arith)
 equal_zipped a (one_more t ts) no_terms l h = absurd (omega arith)
-equal_zipped a (one_more t ts) (one_more u us) l h = ap₂ more h.0 (equal_zipped a ts us (omega arith) h.1)
+equal_zipped a (one_more t ts) (one_more u us) l h = ap₂ and_more h.0 (equal_zipped a ts us (omega arith) h.1)
 
 zipped_over : (s : Table) (ts us : Terms) → IsOver s (tuple_term ts) → IsOver s (tuple_term us) → AllOver s (zipped ts us)
 zipped_over s no_terms us o p = tt

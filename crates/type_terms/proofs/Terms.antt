@@ -1,6 +1,6 @@
 -- Laws of terms under choices and heights, by induction on the term.
 use Rattle.std.proofs.Common.{◌≡◌, ℕ, ◌+◌, max, ◌≤◌, refl, ap, ap₂, arith}
-use Rattle.type_terms.specs.Ground.{list, tuple, source, more, Assignment}
+use Rattle.type_terms.specs.Ground.{list, tuple, source, and_more, Assignment}
 use Rattle.type_terms.specs.Term.{Term, Terms, base_term, list_term, tuple_term, source_term, variable, no_terms, one_more, meaning, meanings, kind_meaning, InKind, InTerm, InTerms, height, heights}
 use Rattle.type_terms.specs.declared.ty.KindTerm.{KindTerm}
 use Rattle.type_terms.specs.declared.ty.KindTerm.TheVariants.{Fixed, Var}
@@ -36,7 +36,7 @@ mutual
 
   pub meanings_same : (a b : Assignment) (ts : Terms) → InTerms (λ n. a.type_of n ≡ b.type_of n) (λ n. a.kind_of n ≡ b.kind_of n) ts → meanings a ts ≡ meanings b ts
   meanings_same a b no_terms h = refl
-  meanings_same a b (one_more t ts) h = ap₂ more (meaning_same a b t h.0) (meanings_same a b ts h.1)
+  meanings_same a b (one_more t ts) h = ap₂ and_more (meaning_same a b t h.0) (meanings_same a b ts h.1)
 
 mutual
   -- choices that agree on a term agree on its variables

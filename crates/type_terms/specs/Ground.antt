@@ -15,7 +15,7 @@ mutual
   -- the types of a tuple's parts
   pub data Grounds : Type 0 where
     no_more : Grounds
-    more : Ground → Grounds → Grounds
+    and_more : Ground → Grounds → Grounds
 
 -- a type for each type variable, and a kind for each kind variable
 pub record Assignment : Type 0 where
@@ -43,4 +43,4 @@ abbrev mutual
 
   pub sizes : Grounds → ℕ
   sizes no_more = 0
-  sizes (more t ts) = size t + sizes ts
+  sizes (and_more t ts) = size t + sizes ts

@@ -1,6 +1,6 @@
 -- Types over variables, as plain data, and what they mean.
 use Rattle.std.specs.Prelude.{ℕ, ◌+◌, max, Option, Some, None, List, [], ◌∷◌}
-use Rattle.type_terms.specs.Ground.{Ground, Grounds, base_type, list, tuple, source, no_more, more, Assignment}
+use Rattle.type_terms.specs.Ground.{Ground, Grounds, base_type, list, tuple, source, no_more, and_more, Assignment}
 use Rattle.liq_base.specs.declared.memory.Kind.{Kind}
 use Rattle.type_terms.specs.declared.ty.Base.{Base}
 use Rattle.type_terms.specs.declared.ty.Base.TheVariants as base
@@ -50,6 +50,7 @@ abbrev pub base_of : Term → Option Base
 base_of (base_term b) = Some b
 base_of _ = None
 
+-- the kind that a term of kinds is under an assignment
 abbrev pub kind_meaning : Assignment → KindTerm → Kind
 kind_meaning a (Fixed k) = k
 kind_meaning a (Var n) = a.kind_of n
@@ -65,7 +66,7 @@ abbrev mutual
 
   pub meanings : Assignment → Terms → Grounds
   meanings a no_terms = no_more
-  meanings a (one_more t ts) = more (meaning a t) (meanings a ts)
+  meanings a (one_more t ts) = and_more (meaning a t) (meanings a ts)
 
 -- a fact of the kind's variable, if it is one
 abbrev pub InKind : (ℕ → Type 0) → KindTerm → Type 0

@@ -13,6 +13,6 @@ mod ty;
 mod type_variable;
 mod unifier;
 
-pub use naming::{VariableNumbers, renamed, variables};
+pub use naming::{VariableNumbers, places, renamed, variables};
 pub use subst::{Subst, resolved, resolved_kind, unify};
 pub use ty::{Base, KindTerm, Ty};

@@ -43,6 +43,27 @@ pub fn renamed(alloc: Global, ty: &Ty, types: &[u64], kinds: &[u64]) -> Result<T
     renamed_within(alloc, types, kinds, ty, MOST_LEVELS)
 }
 
+/// How many places the type has: nodes of its tree.
+pub fn places(ty: &Ty) -> u64 {
+    match ty {
+        Ty::List(item) => places(item).saturating_add(1),
+        Ty::Tuple(parts) => {
+            let mut sum: u64 = 1;
+            for part in parts {
+                sum = sum.saturating_add(places(part));
+            }
+            sum
+        }
+        _ => 1,
+    }
+}
+
+/// Takes the places of the type from those that are left; where there are too few, as if memory had run out.
+pub fn spend(left: &mut u64, ty: &Ty) -> Result<(), Memory> {
+    *left = left.checked_sub(places(ty)).ok_or(Memory)?;
+    Ok(())
+}
+
 /// The same type once more.
 ///
 /// A type of more than a thousand levels is given up as if memory had run out.
@@ -130,7 +151,7 @@ fn renamed_within(
             Ok(Ty::List(item))
         }
         Ty::Tuple(parts) => {
-            let mut copies = Vec::new(alloc);
+            let mut copies = Vec::with_capacity(alloc, parts.len())?;
             for part in parts {
                 let next = renamed_within(alloc, types, kinds, part, below)?;
                 copies.push(next)?;

@@ -11,8 +11,18 @@ use crate::type_variable::TypeVariable;
 use liq_base::Memory;
 use std::alloc::Global;
 
-/// How many nodes a resolved type may have.
-pub const MOST_NODES: u64 = 1_048_576;
+/// How many places the types of a script may have together, beside those that each variable allows. A place is a node of
+/// a type that is built or compared.
+pub const MOST_PLACES: u64 = 1_048_576;
+
+/// How many places a type variable allows. Each expression has one or two, so types of usual size never take of the
+/// others.
+pub const PLACES_A_VARIABLE: u64 = 16;
+
+/// Allows the places of one variable more.
+pub fn allow(left: &mut u64) {
+    *left = left.saturating_add(PLACES_A_VARIABLE);
+}
 
 /// The type with all that is bound put in, if it has at most so many levels and nodes.
 pub fn settle(
@@ -49,7 +59,7 @@ pub fn settle(
             Ok(Ty::List(item))
         }
         Ty::Tuple(parts) => {
-            let mut settled = Vec::new(alloc);
+            let mut settled = Vec::with_capacity(alloc, parts.len())?;
             for part in parts {
                 let next = settle(alloc, types, kinds, part, below, nodes)?;
                 settled.push(next)?;

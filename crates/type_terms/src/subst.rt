@@ -14,7 +14,7 @@ use crate::differ::resolve_kind;
 use crate::free_counts::{free_kinds_behind, free_types_behind};
 use crate::naming::MOST_LEVELS;
 use crate::occurs::{are_among, mark};
-use crate::resolving::{MOST_NODES, settle};
+use crate::resolving::{MOST_PLACES, allow, settle};
 use crate::table::Bindings;
 use crate::ty::{KindTerm, Ty};
 use crate::type_variable::TypeVariable;
@@ -59,6 +59,7 @@ impl Subst {
                 types: Vec::new(alloc),
                 kinds: Vec::new(alloc),
                 nested: Vec::new(alloc),
+                left: MOST_PLACES,
             },
             free: 0,
         })
@@ -72,6 +73,14 @@ impl Subst {
         self.bindings.types.reserve(types)?;
         self.bindings.nested.reserve(types)?;
         self.bindings.kinds.reserve(kinds)?;
+        Ok(())
+    }
+
+    /// Takes so many places from those that may be built or compared; where fewer are left, as if memory had run out.
+    pub fn spend(&mut self, places: u64) -> Result<(), Memory>
+        ensures same { self.new ≡ self.old }
+    {
+        self.bindings.left = self.bindings.left.checked_sub(places).ok_or(Memory)?;
         Ok(())
     }
 
@@ -90,6 +99,7 @@ impl Subst {
         let next = self.bindings.types.len() as u64;
         self.bindings.nested.push(false)?;
         self.bindings.types.push(TypeVariable::new(number))?;
+        allow(&mut self.bindings.left);
         self.free += 1;
         Ok(Ty::Var(next))
     }
@@ -115,6 +125,7 @@ impl Subst {
         self.bindings
             .types
             .push_reserved(TypeVariable::bound_to(ty));
+        allow(&mut self.bindings.left);
         Ok(next)
     }
 
@@ -246,14 +257,14 @@ pub fn resolved_kind(subst: &Subst, kind: KindTerm) -> KindTerm
 
 /// The type with all that is bound put in.
 ///
-/// A type of more than a thousand levels or a million nodes is given up as if memory had run out.
+/// A type of more than a thousand levels, or of more places than are left, is given up as if memory had run out.
 pub fn resolved(alloc: Global, subst: &Subst, ty: &Ty) -> Result<Ty, Memory>
     requires { IsOver subst.now (term_of ty.now) }
     ensures unbound { IfOk result (λ t. IsUnbound subst.now (term_of t)) }
     ensures same { IfOk result (λ t. (a : Assignment) → Solves a subst.now
         → meaning a (term_of t) ≡ meaning a (term_of ty.now)) }
 {
-    let mut nodes = MOST_NODES;
+    let mut nodes = subst.bindings.left;
     settle(
         alloc,
         &subst.bindings.types,

@@ -20,6 +20,8 @@ pub struct Bindings {
     pub kinds: Vec<Option<KindTerm>>,
     // Whether a type variable may stand in what another is bound to.
     pub nested: Vec<bool>,
+    // How many places may still be built or compared.
+    pub left: u64,
 }
 
 impl Bindings {

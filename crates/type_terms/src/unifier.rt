@@ -11,7 +11,7 @@ ghost use Rattle.type_terms.specs.Term.{term_of};
 
 use crate::agenda::Agenda;
 use crate::differ::{Difference, differ, differ_directly, push_copies, push_split};
-use crate::naming::copy;
+use crate::naming::{copy, spend};
 use crate::occurs::MOST_STEPS;
 use crate::table::{Bindings, free_kinds, free_types};
 use crate::ty::Ty;
@@ -96,6 +96,7 @@ fn unify_directly(
         Difference::Clash => Ok(Direct::Clash),
         Difference::Bind(x, t) => {
             let t = copy(alloc, t)?;
+            spend(&mut bindings.left, &t)?;
             bindings.bind_type(x, t);
             *free -= 1;
             Ok(Direct::Same)
@@ -152,6 +153,15 @@ fn undo(bindings: &mut Bindings, trail: &Trail)
     free_kinds(&mut bindings.kinds, &trail.kinds);
 }
 
+/// Takes the places of the pairs behind the first so many from those that are left.
+fn spend_behind(left: &mut u64, pairs: &[(Ty, Ty)], first: usize) -> Result<(), Memory> {
+    for i in first..pairs.len() {
+        spend(left, &pairs[i].0)?;
+        spend(left, &pairs[i].1)?;
+    }
+    Ok(())
+}
+
 /// Takes up one pair: binds the variable that it forces, or puts what the two are bound to on the agenda; `false` where
 /// they differ in shape.
 fn take_up(
@@ -169,11 +179,16 @@ fn take_up(
         (IsTaken (table_of bindings.new) (agenda_of agenda.old) (agenda_of agenda.new) (term_of left.now)
         (term_of right.now)) }
 {
+    let first = agenda.work.len();
     match differ(alloc, bindings, agenda, left, right)? {
-        Difference::Same => Ok(true),
+        Difference::Same => {
+            spend_behind(&mut bindings.left, &agenda.work, first)?;
+            Ok(true)
+        }
         Difference::Clash => Ok(false),
         Difference::Bind(x, t) => {
             let t = copy(alloc, t)?;
+            spend(&mut bindings.left, &t)?;
             trail.types.push(x)?;
             bindings.bind_type(x, t);
             Ok(true)
@@ -254,6 +269,8 @@ fn compare(
     ensures answer { IfOk result (IsAnswer (table_of bindings.new) (term_of left.now) (term_of right.now)) }
 {
     push_copies(alloc, &mut agenda.work, left, right)?;
+    spend(&mut bindings.left, left)?;
+    spend(&mut bindings.left, right)?;
     for _step in 0..MOST_STEPS {
         let Some(next) = agenda.work.pop() else {
             return Ok(true);

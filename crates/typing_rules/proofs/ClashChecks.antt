@@ -146,11 +146,11 @@ id_called ts at g means = (
 pub two_types : HasTyping (target_in (meanings_of at_two_types)) at_two_types
 two_types = (
   all_stereo,
-  value 7 (tuple (ground.more (base_type base.Int) (ground.more (base_type base.Text) ground.no_more))) ∷ function (Def 1 (codes "id") (one (Param 2 (codes "x"))) true none (lone (Named 5 (codes "x")))) ∷ [],
+  value 7 (tuple (ground.and_more (base_type base.Int) (ground.and_more (base_type base.Text) ground.no_more))) ∷ function (Def 1 (codes "id") (one (Param 2 (codes "x"))) true none (lone (Named 5 (codes "x")))) ∷ [],
   (
     (all_stereo, base_type base.Int ∷ [], base_type base.Int, ((tt, refl), ((2, base_type base.Int) ∷ [], refl, ((((refl, tt, tt), tt, tt), tt, tt), tt, tt)))),
     (
-      tuple (ground.more (base_type base.Int) (ground.more (base_type base.Text) ground.no_more)),
+      tuple (ground.and_more (base_type base.Int) (ground.and_more (base_type base.Text) ground.no_more)),
       (((((base_type base.Int, base_type base.Text, ground.no_more, refl, ((((((None, base_type base.Int) ∷ [], (base_type base.Int, [], refl, ((((refl, tt, tt), tt, tt), tt, tt), tt, tt), refl), (Stereo ∷ [], refl, id_called (target_in (meanings_of at_two_types)) 10 (base_type base.Int) refl)), tt, tt), tt, tt), tt, tt), tt, tt), ((((((None, base_type base.Text) ∷ [], (base_type base.Text, [], refl, ((((refl, tt, tt), tt, tt), tt, tt), tt, tt), refl), (Stereo ∷ [], refl, id_called (target_in (meanings_of at_two_types)) 14 (base_type base.Text) refl)), tt, tt), tt, tt), tt, tt), tt, tt), refl), tt, tt), tt, tt), tt, tt), tt, tt),
       refl,
     ),

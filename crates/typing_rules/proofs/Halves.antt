@@ -6,7 +6,7 @@ use Rattle.liq_base.specs.declared.memory.Kind.{Kind}
 use Rattle.liq_base.specs.declared.memory.Kind.TheVariants.{Mono, Stereo}
 use Rattle.script_grammar.specs.declared.tree.Literal.TheVariants as literal
 use Rattle.script_grammar.specs.Placed.{IsPlaced}
-use Rattle.script_grammar.specs.Tree.{Tree, AStmt, ADef, AnOperand, none, more, Stmt, DefPart, Def, Param, Optional, Constant, Named, Quoted, Format, Script}
+use Rattle.script_grammar.specs.Tree.{Tree, AStmt, ADef, AnOperand, none, more, Stmt, DefPart, Def, Param, Optional, Constant, Named, Quoted, PlaceFormat, Script}
 use Rattle.type_terms.specs.Ground.{base_type, source}
 use Rattle.type_terms.specs.declared.ty.Base.TheVariants as base
 use Rattle.typing_rules.specs.declared.uses.Use.{Use}
@@ -29,7 +29,7 @@ abbrev pub half : Decimal → Tree ADef
 half d = Def 1 (codes "half") (two (Optional 3 (codes "by") (full (Constant 5 (literal.Number d)))) (Param 7 (codes "s"))) true none (lone (called 10 (codes "amplify") (two (plain 11 (Named 11 (codes "by"))) (plain 13 (Named 13 (codes "s"))))))
 
 abbrev output : ℕ → Tree AnOperand → Tree AStmt
-output at p = calls at (codes "output.file") (more (plain (at + 1) (Format (at + 1) None)) (two (plain (at + 3) (Quoted (at + 3) (codes "A"))) (plain (at + 5) p)))
+output at p = calls at (codes "output.file") (more (plain (at + 1) (PlaceFormat (at + 1) None)) (two (plain (at + 3) (Quoted (at + 3) (codes "A"))) (plain (at + 5) p)))
 
 abbrev pub halves : Decimal → Decimal → Script
 halves d e = more (Stmt (DefPart (half d)) false) (two

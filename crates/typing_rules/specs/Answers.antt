@@ -14,6 +14,7 @@ use Rattle.typing_rules.specs.Kinds.{said, target_at, read, blocks, IsLess, IsLe
 abbrev pub IsTypedScript : Script → List Use → Type 0
 IsTypedScript script uses = (es : List Entry) × IsTypedTo (target_at uses) (read [] uses) [] script es
 
+-- these are the uses of the script: what each name means, and its kinds, of which none could be less
 pub record IsTyped (script : Script) (uses : List Use) : Type 0 where
   -- all names and arguments match, and there is one use for each name, in the order of the tokens
   pub names : first_fault 1 [] script ≡ None
@@ -43,6 +44,7 @@ pub record IsTypeClash (script : Script) (n : ℕ) : Type 0 where
   pub names : first_fault 1 [] (first_of n script) ≡ None
   pub clash : IsClash script n
 
+-- what each fault of names and types means
 abbrev pub IsTypeFault : Script → TypeFault → Type 0
 IsTypeFault script (fault.UnknownName n at) = IsNameFault script (fault.UnknownName n at)
 IsTypeFault script (fault.MissingArgument n at label) = IsNameFault script (fault.MissingArgument n at label)

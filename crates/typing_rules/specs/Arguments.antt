@@ -4,6 +4,7 @@ use Rattle.typing_rules.specs.declared.form.Form.{Form}
 use Rattle.typing_rules.specs.declared.form.Form.TheVariants.{InPlace, ByLabel, Perhaps}
 use Rattle.script_grammar.specs.Tree.{Tree, Many, none, more, AParam, Param, Labelled, Optional}
 
+-- a parameter: its name, and how an argument is given for it
 pub record Parameter : Type 0 where
   pub name : List ℕ
   pub form : Form
@@ -12,6 +13,7 @@ pub record Parameter : Type 0 where
 abbrev pub GivenArgument : Type 0 → Type 0
 GivenArgument T = Option (List ℕ) × T
 
+-- the label by which a parameter is given, if it has one
 abbrev pub label_by : List ℕ → Form → Option (List ℕ)
 label_by name InPlace = None
 label_by name ByLabel = Some name
@@ -21,12 +23,14 @@ label_by name Perhaps = Some name
 abbrev pub label_of : Parameter → Option (List ℕ)
 label_of p = label_by p.name p.form
 
+-- both have no label, or the same one
 abbrev pub is_label : Option (List ℕ) → Option (List ℕ) → Bool
 is_label None None = true
 is_label None (Some b) = false
 is_label (Some a) None = false
 is_label (Some a) (Some b) = bytes_eq a b
 
+-- an argument that was passed over stays before those that are left
 abbrev pub after : {T : Type 0} → GivenArgument T → Option (T × List (GivenArgument T))
     → Option (T × List (GivenArgument T))
 after g None = None
@@ -37,6 +41,7 @@ abbrev pub argument : {T : Type 0} → Option (List ℕ) → List (GivenArgument
 argument label [] = None
 argument label (g ∷ gs) = cond (is_label label g.0) (Some (g.1, gs)) (after g (argument label gs))
 
+-- the arguments that are left once one was taken
 abbrev pub others : {T : Type 0} → List (GivenArgument T) → Option (T × List (GivenArgument T)) → List (GivenArgument T)
 others gs None = gs
 others gs (Some x) = x.1
@@ -46,11 +51,13 @@ abbrev pub left_over : {T : Type 0} → List Parameter → List (GivenArgument T
 left_over [] gs = gs
 left_over (p ∷ ps) gs = left_over ps (others gs (argument (label_of p) gs))
 
+-- the parameter has no default
 abbrev pub is_needed : Form → Bool
 is_needed InPlace = true
 is_needed ByLabel = true
 is_needed Perhaps = false
 
+-- the first parameter without a default for which nothing was given
 abbrev pub missing_or : {T : Type 0} → Parameter → Option (T × List (GivenArgument T)) → Option (List ℕ)
     → Option (List ℕ)
 missing_or p (Some x) later = later
@@ -86,6 +93,7 @@ parameter_of (Param at name) = record { name = name; form = InPlace }
 parameter_of (Labelled at name) = record { name = name; form = ByLabel }
 parameter_of (Optional at name default) = record { name = name; form = Perhaps }
 
+-- the parameters of a def
 abbrev pub parameters_of : Tree (Many AParam) → List Parameter
 parameters_of none = []
 parameters_of (more p ps) = parameter_of p ∷ parameters_of ps

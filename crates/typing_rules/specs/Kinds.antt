@@ -23,15 +23,18 @@ abbrev pub known_kind : List Kind → KindOf → Option Kind
 known_kind given (Fixed k) = Some k
 known_kind given (Given j) = slice_get given j
 
+-- one more kind, where all are known
 abbrev pub put : Option Kind → Option (List Kind) → Option (List Kind)
 put None ks = None
 put (Some k) None = None
 put (Some k) (Some ks) = Some (k ∷ ks)
 
+-- the kinds of a use within a call, where all are known
 abbrev pub kinds_of : List Kind → List KindOf → Option (List Kind)
 kinds_of given [] = Some []
 kinds_of given (w ∷ ws) = put (known_kind given w) (kinds_of given ws)
 
+-- the kinds of a use that may not be there
 abbrev pub kinds_in : Option Use → List Kind → Option (List Kind)
 kinds_in None given = None
 kinds_in (Some u) given = kinds_of given u.kinds
@@ -49,9 +52,11 @@ read given uses chain at = around given uses (at ∷ chain)
 abbrev pub said : Use → Meaning
 said u = (u.at, Some u.target)
 
+-- what a name means, where it means something
 abbrev pub target_said : Option Use → Option Target
 target_said o = option_map (λ u. u.target) o
 
+-- what the name at each token means
 abbrev pub target_at : List Use → Targets
 target_at uses = target_in (map said uses)
 
@@ -59,16 +64,19 @@ target_at uses = target_in (map said uses)
 abbrev pub Block : Type 0
 Block = Option ℕ × List Name
 
+-- the def that a statement is, if it is one
 abbrev pub owner : Tree AStmt → Option ℕ
 owner (Stmt (DefPart d) semicolon) = Some (def_token d)
 owner (Stmt (BindPart b) semicolon) = None
 owner (Stmt (CallPart c) semicolon) = None
 owner (Stmt (IfPart i) semicolon) = None
 
+-- the names of each statement, with the def that it is, if it is one
 abbrev pub blocks : Scope → Script → List Block
 blocks sc none = []
 blocks sc (more s rest) = (owner s, names sc s) ∷ blocks (with_statement s sc) rest
 
+-- the name is one of these
 abbrev pub IsOneOf : List Name → Name → Type 0
 IsOneOf [] n = ⊥
 IsOneOf (m ∷ ms) n = (m ≡ n) ⊎ IsOneOf ms n
@@ -91,6 +99,7 @@ MonoWhere [] (k ∷ ks) = ⊥
 MonoWhere (j ∷ js) [] = ⊥
 MonoWhere (j ∷ js) (k ∷ ks) = (j ≡ Mono → k ≡ Mono) × MonoWhere js ks
 
+-- both rows of kinds are known, and where the first is mono the second is
 abbrev pub MonoOnly : Option (List Kind) → Option (List Kind) → Type 0
 MonoOnly (Some js) (Some ks) = MonoWhere js ks
 MonoOnly (Some js) None = ⊥
@@ -111,10 +120,12 @@ abbrev pub number_of : KindOf → List ℕ
 number_of (Fixed k) = []
 number_of (Given j) = j ∷ []
 
+-- the kinds of a use that may not be there
 abbrev pub kinds_listed : Option Use → List KindOf
 kinds_listed None = []
 kinds_listed (Some u) = u.kinds
 
+-- the open kinds that the uses of these names have, in order
 abbrev pub numbers_in : List Use → List Name → List ℕ
 numbers_in uses ns = flat_map number_of (flat_map (λ n. kinds_listed (use_at n.at uses)) ns)
 
@@ -128,10 +139,12 @@ abbrev pub block_names : Option Block → List Name
 block_names None = []
 block_names (Some b) = b.1
 
+-- the block is that of this def
 abbrev pub is_of : ℕ → Option ℕ → Bool
 is_of t None = false
 is_of t (Some u) = nat_eq u t
 
+-- how many open kinds a def has
 abbrev pub open_kinds : List Block → List Use → ℕ → Option ℕ
 open_kinds bs uses t = numbered_on 0 (numbers_in uses (block_names (find (λ b. is_of t b.0) bs)))
 
@@ -141,6 +154,7 @@ HasKinds bs uses (target.Slot t) ks = ks ≡ []
 HasKinds bs uses (target.Def t) ks = open_kinds bs uses t ≡ Some (length ks)
 HasKinds bs uses (target.Builtin b) ks = length ks ≡ (signature b).kinds
 
+-- each use has as many kinds as what it means has open ones
 abbrev pub EachHasKinds : List Block → List Use → List Use → Type 0
 EachHasKinds bs uses [] = Unit {0}
 EachHasKinds bs uses (u ∷ us) = HasKinds bs uses u.target u.kinds × EachHasKinds bs uses us
@@ -150,6 +164,7 @@ abbrev pub IsInOrder : List Block → List Use → Block → Type 0
 IsInOrder bs uses (None, ns) = numbers_in uses ns ≡ []
 IsInOrder bs uses (Some t, ns) = (n : ℕ) × (open_kinds bs uses t ≡ Some n)
 
+-- so it is in each block
 abbrev pub AreInOrder : List Block → List Use → List Block → Type 0
 AreInOrder bs uses [] = Unit {0}
 AreInOrder bs uses (b ∷ rest) = IsInOrder bs uses b × AreInOrder bs uses rest
@@ -181,6 +196,7 @@ IsLessKind (Fixed j) (Given n) = ⊥
 IsLessKind (Given m) (Fixed k) = ⊥
 IsLessKind (Given m) (Given n) = m ≡ n
 
+-- no kind of the one row is greater than that of the other in its place
 abbrev pub AreLessKinds : List KindOf → List KindOf → Type 0
 AreLessKinds [] [] = Unit {0}
 AreLessKinds [] (w ∷ ws) = ⊥

@@ -17,12 +17,14 @@ token (Missing at label) = at
 token (Extra at) = at
 token (Repeated at) = at
 
+-- the order of faults at one token
 abbrev pub number : NameFault → ℕ
 number (Unknown at) = 1
 number (Missing at label) = 2
 number (Extra at) = 3
 number (Repeated at) = 4
 
+-- the fault of a missing argument, if one is missing
 abbrev pub missing_at : ℕ → Option (List ℕ) → List NameFault
 missing_at at None = []
 missing_at at (Some label) = Missing at label ∷ []
@@ -32,6 +34,7 @@ abbrev pub faults_as : ℕ → Option (Target × List Parameter) → List (Given
 faults_as at None given = Unknown at ∷ []
 faults_as at (Some x) given = missing_at at (first_missing x.1 given) ++ map (λ g. Extra g.1) (left_over x.1 given)
 
+-- all faults of the names of a statement
 abbrev pub all_faults : List Name → List NameFault
 all_faults [] = []
 all_faults (n ∷ ns) = faults_as n.at n.meant n.given ++ all_faults ns
@@ -42,19 +45,23 @@ param_name (Param at name) = name
 param_name (Labelled at name) = name
 param_name (Optional at name d) = name
 
+-- the name is one of these
 abbrev pub is_among : List ℕ → List (List ℕ) → Bool
 is_among name [] = false
 is_among name (n ∷ ns) = cond (bytes_eq name n) true (is_among name ns)
 
+-- the fault of a repeated name, if it is repeated
 abbrev pub repeated_at : ℕ → Bool → List NameFault
 repeated_at at true = Repeated at ∷ []
 repeated_at at false = []
 
+-- the faults of parameters that have the name of an earlier one
 abbrev pub repeats : List (List ℕ) → Tree (Many AParam) → List NameFault
 repeats earlier none = []
 repeats earlier (more p ps) = repeated_at (token_of p) (is_among (param_name p) earlier)
     ++ repeats (earlier ++ param_name p ∷ []) ps
 
+-- the faults of repeated names in a statement
 abbrev pub repeats_in : Tree AStmt → List NameFault
 repeats_in (Stmt (DefPart (Def at name ps equals is e)) semicolon) = repeats [] ps
 repeats_in (Stmt (BindPart b) semicolon) = []
@@ -69,6 +76,7 @@ faults_in sc s = repeats_in s ++ all_faults (names sc s)
 abbrev pub is_before : NameFault → NameFault → Bool
 is_before f g = cond (nat_eq (token f) (token g)) (nat_le (number f) (number g)) (nat_le (token f) (token g))
 
+-- the fault that comes first
 abbrev pub earlier : NameFault → Option NameFault → NameFault
 earlier f None = f
 earlier f (Some g) = cond (is_before f g) f g
@@ -78,12 +86,14 @@ abbrev pub reported_fault : List NameFault → Option NameFault
 reported_fault [] = None
 reported_fault (f ∷ fs) = Some (earlier f (reported_fault fs))
 
+-- a fault of names, in statement n
 abbrev pub name_fault_in : ℕ → NameFault → TypeFault
 name_fault_in n (Unknown at) = fault.UnknownName n at
 name_fault_in n (Missing at label) = fault.MissingArgument n at label
 name_fault_in n (Extra at) = fault.ExtraArgument n at
 name_fault_in n (Repeated at) = fault.RepeatedName n at
 
+-- the fault of statement n if it has one, or else that of a later statement
 abbrev pub or_later : ℕ → Option NameFault → Option (ℕ × NameFault) → Option (ℕ × NameFault)
 or_later n None later = later
 or_later n (Some f) later = Some (n, f)

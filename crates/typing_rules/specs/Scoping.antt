@@ -16,6 +16,7 @@ pub data Bound : Type 0 where
 abbrev pub Scope : Type 0
 Scope = List (List ℕ × Bound)
 
+-- what binds a name, the latest binding first
 abbrev pub bound : List ℕ → Scope → Option Bound
 bound name [] = None
 bound name (b ∷ bs) = cond (bytes_eq name b.0) (Some b.1) (bound name bs)
@@ -31,6 +32,7 @@ abbrev pub builtin_meant : Option Builtin → Option (Target × List Parameter)
 builtin_meant None = None
 builtin_meant (Some b) = Some (target.Builtin b, params_of_builtin b)
 
+-- what a call means: a def or a builtin, with its parameters; a name that binds a value hides both
 abbrev pub call_meant : List ℕ → Option Bound → Option (Target × List Parameter)
 call_meant name (Some (bound_value t)) = None
 call_meant name (Some (bound_function t ps)) = Some (target.Def t, ps)
@@ -43,10 +45,12 @@ pub record Name : Type 0 where
   pub meant : Option (Target × List Parameter)
   pub given : List (GivenArgument ℕ)
 
+-- what a name means that is not called
 abbrev pub no_parameters : Option Target → Option (Target × List Parameter)
 no_parameters None = None
 no_parameters (Some t) = Some (t, [])
 
+-- the labels and the tokens of given arguments
 abbrev pub tokens_given : Tree (Many AnArg) → List (GivenArgument ℕ)
 tokens_given none = []
 tokens_given (more (Arg at label f) rest) = (label, at) ∷ tokens_given rest
@@ -57,20 +61,25 @@ with_param (Param at name) sc = (name, bound_value at) ∷ sc
 with_param (Labelled at name) sc = (name, bound_value at) ∷ sc
 with_param (Optional at name d) sc = (name, bound_value at) ∷ sc
 
+-- the scope behind the parameters of a def
 abbrev pub with_params : Tree (Many AParam) → Scope → Scope
 with_params none sc = sc
 with_params (more p ps) sc = with_params ps (with_param p sc)
 
+-- the scope behind a binding
 abbrev pub with_bind : Tree ABind → Scope → Scope
 with_bind (Bind at name f) sc = (name, bound_value at) ∷ sc
 
+-- the scope behind a binding within a def
 abbrev pub with_inner : Tree AnInner → Scope → Scope
 with_inner (Inner b semicolon) sc = with_bind b sc
 
+-- the scope behind all bindings within a def
 abbrev pub with_inners : Tree (Many AnInner) → Scope → Scope
 with_inners none sc = sc
 with_inners (more i is) sc = with_inners is (with_inner i sc)
 
+-- the scope behind a statement
 abbrev pub with_statement : Tree AStmt → Scope → Scope
 with_statement (Stmt (BindPart b) semicolon) sc = with_bind b sc
 with_statement (Stmt (DefPart (Def at name ps equals is e)) semicolon) sc = (name, bound_function at (parameters_of ps))
@@ -129,6 +138,7 @@ abbrev pub used : Scope → Script → List Name
 used sc none = []
 used sc (more s rest) = names sc s ++ used (with_statement s sc) rest
 
+-- what is meant, without its parameters
 abbrev pub target_of : Option (Target × List Parameter) → Option Target
 target_of None = None
 target_of (Some x) = Some x.0
@@ -137,6 +147,7 @@ target_of (Some x) = Some x.0
 abbrev pub Meaning : Type 0
 Meaning = ℕ × Option Target
 
+-- a name, by its token, and what it means
 abbrev pub meant : Name → Meaning
 meant n = (n.at, target_of n.meant)
 
@@ -145,5 +156,6 @@ abbrev pub target_in : List Meaning → ℕ → Option Target
 target_in [] at = None
 target_in (m ∷ ms) at = cond (nat_eq m.0 at) m.1 (target_in ms at)
 
+-- all names of a script, with what they mean
 abbrev pub meanings_of : Script → List Meaning
 meanings_of script = map meant (used [] script)

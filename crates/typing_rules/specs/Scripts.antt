@@ -14,6 +14,7 @@ pub data Entry : Type 0 where
   value : ℕ → Ground → Entry
   function : Tree ADef → Entry
 
+-- the types of bindings, by their tokens
 abbrev pub types_of : List Entry → TypesByToken
 types_of [] = []
 types_of (value t g ∷ es) = (t, g) ∷ types_of es
@@ -32,9 +33,11 @@ Places = List ℕ → ℕ → Option (List Kind)
 abbrev pub behind : List ℕ → Places → Places
 behind chain kinds = λ c. kinds (c ++ chain)
 
+-- the token of a def's name
 abbrev pub def_token : Tree ADef → ℕ
 def_token (Def at name ps equals is e) = at
 
+-- the parameters of a def
 abbrev pub params_of : Tree ADef → List Parameter
 params_of (Def at name ps equals is e) = parameters_of ps
 
@@ -54,6 +57,7 @@ calls_behind target kinds (function d ∷ es) chain at t gs g =
       | false ↦ calls_behind target kinds es chain at t gs g
     ]
 
+-- what is known where a statement is typed: what names mean, their types and kinds, and what calls make
 abbrev pub sight : Targets → Places → List Entry → List ℕ → Sight
 sight target kinds es chain = record {
   target = target;
@@ -88,6 +92,7 @@ first_of zero script = none
 first_of (suc n) none = none
 first_of (suc n) (more s rest) = more s (first_of n rest)
 
+-- how many statements a script has
 abbrev pub statement_count : Script → ℕ
 statement_count none = 0
 statement_count (more s rest) = 1 + statement_count rest

@@ -23,24 +23,31 @@ pub record Signature : Type 0 where
   pub types : ℕ
   pub kinds : ℕ
 
+-- a parameter without a label
 abbrev pub plain_parameter : List ℕ → Term → TypedParameter
 plain_parameter name t = (record { name = name; form = InPlace }, t)
 
+-- a parameter with a label and a default
 abbrev pub labelled : List ℕ → Term → TypedParameter
 labelled name t = (record { name = name; form = Perhaps }, t)
 
+-- the type of texts
 abbrev pub text : Term
 text = base_term base.Text
 
+-- the type of truth values
 abbrev pub bool : Term
 bool = base_term base.Bool
 
+-- the type of ints
 abbrev pub int : Term
 int = base_term base.Int
 
+-- the type of decimals
 abbrev pub decimal : Term
 decimal = base_term base.Decimal
 
+-- the type of what has no value
 abbrev pub unit : Term
 unit = base_term base.Unit
 
@@ -48,6 +55,7 @@ unit = base_term base.Unit
 abbrev pub source_k : Term
 source_k = source_term (Var 0)
 
+-- the parameter `id`, which most builtins have
 abbrev pub id_param : TypedParameter
 id_param = labelled (codes "id") text
 
@@ -55,15 +63,19 @@ id_param = labelled (codes "id") text
 abbrev pub source_call : List TypedParameter → Signature
 source_call params = record { params = id_param ∷ params; result = source_k; types = 0; kinds = 1 }
 
+-- a parameter that is a list of sources of the open kind
 abbrev pub sources_param : TypedParameter
 sources_param = plain_parameter (codes "sources") (list_term source_k)
 
+-- a parameter that is a source of the open kind
 abbrev pub source_param : TypedParameter
 source_param = plain_parameter (codes "s") source_k
 
+-- the type of pairs
 abbrev pub pair : Term → Term → Term
 pair t u = tuple_term (one_more t (one_more u no_terms))
 
+-- the parameters and the result of each builtin
 abbrev pub signature : Builtin → Signature
 signature builtin.OutputFile = record {
   params = id_param ∷ labelled (codes "fallible") bool ∷ plain_parameter (codes "format") (base_term base.Format)
@@ -121,16 +133,20 @@ builtin_names =
     ∷ (codes "mean", builtin.Mean) ∷ (codes "stereo", builtin.Stereo) ∷ (codes "crossfade", builtin.Crossfade)
     ∷ (codes "mksafe", builtin.Mksafe) ∷ (codes "buffer", builtin.Buffer) ∷ (codes "clock", builtin.Clock) ∷ []
 
+-- the builtin of this name in a table
 abbrev pub named_in : List ℕ → List (List ℕ × Builtin) → Option Builtin
 named_in name [] = None
 named_in name (b ∷ bs) = cond (bytes_eq name b.0) (Some b.1) (named_in name bs)
 
+-- the builtin of this name
 abbrev pub builtin_named : List ℕ → Option Builtin
 builtin_named name = named_in name builtin_names
 
+-- the parameters of a builtin, without their types
 abbrev pub params_of_builtin : Builtin → List Parameter
 params_of_builtin b = map (λ p. p.0) (signature b).params
 
+-- the kinds of the first n variables
 abbrev pub first_kinds : (ℕ → Kind) → ℕ → List Kind
 first_kinds f zero = []
 first_kinds f (suc n) = first_kinds f n ++ f n ∷ []

@@ -3,7 +3,7 @@ use Rattle.std.specs.Prelude.{◌≡◌, ℕ, List, [], ◌∷◌, ◌++◌, tru
 use Rattle.liq_base.specs.declared.memory.Kind.{Kind}
 use Rattle.script_grammar.specs.declared.tree.Literal.{Literal}
 use Rattle.script_grammar.specs.declared.tree.Literal.TheVariants as literal
-use Rattle.script_grammar.specs.Tree.{Sort, Tree, Many, AParam, AnInner, AnArg, AFull, ADef, none, more, Bind, Def, Inner, Param, Labelled, Optional, Negative, Plain, Expr, And, Not, Alone, Compared, Sum, Added, Product, Multiplied, Constant, Quoted, Truth, Named, Called, Chosen, Nothing, Paren, Tuple, Listed, Braces, Format, NamedCall, Arg, If}
+use Rattle.script_grammar.specs.Tree.{Sort, Tree, Many, AParam, AnInner, AnArg, AFull, ADef, none, more, Bind, Def, Inner, Param, Labelled, Optional, Negative, Plain, Expr, And, Not, Alone, Compared, Sum, Added, Product, Multiplied, Constant, Quoted, Truth, Named, Called, Chosen, Nothing, Paren, Tuple, Listed, Braces, PlaceFormat, NamedCall, Arg, If}
 use Rattle.type_terms.specs.Ground.{Ground, Grounds, base_type, list, tuple, source, IsNumber}
 use Rattle.type_terms.specs.Ground as ground
 use Rattle.type_terms.specs.declared.ty.Base.TheVariants as base
@@ -26,13 +26,16 @@ pub record Sight : Type 1 where
   pub kinds : ℕ → Option (List Kind)
   pub call : ℕ → ℕ → List (GivenArgument Ground) → Ground → Type 0
 
+-- the type of truth values
 abbrev pub truth : Ground
 truth = base_type base.Bool
 
+-- the type of a number
 abbrev pub literal_type : Literal → Ground
 literal_type (literal.Int n) = base_type base.Int
 literal_type (literal.Number d) = base_type base.Decimal
 
+-- the type that is bound at a token
 abbrev pub type_at : ℕ → TypesByToken → Option Ground
 type_at t [] = None
 type_at t (b ∷ bs) = cond (nat_eq b.0 t) (Some b.1) (type_at t bs)
@@ -80,10 +83,10 @@ abbrev mutual
   Has s (Nothing at) g = g ≡ base_type base.Unit
   Has s (Paren f) g = Has s f g
   Has s (Tuple at f h rest) g = (t : Ground) × (u : Ground) × (ts : Grounds)
-      × (g ≡ tuple (ground.more t (ground.more u ts))) × Has s f t × Has s h u × HaveAll s rest ts
+      × (g ≡ tuple (ground.and_more t (ground.and_more u ts))) × Has s f t × Has s h u × HaveAll s rest ts
   Has s (Listed at parts) g = (t : Ground) × (g ≡ list t) × EachHas s parts t
   Has s (Braces at pred) g = g ≡ base_type base.Pred
-  Has s (Format at size) g = g ≡ base_type base.Format
+  Has s (PlaceFormat at size) g = g ≡ base_type base.Format
   Has s (NamedCall at name args) g = (gs : List (GivenArgument Ground)) × AreGiven s args gs
       × Applied s at (s.target at) gs g
   Has s (If at c t e) g = Has s c truth × Has s t g × Has s e g
@@ -96,7 +99,7 @@ abbrev mutual
 
   pub HaveAll : Sight → Tree (Many AFull) → Grounds → Type 0
   HaveAll s none ts = ts ≡ ground.no_more
-  HaveAll s (more f rest) ts = (t : Ground) × (us : Grounds) × (ts ≡ ground.more t us) × Has s f t × HaveAll s rest us
+  HaveAll s (more f rest) ts = (t : Ground) × (us : Grounds) × (ts ≡ ground.and_more t us) × Has s f t × HaveAll s rest us
 
   pub AreGiven : Sight → Tree (Many AnArg) → List (GivenArgument Ground) → Type 0
   AreGiven s none gs = gs ≡ []
@@ -119,6 +122,7 @@ DefaultHas s (Param at name) t = ⊤
 DefaultHas s (Labelled at name) t = ⊤
 DefaultHas s (Optional at name d) t = Has s d t
 
+-- each default has the type of its parameter
 abbrev pub DefaultsHave : Sight → Tree (Many AParam) → List Ground → Type 0
 DefaultsHave s none ts = ts ≡ []
 DefaultsHave s (more p ps) [] = ⊥

@@ -3,3 +3,4 @@ pub mod Steps
 pub mod Own
 pub mod Blocks
 pub mod Heads
+mod Places

@@ -12,6 +12,7 @@ block_size kind = 2 * channels_of kind
 abbrev pub wide_block : Kind → ℕ
 wide_block kind = 3 * channels_of kind
 
+-- the bytes of a block, which is a sample of each channel
 abbrev pub block_align : Bool → Kind → ℕ
 block_align wide kind = if wide then wide_block kind else block_size kind
 
@@ -19,6 +20,7 @@ block_align wide kind = if wide then wide_block kind else block_size kind
 abbrev pub four_bytes : ℕ → List ℕ
 four_bytes n = little_bytes 4 n
 
+-- a number in two bytes, the low one first
 abbrev pub two_bytes : ℕ → List ℕ
 two_bytes n = little_bytes 2 n
 

@@ -44,6 +44,7 @@ abbrev pub pcm_guid : List ℕ
 pcm_guid = 0x01 ∷ 0x00 ∷ 0x00 ∷ 0x00 ∷ 0x00 ∷ 0x00 ∷ 0x10 ∷ 0x00 ∷ 0x80 ∷ 0x00 ∷ 0x00 ∷ 0xaa ∷ 0x00 ∷ 0x38 ∷ 0x9b ∷ 0x71
     ∷ []
 
+-- the extended format says that the samples are plain PCM
 abbrev pub has_pcm_guid : List ℕ → Bool
 has_pcm_guid body = nat_eq (length body) 40 && bytes_eq (drop 24 body) pcm_guid
 
@@ -98,14 +99,17 @@ with_blocks format blocks = if nat_eq (length blocks) 0 then Err Empty else Ok (
   body = blocks;
 })
 
+-- the file, once its format is known: its samples are those of the first data chunk
 abbrev pub data_step : List ℕ → Format → Option Chunk → Result Wav WavFault
 data_step bytes format None = Err NoData
 data_step bytes format (Some chunk) = with_blocks format (whole_blocks format.wide format.kind (body_of bytes chunk))
 
+-- the file, once its format chunk was read
 abbrev pub format_step : List ℕ → Result Format WavFault → Option Chunk → Result Wav WavFault
 format_step bytes (Err fault) samples = Err fault
 format_step bytes (Ok format) samples = data_step bytes format samples
 
+-- the file, by its first format chunk and its first data chunk
 abbrev pub chunk_step : List ℕ → Option Chunk → Option Chunk → Result Wav WavFault
 chunk_step bytes None samples = Err NoFormat
 chunk_step bytes (Some chunk) samples = format_step bytes (format_in (body_of bytes chunk) chunk.size) samples

@@ -1,5 +1,5 @@
 // WAV files that others wrote.
-ghost use Rattle.std.specs.Prelude.{◌≡◌, ◌≤◌, ◌<◌, ◌+◌, length, Ok, Err, IfOk, MatchResult};
+ghost use Rattle.std.specs.Prelude.{◌≡◌, ◌≤◌, ◌<◌, ◌+◌, length, take, drop, Ok, Err, IfOk, MatchResult};
 ghost use Rattle.wav_io.specs.Reading.{read_of, is_riff, whole_blocks, AreBlocks};
 
 use crate::WavFault;
@@ -21,6 +21,9 @@ pub struct Wav<'a> {
 
     /// Whole blocks: of each channel one signed sample, the lowest byte first, left before right.
     pub body: &'a [u8],
+
+    /// The place of the first of them in the file.
+    pub at: usize,
 }
 
 /// The kind, the rate in samples a second, the width of samples and the whole blocks of a WAV file, or the first fault
@@ -35,6 +38,8 @@ pub fn read_wav(bytes: &[u8]) -> Result<Wav<'_>, WavFault>
         (λ fault. read_of bytes.now ≡ Err fault) }
     ensures blocks { IfOk result (λ wav. AreBlocks wav.wide wav.kind wav.body.now) }
     ensures rate { IfOk result (λ wav. 0 < wav.rate) }
+    ensures place { IfOk result (λ wav. (wav.body.now ≡ take (length wav.body.now) (drop wav.at bytes.now))
+        × (wav.at + length wav.body.now ≤ length bytes.now)) }
     // The heads of the file and of the two chunks, and the format, stand beside the blocks.
     ensures heads { IfOk result (λ wav. 44 + length wav.body.now ≤ length bytes.now) }
 {
@@ -53,6 +58,7 @@ pub fn read_wav(bytes: &[u8]) -> Result<Wav<'_>, WavFault>
         rate: format.rate,
         wide: format.wide,
         body,
+        at: data.place + 8,
     })
 }
 

@@ -2,7 +2,11 @@ mod Walks
 mod Steady
 mod Choices
 mod One
-mod Daily
 mod Chains
-mod Steps
 mod Rounds
+mod Bits
+mod Tables
+mod Counts
+mod Fillings
+mod Alike
+mod Parts

@@ -1,4 +1,5 @@
 pub mod Spans
+pub mod Tables
 pub mod Cases
 pub mod Texts
 pub mod Listing

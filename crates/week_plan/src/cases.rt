@@ -1,95 +1,141 @@
-// Which cases of a switch may be chosen.
-ghost use Rattle.std.specs.Prelude.{◌≡◌, ◌<◌, ◌≤◌, ◌&&◌, IfSome, IsNone, false, true, length, map};
+// What is told of the cases of a switch.
+ghost use Rattle.std.specs.Prelude.{◌≡◌, ◌<◌, ℕ, ◌&&◌, [], true, IfOk, OnOk, length, map, not};
 ghost use Rattle.time_pred.specs.Predicates.{holds};
-ghost use Rattle.time_pred.specs.View.{view_pred};
-ghost use Rattle.week_plan.specs.Cases.{is_taken, may_choose};
-ghost use Rattle.week_plan.specs.Spans.{AreStepsTo, IsFor};
+ghost use Rattle.time_pred.specs.View.{view_shared};
+ghost use Rattle.week_plan.specs.Cases.{AreFates, IsFateBy};
+ghost use Rattle.week_plan.specs.Spans.{some_case_holds};
+ghost use Rattle.week_plan.specs.Tables.{IsTable, IsTableOf, is_told};
 
-use crate::stretch::{WEEK, end_of};
-use fixed_text::WeekSecond;
-use time_pred::Pred;
+use crate::preds::table_of;
+use crate::table::{Way, filled, join, meet};
+use liq_base::Memory;
+use std::alloc::Global;
+use time_pred::SharedPred;
 
-/// The first second of the week at which this case of a switch may be chosen; `None` exactly where there is no such
-/// second. A case, counted from 0, may be chosen where its predicate holds, and no case before it holds whose source
-/// never falls silent, which `sure` tells of each case.
-pub fn first_chosen(preds: &[Pred], sure: &[bool], case: usize) -> Option<u32>
-    requires case { case < length preds.now }
-    requires size { length sure.now ≡ length preds.now }
-    ensures week { IfSome result (λ at. at < 604800) }
-    ensures chosen { IfSome result (λ at. may_choose (map view_pred preds.now) sure.now case at ≡ true) }
-    ensures first { IfSome result (λ at. IsFor (may_choose (map view_pred preds.now) sure.now case) 0 at false) }
-    ensures never { IsNone result → IsFor (may_choose (map view_pred preds.now) sure.now case) 0 604800 false }
-{
-    let mut at = 0;
-    while at < WEEK {
-        match left_until(preds, sure, case, at) {
-            Some(end) => at = end,
-            None => return Some(at),
-        }
-    }
-    None
+/// What becomes of a case of a switch in a week.
+#[derive(Clone, Copy, Debug, PartialEq, Eq)]
+pub enum Fate {
+    /// It may be chosen at some second.
+    Chosen,
+
+    /// It holds at some second, but wherever it does, a case before it holds whose source never falls silent.
+    Hidden,
+
+    /// It holds at no second.
+    Never,
 }
 
-/// In how many steps `first_chosen` comes to its answer, at most `most`: some hundred where predicates are of hours,
-/// and up to 604800 where a case that is never chosen is one of seconds.
-pub fn steps_to_choice(preds: &[Pred], sure: &[bool], case: usize, most: u32) -> u32
-    requires case { case < length preds.now }
-    requires size { length sure.now ≡ length preds.now }
-    ensures most { result ≤ most }
-    ensures steps { AreStepsTo (may_choose (map view_pred preds.now) sure.now case) result most }
-{
-    let mut at = 0;
-    for step in 0..most {
-        if at >= WEEK {
-            return step;
-        }
-        match left_until(preds, sure, case, at) {
-            Some(end) => at = end,
-            None => return step,
-        }
-    }
-    most
+/// What is told of a switch: the table of its holes, the seconds at which no case holds, and what becomes of each case.
+#[derive(Debug, Drop)]
+pub struct Seen {
+    pub holes: Vec<u64>,
+    pub fates: Vec<Fate>,
 }
 
-// Until when a case is not chosen, at least, from a second on; none where it may be chosen at this second.
-fn left_until(preds: &[Pred], sure: &[bool], case: usize, at: u32) -> Option<u32>
-    requires case { case < length preds.now }
-    requires size { length sure.now ≡ length preds.now }
-    requires week { at < 604800 }
-    ensures later { IfSome result (λ end. at < end) }
-    ensures within { IfSome result (λ end. end ≤ 604800) }
-    ensures left { IfSome result (λ end. IsFor (may_choose (map view_pred preds.now) sure.now case) at end false) }
-    ensures chosen { IsNone result → may_choose (map view_pred preds.now) sure.now case at ≡ true }
+/// Looks at the cases of a switch, by their predicates, in order. `sure` tells of each case whether its source never
+/// falls silent.
+pub fn look(alloc: Global, preds: &[SharedPred], sure: &[bool]) -> Result<Seen, Memory>
+    requires { length sure.now ≡ length preds.now }
+    ensures holes { IfOk result (λ look. IsTableOf (λ at. not (some_case_holds (map view_shared preds.now) at))
+        look.holes.items) }
+    ensures fates { IfOk result (λ look. AreFates (map view_shared preds.now) sure.now look.fates.items) }
 {
-    let here = WeekSecond { second: at };
-    let pred = &preds[case];
-    if !pred.holds(here) {
-        return Some(end_of(at, pred.steady(here)));
-    }
-    taken_until(&preds[..case], sure, at)
+    let mut holes = filled(alloc, true)?;
+    let fates = fates_of(alloc, &mut holes, preds, sure)?;
+    Ok(Seen { holes, fates })
 }
 
-// Until when one of these cases holds, at least, whose source never falls silent; none where none does at this second.
-fn taken_until(preds: &[Pred], sure: &[bool], at: u32) -> Option<u32>
-    requires size { length preds.now ≤ length sure.now }
-    requires week { at < 604800 }
-    ensures later { IfSome result (λ end. at < end) }
-    ensures within { IfSome result (λ end. end ≤ 604800) }
-    ensures taken { IfSome result (λ end. IsFor (is_taken (map view_pred preds.now) sure.now) at end true) }
-    ensures none { IsNone result → is_taken (map view_pred preds.now) sure.now at ≡ false }
+// What becomes of each case; what no case holds at is left of a table.
+fn fates_of(
+    alloc: Global,
+    holes: &mut [u64],
+    preds: &[SharedPred],
+    sure: &[bool],
+) -> Result<Vec<Fate>, Memory>
+    requires size { length sure.now ≡ length preds.now }
+    requires holes { IsTableOf (λ at. true) holes.old }
+    ensures holes { OnOk result (IsTableOf (λ at. not (some_case_holds (map view_shared preds.now) at)) holes.new) }
+    ensures fates { IfOk result (λ fates. AreFates (map view_shared preds.now) sure.now fates.items) }
 {
-    let here = WeekSecond { second: at };
+    let mut free = filled(alloc, true)?;
+    let mut fates = Vec::new(alloc);
+    push_fates(alloc, &mut fates, holes, &mut free, preds, sure)?;
+    Ok(fates)
+}
+
+// Appends what becomes of each case, and takes from two tables the seconds at which one holds, and at which one does
+// whose source never falls silent.
+fn push_fates(
+    alloc: Global,
+    into: &mut Vec<Fate>,
+    holes: &mut [u64],
+    free: &mut [u64],
+    preds: &[SharedPred],
+    sure: &[bool],
+) -> Result<(), Memory>
+    requires size { length sure.now ≡ length preds.now }
+    requires none { into.old.items ≡ [] }
+    requires holes { IsTableOf (λ at. true) holes.old }
+    requires free { IsTableOf (λ at. true) free.old }
+    ensures holes { OnOk result (IsTableOf (λ at. not (some_case_holds (map view_shared preds.now) at)) holes.new) }
+    ensures fates { OnOk result (AreFates (map view_shared preds.now) sure.now into.new.items) }
+{
     for (k, pred) in preds.iter().enumerate() {
-        if holds_surely(pred, sure[k], here) {
-            return Some(end_of(at, pred.steady(here)));
-        }
+        let fate = take_case(alloc, holes, free, pred, sure[k])?;
+        into.push(fate)?;
     }
-    None
+    Ok(())
 }
 
-// Whether a predicate holds, of a source that never falls silent.
-fn holds_surely(pred: &Pred, sure: bool, at: WeekSecond) -> bool
-    ensures { result ≡ (holds (view_pred pred.now) at.second && sure) }
+// What becomes of a case that may be chosen at the seconds that are free. Those at which it holds are taken from a
+// table, and if its source never falls silent, from the free ones.
+fn take_case(
+    alloc: Global,
+    holes: &mut [u64],
+    free: &mut [u64],
+    pred: &SharedPred,
+    sure: bool,
+) -> Result<Fate, Memory>
+    requires holes { IsTable holes.old }
+    requires free { IsTable free.old }
+    ensures fate { IfOk result (IsFateBy (holds (view_shared pred.now))
+        (λ at. holds (view_shared pred.now) at && is_told free.old at)) }
+    ensures holes { OnOk result
+        (IsTableOf (λ at. is_told holes.old at && not (holds (view_shared pred.now) at)) holes.new) }
+    ensures free { OnOk result
+        (IsTableOf (λ at. is_told free.old at && not (holds (view_shared pred.now) at && sure)) free.new) }
 {
-    sure && pred.holds(at)
+    let table = table_of(alloc, pred.as_pred())?;
+    let fate = fate_of(&table, free);
+    join(holes, &table, Way::Without);
+    take_if(free, &table, sure);
+    Ok(fate)
+}
+
+// Takes the seconds of a table from another one, if its source never falls silent.
+fn take_if(from: &mut [u64], table: &[u64], sure: bool)
+    requires from { IsTable from.old }
+    requires table { IsTable table.now }
+    ensures table { IsTable from.new }
+    ensures same { (at : ℕ) → at < 604800
+        → is_told from.new at ≡ (is_told from.old at && not (is_told table.now at && sure)) }
+{
+    if sure {
+        join(from, table, Way::Without);
+    }
+}
+
+// What becomes of a case that holds at these seconds, where those are free.
+fn fate_of(table: &[u64], free: &[u64]) -> Fate
+    requires table { IsTable table.now }
+    requires free { IsTable free.now }
+    ensures { IsFateBy (is_told table.now) (λ at. is_told table.now at && is_told free.now at) result }
+{
+    if meet(table, free) {
+        Fate::Chosen
+    } else if meet(table, table) {
+        Fate::Hidden
+    } else {
+        Fate::Never
+    }
 }

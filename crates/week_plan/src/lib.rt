@@ -4,16 +4,21 @@
 
 mod cases;
 mod days;
-mod hole_spans;
 pub mod laws;
+mod leaves;
 mod listing;
+mod preds;
 mod span;
+mod spans;
 mod stretch;
+mod table;
 mod words;
 
-pub use cases::{first_chosen, steps_to_choice};
+pub use cases::{Fate, Seen, look};
 pub use days::is_daily;
-pub use hole_spans::{holes, steps_to_holes};
 pub use listing::push_when;
+pub use preds::table_of;
 pub use span::Span;
+pub use spans::spans_of;
+pub use table::{Way, filled, join, seconds_told};
 pub use words::push_plain;

@@ -1,46 +1,58 @@
-// For how long some predicate of a list holds, or none.
-ghost use Rattle.std.specs.Prelude.{◌≡◌, ◌<◌, ◌≤◌, ◌+◌, min};
-ghost use Rattle.std.specs.List.{list_any};
-ghost use Rattle.time_pred.specs.Predicates.{holds};
-ghost use Rattle.time_pred.specs.View.{view_pred};
+// For how long a table tells of each second, or of none.
+ghost use Rattle.std.specs.Prelude.{◌≡◌, ◌<◌, ◌≤◌, ◌+◌, ◌^◌, ℕ, false, min};
 ghost use Rattle.week_plan.specs.Spans.{IsFor};
+ghost use Rattle.week_plan.specs.Tables.{IsTable, is_set, is_told};
 
-use fixed_text::WeekSecond;
-use time_pred::Pred;
+use crate::table::{FULL, MINUTE, is_told};
 
 /// The seconds of a week.
 pub const WEEK: u32 = 604_800;
 
-/// Whether some predicate holds from a second up to another one, without it.
+/// Whether each second is told, or none is, from one up to another one, without it.
 #[derive(Clone, Copy, Debug, PartialEq, Eq)]
 pub struct Stretch {
-    pub holds: bool,
+    pub told: bool,
     pub end: u32,
 }
 
-/// Whether some of these predicates holds at a second of the week, and until when that stays at least.
-pub fn stretch_from(preds: &[Pred], at: u32) -> Stretch
-    requires { at < 604800 }
+/// Whether a second of the week is told, and until when that stays at least.
+pub fn stretch_from(words: &[u64], at: u32) -> Stretch
+    requires table { IsTable words.now }
+    requires week { at < 604800 }
     ensures later { at < result.end }
     ensures within { result.end ≤ 604800 }
-    ensures same { IsFor (λ second. list_any (λ p. holds (view_pred p) second) preds.now) at result.end result.holds }
+    ensures same { IsFor (is_told words.now) at result.end result.told }
 {
-    let here = WeekSecond { second: at };
-    let mut least = WEEK;
-    for pred in preds {
-        let stays = pred.steady(here);
-        if pred.holds(here) {
-            return Stretch {
-                holds: true,
-                end: end_of(at, stays),
-            };
-        }
-        least = least.min(stays);
-    }
+    let told = is_told(words, at);
+    let stays = stays_in(words[(at / MINUTE) as usize], at % MINUTE, told);
     Stretch {
-        holds: false,
-        end: end_of(at, least),
+        told,
+        end: at + stays,
     }
+}
+
+// For how many seconds of its minute it stays that a second is told, or that it is not.
+fn stays_in(word: u64, second: u32, told: bool) -> u32
+    requires word { word < 2 ^ 60 }
+    requires minute { second < 60 }
+    requires here { is_set word second ≡ told }
+    ensures some { 0 < result }
+    ensures within { second + result ≤ 60 }
+    ensures same { (later : ℕ) → second ≤ later → later < second + result → is_set word later ≡ told }
+{
+    let behind = others(word, told) >> second;
+    if behind == 0 {
+        return MINUTE - second;
+    }
+    behind.trailing_zeros().min(MINUTE - second)
+}
+
+// The word of the other seconds of a minute: of those that are not told, or of those that are.
+fn others(word: u64, told: bool) -> u64
+    ensures apart { (second : ℕ) → second < 60 → is_set result second ≡ false → is_set word second ≡ told }
+    ensures alike { (second : ℕ) → second < 60 → is_set word second ≡ told → is_set result second ≡ false }
+{
+    if told { FULL ^ word } else { word }
 }
 
 /// The second that comes so many later, or the end of the week.

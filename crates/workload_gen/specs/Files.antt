@@ -40,6 +40,7 @@ sample_at seed i k = sample_of (word seed (begin_of seed i + 1 + k))
 abbrev pub samples_of : (seed i : ℕ) → List ℤ
 samples_of seed i = map (sample_at seed i) (range_with_len 0 (length_at seed (begin_of seed i)))
 
+-- the name of the i-th track
 abbrev pub track_name : (i : ℕ) → List ℕ
 track_name i = codes "t" ++ decimal i ++ codes ".wav"
 
@@ -48,6 +49,7 @@ abbrev pub track_bytes : (seed begin : ℕ) → List ℕ
 track_bytes seed begin = header_bytes Mono 8000 (length_at seed begin)
     ++ drawn_bytes seed (begin + 1) (length_at seed begin)
 
+-- the i-th track, as a file
 abbrev pub track : (seed i : ℕ) → File
 track seed i = (track_name i, track_bytes seed (begin_of seed i))
 
@@ -61,6 +63,7 @@ abbrev pub list_text : (n : ℕ) → List ℕ
 list_text zero = []
 list_text (suc n) = list_text n ++ track_name n ++ codes "\n"
 
+-- the name of the i-th source
 abbrev pub source_name : (i : ℕ) → List ℕ
 source_name i = codes "x" ++ decimal i
 
@@ -78,6 +81,7 @@ source_names (suc n) = source_names n ++ codes ", " ++ source_name (suc n)
 unfoldable pub settings : List ℕ
 settings = codes "set(\"frame.audio.samplerate\", 8000)\nset(\"frame.duration\", 0.008)\n"
 
+-- the last lines of the script
 unfoldable pub outputs : List ℕ
 outputs =
     codes "output.file(%wav, \"one.wav\", mksafe(crossfade(duration=0.05, playlist(\"all.m3u\"))))\noutput.file(%wav, \"two.wav\", clock(id=\"two\", mix))\n"

@@ -1,6 +1,7 @@
 """What to do about a byte with which no token begins (E02), and about a number that is too large (E04)."""
 import re
 
+from advising import foreign
 from advising.names import FILE
 from advising.tables import left_out
 
@@ -70,6 +71,11 @@ def of_open_text(script, begin, at):
     if re.search(r"^[^'\"]*" + other + r"[\s)\]},;]*$", rest):
         return f"this text begins with `{quote}` and ends with `{other}`: the same quote stands at both ends"
     last, before = script.token(len(script.tokens) - 1), script.token(len(script.tokens) - 2)
+    line = script.line(begin)
+    for number, token in enumerate(script.tokens[:-1]):
+        is_cut = token.kind == "text" and token.text[0] == quote and script.is_close(number + 1)
+        if is_cut and script.tokens[number + 1].kind == "name" and script.line(token.at) == line:
+            return QUOTE_WITHIN[quote]
     if last and last.kind == "name" and last.behind == begin:
         if before and before.kind == "text" and before.behind == last.at:
             return QUOTE_WITHIN[quote] if before.text[0] == quote else None
@@ -148,6 +154,9 @@ def bad_byte(script, at, words):
     if begin is not None:
         return in_text(script, begin, at)
     rest, front = script.text[at:], script.text[:at]
+    found = foreign.of_byte(script, rest, front)
+    if found:
+        return found
     if rest[0] == "%":
         return of_format(script, at, words)
     if rest[0] in QUOTES:

@@ -73,6 +73,11 @@ def missing_argument(script, number, label, calls):
     wrong = labelled_wrongly(script, call, arguments)
     if wrong:
         return wrong
+    unknown = [one for one in arguments if one.label is not None and one.label not in (*call.labels, "id")]
+    if len(unknown) == 1 and len(call.bare) == len([one for one in arguments if one.label is None]) + 1 == 1:
+        only = call.bare[0].name
+        return (f"`{only}` is given in its place, without a label, and `{unknown[0].label}=` is none: "
+                f"`{call.name}({text_of(script, unknown[0])})`")
     if label in call.labels:
         return f"`{label}` of `{call.name}` is given by its label: `{call.short}`"
     found = lacking(script, call, arguments)

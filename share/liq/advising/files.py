@@ -3,11 +3,11 @@ import difflib
 import os
 import re
 import stat
+from typing import Iterator, Optional
 
-from advising.script import arguments_of
+from reading.facts import Facts
 
 LISTS = (".m3u", ".m3u8", ".pls", ".xspf", ".txt")
-MOST_AUDIO, MOST_ALL, MOST_LIST = 268435456, 4294967296, 1048576   # bytes: of a sound, of all of a script, of a list
 SHOWN = 3              # names in a line
 # How files begin that ffmpeg reads and liq does not, and what they are.
 FORMS = ((b"ID3", "MP3"), (b"OggS", "Ogg"), (b"fLaC", "FLAC"), (b"FORM", "AIFF"), (b"\x1aE\xdf\xa3", "Matroska"),
@@ -43,21 +43,9 @@ def only(names):
     return names[0] if len(names) == 1 else None
 
 
-def roles(script, name):
-    """In which calls a text of the script is a name of a file: `single`, `playlist`, or both; none where it goes
-    through a name."""
-    found = set()
-    for number, token in enumerate(script.tokens):
-        if token.kind == "open" and token.name in ("single", "playlist") and script.word(number - 1) != "def":
-            for argument in arguments_of(script.tokens, number):
-                if argument.label is None and len(argument.tokens) == 1 and text_of(argument.tokens[0]) == name:
-                    found.add(token.name)
-    return found
-
-
-def text_of(token):
-    """The text that a token is, without quotes and backslashes, or nothing."""
-    return re.sub(r"\\(.)", r"\1", token.text[1:-1]) if token.kind == "text" else None
+def roles(plan: Optional[Facts], name: str) -> "set[str]":
+    """In which calls a name of a file stands: `single`, `playlist`, or both; none where no plan is known."""
+    return {source.op for source in plan.sources if source.file == name} if plan else set()
 
 
 def no_script(file):
@@ -69,7 +57,7 @@ def no_script(file):
     return f"do you mean `{os.path.join(folder, near)}`?" if near else None
 
 
-def missing(name, script, file):
+def missing(name, plan, file):
     """E20, of a name in a script that lies in a file."""
     if re.match(r"[a-z][a-z0-9+.-]+:", name):
         return "this is an address, and nothing is fetched: save what it plays as a WAV file"
@@ -84,7 +72,7 @@ def missing(name, script, file):
                 f"`{os.path.dirname(file)}`")
     if folder and not os.path.isdir(folder):
         return f"there is no folder `{folder}`"
-    near = meant(name, roles(script, name))
+    near = meant(name, roles(plan, name))
     return f"do you mean `{near}`?" if near else None
 
 
@@ -137,20 +125,20 @@ def form_of(front):
     return next((words for begin, words in FORMS if front.startswith(begin)), None)
 
 
-def too_large(name, script):
+def too_large(name: str, plan: Facts) -> Optional[str]:
     """E23: which of the lines of docs/faults.md it is, by the call and the size of the file."""
-    how = only(sorted(roles(script, name)))
+    how = only(sorted(roles(plan, name)))
     try:
         size = os.stat(name).st_size
     except (OSError, ValueError):
         return None
     if how == "playlist":
-        return "a list has at most 1048576 bytes: make several lists, and a `sequence` of their playlists"
-    if how == "single" and size > MOST_AUDIO:
-        return "an audio file has at most 268435456 bytes: cut it, and play the parts by a list; `liq-prepare` does so"
+        return f"a list has at most {plan.list_most} bytes: make several lists, and a `sequence` of their playlists"
+    if how == "single" and size > plan.file_most:
+        return f"an audio file has at most {plan.file_most} bytes: cut it, and play the parts by a list; `liq-prepare` does so"
     if how == "single":
-        return ("at the rate of the script it has more than 268435456 bytes: set a lower `frame.audio.samplerate`, or "
-                "cut it")
+        return (f"at the rate of the script it has more than {plan.file_most} bytes: set a lower `frame.audio.samplerate`, "
+                "or cut it")
     return None
 
 
@@ -166,32 +154,23 @@ def quoted(name):
     return name if re.fullmatch(r"[\w./-]+", name, re.A) else "'" + name.replace("'", "'\\''") + "'"
 
 
-def all_too_large(script, way):
+def all_too_large(facts: Facts, way: str) -> str:
     """E24: of which lists the files are the most, and what to do."""
-    names = {text_of(token) for token in script.tokens if token.kind == "text"}
-    found = sorted(((weight(name), name) for name in names), reverse=True)
-    most = [f"`{name}` {size / 1e9:.1f} GB" for size, name in found[:SHOWN] if size > MOST_AUDIO]
-    if sum(size for size, _ in found) <= MOST_ALL or not most:
+    found = sorted(weights(facts), reverse=True)
+    most = [f"`{name}` {size / 1e9:.1f} GB" for size, name in found[:SHOWN] if size > facts.file_most]
+    if not most:
         return way
-    return (f"the files of a script have at most 4.29 GB together, each once; those of {', '.join(most)}: {way}, or "
-            "render it by `liq-night`")
+    return (f"the files of a script have at most {facts.most / 1e9:.2f} GB together, each once; those of {', '.join(most)}: "
+            f"{way}, or render it by `liq-night`")
 
 
-def weight(name):
-    """How many bytes the files of a list have, each once, as they lie on the disk; or a sound itself."""
-    front = front_of(name)
-    if front is None:
-        return 0
-    if front.startswith(b"RIFF"):
-        return os.stat(name).st_size
-    with open(name, "rb") as file:
-        lines = set(file.read(MOST_LIST + 1).removeprefix(b"\xef\xbb\xbf").split(b"\n"))
-    return sum(size_of(line.removesuffix(b"\r")) for line in lines if line and not line.startswith(b"#"))
+def weights(facts: Facts) -> "Iterator[tuple[int, str]]":
+    """For how many bytes the files of each list count, each once, and each file of `single`."""
+    for listed in facts.lists:
+        yield sum(weight(facts, entry) for entry in set(listed.entries)), listed.name
+    yield from ((weight(facts, name), name) for name in facts.singles)
 
 
-def size_of(path):
-    try:
-        size = os.stat(path).st_size
-    except (OSError, ValueError):
-        return 0
-    return size if size <= MOST_AUDIO else 0
+def weight(facts: Facts, name: str) -> int:
+    """For how many bytes a sound counts, if it is played."""
+    return facts.sounds[name].bytes if facts.sounds[name].is_used else 0

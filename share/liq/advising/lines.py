@@ -2,14 +2,20 @@
 import os
 import re
 import stat
+from functools import cached_property
+from typing import Callable, Iterable, Iterator, Optional
 
-from advising import bad_bytes, calls, causes, clashing, files, names, syntax, tables, values
+from advising import bad_bytes, calls, causes, clashing, files, foreign, names, syntax, tables, values
 from advising.script import Script
+from reading.companion import Companion, NoAnswer
+from reading.facts import Facts
 from watching.names import shown
 
+MOST_FAULTS = 20               # of a script that are explained; a call of liq tells one
 FAULT = re.compile(r"E[0-9]{2} [^\n]*")
 # Faults for which the page of faults says what to do, whatever the script is.
 PLAIN = re.compile(r"E(05|11|15|16|18|19|28|30|31|32|33) ")
+SECONDS = 20                   # a longer answer of the companion is not waited for
 MOST_SCRIPT = 262144           # bytes; a longer script is not looked at, so that a line comes at once
 
 
@@ -25,14 +31,41 @@ def read(file):
         return None
 
 
-class Advice:
-    """What to do about the faults of a script; `picture` is the program that draws, or nothing."""
+def script_of(companion: Optional[Companion], file: str) -> Optional[Script]:
+    """A script with its tokens, or nothing where it cannot be read, is long, or the companion has no answer."""
+    data = read(file) if companion else None
+    try:
+        return Script(data, companion.tokens_of(data)) if data is not None and len(data) <= MOST_SCRIPT else None
+    except NoAnswer:
+        return None
 
-    def __init__(self, file, picture=None):
-        self.file, self.picture = file, picture
-        data = read(file)
-        self.script = Script(data) if data is not None and len(data) <= MOST_SCRIPT else None
+
+def facts_of(asked: "Callable[[], object]") -> Optional[Facts]:
+    """The facts for which the companion is asked, or nothing."""
+    try:
+        facts = asked()
+    except NoAnswer:
+        return None
+    return facts if isinstance(facts, Facts) else None
+
+
+class Advice:
+    """What to do about the faults of a script. Without the companion, of few is something known."""
+
+    def __init__(self, file: str, companion: Optional[Companion] = None):
+        self.file, self.companion = file, companion and Companion(companion.path, SECONDS)
+        self.script = script_of(self.companion, file)
         self.words, self.calls, self.repairs = tables.Words(), tables.calls(), tables.repairs()
+
+    @cached_property
+    def plan(self) -> Optional[Facts]:
+        """What the script sets and plays, or nothing where it has no plan."""
+        return facts_of(lambda: self.companion.plan_of(self.script.data))
+
+    @cached_property
+    def facts(self) -> Optional[Facts]:
+        """The same with what becomes of its files; nothing where that takes long."""
+        return facts_of(lambda: self.companion.files(self.file))
 
     def line(self, fault, place=None):
         """The help on a line of a fault, or nothing; `place` is the line and the column that `where` shows. No
@@ -61,6 +94,9 @@ class Advice:
     def of_place(self, code, fault, place):
         """The help on a fault that names a byte, a token or a statement."""
         script = self.script
+        round_it = self.of_call_round(code, fault)
+        if round_it:
+            return round_it
         byte, token = re.search(r" at ([0-9]+)$", fault), re.search(r" at token ([0-9]+)$", fault)
         at = script.of_byte(int(byte[1])) if byte else None
         number = int(token[1]) if token else None
@@ -85,25 +121,40 @@ class Advice:
             return values.bad_value(script, number, self.words, self.calls)
         return None
 
+    def of_call_round(self, code, fault):
+        """The help on a fault of bytes or syntax within a call that is left out, with all that stands in it."""
+        script, token = self.script, re.search(r" at token ([0-9]+)$", fault)
+        if code == "E02":
+            byte = re.search(r" at ([0-9]+)$", fault)
+            if byte and script.text[script.of_byte(int(byte[1]))] == "%":
+                return None
+            return foreign.call_round(script, foreign.open_brackets(script), self.words, self.calls)
+        if code != "E06" or not token:
+            return None
+        stack = script.stack(min(int(token[1]), len(script.tokens)))
+        return foreign.call_round(script, stack, self.words, self.calls)
+
     def of_files(self, fault):
         """The help on a fault that names a file, or tells of all."""
         name = re.fullmatch(r"E20 missing file (.*)", fault, re.S)
         if name:
-            return files.missing(name[1], self.script, self.file)
+            return files.missing(name[1], self.plan, self.file)
         bad = re.fullmatch(r"E21 bad audio (.*): ([0-9])", fault, re.S)
         if bad:
             return files.bad(*bad.groups())
         large = re.fullmatch(r"E23 file too large (.*)", fault, re.S)
         if large:
-            return files.too_large(large[1], self.script)
-        return files.all_too_large(self.script, self.plain(fault)) if fault.startswith("E24") else None
+            return files.too_large(large[1], self.plan) if self.plan else None
+        way = self.plain(fault) if fault.startswith("E24") else None
+        return files.all_too_large(self.facts, way) if way and self.facts else way
 
     def of_sources(self, fault):
         """The help on a fault of outputs and clocks."""
         if fault.startswith("E17"):
             return of_no_output(self.script)
-        if fault.startswith("E25") and self.picture:
-            return causes.fallible(self.picture, self.file)
+        output = re.fullmatch(r"E25 fallible output (.*)", fault, re.S)
+        if output:
+            return causes.fallible(self.companion, self.file, self.plan, output[1]) if self.plan else None
         if fault.startswith("E27"):
             return ("a source is played beside its own crossfade: make it twice, by a second `single` or `playlist` of "
                     "the same name, and crossfade one of them")
@@ -142,19 +193,21 @@ def place_of(line, file):
     return None
 
 
-def passed(lines, file, picture=None):
+def passed(lines: Iterable[str], file: str, companion: Optional[Companion] = None) -> Iterator[str]:
     """The lines, each as it came, and behind what is shown of each fault a line `help: TEXT` where something is
     known.
 
     `lines` are texts with their line ends, of which bytes that are no UTF-8 are surrogates, as by
-    `errors="surrogateescape"`; `file` is the script that was checked, and `picture` the path of the program that
-    draws a station, or nothing, where E25 is not explained."""
-    advice, fault, place = None, None, None
+    `errors="surrogateescape"`; `file` is the script that was checked, and `companion` the program that reads it, without
+    which little is known."""
+    advice, fault, place, known = None, None, None, {}
 
     def told():
         nonlocal advice
-        advice = advice or Advice(file, picture)
-        text = advice.line(fault, place)
+        advice = advice or Advice(file, companion)
+        if (fault, place) not in known:
+            known[fault, place] = advice.line(fault, place) if len(known) < MOST_FAULTS else None
+        text = known[fault, place]
         return [f"help: {shown(text)}\n"] if text else []
     for line in lines:
         here = place_of(line, file) if fault is not None else None

@@ -14,9 +14,16 @@ TRUTHS = {"yes": "true", "on": "true", "no": "false", "off": "false"}
 
 def alike(name, names):
     """The one of some names that is meant by a name, or nothing where none or several are like it."""
+    bound = difflib.SequenceMatcher(None, "", name.lower())
+
+    def may_be_near(other):
+        bound.set_seq1(other.lower())
+        return bound.real_quick_ratio() >= LIKE - APART and bound.quick_ratio() >= LIKE - APART
+
     def share(other):
         return difflib.SequenceMatcher(None, name.lower(), other.lower()).ratio()
-    found = sorted(((share(other), other) for other in set(names) if other != name), reverse=True)
+    near = filter(may_be_near, set(names) - {name})
+    found = sorted(((share(other), other) for other in near), reverse=True)
     if not found or found[0][0] < LIKE + SHORT * (len(name) < 5):
         return None
     return found[0][1] if len(found) < 2 or found[0][0] - found[1][0] >= APART else None
@@ -41,7 +48,9 @@ def unknown_name(script, number, words, calls):
     token = script.tokens[number]
     name, is_call = token.name, token.kind == "open"
     bound, later = script.bound(script.visible(number)), script.bound()
-    bound.pop(script.word(script.statement_of(number) + 1).removesuffix("("), None)
+    own = script.word(script.statement_of(number) + 1).removesuffix("(")
+    bound.pop(own, None)
+    own = own if script.word(script.statement_of(number)) == "def" else None
     sort = "def" if is_call else "value"
     if name in later and later[name][0] == sort and later[name][1] > number:
         return f"`{name}` is bound in line {script.line(script.tokens[later[name][1]].at)} alone: bind it above this"
@@ -49,11 +58,16 @@ def unknown_name(script, number, words, calls):
     near = alike(name, names + (list(calls) if is_call else list(script.parameters(number))))
     if name in words.words and (is_call or "." in name or name == "null"):
         return None if near in names else words.told(name)
-    found = of_spelling(script, number, calls, bound) or of_other_sort(name, is_call, bound, calls)
+    if name in later and name not in bound and later[name][1] == script.statement_of(number):
+        return f"`{name}` is bound by this statement itself, and by none before it"
+    if is_call and name == own:
+        return f"a def does not call itself, and `{name}` is bound behind its `end` alone: write out what it is to do"
+    found = of_spelling(script, number, calls, bound) \
+        or of_other_sort(name, is_call, bound, calls, script.parameters(number))
     if found:
         return found
     last = name.rpartition(".")[2]
-    if is_call and "." in name and last in calls:
+    if is_call and "." in name and last in calls and last not in ("set", "add"):
         return f"do you mean `{last}`?"
     family = words.family(name) if near not in names else None
     if family:
@@ -81,10 +95,10 @@ def of_spelling(script, number, calls, bound):
     return f"do you mean `{joined}`?" if joined else None
 
 
-def of_other_sort(name, is_call, bound, calls):
+def of_other_sort(name, is_call, bound, calls, parameters):
     """Where the name is bound as another sort, or a part of one that is."""
     front = name.partition(".")[0]
-    if front in bound and front != name and front not in ("output", "input"):
+    if front in {**bound, **dict.fromkeys(parameters)} and front != name and front not in ("output", "input"):
         return f"`{front}` has no parts: methods of Liquidsoap are left out"
     if name in bound and is_call and bound[name][0] == "value":
         return f"`{name}` is bound as a value, and is not called: write it without brackets"

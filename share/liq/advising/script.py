@@ -1,17 +1,12 @@
-"""A script as the lines of a refusal count it: its tokens, its brackets and its calls (docs/language.md,
-docs/grammar.md)."""
-import re
+"""A script as the lines of a refusal count it: its tokens, as the companion tells them, its brackets and its calls
+(docs/language.md, docs/grammar.md)."""
+from bisect import bisect_left, bisect_right
 from dataclasses import dataclass
 from functools import cached_property
 
 from advising.grammar import Reading
+from reading.facts import Tokens as Told
 
-TOKEN = re.compile(r"""(?P<gap>[ \t\r\n]+|\#[^\n]*)
-    |(?P<text>"(?:\\["'\\]|[^"\\\x00-\x1f\x7f\udc80-\udcff])*"|'(?:\\["'\\]|[^'\\\x00-\x1f\x7f\udc80-\udcff])*')
-    |(?P<number>\d+\.\d*)|(?P<int>\d+)|(?P<wav>%wav)
-    |(?P<open>[A-Za-z_]\w*(?:\.[A-Za-z_]\w*)*\()|(?P<name>[A-Za-z_]\w*(?:\.[A-Za-z_]\w*)*)
-    |(?P<mark>==|!=|<=|>=|[=<>+\-*/()\[\]{},;~])""", re.X | re.A)
-TIMES = re.compile(r"(?=\d)(\d+w)?(\d+h)?(\d+m)?(\d+s)?", re.A), re.compile(r"(\d+w)?\d+h\d+", re.A)
 KEYWORDS = {"def", "end", "if", "then", "else", "true", "false", "and", "or", "not"}
 CLOSES = {"(": ")", "[": "]", "{": "}", "def": "end", "if": "end"}
 CLOSERS = (")", "]", "}", "end")
@@ -53,30 +48,14 @@ class Token:
         return self.is_sign and self.text in CLOSERS
 
 
-def next_token(text, at):
-    """The token that begins here, or nothing."""
-    match = TOKEN.match(text, at)
-    if not match:
-        return None
-    if match.lastgroup in ("int", "number"):
-        time = max((form.match(text, at) for form in TIMES), key=lambda found: found.end() if found else at)
-        if time and time.end() > match.end():
-            return Token("time", time.group(), at)
-    kind = match.lastgroup
-    bare = match.group().removesuffix("(") if kind == "open" else match.group()
-    return Token("keyword", bare, at) if bare in KEYWORDS else Token(kind, match.group(), at)
-
-
-def tokens_of(text):
-    """The tokens of a text, up to a place where none begins."""
-    found, at = [], 0
-    while at < len(text):
-        token = next_token(text, at)
-        if token is None:
-            break
-        at = token.behind
-        if token.kind != "gap":
-            found.append(token)
+def tokens_of(told: Told, script: bytes) -> "list[Token]":
+    """The tokens that are told of a script, by their places in characters."""
+    found, at, end = [], 0, 0
+    for token in told.tokens:
+        at += len(script[end:token.start].decode("utf-8", "surrogateescape"))
+        text, end = script[token.start:token.end].decode("utf-8", "surrogateescape"), token.end
+        found.append(Token("mark" if token.kind == "sign" else token.kind, text, at))
+        at += len(text)
     return found
 
 
@@ -167,22 +146,31 @@ class Tokens:
 
     def statement_of(self, number):
         """The number of the first token of the statement in which a token stands."""
-        return max((start for start in self.starts if start <= number), default=0)
+        place = bisect_right(self.starts, number)
+        return self.starts[place - 1] if place else 0
 
     def end_of(self, number):
         """The number of the token behind the statement in which a token stands."""
-        return next((start for start in self.starts if start > number), len(self.tokens))
+        place = bisect_right(self.starts, number)
+        return self.starts[place] if place < len(self.starts) else len(self.tokens)
+
+    @cached_property
+    def bindings(self):
+        """The numbers of the tokens at which names are bound, in order, and for each the name and its sort."""
+        found = []
+        for number, token in enumerate(self.tokens):
+            if token.kind == "open" and self.word(number - 1) == "def":
+                found.append((number, token.name, "def"))
+            elif token.kind == "name" and self.word(number + 1) == "=" and self.is_binding(number):
+                found.append((number, token.text, "value"))
+        return [number for number, _, _ in found], found
 
     def bound(self, until=None):
         """The names that are bound before a token, by their sort: "value" or "def"; with the token at which each
         stands."""
-        found = {}
-        for number, token in enumerate(self.tokens[:until]):
-            if token.kind == "open" and self.word(number - 1) == "def":
-                found[token.name] = "def", number
-            elif token.kind == "name" and self.word(number + 1) == "=" and self.is_binding(number):
-                found[token.text] = "value", number
-        return found
+        numbers, found = self.bindings
+        last = len(found) if until is None else bisect_left(numbers, until)
+        return {name: (sort, number) for number, name, sort in found[:last]}
 
     def visible(self, number):
         """Up to which token names are bound that may stand at a token: in a def all before it, else those of the
@@ -209,15 +197,13 @@ class Tokens:
 class Script(Tokens):
     """The text of a script with its tokens, as far as they go."""
 
-    def __init__(self, data):
-        text = data.decode("utf-8", "surrogateescape")
-        super().__init__(text, tokens_of(text))
+    def __init__(self, data: bytes, told: Told):
+        super().__init__(data.decode("utf-8", "surrogateescape"), tokens_of(told, data))
         self.data = data
 
     def place(self, line, column):
         """The character at a line and a column, both from 1, as they are shown: a column counts characters."""
-        lines = self.text.split("\n")
-        return sum(len(one) + 1 for one in lines[:line - 1]) + column - 1
+        return ([0, *self.ends][min(line - 1, len(self.ends))]) + column - 1
 
     def of_byte(self, byte):
         """The character at a byte."""
@@ -225,7 +211,12 @@ class Script(Tokens):
 
     def line(self, at):
         """The number of the line of a character, from 1."""
-        return self.text.count("\n", 0, at) + 1
+        return bisect_right(self.ends, at) + 1
+
+    @cached_property
+    def ends(self):
+        """The characters after the line ends."""
+        return [at + 1 for at, sign in enumerate(self.text) if sign == "\n"]
 
     def begins_line(self, number):
         """Whether a token is the first of its line."""
@@ -234,7 +225,13 @@ class Script(Tokens):
 
     def number_at(self, at):
         """The number of the token that begins at a character, or nothing."""
-        return next((number for number, token in enumerate(self.tokens) if token.at == at), None)
+        number = bisect_left(self.places, at)
+        return number if number < len(self.places) and self.places[number] == at else None
+
+    @cached_property
+    def places(self):
+        """The characters at which the tokens begin."""
+        return [token.at for token in self.tokens]
 
 
 def is_end(token):

@@ -1,4 +1,5 @@
 """What to do about a token with which no script goes on (E06)."""
+from advising import foreign
 from advising.edits import tried
 from advising.predicates import of_predicate, of_time
 from advising.bad_bytes import QUOTE_WITHIN
@@ -310,10 +311,14 @@ def syntax(script, number, words, calls):
     number = min(number, len(script.tokens))
     token, inner = script.token(number), script.parents[number]
     if token is None:
-        return of_call_before(script, number, calls) or of_edits(script, number, calls) or of_brackets(script, number)
-    found = of_words(script, number, words) or of_comment(script, number) or of_keyword(script, number) \
-        or of_dash(script, number, calls) or of_options(script, number) or of_texts(script, number)
-    if not found and inner is not None and script.word(inner) == "{":
+        return foreign.of_number(script, number) or of_call_before(script, number, calls) \
+            or of_edits(script, number, calls) or of_brackets(script, number)
+    found = foreign.of_token(script, number) or of_words(script, number, words) or of_comment(script, number) \
+        or of_keyword(script, number) or of_dash(script, number, calls) or of_options(script, number) or of_texts(script, number)
+    is_time = inner is not None and (script.word(inner) == "{" or script.word(inner) == "("
+                                     and script.tokens[inner].kind == "mark"
+                                     and script.word(script.parents[inner] or 0) == "{")
+    if not found and is_time:
         found = of_predicate(script, number)
     if not found and token.kind == "time":
         found = of_time(script, number, calls)

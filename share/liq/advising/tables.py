@@ -4,6 +4,10 @@ import re
 from dataclasses import dataclass
 
 HERE = os.path.dirname(os.path.abspath(__file__))
+# An argument of a call in the tables: the call, the label, and a value or nothing.
+ARGUMENT = re.compile(r"([a-z.]+)\((\w+)=(?:\"(\w+)\")?\)")
+# The third cell of a row of words or arguments: what liq-adopt does with it.
+CLASS = re.compile(r"(same|less|you): .*")
 LINK = re.compile(r"\[([^\]]*)\]\([^)]*\)")
 # The texts in the lines of faults, as docs/faults.md names them.
 LETTERS = ("NAME", "A", "T", "S", "L", "N", "K")
@@ -120,12 +124,13 @@ class Words:
         self.words, self.families, self.arguments = {}, {}, {}
         for line in page("liquidsoap.md"):
             row = cells(line)
-            for text in re.findall(r"`([^`]*)`", row[0]) if len(row) == 2 else ():
+            is_row = len(row) == 3 and CLASS.fullmatch(row[2])
+            for text in re.findall(r"`([^`]*)`", row[0]) if is_row else ():
                 self.note(text, plain(row[1]))
 
     def note(self, text, way):
         """Notes what stands in the first column of a table."""
-        argument = re.fullmatch(r"([a-z.]+)\((\w+)=(?:\"(\w+)\")?\)", text)
+        argument = ARGUMENT.fullmatch(text)
         if argument:
             self.arguments[argument[1], argument[2], argument[3]] = way
         elif text.endswith(".*"):
@@ -136,6 +141,11 @@ class Words:
     def family(self, name):
         """The nearest way of the words of a family, or nothing."""
         return next((way for front, way in self.families.items() if name.startswith(front)), None)
+
+    @staticmethod
+    def told_as(word, way):
+        """A line on a word with the nearest way."""
+        return left_out(f"`{word}`", way)
 
     def told(self, word):
         """A line on a word of the tables, or nothing where it is none of them."""
@@ -148,6 +158,18 @@ def left_out(word, way, is_one=True):
     if way.startswith(DOING):
         return f"{front}: {way}"
     return f"{front}; in {'its' if is_one else 'their'} place: {way}"
+
+
+def setting(key):
+    """What the value of a setting may be, in words; "" where the page does not tell."""
+    rows = (cells(line) for line in page("builtins.md"))
+    return next((plain(row[1]).partition(":")[0] for row in rows if row[0].startswith(f'`set("{key}",') and len(row) == 3), "")
+
+
+def bounds(code):
+    """The bounds that the page of faults names where it says when a fault is told."""
+    rows = (cells(line) for line in page("faults.md"))
+    return next((re.findall(r"(?:above|more than) ([0-9]+)", row[1]) for row in rows if row[0].startswith(f"`{code} ")), [])
 
 
 def repairs():

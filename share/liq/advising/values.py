@@ -3,10 +3,9 @@ import re
 
 from advising.calls import call_at
 from advising.script import arguments_of
-from advising.tables import left_out
+from advising.tables import bounds, left_out, setting as words_of_setting
 
 RATE, DURATION = "frame.audio.samplerate", "frame.duration"
-LOWEST, HIGHEST, MOST_SAMPLES = 8000, 192000, 65536
 
 
 def setting(script, number):
@@ -29,12 +28,13 @@ def of_setting(key, tokens):
     if key == RATE:
         if value.kind in ("number", "text"):
             return "the rate is an int, as `44100`"
-        is_outside = value.kind == "int" and (len(tokens) == 2 or not LOWEST <= int(value.text) <= HIGHEST)
-        return f"the rate is an int from {LOWEST} to {HIGHEST}" if is_outside else None
+        words = words_of_setting(key)
+        return f"the rate is {words}" if value.kind == "int" and words else None
     if key == DURATION:
         if value.kind in ("int", "text"):
             return "the duration is a decimal, as `0.04`"
-        return f"a tick, the duration times the rate, has from 1 to {MOST_SAMPLES} samples"
+        most = bounds("E13")
+        return f"a tick, the duration times the rate, has from 1 to {most[0]} samples" if most else None
     return None
 
 
@@ -46,7 +46,8 @@ def bad_value(script, number, words, calls):
     if token.text == "/":
         return "the divisor is zero, or the result passes its bound"
     if token.text in ("+", "-", "*"):
-        return "the result passes its bound: an int is at most 9223372036854775807, a decimal at most 1000000000"
+        most = bounds("E04")
+        return f"the result passes its bound: an int is at most {most[0]}, a decimal at most {most[1]}" if most else None
     call = call_at(script, number, calls) if token.kind == "open" else None
     if call is None:
         return None

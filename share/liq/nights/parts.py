@@ -1,6 +1,7 @@
 """WAV files of a night's parts, and their cue files: how long they may be, where one is cut, how they are joined."""
 import os
 import struct
+from typing import Iterable, List, Tuple
 
 MOST = 4294967295      # what the header of a WAV file may say
 PIECE = 1 << 22        # bytes that are copied at a time
@@ -9,26 +10,28 @@ PIECE = 1 << 22        # bytes that are copied at a time
 class Wave:
     """The form of a WAV file that liq wrote: 44 bytes, and then the samples."""
 
-    def __init__(self, path):
+    def __init__(self, path: str):
         with open(path, "rb") as file:
             head = file.read(44)
         if len(head) < 44 or head[:4] != b"RIFF" or head[36:40] != b"data":
             raise OSError(0, "is no WAV file that liq wrote", path)
         self.path, self.head, self.rate, self.block = path, head, *struct.unpack_from("<I4xH", head, 24)
         self.frames = struct.unpack_from("<I", head, 40)[0] // self.block
+        if os.path.getsize(path) < 44 + self.size:
+            raise OSError(0, "is shorter than its header says", path)
 
     @property
-    def size(self):
+    def size(self) -> int:
         """The bytes of the samples."""
         return self.frames * self.block
 
 
-def head_of(head, size):
+def head_of(head: bytes, size: int) -> bytes:
     """A header for so many bytes of samples."""
     return head[:4] + struct.pack("<I", 36 + size + size % 2) + head[8:40] + struct.pack("<I", size)
 
 
-def cut(path, frames):
+def cut(path: str, frames: int) -> None:
     """Leaves so many instants of a file, and the cues before its end."""
     wave = Wave(path)
     size = frames * wave.block
@@ -40,12 +43,12 @@ def cut(path, frames):
     write_cues(path + ".cue", [line for line in cues(path + ".cue") if line[0] < frames])
 
 
-def fits(sizes):
+def fits(sizes: Iterable[int]) -> bool:
     """Whether one WAV file holds so many bytes of samples."""
     return sum(sizes) + 37 <= MOST
 
 
-def join(paths):
+def join(paths: List[str]) -> str:
     """Makes one WAV file of several, and one cue file: the first ones grow, and the others are removed."""
     waves, lines, first = list(map(Wave, paths)), [], 0
     for wave in waves:
@@ -65,7 +68,7 @@ def join(paths):
     return paths[0]
 
 
-def append(file, wave):
+def append(file, wave: Wave) -> None:
     """Writes the samples of a WAV file behind those that are there."""
     with open(wave.path, "rb") as part:
         part.seek(44)
@@ -78,13 +81,13 @@ def append(file, wave):
             left -= len(piece)
 
 
-def cues(path):
+def cues(path: str) -> List[Tuple[int, bytes]]:
     """The lines of a cue file as pairs of an instant and the rest."""
     with open(path, "rb") as file:
         lines = [line.partition(b" ") for line in file.read().split(b"\n")[:-1]]
     return [(int(digits), blank + name) for digits, blank, name in lines]
 
 
-def write_cues(path, lines):
+def write_cues(path: str, lines: Iterable[Tuple[int, bytes]]) -> None:
     with open(path, "wb") as file:
         file.write(b"".join(b"%d%b\n" % line for line in lines))

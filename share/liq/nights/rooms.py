@@ -1,89 +1,201 @@
-"""Where the parts of a night are made, beside its outputs, and how they are put at their names."""
+"""Where the parts of a night are made: a folder of its own beside each output, on the disk of that output."""
 import errno
 import fcntl
+import hashlib
 import os
 import re
-import shutil
-import signal
 import stat
+from typing import Dict, Iterable, List, Optional
 
 from nights.failed import Failed
 from watching.names import shown
 
-SIGNALS = (signal.SIGINT, signal.SIGTERM, signal.SIGHUP)
 LONGEST = 200          # bytes of a name behind which there is room for more
+FRONT = ".night-"
+# What a night makes in a room. Nothing else is removed there.
+OWN = re.compile(r"(?:[0-9]+-[0-9]+\.wav|[0-9]+\.m3u|part\.liq|page|next|titles\.tsv|moves|(?:old|small)-[0-9]+)"
+                 r"(?:\.cue)?(?:\.unfinished[0-9]*)?")
 PAGE = b"<!DOCTYPE html>\n<html lang=en><head><meta charset=utf-8>"
 
 
+def room_name(name: str) -> str:
+    """How the room of an output is called."""
+    data = os.fsencode(name)
+    if len(data) <= LONGEST:
+        return FRONT + name
+    return FRONT + os.fsdecode(data[:LONGEST - 20]) + "-" + hashlib.sha256(data).hexdigest()[:16]
+
+
+def sync(path: str) -> None:
+    """Brings a file or a folder to its disk, but for a disk that does not know how."""
+    handle = os.open(path, os.O_RDONLY)
+    try:
+        os.fsync(handle)
+    except OSError as error:
+        if error.errno not in (errno.EINVAL, errno.ENOTSUP):
+            raise
+    finally:
+        os.close(handle)
+
+
 class Room:
-    """A folder .night-NAME beside an output, in which one night may be at work at a time. What a night that was
-    killed left there is removed."""
+    """A folder .night-NAME in which one night may be at work at a time. It is opened without following a link, and
+    belongs to this user."""
 
-    def __init__(self, folder, name):
-        self.path = os.path.join(folder, ".night-" + os.fsdecode(os.fsencode(name)[:LONGEST]))
+    def __init__(self, folder: str, name: str):
+        self.folder, self.path = folder, os.path.join(folder, room_name(name))
         self.handle = self.taken(name)
-        for left in os.listdir(self.path):
-            os.remove(os.path.join(self.path, left))
 
-    def taken(self, name):
+    def opened(self) -> Optional[int]:
+        """A handle of the folder, which is made if need be; nothing where another night has just removed it."""
+        try:
+            os.mkdir(self.path, 0o700)
+        except FileExistsError:
+            pass
+        try:
+            return os.open(self.path, os.O_RDONLY | os.O_DIRECTORY | os.O_NOFOLLOW)
+        except FileNotFoundError:
+            return None
+        except OSError as error:
+            if error.errno not in (errno.ELOOP, errno.ENOTDIR):
+                raise
+            raise Failed(f"{shown(self.path)}: is no folder, and a night is made there; move it away", 1) from None
+
+    def taken(self, name: str) -> int:
         """A handle of the folder, by which no other night is at work in it, where its disk knows locks."""
         while True:
-            if not os.path.isdir(self.path):
-                os.mkdir(self.path)
-            handle = os.open(self.path, os.O_RDONLY | os.O_DIRECTORY)
+            handle = self.opened()
+            if handle is None:
+                continue
             try:
-                fcntl.flock(handle, fcntl.LOCK_EX | fcntl.LOCK_NB)
-            except OSError as error:
-                if error.errno in (errno.EWOULDBLOCK, errno.EACCES):
-                    os.close(handle)
-                    raise Failed(f"{shown(name)}: another night is at work on it", 4) from None
-            try:
-                if os.path.samestat(os.stat(self.path), os.fstat(handle)):
+                self.lock(handle, name)
+                if os.path.samestat(os.lstat(self.path), os.fstat(handle)):
                     return handle
             except FileNotFoundError:
                 pass                            # the other one has just ended
+            except BaseException:
+                os.close(handle)
+                raise
             os.close(handle)
 
-    def free(self):
+    def lock(self, handle: int, name: str) -> None:
+        """Fails where the folder is another user's, or another night is at work in it."""
+        if os.fstat(handle).st_uid != os.geteuid():
+            raise Failed(f"{shown(self.path)}: belongs to another user, and a night is made there; move it away", 1)
+        try:
+            fcntl.flock(handle, fcntl.LOCK_EX | fcntl.LOCK_NB)
+        except OSError as error:
+            if error.errno in (errno.EWOULDBLOCK, errno.EACCES):
+                raise Failed(f"{shown(name)}: another night is at work on it", 4) from None
+
+    def names(self) -> List[str]:
+        """The files in it that a night made."""
+        return [name for name in os.listdir(self.handle) if OWN.fullmatch(name) and self.is_file(name)]
+
+    def is_file(self, name: str) -> bool:
+        """Whether a regular file lies there under a name."""
+        try:
+            return stat.S_ISREG(os.stat(name, dir_fd=self.handle, follow_symlinks=False).st_mode)
+        except FileNotFoundError:
+            return False
+
+    def clear(self) -> None:
+        """Removes what a night made there."""
+        for name in self.names():
+            os.unlink(name, dir_fd=self.handle)
+
+    def write(self, name: str, data: bytes) -> str:
+        """Writes a file whole, and answers its path."""
+        flags = os.O_WRONLY | os.O_CREAT | os.O_TRUNC | os.O_NOFOLLOW
+        with os.fdopen(os.open(name, flags, 0o666, dir_fd=self.handle), "wb") as file:
+            file.write(data)
+            file.flush()
+            os.fsync(file.fileno())
+        return os.path.join(self.path, name)
+
+    def free(self) -> int:
         """The bytes that its disk has left."""
-        there = os.statvfs(self.path)
+        there = os.fstatvfs(self.handle)
         return there.f_bavail * there.f_frsize
 
-    def end(self):
-        """Clears the folder."""
-        shutil.rmtree(self.path, ignore_errors=True)
+    @property
+    def disk(self) -> int:
+        """Which disk it lies on."""
+        return os.fstat(self.handle).st_dev
+
+    def end(self) -> None:
+        """Clears the folder and removes it. It stays where somebody else put something into it."""
+        try:
+            self.clear()
+            os.rmdir(self.path)
+        except OSError:
+            pass
         os.close(self.handle)
 
 
-def rooms_of(outputs):
-    """A room for each output, one in each folder."""
-    found = {}
-    try:
-        for name in outputs:
-            folder = os.path.dirname(name)
-            if folder not in found:
-                found[folder] = Room(folder, os.path.basename(name))
-    except BaseException:
-        for room in found.values():
+def folder_of(name: str) -> str:
+    """The folder in which the file of a name lies or is to lie, as short as the name tells it."""
+    folder, real = os.path.dirname(name), os.path.dirname(os.path.realpath(name))
+    return folder if os.path.realpath(folder or ".") == real else real
+
+
+class Rooms:
+    """The rooms of a night: one beside the file of each output, and one in each other folder into which it puts
+    something small."""
+
+    def __init__(self, outputs: Iterable[str]):
+        self.all: List[Room] = []
+        self.of: Dict[str, Room] = {}
+        try:
+            for name in outputs:
+                self.of[name] = self.add(folder_of(name), os.path.basename(os.path.realpath(name)))
+                self.beside(name + ".cue", os.path.basename(name))
+        except BaseException:
+            self.end()
+            raise
+
+    def add(self, folder: str, name: str) -> Room:
+        self.all.append(Room(folder, name))
+        return self.all[-1]
+
+    def beside(self, name: str, called: str) -> Room:
+        """The room in the folder of a file; one that is called so where there is none."""
+        folder = folder_of(name)
+        real = os.path.realpath(folder or ".")
+        found = (room for room in self.all if os.path.realpath(room.folder or ".") == real)
+        return next(found, None) or self.add(folder, called)
+
+    @property
+    def first(self) -> Room:
+        return self.all[0]
+
+    def end(self) -> None:
+        for room in self.all:
             room.end()
-        raise
-    return {name: found[os.path.dirname(name)] for name in outputs}
 
 
-def part_names(name, count):
-    """How the files of an output are called that one file does not hold."""
-    return [f"{name.removesuffix('.wav')}-{k}.wav" for k in range(1, count + 1)]
+def lying(name: str) -> str:
+    """Where the file of an output lies, as short as its name tells it."""
+    return os.path.join(folder_of(name), os.path.basename(os.path.realpath(name)))
 
 
-def numbered(name):
+def part_names(name: str, count: int) -> List[str]:
+    """How the files of an output are called that one file does not hold. They lie where the output's file lies."""
+    there = lying(name)
+    front = there[:-4] if there.endswith(".wav") else there
+    return [f"{front}-{k}.wav" for k in range(1, count + 1)]
+
+
+def numbered(name: str) -> List[str]:
     """The files beside an output that are called as its parts."""
-    folder, front = os.path.dirname(name) or ".", re.escape(os.path.basename(name).removesuffix(".wav"))
-    found = [other for other in os.listdir(folder) if re.fullmatch(front + r"-[1-9][0-9]*\.wav", other)]
+    folder, last = os.path.split(lying(name))
+    front = re.escape(last[:-4] if last.endswith(".wav") else last)
+    found = [other for other in os.listdir(folder or ".") if re.fullmatch(front + r"-[1-9][0-9]*\.wav", other)]
     found.sort(key=lambda other: (len(other), other))
-    return [os.path.join(os.path.dirname(name), other) for other in found]
+    return [os.path.join(folder, other) for other in found]
 
 
-def examine(outputs, is_long):
+def examine(outputs: List[str], is_long: bool) -> None:
     """Fails where a file stands under a name that the night takes, and no night made it."""
     page = outputs[0] + ".html"
     if os.path.lexists(page) and not is_page(page):
@@ -94,29 +206,9 @@ def examine(outputs, is_long):
                 raise Failed(f"{shown(other)}: stands where a part is to come, and no night made it; move it away", 1)
 
 
-def is_page(path):
+def is_page(path: str) -> bool:
     """Whether a file begins as a page of liq-page."""
     if not os.path.isfile(path):
         return False
     with open(path, "rb") as file:
         return file.read(len(PAGE)) == PAGE
-
-
-def put(moves):
-    """Puts files at their names, all of them before a signal is looked at. A link stays, and the file that it leads
-    to is replaced; a new file has the mode of the old one."""
-    signal.pthread_sigmask(signal.SIG_BLOCK, SIGNALS)
-    try:
-        for path, name in moves:
-            target = os.path.realpath(name)
-            if os.path.exists(target):
-                os.chmod(path, stat.S_IMODE(os.stat(target).st_mode) & 0o777)
-            try:
-                os.replace(path, target)
-            except OSError as error:
-                if error.errno != errno.EXDEV:
-                    raise
-                shutil.copyfile(path, target + ".unfinished")       # a link that leads to another disk
-                os.replace(target + ".unfinished", target)
-    finally:
-        signal.pthread_sigmask(signal.SIG_UNBLOCK, SIGNALS)

@@ -1,68 +1,119 @@
 """The script of a station: the files that it names, what it sets, and what a border between two parts loses."""
 import os
-import re
+from typing import Callable, Dict, List, Mapping, Optional, Tuple
 
 from nights.failed import Failed
 from nights.parts import MOST
+from reading.companion import Companion
+from reading.facts import Facts, Source
 from watching.names import shown
 
-# What a part does not know of the one before, by what stands in the script.
-LOST = (
-    (r"\brotate\s*\(", "whose turn it was in a rotate: it begins anew"),
-    (r"\brandom\s*\(", "the draws of a random: they begin anew, and are the same ones in each part"),
-    (r"\bsequence\s*\(", "how far a sequence had come: it begins anew"),
-    (r"\bsingle\s*\(", "how far a file of single had come: it begins anew"),
-    (r"\bblank\s*\(\s*[^)\s]", "how far a blank of some length had come: it begins anew"),
-    (r"\bcrossfade\s*\(", "the end of a track that a crossfade would have mixed into the next one"),
-    (r"\bbuffer\s*\(", "what a buffer held"),
-    (r"\badd\s*\(", "the rest of a track that an add plays beside the one that ends: its list goes on"),
-    (r"\btrack_sensitive\s*=\s*false", "the rest of a track into which another source broke: its list goes on"),
-    (r"\bswitch\s*\(", "less than a second of the clock: a switch may come so much later"),
+# What a part does not know of the one before, by the sources of the script.
+LOST: Tuple[Tuple[Callable[[Source], bool], str], ...] = (
+    (lambda source: source.op == "rotate", "whose turn it was in a rotate: it begins anew"),
+    (lambda source: source.op == "random",
+     "the draws of a random: they begin anew, and are the same ones in each part"),
+    (lambda source: source.op == "sequence", "how far a sequence had come: it begins anew"),
+    (lambda source: source.op == "single", "how far a file of single had come: it begins anew"),
+    (lambda source: source.op == "blank" and bool(source.track),
+     "how far a blank of some length had come: it begins anew"),
+    (lambda source: source.op == "crossfade",
+     "the end of a track that a crossfade would have mixed into the next one"),
+    (lambda source: source.op == "buffer", "what a buffer held"),
+    (lambda source: source.op == "add",
+     "the rest of a track that an add plays beside the one that ends: its list goes on"),
 )
+BROKEN = "the rest of a track into which another source broke: its list goes on"
+LATE = "less than a second of the clock: a switch may come so much later"
 CUT = "the rest of the track that is played: its list goes on behind it"
+AHEAD = 2              # so many times its own length a crossfade or a buffer may read of what is in it
 
 
 class Station:
     """A script with the names in it, and what it sets."""
 
-    def __init__(self, file, program, doctor, longest):
-        self.file, self.doctor, self.longest = file, doctor, longest
-        try:
-            with open(file, "rb") as opened:
-                self.text = opened.read().decode(errors="surrogateescape")
-        except OSError as error:
-            raise Failed(f"{shown(file)}: {error.strerror}", 3) from None
-        asked = doctor.Asked(program, self.text)
-        self.outputs, self.lists, self.singles = (asked.roles[role] for role in ("output", "list", "audio file"))
-        bare = doctor.TOKEN.sub(lambda match: "" if match.lastgroup == "comment" else match.group(), self.text)
-        self.rate = doctor.rate_of(bare)
-        told = re.search(r"""\bset\(\s*["']frame\.duration["']\s*,\s*(\d+\.\d*)\s*\)""", bare)
-        self.tick = int(float(told[1] if told else "0.04") * self.rate + 1e-9)      # samples
-        self.width = 3 if re.search(r"samplesize\s*=\s*24", bare) else 2            # bytes of a sample
-        self.lost = [words for form, words in LOST if re.search(form, bare)]
-        if len(self.outputs) > 1:
-            self.lost.insert(0, CUT)
+    def __init__(self, file: str, companion: Companion, facts: Facts, longest: float):
+        self.file, self.companion, self.facts, self.longest = file, companion, facts, longest
+        self.text, self.tokens = content(file), companion.tokens(file).tokens
+        self.outputs = [output.name for output in facts.outputs]
+        self.lists = {one.name: one for one in facts.lists}
+        self.singles = facts.singles
+        self.rate, self.tick = facts.rate, facts.tick
+        self.width = max(output.bits for output in facts.outputs) // 8         # bytes of a sample
+        self.lost = lost_of(facts)
         self.examine()
 
-    def examine(self):
+    def examine(self) -> None:
         """Fails where its outputs are none that a night can have."""
-        if not self.outputs:
-            raise Failed("liq refuses the script: ./liq check says why", 1)
         for name in self.outputs:
-            if name in self.lists + self.singles:
+            if name in self.lists or name in self.singles:
                 raise Failed(f"the output {shown(name)} has the name of a list or a sound", 1)
+            if os.path.isdir(name):
+                raise Failed(f"the output {shown(name)} is a folder", 1)
             if name.startswith("/dev/") or os.path.exists(name) and not os.path.isfile(name):
                 raise Failed(f"the output {shown(name)} is a pipe or a device: a night is written into files", 1)
 
-    def limit(self):
+    def limit(self) -> int:
         """How many seconds a part can be."""
         return (MOST - 64) // (2 * self.width * self.rate)
 
-    def renamed(self, names):
+    def needs(self, seconds: float) -> Dict[str, float]:
+        """How many seconds of each list so many of the outputs may take: a crossfade of D seconds reads within S
+        seconds at most 2 S + 2 D and two samples."""
+        sources = self.facts.sources
+        wanted = [0.0] * len(sources)
+        for output in self.facts.outputs:
+            wanted[output.source] = seconds
+        for number in reversed(range(len(sources))):
+            source, most = sources[number], wanted[number]
+            if source.op == "crossfade":
+                most = AHEAD * most + (2 * (source.overlap or 0) + 2) / self.rate
+            elif source.op == "buffer":
+                most *= AHEAD
+            for child in range(number) if source.children is None else source.children:
+                wanted[child] = max(wanted[child], most)
+        found: Dict[str, float] = {}
+        for source, most in zip(sources, wanted):
+            if source.op == "playlist" and source.file is not None:
+                found[source.file] = max(found.get(source.file, 0.0), most)
+        return found
+
+    def renamed(self, names: Mapping[str, str]) -> bytes:
         """The script with other names in place of these."""
-        def other(match):
-            text = self.doctor.text_of(match.group()) if match.lastgroup == "text" else None
-            if text not in names:
-                return match.group()
-            return '"' + names[text].replace("\\", "\\\\").replace('"', '\\"') + '"'
-        return self.doctor.TOKEN.sub(other, self.text)
+        data, at = b"", 0
+        for token in self.tokens:
+            if token.kind == "text" and token.text in names:
+                other = names[token.text].replace("\\", "\\\\").replace('"', '\\"')
+                data += self.text[at:token.start] + f'"{other}"'.encode(errors="surrogateescape")
+                at = token.end
+        return data + self.text[at:]
+
+
+def content(file: str) -> bytes:
+    try:
+        with open(file, "rb") as opened:
+            return opened.read()
+    except OSError as error:
+        raise Failed(f"{shown(file)}: {error.strerror}", 3) from None
+
+
+def lost_of(facts: Facts) -> List[str]:
+    """What a border of two parts loses."""
+    found = [words for is_lost, words in LOST if any(map(is_lost, facts.sources))]
+    if any(breaks(facts, source) for source in facts.sources):
+        found.append(BROKEN)
+    if any(source.op == "switch" for source in facts.sources):
+        found.append(LATE)
+    return ([CUT] if len(facts.outputs) > 1 else []) + found
+
+
+def breaks(facts: Facts, source: Source) -> bool:
+    """Whether another source may break into a track of this one. What mksafe makes, a fallback of one source and then
+    silence, does so where that source has nothing to play."""
+    if source.sensitive is not False:
+        return False
+    children: Optional[Tuple[int, ...]] = source.children
+    if source.op != "fallback" or children is None or len(children) != 2:
+        return True
+    last = facts.sources[children[1]]
+    return last.op != "blank" or bool(last.track)

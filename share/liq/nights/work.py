@@ -1,107 +1,135 @@
 """The rendering of a night, part by part. Its length is whole ticks; lengths are counted in samples."""
+import math
 import os
 import re
 import signal
+from typing import Dict, List, Optional, Tuple
 
-from nights import lists, parts, rooms
-from nights.failed import Failed
-from pages.shelf import Shelf
+from nights import lists, memory, parts, places, putting, rooms
+from nights.failed import KEPT, Failed, Refused
+from nights.library import Library
+from nights.station import Station
 from watching.names import shown
 from watching.progress import Line
 from watching.runs import Run, signal_of
 
 WEEK = 604800
-ALL = 4294967296 - (1 << 20)    # bytes that the sounds of a call may have, with some room
+SPARE = 1 << 20                 # bytes by which the sounds of a call stay below what they may have
 SHARE = 0.5                     # of a part that is left where it may
+LESS = 0.6                      # of its sounds that a part has if memory was refused for them
+OVER = 0.05                     # of its length by which a part may be longer, so that no short one is left
+LEAST = 60                      # seconds below which a part is not shortened for its sounds
 LATE = 10                       # seconds of a track that a crossfade may have mixed into the next one
 WORDS = {3: "a file could not be read", 4: "something could not be written",
          5: "memory was refused; a shorter --part takes less"}
-KEPT = "each output holds what it held before"
 
 
-def time_text(second):
+def time_text(second: int) -> str:
     """A second of the week as liq reads it."""
     second %= WEEK
     return f"{second // 86400 + 1}:{second // 3600 % 24:02}:{second // 60 % 60:02}:{second % 60:02}"
 
 
-def long_text(seconds):
+def long_text(seconds: float) -> str:
     return f"{int(seconds) // 3600}:{int(seconds) // 60 % 60:02}:{int(seconds) % 60:02}"
 
 
 class Night:
     """A night of a station, from a second of the week on, whose parts are made in rooms."""
 
-    def __init__(self, station, program, start, seconds, rooms_of):
-        self.station, self.program, self.start, self.rooms = station, program, start, rooms_of
+    def __init__(self, station: Station, program: str, start: int, seconds: float, made: rooms.Rooms, library: Library):
+        self.station, self.program, self.start, self.rooms = station, program, start, made
+        self.library = library
         self.whole = max(1, round(seconds * station.rate / station.tick)) * station.tick
-        self.shelf = Shelf()
-        self.turns = {name: lists.Turns(name, self.shelf) for name in station.lists}
-        self.done, self.gaps, self.tracks = 0, 0, 0
-        self.borders = []                                   # where parts begin, but for the first
-        self.parts = {name: [] for name in station.outputs}
-        self.blocks = {}                                    # bytes of an instant of each output, once they are known
+        self.turns = {name: lists.Turns(name, one.entries, library) for name, one in station.lists.items()}
+        self.next = ""                                      # where the places of the lists are kept, if they are
+        self.done, self.gaps = 0, 0
+        self.bound = station.facts.most - SPARE             # bytes of the sounds of a part
+        self.borders: List[int] = []                        # where parts begin, but for the first
+        self.parts: Dict[str, List[str]] = {name: [] for name in station.outputs}
+        self.blocks: Dict[str, int] = {}                    # bytes of an instant of each output, once they are known
         self.line = Line(os.path.basename(station.outputs[0]))
-        self.is_one = self.fits_one()
 
-    def fits_one(self):
-        """Whether one call does it all."""
-        all_entries = {name: turns.entries for name, turns in self.turns.items()}
-        longest = min(self.station.longest, self.station.limit())
-        return (self.whole <= longest * self.station.rate and self.size(all_entries) <= ALL
-                and all(turns.bytes <= lists.LISTED for turns in self.turns.values()))
+    def go_on(self) -> List[str]:
+        """Goes on where the night before left the lists, and keeps where this one leaves them; what is to be told."""
+        self.next = places.path_of(self.station.outputs[0])
+        return places.go_on(self.next, self.turns)
 
-    def size(self, entries):
+    def size(self, entries: Dict[str, List[str]]) -> int:
         """What the sounds count for that a call plays with these entries."""
         names = [entry for one in entries.values() for entry in one] + self.station.singles
-        return lists.bytes_of(names, self.station.rate, self.shelf)
+        return self.library.bytes_of(name for name in names if name in self.station.facts.sounds)
 
-    def entries(self, seconds):
-        """How long the next part is, and the entries of its lists: as many as a script may play."""
+    def most(self) -> int:
+        """The bytes that the sounds of the next part may have."""
+        free = memory.for_sounds()
+        return self.bound if free is None else min(self.bound, free)
+
+    def shorten(self, size: int) -> bool:
+        """Takes less than so many bytes of sounds from now on; whether a part can."""
+        self.bound = int(LESS * size)
+        return self.size(self.entries(self.wanted())[1]) < size
+
+    def wanted(self) -> float:
+        """How many seconds the next part is to have: what is left is divided evenly."""
+        left = (self.whole - self.done) / self.station.rate
+        longest = min(self.station.longest, self.station.limit())
+        return min(self.evenly(left, longest * (1 + OVER)), self.station.limit())
+
+    def evenly(self, left: float, longest: float) -> float:
+        """The seconds of each of as few equal parts as no longer ones make; whole ones where parts end by the clock."""
+        seconds = left / max(1, math.ceil(left / longest))
+        by_clock = len(self.station.outputs) > 1 and 1 < seconds < left
+        return math.ceil(seconds) if by_clock else seconds
+
+    def entries(self, seconds: float) -> Tuple[float, Dict[str, List[str]]]:
+        """How long the next part is, and the entries of its lists: as many as a script may play, and memory holds."""
+        most, left = self.most(), (self.whole - self.done) / self.station.rate
         while True:
-            found = {name: turns.next_ones(seconds) for name, turns in self.turns.items()}
-            if self.size(found) <= ALL:
+            needs = self.station.needs(seconds)
+            found = {name: turns.next_ones(needs.get(name, seconds)) for name, turns in self.turns.items()}
+            size, names = self.size(found), [entry for entries in found.values() for entry in entries]
+            fits = size <= most and self.library.has_room(names)
+            if fits or seconds < LEAST and size <= self.station.facts.most - SPARE:
                 return seconds, found
-            if seconds < 60:
+            if seconds < LEAST:
                 raise Failed("the sounds that a minute may play are more than a script may have", 1)
-            seconds *= 0.8
+            seconds = self.evenly(left, 0.8 * seconds)
 
-    def examine_room(self):
+    def examine_room(self) -> None:
         """Fails where a disk has no room for what is left of the night, as far as that is known."""
-        need = {}
-        for name, room in self.rooms.items():
-            need.setdefault(room, 0)
-            need[room] += (self.whole - self.done) * self.blocks.get(name, self.station.width)
-        for room, size in need.items():
-            if room.free() < size:
-                raise Failed(f"{self.disk_of(room)}, and {size / 1e9:.2f} GB more are needed", 4)
+        need: Dict[int, int] = {}
+        for name, room in self.rooms.of.items():
+            size = (self.whole - self.done) * self.blocks.get(name, self.station.width)
+            need[room.disk] = need.get(room.disk, 0) + size
+        for room in self.rooms.of.values():
+            if room.free() < need[room.disk]:
+                raise Failed(f"{disk_of(room)}, and {need[room.disk] / 1e9:.2f} GB more are needed; {KEPT}", 4)
 
-    def disk_of(self, room):
-        folder = os.path.dirname(room.path) or "."
-        return f"the disk of {shown(folder)} has {room.free() / 1e9:.2f} GB free"
-
-    def part(self):
+    def part(self) -> None:
         """Renders one more part. Where no track begins in it, it is rendered anew and twice as long, as far as it may
         be."""
-        seconds = min((self.whole - self.done) / self.station.rate, self.station.longest, self.station.limit())
+        seconds = self.wanted()
         while not self.is_ended(seconds):
             seconds *= 2
 
-    def is_ended(self, seconds):
+    def is_ended(self, wanted: float) -> bool:
         """Renders a part of so many seconds, and ends it; not where it may end at a track if it is longer."""
         number, rate, tick = len(self.borders) + 1, self.station.rate, self.station.tick
         left = self.whole - self.done
-        names = {name: os.path.join(self.rooms[name].path, f"{k}-{number}.wav")
-                 for k, name in enumerate(self.station.outputs)}
-        longer, written = 2 * seconds, {}
-        if not self.is_one:
-            seconds, found = self.entries(seconds)
-            written = self.write_lists(found)
+        names = {name: os.path.join(room.path, f"{k}-{number}.wav")
+                 for k, (name, room) in enumerate(self.rooms.of.items())}
+        seconds, written, size = self.write_lists(wanted)
         ticks = -(-left // tick) if seconds * rate >= left else max(1, int(seconds * rate) // tick)
-        script = self.write("part.liq", self.station.renamed({**names, **written}))
-        gaps, frames = self.render(script, names, ticks), min(ticks * tick, left)
+        script = self.rooms.first.write("part.liq", self.station.renamed({**names, **written}))
+        try:
+            gaps, frames = self.render(script, names, ticks), min(ticks * tick, left)
+        except Refused:
+            if not self.shorten(size):
+                raise
+            return self.is_ended(wanted)
         border = self.border(names, frames)
-        if not border and longer <= self.station.limit() and longer / 2 == seconds:
+        if not border and 2 * wanted <= self.station.limit() and wanted == seconds:
             return False
         frames = border or frames
         if gaps and -(-frames // tick) < ticks:             # some of them may lie behind the border
@@ -109,36 +137,49 @@ class Night:
         self.finish(names, frames, gaps)
         return True
 
-    def write(self, name, text):
-        """Writes a text beside the parts."""
-        path = os.path.join(next(iter(self.rooms.values())).path, name)
-        with open(path, "w", encoding="utf-8", errors="surrogateescape", newline="\n") as file:
-            file.write(text)
-        return path
+    def write_lists(self, wanted: float) -> Tuple[float, Dict[str, str], int]:
+        """Writes the lists of a part; how long it can be, their names, and the bytes of its sounds. A sound that cannot
+        be decoded is left out, and others are taken for it."""
+        while True:
+            seconds, found = self.entries(wanted)
+            names = [entry for entries in found.values() for entry in entries]
+            files = self.library.files(names)
+            if all(name in files for name in names):
+                break
+        written = {}
+        for k, (name, entries) in enumerate(found.items()):
+            text = lists.text_of(entries, files).encode(errors="surrogateescape")
+            written[name] = self.rooms.first.write(f"{k}.m3u", text)
+        return seconds, written, self.size(found)
 
-    def write_lists(self, found):
-        """Writes the lists of a part, and answers their names."""
-        return {name: self.write(f"{k}.m3u", "".join(entry + "\n" for entry in entries))
-                for k, (name, entries) in enumerate(found.items())}
-
-    def render(self, script, names, ticks):
+    def render(self, script: str, names: Dict[str, str], ticks: int) -> int:
         """Renders so many ticks, and answers at how many instants there was nothing to play."""
         before, share = self.done / self.whole, ticks * self.station.tick / self.whole
         words = [self.program, "render", script, str(ticks), "--cues", f"--start={self.begin()}"]
-        run = Run(words, True, lambda seen: self.line.show(seen, before, share), self.line.clear)
+        try:
+            run = Run(words, True, lambda seen: self.line.show(seen, before, share), self.line.clear, ends_with_us=True,
+                      pass_fds=self.handles())
+        except PermissionError as error:
+            raise Failed(f"{shown(self.program)}: {error.strerror}; {KEPT}", 126) from None
         if run.stopped:
             raise Failed(f"broken off; {KEPT}", 128 + run.stopped)
         if run.status:
             said = shown(run.said.decode("utf-8", "surrogateescape").strip()) or self.why(run.status)
-            raise Failed(f"part {len(self.borders) + 1}: {said}; {KEPT}", signal_of(run.status))
+            kind = Refused if run.status == 5 else Failed
+            raise kind(f"part {len(self.borders) + 1}: {said}; {KEPT}", signal_of(run.status))
         for name, path in names.items():
             wave = parts.Wave(path)
             self.blocks[name] = wave.block
             if (wave.rate, wave.frames) != (self.station.rate, ticks * self.station.tick):
-                raise Failed("the settings of the script are written as night does not know them", 1)
+                raise Failed(f"liq wrote another length than it was asked for; {KEPT}", 1)
         return sum(map(int, re.findall(rb" gaps (\d+)$", run.printed, re.M)))
 
-    def why(self, status):
+    def handles(self) -> List[int]:
+        """What the renderer holds as long as it runs: the locks of the rooms, and that of the cache."""
+        cache = self.library.cache
+        return [room.handle for room in self.rooms.all] + ([cache.handle] if cache is not None else [])
+
+    def why(self, status: int) -> str:
         """What is known of an end of which liq says nothing."""
         text = WORDS.get(status, f"liq ends with status {status}")
         if status < 0:
@@ -146,43 +187,46 @@ class Night:
         if status == -signal.SIGKILL:
             text += ", as the system does where no memory is left; a shorter --part takes less"
         if status == 4:
-            text += "; " + "; ".join(map(self.disk_of, dict.fromkeys(self.rooms.values())))
+            text += "; " + "; ".join(disk_of(room) for room in {room.disk: room for room in self.rooms.all}.values())
         return text
 
-    def begin(self):
+    def begin(self) -> str:
         """The time at which the next part begins."""
         return time_text(self.start + self.done // self.station.rate)
 
-    def border(self, names, frames):
+    def border(self, names: Dict[str, str], frames: int) -> Optional[int]:
         """Where a part of so many instants ends: where a track begins, behind a whole one and late if it may; nothing
         where none begins in it. The last part, and one of several outputs, ends where it is over."""
         if self.done + frames >= self.whole or len(names) > 1:
             return frames
         cues = parts.cues(next(iter(names.values())) + ".cue")
-        starts = [(at, self.is_whole(before, at)) for before, (at, _) in zip(cues, cues[1:]) if at < frames]
+        starts = [(at, self.is_whole(before, at)) for before, (at, rest) in zip(cues, cues[1:])
+                  if at < frames and self.library.name_of(title_of(rest) or "")[1]]
         for late, wanted in ((SHARE * frames, True), (SHARE * frames, False), (0, True), (0, False)):
             found = [at for at, is_whole in starts if at > late and (is_whole or not wanted)]
             if found:
                 return found[-1]
         return None
 
-    def is_whole(self, cue, end):
+    def is_whole(self, cue: Tuple[int, bytes], end: int) -> bool:
         """Whether the track of a cue is over at an instant, but for what a crossfade takes of it."""
         at, rest = cue
-        length = self.shelf.length(title_of(rest), self.station.rate)
-        return length is None or end - at >= length - LATE * self.station.rate
+        seconds = self.library.seconds(self.library.name_of(title_of(rest) or "")[0])
+        return seconds is None or end - at >= (seconds - LATE) * self.station.rate
 
-    def finish(self, names, frames, gaps):
+    def finish(self, names: Dict[str, str], frames: int, gaps: int) -> None:
         """Ends a part at its border, and notes where the lists are."""
-        played = []
+        played: List[str] = []
         for path in names.values():
             if parts.Wave(path).frames > frames:
                 parts.cut(path, frames)
-            played += [title_of(rest) for _, rest in parts.cues(path + ".cue") if rest]
+            played += [name for _, rest in parts.cues(path + ".cue") if (name := title_of(rest))]
+        first_files = [name for name, is_first in map(self.library.name_of, played) if is_first]
         for turns in self.turns.values():
-            turns.follow(played)
+            turns.follow(first_files)
         for name, path in names.items():
             self.parts[name].append(path)
+            self.name_cues(path + ".cue")
         number, begin = len(self.borders) + 1, self.begin()
         self.done += frames
         self.gaps += gaps
@@ -191,29 +235,45 @@ class Night:
         print(f"part {number}: from {begin}, {long_text(frames / self.station.rate)}, "
               f"{len(played)} track{'s' * (len(played) != 1)}", flush=True)
 
-    def run(self, is_anyway):
+    def name_cues(self, path: str) -> None:
+        """Puts the entries of the lists into a cue file, in place of the files that were decoded for them."""
+        if not self.library.names:
+            return
+        lines = [(at, b" " + self.library.name_of(title)[0].encode(errors="surrogateescape")
+                  if (title := title_of(rest)) else rest) for at, rest in parts.cues(path)]
+        parts.write_cues(path, lines)
+
+    def run(self, is_anyway: bool) -> None:
         """Renders all parts."""
         while self.done < self.whole:
             if not is_anyway:
                 self.examine_room()
             self.part()
 
-    def put(self):
+    def put(self) -> List[List[str]]:
         """Puts what was made at its names; answers for each output the names of its files."""
-        groups, moves = [], []
+        groups, files = [], []
         for name, paths in self.parts.items():
-            group = [name]
+            room, group = self.rooms.of[name], [name]
             if parts.fits(parts.Wave(path).size for path in paths):
                 paths = [parts.join(paths)]
             else:
                 group = rooms.part_names(name, len(paths))
             for path, target in zip(paths, group):
-                moves += [(path, target), (path + ".cue", target + ".cue")]
+                made = os.path.basename(path)
+                files += [(room, made, target), (room, made + ".cue", target + ".cue")]
             groups.append(group)
-        rooms.put(moves)
+        if self.next:
+            self.rooms.first.write("next", places.text_of(self.turns).encode())
+            files.append((self.rooms.first, "next", self.next))
+        putting.put(self.rooms, files, putting.hear_no_more)
         return groups
 
 
-def title_of(rest):
+def title_of(rest: bytes) -> Optional[str]:
     """The name in the rest of a cue's line, or nothing."""
     return rest[1:].decode("utf-8", "replace") if rest else None
+
+
+def disk_of(room: rooms.Room) -> str:
+    return f"the disk of {shown(room.folder or '.')} has {room.free() / 1e9:.2f} GB free"

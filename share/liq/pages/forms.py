@@ -1,4 +1,10 @@
 """What was played, in the forms that other programs read."""
+import csv
+import io
+from datetime import datetime, timedelta
+
+TRACKS = 99            # of a cue sheet
+HEAD = ["date", "time", "seconds", "artist", "title", "album", "isrc", "label", "file"]
 
 
 def shown_name(play, titles):
@@ -17,18 +23,21 @@ def labels(output, titles):
 
 
 def sheet(output, titles):
-    """A cue sheet of players and disc writers, with 75 frames a second. A name in it has no double quote."""
+    """A cue sheet of players and disc writers, with 75 frames a second. A name in it has no double quote. A sheet ends
+    at 99 tracks, so more of them are several sheets, each behind a remark with its number."""
     def quoted(text):
         return one_line(text).replace('"', "''")
-    lines, number = [], 0
-    for name, (first, sound) in zip(output.names, output.parts):
-        lines.append(f'FILE "{quoted(name)}" WAVE\n')
-        for p in output.plays:
-            if first <= p.start < first + sound.frames:
-                number += 1
-                frames = (p.start - first) * 75 // output.rate
-                lines.append(f'  TRACK {number:02} AUDIO\n    TITLE "{quoted(shown_name(p, titles))}"\n'
-                             f'    INDEX 01 {frames // 4500:02}:{frames // 75 % 60:02}:{frames % 75:02}\n')
+    entries = [(name, first, play) for name, (first, sound) in zip(output.names, output.parts)
+               for play in output.plays if first <= play.start < first + sound.frames]
+    lines, sheets = [], -(-len(entries) // TRACKS)
+    for k, (name, first, play) in enumerate(entries):
+        if sheets > 1 and k % TRACKS == 0:
+            lines.append(f"REM SHEET {k // TRACKS + 1} OF {sheets}\n")
+        if k % TRACKS == 0 or name != entries[k - 1][0]:
+            lines.append(f'FILE "{quoted(name)}" WAVE\n')
+        frames = (play.start - first) * 75 // output.rate
+        lines.append(f'  TRACK {k % TRACKS + 1:02} AUDIO\n    TITLE "{quoted(shown_name(play, titles))}"\n'
+                     f'    INDEX 01 {frames // 4500:02}:{frames // 75 % 60:02}:{frames % 75:02}\n')
     return "".join(lines)
 
 
@@ -63,6 +72,23 @@ def tsv(output, titles):
         left = "" if p.left is None else p.left
         lines.append(f"{p.start}\t{p.end}\t{one_line(p.name or '')}\t{p.at}\t{left}\t{p.ending}\t{p.overlap}\n")
     return "".join(lines)
+
+
+def log(outputs, titles, begin: datetime) -> str:
+    """A table of all that was played, by the clock of the wall: CSV with a head. A play that goes on where its file was
+    left has a line of its own."""
+    text = io.StringIO()
+    table = csv.writer(text, lineterminator="\n")
+    table.writerow(HEAD)
+    for output in outputs:
+        for play in output.plays:
+            if play.name is not None:
+                at = begin + timedelta(seconds=play.start // output.rate)
+                told = titles.all_of(play.name)
+                seconds = f"{(play.end - play.start) / output.rate:.1f}"
+                table.writerow([f"{at:%Y-%m-%d}", f"{at:%H:%M:%S}", seconds, told.artist, told.title, told.album,
+                                told.isrc, told.label, one_line(play.name)])
+    return text.getvalue()
 
 
 FORMS = {"labels": labels, "sheet": sheet, "chapters": chapters, "vtt": vtt, "tsv": tsv}

@@ -1,11 +1,12 @@
 """Outputs: WAV files that follow each other, with what was played in them and where they are silent."""
 import bisect
 from dataclasses import dataclass, field
+from typing import Optional
 
 from pages.cues import cues_of
 from pages.plays import Listener
 from pages.shelf import Shelf
-from pages.sounds import NoSound, Sound
+from pages.sounds import NoSound, sound_of
 
 
 @dataclass
@@ -24,7 +25,7 @@ class Output:
     rate: int = 0
     channels: int = 0
     length: int = 0
-    gaps: int | None = None
+    gaps: Optional[int] = None
     parts: list = field(default_factory=list)      # pairs (first instant, Sound)
     plays: list = field(default_factory=list)
     silences: list = field(default_factory=list)
@@ -45,7 +46,7 @@ class Output:
 
     def add(self, name, least_silence, shelf):
         """Adds a file behind those that are there."""
-        sound = Sound(name)
+        sound = sound_of(shelf.companion, name)
         if self.parts and (sound.rate, sound.channels) != (self.rate, self.channels):
             raise NoSound(f"{name} has another rate or other channels than {self.name}")
         self.rate, self.channels = sound.rate, sound.channels
@@ -53,6 +54,7 @@ class Output:
         cues = cues_of(name, sound.frames)
         self.has_cues = self.has_cues or cues is not None
         cues = cues or []
+        shelf.look(title for _, title in cues if title is not None)
         silences = zeros_of(cues, sound, least)
         plays = Listener(sound, cues, silences, shelf).plays()
         for silence in told(silences, plays, least):
@@ -65,9 +67,9 @@ class Output:
         self.length += sound.frames
 
 
-def read_output(names, least_silence):
+def read_output(names, least_silence, companion):
     """An output of files that follow each other; silence is told from so many seconds on."""
-    output, shelf = Output(list(names)), Shelf()
+    output, shelf = Output(list(names)), Shelf(companion)
     for name in names:
         output.add(name, least_silence, shelf)
     return output

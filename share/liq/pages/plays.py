@@ -1,6 +1,8 @@
 """What was played when: the starts of a cue file, and what the files and the sound say of their ends."""
 import bisect
 from dataclasses import dataclass
+from operator import mul
+from typing import Optional
 
 UNLIKE = 0.9  # a misfit above which two sounds have nothing to do with each other
 LIKE = 0.02   # one below which one sound is the other
@@ -13,9 +15,9 @@ class Play:
     instants of the output."""
     start: int
     end: int
-    name: str | None           # None: no title
+    name: Optional[str]        # None: no title
     at: int = 0                # where in the file it starts
-    left: int | None = None    # how much of the file was not played, where that is known
+    left: Optional[int] = None  # how much of the file was not played, where that is known
     ending: str = ""           # "whole", "faded", "cut", "breaks off" into silence, "run ends", "" where it is not known
     overlap: int = 0           # for so long the file before is mixed into its start
     resumed: bool = False      # it goes on where it was left
@@ -129,10 +131,10 @@ class Listener:
         return found
 
     def heard(self, start, frames):
-        return [self.sound.at(start + k) for k in frames]
+        return self.sound.means([start + k for k in frames])
 
     def said(self, name, place, frames):
-        return [self.shelf.value(name, place + k, self.sound.rate) for k in frames]
+        return self.shelf.values(name, [place + k for k in frames], self.sound.rate)
 
     def close(self, play, k, length):
         """How the k-th play ends."""
@@ -187,8 +189,8 @@ class Listener:
 
 def misfit(heard, said):
     """How much of what is heard is not what is said, whatever its strength: 0 none, 1 all."""
-    energy, said_energy = sum(h * h for h in heard), sum(s * s for s in said)
+    energy, said_energy = sum(map(mul, heard, heard)), sum(map(mul, said, said))
     if energy == 0 or said_energy == 0:
         return 0.0 if energy == said_energy else 1.0
-    both = sum(h * s for h, s in zip(heard, said))
+    both = sum(map(mul, heard, said))
     return max(0.0, 1 - both * both / (energy * said_energy))

@@ -1,7 +1,8 @@
 """The tables of an output: by time, and by file."""
 from dataclasses import dataclass
+from typing import Optional
 
-from pages.marks import isolated, named, note
+from pages.marks import named, note
 from pages.outputs import Silence
 
 
@@ -38,8 +39,8 @@ class Use:
     last: int
     plays: int = 0
     time: int = 0
-    end: int | None = None
-    pause: int | None = None   # the least time from an end to the next start
+    end: Optional[int] = None
+    pause: Optional[int] = None  # the least time from an end to the next start
 
     def add(self, play):
         if not play.resumed:

@@ -1,5 +1,7 @@
 """Times as they are read: clock times of a week, and lengths."""
 import re
+from datetime import datetime
+from typing import Optional
 
 DAYS = ["Monday", "Tuesday", "Wednesday", "Thursday", "Friday", "Saturday", "Sunday"]
 DAY = 86400
@@ -15,6 +17,27 @@ def read_start(text):
     if hour > 23 or minute > 59 or second > 59:
         return None
     return (day - 1) * DAY + hour * 3600 + minute * 60 + second
+
+
+def read_date(text: str) -> Optional[datetime]:
+    """The moment of YYYY-MM-DD:HH:MM:SS, or with T in place of the first colon, or without seconds or a time; None where
+    it is none."""
+    parts = re.fullmatch(r"(\d{4})-(\d\d)-(\d\d)(?:[:T](\d\d):(\d\d)(?::(\d\d))?)?", text, re.ASCII)
+    try:
+        return datetime(*(int(part or 0) for part in parts.groups())) if parts else None
+    except ValueError:
+        return None
+
+
+def second_of(moment: datetime) -> int:
+    """The second of the week of a moment."""
+    return moment.weekday() * DAY + moment.hour * 3600 + moment.minute * 60 + moment.second
+
+
+def week_text(second):
+    """A second of the week as a person reads it, as Sat 01:59:58; a later week counts as this one."""
+    of_day = second % DAY
+    return f"{DAYS[second // DAY % 7][:3]} {of_day // 3600:02}:{of_day // 60 % 60:02}:{of_day % 60:02}"
 
 
 def length_text(frames, rate, tenths):

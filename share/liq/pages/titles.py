@@ -1,30 +1,51 @@
-"""Tables of titles: a line for each file, with the file, the artist and the title, and TABs between."""
+"""Tables of titles: a line for each file, with the file, artist and title, or with album, ISRC and label too, and TABs
+between."""
+from dataclasses import dataclass
+from typing import Dict, Iterable
+
+COLUMNS = (3, 6)       # cells of a line
 
 
 class NoTitles(Exception):
     """A table that is none."""
 
 
+@dataclass(frozen=True)
+class Told:
+    """What a table tells of a file."""
+    artist: str = ""
+    title: str = ""
+    album: str = ""
+    isrc: str = ""
+    label: str = ""
+
+
 class Titles:
     """What files are called, by their names in cue files."""
 
-    def __init__(self, told):
+    def __init__(self, told: Dict[str, Told]):
         self.told = told
 
-    def of(self, name):
-        """Artist and title of a file, or its name where the tables have none."""
-        return self.told.get(name, name)
+    def of(self, name: str) -> str:
+        """Artist and title of a file, or its name where the tables have no title."""
+        told = self.all_of(name)
+        return " \u2013 ".join(text for text in (told.artist, told.title) if text) if told.title else name
+
+    def all_of(self, name: str) -> Told:
+        """All that the tables tell of a file."""
+        return self.told.get(name, Told())
 
 
-def read_titles(paths):
+def read_titles(paths: Iterable[str]) -> Titles:
     """The titles of these tables; where several tell one file, the last one counts."""
     told = {}
     for path in paths:
         with open(path, "rb") as file:
             lines = file.read().decode("utf-8", "replace").split("\n")
         for number, line in enumerate(lines[:-1] if lines[-1] == "" else lines, 1):
-            cells = line.removesuffix("\r").split("\t")
-            if len(cells) != 3:
-                raise NoTitles(f"{path}, line {number}: has not a file, an artist and a title with TABs between")
-            told[cells[0]] = " \u2013 ".join(cell for cell in cells[1:] if cell) or cells[0]
+            name, *cells = line.removesuffix("\r").split("\t")
+            if len(cells) + 1 not in COLUMNS:
+                raise NoTitles(f"{path}, line {number}: has not 3 cells (file, artist, title) or 6 (album, ISRC, label), with "
+                               "TABs between")
+            told[name] = Told(*cells)
     return Titles(told)

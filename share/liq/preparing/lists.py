@@ -1,20 +1,20 @@
 """The lists of what was made, and the table of titles."""
 import os
 import re
+from typing import Callable, Dict, List, Tuple
 
 from preparing import names
+from preparing.sounds import TAGS
 from watching.names import shown
 
-ALL = 4294967296       # bytes that the sounds of a script may have together
-LISTED = 1048576       # bytes of a list
 TITLES = "titles.tsv"
 
 
-def lists_of(sources, seed, whole, has_folders):
-    """The lists, by their names the sources in each: one of all, and where that is wanted one for each folder."""
+def lists_of(sources: List[Tuple[str, str]], whole: str, has_folders: bool,
+             mixed: Callable[[List[str]], List[str]]) -> Dict[str, List[str]]:
+    """The lists, by their names the sources in each, in an order: one of all, and where that is wanted one for each
+    folder."""
     order = [source for source, _ in sources]
-    if seed is not None:
-        order = names.mixed(order, seed)
     lists, named = {whole: order}, {}
     for source in order if has_folders else []:
         folder = os.path.dirname(source)
@@ -24,10 +24,10 @@ def lists_of(sources, seed, whole, has_folders):
                 lists[named[folder]] = []
             lists[named[folder]].append(source)
             folder = os.path.dirname(folder)
-    return lists
+    return {name: mixed(members) for name, members in lists.items()}
 
 
-def name_of(folder, lists):
+def name_of(folder: str, lists: Dict[str, List[str]]) -> str:
     """How the list of a folder is called: as the folder, or with a number where another list has that name."""
     front = "/".join(names.plain(part) for part in folder.split("/"))
     if f"{front}.m3u" not in lists:
@@ -35,21 +35,22 @@ def name_of(folder, lists):
     return next(name for k in range(2, len(lists) + 3) if (name := f"{front} ({k}).m3u") not in lists)
 
 
-def line_of(name, entries, sizes, rate):
-    """What is told of a list."""
+def line_of(name, entries, sizes, rate, limits):
+    """What is told of a list, by the limits of liq."""
     size = sum(sizes[entry].bytes for entry in set(entries))
     hours = sum(sizes[entry].seconds for entry in entries) / 3600
     text = f"list {shown(name)}: {len(entries)} file{'s' * (len(entries) != 1)}, {hours:.1f} h"
-    if size > ALL:
-        text += (f"; more than one script may play ({ALL} bytes, {ALL / 4 / rate / 3600:.1f} h of stereo): "
+    if size > limits.most:
+        text += (f"; more than one script may play ({limits.most} bytes, {limits.most / 4 / rate / 3600:.1f} h of stereo): "
                  "use lists of folders, or liq-night")
-    if sum(len(entry.encode()) + 1 for entry in entries) > LISTED:
-        text += f"; longer than liq reads ({LISTED} bytes)"
+    if sum(len(entry.encode()) + 1 for entry in entries) > limits.list_most:
+        text += f"; longer than liq reads ({limits.list_most} bytes)"
     return text
 
 
-def titles_of(told, entries):
-    """The lines of the table for a source."""
+def titles_of(told: dict, entries: List[str]) -> List[str]:
+    """The lines of the table for a source: file, artist, title, album, ISRC and label, with TABs between."""
     def cell(text):
         return " ".join(re.split(r"[\t\r\n\0]+", text))
-    return [f"{entry}\t{cell(told['artist'])}\t{cell(told['title'])}" for entry in entries]
+    texts = "\t".join(cell(told.get(name, "")) for name in TAGS)
+    return [f"{entry}\t{texts}" for entry in entries]

@@ -2,11 +2,13 @@
 import hashlib
 import os
 import unicodedata
+from typing import Callable, Dict, List
 
 SOUNDS = (".mp3", ".mp2", ".flac", ".ogg", ".oga", ".opus", ".m4a", ".m4b", ".mp4", ".aac", ".wav", ".wave", ".w64",
           ".aif", ".aiff", ".aifc", ".wma", ".ape", ".wv", ".mpc", ".tta", ".au", ".snd", ".caf", ".ac3", ".mka",
           ".webm", ".spx")
 LONGEST = 180          # bytes of a name without its ending, so that what stands behind it has room
+AHEAD = 50             # names among which one of another artist is sought
 UNHELD = ("Cc", "Cs", "Zl", "Zp")      # kinds of characters that no line of a list holds, or that are no UTF-8
 
 
@@ -42,6 +44,34 @@ def free(wanted, taken, ending):
     return next(path for k in range(2, 1 << 40) if (path := f"{front} ({k}).wav") not in taken)
 
 
-def mixed(names, seed):
-    """Names in an order of a seed; one more name leaves the others in their order."""
-    return sorted(names, key=lambda name: hashlib.sha256(f"{seed}\0{name}".encode(errors="surrogateescape")).digest())
+def part_of(seed: int, text: str) -> float:
+    """A number from 0 to 1 that a seed and a text have."""
+    data = hashlib.sha256(f"{seed}\0{text}".encode(errors="surrogateescape")).digest()
+    return int.from_bytes(data[:6], "big") / (1 << 48)
+
+
+def mixed(names: List[str], seed: int, artist_of: Callable[[str], str]) -> List[str]:
+    """Names in an order of a seed, with each artist's names as far apart as may be. One more name leaves those of other
+    artists in their order."""
+    of_artist: Dict[str, List[str]] = {}
+    for name in names:
+        of_artist.setdefault(artist_of(name) or f"\0{name}", []).append(name)
+    places = []
+    for artist, own in of_artist.items():
+        first = part_of(seed, artist)
+        for k, name in enumerate(sorted(own, key=lambda name: (part_of(seed, name), name))):
+            places.append(((k + first + (part_of(seed, name) - 0.5) / 5) / len(own), part_of(seed, name), name))
+    return apart([name for _, _, name in sorted(places)], artist_of)
+
+
+def apart(names: List[str], artist_of: Callable[[str], str]) -> List[str]:
+    """Names in their order, but a name behind one of the same artist changes its place with the next one that fits."""
+    found = list(names)
+    for k in range(1, len(found)):
+        artist = artist_of(found[k])
+        if artist and artist == artist_of(found[k - 1]):
+            for j in range(k + 1, min(len(found), k + AHEAD)):
+                if artist_of(found[j]) != artist:
+                    found[k], found[j] = found[j], found[k]
+                    break
+    return found

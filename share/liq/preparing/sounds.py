@@ -1,90 +1,75 @@
-"""One sound: what is known of it, and how WAV files are made of it by ffmpeg."""
-import errno
+"""One sound: what ffprobe tells of its file."""
 import json
+import math
 import os
 import re
-import subprocess
-import threading
-from dataclasses import dataclass, field
+from dataclasses import dataclass
+from typing import Dict, List
 
-from pages.sounds import NoSound, Sound
+from preparing.programs import Broken, Programs
 
-MOST = 268435456       # bytes of an audio file that liq reads
-HEAD = 4096            # bytes that are kept for what stands before the samples
-SOFT = "-50dB"         # what is below it counts as silence where a long file is cut
-PAUSE = 0.4            # seconds of it, at least
-SLACK = 0.25           # seconds that a form may tell beside those of the sound
-FULL = {os.strerror(number): number for number in (errno.ENOSPC, errno.EDQUOT, errno.EFBIG, errno.EROFS)}
-FINE = ":resampler=soxr:precision=28"
-PLAIN = ":filter_size=64:cutoff=0.97"      # where ffmpeg was built without soxr
-
-
-class Broken(Exception):
-    """Why no WAV file is made of a file, in words."""
+DAY = 86400            # seconds of the longest sound that is taken
+WORDS = ["ffprobe", "-v", "error", "-print_format", "json=string_validation=ignore", "-show_format", "-show_streams",
+         "-select_streams", "a"]
+# The tags that tell a text, the first that is there.
+TAGS = {"artist": ("artist",), "title": ("title",), "album": ("album",), "isrc": ("isrc", "tsrc"),
+        "label": ("label", "publisher", "organization")}
 
 
 @dataclass
 class Told:
-    """What ffprobe tells of a file."""
+    """What is told of a sound: its length in seconds, 0 where it is not known, its sides, 1 or 2, and its texts."""
     seconds: float
     sides: int
     artist: str = ""
     title: str = ""
+    album: str = ""
+    isrc: str = ""
+    label: str = ""
+
+    def texts(self) -> Dict[str, str]:
+        """The texts by their names."""
+        return {name: getattr(self, name) for name in TAGS}
 
 
-@dataclass
-class Made:
-    """What was made of a file: the paths of its parts, and a remark or nothing."""
-    parts: list = field(default_factory=list)
-    remark: str = ""
+def state_of(path: str) -> List[int]:
+    """What tells that a file is the same as before: its bytes and its time."""
+    there = os.stat(path)
+    return [there.st_size, there.st_mtime_ns]
 
 
-class Programs:
-    """The programs that run at the same time, so that all end where the run is broken off."""
-
-    def __init__(self):
-        self.lock, self.running, self.is_over = threading.Lock(), set(), False
-
-    def call(self, words):
-        """What a program prints and says, with its status."""
-        with self.lock:
-            if self.is_over:
-                raise Broken("broken off")
-            process = subprocess.Popen(words, stdin=subprocess.DEVNULL, stdout=subprocess.PIPE, stderr=subprocess.PIPE,
-                                       encoding="utf-8", errors="replace", start_new_session=True)
-            self.running.add(process)
-        try:
-            printed, said = process.communicate()
-            return printed, said, process.returncode
-        finally:
-            with self.lock:
-                self.running.discard(process)
-
-    def end(self):
-        """Ends them, and lets no other begin."""
-        with self.lock:
-            self.is_over = True
-            for process in self.running:
-                process.kill()
-
-
-def last_line(text, path):
+def last_line(text: str, path: str) -> str:
     """The last line that ffmpeg says, without its own name and that of the file."""
     lines = [re.sub(r"^\[[^\]]*\] ", "", line).replace(f"file:{path}: ", "") for line in text.strip().split("\n")]
-    return lines[-1].strip() or "ffmpeg cannot read it"
+    return clean(lines[-1].strip()) or "ffmpeg cannot read it"
 
 
-def filter_of(programs):
-    """The words of the best filter between rates that this ffmpeg has."""
-    words = ["ffmpeg", "-nostdin", "-v", "error", "-f", "lavfi", "-i", "anullsrc=r=8000:d=0.1", "-af",
-             f"aresample=44100{FINE}", "-f", "null", "-"]
-    return FINE if programs.call(words)[2] == 0 else PLAIN
+def clean(text: str) -> str:
+    """A text with a mark in place of each byte that is no UTF-8."""
+    return text.encode("utf-8", "surrogateescape").decode("utf-8", "replace")
 
 
-def looked_at(programs, path):
-    """The sound in a file."""
-    words = ["ffprobe", "-v", "error", "-print_format", "json", "-show_format", "-show_streams", "-select_streams", "a"]
-    printed, said, status = programs.call([*words, f"file:{path}"])
+def text_of(tag: str) -> str:
+    """The text of a tag. One that is no UTF-8, as in old MP3 files, is taken for Windows-1252, which holds Latin-1."""
+    data = tag.encode("utf-8", "surrogateescape")
+    try:
+        return data.decode()
+    except UnicodeDecodeError:
+        return data.decode("cp1252", "replace")
+
+
+def number_of(text: object) -> float:
+    """A number of ffprobe; 0 where it tells none."""
+    try:
+        number = float(str(text))
+    except ValueError:
+        return 0.0
+    return number if math.isfinite(number) and number > 0 else 0.0
+
+
+def looked_at(programs: Programs, path: str) -> Told:
+    """The sound in a file; Broken where there is none that can be made."""
+    printed, said, status = programs.call([*WORDS, f"file:{path}"], programs.look)
     try:
         told = json.loads(printed or "{}")
     except ValueError:
@@ -93,80 +78,8 @@ def looked_at(programs, path):
         raise Broken(last_line(said, path) if said.strip() else "there is no sound in it")
     stream, whole = told["streams"][0], told.get("format", {})
     tags = {key.lower(): value for part in (whole, stream) for key, value in part.get("tags", {}).items()}
-    seconds = float(stream.get("duration") or whole.get("duration") or 0)
-    return Told(seconds, min(2, int(stream.get("channels") or 2)), tags.get("artist", ""), tags.get("title", ""))
-
-
-def most_seconds(rate, sides):
-    """How long a part may be at most."""
-    return (MOST - HEAD) // (2 * sides * rate)
-
-
-def pauses_of(programs, path):
-    """The middles of the pauses of a file, in seconds."""
-    words = ["ffmpeg", "-nostdin", "-hide_banner", "-i", f"file:{path}", "-map", "0:a:0", "-af",
-             f"silencedetect=noise={SOFT}:d={PAUSE}", "-f", "null", "-"]
-    said = programs.call(words)[1]
-    starts = [float(text) for text in re.findall(r"silence_start: (-?[\d.]+)", said)]
-    ends = [float(text) for text in re.findall(r"silence_end: ([\d.]+)", said)]
-    return [(start + end) / 2 for start, end in zip(starts, ends)]
-
-
-def cuts_of(seconds, most, pauses):
-    """Where a long sound is cut: in the last pause of the second half of what a part may hold, or where that ends."""
-    found, at = [], 0.0
-    while seconds - at > most:
-        within = [place for place in pauses if at + most / 2 < place <= at + most]
-        at = within[-1] if within else at + most
-        found.append(at)
-    return found
-
-
-def converted(programs, path, sound, rate, filter_words, place):
-    """Makes the WAV file of a sound in a folder, or several of a long one."""
-    most, cuts = most_seconds(rate, sound.sides), []
-    if sound.seconds > most:
-        cuts = cuts_of(sound.seconds, most - 1, pauses_of(programs, path))
-    words = ["ffmpeg", "-nostdin", "-hide_banner", "-v", "error", "-i", f"file:{path}", "-map", "0:a:0",
-             "-map_metadata", "-1", "-map_chapters", "-1", "-ac", str(sound.sides),
-             "-af", f"aresample={rate}{filter_words}:dither_method=triangular", "-ar", str(rate), "-c:a", "pcm_s16le",
-             "-fflags", "+bitexact", "-flags:a", "+bitexact"]
-    if cuts:
-        times = ",".join(f"{cut:.3f}" for cut in cuts)
-        words += ["-f", "segment", "-segment_times", times, "-segment_format", "wav", os.path.join(place, "%03d.wav")]
-    else:
-        words += ["-f", "wav", os.path.join(place, "000.wav")]
-    _, said, status = programs.call(words)
-    for text, number in FULL.items():
-        if text in said:
-            raise OSError(number, text, os.path.dirname(place))
-    if status != 0:
-        raise Broken(last_line(said, path))
-    parts = [os.path.join(place, name) for name in sorted(os.listdir(place))]
-    seconds = sum(map(frames_of, parts)) / rate
-    if seconds == 0:
-        raise Broken("there is no sound in it")
-    if any(os.path.getsize(part) > MOST for part in parts):
-        raise Broken(f"it lasts {seconds / 60:.0f} minutes, and its length was not told: cut it")
-    return Made(parts, remark_on(seconds, sound.seconds, said, path))
-
-
-def frames_of(path):
-    """How many instants a WAV file has, which has to be whole."""
-    try:
-        with open(path, "rb") as file:
-            head = file.read(8)
-        frames = Sound(path).frames
-    except NoSound:
-        raise Broken("ffmpeg wrote no WAV file") from None
-    if int.from_bytes(head[4:], "little") + 8 != os.path.getsize(path):
-        raise Broken("ffmpeg wrote no whole WAV file")
-    return frames
-
-
-def remark_on(seconds, told, said, path):
-    """What is to be known of a file that was made of a sound that is told to last so long."""
-    if told and seconds < 0.98 * told - SLACK:
-        why = f" ({last_line(said, path)})" if said.strip() else ""
-        return f"damaged: {seconds:.1f} s of {told:.1f} s are played{why}"
-    return ""
+    texts = {name: next((text_of(tags[key]) for key in keys if tags.get(key)), "") for name, keys in TAGS.items()}
+    seconds = number_of(stream.get("duration")) or number_of(whole.get("duration"))
+    if seconds > DAY:
+        raise Broken(f"it tells {seconds / 3600:.0f} hours, and a sound may last {DAY // 3600}")
+    return Told(seconds, min(2, int(number_of(stream.get("channels"))) or 2), **texts)

@@ -1,20 +1,24 @@
 """One run: what is there already, what is made, several at once, and what is told of it."""
 import collections
 import concurrent.futures
+import contextlib
 import errno
 import fcntl
 import os
 import re
 import shutil
-import sys
-import time
 from dataclasses import dataclass
+from typing import Dict, List, Optional, Tuple
 
-from preparing import lists, names, sounds, sources
-from preparing.record import NAME, Foreign, Record, state_of
+from preparing import lists, names, sounds, sources, waves
+from preparing.programs import Broken, Programs
+from preparing.progress import Progress
+from preparing.record import NAME, ROOM, Foreign, Record
+from reading.companion import Companion
+from reading.facts import Facts
+from reading.heads import heads_of
 from watching.names import shown
 
-ROOM = ".prepare"      # the folder below OUT in which sounds are made
 AHEAD = 2              # so many sounds for each job are begun before the first one is put in its place
 
 
@@ -33,24 +37,6 @@ class Size:
     seconds: float
 
 
-class Progress:
-    """A line on a terminal that says how far it has come; nothing elsewhere."""
-
-    def __init__(self, count):
-        self.count, self.done, self.begin, self.is_on = count, 0, time.monotonic(), sys.stderr.isatty()
-
-    def step(self):
-        self.done += 1
-        if self.is_on:
-            left = int((time.monotonic() - self.begin) * (self.count - self.done) / self.done)
-            text = f"\r{self.done} of {self.count} sounds, {left // 60}:{left % 60:02} left\033[K"
-            print(text, end="", file=sys.stderr, flush=True)
-
-    def clear(self):
-        if self.is_on:
-            print("\r\033[K", end="", file=sys.stderr, flush=True)
-
-
 class Taken:
     """The names that are no more free for a source which had some before."""
 
@@ -67,12 +53,14 @@ class Taken:
 class Work:
     """The making of sounds below a folder, in which one run may be at work at a time."""
 
-    def __init__(self, out, rate, programs):
-        self.out, self.rate, self.programs = out, rate, programs
-        self.made, self.kept, self.told = 0, 0, []
+    def __init__(self, out: str, form: waves.Form, programs: Programs, companion: Companion):
+        self.out, self.form, self.programs, self.companion = out, form, programs, companion
+        self.made, self.kept, self.left = 0, 0, 0
+        self.told: List[str] = []                           # of sounds that are left out or damaged, and of what was changed
+        self.written: List[str] = []
         self.lock = locked(out)
         try:
-            self.record = Record(out, rate)
+            self.record = Record(out, form)
         except Foreign:
             path = shown(os.path.join(out, NAME))
             raise Failed(f"{path}: is no record of prepare; name a new folder", 4) from None
@@ -80,27 +68,31 @@ class Work:
         shutil.rmtree(self.room, ignore_errors=True)        # what a run that was killed left
         os.mkdir(self.room)
 
-    def end(self):
+    def end(self) -> None:
         """Ends what is still running, and clears the folder."""
         self.programs.end()
         shutil.rmtree(self.room, ignore_errors=True)
         self.record.close()
         os.close(self.lock)
 
-    def tell(self, source, text):
-        self.told.append(f"{shown(source)}: {text}")
+    def tell(self, source: str, text: object) -> None:
+        self.told.append(f"{shown(source)}: {shown(str(text))}")
 
-    def make(self, number, path, filter_words):
-        """Makes the files of a sound in a folder of its own: the sound, and what was made; or nothing, and why not."""
+    def make(self, number: int, path: str, fine: str):
+        """Makes the files of a sound in a folder of its own: the sound, what was made, and the state of the file; or why
+        not."""
         place = os.path.join(self.room, str(number))
         os.mkdir(place)
         try:
-            sound = sounds.looked_at(self.programs, path)
-            return sound, sounds.converted(self.programs, path, sound, self.rate, filter_words, place)
-        except sounds.Broken as error:
-            return None, error
+            return waves.made_of(self.programs, path, self.form, fine, place)
+        except Broken as error:
+            return error
+        except FileNotFoundError as error:                  # it has just gone
+            if error.filename == path:
+                return error.strerror
+            raise
 
-    def names_for(self, source, taken, count):
+    def names_for(self, source: str, taken, count: int) -> List[str]:
         """The names of the parts of a source: those that it had before, or new ones."""
         old = self.record.sources.get(source, {}).get("parts", [])
         wanted = re.sub(r"( part \d+)?\.wav$", ".wav", old[0]) if old else names.new_path(source)
@@ -109,47 +101,72 @@ class Work:
         one = [wanted] if count == 1 else [f"{front} part {k + 1:02}.wav" for k in range(count)]
         return [names.free(name, Taken(taken, self.record, set(old)), ending) for name in one]
 
-    def finish(self, number, source, path, result, taken):
+    def finish(self, number: int, source: str, result, taken) -> None:
         """Puts what was made of a source at its names."""
-        sound, made = result
-        if sound is None:
-            self.tell(source, f"left out: {made}")
+        if not isinstance(result, tuple):
+            self.leave_out(source, result)
         else:
+            sound, made, state = result
             new = self.names_for(source, taken, len(made.parts))
             taken.update(new)
-            for name, part in zip(new, made.parts):
-                self.record.put(name, part)
-            self.record.told_of(source, {"state": state_of(path), "rate": self.rate, "sides": sound.sides, "parts": new,
-                                         "artist": sound.artist, "title": sound.title, "remark": made.remark})
+            form = {"rate": self.form.rate, "loudness": self.form.loudness, "whole": self.form.whole}
+            told = {"state": state, **form, "sides": sound.sides, "parts": new, **sound.texts(), "remark": made.remark}
+            self.record.put(list(zip(new, made.parts)), (source, told))
             self.made += 1
         shutil.rmtree(os.path.join(self.room, str(number)), ignore_errors=True)
 
-    def look(self, found):
+    def leave_out(self, source: str, why: object) -> None:
+        """Tells why nothing is made of a source; what was made before is played as long as it is whole."""
+        self.tell(source, f"left out: {why}")
+        parts = self.record.sources.get(source, {}).get("parts", [])
+        if any(self.record.is_cut(part) or not os.path.exists(self.record.at(part)) for part in parts):
+            del self.record.sources[source]
+
+    def is_kept(self, source: str, told: dict) -> bool:
+        """Whether all that was made of a source is there. What was cut is made again, and so is what is gone; what
+        somebody changed stays, and is told."""
+        changed = [part for part in told["parts"] if not self.record.is_made(part)]
+        for part in changed:
+            path = self.record.at(part)
+            if self.record.is_own(part) or not os.path.lexists(path):
+                return False
+            if self.record.is_cut(part):
+                self.tell(path, "was cut; it is made again")
+                return False
+            if not self.is_sound(path):
+                self.tell(path, "changed by somebody, and no sound: left as it is, and made again under another name")
+                return False
+        for part in changed:
+            self.tell(self.record.at(part), "changed by somebody: left as it is")
+        return True
+
+    def look(self, found) -> Tuple[list, set]:
         """The sources that are to be made, and the names that the others have."""
         todo, taken = [], set()
         for source, path in dict(found).items():
             trouble = sources.trouble_of(path)
-            kept = None if trouble else self.record.kept(source, path)
             if trouble:
-                self.tell(source, f"left out: {trouble}")
-            elif kept:
+                self.leave_out(source, trouble)
+                continue
+            kept = self.record.kept(source, path)
+            if kept and self.is_kept(source, kept):
                 self.kept += 1
                 taken.update(kept["parts"])
             else:
                 todo.append((source, path))
         return todo, taken
 
-    def run(self, found, jobs):
+    def run(self, found, jobs: int) -> None:
         """Makes what is not there yet, several at once."""
         todo, taken = self.look(found)
         if not todo:
             return
-        filter_words = sounds.filter_of(self.programs)
+        fine = waves.filter_of(self.programs)
         progress, running = Progress(len(todo)), collections.deque()
         with concurrent.futures.ThreadPoolExecutor(jobs) as pool:
             try:
                 for number, (source, path) in enumerate(todo):
-                    running.append((number, source, path, pool.submit(self.make, number, path, filter_words)))
+                    running.append((number, source, pool.submit(self.make, number, path, fine)))
                     if len(running) == AHEAD * jobs:
                         self.next_one(running, taken, progress)
                 while running:
@@ -160,62 +177,103 @@ class Work:
             finally:
                 progress.clear()
 
-    def next_one(self, running, taken, progress):
+    def next_one(self, running, taken, progress: Progress) -> None:
         """Waits for the sound that was begun first."""
-        number, source, path, future = running.popleft()
-        self.finish(number, source, path, future.result(), taken)
+        number, source, future = running.popleft()
+        self.finish(number, source, future.result(), taken)
         progress.step()
 
-    def parts(self, source):
-        """What was made of a source: the entries of a list."""
-        return [os.path.join(self.out, part) for part in self.record.sources.get(source, {}).get("parts", [])]
+    def is_sound(self, path: str) -> bool:
+        """Whether a file is a WAV file with sound in it."""
+        return path in heads_of(self.companion, [path])
 
-    def sizes(self, found):
-        """The sizes of all that was made of these sources."""
+    def parts(self, source: str) -> List[str]:
+        """What was made of a source: the entries of a list."""
+        return [self.record.at(part) for part in self.record.sources.get(source, {}).get("parts", [])]
+
+    def sizes(self, found) -> Dict[str, Size]:
+        """The sizes of all that was made of these sources, as far as it is there."""
         sizes = {}
         for source in dict(found):
             sides = self.record.sources.get(source, {}).get("sides", 2)
             for entry in self.parts(source):
                 size = os.path.getsize(entry)
-                sizes[entry] = Size(size, max(0, size - 44) / (2 * sides * self.rate))
+                sizes[entry] = Size(size, max(0, size - waves.HEADER) / (2 * sides * self.form.rate))
         return sizes
 
-    def write(self, name, lines):
+    def write(self, name: str, lines: List[str]) -> None:
         """Writes a text below the folder, but over nothing of others, and only where it is another one."""
-        data, target = "".join(line + "\n" for line in lines).encode(), os.path.join(self.out, name)
+        data, target = "".join(line + "\n" for line in lines).encode(), self.record.at(name)
+        self.written.append(name)
         if not self.record.is_free(name):
+            self.left += 1
             self.tell(target, "left as it is, since it was changed or made by somebody else")
             return
-        if os.path.exists(target) and content(target) == data:
+        if self.record.is_made(name) and content(target) == data:
             return
         path = os.path.join(self.room, "text")
         with open(path, "wb") as file:
             file.write(data)
-        self.record.put(name, path)
+        self.record.put([(name, path)])
 
-    def write_lists(self, found, seed, whole, has_folders):
-        """Writes the lists and the titles; answers a line for each list, and the size of all."""
+    def artist(self, source: str) -> str:
+        return self.record.sources.get(source, {}).get("artist", "").casefold()
+
+    def write_lists(self, found, seed: Optional[int], whole: str, has_folders: bool, limits: Facts):
+        """Writes the lists and the titles; answers a line for each list, by the limits of liq, and the size of all."""
         for source in dict(found):
             remark = self.record.sources.get(source, {}).get("remark")
             if remark:
                 self.tell(source, remark)
         sizes, lines = self.sizes(found), []
-        for name, members in lists.lists_of(found, seed, whole, has_folders).items():
+
+        def mixed(members):
+            return members if seed is None else names.mixed(members, seed, self.artist)
+        for name, members in lists.lists_of(found, whole, has_folders, mixed).items():
             entries = [entry for member in members for entry in self.parts(member)]
             self.write(name, entries)
-            lines.append(lists.line_of(os.path.join(self.out, name), entries, sizes, self.rate))
+            lines.append(lists.line_of(self.record.at(name), entries, sizes, self.form.rate, limits))
         known = [(source, self.record.sources.get(source)) for source in dict(found)]
-        self.write(lists.TITLES, [line for source, told in known if told and told["title"]
+        self.write(lists.TITLES, [line for source, told in known if told and any(told.get(text) for text in sounds.TAGS)
                                   for line in lists.titles_of(told, self.parts(source))])
         return lines, Size(sum(size.bytes for size in sizes.values()), sum(size.seconds for size in sizes.values()))
 
+    def long_ones(self, found) -> List[str]:
+        """A line for each sound that had to be cut."""
+        lines = []
+        for source in dict(found):
+            told = self.record.sources.get(source, {"parts": []})
+            if len(told["parts"]) > 1:
+                most = self.form.seconds(told["sides"])
+                lines.append(f"{shown(source)}: longer than liq reads ({most // 60}:{most % 60:02}), so it is in "
+                             f"{len(told['parts'])} parts; a crossfade would mix the end of one into the next")
+        return lines
 
-def content(path):
+    def gone(self, found) -> List[str]:
+        """The sources that are no more there."""
+        return sorted(self.record.sources.keys() - dict(found).keys())
+
+    def prune(self, found) -> int:
+        """Removes what was made of sources that are no more there, and lists that are no more written, as far as nobody
+        changed them; how many files."""
+        for source in self.gone(found):
+            del self.record.sources[source]
+        wanted = {part for told in self.record.sources.values() for part in told["parts"]} | set(self.written)
+        removed = [name for name in sorted(self.record.made.keys() - wanted) if self.record.remove(name)]
+        for folder in sorted({os.path.dirname(name) for name in removed}, reverse=True):
+            while folder:
+                with contextlib.suppress(OSError):          # it holds something else
+                    os.rmdir(self.record.at(folder))
+                folder = os.path.dirname(folder)
+        return len(removed)
+
+
+def content(path: str) -> bytes:
     with open(path, "rb") as file:
         return file.read()
 
 
-def locked(out):
+def locked(out: str) -> int:
     """A handle by which no other run is at work in a folder, where its disk knows locks."""
     handle = os.open(out, os.O_RDONLY | os.O_DIRECTORY)
     try:

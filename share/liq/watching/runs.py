@@ -1,4 +1,5 @@
 """A run of the program that is watched."""
+import os
 import selectors
 import signal
 import subprocess
@@ -8,19 +9,36 @@ from watching.progress import Writing
 
 PAUSE = 0.2            # seconds between two looks
 ENDING = (signal.SIGINT, signal.SIGTERM, signal.SIGHUP)
+SET_END = 1            # PR_SET_PDEATHSIG of prctl(2)
+
+
+def starter(ends_with_us):
+    """What a child does before it becomes the program: a broken pipe ends it and, where that is wanted, so does the end
+    of this process, also by a signal that it cannot hear."""
+    if not ends_with_us:
+        return lambda: signal.signal(signal.SIGPIPE, signal.SIG_DFL)
+    import ctypes
+    prctl, parent = ctypes.CDLL(None).prctl, os.getpid()
+
+    def start():
+        signal.signal(signal.SIGPIPE, signal.SIG_DFL)
+        prctl(SET_END, int(signal.SIGKILL), 0, 0, 0)
+        if os.getppid() != parent:         # it has ended already
+            os.kill(os.getpid(), signal.SIGKILL)
+    return start
 
 
 class Run:
     """A run: what it prints and says, and how it ended. Signals that end this process end the program, and are noted; one
     that this process was told to ignore, as by nohup, stays ignored in both."""
 
-    def __init__(self, words, takes_output, seen=lambda writing: None, clear=lambda: None, **more):
+    def __init__(self, words, takes_output, seen=lambda writing: None, clear=lambda: None, ends_with_us=False, **more):
         self.said, self.printed, self.stopped, self.child = b"", b"", None, None
         heard = [number for number in ENDING if signal.getsignal(number) != signal.SIG_IGN]
         old = {number: signal.signal(number, self.stop) for number in heard}
         try:
             self.child = subprocess.Popen(words, stdin=None, stdout=subprocess.PIPE if takes_output else None, stderr=subprocess.PIPE,
-                                          restore_signals=False, preexec_fn=lambda: signal.signal(signal.SIGPIPE, signal.SIG_DFL), **more)
+                                          restore_signals=False, preexec_fn=starter(ends_with_us), **more)
             if self.stopped:       # it came before there was a program to send it to
                 self.child.send_signal(self.stopped)
             self.writing = Writing(self.child.pid)

@@ -8,7 +8,7 @@ LINE = f'style=dotted, color="{COLOUR}", arrowhead=none'
 
 
 def label(texts):
-    """The lines of a note; no text of `week_program` has a sign that graphviz takes for its own."""
+    """The lines of a note; no text of `week` has a sign that graphviz takes for its own."""
     return "\\n".join(line for text in texts for line in textwrap.wrap(text, WIDTH))
 
 

@@ -16,8 +16,8 @@ use Rattle.script_grammar.specs.declared.tree.Product as product
 use Rattle.script_grammar.specs.declared.tree.Sum as sum
 use Rattle.script_values.specs.Outcomes.{◌>>=◌, Outcome}
 use Rattle.script_values.specs.declared.slots.Slot.{Slot}
-use Rattle.script_values.specs.declared.fault.Fault.{Fault}
-use Rattle.script_values.specs.declared.fault.Fault.TheVariants.{Stuck}
+use Rattle.script_values.specs.declared.fault.Stop.{Stop}
+use Rattle.script_values.specs.declared.fault.Stop.TheVariants.{Stuck}
 use Rattle.script_values.specs.declared.value.Value.{Value as AValue}
 use Rattle.script_values.specs.declared.machine.Machine.{Machine}
 use Rattle.script_values.specs.Gives.{Gives}
@@ -205,10 +205,10 @@ pub values::fulls-returns : goal.values::fulls-returns
 values::fulls-returns t c = ends view_full (meaning.fulls (scope_of c.args.scope.now)) c.args.parts.now c.turns.part-index (map view_value c.turns.values.items) c.turns.machine (meaning.fulls (scope_of c.args.scope.now) (listed (map view_full c.args.parts.now)) [] c.args.machine.now) c.turns.invariant c.turns-test.false ∙ fulls_none (scope_of c.args.scope.now) (map view_value c.turns.values.items) c.turns.machine
 
 pub calls::arguments-turns-preserved : goal.calls::arguments-turns-preserved
-calls::arguments-turns-preserved t c = turn view_arg (arguments_steps (scope_of c.args.scope.now)) c.args.args.now c.turns.arg-index c.arg-item.result (map view_given c.turns.given.items) (map view_given c.kept_argument.new.given.items) c.turns.machine c.put_full.new.machine (meaning.arguments (scope_of c.args.scope.now) (listed (map view_arg c.args.args.now)) [] c.args.machine.now) c.turns.invariant c.turns-test.true c.arg-item.is (ap (λ (o : Result (Argument × Machine) Fault). o >>= with_last (map view_given c.turns.given.items)) (argued_means (scope_of c.args.scope.now) c.arg-item.result c.turns.machine) ∙ kept_on (λ v. (c.arg-item.result.label, v)) c.put_full.new.out c.kept_argument.new.out (map view_given c.turns.given.items) (map view_given c.kept_argument.new.given.items) c.put_full.new.machine (meaning.full (scope_of c.args.scope.now) (view_full c.arg-item.result.value) c.turns.machine) c.put_full.ensures (rw c.if-not-kept_argument.false at c.kept_argument.ensures))
+calls::arguments-turns-preserved t c = turn view_arg (arguments_steps (scope_of c.args.scope.now)) c.args.args.now c.turns.arg-index c.arg-item.result (map view_given c.turns.given.items) (map view_given c.kept_argument.new.given.items) c.turns.machine c.put_full.new.machine (meaning.arguments (scope_of c.args.scope.now) (listed (map view_arg c.args.args.now)) [] c.args.machine.now) c.turns.invariant c.turns-test.true c.arg-item.is (ap (λ (o : Result (Argument × Machine) Stop). o >>= with_last (map view_given c.turns.given.items)) (argued_means (scope_of c.args.scope.now) c.arg-item.result c.turns.machine) ∙ kept_on (λ v. (c.arg-item.result.label, v)) c.put_full.new.out c.kept_argument.new.out (map view_given c.turns.given.items) (map view_given c.kept_argument.new.given.items) c.put_full.new.machine (meaning.full (scope_of c.args.scope.now) (view_full c.arg-item.result.value) c.turns.machine) c.put_full.ensures (rw c.if-not-kept_argument.false at c.kept_argument.ensures))
 
 pub calls::arguments-returns-then-not-kept_argument : goal.calls::arguments-returns-then-not-kept_argument
-calls::arguments-returns-then-not-kept_argument t c = failed_stops view_arg (arguments_steps (scope_of c.args.scope.now)) c.args.args.now c.turns.arg-index c.arg-item.result (map view_given c.turns.given.items) c.turns.machine (meaning.arguments (scope_of c.args.scope.now) (listed (map view_arg c.args.args.now)) [] c.args.machine.now) c.kept_argument.new.out c.turns.invariant c.turns-test.true c.arg-item.is (failed_same c.kept_argument.new.out _ _ (sym (ap (λ (o : Result (Argument × Machine) Fault). o >>= with_last (map view_given c.turns.given.items)) (argued_means (scope_of c.args.scope.now) c.arg-item.result c.turns.machine))) (kept_off (λ v. (c.arg-item.result.label, v)) c.put_full.new.out c.kept_argument.new.out (map view_given c.turns.given.items) (map view_given c.kept_argument.new.given.items) c.put_full.new.machine (meaning.full (scope_of c.args.scope.now) (view_full c.arg-item.result.value) c.turns.machine) c.put_full.ensures (rw c.if-not-kept_argument.true at c.kept_argument.ensures)))
+calls::arguments-returns-then-not-kept_argument t c = failed_stops view_arg (arguments_steps (scope_of c.args.scope.now)) c.args.args.now c.turns.arg-index c.arg-item.result (map view_given c.turns.given.items) c.turns.machine (meaning.arguments (scope_of c.args.scope.now) (listed (map view_arg c.args.args.now)) [] c.args.machine.now) c.kept_argument.new.out c.turns.invariant c.turns-test.true c.arg-item.is (failed_same c.kept_argument.new.out _ _ (sym (ap (λ (o : Result (Argument × Machine) Stop). o >>= with_last (map view_given c.turns.given.items)) (argued_means (scope_of c.args.scope.now) c.arg-item.result c.turns.machine))) (kept_off (λ v. (c.arg-item.result.label, v)) c.put_full.new.out c.kept_argument.new.out (map view_given c.turns.given.items) (map view_given c.kept_argument.new.given.items) c.put_full.new.machine (meaning.full (scope_of c.args.scope.now) (view_full c.arg-item.result.value) c.turns.machine) c.put_full.ensures (rw c.if-not-kept_argument.true at c.kept_argument.ensures)))
 
 pub calls::arguments-returns : goal.calls::arguments-returns
 calls::arguments-returns t c = ends view_arg (meaning.arguments (scope_of c.args.scope.now)) c.args.args.now c.turns.arg-index (map view_given c.turns.given.items) c.turns.machine (meaning.arguments (scope_of c.args.scope.now) (listed (map view_arg c.args.args.now)) [] c.args.machine.now) c.turns.invariant c.turns-test.false ∙ arguments_none (scope_of c.args.scope.now) (map view_given c.turns.given.items) c.turns.machine
@@ -220,7 +220,7 @@ values::put_full-returns-in-Some t c =
 pub bodies::inners-returns-in_err-slot : goal.bodies::inners-returns-in_err-slot
 bodies::inners-returns-in_err-slot t c =
     let p = err_from_is_err_and c.from_residual.result c.from_residual.ensures.1 in
-    rw (p.1, p.2) (stops view_inner (inners_steps (base_of c.args.scope.now)) c.args.bindings.now c.turns.binding-index c.binding-item.result (map view_slot c.turns.slots.items) c.turns.machine (meaning.inners (base_of c.args.scope.now) (listed (map view_inner c.args.bindings.now)) (map view_slot c.args.slots.now.items) c.args.machine.now) c.in_err-slot.field-0.0 c.turns.invariant c.turns-test.true c.binding-item.is (first_fails c.in_err-slot.field-0.0 (meaning.inner (base_of c.args.scope.now) (view_inner c.binding-item.result) (map view_slot c.deref.result.now) c.turns.machine) ((meaning.inner (base_of c.args.scope.now) (view_inner c.binding-item.result) (map view_slot c.turns.slots.items) c.turns.machine) >>= with_last (map view_slot c.turns.slots.items)) (with_last (map view_slot c.turns.slots.items)) (ap (λ (q : Result _ Fault). q >>= with_last (map view_slot c.turns.slots.items)) (ap (λ (l : List Slot). meaning.inner (base_of c.args.scope.now) (view_inner c.binding-item.result) (map view_slot l) c.turns.machine) (sym c.deref.ensures.value))) c.in_err-slot.ensures))
+    rw (p.1, p.2) (stops view_inner (inners_steps (base_of c.args.scope.now)) c.args.bindings.now c.turns.binding-index c.binding-item.result (map view_slot c.turns.slots.items) c.turns.machine (meaning.inners (base_of c.args.scope.now) (listed (map view_inner c.args.bindings.now)) (map view_slot c.args.slots.now.items) c.args.machine.now) c.in_err-slot.field-0.0 c.turns.invariant c.turns-test.true c.binding-item.is (first_fails c.in_err-slot.field-0.0 (meaning.inner (base_of c.args.scope.now) (view_inner c.binding-item.result) (map view_slot c.deref.result.now) c.turns.machine) ((meaning.inner (base_of c.args.scope.now) (view_inner c.binding-item.result) (map view_slot c.turns.slots.items) c.turns.machine) >>= with_last (map view_slot c.turns.slots.items)) (with_last (map view_slot c.turns.slots.items)) (ap (λ (q : Result _ Stop). q >>= with_last (map view_slot c.turns.slots.items)) (ap (λ (l : List Slot). meaning.inner (base_of c.args.scope.now) (view_inner c.binding-item.result) (map view_slot l) c.turns.machine) (sym c.deref.ensures.value))) c.in_err-slot.ensures))
 
 pub bodies::inners-turns-preserved : goal.bodies::inners-turns-preserved
 bodies::inners-turns-preserved t c = turn view_inner (inners_steps (base_of c.args.scope.now)) c.args.bindings.now c.turns.binding-index c.binding-item.result (map view_slot c.turns.slots.items) (map view_slot c.push.new.self.items) c.turns.machine c.inner.new.machine (meaning.inners (base_of c.args.scope.now) (listed (map view_inner c.args.bindings.now)) (map view_slot c.args.slots.now.items) c.args.machine.now) c.turns.invariant c.turns-test.true c.binding-item.is (went view_slot (meaning.inner (base_of c.args.scope.now) (view_inner c.binding-item.result) (map view_slot c.turns.slots.items) c.turns.machine) c.turns.slots.items c.push.new.self.items c.in_ok-slot.slot c.inner.new.machine (ap (λ (l : List Slot). meaning.inner (base_of c.args.scope.now) (view_inner c.binding-item.result) (map view_slot l) c.turns.machine) (sym c.deref.ensures.value) ∙ c.in_ok-slot.ensures) c.in_ok-push.ensures.items)
@@ -258,7 +258,7 @@ bodies::parameters-returns t c =
     let same =
     parameters_filled (base_of c.args.scope.now) (listed (map view_param c.args.params.now)) (map view_given c.args.given.items) [] c.args.machine.now
     ∙ ap (λ (os : List (Option Value)). all_filled (base_of c.args.scope.now) (listed (map view_param c.args.params.now)) os [] c.args.machine.now) (sym c.in_ok-taken.ensures) in
-    subst (λ (r : Result (List (ℕ × Value) × Machine) Fault). Gives (λ (v : Vec Slot). (map view_slot v.items, c.filled_parameters.new.machine)) c.filled_parameters.result r) (sym same) c.filled_parameters.ensures
+    subst (λ (r : Result (List (ℕ × Value) × Machine) Stop). Gives (λ (v : Vec Slot). (map view_slot v.items, c.filled_parameters.new.machine)) c.filled_parameters.result r) (sym same) c.filled_parameters.ensures
 
 pub calls::call_def-returns-then-scope-eq0 : goal.calls::call_def-returns-then-scope-eq0
 calls::call_def-returns-then-scope-eq0 t c = calls_end (world_of c.args.scope.now) c.args.scope.now.calls c.args.at c.args.kinds.now (map view_given c.args.given.items) c.args.machine.now (omega arith)

@@ -1,7 +1,7 @@
 use Rattle.std.proofs.Common.{rules, arith, ◌≡◌, ◌∙◌, sym, ap, subst, refl, ℕ, ◌++◌, ◌∷◌, map, [], false, Some, None}
 use Rattle.std.proofs.lemmas.List.{map-append}
 use Rattle.std.specs.Prelude.{option_map}
-use Rattle.script_grammar.specs.Tree.{Quoted, Truth, Called, Chosen, Nothing, Paren, Plain, Braces, Format}
+use Rattle.script_grammar.specs.Tree.{Quoted, Truth, Called, Chosen, Nothing, Paren, Plain, Braces, PlaceFormat}
 use Rattle.script_grammar.specs.View.{listed, view_added, view_and, view_arg, view_call, view_expr, view_full, view_if, view_multiplied, view_not, view_por, view_operand, view_product, view_sum}
 use Rattle.script_grammar.specs.declared.tree.Added.{out-Added, size-Added}
 use Rattle.script_grammar.specs.declared.tree.And.{size-And, size_is-And}
@@ -650,7 +650,7 @@ values::type_operand-returns-in_ok-n-in-Braces-clause-order t c =
 
 pub values::type_operand-returns-in_ok-n-in-Wav-clause-typed : goal.values::type_operand-returns-in_ok-n-in-Wav-clause-typed
 values::type_operand-returns-in_ok-n-in-Wav-clause-typed t c =
-    rw c.in-Wav.is (leaf_infers c.args.subst.now c.new_type-in-Wav.new.subst (env_of c.args.names) (Format c.in-Wav.at c.in-Wav.size) base.Format c.in_ok-n-in-Wav.n (founds c.args.uses.now.items) (λ z. refl) (λ z g h. h) c.requires.seen.over c.requires.seen.uses_over (subst (λ (u : Term). Defines c.args.subst.now c.new_type-in-Wav.new.subst c.in_ok-n-in-Wav.n u) (term_Format ty.Format refl) c.in_ok-n-in-Wav.ensures))
+    rw c.in-Wav.is (leaf_infers c.args.subst.now c.new_type-in-Wav.new.subst (env_of c.args.names) (PlaceFormat c.in-Wav.at c.in-Wav.size) base.Format c.in_ok-n-in-Wav.n (founds c.args.uses.now.items) (λ z. refl) (λ z g h. h) c.requires.seen.over c.requires.seen.uses_over (subst (λ (u : Term). Defines c.args.subst.now c.new_type-in-Wav.new.subst c.in_ok-n-in-Wav.n u) (term_Format ty.Format refl) c.in_ok-n-in-Wav.ensures))
 
 pub values::type_operand-returns-in_ok-n-in-Wav-clause-order : goal.values::type_operand-returns-in_ok-n-in-Wav-clause-order
 values::type_operand-returns-in_ok-n-in-Wav-clause-order t c =

@@ -16,7 +16,7 @@ pub returns-in_err-rendered-clause-part : goal.returns-in_err-rendered-clause-pa
 returns-in_err-rendered-clause-part g c =
     let p = err_from_is_err_and c.from_residual.result c.from_residual.ensures.1 in rw p.1
     (λ station first same ran none whole files at.
-    inl (some_written g.S.Out.Sink.told station first _ _ same c.args.order.now (lists_of c.args.groups.items) _ ran (λ device. inl none) c.close_each-closed.ensures.shelf.created_kept c.close_each-closed.ensures.closed
+    inl (some_written g.S.Out.Sink.told station first _ _ same c.args.order.now (lists_of c.args.groups.items) _ ran (inl none) (λ device. inl none) c.close_each-closed.ensures.shelf.created_kept c.close_each-closed.ensures.closed
     (c.close_each-closed.ensures.part (c.is_ok.ensures.value ∙ ap is_ok c.in_err-rendered.was)) files at))
 
 pub returns-in_err-closed-clause-part : goal.returns-in_err-closed-clause-part
@@ -26,7 +26,7 @@ returns-in_err-closed-clause-part g c =
     (λ station first same ran none whole files at.
     inr (ends_written g.S.Out.Sink.told station first _ _ same c.args.order.now (lists_of c.args.groups.items) c.in_ok-rendered.rendered
     (subst (λ (r : Result Rendered RenderFault). IfOk r (RanWhole g.S.Out.Sink.told first station c.args.order.now (lists_of c.args.groups.items))) is whole)
-    (c.in_err-closed.ensures.ends (c.is_ok.ensures.value ∙ ap is_ok is)) files at))
+    ran none c.close_each-closed.ensures.shelf.created_kept (c.in_err-closed.ensures.ends (c.is_ok.ensures.value ∙ ap is_ok is)) files at))
 
 pub returns-clause-done : goal.returns-clause-done
 returns-clause-done g c = λ station first same few whole.

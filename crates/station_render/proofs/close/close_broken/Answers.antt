@@ -7,8 +7,8 @@ pub close_each-closed-requires-clause-rooms : goal.close_each-closed-requires-cl
 close_each-closed-requires-clause-rooms g c = λ κs lives well. absurd (true≢false (sym well))
 
 pub returns-clause-part : goal.returns-clause-part
-returns-clause-part g c = λ station first same ran risen files at.
-    inl (some_written g.S.Out.Sink.told station first _ _ same c.args.order.now (lists_of c.args.groups.items) _ ran
+returns-clause-part g c = λ station first same ran idle risen files at.
+    inl (some_written g.S.Out.Sink.told station first _ _ same c.args.order.now (lists_of c.args.groups.items) _ ran (inr idle)
     (λ device. with_failed (risen device) c.close_each-closed.ensures.failed)
     c.close_each-closed.ensures.shelf.created_kept c.close_each-closed.ensures.closed (c.close_each-closed.ensures.part refl) files at)
 

@@ -16,12 +16,14 @@ pub returns-in_err-create_each-clause-part : goal.returns-in_err-create_each-cla
 returns-in_err-create_each-clause-part g c =
     let p = err_from_is_err_and c.from_residual.result c.from_residual.ensures.1 in rw p.1
     (λ way may.
-    let none = not_begun (setting_for c.args.job.now.plan.now c.args.job.now.ready.now.library c.args.job.now.ready.now.clocks c.args.job.now.start.second) c.args.job.now.ready.now.clocks.running c.args.job.now.ticks way may in
-    record {
-      run = none.run;
-      begun = none.begun;
-      parts = c.create_each.ensures.begun c.args.job.now.ready.now.library c.args.job.now.start.second (answers_with way none.run) _ _ none.none;
-    })
+    let none = not_begun (setting_for c.args.job.now.plan.now c.args.job.now.ready.now.library c.args.job.now.ready.now.clocks c.args.job.now.start.second) c.args.job.now.ready.now.clocks.running c.args.job.now.ticks way may in (
+      record {
+        run = none.run;
+        begun = none.begun;
+        parts = c.create_each.ensures.begun c.args.job.now.ready.now.library c.args.job.now.start.second (answers_with way none.run) _ _ none.none;
+      },
+      none.none,
+    ))
 
 pub make_engines-requires-clause-sinks : goal.make_engines-requires-clause-sinks
 make_engines-requires-clause-sinks g c =
@@ -43,7 +45,7 @@ returns-in_err-make_engines-clause-part g c =
     subst (λ o. AreCreated (IsReady g.S.Out.Sink.told (g.S.Shelf.told c.args.shelf.now) setting c.args.job.now.ticks) (written c.args.job.now.plan.now.sinks) o (lists_of c.create_each.new.groups.items))
     order_is (c.in_ok-create_each.ensures.ready c.args.job.now.ready.now.library c.args.job.now.start.second) in
     rw p.1 (λ way may.
-    subst (λ (z : List ℕ × List (List (OutputSink g.row.S-Out.Denot))). RanPart g.S.Out.Sink.told (g.S.Shelf.told c.args.shelf.now) (station_in c.args.job.now way) z.0 z.1 (g.S.Shelf.told c.create_each.new.shelf).created)
+    subst (λ (z : List ℕ × List (List (OutputSink g.row.S-Out.Denot))). (ran : RanPart g.S.Out.Sink.told (g.S.Shelf.told c.args.shelf.now) (station_in c.args.job.now way) z.0 z.1 (g.S.Shelf.told c.create_each.new.shelf).created) × ((m : ℕ) → ran.begun.made m ≡ 0))
     (λ i. (sym order_is i, sym c.in_err-make_engines.ensures.back i))
     (starved c.args.job.now.plan.now c.args.job.now.ready.now.library c.args.job.now.ready.now.clocks c.args.job.now.start.second c.args.job.now.ticks g.S.Out.Sink.told (g.S.Shelf.told c.args.shelf.now)
     (lists_of c.create_each.new.groups.items) way (name_in c.args.job.now) c.args.job.now.cues may _ c.in_ok-create_each.ensures.made ready))

@@ -1,4 +1,4 @@
-use Rattle.std.proofs.Common.{◌≡◌, ◌∙◌, ap, arith, rules, inl, refl, sym, subst}
+use Rattle.std.proofs.Common.{◌≡◌, ◌∙◌, ℕ, ap, arith, rules, inl, refl, sym, subst}
 use Rattle.std.proofs.lemmas.Result.{err_from_is_err_and}
 use Rattle.std.specs.Prelude.{Err, []}
 use Rattle.std.specs.Option.{ForSome}
@@ -24,7 +24,7 @@ returns-in_err-groups-clause-part g c =
     let p = err_from_is_err_and c.from_residual.result c.from_residual.ensures.1 in rw (p.1, p.2)
     (λ way may.
     let none = not_begun (setting_by c.args.job.now) c.args.job.now.ready.now.clocks.running c.args.job.now.ticks way may in
-    λ files at. inl (none_written (station_in c.args.job.now way) none.run none.begun _ _ (omega arith) refl refl refl files at))
+    λ files at. inl (none_written (station_in c.args.job.now way) none.run none.begun none.none _ _ (omega arith) refl refl refl files at))
 
 pub returns-in_err-groups-clause-front : goal.returns-in_err-groups-clause-front
 returns-in_err-groups-clause-front g c = on_err_so _ _ (none_made _ _ _ refl refl)
@@ -47,7 +47,7 @@ returns-in-Ok-clause-shelf g c = record {
 
 pub close_broken-requires : goal.close_broken-requires
 close_broken-requires g c =
-    let ran = c.in-Err.ensures.part InRounds tt in (
+    let ran = (c.in-Err.ensures.part InRounds tt).0 in (
       search rules,
       subst (λ o. HaveSizes o (lists_of c.open_all.new.groups.items)) (sym c.deref.ensures.value)
           (sizes (IsPart g.S.Out.Sink.told (g.S.Shelf.told c.args.shelf.now) _ c.args.job.now.ticks ran.begun.made ran.begun.tried) ran.parts.created c.open_all.new.order.items (lists_of c.open_all.new.groups.items) (ran.parts.parts (λ buffer. []))),
@@ -56,9 +56,9 @@ close_broken-requires g c =
 pub returns-clause-part : goal.returns-clause-part
 returns-clause-part g c = λ way may.
     subst (λ e. ForSome (g.S.Shelf.told c.args.shelf.now).files (λ files. WrotePart (station_in c.args.job.now way) (is_device e) files (g.S.Shelf.told c.args.shelf.now) (g.S.Shelf.told c.close_broken.new.shelf))) (sym c.close_broken.ensures.same)
-    (c.close_broken.ensures.part (station_in c.args.job.now way) (g.S.Shelf.told c.args.shelf.now) c.open_all.ensures.shelf
-    (subst (λ o. RanPart g.S.Out.Sink.told (g.S.Shelf.told c.args.shelf.now) (station_in c.args.job.now way) o (lists_of c.open_all.new.groups.items)
-    (g.S.Shelf.told c.open_all.new.shelf).created) (sym c.deref.ensures.value) (c.in-Err.ensures.part way may))
+    (let ran = subst (λ o. (ran : RanPart g.S.Out.Sink.told (g.S.Shelf.told c.args.shelf.now) (station_in c.args.job.now way) o (lists_of c.open_all.new.groups.items)
+    (g.S.Shelf.told c.open_all.new.shelf).created) × ((m : ℕ) → ran.begun.made m ≡ 0)) (sym c.deref.ensures.value) (c.in-Err.ensures.part way may) in
+    c.close_broken.ensures.part (station_in c.args.job.now way) (g.S.Shelf.told c.args.shelf.now) c.open_all.ensures.shelf ran.0 ran.1
     (λ device. c.in-Err.ensures.cause (ap Err (device_is _ device))))
 
 pub returns-clause-cause : goal.returns-clause-cause
@@ -68,6 +68,6 @@ returns-clause-cause g c = λ e.
 
 pub returns-clause-front : goal.returns-clause-front
 returns-clause-front g c =
-    let ran = c.in-Err.ensures.part InRounds tt in
+    let ran = (c.in-Err.ensures.part InRounds tt).0 in
     front_closed g.S.Out.Sink.told (g.S.Shelf.told c.args.shelf.now) (g.S.Shelf.told c.open_all.new.shelf) (g.S.Shelf.told c.close_broken.new.shelf) (setting_by c.args.job.now) _ c.args.job.now.ticks ran.begun.made ran.begun.tried c.open_all.new.order.items _ (lists_of c.open_all.new.groups.items)
     c.deref.ensures.value c.open_all.ensures.shelf.closed_kept c.close_broken.ensures.shelf.created_kept ran.parts c.close_broken.ensures.closed

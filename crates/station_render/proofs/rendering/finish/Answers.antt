@@ -46,7 +46,8 @@ returns-in_err-leave_wanted g c =
     let sinks = c.args.job.now.plan.now.sinks in
     let wrote = c.in_ok-rendered.ensures.done way first kept may in
     broke_off station first (g.S.Shelf.told c.leave_wanted.new.shelf) _ _ refl
-    (later_part station first (g.S.Shelf.told c.close_outputs.new.shelf) c.in_ok-rendered.rendered wrote _ (g.S.Shelf.told c.leave_wanted.new.shelf) _ (later_are station first (g.S.Shelf.told c.close_outputs.new.shelf) c.in_ok-rendered.rendered wrote)
+    (later_part station first (g.S.Shelf.told c.close_outputs.new.shelf) c.in_ok-rendered.rendered wrote (c.close_outputs.ensures.shelf.created_kept ∙ kept.made) (cue_names_if c.args.job.now.cues sinks) _ (g.S.Shelf.told c.leave_wanted.new.shelf) c.leave_wanted.ensures.some.front _
+    (later_are station first (g.S.Shelf.told c.close_outputs.new.shelf) c.in_ok-rendered.rendered wrote)
     (part_first _ (g.S.Shelf.told c.leave_wanted.new.shelf).files _ _ _
     (subst (λ marks. ForSome (g.S.Shelf.told c.close_outputs.new.shelf).files (λ files. IsSomeAnd (g.S.Shelf.told c.leave_wanted.new.shelf).files (HoldsUpto files (cue_files_by c.args.job.now (cues_of marks))))) c.deref.ensures.value c.leave_wanted.ensures.some.part)))
     (λ e. rose_within _ _ _ _ low (omega arith) (c.in_err-leave_wanted.ensures.cause (cc)))
@@ -67,6 +68,7 @@ returns g c = λ way first is kept may.
     let closed = c.close_outputs.ensures.closed way first kept may in
     let low : first.writes ≤ (g.S.Shelf.told c.leave_wanted.new.shelf).writes = omega (arith, kept.writes_grew, c.close_outputs.ensures.shelf.writes_grew, c.leave_wanted.ensures.some.writes_grew) in
     let cues = subst (λ marks. ForSome (g.S.Shelf.told c.close_outputs.new.shelf).files (λ files. (g.S.Shelf.told c.leave_wanted.new.shelf).files ≡ Some (with_outputs files (cue_files_by c.args.job.now (cues_of marks))))) c.deref.ensures.value c.in_ok-leave_wanted.ensures.all.written in
+    let behind = then_front cue_names last_names (g.S.Shelf.told c.close_outputs.new.shelf) (g.S.Shelf.told c.leave_wanted.new.shelf) (g.S.Shelf.told c.leave_trace.new.shelf) c.in_ok-leave_wanted.ensures.all.made c.in_ok-leave_wanted.ensures.all.closes some.front in
     let listed = subst (λ marks. HaveListed (map closing_at_once (cue_files_by c.args.job.now (cues_of marks))) (g.S.Shelf.told c.close_outputs.new.shelf).closed (g.S.Shelf.told c.leave_wanted.new.shelf).closed) c.deref.ensures.value
     c.in_ok-leave_wanted.ensures.all.listed in
     record {
@@ -74,9 +76,9 @@ returns g c = λ way first is kept may.
           (on_ok c.leave_trace.result _ _ (λ w. w.written) all)
           (on_ok c.leave_trace.result _ _ (λ w. then_made (names_in sinks) (cue_names ++ last_names) _ _ _ made (then_made cue_names last_names _ _ _ c.in_ok-leave_wanted.ensures.all.made w.made)) all)
           listed (on_ok c.leave_trace.result _ _ (λ w. w.listed) all);
-      part = later_part station first (g.S.Shelf.told c.close_outputs.new.shelf) c.in_ok-rendered.rendered wrote _ (g.S.Shelf.told c.leave_trace.new.shelf) _ (later_are station first (g.S.Shelf.told c.close_outputs.new.shelf) c.in_ok-rendered.rendered wrote) (part_behind _ _ _ _ _ cues some.part);
+      part = later_part station first (g.S.Shelf.told c.close_outputs.new.shelf) c.in_ok-rendered.rendered wrote made (cue_names ++ last_names) _ (g.S.Shelf.told c.leave_trace.new.shelf) behind _ (later_are station first (g.S.Shelf.told c.close_outputs.new.shelf) c.in_ok-rendered.rendered wrote) (part_behind _ _ _ _ _ cues some.part);
       cause = λ e. rose_within _ _ _ _ low (omega arith) (c.leave_trace.ensures.cause e);
-      front = then_front (names_in sinks) (cue_names ++ last_names) first (g.S.Shelf.told c.close_outputs.new.shelf) (g.S.Shelf.told c.leave_trace.new.shelf) made closed (then_front cue_names last_names (g.S.Shelf.told c.close_outputs.new.shelf) (g.S.Shelf.told c.leave_wanted.new.shelf) (g.S.Shelf.told c.leave_trace.new.shelf) c.in_ok-leave_wanted.ensures.all.made c.in_ok-leave_wanted.ensures.all.closes some.front);
+      front = then_front (names_in sinks) (cue_names ++ last_names) first (g.S.Shelf.told c.close_outputs.new.shelf) (g.S.Shelf.told c.leave_trace.new.shelf) made closed behind;
       reads_grew = omega (arith, kept.reads_grew, c.close_outputs.ensures.shelf.reads_grew, c.leave_wanted.ensures.some.reads_grew, some.reads_grew);
       writes_grew = omega (arith, low, some.writes_grew);
     }

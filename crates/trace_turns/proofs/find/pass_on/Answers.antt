@@ -6,7 +6,7 @@ use Rattle.trace_turns.specs.Turns.{base_at, AreFit}
 use Rattle.trace_turns.proofs.Searching.{made_of, total, AreLive}
 use Rattle.trace_turns.specs.Live.{HasFlownOn, mains}
 use Rattle.trace_turns.proofs.Finding.{long_made, none_made, none_total, read_made}
-use Rattle.trace_turns.proofs.Living.{begin_live, few_live, flown_now, live_done, live_on, paused_now, unlost_now}
+use Rattle.trace_turns.proofs.Living.{begin_live, few_live, flown_now, live_done, live_on, paused_now, refused_now, unlost_now}
 use Rattle.trace_turns.specs.Timed.{timed}
 use Rattle.trace_turns.proofs.find.pass_on.Goals as goal
 
@@ -64,8 +64,8 @@ live_turn-requires-clause-turn c =
           c.loop-clock.lives.items c.loop-clock.made.items c.loop-clock.left c.loop-clock.turns.items c.loop-clock.taps.buffers.items c.loop-clock.invariant.live c.loop-clock.clock c.index_mut-live.result.now at c.index-from.result.now from c.requires.search.text.0 c.requires.search.text.1,
     )
 
-pub overflow_sub-left-in-Some : goal.overflow_sub-left-in-Some
-overflow_sub-left-in-Some c =
+pub overflow_sub-left-in-Made : goal.overflow_sub-left-in-Made
+overflow_sub-left-in-Made c =
     let live = c.loop-clock.invariant.live in
     let size = live.lives_size in
     let there : c.loop-clock.clock < length c.loop-clock.lives.items = omega (arith, size, c.loop-clock-test.true) in
@@ -73,25 +73,45 @@ overflow_sub-left-in-Some c =
     let long = live.size in
     let from : made_of c.loop-clock.made.items c.loop-clock.clock ≡ c.index-from.result.now =
     read_made c.loop-clock.made.items c.loop-clock.clock c.index-from.result.now c.index-from.ensures (omega (arith, long, c.loop-clock-test.true)) in
-    let on = c.in_ok-reached.ensures.on c.in-Some.count c.in-Some.is in
-    let far : made_of c.loop-clock.made.items c.loop-clock.clock ≤ c.in-Some.count = omega (arith, from, on) in
+    let on = c.in_ok-count.ensures.on c.in-Made.count c.in-Made.is in
+    let far : made_of c.loop-clock.made.items c.loop-clock.clock ≤ c.in-Made.count = omega (arith, from, on) in
     let flown : (text : ℕ → Log) → (fit : AreFit (base_at c.args.station.now) c.args.window c.args.ticks text c.args.taps.now.buffers.items c.args.ends.now)
-    → HasFlownOn (base_at c.args.station.now) (timed text c.args.window c.args.ticks) (mains c.args.sides.now.feeders.items c.args.sides.now.readers.items) c.loop-clock.clock c.in-Some.count c.live_turn.new.live.engine.parts c.live_turn.new.live.marks.items
+    → HasFlownOn (base_at c.args.station.now) (timed text c.args.window c.args.ticks) (mains c.args.sides.now.feeders.items c.args.sides.now.readers.items) c.loop-clock.clock c.in-Made.count c.live_turn.new.live.engine.parts c.live_turn.new.live.marks.items
     (live.waiting text fit).full c.live_turn.new.taps.buffers.items =
     λ text fit. flown_now (base_at c.args.station.now) c.args.station.now.clocks.now c.requires.search.setting c.args.window c.args.ticks c.args.sides.now.feeders.items c.args.sides.now.readers.items c.requires.search.sides c.args.ends.now c.args.taps.now.buffers.items
     c.loop-clock.lives.items c.loop-clock.made.items c.loop-clock.left c.loop-clock.turns.items c.loop-clock.taps.buffers.items c.loop-clock.invariant.live
-    c.loop-clock.clock c.index_mut-live.result.now at c.index-from.result.now from text fit c.in-Some.count c.live_turn.new.live c.live_turn.new.taps.buffers.items
-    (λ full now fills unlost paused. c.in_ok-reached.ensures.gone c.in-Some.count (base_at c.args.station.now) c.args.station.now.clocks.now text full c.in-Some.is c.requires.search.setting c.requires.search.sides now fills unlost paused) in
+    c.loop-clock.clock c.index_mut-live.result.now at c.index-from.result.now from text fit c.in-Made.count c.live_turn.new.live c.live_turn.new.taps.buffers.items
+    (λ full now fills unlost paused. c.in_ok-count.ensures.gone c.in-Made.count (base_at c.args.station.now) c.args.station.now.clocks.now text full c.in-Made.is c.requires.search.setting c.requires.search.sides now fills unlost paused) in
     let few = few_live (base_at c.args.station.now) c.args.station.now.clocks.now c.requires.search.setting c.args.window c.args.ticks c.args.sides.now.feeders.items c.args.sides.now.readers.items c.requires.search.sides c.args.ends.now c.args.taps.now.buffers.items
     c.loop-clock.lives.items c.loop-clock.made.items c.loop-clock.left c.loop-clock.turns.items c.loop-clock.taps.buffers.items c.loop-clock.invariant.live
-    c.loop-clock.clock c.loop-clock-test.true c.in-Some.count far (c.in_ok-reached.ensures.within c.in-Some.count c.in-Some.is) c.live_turn.new.live c.live_turn.new.taps.buffers.items c.note_turn.new.turns.items flown c.requires.search.text in
-    subst (λ n. c.in-Some.count - n ≤ c.loop-clock.left) from few
+    c.loop-clock.clock c.loop-clock-test.true c.in-Made.count far (c.in_ok-count.ensures.within c.in-Made.count c.in-Made.is) c.live_turn.new.live c.live_turn.new.taps.buffers.items c.note_turn.new.turns.items flown c.requires.search.text in
+    subst (λ n. c.in-Made.count - n ≤ c.loop-clock.left) from few
 
-pub returns-in-None-clause-fit : goal.returns-in-None-clause-fit
-returns-in-None-clause-fit c = λ text fit. c.in_ok-reached.ensures.fit (base_at c.args.station.now) text (c.loop-clock.invariant.live.fit text fit)
+pub returns-in-Refused-clause-none : goal.returns-in-Refused-clause-none
+returns-in-Refused-clause-none c = λ e text fit ordered.
+    let live = c.loop-clock.invariant.live in
+    let size = live.lives_size in
+    let there : c.loop-clock.clock < length c.loop-clock.lives.items = omega (arith, size, c.loop-clock-test.true) in
+    let at : slice_get c.loop-clock.lives.items c.loop-clock.clock ≡ Some c.index_mut-live.result.now = slice_get_read _ _ _ _ refl there c.index_mut-live.ensures.value in
+    let long = live.size in
+    let from : made_of c.loop-clock.made.items c.loop-clock.clock ≡ c.index-from.result.now =
+    read_made c.loop-clock.made.items c.loop-clock.clock c.index-from.result.now c.index-from.ensures (omega (arith, long, c.loop-clock-test.true)) in
+    refused_now (base_at c.args.station.now) c.args.station.now.clocks.now c.requires.search.setting c.args.window c.args.ticks c.args.sides.now.feeders.items c.args.sides.now.readers.items c.requires.search.sides c.args.ends.now c.args.taps.now.buffers.items
+    c.loop-clock.lives.items c.loop-clock.made.items c.loop-clock.left c.loop-clock.turns.items c.loop-clock.taps.buffers.items c.loop-clock.invariant.live
+    c.loop-clock.clock c.index_mut-live.result.now at c.index-from.result.now from text fit c.loop-clock-test.true
+    (λ full now fills unlost paused. c.in_ok-count.ensures.refused (base_at c.args.station.now) c.args.station.now.clocks.now text full c.in-Refused.is c.requires.search.setting c.requires.search.sides now fills unlost paused) ordered
 
-pub returns-in-None-clause-many : goal.returns-in-None-clause-many
-returns-in-None-clause-many c = c.in_ok-reached.ensures.many ∙ c.loop-clock.invariant.live.many
+pub returns-in-Waits-clause-fit : goal.returns-in-Waits-clause-fit
+returns-in-Waits-clause-fit c = λ text fit. c.in_ok-count.ensures.fit (base_at c.args.station.now) text (c.loop-clock.invariant.live.fit text fit)
+
+pub returns-in-Waits-clause-many : goal.returns-in-Waits-clause-many
+returns-in-Waits-clause-many c = c.in_ok-count.ensures.many ∙ c.loop-clock.invariant.live.many
+
+pub returns-in-Refused-clause-fit : goal.returns-in-Refused-clause-fit
+returns-in-Refused-clause-fit c = λ text fit. c.in_ok-count.ensures.fit (base_at c.args.station.now) text (c.loop-clock.invariant.live.fit text fit)
+
+pub returns-in-Refused-clause-many : goal.returns-in-Refused-clause-many
+returns-in-Refused-clause-many c = c.in_ok-count.ensures.many ∙ c.loop-clock.invariant.live.many
 
 pub loop-clock-preserved : goal.loop-clock-preserved
 loop-clock-preserved c =
@@ -102,32 +122,32 @@ loop-clock-preserved c =
     let long = live.size in
     let from : made_of c.loop-clock.made.items c.loop-clock.clock ≡ c.index-from.result.now =
     read_made c.loop-clock.made.items c.loop-clock.clock c.index-from.result.now c.index-from.ensures (omega (arith, long, c.loop-clock-test.true)) in
-    let on = c.in_ok-reached.ensures.on c.in-Some.count c.in-Some.is in
-    let far : made_of c.loop-clock.made.items c.loop-clock.clock ≤ c.in-Some.count = omega (arith, from, on) in
+    let on = c.in_ok-count.ensures.on c.in-Made.count c.in-Made.is in
+    let far : made_of c.loop-clock.made.items c.loop-clock.clock ≤ c.in-Made.count = omega (arith, from, on) in
     let flown : (text : ℕ → Log) → (fit : AreFit (base_at c.args.station.now) c.args.window c.args.ticks text c.args.taps.now.buffers.items c.args.ends.now)
-    → HasFlownOn (base_at c.args.station.now) (timed text c.args.window c.args.ticks) (mains c.args.sides.now.feeders.items c.args.sides.now.readers.items) c.loop-clock.clock c.in-Some.count c.live_turn.new.live.engine.parts c.live_turn.new.live.marks.items
+    → HasFlownOn (base_at c.args.station.now) (timed text c.args.window c.args.ticks) (mains c.args.sides.now.feeders.items c.args.sides.now.readers.items) c.loop-clock.clock c.in-Made.count c.live_turn.new.live.engine.parts c.live_turn.new.live.marks.items
     (live.waiting text fit).full c.live_turn.new.taps.buffers.items =
     λ text fit. flown_now (base_at c.args.station.now) c.args.station.now.clocks.now c.requires.search.setting c.args.window c.args.ticks c.args.sides.now.feeders.items c.args.sides.now.readers.items c.requires.search.sides c.args.ends.now c.args.taps.now.buffers.items
     c.loop-clock.lives.items c.loop-clock.made.items c.loop-clock.left c.loop-clock.turns.items c.loop-clock.taps.buffers.items c.loop-clock.invariant.live
-    c.loop-clock.clock c.index_mut-live.result.now at c.index-from.result.now from text fit c.in-Some.count c.live_turn.new.live c.live_turn.new.taps.buffers.items
-    (λ full now fills unlost paused. c.in_ok-reached.ensures.gone c.in-Some.count (base_at c.args.station.now) c.args.station.now.clocks.now text full c.in-Some.is c.requires.search.setting c.requires.search.sides now fills unlost paused) in
-    let marks : length c.live_turn.new.live.marks.items ≡ length c.loop-clock.taps.buffers.items = c.in_ok-reached.ensures.marks ∙ live.marks c.loop-clock.clock c.index_mut-live.result.now at in
-    let left : c.loop-clock.left - (c.in-Some.count - made_of c.loop-clock.made.items c.loop-clock.clock) ≡ c.loop-clock.left - (c.in-Some.count - c.index-from.result.now) = ap (λ n. c.loop-clock.left - (c.in-Some.count - n)) from in
+    c.loop-clock.clock c.index_mut-live.result.now at c.index-from.result.now from text fit c.in-Made.count c.live_turn.new.live c.live_turn.new.taps.buffers.items
+    (λ full now fills unlost paused. c.in_ok-count.ensures.gone c.in-Made.count (base_at c.args.station.now) c.args.station.now.clocks.now text full c.in-Made.is c.requires.search.setting c.requires.search.sides now fills unlost paused) in
+    let marks : length c.live_turn.new.live.marks.items ≡ length c.loop-clock.taps.buffers.items = c.in_ok-count.ensures.marks ∙ live.marks c.loop-clock.clock c.index_mut-live.result.now at in
+    let left : c.loop-clock.left - (c.in-Made.count - made_of c.loop-clock.made.items c.loop-clock.clock) ≡ c.loop-clock.left - (c.in-Made.count - c.index-from.result.now) = ap (λ n. c.loop-clock.left - (c.in-Made.count - n)) from in
     record {
       live = subst (λ n. AreLive (base_at c.args.station.now) c.args.station.now.clocks.now c.args.window c.args.ticks c.args.sides.now.feeders.items c.args.sides.now.readers.items c.args.ends.now c.args.taps.now.buffers.items
-          (slice_set c.loop-clock.lives.items c.loop-clock.clock c.live_turn.new.live) (slice_set c.loop-clock.made.items c.loop-clock.clock c.in-Some.count) n c.note_turn.new.turns.items c.live_turn.new.taps.buffers.items) left
+          (slice_set c.loop-clock.lives.items c.loop-clock.clock c.live_turn.new.live) (slice_set c.loop-clock.made.items c.loop-clock.clock c.in-Made.count) n c.note_turn.new.turns.items c.live_turn.new.taps.buffers.items) left
           (live_on (base_at c.args.station.now) c.args.station.now.clocks.now c.requires.search.setting c.args.window c.args.ticks c.args.sides.now.feeders.items c.args.sides.now.readers.items c.requires.search.sides c.args.ends.now c.args.taps.now.buffers.items
           c.loop-clock.lives.items c.loop-clock.made.items c.loop-clock.left c.loop-clock.turns.items c.loop-clock.taps.buffers.items c.loop-clock.invariant.live
-          c.loop-clock.clock c.loop-clock-test.true c.in-Some.count far (c.in_ok-reached.ensures.within c.in-Some.count c.in-Some.is) c.live_turn.new.live c.live_turn.new.taps.buffers.items c.note_turn.new.turns.items flown c.requires.search.text
-          c.index_mut-live.result.now at c.in_ok-note_turn-in-Some.ensures (λ text fit. c.in_ok-reached.ensures.fit (base_at c.args.station.now) text fit) c.in_ok-reached.ensures.many marks (λ k others other unlost. c.in_ok-reached.ensures.stays k others other unlost));
+          c.loop-clock.clock c.loop-clock-test.true c.in-Made.count far (c.in_ok-count.ensures.within c.in-Made.count c.in-Made.is) c.live_turn.new.live c.live_turn.new.taps.buffers.items c.note_turn.new.turns.items flown c.requires.search.text
+          c.index_mut-live.result.now at c.in_ok-note_turn-in-Made.ensures (λ text fit. c.in_ok-count.ensures.fit (base_at c.args.station.now) text fit) c.in_ok-count.ensures.many marks (λ k others other unlost. c.in_ok-count.ensures.stays k others other unlost));
       within = (let w = c.loop-clock.invariant.within in omega (arith, w));
     }
 
-pub returns-then-left-before-clause-fit : goal.returns-then-left-before-clause-fit
-returns-then-left-before-clause-fit c = c.loop-clock.invariant.live.fit
+pub returns-then-tries-eq0-clause-fit : goal.returns-then-tries-eq0-clause-fit
+returns-then-tries-eq0-clause-fit c = c.loop-clock.invariant.live.fit
 
-pub returns-then-left-before-clause-many : goal.returns-then-left-before-clause-many
-returns-then-left-before-clause-many c = c.loop-clock.invariant.live.many
+pub returns-then-tries-eq0-clause-many : goal.returns-then-tries-eq0-clause-many
+returns-then-tries-eq0-clause-many c = c.loop-clock.invariant.live.many
 
 pub returns-clause-fit : goal.returns-clause-fit
 returns-clause-fit c = c.loop-left.invariant.live.fit

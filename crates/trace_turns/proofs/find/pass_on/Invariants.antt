@@ -1,4 +1,4 @@
-use Rattle.std.proofs.Common.{◌≤◌}
+use Rattle.std.proofs.Common.{◌≤◌, ◌+◌}
 use Rattle.trace_turns.specs.Turns.{base_at}
 use Rattle.trace_turns.proofs.Searching.{AreLive}
 use Rattle.trace_turns.proofs.find.pass_on.Given as goal
@@ -9,7 +9,7 @@ invariant-loop-left l = record {
 }
 
 abbrev pub decreases-loop-left : goal.decreases-loop-left
-decreases-loop-left l = l.left
+decreases-loop-left l = l.left + l.left + l.tries
 
 abbrev pub invariant-loop-clock : goal.invariant-loop-clock
 invariant-loop-clock l = record {

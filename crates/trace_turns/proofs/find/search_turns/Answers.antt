@@ -25,6 +25,9 @@ search_chunks-requires c = record {
   );
 }
 
+pub returns-in-Refused-clause-none : goal.returns-in-Refused-clause-none
+returns-in-Refused-clause-none c = λ e text fit ordered. c.in_ok-find_live.ensures.none c.in-Refused.is text fit ordered
+
 pub returns-clause-found : goal.returns-clause-found
 returns-clause-found c = ok_map c.search_chunks.result (λ found h e text fit. h e text
     (fit_again c.find_live.new.taps.buffers.items c.forget_run.new.buffers.items c.forget_run.ensures.many c.forget_run.ensures.forgotten (base_at c.args.station.now) c.args.window c.args.ticks text c.args.ends.now

@@ -1,10 +1,10 @@
 use Rattle.std.proofs.Common.{◌≡◌, ◌<◌, ◌∙◌, ◌+◌, suc, false, List, length, ap, subst, sym, arith, is_err}
 use Rattle.liq_base.specs.Untold.{faults_alone}
-use Rattle.trace_turns.specs.declared.course.Course.TheVariants.{Goes}
+use Rattle.trace_turns.specs.declared.course.Course.TheVariants.{Goes, Fails}
 use Rattle.trace_turns.specs.Answering.{BufferState, same_buffers_refl, same_buffers_trans}
 use Rattle.trace_turns.specs.Live.{HasFlown}
 use Rattle.trace_turns.specs.Turns.{GoesOn}
-use Rattle.trace_turns.proofs.Playing.{flows_on, on_ok}
+use Rattle.trace_turns.proofs.Playing.{flows_fail, flows_on, on_ok}
 use Rattle.trace_turns.specs.Timed.{timed}
 use Rattle.trace_turns.proofs.onward.go_on.Goals as goal
 
@@ -48,6 +48,17 @@ loop-tick-preserved c =
           (λ s. faults_alone 0) c.loop-tick.engine.outs c.tick.new.self.outs c.loop-tick.tick less c.requires.some c.loop-tick.engine.parts c.tick.new.self.parts c.loop-tick.taps c.tick.new.taps
           (c.loop-tick.invariant.goes score may) c.loop-tick.invariant.course c.tick.ensures.setting c.tick.ensures.clock (on_ok c.tick.result ok c.tick.ensures.ticked) c.tick.ensures.taps g.0 g.1);
     }
+
+pub returns-in-Fails-clause-refused : goal.returns-in-Fails-clause-refused
+returns-in-Fails-clause-refused c = λ score e may.
+    let ok : is_err c.tick.result ≡ false = sym c.is_err.ensures.value ∙ c.if-is_err.false in
+    let g : GoesOn c.args.window c.args.ticks c.loop-tick.tick c.tick.new.taps.course c.tick.new.taps.buffers.items c.args.ends.now Fails =
+    subst (λ (l : List BufferState). GoesOn c.args.window c.args.ticks c.loop-tick.tick c.tick.new.taps.course l c.args.ends.now Fails) c.deref-in-loop-tick.ensures.value
+    (subst (GoesOn c.args.window c.args.ticks c.loop-tick.tick c.tick.new.taps.course c.deref-in-loop-tick.result.now c.args.ends.now) c.in-Fails.is c.course_of.ensures) in
+    let less : c.loop-tick.tick < c.args.ticks = (let t = c.loop-tick-test.true in let u = c.last_of-until.ensures.within in omega (arith, t, u)) in
+    flows_fail score c.args.window c.args.ticks c.args.engine.now.parts.clock c.args.ends.now may.full may.may.move
+    (λ s. faults_alone 0) c.loop-tick.engine.outs c.tick.new.self.outs c.loop-tick.tick less c.requires.some c.loop-tick.engine.parts c.tick.new.self.parts c.loop-tick.taps c.tick.new.taps
+    (c.loop-tick.invariant.goes score may) c.loop-tick.invariant.course c.tick.ensures.setting c.tick.ensures.clock (on_ok c.tick.result ok c.tick.ensures.ticked) c.tick.ensures.taps g
 
 pub returns-in-Waits-clause-same : goal.returns-in-Waits-clause-same
 returns-in-Waits-clause-same c = same_buffers_trans c.args.taps.now.buffers.items c.loop-tick.taps.buffers.items c.tick.new.taps.buffers.items c.loop-tick.invariant.changed c.tick.ensures.taps

@@ -24,12 +24,22 @@ go_on-requires-clause-turn c = (let t = c.requires.turn in (
       t.3 t.7 t.0 t.1 t.4 t.2 t.5 t.6 c.args.from c.args.live.now.engine.parts t.8 t.9,
 ))
 
+pub returns-clause-refused : goal.returns-clause-refused
+returns-clause-refused c = λ base clocks text full e is sides fit fills unlost paused.
+    c.in_ok-reached.ensures.refused
+    (score_full c.args.window c.args.ticks c.args.live.now.engine.parts.clock c.clock.result c.clock.ensures c.args.sides.now.feeders.items c.args.sides.now.readers.items c.deref.result.now c.deref-2.result.now c.deref.ensures.value c.deref-2.ensures.value
+    c.args.live.now.marks.items c.deref-3.result.now c.deref-3.ensures.value c.args.ends.now c.args.taps.now.buffers.items c.resume_run.new.buffers.items c.resume_run.ensures.many c.resume_run.ensures.resumed c.requires.long
+    full fills base clocks is text sides fit) e
+    (may_flow c.args.window c.args.ticks c.args.live.now.engine.parts.clock c.clock.result c.clock.ensures c.args.sides.now.feeders.items c.args.sides.now.readers.items c.deref.result.now c.deref-2.result.now c.deref.ensures.value c.deref-2.ensures.value
+    c.args.live.now.marks.items c.deref-3.result.now c.deref-3.ensures.value c.args.ends.now c.args.taps.now.buffers.items c.resume_run.new.buffers.items c.resume_run.ensures.many c.resume_run.ensures.resumed c.requires.long
+    full fills base clocks is text sides fit c.args.from c.args.live.now.engine.parts unlost paused)
+
 pub returns-clause-gone : goal.returns-clause-gone
 returns-clause-gone c = λ n base clocks text full e is sides fit fills unlost paused.
     has_flown c.args.window c.args.ticks c.args.live.now.engine.parts.clock c.clock.result c.clock.ensures c.args.sides.now.feeders.items c.args.sides.now.readers.items c.deref.result.now c.deref-2.result.now c.deref.ensures.value c.deref-2.ensures.value
     c.args.live.now.marks.items c.deref-3.result.now c.deref-3.ensures.value c.args.ends.now c.args.taps.now.buffers.items c.resume_run.new.buffers.items c.resume_run.ensures.many c.resume_run.ensures.resumed c.requires.long
     full fills base clocks is text sides fit c.args.from n (c.in_ok-reached.ensures.within n e) c.args.live.now.engine.parts c.go_on.new.engine.parts c.mark_run.new.marks.items c.go_on.new.taps.buffers.items c.let_go_run.new.buffers.items unlost paused
-    (λ score may. c.in_ok-reached.ensures.made n score e may) (subst (λ (l : List BufferState). HaveMarked l c.mark_run.new.marks.items) c.deref-5.ensures.value c.mark_run.ensures.marked) c.let_go_run.ensures.many c.let_go_run.ensures.gone
+    (λ score may. c.in_ok-reached.ensures.made n score e may) (subst (λ (l : List BufferState). HaveMarked l c.mark_run.new.marks.items) c.deref-4.ensures.value c.mark_run.ensures.marked) c.let_go_run.ensures.many c.let_go_run.ensures.gone
 
 pub returns-clause-stays : goal.returns-clause-stays
 returns-clause-stays c = λ k others other unlost.

@@ -48,11 +48,11 @@ returns-in_err-differ-clause-narrowed c = unchanged _ _ (table_of c.args.binding
 pub returns-in_err-differ-clause-trailed : goal.returns-in_err-differ-clause-trailed
 returns-in_err-differ-clause-trailed c = trailed_none (table_of c.args.bindings.now) _
 
-pub returns-in-Same-clause-narrowed : goal.returns-in-Same-clause-narrowed
-returns-in-Same-clause-narrowed c = unchanged _ _ (table_of c.args.bindings.now) _ c.requires.sound c.requires.marked
+pub returns-in_ok-spend_behind-in-Same-clause-narrowed : goal.returns-in_ok-spend_behind-in-Same-clause-narrowed
+returns-in_ok-spend_behind-in-Same-clause-narrowed c = unchanged _ _ (table_of c.args.bindings.now) _ c.requires.sound c.requires.marked
 
-pub returns-in-Same-clause-trailed : goal.returns-in-Same-clause-trailed
-returns-in-Same-clause-trailed c = trailed_none (table_of c.args.bindings.now) _
+pub returns-in_ok-spend_behind-in-Same-clause-trailed : goal.returns-in_ok-spend_behind-in-Same-clause-trailed
+returns-in_ok-spend_behind-in-Same-clause-trailed c = trailed_none (table_of c.args.bindings.now) _
 
 pub returns-in-Clash-clause-narrowed : goal.returns-in-Clash-clause-narrowed
 returns-in-Clash-clause-narrowed c = unchanged _ _ (table_of c.args.bindings.now) _ c.requires.sound c.requires.marked
@@ -71,3 +71,15 @@ returns-in_err-push-in-Bind-clause-narrowed c = unchanged _ _ (table_of c.args.b
 
 pub returns-in_err-push-in-BindKind-clause-narrowed : goal.returns-in_err-push-in-BindKind-clause-narrowed
 returns-in_err-push-in-BindKind-clause-narrowed c = unchanged _ _ (table_of c.args.bindings.now) _ c.requires.sound c.requires.marked
+
+pub returns-in_err-spend_behind-in-Same-clause-narrowed : goal.returns-in_err-spend_behind-in-Same-clause-narrowed
+returns-in_err-spend_behind-in-Same-clause-narrowed c = unchanged _ _ (table_of c.args.bindings.now) _ c.requires.sound c.requires.marked
+
+pub returns-in_err-spend_behind-in-Same-clause-trailed : goal.returns-in_err-spend_behind-in-Same-clause-trailed
+returns-in_err-spend_behind-in-Same-clause-trailed c = trailed_none (table_of c.args.bindings.now) _
+
+pub returns-in_err-spend-in-Bind-clause-narrowed : goal.returns-in_err-spend-in-Bind-clause-narrowed
+returns-in_err-spend-in-Bind-clause-narrowed c = unchanged _ _ (table_of c.args.bindings.now) _ c.requires.sound c.requires.marked
+
+pub returns-in_err-spend-in-Bind-clause-trailed : goal.returns-in_err-spend-in-Bind-clause-trailed
+returns-in_err-spend-in-Bind-clause-trailed c = trailed_none (table_of c.args.bindings.now) _

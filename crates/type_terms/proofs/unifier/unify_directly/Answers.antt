@@ -42,8 +42,8 @@ overflow_sub-free-in-BindKind c =
     let less = count_kind s s' c.in-BindKind.x c.in-BindKind.k f.inside c.bind_kind.ensures.binds c.bind_kind.ensures.same_types in
     omega (arith, less, c.requires.counted)
 
-pub returns-in_ok-t-in-Bind : goal.returns-in_ok-t-in-Bind
-returns-in_ok-t-in-Bind c =
+pub returns-in_ok-spend-in-Bind : goal.returns-in_ok-spend-in-Bind
+returns-in_ok-spend-in-Bind c =
     let s = table_of c.args.bindings.now in
     let s' = table_of c.bind_type.new.self in
     let f = rw (c.in-Some.is, c.in-Bind.is) at c.in_ok-found.ensures in

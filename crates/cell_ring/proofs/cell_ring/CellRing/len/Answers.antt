@@ -6,4 +6,4 @@ pub returns-clause-len : goal.returns-clause-len
 returns-clause-len c =
     let v = c.self.inside in
     let i = c.self.invariant in
-    omega (arith, c.len.ensures.len, held v.left v.right v.marks c.args.self.now i.0 i.1 c.self.view_is)
+    omega (arith, c.len.ensures.len, i.0, held v.left v.right v.marks c.args.self.now i.0 i.1 c.self.view_is)

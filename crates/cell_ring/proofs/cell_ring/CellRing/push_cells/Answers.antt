@@ -1,11 +1,18 @@
-use Rattle.std.proofs.Common.{ℤ, length, ap, arith, refl}
+use Rattle.std.proofs.Common.{ℤ, length, drop, ap, arith, refl}
 use Rattle.std.proofs.lemmas.List.{length-append}
 use Rattle.circular_buffer.specs.Buffer.{Buffer}
 use Rattle.frame_core.specs.declared.cell.CellMark.{CellMark}
 use Rattle.frame_core.specs.Chunks.{cells_in}
+use Rattle.frame_core.specs.MarkRuns.{marks_in}
 use Rattle.cell_ring.specs.Rings.{Ring}
 use Rattle.cell_ring.proofs.Moves.{held, lane_more, more_cells}
 use Rattle.cell_ring.proofs.cell_ring.CellRing.push_cells.Goals as goal
+
+pub push_all-requires : goal.push_all-requires
+push_all-requires c =
+    let v = c.self.inside in
+    let i = c.self.invariant in
+    omega (arith, c.requires.there, c.requires.same.0, held v.left v.right v.marks c.args.self.now i.0 i.1 c.self.view_is, ap (λ (r : Ring). r.room) c.self.view_is)
 
 pub returns : goal.returns
 returns c =
@@ -13,14 +20,14 @@ returns c =
     let i = c.self.invariant in
     let lefts = c.args.left.now in
     let rights = c.args.right.now in
-    let marks = c.args.marks.now in
+    let marks = drop c.args.skip (marks_in c.args.runs.now) in
     let long = held v.left v.right v.marks c.args.self.now i.0 i.1 c.self.view_is in
     let room = ap (λ (r : Ring). r.room) c.self.view_is in
-    more_cells v.left v.right c.extend_from_slice.new.self c.extend_from_slice-2.new.self v.marks c.extend_from_slice-3.new.self
+    more_cells v.left v.right c.extend_from_slice.new.self c.extend_from_slice-2.new.self v.marks c.push_all.new.self
     lefts rights marks (cells_in lefts rights marks) c.args.self.now i.0 i.1 c.self.view_is refl
     (lane_more v.left c.extend_from_slice.new.self lefts (omega (arith, c.requires.there, c.requires.same.0, long, room, i.0, i.2)) c.extend_from_slice.ensures)
-    (lane_more v.right c.extend_from_slice-2.new.self rights (omega (arith, c.requires.there, c.requires.same.1, long, room, i.1, i.3)) c.extend_from_slice-2.ensures)
-    (lane_more v.marks c.extend_from_slice-3.new.self marks (omega (arith, c.requires.there, long, room)) c.extend_from_slice-3.ensures)
+    (lane_more v.right c.extend_from_slice-2.new.self rights (omega (arith, c.requires.there, c.requires.same.0, c.requires.same.1, long, room, i.1, i.3)) c.extend_from_slice-2.ensures)
+    c.push_all.ensures
 
 pub invariant_of-self : goal.invariant_of-self
 invariant_of-self c =
@@ -28,12 +35,12 @@ invariant_of-self c =
     let i = c.self.invariant in
     let lefts = c.args.left.now in
     let rights = c.args.right.now in
-    let marks = c.args.marks.now in
+    let marks = drop c.args.skip (marks_in c.args.runs.now) in
     let long = held v.left v.right v.marks c.args.self.now i.0 i.1 c.self.view_is in
     let room = ap (λ (r : Ring). r.room) c.self.view_is in
     let left = lane_more v.left c.extend_from_slice.new.self lefts (omega (arith, c.requires.there, c.requires.same.0, long, room, i.0, i.2)) c.extend_from_slice.ensures in
-    let right = lane_more v.right c.extend_from_slice-2.new.self rights (omega (arith, c.requires.there, c.requires.same.1, long, room, i.1, i.3)) c.extend_from_slice-2.ensures in
-    let mark = lane_more v.marks c.extend_from_slice-3.new.self marks (omega (arith, c.requires.there, long, room)) c.extend_from_slice-3.ensures in
+    let right = lane_more v.right c.extend_from_slice-2.new.self rights (omega (arith, c.requires.there, c.requires.same.0, c.requires.same.1, long, room, i.1, i.3)) c.extend_from_slice-2.ensures in
+    let mark = c.push_all.ensures in
     let long_left = ap (λ (b : Buffer ℤ). length b.items) left in
     let long_right = ap (λ (b : Buffer ℤ). length b.items) right in
     let long_mark = ap (λ (b : Buffer CellMark). length b.items) mark in
@@ -47,6 +54,6 @@ invariant_of-self c =
       omega (arith, long_right, long_mark, more_right, more_mark, i.1, c.requires.same.1),
       omega (arith, room_left, room_mark, i.2),
       omega (arith, room_right, room_mark, i.3),
-      omega (arith, long_mark, more_mark, room_mark, c.requires.there, long, room),
+      omega (arith, long_mark, more_mark, room_mark, c.requires.there, c.requires.same.0, long, room),
       omega (arith, room_mark, i.5),
     )

@@ -1,14 +1,17 @@
-use Rattle.std.proofs.Common.{ℤ, false, length, replicate, ap, arith}
-use Rattle.std.proofs.lemmas.List.{length-append, length-replicate}
+use Rattle.std.proofs.Common.{◌∙◌, ℤ, false, length, ap, arith}
+use Rattle.std.proofs.lemmas.List.{length-append}
 use Rattle.circular_buffer.specs.Buffer.{Buffer}
 use Rattle.frame_core.specs.declared.cell.CellMark.{CellMark}
 use Rattle.cell_ring.specs.Rings.{Ring, inner_cells}
 use Rattle.cell_ring.proofs.Lanes.{inner_in}
 use Rattle.cell_ring.proofs.Moves.{held, lane_more, more_cells}
+use Rattle.frame_core.specs.Chunks.{cells_in}
+use Rattle.frame_core.specs.MarkRuns.{run_marks}
+use Rattle.frame_core.proofs.MarkRuns.{inner_marks, length-run}
 use Rattle.cell_ring.proofs.cell_ring.CellRing.push_inner.Goals as goal
 
-pub push_marks-requires : goal.push_marks-requires
-push_marks-requires c =
+pub push-requires : goal.push-requires
+push-requires c =
     let v = c.self.inside in
     let i = c.self.invariant in
     omega (arith, c.requires.there, held v.left v.right v.marks c.args.self.now i.0 i.1 c.self.view_is, ap (λ (r : Ring). r.room) c.self.view_is)
@@ -21,12 +24,12 @@ returns c =
     let rights = c.args.right.now in
     let long = held v.left v.right v.marks c.args.self.now i.0 i.1 c.self.view_is in
     let room = ap (λ (r : Ring). r.room) c.self.view_is in
-    more_cells v.left v.right c.extend_from_slice.new.self c.extend_from_slice-2.new.self v.marks c.push_marks.new.marks
-    lefts rights (replicate (length lefts) (record { first = false; title = c.args.title })) (inner_cells c.args.title lefts rights)
-    c.args.self.now i.0 i.1 c.self.view_is (inner_in c.args.title lefts rights c.requires.same)
+    more_cells v.left v.right c.extend_from_slice.new.self c.extend_from_slice-2.new.self v.marks c.push.new.self
+    lefts rights (run_marks false c.args.title (length lefts)) (inner_cells c.args.title lefts rights)
+    c.args.self.now i.0 i.1 c.self.view_is (ap (λ ms. cells_in lefts rights ms) (inner_marks c.args.title (length lefts)) ∙ inner_in c.args.title lefts rights c.requires.same)
     (lane_more v.left c.extend_from_slice.new.self lefts (omega (arith, c.requires.there, long, room, i.0, i.2)) c.extend_from_slice.ensures)
     (lane_more v.right c.extend_from_slice-2.new.self rights (omega (arith, c.requires.there, c.requires.same, long, room, i.1, i.3)) c.extend_from_slice-2.ensures)
-    c.push_marks.ensures
+    c.push.ensures
 
 pub invariant_of-self : goal.invariant_of-self
 invariant_of-self c =
@@ -34,20 +37,19 @@ invariant_of-self c =
     let i = c.self.invariant in
     let lefts = c.args.left.now in
     let rights = c.args.right.now in
-    let one : CellMark = record { first = false; title = c.args.title } in
-    let marks = replicate (length lefts) one in
+    let marks = run_marks false c.args.title (length lefts) in
     let long = held v.left v.right v.marks c.args.self.now i.0 i.1 c.self.view_is in
     let room = ap (λ (r : Ring). r.room) c.self.view_is in
     let left = lane_more v.left c.extend_from_slice.new.self lefts (omega (arith, c.requires.there, long, room, i.0, i.2)) c.extend_from_slice.ensures in
     let right = lane_more v.right c.extend_from_slice-2.new.self rights (omega (arith, c.requires.there, c.requires.same, long, room, i.1, i.3)) c.extend_from_slice-2.ensures in
-    let mark = c.push_marks.ensures in
+    let mark = c.push.ensures in
     let long_left = ap (λ (b : Buffer ℤ). length b.items) left in
     let long_right = ap (λ (b : Buffer ℤ). length b.items) right in
     let long_mark = ap (λ (b : Buffer CellMark). length b.items) mark in
     let more_left = length-append v.left.items lefts in
     let more_right = length-append v.right.items rights in
     let more_mark = length-append v.marks.items marks in
-    let many = length-replicate (length lefts) one in
+    let many = length-run false c.args.title (length lefts) in
     let room_left = ap (λ (b : Buffer ℤ). b.capacity) left in
     let room_right = ap (λ (b : Buffer ℤ). b.capacity) right in
     let room_mark = ap (λ (b : Buffer CellMark). b.capacity) mark in (

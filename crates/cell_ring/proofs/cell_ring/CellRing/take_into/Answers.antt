@@ -1,8 +1,8 @@
-use Rattle.std.proofs.Common.{◌≤◌, ◌-◌, ◌∙◌, ℤ, length, take, map, ap, arith}
+use Rattle.std.proofs.Common.{◌≤◌, ◌∙◌, ℤ, length, take, map, ap, arith}
 use Rattle.frame_core.specs.declared.cell.Cell.{Cell}
 use Rattle.cell_ring.specs.Rings.{Ring}
 use Rattle.cell_ring.proofs.Lanes.{left_part, right_part}
-use Rattle.cell_ring.proofs.Moves.{front_gone, held, less_cells, read_all, read_rest}
+use Rattle.cell_ring.proofs.Moves.{held, less_cells, read_all, read_rest}
 use Rattle.cell_ring.proofs.cell_ring.CellRing.take_into.Goals as goal
 
 pub returns-clause-left : goal.returns-clause-left
@@ -35,13 +35,13 @@ returns-clause-rest c =
     let long = held v.left v.right v.marks c.args.self.now i.0 i.1 c.self.view_is in
     let count = length c.args.left.now in
     let there : count ≤ length v.marks.items = omega (arith, c.requires.there, long) in
-    less_cells v.left v.right c.read_into.new.self c.read_into-2.new.self v.marks c.truncate_front.new.self count c.args.self.now i.0 i.1 c.self.view_is
+    less_cells v.left v.right c.read_into.new.self c.read_into-2.new.self v.marks c.drop_front.new.self count c.args.self.now i.0 i.1 c.self.view_is
     (read_rest c.read_into.result v.left c.read_into.new.self c.args.left.now count c.read_into.ensures.count (omega arith) (omega (arith, there, i.0)) c.read_into.ensures.items)
     (read_rest c.read_into-2.result v.right c.read_into-2.new.self c.args.right.now count c.read_into-2.ensures.count c.requires.same (omega (arith, there, i.1)) c.read_into-2.ensures.items)
-    (front_gone v.marks c.truncate_front.new.self (c.len.result - count) count (omega (arith, there, c.len.ensures.len)) c.truncate_front.ensures)
+    c.drop_front.ensures
 
-pub overflow_sub-len : goal.overflow_sub-len
-overflow_sub-len c =
+pub overflow_cast-count : goal.overflow_cast-count
+overflow_cast-count c =
     let v = c.self.inside in
     let i = c.self.invariant in
-    omega (arith, c.requires.there, held v.left v.right v.marks c.args.self.now i.0 i.1 c.self.view_is, c.len.ensures.len)
+    omega (arith, c.requires.there, held v.left v.right v.marks c.args.self.now i.0 i.1 c.self.view_is, i.4, i.5)

@@ -1,0 +1,124 @@
+-- What a call leaves, for each status.
+use Rattle.std.specs.Prelude.{◌≡◌, ◌≤◌, ◌<◌, ◌⊎◌, ℕ, List, length, Option, Some, None, IsSomeAnd, Result, Ok, Err}
+use Rattle.std.specs.Option.{ForSome}
+use Rattle.about_cli.specs.Told.{HasNoPlan, Tells}
+use Rattle.about_cli.specs.Words.{AsksFor, HasNoForm, usage_line}
+use Rattle.about_cli.specs.declared.verb.Question.{Question}
+use Rattle.about_cli.specs.declared.verb.Verb.{Verb}
+use Rattle.about_cli.specs.declared.verb.Verb.TheVariants.{Where, Tell}
+use Rattle.liq_base.specs.Counts.{Rose}
+use Rattle.liq_base.specs.Files.{file_at}
+use Rattle.liq_base.specs.Pieces.{SinkTold, TookPart, TookPiece}
+use Rattle.liq_base.specs.Shelves.{OnlyRead, ShelfTold}
+use Rattle.liq_base.specs.declared.limits.TheConstants.{MAX_SCRIPT_BYTES}
+use Rattle.where_lines.specs.Passes.{AllPassed}
+use Rattle.where_lines.specs.declared.passing.Broke.{Broke}
+use Rattle.where_lines.specs.declared.passing.Broke.TheVariants.{Input, Output, Memory}
+
+-- what the two shelves, `out` and `err` tell at one moment
+pub record Outside : Type 0 where
+  pub scripts : ShelfTold
+  pub shelf : ShelfTold
+  pub out : SinkTold
+  pub err : SinkTold
+
+abbrev pub outside_of : (scripts shelf : ShelfTold) (out err : SinkTold) → Outside
+outside_of scripts shelf out err = record { scripts = scripts; shelf = shelf; out = out; err = err }
+
+-- a piece was written whole, and this is the status, or it broke off
+abbrev pub Puts : (piece : List ℕ) → (wanted : ℕ) → (old new : SinkTold) → (status : ℕ) → Type 0
+Puts piece wanted old new status = ((status ≡ wanted) × TookPiece piece old new)
+    ⊎ ((status ≡ 4) × TookPart piece old new)
+
+-- `out` got all that is told, in one piece
+pub record Said (P : List ℕ → Type 0) (out out_new : SinkTold) : Type 0 where
+  pub told : List ℕ
+  pub said : TookPiece told out out_new
+  pub is : P told
+
+-- it broke off
+pub record Broken (P : List ℕ → Type 0) (out out_new : SinkTold) : Type 0 where
+  pub told : List ℕ
+  pub part : TookPart told out out_new
+  pub is : P told
+
+-- the answer on the bytes of a script, by status
+pub record TellsText (question : Question) (text : List ℕ) (old new : ShelfTold) (out out_new : SinkTold)
+    (status : ℕ) : Type 0 where
+  pub is_status : status ≤ 5
+  pub done : status ≡ 0 → Said (Tells question text old new) out out_new
+  pub no_plan : status ≡ 1 → HasNoPlan text × (out_new ≡ out)
+  pub no_usage : status ≡ 2 → ⊥
+  pub no_read : status ≡ 3 → ⊥
+  pub unwritten : status ≡ 4 → Broken (Tells question text old new) out out_new
+  pub refused : status ≡ 5 → out_new ≡ out
+
+-- of the script's bytes, where the shelf tells its files
+abbrev pub Holds : ShelfTold → (file : List ℕ) → (List ℕ → Type 0) → Type 0
+Holds shelf file P = ForSome shelf.files (λ files. IsSomeAnd (file_at files file) P)
+
+-- the answer on the script of this name, by status
+pub record Told (question : Question) (file : List ℕ) (scripts scripts_new old new : ShelfTold) (out out_new : SinkTold)
+    (status : ℕ) : Type 0 where
+  pub is_status : status ≤ 5
+  pub done : status ≡ 0
+      → Said (λ told. Holds scripts file (λ text. Tells question text old new told)) out out_new
+  pub no_plan : status ≡ 1
+      → Holds scripts file (λ text. (MAX_SCRIPT_BYTES < length text) ⊎ HasNoPlan text) × (out_new ≡ out)
+  pub no_usage : status ≡ 2 → ⊥
+  pub unread : status ≡ 3
+      → (Rose scripts.reads scripts_new.reads ⊎ ForSome scripts.files (λ files. file_at files file ≡ None))
+      × (out_new ≡ out)
+  pub unwritten : status ≡ 4
+      → Broken (λ told. Holds scripts file (λ text. Tells question text old new told)) out out_new
+  pub refused : status ≡ 5 → out_new ≡ out
+
+-- how a passing on of lines ended
+abbrev pub IsPassedBy : Result (Unit {0}) Broke → (status : ℕ) → Type 0
+IsPassedBy (Ok done) status = status ≡ 0
+IsPassedBy (Err Input) status = status ≡ 3
+IsPassedBy (Err Output) status = status ≡ 4
+IsPassedBy (Err Memory) status = status ≡ 5
+
+-- these are the bytes of a script; it has none that can be told where it is not there, is too long or was not read
+abbrev pub IsScript : (file : List ℕ) → (scripts scripts_new : ShelfTold) → Option (List ℕ) → Type 0
+IsScript file scripts scripts_new (Some text) = ForSome scripts.files (λ files. file_at files file ≡ Some text)
+IsScript file scripts scripts_new None = Rose scripts.reads scripts_new.reads
+    ⊎ ForSome scripts.files (λ files. file_at files file ≡ None)
+    ⊎ Holds scripts file (λ text. MAX_SCRIPT_BYTES < length text)
+
+-- all lines of the input were passed on, with the places in the script that they name
+pub record AllShown (file : List ℕ) (scripts scripts_new : ShelfTold) (input : Option (List ℕ))
+    (out out_new : SinkTold) : Type 0 where
+  pub script : Option (List ℕ)
+  pub is_script : IsScript file scripts scripts_new script
+  pub passed : AllPassed file script input out out_new
+
+-- `where` is a filter: what it passed on before it broke off is not said
+pub record Passed (file : List ℕ) (scripts scripts_new : ShelfTold) (input : Option (List ℕ))
+    (out out_new : SinkTold) (status : ℕ) : Type 0 where
+  pub is_status : status ≤ 5
+  pub done : status ≡ 0 → AllShown file scripts scripts_new input out out_new
+  pub no_plan : status ≡ 1 → ⊥
+  pub no_usage : status ≡ 2 → ⊥
+
+abbrev pub Answers : Verb → (file : List ℕ) → (input : Option (List ℕ)) → (old new : Outside) → (status : ℕ) → Type 0
+Answers Where file input old new status =
+    Passed file old.scripts new.scripts input old.out new.out status × (new.shelf ≡ old.shelf)
+Answers (Tell question) file input old new status =
+    Told question file old.scripts new.scripts old.shelf new.shelf old.out new.out status
+
+-- words without a form: the usage line is all that is written
+pub record UsageSaid (old new : Outside) (status : ℕ) : Type 0 where
+  pub said : Puts usage_line 2 old.err new.err status
+  pub out_kept : new.out ≡ old.out
+  pub scripts_kept : new.scripts ≡ old.scripts
+  pub shelf_kept : new.shelf ≡ old.shelf
+
+-- by words, and what is left of the input
+pub record Ends (words : List (List ℕ)) (input : Option (List ℕ)) (old new : Outside) (status : ℕ) : Type 0 where
+  pub scripts_read : OnlyRead old.scripts new.scripts
+  pub shelf_read : OnlyRead old.shelf new.shelf
+  pub asked : (verb : Verb) (file : List ℕ) → AsksFor words verb file
+      → Answers verb file input old new status × (new.err ≡ old.err)
+  pub usage : HasNoForm words → UsageSaid old new status

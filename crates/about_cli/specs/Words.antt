@@ -1,0 +1,31 @@
+-- What the words of a call ask for.
+use Rattle.std.specs.Prelude.{◌≡◌, ℕ, List, [], ◌∷◌, codes, map, string_bytes, String, Option, Some, None, if◌then◌else◌}
+use Rattle.std.specs.Str.{bytes_eq}
+use Rattle.std.specs.declared.alloc.Global.{Global}
+use Rattle.about_cli.specs.declared.verb.Question.TheVariants.{Week, Picture, Files, Tokens}
+use Rattle.about_cli.specs.declared.verb.Verb.{Verb}
+use Rattle.about_cli.specs.declared.verb.Verb.TheVariants.{Where, Tell}
+
+abbrev pub texts : List (String Global) → List (List ℕ)
+texts words = map string_bytes words
+
+abbrev pub verb_of : List ℕ → Option Verb
+verb_of word =
+    if bytes_eq word (codes "where") then Some Where
+    else if bytes_eq word (codes "week") then Some (Tell Week)
+    else if bytes_eq word (codes "picture") then Some (Tell Picture)
+    else if bytes_eq word (codes "files") then Some (Tell Files)
+    else if bytes_eq word (codes "tokens") then Some (Tell Tokens)
+    else None
+
+-- two words, of which the first is a verb
+pub record AsksFor (words : List (List ℕ)) (verb : Verb) (file : List ℕ) : Type 0 where
+  pub word : List ℕ
+  pub two : words ≡ word ∷ file ∷ []
+  pub is_verb : verb_of word ≡ Some verb
+
+abbrev pub HasNoForm : List (List ℕ) → Type 0
+HasNoForm words = (verb : Verb) (file : List ℕ) → AsksFor words verb file → ⊥
+
+abbrev pub usage_line : List ℕ
+usage_line = codes "usage: about where|week|picture|files|tokens FILE\n"

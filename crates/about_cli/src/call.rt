@@ -1,0 +1,170 @@
+// The top call.
+ghost use Rattle.std.specs.Prelude.{◌≡◌, [], None, Some, IfOk, if◌then◌else◌};
+ghost use Rattle.about_cli.specs.Ends.{Ends, IsPassedBy, IsScript, Passed, Puts, TellsText, Told, outside_of};
+ghost use Rattle.about_cli.specs.Words.{texts};
+ghost use Rattle.liq_base.specs.Shelves.{OnlyRead};
+
+use crate::told::{Untold, told_of};
+use crate::verb::{Question, Verb, verb_of};
+use liq_base::limits::MAX_SCRIPT_BYTES;
+use liq_base::{Failed, Fetched, Memory, Shelf, ShelfFault, Sink};
+use std::alloc::Global;
+use std::io::Read;
+use where_lines::{Broke, pass_on};
+
+const USAGE: &str = "usage: about where|week|picture|files|tokens FILE\n";
+
+/// All was told.
+const DONE: u8 = 0;
+
+/// The script has no plan.
+const NO_PLAN: u8 = 1;
+
+/// The words have no form; the usage line is on `err`.
+const NO_FORM: u8 = 2;
+
+/// The script, or the input, could not be read.
+const NO_INPUT: u8 = 3;
+
+/// The answer could not be written.
+const NO_OUTPUT: u8 = 4;
+
+/// Memory was refused.
+const NO_MEMORY: u8 = 5;
+
+/// Tells what the words ask about a script of `scripts`, whose files are those of `shelf`, and answers the status, from 0
+/// to 5. `out` gets the answer in one piece, but for `where`, which passes the lines of `input` on one by one. Both `out`
+/// and `err` tell no room left.
+pub fn about<T: Shelf, S: Shelf, I: Read + Drop, O: Sink, E: Sink>(
+    alloc: Global,
+    words: &[String],
+    scripts: &mut T,
+    shelf: &mut S,
+    input: I,
+    out: &mut O,
+    err: &mut E,
+) -> u8
+    requires out_room { (O.told out.old).room ≡ None }
+    requires err_room { (E.told err.old).room ≡ None }
+    ensures { Ends (texts words.now) (I.remaining input)
+        (outside_of (T.told scripts.old) (S.told shelf.old) (O.told out.old) (E.told err.old))
+        (outside_of (T.told scripts.new) (S.told shelf.new) (O.told out.new) (E.told err.new))
+        result }
+{
+    if words.len() == 2 {
+        match verb_of(words[0].as_str()) {
+            Some(Verb::Where) => return show(alloc, words[1].as_str(), scripts, input, out),
+            Some(Verb::Tell(question)) => {
+                return answer(alloc, question, words[1].as_str(), scripts, shelf, out);
+            }
+            None => {}
+        }
+    }
+    put(err, USAGE.as_bytes(), NO_FORM)
+}
+
+// Passes the lines of the input on, with the places in the script that they name.
+fn show<T: Shelf, I: Read + Drop, O: Sink>(
+    alloc: Global,
+    file: &str,
+    scripts: &mut T,
+    input: I,
+    out: &mut O,
+) -> u8
+    requires { (O.told out.old).room ≡ None }
+    ensures passed { Passed file.now (T.told scripts.old) (T.told scripts.new) (I.remaining input) (O.told out.old)
+        (O.told out.new) result }
+    ensures scripts { OnlyRead (T.told scripts.old) (T.told scripts.new) }
+{
+    let mut text = Vec::new(alloc);
+    match find_script(file, scripts, &mut text) {
+        Ok(true) => {
+            let text = Some(text.as_slice());
+            passed(pass_on(alloc, input, out, file, text))
+        }
+        Ok(false) => passed(pass_on(alloc, input, out, file, None)),
+        Err(Memory) => NO_MEMORY,
+    }
+}
+
+// Adds the bytes of a script to none, if it can be read, and answers whether it could.
+fn find_script<T: Shelf>(file: &str, scripts: &mut T, text: &mut Vec<u8>) -> Result<bool, Memory>
+    requires { text.old.items ≡ [] }
+    ensures script { IfOk result (λ found. IsScript file.now (T.told scripts.old) (T.told scripts.new)
+        (if found then Some text.new.items else None)) }
+    ensures scripts { OnlyRead (T.told scripts.old) (T.told scripts.new) }
+{
+    match scripts.read(file, text, MAX_SCRIPT_BYTES) {
+        Ok(Fetched::Found) => Ok(true),
+        Ok(Fetched::TooLarge) => Ok(false),
+        Ok(Fetched::Missing) => Ok(false),
+        Err(ShelfFault::Failed) => Ok(false),
+        Err(ShelfFault::Memory) => Err(Memory),
+    }
+}
+
+fn passed(done: Result<(), Broke>) -> u8
+    ensures { IsPassedBy done result }
+{
+    match done {
+        Ok(()) => DONE,
+        Err(Broke::Input) => NO_INPUT,
+        Err(Broke::Output) => NO_OUTPUT,
+        Err(Broke::Memory) => NO_MEMORY,
+    }
+}
+
+// Reads the script, and answers what is asked of it.
+fn answer<T: Shelf, S: Shelf, O: Sink>(
+    alloc: Global,
+    question: Question,
+    file: &str,
+    scripts: &mut T,
+    shelf: &mut S,
+    out: &mut O,
+) -> u8
+    requires { (O.told out.old).room ≡ None }
+    ensures told { Told question file.now (T.told scripts.old) (T.told scripts.new) (S.told shelf.old) (S.told shelf.new)
+        (O.told out.old) (O.told out.new) result }
+    ensures scripts { OnlyRead (T.told scripts.old) (T.told scripts.new) }
+    ensures shelf { OnlyRead (S.told shelf.old) (S.told shelf.new) }
+{
+    let mut text = Vec::new(alloc);
+    match scripts.read(file, &mut text, MAX_SCRIPT_BYTES) {
+        Ok(Fetched::Found) => tell(alloc, question, text.as_slice(), shelf, out),
+        Ok(Fetched::TooLarge) => NO_PLAN,
+        Ok(Fetched::Missing) => NO_INPUT,
+        Err(ShelfFault::Failed) => NO_INPUT,
+        Err(ShelfFault::Memory) => NO_MEMORY,
+    }
+}
+
+// Tells what is asked of the bytes of a script.
+fn tell<S: Shelf, O: Sink>(
+    alloc: Global,
+    question: Question,
+    text: &[u8],
+    shelf: &mut S,
+    out: &mut O,
+) -> u8
+    requires { (O.told out.old).room ≡ None }
+    ensures told { TellsText question text.now (S.told shelf.old) (S.told shelf.new) (O.told out.old) (O.told out.new) result }
+    ensures shelf { OnlyRead (S.told shelf.old) (S.told shelf.new) }
+{
+    match told_of(alloc, question, text, shelf) {
+        Ok(told) => put(out, &told, DONE),
+        Err(Untold::NoPlan) => NO_PLAN,
+        Err(Untold::Memory) => NO_MEMORY,
+    }
+}
+
+// Writes the one piece of a call, and answers this status if all of it was written.
+fn put<W: Sink>(sink: &mut W, piece: &[u8], status: u8) -> u8
+    requires { (W.told sink.old).room ≡ None }
+    ensures { Puts piece.now status (W.told sink.old) (W.told sink.new) result }
+{
+    match sink.append(piece) {
+        Ok(()) => status,
+        Err(Failed) => NO_OUTPUT,
+    }
+}

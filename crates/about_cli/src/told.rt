@@ -1,0 +1,133 @@
+// What is told of the bytes of a script.
+ghost use Rattle.std.specs.Prelude.{◌≡◌, IfErr, IfOk};
+ghost use Rattle.about_cli.specs.Told.{HasNoPlan, IsDrawn, IsRefused, IsWeekOf, OfPlan, Tells};
+ghost use Rattle.about_cli.specs.declared.told.Untold.TheVariants as untold;
+ghost use Rattle.fallible_infer.specs.Infallible.{mark_at};
+ghost use Rattle.liq_base.specs.Shelves.{OnlyRead};
+ghost use Rattle.plan_core.specs.Plans.{IsWellFormed};
+ghost use Rattle.script_plan.specs.Plans.{IsPlan};
+
+use crate::verb::Question;
+use fallible_infer::check_outputs;
+use liq_base::limits::{MAX_ALL_BYTES, MAX_FILE_BYTES};
+use liq_base::{Memory, Shelf};
+use plan_core::Plan;
+use plan_picture::picture;
+use script_plan::{ScriptFault, plan_of};
+use station_facts::{infer, tell_files, tell_tokens};
+use std::alloc::Global;
+use track_library::Sizes;
+use week_lines::week;
+
+/// Why nothing is told of a script.
+#[derive(Clone, Copy, Debug, PartialEq, Eq)]
+pub enum Untold {
+    /// It has no plan.
+    NoPlan,
+
+    /// Memory was refused.
+    Memory,
+}
+
+impl From<Memory> for Untold {
+    ghost use Rattle.about_cli.specs.declared.told.Untold.TheVariants as untold;
+
+    ghost from_gives = { λ _ e. e ≡ untold.Memory };
+
+    fn from(_refused: Memory) -> Untold {
+        Untold::Memory
+    }
+}
+
+/// What is told of the bytes of a script, whose files are those of the shelf.
+pub fn told_of<S: Shelf>(
+    alloc: Global,
+    question: Question,
+    text: &[u8],
+    shelf: &mut S,
+) -> Result<Vec<u8>, Untold>
+    ensures told { IfOk result
+        (λ told. Tells question text.now (S.told shelf.old) (S.told shelf.new) told.items) }
+    ensures no_plan { IfErr result (λ why. why ≡ untold.NoPlan → HasNoPlan text.now) }
+    ensures shelf { OnlyRead (S.told shelf.old) (S.told shelf.new) }
+{
+    match question {
+        Question::Tokens => Ok(tell_tokens(alloc, text)?),
+        Question::Week => week_of(alloc, text),
+        Question::Picture => picture_of(alloc, text),
+        Question::Files => files_of(alloc, text, shelf),
+    }
+}
+
+// The plan of a script.
+fn plan_in(alloc: Global, text: &[u8]) -> Result<Plan, Untold>
+    ensures plan { IfOk result (IsPlan text.now) }
+    ensures well_formed { IfOk result IsWellFormed }
+    ensures no_plan { IfErr result (λ why. why ≡ untold.NoPlan → HasNoPlan text.now) }
+{
+    match plan_of(alloc, text) {
+        Ok(plan) => Ok(plan),
+        Err(ScriptFault::Memory) => Err(Untold::Memory),
+        Err(_) => Err(Untold::NoPlan),
+    }
+}
+
+fn week_of(alloc: Global, text: &[u8]) -> Result<Vec<u8>, Untold>
+    ensures told { IfOk result (λ told. OfPlan text.now (λ plan. IsWeekOf plan told.items)) }
+    ensures no_plan { IfErr result (λ why. why ≡ untold.NoPlan → HasNoPlan text.now) }
+{
+    let plan = plan_in(alloc, text)?;
+    Ok(listed(alloc, &plan)?)
+}
+
+// The week of a plan.
+fn listed(alloc: Global, plan: &Plan) -> Result<Vec<u8>, Memory>
+    requires { IsWellFormed plan.now }
+    ensures { IfOk result (λ told. IsWeekOf plan.now told.items) }
+{
+    let inferred = infer(alloc, plan)?;
+    week(alloc, plan, &inferred.marks)
+}
+
+fn picture_of(alloc: Global, text: &[u8]) -> Result<Vec<u8>, Untold>
+    ensures told { IfOk result (λ told. OfPlan text.now (λ plan. IsDrawn plan told.items)) }
+    ensures no_plan { IfErr result (λ why. why ≡ untold.NoPlan → HasNoPlan text.now) }
+{
+    let plan = plan_in(alloc, text)?;
+    Ok(drawn(alloc, &plan)?)
+}
+
+// The picture of a plan.
+fn drawn(alloc: Global, plan: &Plan) -> Result<Vec<u8>, Memory>
+    requires { IsWellFormed plan.now }
+    ensures { IfOk result (λ told. IsDrawn plan.now told.items) }
+{
+    let inferred = infer(alloc, plan)?;
+    let refused = refused_output(plan, &inferred.marks);
+    picture(alloc, plan, &inferred.marks, refused, &inferred.clocks)
+}
+
+// The number of the first output that may be silent and must not be.
+fn refused_output(plan: &Plan, marks: &[bool]) -> Option<u32>
+    requires { IsWellFormed plan.now }
+    ensures { IsRefused plan.now (mark_at marks.now) result }
+{
+    match check_outputs(plan, marks) {
+        Ok(()) => None,
+        Err(fault) => Some(fault.sink),
+    }
+}
+
+fn files_of<S: Shelf>(alloc: Global, text: &[u8], shelf: &mut S) -> Result<Vec<u8>, Untold>
+    ensures told { IfOk result
+        (λ told. Tells Question.Files text.now (S.told shelf.old) (S.told shelf.new) told.items) }
+    ensures no_plan { IfErr result (λ why. why ≡ untold.NoPlan → HasNoPlan text.now) }
+    ensures shelf { OnlyRead (S.told shelf.old) (S.told shelf.new) }
+{
+    let plan = plan_in(alloc, text)?;
+    let sizes = Sizes {
+        file: MAX_FILE_BYTES,
+        all: MAX_ALL_BYTES,
+    };
+    Ok(tell_files(alloc, &plan, shelf, sizes)?)
+}

@@ -1,0 +1,37 @@
+-- Marks that are kept as runs of one title, in a ring.
+use Rattle.std.specs.Prelude.{◌≡◌, ◌<◌, ◌≤◌, ◌+◌, ◌-◌, Bool, true, false, not, ◌&&◌, ℕ, List, [], ◌∷◌, Option, Some, None, length, slice_get, nat_eq}
+use Rattle.frame_core.specs.declared.cell.CellMark.{CellMark}
+use Rattle.frame_core.specs.declared.cell.MarkRun.{MarkRun}
+use Rattle.cell_ring.specs.declared.mark_ring.Found.{Found}
+use Rattle.cell_ring.specs.Lanes.{begins_none, has_name}
+
+-- each run has a mark
+abbrev pub AreSome : List MarkRun → Type 0
+AreSome [] = Unit {0}
+AreSome (run ∷ runs) = (0 < run.count) × AreSome runs
+
+-- the first mark of a run, if there is one
+abbrev pub mark_of : Option MarkRun → Option CellMark
+mark_of None = None
+mark_of (Some run) = Some (record { first = run.first; title = run.title })
+
+-- a run that goes on with another one
+abbrev pub joins : MarkRun → MarkRun → Bool
+joins last run = not run.first && nat_eq last.title run.title
+
+-- a run without so many of its first marks
+abbrev pub rest_run : MarkRun → (skip : ℕ) → MarkRun
+rest_run run skip = record { first = run.first && nat_eq skip 0; title = run.title; count = run.count - skip }
+
+-- a mark with a title, that begins no track or may begin one
+abbrev pub passing : (begins : Bool) → (title : ℕ) → Option CellMark → Bool
+passing true title mark = has_name title mark
+passing false title mark = begins_none title mark
+
+-- what a walk over marks found: those that pass, up to one that does not, or to the end of the list
+pub record Walked (begins : Bool) (title : ℕ) (marks : List CellMark) (from most : ℕ) (walk : Found) : Type 0 where
+  pub pass : (j : ℕ) → j < walk.count → passing begins title (slice_get marks (from + j)) ≡ true
+  pub within : walk.count ≤ most
+  pub ends : walk.ended ≡ true → walk.count < most → passing begins title (slice_get marks (from + walk.count)) ≡ false
+  pub inside : walk.ended ≡ true → walk.count < most → from + walk.count < length marks
+  pub past : walk.ended ≡ false → (length marks ≤ from + walk.count) × (walk.skip ≡ from + walk.count - length marks)

@@ -1,0 +1,22 @@
+-- Marks that are kept as runs of one title.
+use Rattle.std.specs.Prelude.{Bool, false, not, ◌&&◌, ℕ, zero, suc, List, [], ◌∷◌, ◌++◌, replicate, nat_eq}
+use Rattle.frame_core.specs.declared.cell.CellMark.{CellMark}
+use Rattle.frame_core.specs.declared.cell.MarkRun.{MarkRun}
+
+-- so many marks of a title, the first of which may begin a track
+abbrev pub run_marks : (first : Bool) → (title count : ℕ) → List CellMark
+run_marks first title zero = []
+run_marks first title (suc n) = record { first = first; title = title } ∷ replicate n (record { first = false; title = title })
+
+-- the marks of these runs
+abbrev pub marks_in : List MarkRun → List CellMark
+marks_in [] = []
+marks_in (run ∷ runs) = run_marks run.first run.title run.count ++ marks_in runs
+
+-- the mark of a run at a place
+abbrev pub mark_at : MarkRun → ℕ → CellMark
+mark_at run at = record { first = run.first && nat_eq at 0; title = run.title }
+
+-- a mark that goes on with a run
+abbrev pub lengthens : MarkRun → CellMark → Bool
+lengthens run mark = not mark.first && nat_eq mark.title run.title

@@ -1,0 +1,101 @@
+-- What a look at audio files and lists finds, and what it says of their use.
+use Rattle.std.specs.Prelude.{◌≡◌, ◌≤◌, ⊤, ℕ, ◌+◌, ◌^◌, ◌&&◌, Bool, not, List, [], ◌∷◌, length, take, drop, Result, Ok, Err, if◌then◌else◌, nat_eq, nat_le, slice_index}
+use Rattle.std.specs.Option.{ForSome}
+use Rattle.std.specs.Str.{is_utf8}
+use Rattle.liq_base.specs.Counts.{Rose}
+use Rattle.liq_base.specs.Files.{Files, file_at}
+use Rattle.liq_base.specs.Shelves.{ShelfTold}
+use Rattle.wav_io.specs.Reading.{Wav, read_of}
+use Rattle.wav_io.specs.declared.fault.WavFault.{WavFault}
+use Rattle.resample.specs.Resampled.{blocks_of, output_length}
+use Rattle.track_library.specs.Lists.{lines, names_listed, without_cr, without_mark}
+use Rattle.track_library.specs.Walk.{Audio, bytes_in, counted_bytes, samples_at, sound_of}
+use Rattle.track_library.specs.declared.rules.Rules.{Rules}
+use Rattle.track_library.specs.declared.fault.Unusable.{Unusable}
+use Rattle.track_library.specs.declared.fault.Unusable.TheVariants.{NotThere, NotWav, TooLong}
+use Rattle.sound_looks.specs.declared.look.Facts.{Facts}
+use Rattle.sound_looks.specs.declared.look.Look.{Look}
+use Rattle.sound_looks.specs.declared.look.Look.TheVariants.{Unread, Bad, Sound}
+use Rattle.sound_looks.specs.declared.list.ListLook.{ListLook}
+use Rattle.sound_looks.specs.declared.list.ListLook.TheVariants as list_look
+
+-- of a WAV file of so many bytes, whose samples begin at this place
+abbrev pub facts_of : Rules → (size place : ℕ) → Wav → Facts
+facts_of rules size place wav = record {
+  kind = wav.kind;
+  rate = wav.rate;
+  wide = wav.wide;
+  place = place;
+  own = blocks_of wav.kind (samples_at wav.wide wav.body);
+  played = output_length (blocks_of wav.kind (samples_at wav.wide wav.body)) wav.rate rules.rate;
+  bytes = counted_bytes size (sound_of rules.rate wav);
+}
+
+-- of so many bytes, as they were read
+abbrev pub look_in : Rules → (size place : ℕ) → Result Wav WavFault → Look
+look_in rules size place (Err fault) = Bad (NotWav fault)
+look_in rules size place (Ok wav) = Sound (facts_of rules size place wav)
+
+-- of a file
+abbrev pub look_of : Rules → (place : ℕ) → Result (List ℕ) Unusable → Look
+look_of rules place (Err fault) = Bad fault
+look_of rules place (Ok bytes) = look_in rules (length bytes) place (read_of bytes)
+
+-- the samples of a file stand at this place of it
+abbrev pub StandAt : (place : ℕ) → Result (List ℕ) Unusable → Type 0
+StandAt place found = (bytes : List ℕ) (wav : Wav) → found ≡ Ok bytes → read_of bytes ≡ Ok wav
+    → (wav.body ≡ take (length wav.body) (drop place bytes)) × (place + length wav.body ≤ length bytes)
+
+-- what a file is; one that was found was read
+abbrev pub IsLookOf : Rules → Result (List ℕ) Unusable → Look → Type 0
+IsLookOf rules found Unread = ⊥
+IsLookOf rules found (Bad fault) = look_of rules 0 found ≡ Bad fault
+IsLookOf rules found (Sound facts) = (look_of rules facts.place found ≡ Sound facts) × StandAt facts.place found
+
+-- the file of a name is this, where the shelf tells its files
+abbrev pub Looks : Rules → (name : List ℕ) → ShelfTold → Look → Type 0
+Looks rules name told found = ForSome told.files
+    (λ files. IsLookOf rules (bytes_in rules.file (file_at files name)) found)
+
+-- what was found under a name: a read that failed let the count rise, and else it is what the file is
+abbrev pub IsLooked : Rules → (name : List ℕ) → (old new : ShelfTold) → Look → Type 0
+IsLooked rules name old new Unread = Rose old.reads new.reads
+IsLooked rules name old new (Bad fault) = Looks rules name old (Bad fault)
+IsLooked rules name old new (Sound facts) = Looks rules name old (Sound facts)
+
+-- a line that would be a name if it were UTF-8
+abbrev pub is_skipped : List ℕ → Bool
+is_skipped line = not (nat_eq (length line) 0) && not (nat_eq (slice_index line 0) 35) && not (is_utf8 line)
+
+-- how many of these lines are skipped so
+abbrev pub skipped_among : List (List ℕ) → ℕ
+skipped_among [] = 0
+skipped_among (line ∷ lines) = if is_skipped (without_cr line) then 1 + skipped_among lines else skipped_among lines
+
+abbrev pub skipped_in : List ℕ → ℕ
+skipped_in bytes = skipped_among (lines (without_mark bytes))
+
+-- the names of a list and how many lines were skipped, as it was read
+abbrev pub list_look_of : Result (List ℕ) Unusable → Result (List (List ℕ) × ℕ) Unusable
+list_look_of (Err fault) = Err fault
+list_look_of (Ok bytes) = Ok (names_listed bytes, skipped_in bytes)
+
+abbrev pub ListLooks : (name : List ℕ) → ShelfTold → Result (List (List ℕ) × ℕ) Unusable → Type 0
+ListLooks name told found = ForSome told.files (λ files. list_look_of (bytes_in (2 ^ 20) (file_at files name)) ≡ found)
+
+-- the same of a list
+abbrev pub IsListLook : (name : List ℕ) → (old new : ShelfTold) → ListLook → Type 0
+IsListLook name old new list_look.Unread = Rose old.reads new.reads
+IsListLook name old new (list_look.Bad fault) = ListLooks name old (Err fault)
+IsListLook name old new (list_look.Names names skipped) = ListLooks name old (Ok (names.items, skipped))
+
+-- whether a file that was looked at is used where it is met alone, and for how many bytes it counts
+abbrev pub counted_as : Rules → Look → Result ℕ Unusable
+counted_as rules Unread = Err NotThere
+counted_as rules (Bad fault) = Err fault
+counted_as rules (Sound facts) = if nat_le facts.bytes rules.file then Ok facts.bytes else Err TooLong
+
+-- for how many bytes the audio that a walk met counts
+abbrev pub count_of : Result Audio Unusable → Result ℕ Unusable
+count_of (Err fault) = Err fault
+count_of (Ok audio) = Ok audio.1

@@ -1,0 +1,12 @@
+// A law of looks, for whatever rests on it. It is the contract of a function that does nothing.
+ghost use Rattle.std.specs.Prelude.{◌≡◌, ℕ, List};
+ghost use Rattle.liq_base.specs.Files.{Files, file_at};
+ghost use Rattle.sound_looks.specs.Looks.{count_of, counted_as, look_of};
+ghost use Rattle.track_library.specs.Walk.{audio_at, bytes_in};
+ghost use Rattle.track_library.specs.declared.rules.Rules.{Rules};
+
+/// What a look finds says whether a walk uses the file, where all that it met fits, and for how many bytes it counts.
+pub fn looks_tell_uses()
+    ensures { (rules : Rules) (files : Files) (place : ℕ) (name : List ℕ) → count_of (audio_at rules files name)
+        ≡ counted_as rules (look_of rules place (bytes_in rules.file (file_at files name))) }
+{}

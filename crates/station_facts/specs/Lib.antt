@@ -1,0 +1,4 @@
+pub mod Members
+pub mod Plans
+pub mod Files
+pub mod Tokens

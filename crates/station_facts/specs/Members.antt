@@ -1,0 +1,51 @@
+-- Members of an object of JSON, as the tokens of the kit's `json`.
+use Rattle.std.specs.Prelude.{◌≡◌, ℕ, Bool, true, false, List, [], ◌∷◌, ◌++◌, codes, decimal}
+use Rattle.json.specs.Token.{Token, begin_object, end_object, begin_array, end_array, key, string, number, boolean}
+use Rattle.json.specs.Written.{Written}
+use Rattle.liq_base.specs.Kinds.{channels_of}
+use Rattle.liq_base.specs.declared.memory.Kind.{Kind}
+
+-- these tokens were written, and nothing before them changed
+pub record Adds (old new : Written) (more : List Token) : Type 0 where
+  pub tokens : new.tokens ≡ old.tokens ++ more
+  pub before : new.before ≡ old.before
+
+abbrev pub text_member : (name text : List ℕ) → List Token
+text_member name text = key name ∷ string text ∷ []
+
+abbrev pub number_member : (name : List ℕ) → ℕ → List Token
+number_member name n = key name ∷ number (decimal n) ∷ []
+
+abbrev pub flag_member : (name : List ℕ) → Bool → List Token
+flag_member name b = key name ∷ boolean b ∷ []
+
+-- of each item, one after another
+abbrev pub each : {A : Type 0} → (A → List Token) → List A → List Token
+each text [] = []
+each text (x ∷ xs) = text x ++ each text xs
+
+-- a member that is a list
+abbrev pub list_member : {A : Type 0} → (name : List ℕ) → (A → List Token) → List A → List Token
+list_member name text xs = key name ∷ begin_array ∷ (each text xs ++ end_array ∷ [])
+
+-- of each two items at one place of two lists
+abbrev pub paired : {A B : Type 0} → (A → B → List Token) → List A → List B → List Token
+paired text [] ys = []
+paired text (x ∷ xs) [] = []
+paired text (x ∷ xs) (y ∷ ys) = text x y ++ paired text xs ys
+
+-- a member that is a list of these
+abbrev pub paired_member : {A B : Type 0} → (name : List ℕ) → (A → B → List Token) → List A → List B → List Token
+paired_member name text xs ys = key name ∷ begin_array ∷ (paired text xs ys ++ end_array ∷ [])
+
+-- an object of these members
+abbrev pub object : List Token → List Token
+object members = begin_object ∷ (members ++ end_object ∷ [])
+
+abbrev pub kind_member : Kind → List Token
+kind_member kind = number_member (codes "sides") (channels_of kind)
+
+-- the bits of a sample
+abbrev pub bits_of : (wide : Bool) → ℕ
+bits_of true = 24
+bits_of false = 16

@@ -1,0 +1,96 @@
+// All of a plan and of its files.
+ghost use Rattle.std.specs.Prelude.{◌≡◌, IfOk, OnOk};
+ghost use Rattle.liq_base.specs.Shelves.{OnlyRead};
+ghost use Rattle.plan_core.specs.Plans.{IsWellFormed};
+ghost use Rattle.station_facts.specs.Files.{files_object, limit_members, lists_of, sounds_of, IsTold};
+ghost use Rattle.station_facts.specs.Members.{Adds};
+ghost use Rattle.track_library.specs.Loads.{rules_for};
+ghost use Rattle.track_library.specs.States.{AreRules};
+
+use crate::inferred::{Inferred, infer};
+use crate::leaves::{lists_of, sounds_of};
+use crate::members::{Out, begin, end, push_number};
+use crate::plans::push_plan;
+use crate::sounds::{all_bytes, look_at_lists, look_at_sounds, push_lists, push_sounds};
+use json::Writer;
+use liq_base::limits::{MAX_LIST_BYTES, MAX_SCRIPT_BYTES};
+use liq_base::{Memory, Shelf, Text};
+use plan_core::Plan;
+use sound_looks::{ListLook, Look};
+use std::alloc::Global;
+use track_library::{Rules, Sizes};
+
+/// What a plan is, and what becomes of each file that it plays, as one object of JSON. Each list and each audio file is
+/// read once, and of the audio files one is held at a time.
+pub fn tell_files<S: Shelf>(
+    alloc: Global,
+    plan: &Plan,
+    shelf: &mut S,
+    sizes: Sizes,
+) -> Result<Vec<u8>, Memory>
+    requires plan { IsWellFormed plan.now }
+    requires rules { AreRules (rules_for plan.now sizes) }
+    ensures told { IfOk result
+        (λ told. IsTold (rules_for plan.now sizes) plan.now (S.told shelf.old) (S.told shelf.new) told.items) }
+    ensures shelf { OnlyRead (S.told shelf.old) (S.told shelf.new) }
+{
+    let rules = Rules {
+        rate: plan.rate,
+        file: sizes.file,
+        all: sizes.all,
+    };
+    let inferred = infer(alloc, plan)?;
+    let lists = lists_of(alloc, plan)?;
+    let list_looks = look_at_lists(alloc, shelf, lists.as_slice())?;
+    let sounds = sounds_of(alloc, plan, &list_looks)?;
+    let looks = look_at_sounds(alloc, shelf, sounds.as_slice(), rules)?;
+    let mut out = Writer::new(Vec::new(alloc));
+    push_all(
+        alloc,
+        &mut out,
+        plan,
+        &inferred,
+        lists.as_slice(),
+        &list_looks,
+        sounds.as_slice(),
+        &looks,
+        rules,
+    )?;
+    Ok(out.into_inner())
+}
+
+// Writes the whole object.
+fn push_all(
+    alloc: Global,
+    out: &mut Out,
+    plan: &Plan,
+    inferred: &Inferred,
+    lists: &[Text],
+    list_looks: &[ListLook],
+    sounds: &[Text],
+    looks: &[Look],
+    rules: Rules,
+) -> Result<(), Memory>
+    requires lists { lists.now ≡ lists_of plan.now }
+    requires sounds { sounds.now ≡ sounds_of plan.now list_looks.now }
+    ensures { OnOk result (Adds out.old out.new (files_object rules plan.now inferred.now list_looks.now looks.now)) }
+{
+    begin(out)?;
+    push_plan(alloc, out, plan, inferred)?;
+    push_lists(out, lists, list_looks)?;
+    push_sounds(out, sounds, looks, rules)?;
+    push_number(out, "bytes", all_bytes(looks, rules)?)?;
+    push_limits(out, rules)?;
+    end(out)?;
+    Ok(())
+}
+
+fn push_limits(out: &mut Out, rules: Rules) -> Result<(), Memory>
+    ensures { OnOk result (Adds out.old out.new (limit_members rules)) }
+{
+    push_number(out, "most", rules.all)?;
+    push_number(out, "file_most", rules.file)?;
+    push_number(out, "list_most", MAX_LIST_BYTES)?;
+    push_number(out, "script_most", MAX_SCRIPT_BYTES)?;
+    Ok(())
+}

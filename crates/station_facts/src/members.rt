@@ -1,0 +1,100 @@
+// Members of an object of JSON.
+ghost use Rattle.std.specs.Prelude.{◌≡◌, ◌∷◌, [], OnOk, codes, decimal};
+ghost use Rattle.json.specs.Token.{begin_object, end_object, begin_array, end_array, key, string, number};
+ghost use Rattle.station_facts.specs.Members.{Adds, bits_of, flag_member, kind_member, number_member, text_member};
+
+use json::Writer;
+use liq_base::{Kind, Memory};
+
+/// Where tokens are written.
+pub type Out = Writer;
+
+/// Writes that an object begins.
+pub fn begin(out: &mut Out) -> Result<(), Memory>
+    ensures { OnOk result (Adds out.old out.new (begin_object ∷ [])) }
+{
+    out.begin_object()?;
+    Ok(())
+}
+
+/// Writes that an object ends.
+pub fn end(out: &mut Out) -> Result<(), Memory>
+    ensures { OnOk result (Adds out.old out.new (end_object ∷ [])) }
+{
+    out.end_object()?;
+    Ok(())
+}
+
+/// Writes that a member of this name begins, which is a list.
+pub fn begin_list(out: &mut Out, name: &str) -> Result<(), Memory>
+    ensures { OnOk result (Adds out.old out.new (key name.now ∷ begin_array ∷ [])) }
+{
+    out.key(name)?;
+    out.begin_array()?;
+    Ok(())
+}
+
+/// Writes that a list ends.
+pub fn end_list(out: &mut Out) -> Result<(), Memory>
+    ensures { OnOk result (Adds out.old out.new (end_array ∷ [])) }
+{
+    out.end_array()?;
+    Ok(())
+}
+
+/// Writes a text of a list.
+pub fn push_item(out: &mut Out, text: &str) -> Result<(), Memory>
+    ensures { OnOk result (Adds out.old out.new (string text.now ∷ [])) }
+{
+    out.string(text)?;
+    Ok(())
+}
+
+/// Writes a number of a list.
+pub fn push_count(out: &mut Out, n: u64) -> Result<(), Memory>
+    ensures { OnOk result (Adds out.old out.new (number (decimal n) ∷ [])) }
+{
+    out.u64(n)?;
+    Ok(())
+}
+
+/// Writes a member that is a text.
+pub fn push_text(out: &mut Out, name: &str, text: &str) -> Result<(), Memory>
+    ensures { OnOk result (Adds out.old out.new (text_member name.now text.now)) }
+{
+    out.key(name)?;
+    out.string(text)?;
+    Ok(())
+}
+
+/// Writes a member that is a number.
+pub fn push_number(out: &mut Out, name: &str, n: u64) -> Result<(), Memory>
+    ensures { OnOk result (Adds out.old out.new (number_member name.now n)) }
+{
+    out.key(name)?;
+    out.u64(n)?;
+    Ok(())
+}
+
+/// Writes a member that is true or false.
+pub fn push_flag(out: &mut Out, name: &str, flag: bool) -> Result<(), Memory>
+    ensures { OnOk result (Adds out.old out.new (flag_member name.now flag)) }
+{
+    out.key(name)?;
+    out.boolean(flag)?;
+    Ok(())
+}
+
+/// Writes how many channels there are.
+pub fn push_kind(out: &mut Out, kind: Kind) -> Result<(), Memory>
+    ensures { OnOk result (Adds out.old out.new (kind_member kind)) }
+{
+    push_number(out, "sides", u64::from(kind.channels()))
+}
+
+/// The bits of a sample.
+pub fn bits_of(wide: bool) -> u64
+    ensures { result ≡ bits_of wide }
+{
+    if wide { 24 } else { 16 }
+}

@@ -1,0 +1,297 @@
+// What is told of a plan.
+ghost use Rattle.std.specs.Prelude.{◌≡◌, ◌++◌, ◌∷◌, [], OnOk, Some, codes, decimal, if◌then◌else◌, map, nat_eq, slice_get};
+ghost use Rattle.json.specs.Token.{number};
+ghost use Rattle.station_facts.specs.Members.{Adds, each, flag_member, list_member, number_member, paired, paired_member, text_member};
+ghost use Rattle.station_facts.specs.Plans.{clock_members, length_members, main_members, name_members, op_members, output_object, plan_members, side_members, source_object, windows_object};
+ghost use Rattle.time_pred.specs.View.{view_shared};
+ghost use Rattle.week_windows.specs.Windows.{case_windows};
+
+use crate::inferred::Inferred;
+use crate::members::{
+    Out, begin, begin_list, bits_of, end, end_list, push_count, push_flag, push_kind, push_number,
+    push_text,
+};
+use clock_infer::{ClockFault, ClockMap, NodeClock};
+use liq_base::{Memory, Text};
+use plan_core::{Node, Op, Plan, SinkPlan};
+use std::alloc::Global;
+use time_pred::SharedPred;
+use week_windows::{Windows, windows_of};
+
+/// Writes the members of a plan.
+pub fn push_plan(
+    alloc: Global,
+    out: &mut Out,
+    plan: &Plan,
+    inferred: &Inferred,
+) -> Result<(), Memory>
+    ensures { OnOk result (Adds out.old out.new (plan_members plan.now inferred.now)) }
+{
+    push_number(out, "rate", u64::from(plan.rate))?;
+    push_number(out, "tick", u64::from(plan.frame))?;
+    push_outputs(out, plan, inferred)?;
+    push_sources(alloc, out, plan.nodes.as_slice(), &inferred.marks)
+}
+
+fn push_outputs(out: &mut Out, plan: &Plan, inferred: &Inferred) -> Result<(), Memory>
+    ensures { OnOk result (Adds out.old out.new
+        (list_member (codes "outputs") (output_object plan.now inferred.now) plan.now.sinks)) }
+{
+    begin_list(out, "outputs")?;
+    push_each_output(out, plan, inferred)?;
+    end_list(out)
+}
+
+fn push_each_output(out: &mut Out, plan: &Plan, inferred: &Inferred) -> Result<(), Memory>
+    ensures { OnOk result
+        (Adds out.old out.new (each (output_object plan.now inferred.now) plan.now.sinks)) }
+{
+    for sink in plan.sinks.as_slice() {
+        push_output(out, plan, inferred, sink)?;
+    }
+    Ok(())
+}
+
+fn push_output(
+    out: &mut Out,
+    plan: &Plan,
+    inferred: &Inferred,
+    sink: &SinkPlan,
+) -> Result<(), Memory>
+    ensures { OnOk result (Adds out.old out.new (output_object plan.now inferred.now sink.now)) }
+{
+    match sink {
+        SinkPlan::Output {
+            name,
+            node,
+            fallible,
+            wide,
+        } => {
+            begin(out)?;
+            push_text(out, "name", name.as_str())?;
+            push_number(out, "source", u64::from(*node))?;
+            push_number(out, "bits", bits_of(*wide))?;
+            push_flag(out, "fallible", *fallible)?;
+            push_sides(out, plan.nodes.as_slice(), *node)?;
+            push_clock(out, &inferred.clocks, *node)?;
+            end(out)?;
+            Ok(())
+        }
+        SinkPlan::Feed { .. } => Ok(()),
+    }
+}
+
+fn push_sides(out: &mut Out, nodes: &[Node], node: u32) -> Result<(), Memory>
+    ensures { OnOk result (Adds out.old out.new (side_members (slice_get nodes.now node))) }
+{
+    match nodes.get(node as usize) {
+        Some(node) => push_kind(out, node.kind),
+        None => Ok(()),
+    }
+}
+
+fn push_clock(out: &mut Out, clocks: &Result<ClockMap, ClockFault>, node: u32) -> Result<(), Memory>
+    ensures { OnOk result (Adds out.old out.new (clock_members clocks.now node)) }
+{
+    match clocks {
+        Ok(clocks) => push_clock_of(out, clocks, node),
+        Err(_) => Ok(()),
+    }
+}
+
+fn push_clock_of(out: &mut Out, clocks: &ClockMap, node: u32) -> Result<(), Memory>
+    ensures { OnOk result (Adds out.old out.new (main_members clocks.now (slice_get clocks.now.of node))) }
+{
+    match clocks.of.as_slice().get(node as usize) {
+        Some(clock) => push_main_clock(out, clocks, *clock),
+        None => Ok(()),
+    }
+}
+
+fn push_main_clock(out: &mut Out, clocks: &ClockMap, clock: NodeClock) -> Result<(), Memory>
+    ensures { OnOk result (Adds out.old out.new (main_members clocks.now (Some clock))) }
+{
+    match clock {
+        NodeClock::Main(number) => push_clock_name(out, clocks.names.as_slice(), number),
+        NodeClock::Sub(_) => Ok(()),
+    }
+}
+
+fn push_clock_name(out: &mut Out, names: &[Text], number: u32) -> Result<(), Memory>
+    ensures { OnOk result (Adds out.old out.new (name_members (slice_get names.now number))) }
+{
+    match names.get(number as usize) {
+        Some(name) => push_text(out, "clock", name.as_str()),
+        None => Ok(()),
+    }
+}
+
+fn push_sources(alloc: Global, out: &mut Out, nodes: &[Node], marks: &[bool]) -> Result<(), Memory>
+    ensures { OnOk result
+        (Adds out.old out.new (paired_member (codes "sources") source_object nodes.now marks.now)) }
+{
+    begin_list(out, "sources")?;
+    push_each_source(alloc, out, nodes, marks)?;
+    end_list(out)
+}
+
+fn push_each_source(
+    alloc: Global,
+    out: &mut Out,
+    nodes: &[Node],
+    marks: &[bool],
+) -> Result<(), Memory>
+    ensures { OnOk result (Adds out.old out.new (paired source_object nodes.now marks.now)) }
+{
+    for (k, node) in nodes.iter().enumerate() {
+        match marks.get(k) {
+            Some(always) => push_source(alloc, out, node, *always)?,
+            None => return Ok(()),
+        }
+    }
+    Ok(())
+}
+
+fn push_source(alloc: Global, out: &mut Out, node: &Node, always: bool) -> Result<(), Memory>
+    ensures { OnOk result (Adds out.old out.new (source_object node.now always)) }
+{
+    begin(out)?;
+    push_op(alloc, out, &node.op)?;
+    push_kind(out, node.kind)?;
+    push_children(out, node.children.as_slice())?;
+    push_flag(out, "always", always)?;
+    end(out)
+}
+
+fn push_children(out: &mut Out, children: &[u32]) -> Result<(), Memory>
+    ensures { OnOk result (Adds out.old out.new
+        (list_member (codes "children") (λ child. number (decimal child) ∷ []) children.now)) }
+{
+    begin_list(out, "children")?;
+    push_each_child(out, children)?;
+    end_list(out)
+}
+
+fn push_each_child(out: &mut Out, children: &[u32]) -> Result<(), Memory>
+    ensures { OnOk result (Adds out.old out.new (each (λ child. number (decimal child) ∷ []) children.now)) }
+{
+    for child in children {
+        push_count(out, u64::from(*child))?;
+    }
+    Ok(())
+}
+
+fn push_op(alloc: Global, out: &mut Out, op: &Op) -> Result<(), Memory>
+    ensures { OnOk result (Adds out.old out.new (op_members op.now)) }
+{
+    match op {
+        Op::Single(file) => push_file(out, "single", file),
+        Op::Playlist { file, again } => {
+            push_file(out, "playlist", file)?;
+            push_flag(out, "again", *again)?;
+            Ok(())
+        }
+        Op::Blank { track } => push_sized(out, "blank", "track", *track),
+        Op::Square { .. } => push_word(out, "square"),
+        Op::Fail => push_word(out, "fail"),
+        Op::Fallback { sensitive } => push_choice(out, "fallback", *sensitive),
+        Op::Switch { sensitive, preds } => push_switch(alloc, out, *sensitive, preds.as_slice()),
+        Op::Sequence => push_word(out, "sequence"),
+        Op::Rotate => push_word(out, "rotate"),
+        Op::Random { .. } => push_word(out, "random"),
+        Op::Add { .. } => push_word(out, "add"),
+        Op::Amplify { .. } => push_word(out, "amplify"),
+        Op::Mean => push_word(out, "mean"),
+        Op::Stereo => push_word(out, "stereo"),
+        Op::Crossfade { overlap } => push_sized(out, "crossfade", "overlap", u64::from(*overlap)),
+        Op::Buffer(_) => push_word(out, "buffer"),
+        Op::Clock(_) => push_word(out, "clock"),
+    }
+}
+
+fn push_word(out: &mut Out, word: &str) -> Result<(), Memory>
+    ensures { OnOk result (Adds out.old out.new (text_member (codes "op") word.now)) }
+{
+    push_text(out, "op", word)
+}
+
+fn push_file(out: &mut Out, word: &str, file: &Text) -> Result<(), Memory>
+    ensures { OnOk result (Adds out.old out.new
+        (text_member (codes "op") word.now ++ text_member (codes "file") file.now)) }
+{
+    push_word(out, word)?;
+    push_text(out, "file", file.as_str())
+}
+
+fn push_sized(out: &mut Out, word: &str, name: &str, size: u64) -> Result<(), Memory>
+    ensures { OnOk result (Adds out.old out.new
+        (text_member (codes "op") word.now ++ number_member name.now size)) }
+{
+    push_word(out, word)?;
+    push_number(out, name, size)
+}
+
+fn push_choice(out: &mut Out, word: &str, sensitive: bool) -> Result<(), Memory>
+    ensures { OnOk result (Adds out.old out.new
+        (text_member (codes "op") word.now ++ flag_member (codes "sensitive") sensitive)) }
+{
+    push_word(out, word)?;
+    push_flag(out, "sensitive", sensitive)?;
+    Ok(())
+}
+
+fn push_switch(
+    alloc: Global,
+    out: &mut Out,
+    sensitive: bool,
+    preds: &[SharedPred],
+) -> Result<(), Memory>
+    ensures { OnOk result (Adds out.old out.new (text_member (codes "op") (codes "switch")
+        ++ (flag_member (codes "sensitive") sensitive
+        ++ list_member (codes "windows") windows_object (case_windows [] (map view_shared preds.now))))) }
+{
+    let windows = windows_of(alloc, preds)?;
+    push_word(out, "switch")?;
+    push_flag(out, "sensitive", sensitive)?;
+    push_windows(out, &windows)?;
+    Ok(())
+}
+
+// Writes the windows of each case.
+fn push_windows(out: &mut Out, windows: &[Windows]) -> Result<(), Memory>
+    ensures { OnOk result (Adds out.old out.new (list_member (codes "windows") windows_object windows.now)) }
+{
+    begin_list(out, "windows")?;
+    push_each_window(out, windows)?;
+    end_list(out)
+}
+
+fn push_each_window(out: &mut Out, windows: &[Windows]) -> Result<(), Memory>
+    ensures { OnOk result (Adds out.old out.new (each windows_object windows.now)) }
+{
+    for one in windows {
+        push_window(out, *one)?;
+    }
+    Ok(())
+}
+
+fn push_window(out: &mut Out, windows: Windows) -> Result<(), Memory>
+    ensures { OnOk result (Adds out.old out.new (windows_object windows)) }
+{
+    begin(out)?;
+    push_number(out, "count", windows.count)?;
+    push_lengths(out, windows)?;
+    end(out)
+}
+
+fn push_lengths(out: &mut Out, windows: Windows) -> Result<(), Memory>
+    ensures { OnOk result (Adds out.old out.new
+        (if nat_eq windows.count 0 then [] else length_members windows)) }
+{
+    if windows.count == 0 {
+        return Ok(());
+    }
+    push_number(out, "shortest", windows.shortest)?;
+    push_number(out, "longest", windows.longest)?;
+    Ok(())
+}

@@ -1,0 +1,110 @@
+// The tokens of a script.
+ghost use Rattle.std.specs.Prelude.{◌≡◌, OnOk, IfOk, codes};
+ghost use Rattle.station_facts.specs.Members.{Adds, each, list_member, number_member, object};
+ghost use Rattle.station_facts.specs.Tokens.{AreTold, fault_members, kind_word, stop_members, text_item, token_array};
+ghost use Rattle.std.specs.Prelude.{◌++◌};
+
+use crate::members::{Out, begin, begin_list, end, end_list, push_item, push_number};
+use json::Writer;
+use liq_base::Memory;
+use script_lex::{LexFault, Token, TokenKind, lex_front};
+use std::alloc::Global;
+
+/// The tokens of a script as far as they go, and why they go no further, as one object of JSON.
+pub fn tell_tokens(alloc: Global, text: &[u8]) -> Result<Vec<u8>, Memory>
+    ensures { IfOk result (λ told. AreTold text.now told.items) }
+{
+    let (tokens, stop) = lex_front(alloc, text)?;
+    let mut out = Writer::new(Vec::new(alloc));
+    push_front(&mut out, &tokens, stop)?;
+    Ok(out.into_inner())
+}
+
+fn push_front(out: &mut Out, tokens: &[Token], stop: Option<LexFault>) -> Result<(), Memory>
+    ensures { OnOk result (Adds out.old out.new
+        (object (list_member (codes "tokens") token_array tokens.now ++ stop_members stop))) }
+{
+    begin(out)?;
+    begin_list(out, "tokens")?;
+    push_each_token(out, tokens)?;
+    end_list(out)?;
+    push_stop(out, stop)?;
+    end(out)
+}
+
+fn push_each_token(out: &mut Out, tokens: &[Token]) -> Result<(), Memory>
+    ensures { OnOk result (Adds out.old out.new (each token_array tokens.now)) }
+{
+    for token in tokens {
+        push_token(out, token)?;
+    }
+    Ok(())
+}
+
+fn push_token(out: &mut Out, token: &Token) -> Result<(), Memory>
+    ensures { OnOk result (Adds out.old out.new (token_array token.now)) }
+{
+    out.begin_array()?;
+    out.string(kind_word(&token.kind))?;
+    out.u64(u64::from(token.start))?;
+    out.u64(u64::from(token.end))?;
+    push_text(out, &token.kind)?;
+    out.end_array()?;
+    Ok(())
+}
+
+fn kind_word(kind: &TokenKind) -> &'static str
+    ensures { result.now ≡ kind_word kind.now }
+{
+    match kind {
+        TokenKind::Name(_) => "name",
+        TokenKind::NameOpen(_) => "open",
+        TokenKind::Int(_) => "int",
+        TokenKind::Number(_) => "number",
+        TokenKind::Str(_) => "text",
+        TokenKind::Time(_) => "time",
+        TokenKind::Keyword(_) => "keyword",
+        TokenKind::Wav => "wav",
+        TokenKind::Symbol(_) => "sign",
+    }
+}
+
+fn push_text(out: &mut Out, kind: &TokenKind) -> Result<(), Memory>
+    ensures { OnOk result (Adds out.old out.new (text_item kind.now)) }
+{
+    match kind {
+        TokenKind::Name(text) => push_item(out, text.as_str()),
+        TokenKind::NameOpen(text) => push_item(out, text.as_str()),
+        TokenKind::Str(text) => push_item(out, text.as_str()),
+        _ => Ok(()),
+    }
+}
+
+fn push_stop(out: &mut Out, stop: Option<LexFault>) -> Result<(), Memory>
+    ensures { OnOk result (Adds out.old out.new (stop_members stop)) }
+{
+    match stop {
+        Some(fault) => push_fault(out, fault),
+        None => Ok(()),
+    }
+}
+
+fn push_fault(out: &mut Out, fault: LexFault) -> Result<(), Memory>
+    ensures { OnOk result (Adds out.old out.new (fault_members fault)) }
+{
+    match fault {
+        LexFault::BadByte(at) => push_placed(out, 1, at),
+        LexFault::UnclosedString(at) => push_placed(out, 2, at),
+        LexFault::NumberTooLarge(at) => push_placed(out, 3, at),
+        LexFault::TextTooLong => push_number(out, "fault", 4),
+        LexFault::Memory => Ok(()),
+    }
+}
+
+fn push_placed(out: &mut Out, number: u64, at: u32) -> Result<(), Memory>
+    ensures { OnOk result (Adds out.old out.new
+        (number_member (codes "fault") number ++ number_member (codes "at") at)) }
+{
+    push_number(out, "fault", number)?;
+    push_number(out, "at", u64::from(at))
+}

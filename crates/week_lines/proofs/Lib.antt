@@ -1,0 +1,5 @@
+mod Marking
+mod Players
+mod Telling
+mod Chains
+mod Counting

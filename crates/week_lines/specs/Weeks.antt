@@ -1,0 +1,98 @@
+-- What is told of the week of a plan.
+use Rattle.std.specs.Prelude.{◌≡◌, ◌↔◌, ℕ, zero, suc, ◌+◌, Bool, true, false, not, ◌&&◌, ◌||◌, Some, List, [], ◌∷◌, ◌++◌, length, map, get_or, slice_get, codes, decimal}
+use Rattle.std.specs.List.{concat}
+use Rattle.std.specs.Option.{option_map_or}
+use Rattle.plan_core.specs.declared.node.Node.{Node}
+use Rattle.plan_core.specs.declared.node.Op.{Op}
+use Rattle.plan_core.specs.declared.node.Op.TheVariants.{Switch}
+use Rattle.plan_core.specs.declared.plan.Plan.{Plan}
+use Rattle.time_pred.specs.Predicates.{Predicate}
+use Rattle.week_plan.specs.Cases.{AreFates}
+use Rattle.week_plan.specs.Spans.{AreHoles, IsDaily, some_case_holds}
+use Rattle.week_plan.specs.Tables.{how_many}
+use Rattle.week_plan.specs.declared.cases.Fate.{Fate}
+use Rattle.week_plan.specs.declared.cases.Fate.TheVariants.{Chosen, Hidden, Never}
+use Rattle.week_plan.specs.declared.span.Span.{Span}
+use Rattle.week_lines.specs.Instead.{IsBelow, instead_of}
+use Rattle.week_lines.specs.Lines.{hole_line, sum_line, switch_text}
+use Rattle.week_lines.specs.declared.above.Instead.{Instead}
+use Rattle.week_lines.specs.declared.above.Instead.TheVariants.{Silence, Next, Unknown}
+
+-- the line of the holes of a switch, if it has some
+abbrev pub holes_text : (number : ℕ) → List Span → (daily : Bool) → Instead → (sensitive below : Bool) → List ℕ
+holes_text number [] daily instead sensitive below = []
+holes_text number (span ∷ spans) daily instead sensitive below =
+    hole_line number (span ∷ spans) daily instead sensitive below
+
+-- cases are counted from 1
+abbrev pub case_text : (number case : ℕ) → List ℕ
+case_text number case = switch_text number ++ (codes "case " ++ decimal (case + 1))
+
+-- the line of a case that is never chosen
+abbrev pub fate_text : (number case : ℕ) → Fate → List ℕ
+fate_text number case Chosen = []
+fate_text number case Hidden = case_text number case
+    ++ codes " is never chosen: where it holds, an earlier case does that always plays\n"
+fate_text number case Never = case_text number case ++ codes " never holds\n"
+
+-- the lines of the cases, the first of them being this one
+abbrev pub fates_text : (number case : ℕ) → List Fate → List ℕ
+fates_text number case [] = []
+fates_text number case (fate ∷ fates) = fate_text number case fate ++ fates_text number (suc case) fates
+
+-- what is told of a switch, where this plays in its place: the line of its holes, and those of its cases
+pub record IsSwitchText (number : ℕ) (instead : Instead) (sensitive below : Bool) (preds : List Predicate)
+    (sure : List Bool) (text : List ℕ) : Type 0 where
+  pub spans : List Span
+  pub holes : AreHoles preds spans
+  pub daily : Bool
+  pub is_daily : (daily ≡ true) ↔ IsDaily (λ at. not (some_case_holds preds at))
+  pub fates : List Fate
+  pub are_fates : AreFates preds sure fates
+  pub lines : text ≡ holes_text number spans daily instead sensitive below ++ fates_text number 0 fates
+
+-- the same of a switch of a plan, and whether it lies below a crossfade
+abbrev pub IsOfSwitch : Plan → (mark : ℕ → Bool) → (number : ℕ) → (sensitive : Bool) → List Predicate
+    → (children : List ℕ) → (text : List ℕ) → Type 0
+IsOfSwitch plan mark number sensitive preds children text =
+    (below : Bool) × ((below ≡ true) ↔ IsBelow plan.nodes number)
+    × IsSwitchText number (instead_of plan number) sensitive below preds (map mark children) text
+
+-- what is told of a source: nothing unless it is a switch
+abbrev pub IsOfSource : Plan → (mark : ℕ → Bool) → (number : ℕ) → Op → (children : List ℕ) → (text : List ℕ) → Type 0
+IsOfSource plan mark number (Switch sensitive preds) children text =
+    IsOfSwitch plan mark number sensitive preds children text
+IsOfSource plan mark number _ children text = text ≡ []
+
+-- what is told of each source, in their order
+pub record AreLines (plan : Plan) (mark : ℕ → Bool) (text : List ℕ) : Type 0 where
+  pub parts : List (List ℕ)
+  pub size : length parts ≡ length plan.nodes
+  pub each : (number : ℕ) (node : Node) → slice_get plan.nodes number ≡ Some node
+      → IsOfSource plan mark number node.op node.children (get_or parts number [])
+  pub joined : text ≡ concat parts
+
+abbrev pub is_silence : Instead → Bool
+is_silence Silence = true
+is_silence Next = false
+is_silence Unknown = false
+
+-- a source is a switch none of whose cases holds at a second, and silence plays in its place
+abbrev pub is_silent_by : Plan → (number : ℕ) → Op → (at : ℕ) → Bool
+is_silent_by plan number (Switch sensitive preds) at =
+    is_silence (instead_of plan number) && not (some_case_holds preds at)
+is_silent_by plan number _ at = false
+
+abbrev pub is_silent : Plan → (number at : ℕ) → Bool
+is_silent plan number at = option_map_or (λ node. is_silent_by plan number node.op at) (slice_get plan.nodes number) false
+
+-- one of the first n sources is
+abbrev pub some_silent : Plan → (n at : ℕ) → Bool
+some_silent plan zero at = false
+some_silent plan (suc n) at = some_silent plan n at || is_silent plan n at
+
+-- what is told of the week of a plan: the lines of its sources, and how long it is silent
+pub record IsWeek (plan : Plan) (mark : ℕ → Bool) (text : List ℕ) : Type 0 where
+  pub lines : List ℕ
+  pub of_sources : AreLines plan mark lines
+  pub told : text ≡ lines ++ sum_line (how_many (some_silent plan (length plan.nodes)) 604800)

@@ -1,0 +1,133 @@
+// What plays in the place of a switch that has nothing to play.
+ghost use Rattle.std.specs.Prelude.{◌≡◌, Some, nat_eq};
+ghost use Rattle.std.specs.List.{list_any};
+ghost use Rattle.plan_core.specs.Plans.{sink_node};
+ghost use Rattle.week_lines.specs.Instead.{child_behind, instead_among, instead_at, instead_below, instead_by, instead_of, is_written, players_of};
+
+use plan_core::{Node, Op, Plan, SinkPlan};
+
+/// What plays while a switch has nothing to play, as far as one source above it says so.
+#[derive(Clone, Copy, Debug, PartialEq, Eq)]
+pub enum Instead {
+    /// Silence: a fallback goes on to a blank.
+    Silence,
+
+    /// A fallback goes on to its next source.
+    Next,
+
+    /// That is not known.
+    Unknown,
+}
+
+/// What plays in the place of a source: where one fallback alone plays it, what that plays next.
+pub fn instead_of(plan: &Plan, number: usize) -> Instead
+    ensures { result ≡ instead_of plan.now number }
+{
+    if is_written(plan.sinks.as_slice(), number) {
+        return Instead::Unknown;
+    }
+    instead_among(plan.nodes.as_slice(), number)
+}
+
+// Whether an output or a buffer takes this source.
+fn is_written(sinks: &[SinkPlan], number: usize) -> bool
+    ensures { result ≡ is_written sinks.now number }
+{
+    for sink in sinks {
+        if taken(sink) as usize == number {
+            return true;
+        }
+    }
+    false
+}
+
+fn taken(sink: &SinkPlan) -> u32
+    ensures { result ≡ sink_node sink.now }
+{
+    match sink {
+        SinkPlan::Output { node, .. } => *node,
+        SinkPlan::Feed { node, .. } => *node,
+    }
+}
+
+// The same where no sink takes it.
+fn instead_among(nodes: &[Node], number: usize) -> Instead
+    ensures { result ≡ instead_among nodes.now number (players_of nodes.now number) }
+{
+    let mut found = false;
+    let mut instead = Instead::Unknown;
+    for node in nodes {
+        if !plays(node.children.as_slice(), number) {
+            continue;
+        }
+        if found {
+            return Instead::Unknown;
+        }
+        found = true;
+        instead = instead_below(nodes, number, node);
+    }
+    instead
+}
+
+fn plays(children: &[u32], number: usize) -> bool
+    ensures { result ≡ list_any (λ child. nat_eq child number) children.now }
+{
+    for child in children {
+        if *child as usize == number {
+            return true;
+        }
+    }
+    false
+}
+
+// What plays in the place of a source that this one alone plays.
+fn instead_below(nodes: &[Node], number: usize, player: &Node) -> Instead
+    ensures { result ≡ instead_below nodes.now number player.now.op player.now.children }
+{
+    match &player.op {
+        Op::Fallback { .. } => next_of(nodes, player.children.as_slice(), number),
+        _ => Instead::Unknown,
+    }
+}
+
+fn next_of(nodes: &[Node], children: &[u32], number: usize) -> Instead
+    ensures { result ≡ instead_at nodes.now (child_behind number children.now) }
+{
+    match child_behind(children, number) {
+        Some(child) => kind_of(nodes, child),
+        None => Instead::Unknown,
+    }
+}
+
+// The first other child behind this one.
+fn child_behind(children: &[u32], number: usize) -> Option<u32>
+    ensures { result ≡ child_behind number children.now }
+{
+    let mut passed = false;
+    for child in children {
+        if *child as usize == number {
+            passed = true;
+        } else if passed {
+            return Some(*child);
+        }
+    }
+    None
+}
+
+fn kind_of(nodes: &[Node], n: u32) -> Instead
+    ensures { result ≡ instead_at nodes.now (Some n) }
+{
+    match nodes.get(n as usize) {
+        Some(node) => kind_by(&node.op),
+        None => Instead::Unknown,
+    }
+}
+
+fn kind_by(op: &Op) -> Instead
+    ensures { result ≡ instead_by op.now }
+{
+    match op {
+        Op::Blank { .. } => Instead::Silence,
+        _ => Instead::Next,
+    }
+}

@@ -1,0 +1,204 @@
+// What is told of the switches of a plan.
+ghost use Rattle.std.specs.Prelude.{◌≡◌, ◌↔◌, ◌++◌, [], ◌&&◌, ◌||◌, ℕ, Bool, List, Some, true, false, not, length, get_or, map, slice_get, IfOk, OnOk};
+ghost use Rattle.fallible_infer.specs.Infallible.{mark_at};
+ghost use Rattle.plan_core.specs.Plans.{IsWellFormed};
+ghost use Rattle.time_pred.specs.View.{view_shared};
+ghost use Rattle.week_plan.specs.Cases.{AreFates};
+ghost use Rattle.week_plan.specs.Spans.{AreSpansOf, IsDaily, some_case_holds};
+ghost use Rattle.week_plan.specs.Tables.{IsTable, IsTableOf, is_told};
+ghost use Rattle.week_plan.specs.declared.span.Span.{Span};
+ghost use Rattle.week_lines.specs.Instead.{IsBelow};
+ghost use Rattle.week_lines.specs.Weeks.{AreLines, IsOfSource, IsSwitchText, fates_text, holes_text, is_silence, is_silent, some_silent};
+
+use crate::above::{Instead, instead_of};
+use crate::below::is_marked;
+use crate::cases::push_cases;
+use crate::lines::push_hole;
+use liq_base::Memory;
+use plan_core::{Node, Op, Plan};
+use std::alloc::Global;
+use time_pred::SharedPred;
+use week_plan::{Seen, Span, Way, is_daily, join, look, spans_of};
+
+/// A switch: its number, what plays in its place, whether a track that runs ends first, and whether it follows the
+/// clock of a crossfade.
+#[derive(Clone, Copy)]
+pub struct Switch {
+    pub number: usize,
+    pub instead: Instead,
+    pub sensitive: bool,
+    pub below: bool,
+}
+
+/// Appends what is told of each source, in their order, and adds to a table the seconds at which one is silent.
+pub fn push_switches(
+    alloc: Global,
+    into: &mut Vec<u8>,
+    silent: &mut [u64],
+    plan: &Plan,
+    marks: &[bool],
+    below: &[bool],
+) -> Result<(), Memory>
+    requires plan { IsWellFormed plan.now }
+    requires empty { into.old.items ≡ [] }
+    requires none { IsTableOf (λ at. false) silent.old }
+    requires below { (number : ℕ) → (get_or below.now number false ≡ true) ↔ IsBelow plan.now.nodes number }
+    ensures lines { OnOk result (AreLines plan.now (mark_at marks.now) into.new.items) }
+    ensures silent { OnOk result (IsTableOf (some_silent plan.now (length plan.now.nodes)) silent.new) }
+{
+    let nodes = plan.nodes.as_slice();
+    for number in 0..nodes.len() {
+        push_node(
+            alloc,
+            into,
+            silent,
+            plan,
+            &nodes[number],
+            marks,
+            below,
+            number,
+        )?;
+    }
+    Ok(())
+}
+
+fn push_node(
+    alloc: Global,
+    into: &mut Vec<u8>,
+    silent: &mut [u64],
+    plan: &Plan,
+    node: &Node,
+    marks: &[bool],
+    below: &[bool],
+    number: usize,
+) -> Result<(), Memory>
+    requires plan { IsWellFormed plan.now }
+    requires node { slice_get plan.now.nodes number ≡ Some node.now }
+    requires table { IsTable silent.old }
+    requires below { (get_or below.now number false ≡ true) ↔ IsBelow plan.now.nodes number }
+    ensures text { OnOk result ((own : List ℕ)
+        × IsOfSource plan.now (mark_at marks.now) number node.now.op node.now.children own
+        × (into.new.items ≡ into.old.items ++ own)) }
+    ensures silent { OnOk result
+        (IsTableOf (λ at. is_told silent.old at || is_silent plan.now number at) silent.new) }
+{
+    match &node.op {
+        Op::Switch { sensitive, preds } => {
+            let switch = Switch {
+                number,
+                instead: instead_of(plan, number),
+                sensitive: *sensitive,
+                below: is_marked(below, number),
+            };
+            push_looked(
+                alloc,
+                into,
+                silent,
+                switch,
+                preds.as_slice(),
+                node.children.as_slice(),
+                marks,
+            )
+        }
+        _ => Ok(()),
+    }
+}
+
+// Appends what is told of a switch with these cases.
+fn push_looked(
+    alloc: Global,
+    into: &mut Vec<u8>,
+    silent: &mut [u64],
+    switch: Switch,
+    preds: &[SharedPred],
+    children: &[u32],
+    marks: &[bool],
+) -> Result<(), Memory>
+    requires size { length children.now ≡ length preds.now }
+    requires table { IsTable silent.old }
+    ensures text { OnOk result ((own : List ℕ)
+        × IsSwitchText switch.number switch.instead switch.sensitive switch.below (map view_shared preds.now)
+        (map (mark_at marks.now) children.now) own
+        × (into.new.items ≡ into.old.items ++ own)) }
+    ensures silent { OnOk result (IsTableOf (λ at. is_told silent.old at
+        || (is_silence switch.instead && not (some_case_holds (map view_shared preds.now) at))) silent.new) }
+{
+    let sure = sure_of(alloc, marks, children)?;
+    let seen = look(alloc, preds, &sure)?;
+    push_seen(alloc, into, silent, switch, &seen)?;
+    Ok(())
+}
+
+// Of each child whether it never falls silent.
+fn sure_of(alloc: Global, marks: &[bool], children: &[u32]) -> Result<Vec<bool>, Memory>
+    ensures { IfOk result (λ sure. sure.items ≡ map (mark_at marks.now) children.now) }
+{
+    let mut sure = Vec::new(alloc);
+    for child in children {
+        sure.push(is_marked(marks, *child as usize))?;
+    }
+    Ok(sure)
+}
+
+// Appends what was seen of a switch.
+fn push_seen(
+    alloc: Global,
+    into: &mut Vec<u8>,
+    silent: &mut [u64],
+    switch: Switch,
+    seen: &Seen,
+) -> Result<(), Memory>
+    requires holes { IsTable seen.now.holes.items }
+    requires table { IsTable silent.old }
+    ensures text { OnOk result ((spans : List Span) × AreSpansOf (is_told seen.now.holes.items) spans
+        × (daily : Bool) × ((daily ≡ true) ↔ IsDaily (is_told seen.now.holes.items))
+        × (into.new.items ≡ into.old.items
+        ++ (holes_text switch.number spans daily switch.instead switch.sensitive switch.below
+        ++ fates_text switch.number 0 seen.now.fates.items))) }
+    ensures silent { OnOk result (IsTableOf (λ at. is_told silent.old at
+        || (is_silence switch.instead && is_told seen.now.holes.items at)) silent.new) }
+{
+    let spans = spans_of(alloc, &seen.holes)?;
+    push_holes(alloc, into, switch, &spans, is_daily(&seen.holes))?;
+    push_cases(into, switch.number, &seen.fates)?;
+    add_silence(silent, switch.instead, &seen.holes);
+    Ok(())
+}
+
+// Appends the line of the holes of a switch, if it has some.
+fn push_holes(
+    alloc: Global,
+    into: &mut Vec<u8>,
+    switch: Switch,
+    spans: &[Span],
+    daily: bool,
+) -> Result<(), Memory>
+    ensures { OnOk result (into.new.items ≡ into.old.items
+        ++ holes_text switch.number spans.now daily switch.instead switch.sensitive switch.below) }
+{
+    match spans {
+        [] => Ok(()),
+        [_, ..] => push_hole(
+            alloc,
+            into,
+            switch.number,
+            spans,
+            daily,
+            switch.instead,
+            switch.sensitive,
+            switch.below,
+        ),
+    }
+}
+
+// Adds the holes of a switch, where they are silence.
+fn add_silence(silent: &mut [u64], instead: Instead, holes: &[u64])
+    requires silent { IsTable silent.old }
+    requires holes { IsTable holes.now }
+    ensures { IsTableOf (λ at. is_told silent.old at || (is_silence instead && is_told holes.now at)) silent.new }
+{
+    match instead {
+        Instead::Silence => join(silent, holes, Way::Either),
+        Instead::Next | Instead::Unknown => {}
+    }
+}

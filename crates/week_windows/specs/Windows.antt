@@ -1,0 +1,63 @@
+-- The windows of the cases of a switch: for how long each of them is the first that holds.
+use Rattle.std.specs.Prelude.{ℕ, zero, suc, ◌+◌, ◌-◌, min, max, Bool, not, ◌&&◌, List, [], ◌∷◌, length, map, nat_eq, if◌then◌else◌}
+use Rattle.std.specs.List.{list_any}
+use Rattle.time_pred.specs.Predicates.{Predicate, holds}
+use Rattle.week_plan.specs.Spans.{some_case_holds}
+use Rattle.week_plan.specs.declared.span.Span.{Span}
+use Rattle.week_windows.specs.declared.windows.Windows.{Windows}
+
+-- one second more, before these spans: the first of them begins with it, or it is a span of its own
+abbrev pub with_second : (at : ℕ) → List Span → List Span
+with_second at [] = record { from = at; to = at + 1 } ∷ []
+with_second at (span ∷ spans) =
+    if nat_eq span.from (at + 1) then record { from = at; to = span.to } ∷ spans
+    else record { from = at; to = at + 1 } ∷ span ∷ spans
+
+-- the spans of what is told of so many seconds, from one on
+unfoldable pub spans_from : (ℕ → Bool) → (at count : ℕ) → List Span
+spans_from test at zero = []
+spans_from test at (suc count) =
+    if test at then with_second at (spans_from test (at + 1) count) else spans_from test (at + 1) count
+
+-- how long a span is; where it ends with the week it goes on, from the beginning of the week, for so many seconds
+abbrev pub seconds_of : (more : ℕ) → Span → ℕ
+seconds_of more span = (span.to - span.from) + (if nat_eq span.to 604800 then more else 0)
+
+-- one of these spans ends with the week
+abbrev pub ends_week : List Span → Bool
+ends_week spans = list_any (λ span. nat_eq span.to 604800) spans
+
+-- How long the windows are that the spans of a week make. The first and the last one are one window where they meet at
+-- the end of the week.
+abbrev pub lengths_of : List Span → List ℕ
+lengths_of [] = []
+lengths_of (first ∷ rest) =
+    if nat_eq first.from 0 && ends_week rest then map (seconds_of first.to) rest
+    else map (seconds_of 0) (first ∷ rest)
+
+-- the least of these and of one more, and the greatest
+abbrev pub least : ℕ → List ℕ → ℕ
+least n [] = n
+least n (m ∷ ms) = least (min n m) ms
+
+abbrev pub greatest : ℕ → List ℕ → ℕ
+greatest n [] = n
+greatest n (m ∷ ms) = greatest (max n m) ms
+
+-- how many windows there are, and the shortest and the longest of them; of none both are 0
+abbrev pub in_all : (lengths : List ℕ) → Windows
+in_all [] = record { count = 0; shortest = 0; longest = 0 }
+in_all (n ∷ ns) = record { count = length ns + 1; shortest = least n ns; longest = greatest n ns }
+
+-- the windows of what is told of each second of the week
+abbrev pub windows_of : (ℕ → Bool) → Windows
+windows_of test = in_all (lengths_of (spans_from test 0 604800))
+
+-- at a second a case holds, and none of the cases before it
+abbrev pub is_first : (earlier : List Predicate) → Predicate → (at : ℕ) → Bool
+is_first earlier pred at = holds pred at && not (some_case_holds earlier at)
+
+-- the windows of each of these cases, which stand behind these earlier ones
+abbrev pub case_windows : (earlier : List Predicate) → List Predicate → List Windows
+case_windows earlier [] = []
+case_windows earlier (pred ∷ preds) = windows_of (is_first earlier pred) ∷ case_windows (pred ∷ earlier) preds

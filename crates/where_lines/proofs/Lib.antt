@@ -1,0 +1,6 @@
+pub mod Walks
+pub mod Faults
+pub mod Beginnings
+pub mod Causing
+pub mod Making
+mod Passed

@@ -1,0 +1,8 @@
+use Rattle.std.proofs.Common.{◌≡◌, None}
+use Rattle.where_lines.specs.Causes.{output_named}
+use Rattle.where_lines.proofs.Faults.{no_plan}
+use Rattle.where_lines.proofs.causes.cause_place.Goals as goal
+
+pub returns-in-Err-clause-none : goal.returns-in-Err-clause-none
+returns-in-Err-clause-none c =
+    no_plan (λ plan. output_named c.args.name.now plan.sinks ≡ None) c.args.text.now c.in-Err.fault c.nowhere.result (c.one_answer.ensures.apart c.args.text.now) c.in-Err.ensures.fault c.nowhere.ensures.fault

@@ -1,0 +1,10 @@
+use Rattle.std.proofs.Common.{◌≡◌, None}
+use Rattle.std.specs.Option.{option_map}
+use Rattle.where_lines.proofs.Passed.{PassedTo}
+use Rattle.where_lines.proofs.passing.pass_lines.Given as goal
+
+abbrev pub invariant-loop : goal.invariant-loop
+invariant-loop g l = record {
+  room : (g.O.Sink.told l.out).room ≡ None;
+  passed : PassedTo l.file (option_map (λ bytes. bytes.now) l.text) (g.R.Read.remaining l.fn.input) (g.R.Read.remaining l.input) (g.O.Sink.told l.fn.out) (g.O.Sink.told l.out);
+}

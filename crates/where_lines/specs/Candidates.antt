@@ -1,0 +1,26 @@
+-- What the search for a call finds on its way; these are for the functions of `src/calls.rt` alone.
+use Rattle.std.specs.Prelude.{◌≡◌, ℕ, Bool, true, false, List, ◌++◌, take, Some, slice_get}
+use Rattle.script_lex.specs.declared.token.Token.{Token}
+use Rattle.where_lines.specs.declared.calls.Bracket.{Bracket}
+use Rattle.where_lines.specs.declared.calls.Bracket.TheVariants as bracket
+use Rattle.where_lines.specs.declared.calls.Found.{Found}
+use Rattle.where_lines.specs.Calls.{calls_of, newest, part}
+
+-- the calls that are closed among some tokens
+abbrev pub AreCalls : List ℕ → List Token → List ℕ → List Bracket → Type 0
+AreCalls text tokens texts brackets = calls_of text tokens ≡ record { texts = texts; brackets = brackets }
+
+-- a call that one of these tokens closes
+pub record IsCandidate (text : List ℕ) (tokens : List Token) (found : Found) : Type 0 where
+  pub number : ℕ
+  pub last : Token
+  pub last_is : slice_get tokens number ≡ Some last
+  pub is_open : newest (calls_of text (take number tokens)).brackets ≡ Some (bracket.Call found.start found.others)
+  pub texts_are : found.texts.items ≡ (calls_of text (take number tokens)).texts
+  pub ends : found.end ≡ last.end
+
+-- it tells what is wanted
+pub record IsCalled (Tells : List ℕ → Bool → Type 0) (text front : List ℕ) (found : Found) (at : ℕ) : Type 0 where
+  pub begins : at ≡ found.start
+  pub before : Tells (front ++ found.texts.items) false
+  pub with_it : Tells (front ++ (take found.others found.texts.items ++ part text found.start found.end)) true

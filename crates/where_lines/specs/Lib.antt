@@ -1,0 +1,10 @@
+pub mod Beginning
+pub mod Calls
+pub mod Candidates
+pub mod Causes
+pub mod Clashes
+pub mod Nowhere
+pub mod Sources
+pub mod Texts
+pub mod Wanted
+pub mod Passes

@@ -1,0 +1,315 @@
+// The call of a statement that tells what is wanted.
+ghost use Rattle.std.specs.Prelude.{◌≡◌, ◌++◌, false, IfOk, IfSome, OnOk, Some, take};
+ghost use Rattle.where_lines.specs.declared.calls.Bracket.TheVariants as bracket;
+ghost use Rattle.where_lines.specs.Calls.{IsCaller, calls_from, newest, brackets_behind, role_of, symbol_role, texts_behind, with_closed};
+ghost use Rattle.where_lines.specs.Candidates.{AreCalls, IsCalled, IsCandidate};
+ghost use Rattle.where_lines.specs.Wanted.{Tells};
+
+use crate::fronts::{front, joined, part};
+use crate::wanted::{Wanted, tells};
+use liq_base::Memory;
+use script_lex::{Keyword, Symbol, Token, TokenKind};
+use std::alloc::Global;
+
+/// What stands open.
+#[derive(Clone, Copy)]
+pub enum Bracket {
+    /// A call from this byte on, before which the texts had so many bytes.
+    Call { start: usize, others: usize },
+
+    /// Another bracket.
+    Other,
+}
+
+/// What a token does to what stands open.
+#[derive(Clone, Copy)]
+pub enum Role {
+    /// It opens a call.
+    OpensCall,
+
+    /// It opens another bracket.
+    Opens,
+
+    /// It closes one.
+    Closes,
+
+    /// Neither.
+    Neither,
+}
+
+/// The texts of the calls that are closed among some tokens, each whole and none within another, a line for each; and
+/// what stands open behind them.
+#[derive(Drop)]
+pub struct Calls {
+    pub texts: Vec<u8>,
+    pub brackets: Vec<Bracket>,
+}
+
+/// A call with the texts of those before it, of which the first bytes, so many, are no arguments of it.
+#[derive(Drop)]
+pub struct Found {
+    pub texts: Vec<u8>,
+    pub others: usize,
+    pub start: usize,
+    pub end: usize,
+}
+
+/// The byte at which the call begins, among the tokens of a statement, that tells what is wanted behind a front of the
+/// script; nothing where none is found. Calls are made in the order in which they are closed.
+pub fn caller(
+    alloc: Global,
+    text: &[u8],
+    done: &[u8],
+    tokens: &[Token],
+    wanted: Wanted,
+) -> Result<Option<usize>, Memory>
+    ensures { IfOk result (λ at. IfSome at (IsCaller (Tells wanted) text.now done.now tokens.now)) }
+{
+    match candidate(alloc, text, done, tokens, wanted)? {
+        Some(found) => confirmed(alloc, text, done, &found, wanted),
+        None => Ok(None),
+    }
+}
+
+// Where a call begins, if it tells what is wanted and those before it do not.
+fn confirmed(
+    alloc: Global,
+    text: &[u8],
+    done: &[u8],
+    found: &Found,
+    wanted: Wanted,
+) -> Result<Option<usize>, Memory>
+    ensures { IfOk result (λ at. IfSome at (IsCalled (Tells wanted) text.now done.now found.now)) }
+{
+    match tells_with(alloc, done, &found.texts, wanted)? {
+        Some(false) => told_with_call(alloc, text, done, found, wanted),
+        Some(true) => Ok(None),
+        None => Ok(None),
+    }
+}
+
+// The same, where those before it do not tell it.
+fn told_with_call(
+    alloc: Global,
+    text: &[u8],
+    done: &[u8],
+    found: &Found,
+    wanted: Wanted,
+) -> Result<Option<usize>, Memory>
+    requires { Tells wanted (done.now ++ found.now.texts.items) false }
+    ensures { IfOk result (λ at. IfSome at (IsCalled (Tells wanted) text.now done.now found.now)) }
+{
+    let call = part(text, found.start, found.end);
+    let texts = joined(alloc, front(&found.texts, found.others), call)?;
+    match tells_with(alloc, done, &texts, wanted)? {
+        Some(true) => Ok(Some(found.start)),
+        Some(false) => Ok(None),
+        None => Ok(None),
+    }
+}
+
+// Whether a front of the script with the texts of calls behind it tells what is wanted.
+fn tells_with(
+    alloc: Global,
+    done: &[u8],
+    texts: &[u8],
+    wanted: Wanted,
+) -> Result<Option<bool>, Memory>
+    ensures { IfOk result (λ told. IfSome told (Tells wanted (done.now ++ texts.now))) }
+{
+    let whole = joined(alloc, done, texts)?;
+    tells(alloc, &whole, wanted)
+}
+
+// The call that may tell it. With the calls that are closed before token `low` it is not told, with those before token
+// `high` it is: the token in the middle takes the place of one of them, until they are neighbours.
+fn candidate(
+    alloc: Global,
+    text: &[u8],
+    done: &[u8],
+    tokens: &[Token],
+    wanted: Wanted,
+) -> Result<Option<Found>, Memory>
+    ensures { IfOk result (λ found. IfSome found (IsCandidate text.now tokens.now)) }
+{
+    match last_token(alloc, text, done, tokens, wanted)? {
+        Some(low) => found_at(alloc, text, tokens, low),
+        None => Ok(None),
+    }
+}
+
+// The number of the token that closes it.
+fn last_token(
+    alloc: Global,
+    text: &[u8],
+    done: &[u8],
+    tokens: &[Token],
+    wanted: Wanted,
+) -> Result<Option<usize>, Memory> {
+    if is_source(wanted) && tokens.iter().any(|token| is_if(&token.kind)) {
+        return Ok(None);
+    }
+    let mut low: usize = 0;
+    let mut high = tokens.len();
+    for _ in 0..64 {
+        let middle = low.saturating_add(high.saturating_sub(low) / 2);
+        if middle == low {
+            break;
+        }
+        let calls = closed_calls(alloc, text, first_tokens(tokens, middle))?;
+        match tells_with(alloc, done, &calls.texts, wanted)? {
+            Some(true) => high = middle,
+            Some(false) => low = middle,
+            None => return Ok(None),
+        }
+    }
+    Ok(Some(low))
+}
+
+// The call that a token closes.
+fn found_at(
+    alloc: Global,
+    text: &[u8],
+    tokens: &[Token],
+    number: usize,
+) -> Result<Option<Found>, Memory>
+    ensures { IfOk result (λ found. IfSome found (IsCandidate text.now tokens.now)) }
+{
+    match tokens.get(number) {
+        Some(last) => {
+            let calls = closed_calls(alloc, text, first_tokens(tokens, number))?;
+            Ok(closed_by(calls, last.end as usize))
+        }
+        None => Ok(None),
+    }
+}
+
+// The call that ends here.
+fn closed_by(calls: Calls, end: usize) -> Option<Found>
+    ensures { IfSome result (λ found. (newest calls.brackets.items ≡ Some (bracket.Call found.start found.others))
+        × (found.texts.items ≡ calls.texts.items) × (found.end ≡ end)) }
+{
+    match newest(&calls.brackets) {
+        Some(Bracket::Call { start, others }) => Some(Found {
+            texts: calls.texts,
+            others,
+            start,
+            end,
+        }),
+        _ => None,
+    }
+}
+
+fn newest(brackets: &[Bracket]) -> Option<Bracket>
+    ensures { result ≡ newest brackets.now }
+{
+    brackets.last().copied()
+}
+
+fn first_tokens(tokens: &[Token], count: usize) -> &[Token]
+    ensures { result.now ≡ take count tokens.now }
+{
+    let (first, _) = tokens.split_at(count.min(tokens.len()));
+    first
+}
+
+fn closed_calls(alloc: Global, text: &[u8], tokens: &[Token]) -> Result<Calls, Memory>
+    ensures { IfOk result (λ calls. AreCalls text.now tokens.now calls.texts.items calls.brackets.items) }
+{
+    let mut texts = Vec::new(alloc);
+    let mut brackets = Vec::new(alloc);
+    read_all(&mut texts, &mut brackets, text, tokens)?;
+    Ok(Calls { texts, brackets })
+}
+
+fn read_all(
+    texts: &mut Vec<u8>,
+    brackets: &mut Vec<Bracket>,
+    text: &[u8],
+    tokens: &[Token],
+) -> Result<(), Memory>
+    ensures { OnOk result (calls_from text.now (record {
+      texts = texts.old.items;
+      brackets = brackets.old.items;
+    }) tokens.now ≡ record { texts = texts.new.items; brackets = brackets.new.items }) }
+{
+    for token in tokens {
+        read(texts, brackets, text, token)?;
+    }
+    Ok(())
+}
+
+// Takes one token more.
+fn read(
+    texts: &mut Vec<u8>,
+    brackets: &mut Vec<Bracket>,
+    text: &[u8],
+    token: &Token,
+) -> Result<(), Memory>
+    ensures texts { OnOk result (texts.new.items
+        ≡ texts_behind text.now token.now (role_of token.now.kind) texts.old.items brackets.old.items) }
+    ensures brackets { OnOk result (brackets.new.items
+        ≡ brackets_behind token.now (role_of token.now.kind) texts.old.items brackets.old.items) }
+{
+    match role_of(&token.kind) {
+        Role::OpensCall => brackets.push(Bracket::Call {
+            start: token.start as usize,
+            others: texts.len(),
+        })?,
+        Role::Opens => brackets.push(Bracket::Other)?,
+        Role::Closes => {
+            close(texts, newest(brackets), text, token.end as usize)?;
+            brackets.truncate(brackets.len().saturating_sub(1));
+        }
+        Role::Neither => {}
+    }
+    Ok(())
+}
+
+// Adds the call that ends here, if it is one, in the place of its arguments.
+fn close(
+    texts: &mut Vec<u8>,
+    innermost: Option<Bracket>,
+    text: &[u8],
+    end: usize,
+) -> Result<(), Memory>
+    ensures { OnOk result (texts.new.items ≡ with_closed text.now end texts.old.items innermost) }
+{
+    if let Some(Bracket::Call { start, others }) = innermost {
+        texts.truncate(others);
+        texts.extend_from_slice(part(text, start, end))?;
+        texts.push(b'\n')?;
+    }
+    Ok(())
+}
+
+fn role_of(kind: &TokenKind) -> Role
+    ensures { result ≡ role_of kind.now }
+{
+    match kind {
+        TokenKind::NameOpen(_) => Role::OpensCall,
+        TokenKind::Symbol(symbol) => symbol_role(*symbol),
+        _ => Role::Neither,
+    }
+}
+
+fn symbol_role(symbol: Symbol) -> Role
+    ensures { result ≡ symbol_role symbol }
+{
+    match symbol {
+        Symbol::OpenRound | Symbol::OpenSquare | Symbol::OpenCurly => Role::Opens,
+        Symbol::CloseRound | Symbol::CloseSquare | Symbol::CloseCurly => Role::Closes,
+        _ => Role::Neither,
+    }
+}
+
+fn is_source(wanted: Wanted) -> bool {
+    match wanted {
+        Wanted::Source(_) => true,
+        Wanted::Clash => false,
+    }
+}
+
+fn is_if(kind: &TokenKind) -> bool {
+    matches!(kind, TokenKind::Keyword(Keyword::If))
+}

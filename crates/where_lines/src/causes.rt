@@ -1,0 +1,92 @@
+// What leaves an output without a sound.
+ghost use Rattle.std.specs.Prelude.{◌≡◌, ◌≢◌, ◌<◌, None, IfOk, IfSome, length};
+ghost use Rattle.plan_core.specs.Plans.{IsWellFormed};
+ghost use Rattle.script_plan.specs.Plans.{IsPlan};
+ghost use Rattle.where_lines.specs.Causes.{IsCauseAt, IsCauseOf, node_named, output_named};
+ghost use Rattle.where_lines.specs.Nowhere.{HasNoOutput};
+
+use crate::sources::{nowhere, source_place};
+use liq_base::Memory;
+use plan_blames::cause;
+use plan_core::{Plan, SinkPlan};
+use script_plan::{laws, plan_of};
+use std::alloc::Global;
+
+/// The byte at which the call begins that makes the source which is to be mended so that an output never falls silent:
+/// down from the output's, as long as one source alone is needed. Nothing where the script has no plan or no such
+/// output.
+pub fn cause_place(alloc: Global, text: &[u8], name: &[u8]) -> Result<Option<usize>, Memory>
+    ensures place { IfOk result (λ at. IfSome at (IsCauseAt text.now name.now)) }
+    ensures none { IfOk result (λ at. at ≡ None → HasNoOutput text.now name.now) }
+{
+    laws::one_answer();
+    match plan_of(alloc, text) {
+        Ok(plan) => cause_in(alloc, text, &plan, name),
+        Err(fault) => nowhere(&fault),
+    }
+}
+
+// The same, where this is the plan.
+fn cause_in(alloc: Global, text: &[u8], plan: &Plan, name: &[u8]) -> Result<Option<usize>, Memory>
+    requires plan { IsPlan text.now plan.now }
+    requires well_formed { IsWellFormed plan.now }
+    ensures place { IfOk result (λ at. IfSome at (IsCauseAt text.now name.now)) }
+    ensures none { IfOk result (λ at. at ≡ None → HasNoOutput text.now name.now) }
+{
+    laws::one_answer();
+    match output_of(plan, name) {
+        Some(output) => cause_of(alloc, text, plan, output),
+        None => Ok(None),
+    }
+}
+
+// The place of what is to be mended for a source.
+fn cause_of(alloc: Global, text: &[u8], plan: &Plan, output: u32) -> Result<Option<usize>, Memory>
+    requires plan { IsPlan text.now plan.now }
+    requires well_formed { IsWellFormed plan.now }
+    requires there { output < length plan.now.nodes }
+    ensures place { IfOk result (λ at. IfSome at (IsCauseOf text.now plan.now output)) }
+    ensures some { IfOk result (λ at. at ≢ None) }
+{
+    let source = cause(plan.nodes.as_slice(), output);
+    source_place(alloc, text, source as u64)
+}
+
+// The node of the first output of this name.
+fn output_of(plan: &Plan, name: &[u8]) -> Option<u32>
+    requires { IsWellFormed plan.now }
+    ensures named { result ≡ output_named name.now plan.now.sinks }
+    ensures there { IfSome result (λ node. node < length plan.now.nodes) }
+{
+    output_named(name, plan.sinks.as_slice())
+}
+
+fn output_named(name: &[u8], sinks: &[SinkPlan]) -> Option<u32>
+    ensures { result ≡ output_named name.now sinks.now }
+{
+    for sink in sinks {
+        if let Some(node) = node_named(name, sink) {
+            return Some(node);
+        }
+    }
+    None
+}
+
+fn node_named(name: &[u8], sink: &SinkPlan) -> Option<u32>
+    ensures { result ≡ node_named name.now sink.now }
+{
+    match sink {
+        SinkPlan::Output {
+            name: other,
+            node,
+            ..
+        } => {
+            if other.as_str().as_bytes() == name {
+                Some(*node)
+            } else {
+                None
+            }
+        }
+        SinkPlan::Feed { .. } => None,
+    }
+}

@@ -1,0 +1,140 @@
+// Parts of a script.
+ghost use Rattle.std.specs.Prelude.{◌≡◌, ◌<◌, ◌++◌, IfOk, take, drop};
+ghost use Rattle.script_grammar.specs.Placed.{IsPlaced};
+ghost use Rattle.script_grammar.specs.View.{view_script};
+ghost use Rattle.where_lines.specs.Calls.{part};
+ghost use Rattle.where_lines.specs.Sources.{before, begins_at, beginning, begins_def, calling, first_of, is_def, is_def_word, or_all, tokens_of};
+
+use liq_base::Memory;
+use script_grammar::tree::Script;
+use script_lex::{Keyword, Token, TokenKind};
+use script_places::{first_token, start};
+use std::alloc::Global;
+
+/// What stands before a statement; behind the last one, the whole text.
+pub fn before<'a>(text: &'a [u8], tokens: &[Token], script: &Script, statement: u64) -> &'a [u8]
+    requires { IsPlaced 0 (view_script script.now) }
+    ensures { result.now ≡ before text.now tokens.now (view_script script.now) statement }
+{
+    front(text, beginning(text, tokens, script, statement))
+}
+
+/// Where a statement begins; behind the last one, the end.
+pub fn beginning(text: &[u8], tokens: &[Token], script: &Script, statement: u64) -> usize
+    requires { IsPlaced 0 (view_script script.now) }
+    ensures { result ≡ beginning text.now tokens.now (view_script script.now) statement }
+{
+    begins_at(text.len(), tokens, first_token(script, statement))
+}
+
+// Where a first token begins; where there is none, the end.
+fn begins_at(total: usize, tokens: &[Token], first: Option<u64>) -> usize
+    ensures { result ≡ begins_at total tokens.now first }
+{
+    match first {
+        Some(token) => start(total, tokens, token),
+        None => total,
+    }
+}
+
+/// The first bytes of a text.
+pub fn front(text: &[u8], at: usize) -> &[u8]
+    ensures { result.now ≡ take at text.now }
+{
+    &text[..at.min(text.len())]
+}
+
+// What stands from the byte of this number on.
+fn behind(text: &[u8], at: usize) -> &[u8]
+    ensures { result.now ≡ drop at text.now }
+{
+    let (_, behind) = text.split_at(at.min(text.len()));
+    behind
+}
+
+/// A text from one byte up to another.
+pub fn part(text: &[u8], from: usize, to: usize) -> &[u8]
+    ensures { result.now ≡ part text.now from to }
+{
+    front(behind(text, from), to.saturating_sub(from))
+}
+
+/// One text behind another.
+pub fn joined(alloc: Global, first: &[u8], second: &[u8]) -> Result<Vec<u8>, Memory>
+    ensures { IfOk result (λ both. both.items ≡ first.now ++ second.now) }
+{
+    let mut both = Vec::new(alloc);
+    both.extend_from_slice(first)?;
+    both.extend_from_slice(second)?;
+    Ok(both)
+}
+
+/// The tokens of a statement.
+pub fn tokens_of<'a>(tokens: &'a [Token], script: &Script, statement: u64) -> &'a [Token]
+    requires placed { IsPlaced 0 (view_script script.now) }
+    requires next { statement < u64.MAX }
+    ensures { result.now ≡ tokens_of tokens.now (view_script script.now) statement }
+{
+    let end = first_of(tokens, script, statement + 1);
+    let (upto, _) = tokens.split_at(end.min(tokens.len()));
+    let first = first_of(tokens, script, statement);
+    let (_, own) = upto.split_at(first.min(upto.len()));
+    own
+}
+
+/// What of the tokens of a statement may hold calls: of a def, what stands behind its name, which opens no call.
+pub fn calling(tokens: &[Token]) -> &[Token]
+    ensures { result.now ≡ calling tokens.now }
+{
+    if begins_def(tokens) {
+        let (_, behind) = tokens.split_at(tokens.len().min(2));
+        behind
+    } else {
+        tokens
+    }
+}
+
+fn begins_def(tokens: &[Token]) -> bool
+    ensures { result ≡ begins_def tokens.now }
+{
+    match tokens.first() {
+        Some(first) => is_def(&first.kind),
+        None => false,
+    }
+}
+
+fn is_def(kind: &TokenKind) -> bool
+    ensures { result ≡ is_def kind.now }
+{
+    match kind {
+        TokenKind::Keyword(word) => is_def_word(*word),
+        _ => false,
+    }
+}
+
+fn is_def_word(word: Keyword) -> bool
+    ensures { result ≡ is_def_word word }
+{
+    match word {
+        Keyword::Def => true,
+        _ => false,
+    }
+}
+
+// The number of the first token of a statement; behind the last one, that of all tokens.
+fn first_of(tokens: &[Token], script: &Script, statement: u64) -> usize
+    requires { IsPlaced 0 (view_script script.now) }
+    ensures { result ≡ first_of tokens.now (view_script script.now) statement }
+{
+    or_all(tokens, first_token(script, statement))
+}
+
+// The number of a first token; where there is none, that of all tokens.
+fn or_all(tokens: &[Token], first: Option<u64>) -> usize
+    ensures { result ≡ or_all tokens.now first }
+{
+    match first {
+        Some(token) => token as usize,
+        None => tokens.len(),
+    }
+}

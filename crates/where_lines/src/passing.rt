@@ -1,0 +1,176 @@
+// Lines that are passed on.
+ghost use Rattle.std.specs.Prelude.{◌≡◌, ◌≢◌, ◌++◌, [], Bool, List, ℕ, None, Some, true, false, IfOk, IfSome, OnOk};
+ghost use Rattle.std.specs.Io.BufRead.{drop_through, ends_with_byte, take_through};
+ghost use Rattle.std.specs.Option.{option_map};
+ghost use Rattle.script_places.specs.Pointing.{pointer};
+ghost use Rattle.where_lines.specs.Passes.{AllPassed, IsBehind, TookAll, closing_of, told_of};
+
+use crate::places::place_of;
+use liq_base::{Memory, Sink};
+use script_places::{named_in, pointer};
+use std::alloc::Global;
+use std::io::{BufRead, ErrorKind};
+
+/// Why lines were not passed on to their end.
+#[derive(Clone, Copy, Debug, PartialEq, Eq)]
+pub enum Broke {
+    /// They could not be read.
+    Input,
+
+    /// They could not be written.
+    Output,
+
+    /// Memory was refused.
+    Memory,
+}
+
+impl From<Memory> for Broke {
+    ghost use Rattle.where_lines.specs.declared.passing.Broke.TheVariants as broke;
+
+    ghost from_gives = { λ _ e. e ≡ broke.Memory };
+
+    fn from(_refused: Memory) -> Broke {
+        Broke::Memory
+    }
+}
+
+/// Passes the lines of a reader on to their end.
+pub fn pass_lines<R: BufRead, O: Sink>(
+    alloc: Global,
+    input: &mut R,
+    out: &mut O,
+    file: &str,
+    text: Option<&[u8]>,
+) -> Result<(), Broke>
+    requires { (O.told out.old).room ≡ None }
+    ensures room { (O.told out.new).room ≡ None }
+    ensures done { OnOk result (AllPassed file.now (option_map (λ bytes. bytes.now) text.entry) (R.remaining input.old)
+        (O.told out.old) (O.told out.new)) }
+{
+    let mut line = Vec::new(alloc);
+    for _ in 0..u64::MAX {
+        if !read_line(input, &mut line)? {
+            return Ok(());
+        }
+        write(out, &line)?;
+        show(alloc, &line, out, file, text)?;
+    }
+    Err(Broke::Input)
+}
+
+// Reads the next line, and answers whether there was one.
+fn read_line<R: BufRead>(input: &mut R, line: &mut Vec<u8>) -> Result<bool, Broke>
+    ensures some { IfOk result (λ is_line. is_line ≡ true → IfSome (R.remaining input.old) (λ rest. (rest ≢ [])
+        × (line.new.items ≡ take_through 10 rest) × (R.remaining input.new ≡ Some (drop_through 10 rest)))) }
+    ensures none { IfOk result (λ is_line. is_line ≡ false → IfSome (R.remaining input.old) (λ rest. rest ≡ [])) }
+{
+    line.clear();
+    match input.read_until(b'\n', line) {
+        Ok(count) => Ok(count > 0),
+        Err(error) => Err(cause_of(error.kind())),
+    }
+}
+
+fn cause_of(kind: ErrorKind) -> Broke {
+    match kind {
+        ErrorKind::OutOfMemory => Broke::Memory,
+        _ => Broke::Input,
+    }
+}
+
+fn write<O: Sink>(out: &mut O, piece: &[u8]) -> Result<(), Broke>
+    requires { (O.told out.old).room ≡ None }
+    ensures room { (O.told out.new).room ≡ None }
+    ensures took { OnOk result (TookAll piece.now (O.told out.old) (O.told out.new)) }
+{
+    match out.append(piece) {
+        Ok(()) => Ok(()),
+        Err(_) => Err(Broke::Output),
+    }
+}
+
+// Shows the place that a line names, if it names one.
+fn show<O: Sink>(
+    alloc: Global,
+    line: &[u8],
+    out: &mut O,
+    file: &str,
+    text: Option<&[u8]>,
+) -> Result<(), Broke>
+    requires { (O.told out.old).room ≡ None }
+    ensures room { (O.told out.new).room ≡ None }
+    ensures behind { OnOk result ((behind : List ℕ)
+        × IsBehind file.now (option_map (λ bytes. bytes.now) text.entry) line.now behind
+        × TookAll behind (O.told out.old) (O.told out.new)) }
+{
+    let behind = behind_of(alloc, line, file, text)?;
+    write(out, &behind)
+}
+
+// What comes behind a line.
+fn behind_of(alloc: Global, line: &[u8], file: &str, text: Option<&[u8]>) -> Result<Vec<u8>, Memory>
+    ensures { IfOk result (λ behind.
+        IsBehind file.now (option_map (λ bytes. bytes.now) text.entry) line.now behind.items) }
+{
+    match text {
+        Some(text) => behind_in(alloc, line, file, text),
+        None => Ok(Vec::new(alloc)),
+    }
+}
+
+// The same where the script could be read.
+fn behind_in(alloc: Global, line: &[u8], file: &str, text: &[u8]) -> Result<Vec<u8>, Memory>
+    ensures { IfOk result (λ behind. IsBehind file.now (Some text.now) line.now behind.items) }
+{
+    let Ok(told) = str::from_utf8(told_of(line)) else {
+        return Ok(Vec::new(alloc));
+    };
+    let Some(named) = named_in(told) else {
+        return Ok(Vec::new(alloc));
+    };
+    let Some(at) = place_of(alloc, line, text, named)? else {
+        return Ok(Vec::new(alloc));
+    };
+    let behind = closed_pointer(alloc, line, file, text, at)?;
+    Ok(behind)
+}
+
+// A line without its LF.
+fn told_of(line: &[u8]) -> &[u8]
+    ensures { result.now ≡ told_of line.now }
+{
+    match line {
+        [told @ .., b'\n'] => told,
+        _ => line,
+    }
+}
+
+// Whether a line has a LF.
+fn is_closed(line: &[u8]) -> bool
+    ensures { result ≡ ends_with_byte 10 line.now }
+{
+    match line {
+        [.., last] => *last == b'\n',
+        [] => false,
+    }
+}
+
+// The two lines of a place, behind the end of a line.
+fn closed_pointer(
+    alloc: Global,
+    line: &[u8],
+    file: &str,
+    text: &[u8],
+    at: usize,
+) -> Result<Vec<u8>, Memory>
+    ensures { IfOk result (λ behind. behind.items ≡ closing_of line.now ++ pointer file.now text.now at) }
+{
+    let lines = pointer(alloc, file, text, at)?;
+    if is_closed(line) {
+        return Ok(lines);
+    }
+    let mut closed = Vec::new(alloc);
+    closed.push(b'\n')?;
+    closed.extend_from_slice(&lines)?;
+    Ok(closed)
+}

@@ -1,0 +1,88 @@
+// Where what a line names begins in a script.
+ghost use Rattle.std.specs.Prelude.{◌≡◌, None, IfOk, IfSome};
+ghost use Rattle.script_lex.specs.Tokens.{AreTokens};
+ghost use Rattle.where_lines.specs.Beginning.{Begins, IsNowhere, IsStatementAt, IsTokenAt, beginning_of};
+ghost use Rattle.where_lines.specs.Nowhere.{HasNoStatement, HasNoStatementAmong, HasNoTokens};
+
+use crate::causes::cause_place;
+use crate::fronts::part;
+use crate::reading::{no_script, no_tokens};
+use crate::sources::{clash_place, source_place};
+use crate::texts::text_place;
+use liq_base::Memory;
+use script_lex::{Token, lex};
+use script_parse::parse;
+use script_places::{Named, first_token, start};
+use std::alloc::Global;
+
+/// The byte of a script at which what a line names begins. A token past the end is the end of the script. Nothing
+/// exactly where the script has no tokens, no such statement, source, text or output. `docs/faults.md` has the place of
+/// each line.
+pub fn place_of(
+    alloc: Global,
+    line: &[u8],
+    text: &[u8],
+    named: Named,
+) -> Result<Option<usize>, Memory>
+    ensures begins { IfOk result (λ at. IfSome at (Begins line.now text.now named)) }
+    ensures none { IfOk result (λ at. at ≡ None → IsNowhere line.now text.now named) }
+{
+    match named {
+        Named::Byte(at) => Ok(Some(at as usize)),
+        Named::Token(token) => token_place(alloc, text, token),
+        Named::Statement(statement) => statement_place(alloc, text, statement),
+        Named::Source(source) => source_place(alloc, text, source),
+        Named::Clash(statement) => clash_place(alloc, text, statement),
+        Named::Text { start, end } => text_place(alloc, text, part(line, start, end)),
+        Named::Fallible { start, end } => cause_place(alloc, text, part(line, start, end)),
+    }
+}
+
+// Where a token begins.
+fn token_place(alloc: Global, text: &[u8], token: u64) -> Result<Option<usize>, Memory>
+    ensures place { IfOk result (λ at. IfSome at (IsTokenAt text.now token)) }
+    ensures none { IfOk result (λ at. at ≡ None → HasNoTokens text.now) }
+{
+    match lex(alloc, text) {
+        Ok(tokens) => Ok(Some(start(text.len(), &tokens, token))),
+        Err(fault) => no_tokens(&fault),
+    }
+}
+
+// Where a statement begins.
+fn statement_place(alloc: Global, text: &[u8], statement: u64) -> Result<Option<usize>, Memory>
+    ensures place { IfOk result (λ at. IfSome at (IsStatementAt text.now statement)) }
+    ensures none { IfOk result (λ at. at ≡ None → HasNoStatement text.now statement) }
+{
+    match lex(alloc, text) {
+        Ok(tokens) => statement_among(alloc, text, &tokens, statement),
+        Err(fault) => no_tokens(&fault),
+    }
+}
+
+// The same, where these are the tokens.
+fn statement_among(
+    alloc: Global,
+    text: &[u8],
+    tokens: &[Token],
+    statement: u64,
+) -> Result<Option<usize>, Memory>
+    requires { AreTokens text.now tokens.now }
+    ensures place { IfOk result (λ at. IfSome at (IsStatementAt text.now statement)) }
+    ensures none { IfOk result (λ at. at ≡ None → HasNoStatementAmong tokens.now statement) }
+{
+    match parse(alloc, text, tokens) {
+        Ok(script) => Ok(beginning_of(text.len(), tokens, first_token(&script, statement))),
+        Err(fault) => no_script(&fault),
+    }
+}
+
+// Where a first token begins, if there is one.
+fn beginning_of(total: usize, tokens: &[Token], first: Option<u64>) -> Option<usize>
+    ensures { result ≡ beginning_of total tokens.now first }
+{
+    match first {
+        Some(token) => Some(start(total, tokens, token)),
+        None => None,
+    }
+}

@@ -1,5 +1,0 @@
-pub mod Walks
-pub mod Faults
-pub mod Beginnings
-pub mod Causing
-pub mod Making

@@ -1,8 +1,0 @@
-use Rattle.std.proofs.Common.{◌≡◌, None}
-use Rattle.where_program.specs.Causes.{output_named}
-use Rattle.where_program.proofs.Faults.{no_plan}
-use Rattle.where_program.proofs.causes.cause_place.Goals as goal
-
-pub returns-in-Err-clause-none : goal.returns-in-Err-clause-none
-returns-in-Err-clause-none c =
-    no_plan (λ plan. output_named c.args.name.now plan.sinks ≡ None) c.args.text.now c.in-Err.fault c.nowhere.result (c.one_answer.ensures.apart c.args.text.now) c.in-Err.ensures.fault c.nowhere.ensures.fault

@@ -1,6 +1,0 @@
-use Rattle.std.proofs.Common.{◌≡◌, drop}
-use Rattle.where_program.specs.Causes.{output_named}
-use Rattle.where_program.proofs.causes.output_named.Given as goal
-
-abbrev pub invariant-loop-sink : goal.invariant-loop-sink
-invariant-loop-sink l = output_named l.name (drop l.sink-index l.sinks) ≡ output_named l.name l.sinks

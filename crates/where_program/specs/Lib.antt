@@ -1,9 +1,0 @@
-pub mod Beginning
-pub mod Calls
-pub mod Candidates
-pub mod Causes
-pub mod Clashes
-pub mod Nowhere
-pub mod Sources
-pub mod Texts
-pub mod Wanted
