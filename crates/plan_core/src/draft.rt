@@ -17,12 +17,6 @@ pub struct Draft {
 
     /// For each node, the most crossfades on a path down from it.
     crossfades: Items<u8>,
-
-    /// For each node, the token of the call that made it.
-    calls: Items<u32>,
-
-    /// The token of the call that is evaluated.
-    call: u32,
 }
 
 impl Model for Draft {
@@ -58,8 +52,6 @@ impl Draft {
         Draft {
             plan,
             crossfades: Items::new(alloc),
-            calls: Items::new(alloc),
-            call: 0,
         }
     }
 
@@ -68,20 +60,6 @@ impl Draft {
         ensures same { result.now ≡ self.now }
     {
         &self.plan
-    }
-
-    /// Notes the token of the call that is evaluated: nodes that are added are noted as made by it.
-    pub fn set_call(&mut self, token: u32)
-        ensures same { self.new ≡ self.old }
-    {
-        self.call = token;
-    }
-
-    /// The plan, and for each node the token of the call that made it, of which no clause speaks.
-    pub fn into_parts(self) -> (Plan, Items<u32>)
-        ensures same { result.0 ≡ self }
-    {
-        (self.plan, self.calls)
     }
 
     /// The plan.
@@ -150,23 +128,11 @@ impl Draft {
         let count = self.crossfades_from(&node);
         self.crossfades.push(count as u8)?;
         match self.plan.push_node(node) {
-            Ok(number) => {
-                self.note_call(nodes);
-                Ok(number)
-            }
+            Ok(number) => Ok(number),
             Err(fault) => {
                 self.crossfades.truncate(nodes);
                 Err(fault)
             }
-        }
-    }
-
-    // Notes by which call the last node was made, if there is memory for it.
-    fn note_call(&mut self, nodes: usize)
-        ensures same { self.new ≡ self.old }
-    {
-        if self.calls.len() == nodes {
-            let _noted = self.calls.push(self.call);
         }
     }
 

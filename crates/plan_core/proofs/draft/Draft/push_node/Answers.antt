@@ -29,5 +29,5 @@ invariant_of-self-in-Err c =
 pub returns-in-Ok-clause-well_formed : goal.returns-in-Ok-clause-well_formed
 returns-in-Ok-clause-well_formed c = λ w over none.
     let room : length c.args.self.now.nodes < MAX_NODES = search rules in
-    let grown : c.note_call.new.self ≡ with_node c.args.self.now c.args.node = search rules in
+    let grown : c.push_node.new.self ≡ with_node c.args.self.now c.args.node = search rules in
     subst (λ (plan : Plan). IsWellFormed plan) (sym grown) (node_keeps c.args.self.now w c.args.node none room over)
