@@ -283,6 +283,33 @@ def python_of(name):
     return None
 
 
-RUNS = (starts_and_words, a_calendar, lists_go_on, what_stops_and_what_is_told, parts_by_memory,
+TWO_CLOCKS = """radio = mksafe(playlist("m.m3u"))
+jingle = {}
+output.file(%wav, "A.wav", mean(radio))
+output.file(%wav, "B.wav", clock(id="other", mean(mksafe(jingle))))"""
+
+
+def windows_of_a_night(place):
+    """Where no source is a buffer a night has windows of 1000 ticks, with the bytes, cues and report of the windows
+    that a call has by itself and of one thread; with a buffer it leaves them to liq."""
+    told = place.path("told")
+    program = place.slow(f"echo \"$*\" >> '{told}'")
+    for jingle, wanted in (('single("j.wav")', ["--window=1000"]), ("buffer(radio)", [])):
+        place.script(TWO_CLOCKS.format(jingle))
+        write_file(place.folder, "told", "")
+        status, _, said = place.run("f", "0.02", program=program)
+        place.wants(f"a night of {jingle}", (status, said), (0, ""))
+        calls = content(told).decode().split("\n")[:-1]
+        place.wants(f"the windows of {jingle}",
+                    [[word for word in call.split() if word.startswith("--window")] for call in calls], [wanted])
+        if wanted:
+            made = [place.made(name) for name in ("A.wav", "B.wav")]
+            for options in ((), ("--one-thread",), ("--window=1",), ("--window=1000",)):
+                place.call(1800, *options)
+                place.wants(f"the bytes of {options}", [place.made(name) for name in ("A.wav", "B.wav")] == made, True)
+    os.remove(told)
+
+
+RUNS = (starts_and_words, a_calendar, lists_go_on, windows_of_a_night, what_stops_and_what_is_told, parts_by_memory,
         a_part_that_is_refused_memory, entries_are_decoded, settings_of_any_form, units_are_right, an_older_python,
         unused_and_unknown_names)

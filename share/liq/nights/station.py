@@ -27,6 +27,7 @@ BROKEN = "the rest of a track into which another source broke: its list goes on"
 LATE = "less than a second of the clock: a switch may come so much later"
 CUT = "the rest of the track that is played: its list goes on behind it"
 AHEAD = 2              # so many times its own length a crossfade or a buffer may read of what is in it
+WINDOW = 1000          # ticks that clocks make, if no buffer joins them, before they wait for each other
 
 
 class Station:
@@ -40,7 +41,7 @@ class Station:
         self.singles = facts.singles
         self.rate, self.tick = facts.rate, facts.tick
         self.width = max(output.bits for output in facts.outputs) // 8         # bytes of a sample
-        self.lost = lost_of(facts)
+        self.lost, self.window = lost_of(facts), window_of(facts)
         self.examine()
 
     def examine(self) -> None:
@@ -105,6 +106,12 @@ def lost_of(facts: Facts) -> List[str]:
     if any(source.op == "switch" for source in facts.sources):
         found.append(LATE)
     return ([CUT] if len(facts.outputs) > 1 else []) + found
+
+
+def window_of(facts: Facts) -> List[str]:
+    """The word of a rendering that says how long its windows are; none where a source is a buffer. Without a buffer no
+    clock hears another one, so the bytes are the same in windows of any length. In long ones clocks wait less often."""
+    return [] if any(source.op == "buffer" for source in facts.sources) else [f"--window={WINDOW}"]
 
 
 def breaks(facts: Facts, source: Source) -> bool:

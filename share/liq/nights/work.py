@@ -155,7 +155,7 @@ class Night:
     def render(self, script: str, names: Dict[str, str], ticks: int) -> int:
         """Renders so many ticks, and answers at how many instants there was nothing to play."""
         before, share = self.done / self.whole, ticks * self.station.tick / self.whole
-        words = [self.program, "render", script, str(ticks), "--cues", f"--start={self.begin()}"]
+        words = [self.program, "render", script, str(ticks), "--cues", f"--start={self.begin()}", *self.station.window]
         try:
             run = Run(words, True, lambda seen: self.line.show(seen, before, share), self.line.clear, ends_with_us=True,
                       pass_fds=self.handles())
