@@ -266,6 +266,21 @@ def unused_and_unknown_names(place):
     place.wants("some were looked at", len(paths) > 100, True)
 
 
+def types_that_differ(place):
+    """Where Debian's mypy is installed it finds nothing in the modules and the commands; other ones find other things."""
+    mypy = shutil.which("mypy")
+    if not mypy or " 1.0." not in subprocess.run([mypy, "--version"], capture_output=True, text=True, check=False).stdout:
+        raise Skipped("mypy 1.0 is missing")
+    modules = os.path.join(TOP, "share", "liq")
+    commands = [path for path in glob.glob(os.path.join(TOP, "bin", "*")) if is_python(path)]
+    for options, paths in ((["--explicit-package-bases", "--namespace-packages"], ["."]),
+                           (["--scripts-are-modules"], commands)):
+        done = subprocess.run([mypy, "--no-error-summary", "--cache-dir", os.path.join(place.folder, "mypy"), *options,
+                               *paths], cwd=modules, capture_output=True, text=True, check=False)
+        place.found += [line for line in (done.stdout + done.stderr).split("\n") if ": error: " in line]
+        place.wants("the status of mypy", done.returncode, 0)
+
+
 def is_python(path):
     """Whether a file is a module or a command of Python."""
     if not os.path.isfile(path) or path.endswith(".pyc"):
@@ -312,4 +327,4 @@ def windows_of_a_night(place):
 
 RUNS = (starts_and_words, a_calendar, lists_go_on, windows_of_a_night, what_stops_and_what_is_told, parts_by_memory,
         a_part_that_is_refused_memory, entries_are_decoded, settings_of_any_form, units_are_right, an_older_python,
-        unused_and_unknown_names)
+        unused_and_unknown_names, types_that_differ)

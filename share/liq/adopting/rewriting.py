@@ -1,11 +1,12 @@
 """A value of Liquidsoap as it is said here. Each edit is noted, and what has no form here stays, with a note."""
 import re
-from typing import Dict, List, Tuple
+from typing import Dict, List, Tuple, Union
 
 from adopting import calls as of_calls
 from adopting import numbers
 from adopting.notes import LESS, SAME, YOU
 from adopting.scope import content, is_plain, quoted
+from adopting.tree import Argument, Node
 
 PREDICATE = re.compile(r"-|and|or|not|true|false|&&|\|\||[()]")
 WORDS = {"&&": "and", "||": "or"}
@@ -38,7 +39,7 @@ class Rewriter:
 
     # Texts.
 
-    def spliced(self, node, changes: List[Tuple[object, str]]) -> str:
+    def spliced(self, node, changes: List[Tuple[Union[Argument, Node], str]]) -> str:
         """The text of a value in which parts of it stand anew."""
         tree, found, begin = self.tree, [], self.tree.at(node)
         for part, text in changes:

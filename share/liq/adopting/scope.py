@@ -20,8 +20,9 @@ class Scope:
         """The names within a def."""
         found = Scope(set(self.values), self.defs, dict(self.texts))
         for parameter in statement.parameters:
-            found.values.add(parameter.label.lstrip("~?"))
-            found.texts.pop(parameter.label.lstrip("~?"), None)
+            name = (parameter.label or "").lstrip("~?")
+            found.values.add(name)
+            found.texts.pop(name, None)
         bind(found, statement.body, tree)
         return found
 
@@ -44,7 +45,7 @@ def quoted(text: str) -> str:
 def as_def(statement: Statement) -> None:
     """Makes a def of a name that is bound to a function."""
     value = statement.value
-    if statement.kind == "bind" and value.kind == "fun" and value.parts:
+    if statement.kind == "bind" and value is not None and value.kind == "fun" and value.parts:
         statement.kind, statement.parameters, statement.body = "def", value.args, value.parts
 
 

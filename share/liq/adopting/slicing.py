@@ -1,7 +1,7 @@
 """What an output plays, from the outputs backwards, and what becomes of each statement."""
 import re
 from dataclasses import dataclass, field
-from typing import Optional, Set
+from typing import List, Optional, Set, Tuple
 
 from adopting import numbers
 from adopting.notes import LESS, SAME, YOU
@@ -65,14 +65,16 @@ class Slicer:
     def directives(self, lines) -> None:
         """Notes what goes of `%ifdef .. %endif` and the like: it is for the reader to decide where something that is
         played stands within."""
-        opened = []
+        opened: List[Tuple[Line, List[Line]]] = []
         for line in lines:
             name = line.statement.name if line.statement.kind == "directive" else ""
             if name.startswith("%if"):
                 opened.append((line, []))
             elif name == "%endif" and opened:
-                for one in (first := opened.pop())[1] + [first[0], line]:
-                    self.directive(one, any(inner.new is not None for inner in first[1]))
+                begin, within = opened.pop()
+                is_played = any(inner.new is not None for inner in within)
+                for one in [*within, begin, line]:
+                    self.directive(one, is_played)
             elif opened:
                 opened[-1][1].append(line)
             elif name:
@@ -158,7 +160,7 @@ class Slicer:
         """One of the two settings that have an effect, or nothing."""
         match = SETTING.fullmatch(self.tree.raw(statement))
         key = KEYS.get(match["dotted"] or match["key"]) if match else None
-        if key is None:
+        if match is None or key is None:
             return None
         form = numbers.whole if key != "frame.duration" else numbers.decimal
         value = form(match["value"]) if "." not in match["value"] or key == "frame.duration" else None

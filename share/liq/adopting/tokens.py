@@ -77,7 +77,7 @@ def token_at(script: str, at: int, before) -> Token:
     match = TOKEN.match(script, at)
     if not match:
         raise Trouble(at, f"no token of Liquidsoap begins with {ascii(script[at])}")
-    kind, text = match.lastgroup, match.group()
+    kind, text = match.lastgroup or "", match.group()
     if kind == "regexp" and before is not None and before.ends_value:
         kind, text = "name", "r"
     return Token("keyword" if text in KEYWORDS else kind, text, at)
@@ -85,7 +85,8 @@ def token_at(script: str, at: int, before) -> Token:
 
 def tokens_of(script: str) -> List[Token]:
     """The tokens of a script without blanks and comments."""
-    found, at = [], 0
+    found: List[Token] = []
+    at = 0
     while at < len(script):
         token = token_at(script, at, found[-1] if found else None)
         at = token.behind

@@ -17,7 +17,7 @@ LITERALS = ("text", "number", "int", "time", "regexp")
 class Argument:
     """An argument of a call or an item of a list: its label or nothing, its value, and its first and last tokens."""
     label: Optional[str]
-    value: "Node"
+    value: Optional["Node"]
     first: int
     behind: int
 

@@ -66,7 +66,7 @@ def of_source(source: Source) -> Optional[str]:
     """Of a source that may have nothing to play by itself."""
     if source.op == "switch":
         return CASES
-    if source.op == "playlist":
+    if source.op == "playlist" and source.file is not None:
         if is_sound(source.file):
             return f"`{source.file}` is a sound, and no list: write `single(\"{source.file}\")`"
         return f"`{source.file}` may have no file that can be played: {ROUND} its `playlist`"

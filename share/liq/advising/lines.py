@@ -3,7 +3,7 @@ import os
 import re
 import stat
 from functools import cached_property
-from typing import Callable, Iterable, Iterator, Optional
+from typing import Callable, Dict, Iterable, Iterator, Optional, Tuple
 
 from advising import bad_bytes, calls, causes, clashing, files, foreign, names, syntax, tables, values
 from advising.script import Script
@@ -33,7 +33,9 @@ def read(file):
 
 def script_of(companion: Optional[Companion], file: str) -> Optional[Script]:
     """A script with its tokens, or nothing where it cannot be read, is long, or the companion has no answer."""
-    data = read(file) if companion else None
+    if companion is None:
+        return None
+    data = read(file)
     try:
         return Script(data, companion.tokens_of(data)) if data is not None and len(data) <= MOST_SCRIPT else None
     except NoAnswer:
@@ -60,12 +62,18 @@ class Advice:
     @cached_property
     def plan(self) -> Optional[Facts]:
         """What the script sets and plays, or nothing where it has no plan."""
-        return facts_of(lambda: self.companion.plan_of(self.script.data))
+        if self.companion is None or self.script is None:
+            return None
+        asked, data = self.companion.plan_of, self.script.data
+        return facts_of(lambda: asked(data))
 
     @cached_property
     def facts(self) -> Optional[Facts]:
         """The same with what becomes of its files; nothing where that takes long."""
-        return facts_of(lambda: self.companion.files(self.file))
+        if self.companion is None:
+            return None
+        asked = self.companion.files
+        return facts_of(lambda: asked(self.file))
 
     def line(self, fault, place=None):
         """The help on a line of a fault, or nothing; `place` is the line and the column that `where` shows. No
@@ -200,7 +208,8 @@ def passed(lines: Iterable[str], file: str, companion: Optional[Companion] = Non
     `lines` are texts with their line ends, of which bytes that are no UTF-8 are surrogates, as by
     `errors="surrogateescape"`; `file` is the script that was checked, and `companion` the program that reads it, without
     which little is known."""
-    advice, fault, place, known = None, None, None, {}
+    advice, fault, place = None, None, None
+    known: Dict[Tuple[str, Optional[Tuple[int, int]]], Optional[str]] = {}
 
     def told():
         nonlocal advice

@@ -1,6 +1,6 @@
 """The edit that a line of help names, where it names one: what stands in the place of which characters of the script."""
 import re
-from typing import NamedTuple, Optional, Tuple
+from typing import Callable, NamedTuple, Optional, Tuple
 
 from advising.bad_bytes import QUOTES
 from advising.foreign import number_before
@@ -163,7 +163,7 @@ def with_digit(fault):
     return Edit(fault.at, fault.at, "0")
 
 
-FORMS = (
+FORMS: Tuple[Tuple[str, Callable[..., Optional[Edit]]], ...] = (
     (r"do you mean `([^`]+)=`\?", label_meant),
     (r"do you mean `([^`]+)`\?", meant),
     (r".* is not closed: `([^`]+)` is missing before this", inserted),

@@ -2,7 +2,7 @@
 import json
 import os
 import subprocess
-from typing import Iterator, List, Optional, Tuple
+from typing import IO, Iterator, List, Optional, Tuple, cast
 
 from airing.failed import Failed
 from pages.cues import NoCues, cues_of
@@ -33,14 +33,15 @@ class Deck:
                  "-ar", str(rate), "-ac", str(SIDES), "pipe:1"]
         self.process = subprocess.Popen(programs.front() + words, stdin=subprocess.DEVNULL, stdout=subprocess.PIPE,
                                         stderr=subprocess.DEVNULL, start_new_session=True)
+        self.samples = cast(IO[bytes], self.process.stdout)       # there, since it is a pipe
 
     def read(self) -> bytes:
         """The next piece; nothing behind the end."""
-        return self.process.stdout.read(self.rate // PIECE * SIDES * WIDTH)
+        return self.samples.read(self.rate // PIECE * SIDES * WIDTH)
 
     def end(self) -> int:
         """Ends the decoder, and answers its status."""
-        self.process.stdout.close()
+        self.samples.close()
         if self.process.poll() is None:
             self.process.terminate()
         return self.process.wait()

@@ -99,9 +99,9 @@ def refusals(program: str, companion: Companion, script: str, facts: Optional[Fa
     elif status == 1:
         is_fault = re.match("E[0-9]{2} ", said or "")
         yield Finding(f"liq refuses the script: {shown(said)}" if is_fault else shown(said))
-        if said == TOO_MUCH:
+        if said == TOO_MUCH and facts is not None:
             yield Finding(f"  {weights_told(facts)}")
-        elif is_fault and not re.match("E2[0-4] ", said):      # what is wrong with files is told already
+        elif said and is_fault and not re.match("E2[0-4] ", said):      # what is wrong with files is told already
             yield from places_and_advice(companion, script, said)
     elif status == 5:
         yield Finding(f"{STATUS.format(5)}: memory is refused, or a type of the script passes its bound")

@@ -163,7 +163,9 @@ class Rooms:
         folder = folder_of(name)
         real = os.path.realpath(folder or ".")
         found = (room for room in self.all if os.path.realpath(room.folder or ".") == real)
-        return next(found, None) or self.add(folder, called)
+        for room in found:
+            return room
+        return self.add(folder, called)
 
     @property
     def first(self) -> Room:

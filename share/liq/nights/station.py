@@ -83,7 +83,7 @@ class Station:
         """The script with other names in place of these."""
         data, at = b"", 0
         for token in self.tokens:
-            if token.kind == "text" and token.text in names:
+            if token.kind == "text" and token.text is not None and token.text in names:
                 other = names[token.text].replace("\\", "\\\\").replace('"', '\\"')
                 data += self.text[at:token.start] + f'"{other}"'.encode(errors="surrogateescape")
                 at = token.end

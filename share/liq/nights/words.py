@@ -1,7 +1,7 @@
 """The words of a call of liq-night."""
 import datetime
 import re
-from typing import List, NamedTuple, Optional
+from typing import Any, Callable, Dict, List, NamedTuple, Optional, Tuple
 
 from pages.times import DAY, DAYS, read_start
 
@@ -83,14 +83,15 @@ def read_loudness(text: str) -> Optional[float]:
 
 
 FLAGS = {"--go-on": "goes_on", "--strict": "is_strict", "--anyway": "is_anyway"}
-READERS = {"part": ("part", read_hours), "calendar": ("calendar", str), "cache": ("cache", str),
-           "cache-size": ("cache_size", read_size), "loudness": ("loudness", read_loudness),
-           "program": ("program", str)}
+READERS: Dict[str, Tuple[str, Callable[[str], Any]]] = {
+    "part": ("part", read_hours), "calendar": ("calendar", str), "cache": ("cache", str),
+    "cache-size": ("cache_size", read_size), "loudness": ("loudness", read_loudness), "program": ("program", str)}
 
 
 def read(words: List[str], now: datetime.datetime) -> Optional[Call]:
     """The call; nothing where the words are wrong."""
-    found, rest = {"when": read_when("1:00:00:00", now)}, []
+    found: Dict[str, Any] = {"when": read_when("1:00:00:00", now)}
+    rest: List[str] = []
     for word in words:
         option, equals, value = word[2:].partition("=")
         if word in FLAGS:

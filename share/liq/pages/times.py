@@ -24,7 +24,10 @@ def read_date(text: str) -> Optional[datetime]:
     it is none."""
     parts = re.fullmatch(r"(\d{4})-(\d\d)-(\d\d)(?:[:T](\d\d):(\d\d)(?::(\d\d))?)?", text, re.ASCII)
     try:
-        return datetime(*(int(part or 0) for part in parts.groups())) if parts else None
+        if parts is None:
+            return None
+        year, month, day, hour, minute, second = (int(part or 0) for part in parts.groups())
+        return datetime(year, month, day, hour, minute, second)
     except ValueError:
         return None
 

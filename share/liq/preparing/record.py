@@ -43,7 +43,7 @@ def is_path(value: object) -> bool:
 
 def is_name(value: object) -> bool:
     """Whether a value is the name of a file below the folder: relative and normal, without `..`."""
-    if not is_path(value) or not value or value.startswith("/") or os.path.normpath(value) != value:
+    if not isinstance(value, str) or not is_path(value) or not value or value.startswith("/") or os.path.normpath(value) != value:
         return False
     parts = value.split("/")
     return ".." not in parts and parts[0] not in (".", ROOM, NAME, NAME + ".part")

@@ -8,7 +8,7 @@ import os
 import re
 import shutil
 from dataclasses import dataclass
-from typing import Dict, List, Optional, Tuple
+from typing import Deque, Dict, List, Optional, Tuple
 
 from preparing import lists, names, sounds, sources, waves
 from preparing.programs import Broken, Programs
@@ -162,7 +162,8 @@ class Work:
         if not todo:
             return
         fine = waves.filter_of(self.programs)
-        progress, running = Progress(len(todo)), collections.deque()
+        progress = Progress(len(todo))
+        running: Deque[Tuple[int, str, "concurrent.futures.Future"]] = collections.deque()
         with concurrent.futures.ThreadPoolExecutor(jobs) as pool:
             try:
                 for number, (source, path) in enumerate(todo):

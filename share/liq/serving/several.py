@@ -22,7 +22,8 @@ def before_edits(at: int, edits: List[Edit]) -> int:
 
 def uncounted(text: str) -> str:
     """What a line of a fault says, without the numbers, which are those of the edited text."""
-    return COUNTED.fullmatch(text)[2]
+    parts = COUNTED.fullmatch(text)
+    return parts[2] if parts else text
 
 
 def step_of(code: str) -> int:

@@ -35,7 +35,7 @@ def placed(file: str, lines: "list[str]") -> Iterator[Told]:
         switch = SWITCH.fullmatch(line)
         if switch:
             place = head.match(behind)
-            yield Told(int(switch[1]), place and place[0], switch[2])
+            yield Told(int(switch[1]), place[0] if place else None, switch[2])
 
 
 def with_places(companion: Companion, file: str, lines: "list[str]") -> "list[str]":
