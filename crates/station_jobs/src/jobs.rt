@@ -1,11 +1,11 @@
 // What is done before the last text is written.
-ghost use Rattle.std.specs.Prelude.{◌≡◌, IfOk, IfErr, None, Ok};
+ghost use Rattle.std.specs.Prelude.{◌≡◌, IfOk, IfErr, None, Ok, Some};
 ghost use Rattle.std.specs.Option.{ForSome};
 ghost use Rattle.liq_base.specs.Shelves.{OnlyRead, ShelfTold};
 ghost use Rattle.station_jobs.specs.declared.halt.Halt.TheVariants.{Memory as no_memory};
 ghost use Rattle.station_jobs.specs.Prepared.{Ended, IsAskedOf, IsOneRuling, granted};
 ghost use Rattle.station_jobs.specs.Read.{asked_to_render};
-ghost use Rattle.station_jobs.specs.Words.{Asked, Check, Render};
+ghost use Rattle.station_jobs.specs.Words.{Asked, Check};
 ghost use Rattle.station_render.specs.Renderings.{Renders};
 ghost use Rattle.station_render.specs.Runs.{IsFitting, station_in};
 ghost use Rattle.stations.specs.Stations.{Way};
@@ -13,8 +13,7 @@ ghost use Rattle.stations.specs.Stations.{Way};
 use crate::form::Rendering;
 use crate::halt::Halt;
 use crate::prepare::{prepare, prepare_check};
-use crate::ticks::Ticks;
-use fixed_text::WeekSecond;
+use crate::window::Window;
 use liq_base::{Gate, Memory, Shelf};
 use station_check::check_report;
 use station_render::{Job, RenderFault, Rendered, render, render_alone, report};
@@ -33,38 +32,10 @@ pub fn check_job<S: Shelf>(alloc: Global, file: &str, shelf: &mut S) -> Result<S
 /// The report of a rendering on one thread, whose outputs, and then their cue files, if they are wanted, are written.
 pub fn alone_job<S: Shelf>(
     alloc: Global,
-    file: &str,
-    start: WeekSecond,
-    ticks: Ticks,
-    cues: bool,
-    shelf: &mut S,
-) -> Result<String, Halt>
-    ensures { Ended (Render file.now start.second ticks.count None None cues) (S.told shelf.old) (S.told shelf.new)
-        result }
-{
-    let work = prepare(alloc, file, None, cues, ticks.count, shelf)?;
-    let job = Job {
-        plan: &work.plan,
-        ready: &work.ready,
-        start,
-        ticks: ticks.count,
-        trace: None,
-        cues,
-    };
-    let ended = render_alone(alloc, &job, shelf);
-    conclude(alloc, &job, ended)
-}
-
-/// The report of a rendering by threads, whose outputs, then their cue files and then its trace, if these are wanted,
-/// are written.
-pub fn threads_job<S: Shelf, G: Gate + Sync, R: Threads + Wait + Sync>(
-    rt: &R,
-    alloc: Global,
     asked: &Rendering<'_>,
     shelf: &mut S,
-    gate: &G,
 ) -> Result<String, Halt>
-    ensures { Ended (asked_to_render asked.now) (S.told shelf.old) (S.told shelf.new) result }
+    ensures { Ended (asked_to_render asked.now None) (S.told shelf.old) (S.told shelf.new) result }
 {
     let ticks = asked.ticks.count;
     let work = prepare(alloc, asked.file, asked.trace, asked.cues, ticks, shelf)?;
@@ -76,7 +47,33 @@ pub fn threads_job<S: Shelf, G: Gate + Sync, R: Threads + Wait + Sync>(
         trace: asked.trace,
         cues: asked.cues,
     };
-    let ended = render(rt, alloc, &job, asked.window.ticks, shelf, gate);
+    let ended = render_alone(alloc, &job, shelf);
+    conclude(alloc, &job, ended)
+}
+
+/// The report of a rendering by threads, whose outputs, then their cue files and then its trace, if these are wanted,
+/// are written.
+pub fn threads_job<S: Shelf, G: Gate + Sync, R: Threads + Wait + Sync>(
+    rt: &R,
+    alloc: Global,
+    asked: &Rendering<'_>,
+    window: Window,
+    shelf: &mut S,
+    gate: &G,
+) -> Result<String, Halt>
+    ensures { Ended (asked_to_render asked.now (Some window.ticks)) (S.told shelf.old) (S.told shelf.new) result }
+{
+    let ticks = asked.ticks.count;
+    let work = prepare(alloc, asked.file, asked.trace, asked.cues, ticks, shelf)?;
+    let job = Job {
+        plan: &work.plan,
+        ready: &work.ready,
+        start: asked.start,
+        ticks,
+        trace: asked.trace,
+        cues: asked.cues,
+    };
+    let ended = render(rt, alloc, &job, window.ticks, shelf, gate);
     conclude(alloc, &job, ended)
 }
 
