@@ -21,7 +21,7 @@ unread words only asked is = let e : ◌≡◌ {A = Option Asked} None (Some ask
 -- what was read is a workload where the words ask for one
 abbrev IsWorkload : Asked → Type 0
 IsWorkload (Check file) = ⊥
-IsWorkload (Render file start ticks window trace cues) = ⊥
+IsWorkload (Render rendering window) = ⊥
 IsWorkload (Make seed size) = ⊤
 IsWorkload (Replay file start ticks trace) = ⊥
 

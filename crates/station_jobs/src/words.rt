@@ -1,7 +1,7 @@
 // The words of a call.
 ghost use Rattle.std.specs.Prelude.{◌≡◌, ℕ, Some, option_map, IfSome, IsSome, IsSomeAnd, OnSome};
 ghost use Rattle.station_jobs.specs.Read.{asked_of, options_of};
-ghost use Rattle.station_jobs.specs.Words.{Asked, AreApart, IsAsked, IsCheck, IsMake, IsOnlyStart, IsRender, IsReplayAsked, Render as AsksToRender, start_in, texts, window_in};
+ghost use Rattle.station_jobs.specs.Words.{Asked, AreApart, IsAsked, IsCheck, IsMake, IsOnlyStart, IsRender, IsReplayAsked, Render as AsksToRender, rendering_by, start_in, texts, window_in};
 
 use crate::form::{Form, Rendering};
 use crate::options::{Options, read_options, read_start_option, start_of, window_of};
@@ -99,8 +99,8 @@ fn read_only_start(options: &[String]) -> Option<WeekSecond>
 // The rendering of so many ticks that options ask for; nothing where a window or a trace stands beside `--one-thread`.
 fn form_of<'a>(file: &'a str, ticks: Ticks, options: Options<'a>) -> Option<Form<'a>>
     ensures found { IfSome result (λ form. asked_of form
-        ≡ AsksToRender file.now (start_in (options_of options.entry)) ticks.count (window_in (options_of options.entry))
-        (options_of options.entry).trace (options_of options.entry).cues) }
+        ≡ AsksToRender (rendering_by file.now (start_in (options_of options.entry)) ticks.count
+        (options_of options.entry).trace (options_of options.entry).cues) (window_in (options_of options.entry))) }
     ensures apart { OnSome result (AreApart (options_of options.entry)) }
     ensures only { AreApart (options_of options.entry) → IsSome result }
 {

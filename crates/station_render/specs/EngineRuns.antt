@@ -22,8 +22,8 @@ use Rattle.station_render.specs.declared.output_sink.OutputSink.{OutputSink}
 
 -- the engines of a job have made so many ticks, in some run
 abbrev pub HaveEnded : {S : Type 0} → Job → List (ClockEngine S) → Type 0
-HaveEnded job engines = (setting : Setting) × (world : Setting) × (ticks : ℕ) × (setting.plan ≡ job.plan.now)
-    × (setting.clocks ≡ job.ready.now.clocks.of) × ArePast setting world ticks engines
+HaveEnded job engines = (setting : Setting) × (world : Setting) × (ticks : ℕ) × (setting.plan ≡ job.plan)
+    × (setting.clocks ≡ job.ready.clocks.of) × ArePast setting world ticks engines
 
 -- The outputs of a plan were created, in this order of their clocks, by a shelf that told this, and the engines of all
 -- clocks took the sinks, each of which holds its header and has room for its samples. No tick was made.

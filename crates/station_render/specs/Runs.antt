@@ -42,15 +42,15 @@ name_in job = option_map (λ (name : Bor (List ℕ)). name.now) job.trace
 
 -- what a job may rely on
 abbrev pub IsFitting : Job → Type 0
-IsFitting job = IsFit job.plan.now job.ready.now.library job.ready.now.clocks job.ticks
+IsFitting job = IsFit job.plan job.ready.library job.ready.clocks job.ticks
 
 -- what the streams of a job rest on, before its buffers have answered
 abbrev pub setting_by : Job → Setting
-setting_by job = setting_for job.plan.now job.ready.now.library job.ready.now.clocks job.start.second
+setting_by job = setting_for job.plan job.ready.library job.ready.clocks job.start.second
 
 -- the station of a job that is rendered in such a way
 abbrev pub station_in : Job → Way → Station
-station_in job way = station_of job.plan.now job.ready.now job.start.second job.ticks way (name_in job) job.cues
+station_in job way = station_of job.plan job.ready job.start.second job.ticks way (name_in job) job.cues
 
 -- the ticks of a window, where there are windows
 abbrev pub window_of : Way → Option ℕ

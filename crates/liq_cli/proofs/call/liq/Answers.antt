@@ -2,8 +2,8 @@ use Rattle.std.proofs.Common.{refl}
 use Rattle.std.specs.Prelude.{None, Some}
 use Rattle.liq_base.specs.Files.{Files}
 use Rattle.liq_cli.specs.Call.{over, outside_of, sure_of}
-use Rattle.station_jobs.specs.Read.{asked_of, asked_to_render}
-use Rattle.station_jobs.specs.Words.{Check, Make, Replay, texts}
+use Rattle.station_jobs.specs.Read.{asked_of, rendering_read}
+use Rattle.station_jobs.specs.Words.{Check, Make, Render, Replay, texts}
 use Rattle.liq_cli.proofs.Asking.{asks_one}
 use Rattle.liq_cli.proofs.Complete.{completes}
 use Rattle.liq_cli.proofs.Ended.{finished, unformed}
@@ -26,9 +26,9 @@ returns-clause-ends g c =
     elim c.match-form.branch [
       | in-Check w ↦ rw w.shelf-is (finished (texts c.args.words.now) _ _ (Check w.in-Check.file.now) (rw w.in-Check.is at asks)
           w.check_job-job.result c.finish.result w.check_job-job.ensures (rw w.job-is at c.finish.ensures))
-      | in-Alone w ↦ rw w.shelf-is (finished (texts c.args.words.now) _ _ (asked_to_render w.in-Alone.asked None) (rw w.in-Alone.is at asks)
+      | in-Alone w ↦ rw w.shelf-is (finished (texts c.args.words.now) _ _ (Render (rendering_read w.in-Alone.asked) None) (rw w.in-Alone.is at asks)
           w.alone_job-job.result c.finish.result w.alone_job-job.ensures (rw w.job-is at c.finish.ensures))
-      | in-Threads w ↦ rw w.shelf-is (finished (texts c.args.words.now) _ _ (asked_to_render w.in-Threads.asked (Some w.in-Threads.window.ticks)) (rw w.in-Threads.is at asks)
+      | in-Threads w ↦ rw w.shelf-is (finished (texts c.args.words.now) _ _ (Render (rendering_read w.in-Threads.asked) (Some w.in-Threads.window.ticks)) (rw w.in-Threads.is at asks)
           w.threads_job-job.result c.finish.result w.threads_job-job.ensures (rw w.job-is at c.finish.ensures))
       | in-Make w ↦ rw w.shelf-is (finished (texts c.args.words.now) _ _ (Make w.in-Make.seed w.in-Make.size.files) (rw w.in-Make.is at asks)
           w.make_job-job.result c.finish.result (w.make_job-job.ensures (g.S.Shelf.told c.args.shelf.now)) (rw w.job-is at c.finish.ensures))

@@ -1,7 +1,7 @@
 use Rattle.std.proofs.Common.{refl, sym, subst}
 use Rattle.std.specs.Prelude.{None}
-use Rattle.station_jobs.specs.Read.{asked_of, asked_to_render}
-use Rattle.station_jobs.specs.Words.{Check, Replay, TakesThreads, texts}
+use Rattle.station_jobs.specs.Read.{asked_of, rendering_read}
+use Rattle.station_jobs.specs.Words.{Check, Render, Replay, TakesThreads, texts}
 use Rattle.liq_cli.proofs.Asking.{asks_one}
 use Rattle.liq_cli.proofs.Complete.{completes}
 use Rattle.liq_cli.proofs.Ended.{finished, unformed}
@@ -33,7 +33,7 @@ returns-clause-ends g c =
     elim c.match-form.branch [
       | in-Check w ↦ rw w.shelf-is (finished (texts c.args.words.now) _ _ (Check w.in-Check.file.now) (rw w.in-Check.is at asks)
           w.check_job-job.result c.finish.result w.check_job-job.ensures (rw w.job-is at c.finish.ensures))
-      | in-Alone w ↦ rw w.shelf-is (finished (texts c.args.words.now) _ _ (asked_to_render w.in-Alone.asked None) (rw w.in-Alone.is at asks)
+      | in-Alone w ↦ rw w.shelf-is (finished (texts c.args.words.now) _ _ (Render (rendering_read w.in-Alone.asked) None) (rw w.in-Alone.is at asks)
           w.alone_job-job.result c.finish.result w.alone_job-job.ensures (rw w.job-is at c.finish.ensures))
       | in-Replay w ↦ rw w.shelf-is (finished (texts c.args.words.now) _ _ (Replay w.in-Replay.file.now w.in-Replay.start.second w.in-Replay.ticks.count w.in-Replay.trace.now) (rw w.in-Replay.is at asks)
           w.replay_job-job.result c.finish.result w.replay_job-job.ensures (rw w.job-is at c.finish.ensures))
