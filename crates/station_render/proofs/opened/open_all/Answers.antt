@@ -2,7 +2,8 @@ use Rattle.std.proofs.Common.{◌≡◌, ◌∙◌, ℕ, List, length, ap, sym, 
 use Rattle.std.proofs.lemmas.Result.{err_from_is_err_and}
 use Rattle.stations.specs.Stations.{answers_with}
 use Rattle.station_render.specs.Sinks.{AreCreated, lists_of}
-use Rattle.station_render.specs.Renders.{IsReady, order_of, setting_for, written}
+use Rattle.trace_records.specs.Traces.{base_of}
+use Rattle.station_render.specs.Renders.{IsReady, order_of, written}
 use Rattle.station_render.specs.Runs.{RanPart, name_in, station_in}
 use Rattle.station_render.specs.declared.output_sink.OutputSink.{OutputSink}
 use Rattle.station_render.proofs.Fits.{are_main}
@@ -16,7 +17,7 @@ pub returns-in_err-create_each-clause-part : goal.returns-in_err-create_each-cla
 returns-in_err-create_each-clause-part g c =
     let p = err_from_is_err_and c.from_residual.result c.from_residual.ensures.1 in rw p.1
     (λ way may.
-    let none = not_begun (setting_for c.args.job.now.plan c.args.job.now.ready.library c.args.job.now.ready.clocks c.args.job.now.start.second) c.args.job.now.ready.clocks.running c.args.job.now.ticks way may in (
+    let none = not_begun (base_of c.args.job.now.plan c.args.job.now.ready.library c.args.job.now.ready.clocks c.args.job.now.start.second) c.args.job.now.ready.clocks.running c.args.job.now.ticks way may in (
       record {
         run = none.run;
         begun = none.begun;
@@ -27,7 +28,7 @@ returns-in_err-create_each-clause-part g c =
 
 pub make_engines-requires-clause-sinks : goal.make_engines-requires-clause-sinks
 make_engines-requires-clause-sinks g c =
-    let setting = setting_for c.args.job.now.plan c.args.job.now.ready.library c.args.job.now.ready.clocks c.args.job.now.start.second in
+    let setting = base_of c.args.job.now.plan c.args.job.now.ready.library c.args.job.now.ready.clocks c.args.job.now.start.second in
     let main = are_main c.args.job.now.plan c.args.job.now.ready.library c.args.job.now.ready.clocks c.args.job.now.ticks c.requires.fit in
     let ready : AreCreated (IsReady g.S.Out.Sink.told (g.S.Shelf.told c.args.shelf.now) setting c.args.job.now.ticks) (written c.args.job.now.plan.sinks) (order_of setting (written c.args.job.now.plan.sinks)) (lists_of c.create_each.new.groups.items) =
     subst (λ o. AreCreated (IsReady g.S.Out.Sink.told (g.S.Shelf.told c.args.shelf.now) setting c.args.job.now.ticks) (written c.args.job.now.plan.sinks) o (lists_of c.create_each.new.groups.items))
@@ -39,7 +40,7 @@ make_engines-requires-clause-sinks g c =
 pub returns-in_err-make_engines-clause-part : goal.returns-in_err-make_engines-clause-part
 returns-in_err-make_engines-clause-part g c =
     let p = err_from_is_err_and c.from_residual-in_err-make_engines.result c.from_residual-in_err-make_engines.ensures.1 in
-    let setting = setting_for c.args.job.now.plan c.args.job.now.ready.library c.args.job.now.ready.clocks c.args.job.now.start.second in
+    let setting = base_of c.args.job.now.plan c.args.job.now.ready.library c.args.job.now.ready.clocks c.args.job.now.start.second in
     let order_is = c.in_ok-create_each.ensures.order c.args.job.now.ready.library c.args.job.now.start.second in
     let ready : AreCreated (IsReady g.S.Out.Sink.told (g.S.Shelf.told c.args.shelf.now) setting c.args.job.now.ticks) (written c.args.job.now.plan.sinks) (order_of setting (written c.args.job.now.plan.sinks)) (lists_of c.create_each.new.groups.items) =
     subst (λ o. AreCreated (IsReady g.S.Out.Sink.told (g.S.Shelf.told c.args.shelf.now) setting c.args.job.now.ticks) (written c.args.job.now.plan.sinks) o (lists_of c.create_each.new.groups.items))
@@ -52,7 +53,7 @@ returns-in_err-make_engines-clause-part g c =
 
 pub returns-clause-opened : goal.returns-clause-opened
 returns-clause-opened g c =
-    let setting = setting_for c.args.job.now.plan c.args.job.now.ready.library c.args.job.now.ready.clocks c.args.job.now.start.second in
+    let setting = base_of c.args.job.now.plan c.args.job.now.ready.library c.args.job.now.ready.clocks c.args.job.now.start.second in
     let order_is = c.in_ok-create_each.ensures.order c.args.job.now.ready.library c.args.job.now.start.second in
     let engines = c.in_ok-make_engines.field-0.items in
     let many : length engines ≡ length (lists_of c.create_each.new.groups.items) = sym (outs_many engines) ∙ ap length c.in_ok-make_engines.ensures.outs in
