@@ -3,8 +3,7 @@ use Rattle.std.proofs.Common.{◌≡◌, ◌≤◌, ◌⊎◌, ◌∙◌, ℕ, z
 use Rattle.std.specs.Prelude.{Result, Ok, Err, String, string_bytes}
 use Rattle.std.specs.declared.alloc.Global.{Global}
 use Rattle.liq_base.specs.Files.{Files}
-use Rattle.liq_base.specs.Pieces.{SinkTold}
-use Rattle.liq_base.specs.Shelves.{OnlyRead, ShelfTold}
+use Rattle.liq_base.specs.Shelves.{OnlyRead}
 use Rattle.refusal_lines.specs.declared.fault.Fault.{Fault}
 use Rattle.station_jobs.specs.Words.{Asked, HasNoForm}
 use Rattle.station_jobs.specs.Verdicts.{Verdict, Usage, Refused, usage_line}

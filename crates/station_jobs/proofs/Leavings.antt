@@ -42,7 +42,7 @@ use Rattle.refusal_lines.specs.declared.fault.Fault.{Fault}
 use Rattle.station_jobs.specs.Words.{Asked, Check, Replay, rendering_by, rendering_of}
 use Rattle.station_jobs.specs.Verdicts.{Verdict, Usage, Refused, Accepted, IsVerdictOn, files_for, station_for}
 use Rattle.station_jobs.specs.Jobs.{BrokeOff, IsBroken, IsDone, IsStarved}
-use Rattle.station_jobs.specs.Prepared.{Denied, Ended, EndsFor, ForOneOf, Found, Granted, IsChecked, IsOneOutcome, IsOneRuling, Lost, TraceEnds, outcome_of, verdict_of, halt_of_render}
+use Rattle.station_jobs.specs.Prepared.{Denied, Ended, EndsFor, ForOneOf, Granted, IsChecked, IsOneOutcome, IsOneRuling, Lost, TraceEnds, outcome_of, verdict_of, halt_of_render}
 use Rattle.station_jobs.proofs.AsOne.{fit_setting}
 use Rattle.station_jobs.proofs.Judging.{IsTold as IsToldOf, Told, TraceLaws, Untells, one_told}
 use Rattle.station_jobs.proofs.Outcomes.{check_plain, for_each, for_one, lost_ruled, not_usage, plain_ruled, replay_ruled, ruling_told}

@@ -1,6 +1,6 @@
 -- The answers to what is asked for are those of rulings.
 use Rattle.std.proofs.Common.{◌≡◌, ℕ, List, refl, sym, ap, ◌∙◌, subst, inl, inr}
-use Rattle.std.specs.Prelude.{Bool, Option, false, None}
+use Rattle.std.specs.Prelude.{Option, false, None}
 use Rattle.liq_base.specs.Files.{Files}
 use Rattle.frame_core.specs.Library.{Sounds}
 use Rattle.plan_core.specs.declared.plan.Plan.{Plan}

@@ -1,5 +1,5 @@
 -- What is found of a script before anything is rendered. Only what is private cites this.
-use Rattle.std.specs.Prelude.{◌≡◌, ◌⊎◌, ℕ, Bool, true, false, List, Result, Ok, Err, Option, None, Some, String, IsErrOf, string_bytes}
+use Rattle.std.specs.Prelude.{◌≡◌, ◌⊎◌, ℕ, true, false, List, Result, Ok, Err, Option, None, Some, String, IsErrOf, string_bytes}
 use Rattle.std.specs.Option.{ForSome}
 use Rattle.std.specs.declared.alloc.Global.{Global}
 use Rattle.liq_base.specs.Counts.{Rose}

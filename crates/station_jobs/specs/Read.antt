@@ -20,6 +20,7 @@ options_of options = record {
   cues = options.cues;
 }
 
+-- what was read of a rendering
 abbrev pub rendering_read : ReadRendering → Rendering
 rendering_read asked =
     rendering_by asked.file.now asked.start.second asked.ticks.count (named asked.trace) asked.cues

@@ -26,7 +26,10 @@ pub enum Form<'a> {
     },
 
     /// `make SEED SIZE`
-    Make { seed: u64, size: Size },
+    Make {
+        seed: u64,
+        size: Size,
+    },
 
     /// `replay FILE N TRACE` and a start
     Replay {

@@ -94,6 +94,13 @@ fn open_all<'a, S: Shelf>(
         ≡ after_making (names_in job.now.plan.sinks) (S.told shelf.old).created) }
     ensures shelf { OnlyCreates (S.told shelf.old) (S.told shelf.new) }
 {
-    create_each(&job.plan, &job.ready.clocks, job.ticks, shelf, order, groups)?;
+    create_each(
+        &job.plan,
+        &job.ready.clocks,
+        job.ticks,
+        shelf,
+        order,
+        groups,
+    )?;
     Ok(make_engines(alloc, job, groups)?)
 }

@@ -1,7 +1,7 @@
-use Rattle.std.proofs.Common.{refl, sym, subst}
+use Rattle.std.proofs.Common.{refl}
 use Rattle.std.specs.Prelude.{None}
-use Rattle.station_jobs.specs.Read.{asked_of, rendering_read}
-use Rattle.station_jobs.specs.Words.{Check, Render, Replay, TakesThreads, texts}
+use Rattle.station_jobs.specs.Read.{rendering_read}
+use Rattle.station_jobs.specs.Words.{Check, Render, Replay, texts}
 use Rattle.liq_cli.proofs.Asking.{asks_one}
 use Rattle.liq_cli.proofs.Complete.{completes}
 use Rattle.liq_cli.proofs.Ended.{finished, unformed}
