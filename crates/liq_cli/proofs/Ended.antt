@@ -3,12 +3,11 @@ use Rattle.std.proofs.Common.{◌≡◌, ◌≤◌, ◌⊎◌, ◌∙◌, ℕ, z
 use Rattle.std.specs.Prelude.{Result, Ok, Err, String, string_bytes}
 use Rattle.std.specs.declared.alloc.Global.{Global}
 use Rattle.liq_base.specs.Files.{Files}
-use Rattle.liq_base.specs.Pieces.{SinkTold}
-use Rattle.liq_base.specs.Shelves.{OnlyRead, ShelfTold}
+use Rattle.liq_base.specs.Shelves.{OnlyRead}
 use Rattle.refusal_lines.specs.declared.fault.Fault.{Fault}
 use Rattle.station_jobs.specs.Words.{Asked, HasNoForm}
 use Rattle.station_jobs.specs.Verdicts.{Verdict, Usage, Refused, usage_line}
-use Rattle.liq_cli.specs.Call.{Ends, EndsApart, ForFiles, LineSaid, NoMemory, Outside, ReadFailed, ReportSaid, UsageBroke, UsageSaid, WriteFailed, outside_of}
+use Rattle.liq_cli.specs.Call.{Ends, ForFiles, LineSaid, NoMemory, Outside, ReadFailed, ReportSaid, UsageBroke, UsageSaid, WriteFailed}
 use Rattle.station_jobs.specs.Jobs.{IsDone, IsStarved}
 use Rattle.station_jobs.specs.Prepared.{Ended, ForOneOf}
 use Rattle.liq_cli.specs.Telling.{Finishes, Tells}
@@ -84,15 +83,3 @@ unformed words old new status none shelf out told =
     (λ part.
     let broke : UsageBroke words old new = record { no_form = none; part = part.1; shelf_kept = shelf; out_kept = out } in
     subst (Ends words old new) (sym part.0) (by_row words old new 4 (lit≤ tt) (inl broke) (λ at. inr (refl, broke)))) told
-
--- what ended after nothing was done ended from the beginning
-module _ {S O E : Type 0} (shelf_told : S → ShelfTold) (out_told : O → SinkTold) (err_told : E → SinkTold) (words : List (List ℕ)) (shelf between : S) (out out' : O) (err err' : E) (after : Outside) (status : ℕ)
-    (same : (between ≡ shelf) × (out' ≡ out) × (err' ≡ err)) where
-  same_outside : outside_of (shelf_told between) (out_told out') (err_told err') ≡ outside_of (shelf_told shelf) (out_told out) (err_told err)
-  same_outside = λ i. outside_of (shelf_told (same.0 i)) (out_told (same.1 i)) (err_told (same.2 i))
-
-  pub ended_from : Ends words (outside_of (shelf_told between) (out_told out') (err_told err')) after status → Ends words (outside_of (shelf_told shelf) (out_told out) (err_told err)) after status
-  ended_from ends = subst (λ (o : Outside). Ends words o after status) same_outside ends
-
-  pub apart_from : EndsApart words (outside_of (shelf_told between) (out_told out') (err_told err')) after status → EndsApart words (outside_of (shelf_told shelf) (out_told out) (err_told err)) after status
-  apart_from ends = subst (λ (o : Outside). EndsApart words o after status) same_outside ends

@@ -22,6 +22,7 @@ use Rattle.stations.proofs.Parts.{both_outputs}
 use Rattle.station_render.proofs.Tracing.{is_trace}
 use Rattle.liq_cli.specs.Again.{IsRenderedAgain, again}
 use Rattle.station_jobs.specs.Verdicts.{IsPrepared}
+use Rattle.station_jobs.specs.Words.{rendering_by}
 use Rattle.station_jobs.specs.Jobs.{Wrote}
 use Rattle.station_jobs.specs.Replays.{HasText}
 
@@ -64,7 +65,7 @@ in_windows station window run way lawful = subst (λ w. IsLawfulIn (bare station
 pub rendered_again : AreOfRun → (files : Files) (file name : List ℕ) (station : Station) (window : ℕ) (run : Run)
     → station.way ≡ InWindows window → 1 ≤ window → window ≤ 10 ^ 6 → IsFit station.plan station.library station.clocks station.ticks → station.start < 604800 → IsLawful station run
     → IsAccepted (bare station) station.clocks.running station.ticks (trace_of window station.ticks run) → HasText files name (trace_text (trace_of window station.ticks run))
-    → IsPrepared files file None false station.ticks station.plan station.library station.clocks → IsRenderedAgain files file name station (trace_of window station.ticks run) run
+    → IsPrepared files (rendering_by file station.start station.ticks None false) station.plan station.library station.clocks → IsRenderedAgain files file name station (trace_of window station.ticks run) run
 rendered_again of_run files file name station window run way some few fit early lawful accepted has prepared =
     let trace : TraceValue = trace_of window station.ticks run in
     let is : IsSetting (bare station) station.clocks = fit_setting station fit early in
@@ -82,10 +83,7 @@ rendered_again of_run files file name station window run way some few fit early 
           };
           way_is = refl;
         };
-        start_is = refl;
-        ticks_are = refl;
-        trace_is = refl;
-        cues_are = refl;
+        rest_is = refl;
       };
       one = one;
       outputs_are = λ other told. ap (output_files (again station trace)) (one other told);

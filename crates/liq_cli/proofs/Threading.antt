@@ -1,15 +1,10 @@
 -- What takes threads.
 use Rattle.std.proofs.Common.{◌≡◌, ℕ, List, sym, subst}
-use Rattle.std.specs.Prelude.{None, Option, Some, option_map}
-use Rattle.station_jobs.specs.Read.{asked_by_threads, asked_of}
-use Rattle.station_jobs.specs.Words.{Asked, AsksToMake, HasNoForm, IsAsked, Make, NeedsThreads, TakesThreads}
+use Rattle.std.specs.Prelude.{None, Option, Some, option_map, ⊤}
+use Rattle.station_jobs.specs.Read.{asked_of}
+use Rattle.station_jobs.specs.Words.{Asked, Check, Render, Make, Replay, AsksToMake, HasNoForm, IsAsked, NeedsThreads, TakesThreads}
 use Rattle.station_jobs.specs.declared.form.Form.{Form}
-use Rattle.station_jobs.specs.declared.form.Threaded.{Threaded}
-use Rattle.station_jobs.specs.declared.form.Threaded.TheVariants.{Render as renders, Make as makes}
-
-pub takes_threads : (threaded : Threaded) → TakesThreads (asked_by_threads threaded)
-takes_threads (renders rendering) = tt
-takes_threads (makes seed size) = tt
+use Rattle.liq_cli.proofs.Asking.{AsksOne}
 
 -- what was read takes threads where the words need them
 pub read_takes : (words : List (List ℕ)) (form : Form) → ((asked : Asked) → IsAsked words asked → option_map asked_of (Some form) ≡ Some asked)
@@ -23,6 +18,12 @@ read_takes words form only needs =
 pub unread : (words : List (List ℕ)) → ((asked : Asked) → IsAsked words asked → ◌≡◌ {A = Option Asked} None (Some asked)) → HasNoForm words
 unread words only asked is = let e : ◌≡◌ {A = Option Asked} None (Some asked) = only asked is in (cc)
 
--- a workload does
-pub make_needs : (words : List (List ℕ)) → AsksToMake words → NeedsThreads words
-make_needs words asks = record { asked = Make asks.seed asks.size; is_asked = asks.is_asked; takes = tt }
+-- what was read is a workload where the words ask for one
+abbrev IsWorkload : Asked → Type 0
+IsWorkload (Check file) = ⊥
+IsWorkload (Render rendering window) = ⊥
+IsWorkload (Make seed size) = ⊤
+IsWorkload (Replay file start ticks trace) = ⊥
+
+pub read_makes : (words : List (List ℕ)) (asked : Asked) → AsksOne words asked → AsksToMake words → IsWorkload asked
+read_makes words asked asks makes = subst IsWorkload (asks.only (Make makes.seed makes.size) makes.is_asked) tt

@@ -8,8 +8,7 @@ ghost use Rattle.refusal_lines.specs.Lines.{line_of};
 use liq_base::{Failed, Gate, Memory, Shelf, Sink};
 use refusal_lines::Fault;
 use station_jobs::{
-    Form, Halt, Threaded, alone_job, check_job, make_job, read_threaded, read_words, replay_job,
-    threads_job,
+    Form, Halt, alone_job, check_job, make_job, read_words, replay_job, threads_job,
 };
 use std::alloc::Global;
 use std::sync::Wait;
@@ -66,10 +65,22 @@ pub fn liq<S: Shelf, O: Sink, E: Sink, G: Gate + Sync, R: Threads + Wait + Sync>
         result }
     ensures untouched { AsksToMake (texts words.now) → shelf.new ≡ shelf.old }
 {
-    match liq_alone(alloc, words, shelf, out, err) {
-        Some(status) => status,
-        None => by_threads(rt, alloc, words, shelf, out, err, gate),
-    }
+    let Some(form) = read_words(words) else {
+        return tell(err, USAGE, NO_FORM);
+    };
+    let job = match form {
+        Form::Check { file } => check_job(alloc, file, shelf),
+        Form::Alone(asked) => alone_job(alloc, &asked, shelf),
+        Form::Threads { asked, window } => threads_job(rt, alloc, &asked, window, shelf, gate),
+        Form::Make { seed, size } => make_job(rt, alloc, seed, size, gate),
+        Form::Replay {
+            file,
+            start,
+            ticks,
+            trace,
+        } => replay_job(alloc, file, start, ticks, trace, shelf),
+    };
+    finish(alloc, job, out, err)
 }
 
 /// Does what the words ask for where it takes no threads, and answers the status. It answers nothing exactly where they
@@ -97,56 +108,16 @@ pub fn liq_alone<S: Shelf, O: Sink, E: Sink>(
     };
     let job = match form {
         Form::Check { file } => check_job(alloc, file, shelf),
-        Form::Alone {
-            file,
-            start,
-            ticks,
-            cues,
-        } => alone_job(alloc, file, start, ticks, cues, shelf),
+        Form::Alone(asked) => alone_job(alloc, &asked, shelf),
         Form::Replay {
             file,
             start,
             ticks,
             trace,
         } => replay_job(alloc, file, start, ticks, trace, shelf),
-        Form::Threaded(_) => return None,
+        Form::Threads { .. } | Form::Make { .. } => return None,
     };
     Some(finish(alloc, job, out, err))
-}
-
-// What takes threads.
-fn by_threads<S: Shelf, O: Sink, E: Sink, G: Gate + Sync, R: Threads + Wait + Sync>(
-    rt: &R,
-    alloc: Global,
-    words: &[String],
-    shelf: &mut S,
-    out: &mut O,
-    err: &mut E,
-    gate: &G,
-) -> u8
-    requires out_room { (O.told out.old).room ≡ None }
-    requires err_room { (E.told err.old).room ≡ None }
-    requires threads { NeedsThreads (texts words.now) }
-    ensures ends { Ends (texts words.now)
-        (outside_of (S.told shelf.old) (O.told out.old) (E.told err.old))
-        (outside_of (S.told shelf.new) (O.told out.new) (E.told err.new))
-        result }
-    ensures made { AsksToMake (texts words.now) → EndsApart (texts words.now)
-        (outside_of (S.told shelf.old) (O.told out.old) (E.told err.old))
-        (outside_of (S.told shelf.new) (O.told out.new) (E.told err.new))
-        result }
-    ensures untouched { AsksToMake (texts words.now) → shelf.new ≡ shelf.old }
-{
-    match read_threaded(words) {
-        Threaded::Render(asked) => {
-            let job = threads_job(rt, alloc, &asked, shelf, gate);
-            finish(alloc, job, out, err)
-        }
-        Threaded::Make { seed, size } => {
-            let job = make_job(rt, alloc, seed, size, gate);
-            finish(alloc, job, out, err)
-        }
-    }
 }
 
 // Writes the one text of a call whose job ended so: the report, or the line of a refusal.

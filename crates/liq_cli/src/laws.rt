@@ -12,6 +12,7 @@ ghost use Rattle.liq_cli.specs.Again.{IsRenderedAgain};
 ghost use Rattle.station_jobs.specs.Jobs.{Wrote};
 ghost use Rattle.station_jobs.specs.Replays.{HasText};
 ghost use Rattle.station_jobs.specs.Verdicts.{IsPrepared};
+ghost use Rattle.station_jobs.specs.Words.{rendering_by};
 
 /// A run by threads that wrote a trace left it under its name.
 pub fn runs_leave_their_trace()
@@ -32,7 +33,8 @@ pub fn accepted_runs_are_rendered_again()
         → IsLawful station run
         → IsAccepted (bare station) station.clocks.running station.ticks (trace_of window station.ticks run)
         → HasText files name (trace_text (trace_of window station.ticks run))
-        → IsPrepared files file None false station.ticks station.plan station.library station.clocks
+        → IsPrepared files (rendering_by file station.start station.ticks None false) station.plan station.library
+        station.clocks
         → IsRenderedAgain files file name station (trace_of window station.ticks run) run }
 {
     trace_replay::laws::replays_are_of_the_run();
@@ -46,7 +48,8 @@ pub fn onward_runs_are_rendered_again()
         → IsFit station.plan station.library station.clocks station.ticks → station.start < 604800
         → IsLawful station run → LeadOnward (bare station) station.clocks.running listing
         → HasText files name (trace_text (trace_of window station.ticks run))
-        → IsPrepared files file None false station.ticks station.plan station.library station.clocks
+        → IsPrepared files (rendering_by file station.start station.ticks None false) station.plan station.library
+        station.clocks
         → IsRenderedAgain files file name station (trace_of window station.ticks run) run }
 {
     trace_replay::laws::onward_traces_are_accepted();

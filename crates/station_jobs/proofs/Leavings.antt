@@ -33,18 +33,19 @@ use Rattle.stations.proofs.Parts.{ends_within}
 use Rattle.station_render.specs.Faults.{is_device}
 use Rattle.station_render.specs.declared.fault.RenderFault.{RenderFault}
 use Rattle.station_render.specs.declared.fault.RenderFault.TheVariants.{Write as render_write, Memory as render_memory}
-use Rattle.station_render.specs.Runs.{IsRendered, IsTold}
+use Rattle.station_render.specs.Runs.{IsRendered, IsTold, setting_by}
+use Rattle.station_render.specs.declared.job.Job.{Job}
 use Rattle.station_render.specs.declared.rendered.Rendered.{Rendered as Shown}
 use Rattle.station_jobs.specs.declared.halt.Halt.{Halt}
 use Rattle.station_jobs.specs.declared.halt.Halt.TheVariants.{Read, Write, Memory as no_memory, Refused as refused_for}
 use Rattle.refusal_lines.specs.declared.fault.Fault.{Fault}
-use Rattle.station_jobs.specs.Words.{Asked, Check, Replay, cues_of, asked_file, start_of, asked_ticks, trace_name}
-use Rattle.station_jobs.specs.Verdicts.{Verdict, Usage, Refused, Accepted, IsVerdictOn, files_for}
+use Rattle.station_jobs.specs.Words.{Asked, Check, Replay, rendering_by, rendering_of}
+use Rattle.station_jobs.specs.Verdicts.{Verdict, Usage, Refused, Accepted, IsVerdictOn, files_for, station_for}
 use Rattle.station_jobs.specs.Jobs.{BrokeOff, IsBroken, IsDone, IsStarved}
-use Rattle.station_jobs.specs.Prepared.{Denied, Ended, EndsFor, ForOneOf, Found, Granted, IsChecked, IsOneOutcome, IsOneRuling, Lost, TraceEnds, verdict_of, halt_of_render, station_for}
+use Rattle.station_jobs.specs.Prepared.{Denied, Ended, EndsFor, ForOneOf, Granted, IsChecked, IsOneOutcome, IsOneRuling, Lost, TraceEnds, outcome_of, verdict_of, halt_of_render}
 use Rattle.station_jobs.proofs.AsOne.{fit_setting}
-use Rattle.station_jobs.proofs.Judging.{TraceLaws, Untells, one_told}
-use Rattle.station_jobs.proofs.Outcomes.{check_plain, for_each, for_one, lost_ruled, not_usage, plain_ruled, replay_ruled}
+use Rattle.station_jobs.proofs.Judging.{IsTold as IsToldOf, Told, TraceLaws, Untells, one_told}
+use Rattle.station_jobs.proofs.Outcomes.{check_plain, for_each, for_one, lost_ruled, not_usage, plain_ruled, replay_ruled, ruling_told}
 
 -- where the shelf was only read, each verdict has what it may
 pub kept_starved : (asked : Asked) (files : Files) (verdict : Verdict) (old new : ShelfTold) → IsVerdictOn asked files verdict → OnlyRead old new → IsStarved verdict files old new
@@ -56,11 +57,11 @@ ended_starved asked old new kept = λ files t verdict is. kept_starved asked fil
 
 -- a job over the files of the shelf ends as the steps before the rendering do
 pub ended_early : {T : Type 0} (asked : Asked) → ((files : Files) → files_for asked files ≡ files) → (old new : ShelfTold) (e : Halt)
-    → EndsFor {T = T} (asked_file asked) (trace_name asked) (cues_of asked) (asked_ticks asked) old new (Err e) → OnlyRead old new → Ended asked old new (Err e)
+    → EndsFor {T = T} (rendering_of asked) old new (Err e) → OnlyRead old new → Ended asked old new (Err e)
 ended_early asked own old new (refused_for fault) ends kept = (
   λ files t. for_one asked files (Denied fault) (λ v. v ≡ Refused fault)
       (lost_ruled asked files fault
-      (subst (λ fs. IsOneOutcome fs (asked_file asked) (trace_name asked) (cues_of asked) (asked_ticks asked) (Lost fault)) (sym (own files)) (ends.fault fault refl files t))) refl,
+      (subst (λ fs. IsOneOutcome fs (rendering_of asked) (Lost fault)) (sym (own files)) (ends.fault fault refl files t))) refl,
   kept,
 )
 ended_early asked own old new Read ends kept = (ends.read (cc), kept)
@@ -85,28 +86,38 @@ pub checked : (file : List ℕ) (old new : ShelfTold) (plan : Plan) (clocks : Cl
     → ForOneOf (Check file) old (λ files v. IsDone v files old new report)
 checked file old new plan clocks report checks kept tells = λ files t.
     let is = checks files t in
-    let station : Station = station_for (Check file) plan is.library clocks InRounds in
+    let station : Station = station_for (rendering_of (Check file)) plan is.library clocks InRounds in
     for_one (Check file) files (Granted plan is.library clocks InRounds) (λ v. IsDone v files old new report)
     (plain_ruled (Check file) InRounds (check_plain file) files plan is.library clocks is.one)
     (inr (inl (station, refl, record { kept = kept; mark = tells.0; marking = tells.1; report_is = tells.2 station refl refl })))
 
+-- what is found of the trace of a replay's job is its ruling, at the start and for the ticks that are asked for
+pub told_ruled : (laws : TraceLaws) (file trace : List ℕ) (job : Job) (start ticks : ℕ) → start ≡ job.start.second → ticks ≡ job.ticks → (files : Files)
+    → IsOneOutcome files (rendering_by file start ticks None false) (outcome_of job) → (told : Told) → IsToldOf files trace (setting_by job) job.ready.clocks.running job.ticks told
+    → IsOneRuling (Replay file start ticks trace) files (ruling_told job.plan job.ready.library job.ready.clocks told)
+told_ruled laws file trace job start ticks start_is ticks_are files one told is =
+    let base = base_of job.plan job.ready.library job.ready.clocks in
+    let told_is = subst (λ n. IsToldOf files trace (base n) job.ready.clocks.running ticks told) (sym start_is)
+    (subst (λ n. IsToldOf files trace (setting_by job) job.ready.clocks.running n told) (sym ticks_are) is) in
+    replay_ruled file start ticks trace files job.plan job.ready.library job.ready.clocks one told
+    (one_told laws files trace (base start) job.ready.clocks.running ticks told told_is)
+
 -- the trace of a replay is not rendered again
-pub ended_untold : {T : Type 0} (laws : TraceLaws) (file : List ℕ) (start ticks : ℕ) (trace : List ℕ) (first old new : ShelfTold) (plan : Plan) (library : Sounds) (clocks : ClockMap)
-    → ForSome first.files (λ files. IsOneOutcome files file None false ticks (Found plan library clocks)) → OnlyRead first old → (e : Halt)
-    → TraceEnds {T = T} trace (base_of plan library clocks start) clocks.running ticks old new (Err e) → OnlyRead old new → Ended (Replay file start ticks trace) first new (Err e)
-ended_untold laws file start ticks trace first old new plan library clocks one read (refused_for fault) ends kept = (
+pub ended_untold : {T : Type 0} (laws : TraceLaws) (file trace : List ℕ) (first old new : ShelfTold) (job : Job) (start ticks : ℕ) → start ≡ job.start.second → ticks ≡ job.ticks
+    → ForSome first.files (λ files. IsOneOutcome files (rendering_by file start ticks None false) (outcome_of job)) → OnlyRead first old → (e : Halt)
+    → TraceEnds {T = T} trace (setting_by job) job.ready.clocks.running job.ticks old new (Err e) → OnlyRead old new → Ended (Replay file start ticks trace) first new (Err e)
+ended_untold laws file trace first old new job start ticks start_is ticks_are one read (refused_for fault) ends kept = (
   λ files t.
       let is = ends.fault fault refl files (read.files ∙ t) in
       for_one (Replay file start ticks trace) files (Denied (Fault.Replay is.untold)) (λ v. v ≡ Refused fault)
-      (replay_ruled file start ticks trace files plan library clocks (one files t) (Untells is.untold)
-      (one_told laws files trace (base_of plan library clocks start) clocks.running ticks (Untells is.untold) is.is_fault))
+      (told_ruled laws file trace job start ticks start_is ticks_are files (one files t) (Untells is.untold) is.is_fault)
       (ap Refused (sym is.fault_is)),
   read_then first old new read kept,
 )
-ended_untold laws file start ticks trace first old new plan library clocks one read Read ends kept =
+ended_untold laws file trace first old new job start ticks start_is ticks_are one read Read ends kept =
     ((let rose : Rose old.reads new.reads = ends.read (cc) in let low = read.reads in omega (arith, rose, low)), read_then first old new read kept)
-ended_untold laws file start ticks trace first old new plan library clocks one read Write ends kept = absurd (ends.no_write (cc))
-ended_untold laws file start ticks trace first old new plan library clocks one read no_memory ends kept =
+ended_untold laws file trace first old new job start ticks start_is ticks_are one read Write ends kept = absurd (ends.no_write (cc))
+ended_untold laws file trace first old new job start ticks start_is ticks_are one read no_memory ends kept =
     ended_starved (Replay file start ticks trace) first new (read_then first old new read kept)
 
 -- what is said of runs that may be relied on
@@ -130,11 +141,11 @@ rose_from low count first le (inr (inr b)) = inr (inr b)
 
 -- what is asked for is a rendering, and this is its station; the shelf was only read before it
 module _ (asked : Asked) (first old new : ShelfTold) (plan : Plan) (library : Sounds) (clocks : ClockMap) (way : Way)
-    (is_accepted : verdict_of asked (Granted plan library clocks way) ≡ Accepted (station_for asked plan library clocks way))
-    (one : ForSome first.files (λ files. IsOneRuling asked files (Granted plan library clocks way))) (laws : RunLaws) (fit : IsFit plan library clocks (asked_ticks asked)) (early : start_of asked < 604800)
+    (is_accepted : verdict_of asked (Granted plan library clocks way) ≡ Accepted (station_for (rendering_of asked) plan library clocks way))
+    (one : ForSome first.files (λ files. IsOneRuling asked files (Granted plan library clocks way))) (laws : RunLaws) (fit : IsFit plan library clocks (rendering_of asked).ticks) (early : (rendering_of asked).start < 604800)
     (read : OnlyRead first old) where
   abbrev station : Station
-  station = station_for asked plan library clocks way
+  station = station_for (rendering_of asked) plan library clocks way
 
   -- what is left is told from before
   some_from : (idle : Type 0) (device : Bool) (files : Files) (parts : List OutputPart) (now : Files) → HoldsSome idle device files parts now old new → HoldsSome idle device files parts now first new
@@ -232,7 +243,7 @@ module _ (asked : Asked) (first old new : ShelfTold) (plan : Plan) (library : So
           report_is = report_is is.run is.told;
           no_gaps = laws.gapless own station is.run fit.plan_is renderable early;
           one = laws.one own station is.run fit.plan_is renderable early is.lawful;
-          ordered = λ window lawful listing lead. laws.ordered (bare station) clocks (fit_setting station fit early) window (asked_ticks asked) is.run lawful listing lead;
+          ordered = λ window lawful listing lead. laws.ordered (bare station) clocks (fit_setting station fit early) window (rendering_of asked).ticks is.run lawful listing lead;
           as_one_thread = laws.renders own station is.run fit.plan_is renderable early is.lawful;
         },
       )))

@@ -1,6 +1,6 @@
 -- The answers to what is asked for are those of rulings.
 use Rattle.std.proofs.Common.{◌≡◌, ℕ, List, refl, sym, ap, ◌∙◌, subst, inl, inr}
-use Rattle.std.specs.Prelude.{Bool, Option, false, None}
+use Rattle.std.specs.Prelude.{Option, false, None}
 use Rattle.liq_base.specs.Files.{Files}
 use Rattle.frame_core.specs.Library.{Sounds}
 use Rattle.plan_core.specs.declared.plan.Plan.{Plan}
@@ -8,39 +8,30 @@ use Rattle.clock_infer.specs.declared.clock_map.ClockMap.{ClockMap}
 use Rattle.stations.specs.Stations.{Again, InRounds, InWindows, Station, Way}
 use Rattle.trace_records.specs.Traces.{base_of}
 use Rattle.refusal_lines.specs.declared.fault.Fault.{Fault}
-use Rattle.station_jobs.specs.Words.{Asked, Check, Make, Render, Replay, cues_of, asked_file, start_of, asked_ticks, trace_name}
-use Rattle.station_jobs.specs.Verdicts.{Verdict, Usage, Refused, IsVerdictOn, IsPrepared, IsStation, IsTraceFault, IsWayFor, files_for, verdict_for, way_in}
-use Rattle.station_jobs.specs.Prepared.{Denied, ForEach, ForOne, Found, Granted, IsGranted, IsOneOutcome, IsOneRuling, IsRuling, Lost, Outcome, Ruling, verdict_of, station_for}
+use Rattle.station_jobs.specs.Words.{Asked, Check, Make, Render, Rendering, Replay, rendering_by, rendering_of}
+use Rattle.station_jobs.specs.Verdicts.{Verdict, Usage, Refused, IsVerdictOn, IsPrepared, IsStation, IsTraceFault, IsWayFor, files_for, station_for, verdict_for, way_in}
+use Rattle.station_jobs.specs.Prepared.{Denied, ForEach, ForOne, Found, Granted, IsGranted, IsOneOutcome, IsOneRuling, IsRuling, Lost, Outcome, Ruling, verdict_of}
 use Rattle.station_jobs.proofs.Judging.{IsOneTold, IsTold, Tells, Told, Untells}
 
 -- what is granted is a station, and a station was granted
 stationed : (asked : Asked) (files : Files) (plan : Plan) (library : Sounds) (clocks : ClockMap) (way : Way) → IsGranted asked files plan library clocks way
-    → IsStation asked files (station_for asked plan library clocks way)
-stationed asked files plan library clocks way is =
-    record { prepared = is.prepared; is_way = is.is_way; start_is = refl; ticks_are = refl; trace_is = refl; cues_are = refl }
+    → IsStation asked files (station_for (rendering_of asked) plan library clocks way)
+stationed asked files plan library clocks way is = record { prepared = is.prepared; is_way = is.is_way; rest_is = refl }
 
 granted : (asked : Asked) (files : Files) (station : Station) → IsStation asked files station → IsGranted asked files station.plan station.library station.clocks station.way
 granted asked files station is = record { prepared = is.prepared; is_way = is.is_way }
-
-same_station : (station : Station) (start ticks : ℕ) (trace : Option (List ℕ)) (cues : Bool) → station.start ≡ start → station.ticks ≡ ticks → station.trace ≡ trace → station.cues ≡ cues
-    → station ≡ record { plan = station.plan; library = station.library; clocks = station.clocks; start = start; ticks = ticks; way = station.way; trace = trace; cues = cues }
-same_station station start ticks trace cues s t r u = rw (sym s, sym t, sym r, sym u) refl
 
 -- a ruling's verdict is one
 pub answered : (asked : Asked) (files : Files) (ruling : Ruling) → IsRuling asked files ruling → IsVerdictOn asked files (verdict_of asked ruling)
 answered asked files (Denied fault) is = inl (fault, refl, is)
 answered asked files (Granted plan library clocks way) is =
-    inr (station_for asked plan library clocks way, refl, stationed asked (files_for asked files) plan library clocks way is)
+    inr (station_for (rendering_of asked) plan library clocks way, refl, stationed asked (files_for asked files) plan library clocks way is)
 
 -- a verdict is that of a ruling
 record Comes (asked : Asked) (files : Files) (verdict : Verdict) : Type 0 where
   ruling : Ruling
   is : IsRuling asked files ruling
   same : verdict ≡ verdict_of asked ruling
-
--- a station is that of what was granted
-its_own : (asked : Asked) (files : Files) (station : Station) → IsStation asked files station → station ≡ station_for asked station.plan station.library station.clocks station.way
-its_own asked files station is = same_station station (start_of asked) (asked_ticks asked) (trace_name asked) (cues_of asked) is.start_is is.ticks_are is.trace_is is.cues_are
 
 comes : (asked : Asked) (files : Files) (verdict : Verdict) → IsVerdictOn asked files verdict → Comes asked files verdict
 comes asked files verdict (inl is) = record { ruling = Denied is.0; is = is.2; same = is.1 }
@@ -49,13 +40,13 @@ comes asked files verdict (inr is) =
     record {
       ruling = Granted station.plan station.library station.clocks station.way;
       is = granted asked (files_for asked files) station is.2;
-      same = is.1 ∙ ap (verdict_for asked) (its_own asked (files_for asked files) station is.2);
+      same = is.1 ∙ ap (verdict_for asked) is.2.rest_is;
     }
 
 -- what is asked for is not answered by the usage line
 no_usage : (asked : Asked) (station : Station) → verdict_for asked station ≡ Usage → ⊥
 no_usage (Check file) station same = absurd (cc)
-no_usage (Render file start ticks window trace cues) station same = absurd (cc)
+no_usage (Render rendering window) station same = absurd (cc)
 no_usage (Make seed size) station same = absurd (cc)
 no_usage (Replay file start ticks trace) station same = absurd (cc)
 
@@ -88,8 +79,8 @@ pub record IsPlain (asked : Asked) (way : Way) : Type 0 where
 pub check_plain : (file : List ℕ) → IsPlain (Check file) InRounds
 check_plain file = record { is = λ files plan library clocks. refl; only = λ files plan library clocks other is. is; told = λ files fault is. is }
 
-pub render_plain : (file : List ℕ) (start ticks : ℕ) (window : Option ℕ) (trace : Option (List ℕ)) (cues : Bool) → IsPlain (Render file start ticks window trace cues) (way_in window)
-render_plain file start ticks window trace cues =
+pub render_plain : (rendering : Rendering) (window : Option ℕ) → IsPlain (Render rendering window) (way_in window)
+render_plain rendering window =
     record { is = λ files plan library clocks. refl; only = λ files plan library clocks other is. is; told = λ files fault is. is }
 
 pub make_plain : (seed size : ℕ) → IsPlain (Make seed size) (InWindows 16)
@@ -97,7 +88,7 @@ make_plain seed size = record { is = λ files plan library clocks. refl; only = 
 
 -- the outcome of the script of what is asked for
 abbrev pub IsOneFor : Asked → Files → Outcome → Type 0
-IsOneFor asked files outcome = IsOneOutcome (files_for asked files) (asked_file asked) (trace_name asked) (cues_of asked) (asked_ticks asked) outcome
+IsOneFor asked files outcome = IsOneOutcome (files_for asked files) (rendering_of asked) outcome
 
 abbrev ruling_by : Way → Outcome → Ruling
 ruling_by way (Found plan library clocks) = Granted plan library clocks way
@@ -108,11 +99,11 @@ record IsLookedAt (asked : Asked) (files : Files) : Type 0 where
   plan : Plan
   library : Sounds
   clocks : ClockMap
-  prepared : IsPrepared (files_for asked files) (asked_file asked) (trace_name asked) (cues_of asked) (asked_ticks asked) plan library clocks
+  prepared : IsPrepared (files_for asked files) (rendering_of asked) plan library clocks
 
 looked_at : (asked : Asked) (files : Files) (fault : Fault) → IsTraceFault asked files fault → IsLookedAt asked files
 looked_at (Check file) files fault is = absurd is
-looked_at (Render file start ticks window trace cues) files fault is = absurd is
+looked_at (Render rendering window) files fault is = absurd is
 looked_at (Make seed size) files fault is = absurd is
 looked_at (Replay file start ticks trace) files fault is = record { plan = is.plan; library = is.library; clocks = is.clocks; prepared = is.prepared }
 
@@ -148,7 +139,7 @@ module _ (file : List ℕ) (start ticks : ℕ) (trace : List ℕ) (files : Files
   IsToldOf (Found plan library clocks) told = IsTold files trace (base_of plan library clocks start) clocks.running ticks told
   IsToldOf (Lost fault) told = ⊥
 
-  module _ (plan : Plan) (library : Sounds) (clocks : ClockMap) (one : IsOneOutcome files file None false ticks (Found plan library clocks)) where
+  module _ (plan : Plan) (library : Sounds) (clocks : ClockMap) (one : IsOneOutcome files (rendering_by file start ticks None false) (Found plan library clocks)) where
     rules : (told : Told) → IsTold files trace (base_of plan library clocks start) clocks.running ticks told → IsRuling (Replay file start ticks trace) files (ruling_told plan library clocks told)
     rules (Tells value) is = record { prepared = one.holds; is_way = record { trace = value; fitting = is; way_is = refl } }
     rules (Untells fault) is = inr (record { plan = plan; library = library; clocks = clocks; prepared = one.holds; untold = fault; fault_is = refl; is_fault = is })

@@ -12,7 +12,8 @@ use Rattle.station_render.specs.Renders.{written}
 use Rattle.station_render.proofs.Creating.{take_more}
 use Rattle.station_render.proofs.Lists.{got_is}
 use Rattle.station_render.proofs.Reporting.{count_at}
-use Rattle.station_jobs.specs.Summary.{counted_part, sum_at, sum_part, summed_line, summed_lines}
+use Rattle.stations.specs.Reports.{counted_part}
+use Rattle.station_jobs.specs.Summary.{sum_at, sum_part, summed_line, summed_lines}
 
 lines_both : (station : Station) (run : Run) (files : Files) (xs ys : List SinkPlan) → summed_lines station run files (xs ++ ys) ≡ summed_lines station run files xs ++ summed_lines station run files ys
 lines_both station run files [] ys = refl

@@ -22,10 +22,10 @@ use Rattle.station_render.specs.Runs.{IsRendered, IsTold}
 use Rattle.station_render.specs.declared.rendered.Rendered.{Rendered as Shown}
 use Rattle.station_jobs.specs.declared.halt.Halt.{Halt}
 use Rattle.station_jobs.specs.declared.halt.Halt.TheVariants.{Read, Write, Memory, Refused as refused_for}
-use Rattle.station_jobs.specs.Words.{Make, made_script}
-use Rattle.station_jobs.specs.Verdicts.{Refused, files_made}
+use Rattle.station_jobs.specs.Words.{Make, made_script, rendering_by, rendering_of}
+use Rattle.station_jobs.specs.Verdicts.{Refused, files_made, station_for}
 use Rattle.station_jobs.specs.Jobs.{IsDone}
-use Rattle.station_jobs.specs.Prepared.{Denied, Ended, EndsFor, ForOneOf, Found, Granted, IsOneOutcome, Lost, Outcome, halt_of_render, station_for}
+use Rattle.station_jobs.specs.Prepared.{Denied, Ended, EndsFor, ForOneOf, Found, Granted, IsOneOutcome, Lost, Outcome, halt_of_render}
 use Rattle.station_jobs.specs.Summary.{SumsAsOneThread, summary_of, summed_lines}
 use Rattle.station_jobs.proofs.Leavings.{ended_starved}
 use Rattle.station_jobs.proofs.Outcomes.{for_one, lost_ruled, make_plain, plain_ruled}
@@ -40,13 +40,13 @@ never_rose rose = omega arith
 
 -- what is found over the shelf is found over the files of the workload
 pub one_made : (seed size : ℕ) (shelf : Files) (file : List ℕ) (outcome : Outcome) → shelf ≡ files_made seed size → file ≡ made_script
-    → ForSome (Some shelf) (λ files. IsOneOutcome files file None false 500 outcome) → IsOneOutcome (files_made seed size) made_script None false 500 outcome
+    → ForSome (Some shelf) (λ files. IsOneOutcome files (rendering_by file 0 500 None false) outcome) → IsOneOutcome (files_made seed size) (rendering_of (Make seed size)) outcome
 one_made seed size shelf file outcome shelf_is file_is found =
-    subst (λ f. IsOneOutcome (files_made seed size) f None false 500 outcome) file_is (found (files_made seed size) (ap Some shelf_is))
+    subst (λ f. IsOneOutcome (files_made seed size) (rendering_by f 0 500 None false) outcome) file_is (found (files_made seed size) (ap Some shelf_is))
 
 -- the steps before the rendering ended
 pub stopped_made : {T : Type 0} (seed size : ℕ) (shelf after : Files) (file : List ℕ) (told : ShelfTold) (e : Halt) → shelf ≡ files_made seed size → file ≡ made_script
-    → EndsFor {T = T} file None false 500 (sure_shelf_told shelf) (sure_shelf_told after) (Err e) → Ended (Make seed size) told told (Err e)
+    → EndsFor {T = T} (rendering_by file 0 500 None false) (sure_shelf_told shelf) (sure_shelf_told after) (Err e) → Ended (Make seed size) told told (Err e)
 stopped_made seed size shelf after file told (refused_for fault) shelf_is file_is ends = (
   λ files t. for_one (Make seed size) files (Denied fault) (λ v. v ≡ Refused fault)
       (lost_ruled (Make seed size) files fault (one_made seed size shelf file (Lost fault) shelf_is file_is (ends.fault fault refl))) refl,
@@ -66,17 +66,17 @@ none_joins : (station : Station) → station.plan.buffers ≡ [] → HasNoJoin (
 none_joins station none buffer below = absurd (let empty = ap length none in omega (arith, empty, below))
 
 -- the summary
-pub summed : (seed size : ℕ) (plan : Plan) (library : Sounds) (clocks : ClockMap) → plan.buffers ≡ [] → IsOneOutcome (files_made seed size) made_script None false 500 (Found plan library clocks)
+pub summed : (seed size : ℕ) (plan : Plan) (library : Sounds) (clocks : ClockMap) → plan.buffers ≡ [] → IsOneOutcome (files_made seed size) (rendering_of (Make seed size)) (Found plan library clocks)
     → (shelf after : Files) (report : List ℕ) (value : Shown) → shelf ≡ files_made seed size
-    → IsRendered (station_for (Make seed size) plan library clocks (InWindows 16)) (sure_shelf_told shelf) (sure_shelf_told after) value
-    → ((run : Run) → IsTold (station_for (Make seed size) plan library clocks (InWindows 16)) run value
-    → report ≡ summed_lines (station_for (Make seed size) plan library clocks (InWindows 16)) run after plan.sinks)
-    → ((run : Run) → HasNoGaps (station_for (Make seed size) plan library clocks (InWindows 16)) run)
-    → ((run : Run) → IsLawful (station_for (Make seed size) plan library clocks (InWindows 16)) run → HasNoJoin (bare (station_for (Make seed size) plan library clocks (InWindows 16))) clocks.running
-    → SumsAsOneThread (files_made seed size) (station_for (Make seed size) plan library clocks (InWindows 16)) (summary_of (files_made seed size) (station_for (Make seed size) plan library clocks (InWindows 16)) run))
+    → IsRendered (station_for (rendering_of (Make seed size)) plan library clocks (InWindows 16)) (sure_shelf_told shelf) (sure_shelf_told after) value
+    → ((run : Run) → IsTold (station_for (rendering_of (Make seed size)) plan library clocks (InWindows 16)) run value
+    → report ≡ summed_lines (station_for (rendering_of (Make seed size)) plan library clocks (InWindows 16)) run after plan.sinks)
+    → ((run : Run) → HasNoGaps (station_for (rendering_of (Make seed size)) plan library clocks (InWindows 16)) run)
+    → ((run : Run) → IsLawful (station_for (rendering_of (Make seed size)) plan library clocks (InWindows 16)) run → HasNoJoin (bare (station_for (rendering_of (Make seed size)) plan library clocks (InWindows 16))) clocks.running
+    → SumsAsOneThread (files_made seed size) (station_for (rendering_of (Make seed size)) plan library clocks (InWindows 16)) (summary_of (files_made seed size) (station_for (rendering_of (Make seed size)) plan library clocks (InWindows 16)) run))
     → (told : ShelfTold) → ForOneOf (Make seed size) told (λ files v. IsDone v files told told report)
 summed seed size plan library clocks none one shelf after report value shelf_is is report_is gapless alike told = λ files t.
-    let station = station_for (Make seed size) plan library clocks (InWindows 16) in
+    let station = station_for (rendering_of (Make seed size)) plan library clocks (InWindows 16) in
     let made = files_made seed size in
     let all : Some after ≡ Some (with_outputs made (output_files station is.run ++ [])) = is.all_written made (ap Some shelf_is) in
     let files_are : after ≡ with_outputs made (output_files station is.run ++ []) = cc in

@@ -1,5 +1,5 @@
 -- What is found of a script before anything is rendered. Only what is private cites this.
-use Rattle.std.specs.Prelude.{◌≡◌, ◌⊎◌, ℕ, Bool, true, false, List, Result, Ok, Err, Option, None, Some, String, IsErrOf, string_bytes}
+use Rattle.std.specs.Prelude.{◌≡◌, ◌⊎◌, ℕ, true, false, List, Result, Ok, Err, Option, None, Some, String, IsErrOf, string_bytes}
 use Rattle.std.specs.Option.{ForSome}
 use Rattle.std.specs.declared.alloc.Global.{Global}
 use Rattle.liq_base.specs.Counts.{Rose}
@@ -21,36 +21,21 @@ use Rattle.station_render.specs.declared.job.Job.{Job}
 use Rattle.refusal_lines.specs.declared.fault.Fault.{Fault}
 use Rattle.refusal_lines.specs.declared.fault.Fault.TheVariants.{SameFile, Script}
 use Rattle.refusal_lines.specs.declared.replay_lines.ReplayFault.{ReplayFault}
-use Rattle.station_jobs.specs.Words.{Asked, cues_of, asked_file, start_of, asked_ticks, trace_name}
-use Rattle.station_jobs.specs.Verdicts.{Verdict, Refused, Accepted, IsScriptFault, IsVerdictOn, IsPrepared, IsRefusal, IsWayFor, files_for, verdict_for}
+use Rattle.station_jobs.specs.Words.{Asked, Rendering, rendering_by, rendering_of}
+use Rattle.station_jobs.specs.Verdicts.{Verdict, Refused, Accepted, IsScriptFault, IsVerdictOn, IsPrepared, IsRefusal, IsWayFor, files_for, station_for, verdict_for}
 use Rattle.station_jobs.specs.Replays.{IsReplayFault}
 use Rattle.station_jobs.specs.Jobs.{IsBroken, IsDone, IsStarved}
 use Rattle.station_jobs.specs.declared.halt.Halt.{Halt}
 use Rattle.station_jobs.specs.declared.halt.Halt.TheVariants.{Read, Write, Memory, Refused as refused_for}
-use Rattle.station_jobs.specs.declared.prepare.Work.{Work}
 
 -- a script has a plan with its audio files and clocks, or a fault
 pub data Outcome : Type 0 where
   Found : Plan → Sounds → ClockMap → Outcome
   Lost : Fault → Outcome
 
-abbrev pub IsOutcome : Files → (file : List ℕ) (trace : Option (List ℕ)) (cues : Bool) (ticks : ℕ) → Outcome → Type 0
-IsOutcome files file trace cues ticks (Found plan library clocks) = IsPrepared files file trace cues ticks plan library
-    clocks
-IsOutcome files file trace cues ticks (Lost fault) = IsScriptFault files file trace cues ticks fault
-
--- the station of a plan with its audio files and clocks, which is rendered in this way
-abbrev pub station_for : Asked → Plan → Sounds → ClockMap → Way → Station
-station_for asked plan library clocks way = record {
-  plan = plan;
-  library = library;
-  clocks = clocks;
-  start = start_of asked;
-  ticks = asked_ticks asked;
-  way = way;
-  trace = trace_name asked;
-  cues = cues_of asked;
-}
+abbrev pub IsOutcome : Files → Rendering → Outcome → Type 0
+IsOutcome files rendering (Found plan library clocks) = IsPrepared files rendering plan library clocks
+IsOutcome files rendering (Lost fault) = IsScriptFault files rendering fault
 
 -- what is asked for is granted, with a plan, its audio files and clocks, and the way in which it is rendered; or it is
 -- denied for a fault
@@ -60,8 +45,7 @@ pub data Ruling : Type 0 where
 
 pub record IsGranted (asked : Asked) (files : Files) (plan : Plan) (library : Sounds) (clocks : ClockMap)
     (way : Way) : Type 0 where
-  pub prepared : IsPrepared files (asked_file asked) (trace_name asked) (cues_of asked) (asked_ticks asked) plan library
-      clocks
+  pub prepared : IsPrepared files (rendering_of asked) plan library clocks
   pub is_way : IsWayFor asked files plan library clocks way
 
 abbrev pub IsRuling : Asked → Files → Ruling → Type 0
@@ -76,27 +60,26 @@ pub record IsOneRuling (asked : Asked) (files : Files) (ruling : Ruling) : Type 
 -- the verdict of a ruling
 abbrev pub verdict_of : Asked → Ruling → Verdict
 verdict_of asked (Denied fault) = Refused fault
-verdict_of asked (Granted plan library clocks way) = verdict_for asked (station_for asked plan library clocks way)
+verdict_of asked (Granted plan library clocks way) = verdict_for asked
+    (station_for (rendering_of asked) plan library clocks way)
 
 -- this is the outcome, and there is no other
-pub record IsOneOutcome (files : Files) (file : List ℕ) (trace : Option (List ℕ)) (cues : Bool) (ticks : ℕ)
-    (outcome : Outcome) : Type 0 where
-  pub holds : IsOutcome files file trace cues ticks outcome
-  pub only : (other : Outcome) → IsOutcome files file trace cues ticks other → other ≡ outcome
+pub record IsOneOutcome (files : Files) (rendering : Rendering) (outcome : Outcome) : Type 0 where
+  pub holds : IsOutcome files rendering outcome
+  pub only : (other : Outcome) → IsOutcome files rendering other → other ≡ outcome
 
-abbrev pub outcome_of : Work → Outcome
-outcome_of work = Found work.plan work.ready.library work.ready.clocks
+abbrev pub outcome_of : Job → Outcome
+outcome_of job = Found job.plan job.ready.library job.ready.clocks
 
 -- for no tick the outcome is this plan with these clocks and some audio files, and there is no other
 pub record IsChecked (files : Files) (file : List ℕ) (plan : Plan) (clocks : ClockMap) : Type 0 where
   pub library : Sounds
-  pub one : IsOneOutcome files file None false 0 (Found plan library clocks)
+  pub one : IsOneOutcome files (rendering_by file 0 0 None false) (Found plan library clocks)
 
 -- why a step that reads ended: a fault only where it is the outcome, and a read fault only where a read failed
-pub record EndsFor {T : Type 0} (file : List ℕ) (trace : Option (List ℕ)) (cues : Bool) (ticks : ℕ)
-    (old new : ShelfTold) (result : Result T Halt) : Type 0 where
+pub record EndsFor {T : Type 0} (rendering : Rendering) (old new : ShelfTold) (result : Result T Halt) : Type 0 where
   pub fault : (fault : Fault) → result ≡ Err (refused_for fault)
-      → ForSome old.files (λ files. IsOneOutcome files file trace cues ticks (Lost fault))
+      → ForSome old.files (λ files. IsOneOutcome files rendering (Lost fault))
   pub read : IsErrOf result Read → Rose old.reads new.reads
   pub no_write : IsErrOf result Write → ⊥
 
@@ -154,18 +137,20 @@ Ended asked old new (Err Write) = Rose old.writes new.writes
 Ended asked old new (Err Memory) = ForSome old.files
     (λ files. ForEach asked files (λ verdict. IsStarved verdict files old new))
 
--- a job is to be rendered as this is asked for
-pub record IsAskedOf (asked : Asked) (job : Job) : Type 0 where
-  pub is_rendering : (plan : Plan) (library : Sounds) (clocks : ClockMap) (way : Way)
-      → verdict_of asked (Granted plan library clocks way) ≡ Accepted (station_for asked plan library clocks way)
-  pub start_is : start_of asked ≡ job.start.second
-  pub ticks_are : asked_ticks asked ≡ job.ticks
-  pub trace_is : trace_name asked ≡ name_in job
-  pub cues_are : cues_of asked ≡ job.cues
+-- a job is to be rendered so
+pub record IsJobFor (rendering : Rendering) (job : Job) : Type 0 where
+  pub start_is : rendering.start ≡ job.start.second
+  pub ticks_are : rendering.ticks ≡ job.ticks
+  pub trace_is : rendering.trace ≡ name_in job
+  pub cues_are : rendering.cues ≡ job.cues
+
+-- what is asked for is a rendering: what is granted is accepted
+abbrev pub IsToRender : Asked → Type 0
+IsToRender asked = (station : Station) → verdict_for asked station ≡ Accepted station
 
 -- the plan of a job, with its audio files and clocks, is granted to be rendered in this way
 abbrev pub granted : Job → Way → Ruling
-granted job way = Granted job.plan.now job.ready.now.library job.ready.now.clocks way
+granted job way = Granted job.plan job.ready.library job.ready.clocks way
 
 -- how the ends of lower steps go on
 abbrev pub halt_of_script : ScriptFault → Halt

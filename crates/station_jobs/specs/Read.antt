@@ -1,12 +1,10 @@
 -- What was read of the words. Only private functions cite this.
 use Rattle.std.specs.Prelude.{List, ℕ, Option, Some, None, option_map}
 use Rattle.std.specs.Borrow.{Bor}
-use Rattle.station_jobs.specs.Words.{Asked, Check, Make, Options, Render, Replay}
+use Rattle.station_jobs.specs.Words.{Asked, Check, Make, Options, Render, Rendering, Replay, rendering_by}
 use Rattle.station_jobs.specs.declared.form.Form.{Form}
-use Rattle.station_jobs.specs.declared.form.Form.TheVariants.{Check as checks, Alone as alone, Replay as replays, Threaded as threaded}
-use Rattle.station_jobs.specs.declared.form.Rendering.{Rendering}
-use Rattle.station_jobs.specs.declared.form.Threaded.{Threaded}
-use Rattle.station_jobs.specs.declared.form.Threaded.TheVariants.{Render as renders, Make as makes}
+use Rattle.station_jobs.specs.declared.form.Form.TheVariants.{Check as checks, Alone as alone, Threads as threads, Make as makes, Replay as replays}
+use Rattle.station_jobs.specs.declared.form.Rendering.{Rendering as ReadRendering}
 use Rattle.station_jobs.specs.declared.options.Options.{Options as ReadOptions}
 
 -- a name that is said or not
@@ -22,18 +20,15 @@ options_of options = record {
   cues = options.cues;
 }
 
+-- what was read of a rendering
+abbrev pub rendering_read : ReadRendering → Rendering
+rendering_read asked =
+    rendering_by asked.file.now asked.start.second asked.ticks.count (named asked.trace) asked.cues
+
 -- what a form asks for
-abbrev pub asked_to_render : Rendering → Asked
-asked_to_render rendering =
-    Render rendering.file.now rendering.start.second rendering.ticks.count (Some rendering.window.ticks)
-    (named rendering.trace) rendering.cues
-
-abbrev pub asked_by_threads : Threaded → Asked
-asked_by_threads (renders rendering) = asked_to_render rendering
-asked_by_threads (makes seed size) = Make seed size.files
-
 abbrev pub asked_of : Form → Asked
 asked_of (checks file) = Check file.now
-asked_of (alone file start ticks cues) = Render file.now start.second ticks.count None None cues
+asked_of (alone asked) = Render (rendering_read asked) None
+asked_of (threads asked window) = Render (rendering_read asked) (Some window.ticks)
+asked_of (makes seed size) = Make seed size.files
 asked_of (replays file start ticks trace) = Replay file.now start.second ticks.count trace.now
-asked_of (threaded what) = asked_by_threads what

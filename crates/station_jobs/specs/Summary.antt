@@ -1,5 +1,5 @@
 -- What is told of a workload.
-use Rattle.std.specs.Prelude.{◌≡◌, ℕ, ℤ, pos, ◌+ℤ◌, ◌*◌, List, [], ◌∷◌, ◌++◌, codes, decimal, drop, fold, unwrap_or}
+use Rattle.std.specs.Prelude.{◌≡◌, ℕ, ℤ, pos, ◌+ℤ◌, ◌*◌, List, [], ◌∷◌, ◌++◌, codes, drop, fold, unwrap_or}
 use Rattle.std.specs.Fmt.{signed_decimal}
 use Rattle.liq_base.specs.Files.{Files, file_at}
 use Rattle.frame_core.specs.Bytes.{samples_from}
@@ -7,6 +7,7 @@ use Rattle.plan_core.specs.declared.sink.SinkPlan.{SinkPlan}
 use Rattle.plan_core.specs.declared.sink.SinkPlan.TheVariants.{Output, Feed}
 use Rattle.run_records.specs.Records.{IsRounds, Run}
 use Rattle.stations.specs.Outputs.{with_outputs}
+use Rattle.stations.specs.Reports.{counted_part}
 use Rattle.stations.specs.Stations.{Station, bare}
 use Rattle.stations.specs.Streams.{gaps_of, output_files}
 
@@ -17,11 +18,6 @@ sum_of bytes = fold ◌+ℤ◌ (pos 0) (samples_from (drop 44 bytes))
 -- the sum of the samples in the file of this name
 abbrev pub sum_at : Files → (name : List ℕ) → ℤ
 sum_at files name = sum_of (unwrap_or (file_at files name) [])
-
--- the line of an output that was rendered, but for its end, and the sum of its samples behind it
-abbrev pub counted_part : (name : List ℕ) (samples gaps : ℕ) → List ℕ
-counted_part name samples gaps = codes "output " ++ name ++ codes " samples " ++ decimal samples ++ codes " gaps "
-    ++ decimal gaps
 
 -- the end of a line of a summary: the sum of the samples
 abbrev pub sum_part : (sum : ℤ) → List ℕ

@@ -22,7 +22,7 @@ use Rattle.refusal_lines.specs.declared.fault.Fault.TheVariants.{NoScript, Scrip
 use Rattle.refusal_lines.specs.declared.replay_lines.ReplayFault.{ReplayFault}
 use Rattle.workload_gen.specs.Files.{workload}
 use Rattle.station_jobs.specs.Replays.{IsReplayFault, IsWayOf}
-use Rattle.station_jobs.specs.Words.{Asked, Check, Make, Render, Replay, IsAsked, HasNoForm, cues_of, asked_file, start_of, asked_ticks, trace_name}
+use Rattle.station_jobs.specs.Words.{Asked, Check, Make, Render, Rendering, Replay, IsAsked, HasNoForm, rendering_by, rendering_of}
 
 -- the usage line, the first fault of the script, a station that is checked, one that is rendered, or that of a
 -- workload, with its files
@@ -86,52 +86,51 @@ abbrev pub clash_of : Plan → (trace : Option (List ℕ)) (cues : Bool) → Opt
 clash_of plan trace cues = option_or (cue_clash plan cues) (trace_clash plan trace cues)
 
 -- the script has a plan, and this is the first name that two files of its rendering would have
-pub record HasClash (files : Files) (file : List ℕ) (trace : Option (List ℕ)) (cues : Bool) (name : List ℕ) : Type 0
-  where
-    pub plan : Plan
-    pub has_plan : HasPlan files file plan
-    pub clash : clash_of plan trace cues ≡ Some name
+pub record HasClash (files : Files) (rendering : Rendering) (name : List ℕ) : Type 0 where
+  pub plan : Plan
+  pub has_plan : HasPlan files rendering.file plan
+  pub clash : clash_of plan rendering.trace rendering.cues ≡ Some name
 
 -- the script has a plan, whose rendering writes no name twice, and which for so many ticks has this fault
-pub record HasUnfitPlan (files : Files) (file : List ℕ) (trace : Option (List ℕ)) (cues : Bool) (ticks : ℕ)
-    (fault : StationFault) : Type 0 where
+pub record HasUnfitPlan (files : Files) (rendering : Rendering) (fault : StationFault) : Type 0 where
   pub plan : Plan
-  pub has_plan : HasPlan files file plan
-  pub apart : clash_of plan trace cues ≡ None
-  pub is_fault : IsStationFault files plan ticks fault
+  pub has_plan : HasPlan files rendering.file plan
+  pub apart : clash_of plan rendering.trace rendering.cues ≡ None
+  pub is_fault : IsStationFault files plan rendering.ticks fault
 
--- the first fault of a script, for so many ticks, a trace of this name that is to be written, and cue files where they
--- are wanted
-abbrev pub IsScriptFault : Files → (file : List ℕ) (trace : Option (List ℕ)) (cues : Bool) (ticks : ℕ) → Fault → Type 0
-IsScriptFault files file trace cues ticks NoScript = file_at files file ≡ None
-IsScriptFault files file trace cues ticks (Script fault) = HasPlanFault files file fault
-IsScriptFault files file trace cues ticks (SameFile name) = HasClash files file trace cues name
-IsScriptFault files file trace cues ticks (Fault.Station fault) = HasUnfitPlan files file trace cues ticks fault
-IsScriptFault files file trace cues ticks (Fault.Replay fault) = ⊥
+-- the first fault of a script that is to be rendered so
+abbrev pub IsScriptFault : Files → Rendering → Fault → Type 0
+IsScriptFault files rendering NoScript = file_at files rendering.file ≡ None
+IsScriptFault files rendering (Script fault) = HasPlanFault files rendering.file fault
+IsScriptFault files rendering (SameFile name) = HasClash files rendering name
+IsScriptFault files rendering (Fault.Station fault) = HasUnfitPlan files rendering fault
+IsScriptFault files rendering (Fault.Replay fault) = ⊥
 
 -- the script is accepted, and these are its plan, with its audio files and clocks
-pub record IsPrepared (files : Files) (file : List ℕ) (trace : Option (List ℕ)) (cues : Bool) (ticks : ℕ) (plan : Plan)
-    (library : Sounds) (clocks : ClockMap) : Type 0 where
-  pub has_plan : HasPlan files file plan
-  pub apart : clash_of plan trace cues ≡ None
-  pub renderable : IsRenderable files plan ticks library clocks
+pub record IsPrepared (files : Files) (rendering : Rendering) (plan : Plan) (library : Sounds) (clocks : ClockMap) : Type
+    0 where
+  pub has_plan : HasPlan files rendering.file plan
+  pub apart : clash_of plan rendering.trace rendering.cues ≡ None
+  pub renderable : IsRenderable files plan rendering.ticks library clocks
 
 -- the script is accepted, and the trace in the file of this name is not rendered again, for this fault
-pub record HasUntold (files : Files) (file : List ℕ) (start ticks : ℕ) (trace : List ℕ) (fault : Fault) : Type 0 where
+pub record HasUntold (files : Files) (rendering : Rendering) (trace : List ℕ) (fault : Fault) : Type 0 where
   pub plan : Plan
   pub library : Sounds
   pub clocks : ClockMap
-  pub prepared : IsPrepared files file None false ticks plan library clocks
+  pub prepared : IsPrepared files rendering plan library clocks
   pub untold : ReplayFault
   pub fault_is : fault ≡ Fault.Replay untold
-  pub is_fault : IsReplayFault files trace (base_of plan library clocks start) clocks.running ticks untold
+  pub is_fault : IsReplayFault files trace (base_of plan library clocks rendering.start) clocks.running rendering.ticks
+      untold
 
 -- a fault of the trace of a replay
 abbrev pub IsTraceFault : Asked → Files → Fault → Type 0
 IsTraceFault (Check file) files fault = ⊥
-IsTraceFault (Render file start ticks window trace cues) files fault = ⊥
+IsTraceFault (Render rendering window) files fault = ⊥
 IsTraceFault (Make seed size) files fault = ⊥
-IsTraceFault (Replay file start ticks trace) files fault = HasUntold files file start ticks trace fault
+IsTraceFault (Replay file start ticks trace) files fault = HasUntold files
+    (rendering_by file start ticks None false) trace fault
 
 -- by threads in windows of so many ticks, or, where no window is there, in rounds on one thread
 abbrev pub way_in : (window : Option ℕ) → Way
@@ -142,21 +141,30 @@ way_in (Some window) = InWindows window
 -- ticks; a replay as its trace tells
 abbrev pub IsWayFor : Asked → Files → Plan → Sounds → ClockMap → Way → Type 0
 IsWayFor (Check file) files plan library clocks way = way ≡ InRounds
-IsWayFor (Render file start ticks window trace cues) files plan library clocks way = way ≡ way_in window
+IsWayFor (Render rendering window) files plan library clocks way = way ≡ way_in window
 IsWayFor (Make seed size) files plan library clocks way = way ≡ InWindows 16
 IsWayFor (Replay file start ticks trace) files plan library clocks way = IsWayOf files trace
     (base_of plan library clocks start) clocks.running ticks way
 
+-- the station of a plan with its audio files and clocks, which is rendered in this way
+abbrev pub station_for : Rendering → Plan → Sounds → ClockMap → Way → Station
+station_for rendering plan library clocks way = record {
+  plan = plan;
+  library = library;
+  clocks = clocks;
+  start = rendering.start;
+  ticks = rendering.ticks;
+  way = way;
+  trace = rendering.trace;
+  cues = rendering.cues;
+}
+
 -- the script is accepted, and this is its station: its plan, with its audio files and clocks, its way, and what else is
 -- asked for
 pub record IsStation (asked : Asked) (files : Files) (station : Station) : Type 0 where
-  pub prepared : IsPrepared files (asked_file asked) (trace_name asked) (cues_of asked) (asked_ticks asked) station.plan
-      station.library station.clocks
+  pub prepared : IsPrepared files (rendering_of asked) station.plan station.library station.clocks
   pub is_way : IsWayFor asked files station.plan station.library station.clocks station.way
-  pub start_is : station.start ≡ start_of asked
-  pub ticks_are : station.ticks ≡ asked_ticks asked
-  pub trace_is : station.trace ≡ trace_name asked
-  pub cues_are : station.cues ≡ cues_of asked
+  pub rest_is : station ≡ station_for (rendering_of asked) station.plan station.library station.clocks station.way
 
 -- the files of a workload
 unfoldable pub files_made : (seed size : ℕ) → Files
@@ -165,22 +173,21 @@ files_made seed size = from_entries (workload seed (size - 1))
 -- the files over which what is asked for is judged: a workload brings its own
 abbrev pub files_for : Asked → Files → Files
 files_for (Check file) files = files
-files_for (Render file start ticks window trace cues) files = files
+files_for (Render rendering window) files = files
 files_for (Make seed size) files = files_made seed size
 files_for (Replay file start ticks trace) files = files
 
 -- what a station is judged: it is checked, it is rendered, or it is that of a workload, with its files
 abbrev pub verdict_for : Asked → Station → Verdict
 verdict_for (Check file) station = Checked station
-verdict_for (Render file start ticks window trace cues) station = Accepted station
+verdict_for (Render rendering window) station = Accepted station
 verdict_for (Make seed size) station = Made (files_made seed size) station
 verdict_for (Replay file start ticks trace) station = Accepted station
 
 -- this is its first fault: of its script, or else, of a replay, of its trace
 abbrev pub IsRefusal : Asked → Files → Fault → Type 0
 IsRefusal asked files fault =
-    IsScriptFault (files_for asked files) (asked_file asked) (trace_name asked) (cues_of asked) (asked_ticks asked)
-    fault ⊎ IsTraceFault asked files fault
+    IsScriptFault (files_for asked files) (rendering_of asked) fault ⊎ IsTraceFault asked files fault
 
 -- this is the verdict on what is asked for: its first fault, or its station
 abbrev pub IsVerdictOn : Asked → Files → Verdict → Type 0

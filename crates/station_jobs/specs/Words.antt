@@ -3,14 +3,27 @@ use Rattle.std.specs.Prelude.{◌≡◌, ◌≢◌, ◌≤◌, ◌<◌, ◌⊎�
 use Rattle.std.specs.declared.alloc.Global.{Global}
 use Rattle.fixed_text.specs.Texts.{IsStartText}
 
--- What the words of a form ask for: that the script in a file is checked; that it is rendered, from a second of the
--- week on and for so many ticks: by threads in windows of so many, or, where no window is there, on one thread; the
--- trace of its buffers goes to the file of this name, if one is there; and cue files are written, or not; that the
--- workload of a seed and of so many audio files is rendered and told; or that the script in a file is rendered again,
--- on one thread, from a second of the week on and for so many ticks, as the trace in the file of this name tells.
+-- What is asked of a rendering, but for its way: the file of the script, the second of the week at which it begins, for
+-- how many ticks, the name of the file that gets the trace of its buffers, if one is wanted, and whether cue files are.
+pub record Rendering : Type 0 where
+  pub file : List ℕ
+  pub start : ℕ
+  pub ticks : ℕ
+  pub trace : Option (List ℕ)
+  pub cues : Bool
+
+-- such a rendering
+abbrev pub rendering_by : (file : List ℕ) (start ticks : ℕ) (trace : Option (List ℕ)) (cues : Bool) → Rendering
+rendering_by file start ticks trace cues =
+    record { file = file; start = start; ticks = ticks; trace = trace; cues = cues }
+
+-- What the words of a form ask for: that the script in a file is checked; that it is rendered: by threads in windows of
+-- so many ticks, or, where no window is there, on one thread; that the workload of a seed and of so many audio files is
+-- rendered and told; or that the script in a file is rendered again, on one thread, from a second of the week on and
+-- for so many ticks, as the trace in the file of this name tells.
 pub data Asked : Type 0 where
   Check : (file : List ℕ) → Asked
-  Render : (file : List ℕ) (start ticks : ℕ) (window : Option ℕ) (trace : Option (List ℕ)) (cues : Bool) → Asked
+  Render : (rendering : Rendering) (window : Option ℕ) → Asked
   Make : (seed size : ℕ) → Asked
   Replay : (file : List ℕ) (start ticks : ℕ) (trace : List ℕ) → Asked
 
@@ -18,41 +31,13 @@ pub data Asked : Type 0 where
 unfoldable pub made_script : List ℕ
 made_script = codes "make.liq"
 
--- the file of the script
-abbrev pub asked_file : Asked → List ℕ
-asked_file (Check file) = file
-asked_file (Render file start ticks window trace cues) = file
-asked_file (Make seed size) = made_script
-asked_file (Replay file start ticks trace) = file
-
--- the first second, the ticks, the name of the trace that is to be written, and whether cue files are wanted: a check
--- renders no tick; a workload is rendered for 500 ticks; neither of them and no replay writes a trace or cue files
-abbrev pub start_of : Asked → ℕ
-start_of (Check file) = 0
-start_of (Render file start ticks window trace cues) = start
-start_of (Make seed size) = 0
-start_of (Replay file start ticks trace) = start
-
--- how many ticks the words ask for
-abbrev pub asked_ticks : Asked → ℕ
-asked_ticks (Check file) = 0
-asked_ticks (Render file start ticks window trace cues) = ticks
-asked_ticks (Make seed size) = 500
-asked_ticks (Replay file start ticks trace) = ticks
-
--- the name of the trace that the words ask for, if any
-abbrev pub trace_name : Asked → Option (List ℕ)
-trace_name (Check file) = None
-trace_name (Render file start ticks window trace cues) = trace
-trace_name (Make seed size) = None
-trace_name (Replay file start ticks trace) = None
-
--- whether the words ask for cue files
-abbrev pub cues_of : Asked → Bool
-cues_of (Check file) = false
-cues_of (Render file start ticks window trace cues) = cues
-cues_of (Make seed size) = false
-cues_of (Replay file start ticks trace) = false
+-- a check renders no tick; a workload is rendered for 500 ticks; neither of them and no replay writes a trace or cue
+-- files
+abbrev pub rendering_of : Asked → Rendering
+rendering_of (Check file) = rendering_by file 0 0 None false
+rendering_of (Render rendering window) = rendering
+rendering_of (Make seed size) = rendering_by made_script 0 500 None false
+rendering_of (Replay file start ticks trace) = rendering_by file start ticks None false
 
 -- the bytes of the words
 abbrev pub texts : List (String Global) → List (List ℕ)
@@ -154,7 +139,8 @@ AreApart options = options.one_thread ≡ true → (options.window ≡ None) × 
 pub record IsRendering (file number : List ℕ) (words : List (List ℕ)) (asked : Asked) : Type 0 where
   pub options : Options
   pub ticks : ℕ
-  pub asked_is : asked ≡ Render file (start_in options) ticks (window_in options) options.trace options.cues
+  pub asked_is : asked ≡ Render (rendering_by file (start_in options) ticks options.trace options.cues)
+      (window_in options)
   pub number_is : number ≡ decimal ticks
   pub few : ticks ≤ 10 ^ 9
   pub options_are : AreOptions no_options words options
@@ -227,8 +213,8 @@ HasNoForm words = (asked : Asked) → IsAsked words asked → ⊥
 -- this takes threads: a rendering in windows, and a workload; a replay takes none
 abbrev pub TakesThreads : Asked → Type 0
 TakesThreads (Check file) = ⊥
-TakesThreads (Render file start ticks None trace cues) = ⊥
-TakesThreads (Render file start ticks (Some window) trace cues) = ⊤
+TakesThreads (Render rendering None) = ⊥
+TakesThreads (Render rendering (Some window)) = ⊤
 TakesThreads (Make seed size) = ⊤
 TakesThreads (Replay file start ticks trace) = ⊥
 

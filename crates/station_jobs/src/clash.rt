@@ -11,6 +11,7 @@ use crate::halt::Halt;
 use liq_base::{Memory, Text};
 use plan_core::{Plan, SinkPlan};
 use refusal_lines::Fault;
+use station_render::cue_file_name;
 use std::alloc::Global;
 
 /// Refuses two files of one name: where cue files are wanted, one that has the name of an output; then a trace that has
@@ -62,20 +63,12 @@ fn cue_clash_of(alloc: Global, plan: &Plan, sink: &SinkPlan) -> Result<Option<Te
     let SinkPlan::Output { name, .. } = sink else {
         return Ok(None);
     };
-    let file = cue_file_of(alloc, name.as_str())?;
+    let own = cue_file_name(alloc, name.as_str())?;
+    let file = Text::from_string(own);
     if !is_output(plan, file.as_str()) {
         return Ok(None);
     }
     Ok(Some(file))
-}
-
-// The name of the cue file of the output of this name.
-fn cue_file_of(alloc: Global, output: &str) -> Result<Text, Memory>
-    ensures { IfOk result (λ name. name ≡ cue_name output.now) }
-{
-    let mut name = String::from_str(alloc, output)?;
-    name.push_str(".cue")?;
-    Ok(Text::from_string(name))
 }
 
 // The name of a trace, if an output has it, or, where they are wanted, a cue file.

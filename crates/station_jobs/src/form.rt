@@ -14,18 +14,21 @@ pub enum Form<'a> {
     },
 
     /// `render FILE N --one-thread` and options
-    Alone {
-        /// The name of the script.
-        file: &'a str,
+    Alone(Rendering<'a>),
 
-        /// The second of the week of the first sample.
-        start: WeekSecond,
+    /// `render FILE N` and options
+    Threads {
+        /// What is rendered.
+        asked: Rendering<'a>,
 
-        /// How many ticks are rendered.
-        ticks: Ticks,
+        /// How many ticks a window has.
+        window: Window,
+    },
 
-        /// Whether each output gets a cue file.
-        cues: bool,
+    /// `make SEED SIZE`
+    Make {
+        seed: u64,
+        size: Size,
     },
 
     /// `replay FILE N TRACE` and a start
@@ -42,22 +45,9 @@ pub enum Form<'a> {
         /// The name of the trace by which it is rendered again.
         trace: &'a str,
     },
-
-    /// What takes threads.
-    Threaded(Threaded<'a>),
 }
 
-/// What takes threads.
-#[derive(Clone, Copy)]
-pub enum Threaded<'a> {
-    /// `render FILE N` and options
-    Render(Rendering<'a>),
-
-    /// `make SEED SIZE`
-    Make { seed: u64, size: Size },
-}
-
-/// A rendering by threads.
+/// A rendering, but for its way.
 #[derive(Clone, Copy)]
 pub struct Rendering<'a> {
     /// The name of the script.
@@ -69,10 +59,7 @@ pub struct Rendering<'a> {
     /// How many ticks are rendered.
     pub ticks: Ticks,
 
-    /// How many of them a window has.
-    pub window: Window,
-
-    /// The name of the file that gets the trace, if one is wanted.
+    /// The name of the file that gets the trace, if one is wanted. Threads alone leave one.
     pub trace: Option<&'a str>,
 
     /// Whether each output gets a cue file.

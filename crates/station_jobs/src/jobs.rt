@@ -1,11 +1,11 @@
 // What is done before the last text is written.
-ghost use Rattle.std.specs.Prelude.{◌≡◌, IfOk, IfErr, None, Ok};
+ghost use Rattle.std.specs.Prelude.{◌≡◌, IfOk, IfErr, None, Ok, Some};
 ghost use Rattle.std.specs.Option.{ForSome};
 ghost use Rattle.liq_base.specs.Shelves.{OnlyRead, ShelfTold};
 ghost use Rattle.station_jobs.specs.declared.halt.Halt.TheVariants.{Memory as no_memory};
-ghost use Rattle.station_jobs.specs.Prepared.{Ended, IsAskedOf, IsOneRuling, granted};
-ghost use Rattle.station_jobs.specs.Read.{asked_to_render};
-ghost use Rattle.station_jobs.specs.Words.{Asked, Check, Render};
+ghost use Rattle.station_jobs.specs.Prepared.{Ended, IsJobFor, IsOneRuling, IsToRender, granted};
+ghost use Rattle.station_jobs.specs.Read.{rendering_read};
+ghost use Rattle.station_jobs.specs.Words.{Asked, Check, Render, rendering_of};
 ghost use Rattle.station_render.specs.Renderings.{Renders};
 ghost use Rattle.station_render.specs.Runs.{IsFitting, station_in};
 ghost use Rattle.stations.specs.Stations.{Way};
@@ -13,8 +13,7 @@ ghost use Rattle.stations.specs.Stations.{Way};
 use crate::form::Rendering;
 use crate::halt::Halt;
 use crate::prepare::{prepare, prepare_check};
-use crate::ticks::Ticks;
-use fixed_text::WeekSecond;
+use crate::window::Window;
 use liq_base::{Gate, Memory, Shelf};
 use station_check::check_report;
 use station_render::{Job, RenderFault, Rendered, render, render_alone, report};
@@ -33,24 +32,12 @@ pub fn check_job<S: Shelf>(alloc: Global, file: &str, shelf: &mut S) -> Result<S
 /// The report of a rendering on one thread, whose outputs, and then their cue files, if they are wanted, are written.
 pub fn alone_job<S: Shelf>(
     alloc: Global,
-    file: &str,
-    start: WeekSecond,
-    ticks: Ticks,
-    cues: bool,
+    asked: &Rendering<'_>,
     shelf: &mut S,
 ) -> Result<String, Halt>
-    ensures { Ended (Render file.now start.second ticks.count None None cues) (S.told shelf.old) (S.told shelf.new)
-        result }
+    ensures { Ended (Render (rendering_read asked.now) None) (S.told shelf.old) (S.told shelf.new) result }
 {
-    let work = prepare(alloc, file, None, cues, ticks.count, shelf)?;
-    let job = Job {
-        plan: &work.plan,
-        ready: &work.ready,
-        start,
-        ticks: ticks.count,
-        trace: None,
-        cues,
-    };
+    let job = prepare(alloc, asked, shelf)?;
     let ended = render_alone(alloc, &job, shelf);
     conclude(alloc, &job, ended)
 }
@@ -61,22 +48,15 @@ pub fn threads_job<S: Shelf, G: Gate + Sync, R: Threads + Wait + Sync>(
     rt: &R,
     alloc: Global,
     asked: &Rendering<'_>,
+    window: Window,
     shelf: &mut S,
     gate: &G,
 ) -> Result<String, Halt>
-    ensures { Ended (asked_to_render asked.now) (S.told shelf.old) (S.told shelf.new) result }
+    ensures { Ended (Render (rendering_read asked.now) (Some window.ticks)) (S.told shelf.old) (S.told shelf.new)
+        result }
 {
-    let ticks = asked.ticks.count;
-    let work = prepare(alloc, asked.file, asked.trace, asked.cues, ticks, shelf)?;
-    let job = Job {
-        plan: &work.plan,
-        ready: &work.ready,
-        start: asked.start,
-        ticks,
-        trace: asked.trace,
-        cues: asked.cues,
-    };
-    let ended = render(rt, alloc, &job, asked.window.ticks, shelf, gate);
+    let job = prepare(alloc, asked, shelf)?;
+    let ended = render(rt, alloc, &job, window.ticks, shelf, gate);
     conclude(alloc, &job, ended)
 }
 
@@ -89,7 +69,8 @@ pub(crate) fn conclude(
     requires fit { IsFitting job.now }
     requires rendering { (way : Way) × (old : ShelfTold) × (new : ShelfTold)
         × Renders (station_in job.now way) old new ended }
-    ensures { (asked : Asked) (way : Way) (first old new : ShelfTold) → IsAskedOf asked job.now
+    ensures { (asked : Asked) (way : Way) (first old new : ShelfTold) → IsToRender asked
+        → IsJobFor (rendering_of asked) job.now
         → ForSome first.files (λ files. IsOneRuling asked files (granted job.now way))
         → OnlyRead first old → Renders (station_in job.now way) old new ended → Ended asked first new result }
 {
@@ -99,7 +80,7 @@ pub(crate) fn conclude(
     trace_replay::laws::onward_records_are_ordered();
     stations::laws::broken_renderings_begin_those_of_one_thread();
     let rendered = ended?;
-    report_or_halt(report(alloc, job.plan, job.ticks, &rendered))
+    report_or_halt(report(alloc, &job.plan, job.ticks, &rendered))
 }
 
 /// The report, or that memory was refused for it. Where a plan is alive, a `?` would be one more place at which it

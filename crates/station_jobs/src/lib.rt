@@ -19,9 +19,9 @@ mod traces;
 mod window;
 mod words;
 
-pub use form::{Form, Rendering, Threaded};
+pub use form::{Form, Rendering};
 pub use halt::Halt;
 pub use jobs::{alone_job, check_job, threads_job};
 pub use making::make_job;
 pub use replaying::replay_job;
-pub use words::{read_threaded, read_words};
+pub use words::read_words;

@@ -5,16 +5,18 @@ ghost use Rattle.station_jobs.specs.Verdicts.{files_made};
 ghost use Rattle.station_jobs.specs.Prepared.{Ended};
 ghost use Rattle.station_jobs.specs.Words.{Make, made_script};
 
+use crate::form::Rendering;
 use crate::halt::Halt;
 use crate::jobs::report_or_halt;
 use crate::laws;
 use crate::prepare::prepare;
 use crate::size::Size;
 use crate::summary::summary;
+use crate::ticks::Ticks;
 use fixed_text::WeekSecond;
 use liq_base::{Gate, Memory, SureShelf};
 use plan_core::Plan;
-use station_render::{Job, render};
+use station_render::render;
 use std::alloc::Global;
 use std::sync::Wait;
 use std::thread::Threads;
@@ -52,24 +54,23 @@ fn sum_workload<G: Gate + Sync, R: Threads + Wait + Sync>(
     requires { shelf.old ≡ files_made seed size.files }
     ensures { (told : ShelfTold) → Ended (Make seed size.files) told told result }
 {
-    let work = prepare(alloc, script_name(), None, false, TICKS, shelf)?;
+    let asked = Rendering {
+        file: script_name(),
+        start: WeekSecond { second: 0 },
+        ticks: Ticks { count: TICKS },
+        trace: None,
+        cues: false,
+    };
+    let job = prepare(alloc, &asked, shelf)?;
     // The script of a workload has no buffer. Through one its clocks could meet in one way or another, and what is told
     // rests on the two numbers alone: so were there one, nothing would be told.
-    if !is_unbuffered(&work.plan) {
+    if !is_unbuffered(&job.plan) {
         return Err(Halt::Memory);
     }
     stations::laws::infallible_outputs_have_no_gaps();
     laws::sums_are_as_on_one_thread();
-    let job = Job {
-        plan: &work.plan,
-        ready: &work.ready,
-        start: WeekSecond { second: 0 },
-        ticks: TICKS,
-        trace: None,
-        cues: false,
-    };
     let rendered = render(rt, alloc, &job, WINDOW, shelf, gate)?;
-    report_or_halt(summary(alloc, &work.plan, TICKS, &rendered.gaps, shelf))
+    report_or_halt(summary(alloc, &job.plan, TICKS, &rendered.gaps, shelf))
 }
 
 // Whether a plan has no buffer.

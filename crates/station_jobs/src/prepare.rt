@@ -1,15 +1,17 @@
 // What a script asks for: its plan, its audio files and its clocks.
-ghost use Rattle.std.specs.Prelude.{◌≡◌, ◌≤◌, ◌^◌, ℕ, Bool, false, List, Option, IfOk, None, Some};
+ghost use Rattle.std.specs.Prelude.{◌≡◌, ℕ, Bool, false, List, Option, IfOk, None, Some};
 ghost use Rattle.std.specs.Option.{ForSome};
 ghost use Rattle.liq_base.specs.Files.{file_at};
 ghost use Rattle.liq_base.specs.Shelves.{OnlyRead};
 ghost use Rattle.plan_core.specs.Plans.{IsWellFormed};
-ghost use Rattle.stations.specs.Findings.{IsFit};
+ghost use Rattle.station_render.specs.Runs.{IsFitting};
 ghost use Rattle.station_jobs.specs.Verdicts.{HasPlan, clash_of};
-ghost use Rattle.station_jobs.specs.Prepared.{EndsFor, IsChecked, IsOneOutcome, outcome_of};
-ghost use Rattle.station_jobs.specs.Read.{named};
+ghost use Rattle.station_jobs.specs.Prepared.{EndsFor, IsChecked, IsJobFor, IsOneOutcome, outcome_of};
+ghost use Rattle.station_jobs.specs.Read.{named, rendering_read};
+ghost use Rattle.station_jobs.specs.Words.{rendering_by};
 
 use crate::clash::keep_apart;
+use crate::form::Rendering;
 use crate::halt::Halt;
 use clock_infer::ClockMap;
 use liq_base::limits::MAX_SCRIPT_BYTES;
@@ -19,15 +21,8 @@ use refusal_lines::Fault;
 use script_lex::LexFault;
 use script_plan::{ScriptFault, plan_of};
 use station_check::{check_clocks, check_plan};
-use stations::Ready;
+use station_render::Job;
 use std::alloc::Global;
-
-/// A plan with its audio files and clocks.
-#[derive(Drop)]
-pub struct Work {
-    pub plan: Plan,
-    pub ready: Ready,
-}
 
 /// A plan with its clocks, which are all that a check tells.
 #[derive(Drop)]
@@ -36,29 +31,31 @@ pub struct CheckedPlan {
     pub clocks: ClockMap,
 }
 
-/// What the script of this name asks for, for so many ticks: the script is read, and then its audio files are. Its
-/// outputs, its cue files where they are wanted, and the trace of this name where one is wanted, all have names of
-/// their own.
-pub fn prepare<S: Shelf>(
+/// The job that is asked for: the script is read, and then its audio files are. Its outputs, its cue files where they
+/// are wanted, and the trace of this name where one is wanted, all have names of their own.
+pub fn prepare<'a, S: Shelf>(
     alloc: Global,
-    file: &str,
-    trace: Option<&str>,
-    cues: bool,
-    ticks: u64,
+    asked: &Rendering<'a>,
     shelf: &mut S,
-) -> Result<Work, Halt>
-    requires { ticks ≤ 10 ^ 9 }
+) -> Result<Job<'a>, Halt>
     ensures found { IfOk result
-        (λ work. ForSome (S.told shelf.old).files
-        (λ files. IsOneOutcome files file.now (named trace.entry) cues ticks (outcome_of work))) }
-    ensures fit { IfOk result (λ work. IsFit work.plan work.ready.library work.ready.clocks ticks) }
-    ensures ends { EndsFor file.now (named trace.entry) cues ticks (S.told shelf.old) (S.told shelf.new) result }
+        (λ job. ForSome (S.told shelf.old).files (λ files. IsOneOutcome files (rendering_read asked.now) (outcome_of job))) }
+    ensures fit { IfOk result IsFitting }
+    ensures asked { IfOk result (IsJobFor (rendering_read asked.now)) }
+    ensures ends { EndsFor (rendering_read asked.now) (S.told shelf.old) (S.told shelf.new) result }
     ensures shelf { OnlyRead (S.told shelf.old) (S.told shelf.new) }
 {
-    let plan = read_plan(alloc, file, trace, cues, shelf)?;
+    let plan = read_plan(alloc, asked.file, asked.trace, asked.cues, shelf)?;
     script_plan::laws::one_answer();
-    let ready = check_plan(alloc, &plan, ticks, shelf)?;
-    Ok(Work { plan, ready })
+    let ready = check_plan(alloc, &plan, asked.ticks.count, shelf)?;
+    Ok(Job {
+        plan,
+        ready,
+        start: asked.start,
+        ticks: asked.ticks.count,
+        trace: asked.trace,
+        cues: asked.cues,
+    })
 }
 
 /// The plan and the clocks of the script of this name, as `prepare` finds them for no tick. Its audio files are read
@@ -71,7 +68,7 @@ pub fn prepare_check<S: Shelf>(
     ensures found { IfOk result
         (λ work. ForSome (S.told shelf.old).files (λ files. IsChecked files file.now work.plan work.clocks)) }
     ensures plan { IfOk result (λ work. IsWellFormed work.plan) }
-    ensures ends { EndsFor file.now None false 0 (S.told shelf.old) (S.told shelf.new) result }
+    ensures ends { EndsFor (rendering_by file.now 0 0 None false) (S.told shelf.old) (S.told shelf.new) result }
     ensures shelf { OnlyRead (S.told shelf.old) (S.told shelf.new) }
 {
     let plan = read_plan(alloc, file, None, false, shelf)?;
@@ -91,8 +88,8 @@ fn read_plan<S: Shelf>(
     ensures plan { IfOk result (λ plan. ForSome (S.told shelf.old).files (λ files. HasPlan files file.now plan)) }
     ensures apart { IfOk result (λ plan. clash_of plan (named trace.entry) cues ≡ None) }
     ensures formed { IfOk result (λ plan. IsWellFormed plan) }
-    ensures ends { (ticks : ℕ)
-        → EndsFor file.now (named trace.entry) cues ticks (S.told shelf.old) (S.told shelf.new) result }
+    ensures ends { (start ticks : ℕ) → EndsFor (rendering_by file.now start ticks (named trace.entry) cues)
+        (S.told shelf.old) (S.told shelf.new) result }
     ensures shelf { OnlyRead (S.told shelf.old) (S.told shelf.new) }
 {
     let script = read_script(alloc, file, shelf)?;
@@ -106,8 +103,8 @@ fn read_plan<S: Shelf>(
 fn read_script<S: Shelf>(alloc: Global, file: &str, shelf: &mut S) -> Result<Vec<u8>, Halt>
     ensures script { IfOk result (λ script. ForSome (S.told shelf.old).files (λ files. file_at files file.now
         ≡ Some script.items)) }
-    ensures ends { (trace : Option (List ℕ)) (cues : Bool) (ticks : ℕ)
-        → EndsFor file.now trace cues ticks (S.told shelf.old) (S.told shelf.new) result }
+    ensures ends { (start ticks : ℕ) (trace : Option (List ℕ)) (cues : Bool)
+        → EndsFor (rendering_by file.now start ticks trace cues) (S.told shelf.old) (S.told shelf.new) result }
     ensures shelf { OnlyRead (S.told shelf.old) (S.told shelf.new) }
 {
     let mut script = Vec::new(alloc);

@@ -2,6 +2,7 @@
 ghost use Rattle.station_jobs.specs.Prepared.{Ended};
 ghost use Rattle.station_jobs.specs.Words.{Replay};
 
+use crate::form::Rendering;
 use crate::halt::Halt;
 use crate::jobs::conclude;
 use crate::prepare::prepare;
@@ -9,7 +10,7 @@ use crate::ticks::Ticks;
 use crate::traces::find_trace;
 use fixed_text::WeekSecond;
 use liq_base::Shelf;
-use station_render::{Job, render_again};
+use station_render::render_again;
 use std::alloc::Global;
 
 /// The report of a replay on one thread, whose outputs are written: those of the record that the trace tells. The trace
@@ -24,19 +25,17 @@ pub fn replay_job<S: Shelf>(
 ) -> Result<String, Halt>
     ensures { Ended (Replay file.now start.second ticks.count trace.now) (S.told shelf.old) (S.told shelf.new) result }
 {
-    let ticks = ticks.count;
-    let work = prepare(alloc, file, None, false, ticks, shelf)?;
-    trace_log::laws::texts_have_one_meaning();
-    let told = find_trace(alloc, &work.plan, &work.ready, start, ticks, trace, shelf)?;
-    let turns = told.turns;
-    let job = Job {
-        plan: &work.plan,
-        ready: &work.ready,
+    let asked = Rendering {
+        file,
         start,
         ticks,
         trace: None,
         cues: false,
     };
+    let job = prepare(alloc, &asked, shelf)?;
+    trace_log::laws::texts_have_one_meaning();
+    let told = find_trace(alloc, &job, trace, shelf)?;
+    let turns = told.turns;
     let ended = render_again(alloc, &job, &told.trace, turns, shelf);
     conclude(alloc, &job, ended)
 }

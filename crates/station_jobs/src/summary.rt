@@ -4,12 +4,13 @@ ghost use Rattle.run_records.specs.Records.{Run};
 ghost use Rattle.stations.specs.Stations.{Station};
 ghost use Rattle.stations.specs.Streams.{gaps_in_order};
 ghost use Rattle.station_render.specs.Renders.{written};
-ghost use Rattle.station_jobs.specs.Summary.{counted_part, sum_at, sum_part, summed_lines};
+ghost use Rattle.station_jobs.specs.Summary.{sum_at, sum_part, summed_lines};
 
 use crate::samples::sum_at;
 use liq_base::{Memory, SureShelf};
 use plan_core::{Plan, SinkPlan};
-use std::alloc::{AllocError, Global};
+use station_render::push_counts;
+use std::alloc::Global;
 
 /// The summary of a rendering of so many ticks, at most 1000000000, that wrote its outputs into this shelf: a line for
 /// each output, in sink order, with its gaps and the sum of its samples.
@@ -41,25 +42,7 @@ pub fn summary(
     Ok(text)
 }
 
-// The line of an output, but for its end.
-fn push_counts(
-    alloc: Global,
-    text: &mut String,
-    name: &str,
-    samples: u64,
-    gaps: u64,
-) -> Result<(), AllocError>
-    ensures { OnOk result (string_bytes text.new ≡ string_bytes text.old ++ counted_part name.now samples gaps) }
-{
-    text.push_str("output ")?;
-    text.push_str(name)?;
-    text.push_str(" samples ")?;
-    text.push_str(&samples.to_string(alloc)?)?;
-    text.push_str(" gaps ")?;
-    text.push_str(&gaps.to_string(alloc)?)
-}
-
-// Its end: the sum of the samples in the file of this name.
+// The end of the line of an output: the sum of the samples in the file of this name.
 fn push_sum(alloc: Global, text: &mut String, shelf: &SureShelf, name: &str) -> Result<(), Memory>
     ensures { OnOk result (string_bytes text.new ≡ string_bytes text.old ++ sum_part (sum_at shelf.now name.now)) }
 {

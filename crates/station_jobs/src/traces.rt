@@ -4,19 +4,17 @@ ghost use Rattle.std.specs.Option.{ForSome};
 ghost use Rattle.liq_base.specs.Shelves.{OnlyRead};
 ghost use Rattle.trace_log.specs.Texts.{IsTrace};
 ghost use Rattle.trace_replay.specs.RecordTurns.{AreAllTurns};
-ghost use Rattle.trace_records.specs.Traces.{IsAccepted, base_of};
+ghost use Rattle.trace_records.specs.Traces.{IsAccepted};
 ghost use Rattle.stream_meaning.specs.Instants.{Setting};
-ghost use Rattle.stations.specs.Findings.{IsFit};
+ghost use Rattle.station_render.specs.Runs.{IsFitting, setting_by};
 ghost use Rattle.station_jobs.specs.Prepared.{IsUntold, TraceEnds};
 ghost use Rattle.station_jobs.specs.Replays.{HasText, HasTrace};
 ghost use Rattle.refusal_lines.specs.declared.replay_lines.ReplayFault.TheVariants.{NoTrace, TraceTooLarge};
 
 use crate::halt::Halt;
-use fixed_text::WeekSecond;
 use liq_base::{Fetched, Shelf, ShelfFault, Text};
-use plan_core::Plan;
 use refusal_lines::{Fault, ReplayFault};
-use stations::Ready;
+use station_render::Job;
 use std::alloc::Global;
 use trace_log::{Trace, TraceFault, read};
 use trace_replay::{RecordTurns, find_record};
@@ -31,41 +29,35 @@ pub struct FoundTrace {
     pub turns: RecordTurns,
 }
 
-/// The trace in the file of this name, with all the turns of its record, where it is that of a lawful record of so
-/// many ticks of the plan from this second of the week on, whose ticks can be ordered. `docs/faults.md` has the faults,
-/// which are looked for in this order: no file, too many bytes, another form, no such record.
+/// The trace in the file of this name, with all the turns of its record, where it is that of a lawful record of this
+/// job, whose ticks can be ordered. `docs/faults.md` has the faults, which are looked for in this order: no file, too
+/// many bytes, another form, no such record.
 pub fn find_trace<S: Shelf>(
     alloc: Global,
-    plan: &Plan,
-    ready: &Ready,
-    start: WeekSecond,
-    ticks: u64,
+    job: &Job<'_>,
     name: &str,
     shelf: &mut S,
 ) -> Result<FoundTrace, Halt>
-    requires { IsFit plan.now ready.now.library ready.now.clocks ticks }
+    requires { IsFitting job.now }
     ensures form { IfOk result (λ found. IsTrace found.trace) }
     ensures found { IfOk result
         (λ found. ForSome (S.told shelf.old).files (λ files. HasTrace files name.now found.trace)) }
     ensures fits { IfOk result
-        (λ found. IsAccepted (base_of plan.now ready.now.library ready.now.clocks start.second) ready.now.clocks.running
-        ticks found.trace) }
+        (λ found. IsAccepted (setting_by job.now) job.now.ready.clocks.running job.now.ticks found.trace) }
     ensures turns { IfOk result
-        (λ found. AreAllTurns (base_of plan.now ready.now.library ready.now.clocks start.second) ready.now.clocks
-        found.trace found.turns) }
-    ensures ends { TraceEnds name.now (base_of plan.now ready.now.library ready.now.clocks start.second)
-        ready.now.clocks.running ticks
+        (λ found. AreAllTurns (setting_by job.now) job.now.ready.clocks found.trace found.turns) }
+    ensures ends { TraceEnds name.now (setting_by job.now) job.now.ready.clocks.running job.now.ticks
         (S.told shelf.old) (S.told shelf.new) result }
     ensures shelf { OnlyRead (S.told shelf.old) (S.told shelf.new) }
 {
     let trace = read_trace(alloc, name, shelf)?;
     let found = find_record(
         alloc,
-        plan,
-        &ready.clocks,
-        &ready.library,
-        start,
-        ticks,
+        &job.plan,
+        &job.ready.clocks,
+        &job.ready.library,
+        job.start,
+        job.ticks,
         &trace,
     )?;
     let Some(turns) = found else {

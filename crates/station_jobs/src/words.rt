@@ -1,9 +1,9 @@
 // The words of a call.
 ghost use Rattle.std.specs.Prelude.{◌≡◌, ℕ, Some, option_map, IfSome, IsSome, IsSomeAnd, OnSome};
-ghost use Rattle.station_jobs.specs.Read.{asked_by_threads, asked_of, options_of};
-ghost use Rattle.station_jobs.specs.Words.{Asked, AreApart, IsAsked, IsCheck, IsMake, IsOnlyStart, IsRender, IsReplayAsked, NeedsThreads, Render as AsksToRender, start_in, texts, window_in};
+ghost use Rattle.station_jobs.specs.Read.{asked_of, options_of};
+ghost use Rattle.station_jobs.specs.Words.{Asked, AreApart, IsAsked, IsCheck, IsMake, IsOnlyStart, IsRender, IsReplayAsked, Render as AsksToRender, rendering_by, start_in, texts, window_in};
 
-use crate::form::{Form, Rendering, Threaded};
+use crate::form::{Form, Rendering};
 use crate::options::{Options, read_options, read_start_option, start_of, window_of};
 use crate::size::read_size;
 use crate::ticks::{Ticks, read_ticks};
@@ -24,21 +24,6 @@ pub fn read_words(words: &[String]) -> Option<Form<'_>>
         "replay" => read_replay(rest),
         _ => None,
     }
-}
-
-/// What words ask for that takes threads.
-pub fn read_threaded(words: &[String]) -> Threaded<'_>
-    requires { NeedsThreads (texts words.now) }
-    ensures found { IsAsked (texts words.now) (asked_by_threads result) }
-    ensures only { (asked : Asked) → IsAsked (texts words.now) asked → asked ≡ asked_by_threads result }
-{
-    let Some(form) = read_words(words) else {
-        unreachable!();
-    };
-    let Form::Threaded(threaded) = form else {
-        unreachable!();
-    };
-    threaded
 }
 
 // `FILE`
@@ -77,7 +62,7 @@ fn read_make(words: &[String]) -> Option<Form<'_>>
     };
     let seed = read_u64(seed.as_bytes())?;
     let size = read_size(size.as_bytes())?;
-    Some(Form::Threaded(Threaded::Make { seed, size }))
+    Some(Form::Make { seed, size })
 }
 
 // `FILE N TRACE`, and maybe a start
@@ -114,29 +99,24 @@ fn read_only_start(options: &[String]) -> Option<WeekSecond>
 // The rendering of so many ticks that options ask for; nothing where a window or a trace stands beside `--one-thread`.
 fn form_of<'a>(file: &'a str, ticks: Ticks, options: Options<'a>) -> Option<Form<'a>>
     ensures found { IfSome result (λ form. asked_of form
-        ≡ AsksToRender file.now (start_in (options_of options.entry)) ticks.count (window_in (options_of options.entry))
-        (options_of options.entry).trace (options_of options.entry).cues) }
+        ≡ AsksToRender (rendering_by file.now (start_in (options_of options.entry)) ticks.count
+        (options_of options.entry).trace (options_of options.entry).cues) (window_in (options_of options.entry))) }
     ensures apart { OnSome result (AreApart (options_of options.entry)) }
     ensures only { AreApart (options_of options.entry) → IsSome result }
 {
-    let start = start_of(options);
+    let asked = Rendering {
+        file,
+        start: start_of(options),
+        ticks,
+        trace: options.trace,
+        cues: options.cues,
+    };
     if !options.one_thread {
-        return Some(Form::Threaded(Threaded::Render(Rendering {
-            file,
-            start,
-            ticks,
-            window: window_of(options),
-            trace: options.trace,
-            cues: options.cues,
-        })));
+        let window = window_of(options);
+        return Some(Form::Threads { asked, window });
     }
     if options.window.is_some() || options.trace.is_some() {
         return None;
     }
-    Some(Form::Alone {
-        file,
-        start,
-        ticks,
-        cues: options.cues,
-    })
+    Some(Form::Alone(asked))
 }

@@ -178,6 +178,6 @@ broke_off station old new r e is part cause front reads writes = record {
 -- a rendering whose outputs were not opened
 pub not_opened : (job : Job) (way : Way) (old new : ShelfTold) (r : Result Rendered RenderFault) (e : RenderFault) → r ≡ Err e
     → ForSome old.files (λ files. WrotePart (station_in job way) (is_device e) files old new) → (IsErrOf r Write → Rose old.writes new.writes)
-    → CreatedFront (names_in job.plan.now.sinks) old new → old.reads ≤ new.reads → old.writes ≤ new.writes → Renders (station_in job way) old new r
+    → CreatedFront (names_in job.plan.sinks) old new → old.reads ≤ new.reads → old.writes ≤ new.writes → Renders (station_in job way) old new r
 not_opened job way old new r e is part cause front = broke_off (station_in job way) old new r e is part cause
-    (front_made (names_in job.plan.now.sinks) (cue_names_if job.cues job.plan.now.sinks ++ trace_names_in way (name_in job)) old new front)
+    (front_made (names_in job.plan.sinks) (cue_names_if job.cues job.plan.sinks ++ trace_names_in way (name_in job)) old new front)

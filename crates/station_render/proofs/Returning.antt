@@ -26,7 +26,8 @@ use Rattle.stations.specs.Streams.{body_size, counts_in}
 use Rattle.station_render.specs.Sinks.{AreCreated, HasFailed}
 use Rattle.station_render.specs.Engines.{AreEmptyBelow, AreKeeping, ArePast, outs_of}
 use Rattle.station_render.specs.Marks.{cues_of}
-use Rattle.station_render.specs.Renders.{AreMain, IsPart, IsReady, IsWhole, order_of, setting_for, written}
+use Rattle.trace_records.specs.Traces.{base_of}
+use Rattle.station_render.specs.Renders.{AreMain, IsPart, IsReady, IsWhole, order_of, written}
 use Rattle.station_render.specs.EngineRuns.{AreOpened, RanAll, RanSome}
 use Rattle.station_render.specs.Runs.{HasRecord, RanPart, RanWhole, counts_from}
 use Rattle.station_render.specs.OutputSinks.{inner, output_told}
@@ -53,7 +54,7 @@ counts_at run b (x ∷ xs) (plan ∷ plans) size at =
 
 module _ (plan : Plan) (library : Sounds) (clocks : ClockMap) (start ticks : ℕ) where
   abbrev setting : Setting
-  setting = setting_for plan library clocks start
+  setting = base_of plan library clocks start
 
   abbrev station : (way : Way) → (trace : Option (List ℕ)) → (cues : Bool) → Station
   station way trace cues = record { plan = plan; library = library; clocks = clocks; start = start; ticks = ticks; way = way; trace = trace; cues = cues }
@@ -81,7 +82,7 @@ module _ (plan : Plan) (library : Sounds) (clocks : ClockMap) (start ticks : ℕ
       )
 
 -- what a job fits has a meaning
-pub is_setting : {plan : Plan} {library : Sounds} {clocks : ClockMap} {start ticks : ℕ} → IsFit plan library clocks ticks → start < 604800 → IsSetting (setting_for plan library clocks start) clocks
+pub is_setting : {plan : Plan} {library : Sounds} {clocks : ClockMap} {start ticks : ℕ} → IsFit plan library clocks ticks → start < 604800 → IsSetting (base_of plan library clocks start) clocks
 is_setting fit low = record {
   plan = fit.plan_is;
   map = fit.map;
@@ -94,9 +95,9 @@ is_setting fit low = record {
 
 module _ {plan : Plan} {library : Sounds} {clocks : ClockMap} {start ticks : ℕ} {O : Type 0} {told : O → SinkTold} {shelf : ShelfTold} {order : List ℕ}
     {old : List (ClockEngine (OutputSink O))} {groups : List (List (OutputSink O))} (fit : IsFit plan library clocks ticks)
-    (opened : AreOpened told shelf (setting_for plan library clocks start) clocks ticks order old groups) where
+    (opened : AreOpened told shelf (base_of plan library clocks start) clocks ticks order old groups) where
   abbrev world : Setting
-  world = setting_for plan library clocks start
+  world = base_of plan library clocks start
 
   mains : LieInMain world plan.sinks
   mains = in_main plan library clocks start ticks (are_main plan library clocks ticks fit)

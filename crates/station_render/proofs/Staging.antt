@@ -41,12 +41,12 @@ device_is memory_fault is = absurd (cc)
 
 -- the engines of opened outputs may begin
 pub ready_of : {O : Type 0} {told : O → SinkTold} {shelf : ShelfTold} {job : Job} {order : List ℕ} {engines : List (ClockEngine (OutputSink O))} {groups : List (List (OutputSink O))}
-    → IsFitting job → AreOpened told shelf (setting_by job) job.ready.now.clocks job.ticks order engines groups → AreReady (output_told told) job engines
+    → IsFitting job → AreOpened told shelf (setting_by job) job.ready.clocks job.ticks order engines groups → AreReady (output_told told) job engines
 ready_of fit opened = record { all = opened.all; at = opened.at; over = over_plan fit opened }
 
 -- by threads
 pub ready_by_threads : {S : Type 0} {told : S → SinkTold} {job : Job} {engines : List (ClockEngine S)} → IsFitting job → AreReady told job engines → job.start.second < 604800
-    → threads.AreEngines told job.plan.now job.ready.now.clocks job.ticks (setting_by job) engines
+    → threads.AreEngines told job.plan job.ready.clocks job.ticks (setting_by job) engines
 ready_by_threads {S} {told} {job} {engines} fit ready low = record {
   is = is_setting fit low;
   plan_is = refl;
@@ -79,7 +79,7 @@ may_close told {fresh = fresh} opened ticked = record { fresh = fresh; opened = 
 
 module _ {O : Type 0} {told : O → SinkTold} {shelf : ShelfTold} {job : Job} {way : Way} {order : List ℕ} {groups : List (List (OutputSink O))}
     {engines : List (ClockEngine (OutputSink O))} {run : RunEnd} (fit : IsFitting job) (may : MayClose told shelf job way order groups engines run) where
-  pub all_back : length engines ≡ job.ready.now.clocks.running
+  pub all_back : length engines ≡ job.ready.clocks.running
   all_back = last_many fit may.opened.opened refl may.ticked.some.part.size
 
   pub places_back : length groups ≡ length engines
@@ -96,22 +96,22 @@ module _ {O : Type 0} {told : O → SinkTold} {shelf : ShelfTold} {job : Job} {w
 
   -- once the sinks are back in their places
   module _ {groups_new : List (List (OutputSink O))} (back : groups_new ≡ outs_of engines) where
-    abbrev pub part_after : (made_now : Option (List (List ℕ))) → made_now ≡ after_making (names_in job.plan.now.sinks) shelf.created
+    abbrev pub part_after : (made_now : Option (List (List ℕ))) → made_now ≡ after_making (names_in job.plan.sinks) shelf.created
         → RanPart told shelf (station_in job way) order groups_new made_now
     part_after made_now is = part_back fit may.opened.opened refl back (name_in job) job.cues made_now is may.ticked.some
 
     pub failed_after : (clock sink : ℕ) → run.end ≡ Write clock sink → HasFailed (inner told) groups_new
     failed_after clock sink is = failed_back fit may.opened.opened refl back may.ticked.some clock sink is
 
-    pub closes_after : AreCreated (WillClose told shelf.closed) (names_in job.plan.now.sinks) order groups_new
+    pub closes_after : AreCreated (WillClose told shelf.closed) (names_in job.plan.sinks) order groups_new
     closes_after =
-        part_closed told shelf _ job.ticks may.ticked.some.begun.made may.ticked.some.begun.tried job.plan.now.sinks order groups_new
+        part_closed told shelf _ job.ticks may.ticked.some.begun.made may.ticked.some.begun.tried job.plan.sinks order groups_new
         (parts_back fit may.opened.opened refl back may.ticked.some (λ buffer. []))
 
     module _ {E : Type 0} (result : Result Rendered E) (done : OnOk result (run.end ≡ Done)) where
-      pub whole_after : IfOk result (λ rendered. (other meant : Setting) (t : ℕ) → other.plan ≡ job.plan.now → other.clocks ≡ job.ready.now.clocks.of → ArePast other meant t engines → rendered.gaps.items ≡ counts_in meant t job.plan.now.sinks)
-          → IfOk result (λ rendered. (other meant : Setting) (t : ℕ) → other.plan ≡ job.plan.now → other.clocks ≡ job.ready.now.clocks.of → ArePast other meant t engines
-          → cues_of rendered.cues.items ≡ marks_if job.cues meant t job.plan.now.sinks)
+      pub whole_after : IfOk result (λ rendered. (other meant : Setting) (t : ℕ) → other.plan ≡ job.plan → other.clocks ≡ job.ready.clocks.of → ArePast other meant t engines → rendered.gaps.items ≡ counts_in meant t job.plan.sinks)
+          → IfOk result (λ rendered. (other meant : Setting) (t : ℕ) → other.plan ≡ job.plan → other.clocks ≡ job.ready.clocks.of → ArePast other meant t engines
+          → cues_of rendered.cues.items ≡ marks_if job.cues meant t job.plan.sinks)
           → IfOk result (λ rendered. rendered.counts.items ≡ run.counts.items) → IfOk result (λ rendered. rendered.logs.items ≡ run.logs.items)
           → IfOk result (RanWhole told shelf (station_in job way) order groups_new)
       whole_after gaps marks counts_are logs_are = whole_told fit may.opened.opened refl back (name_in job) job.cues result may.ticked.all done gaps marks counts_are logs_are

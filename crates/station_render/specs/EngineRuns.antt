@@ -3,9 +3,9 @@ use Rattle.std.specs.Prelude.{◌≡◌, ℕ, List, length, map}
 use Rattle.liq_base.specs.Pieces.{SinkTold}
 use Rattle.liq_base.specs.Shelves.{ShelfTold}
 use Rattle.clock_infer.specs.declared.clock_map.ClockMap.{ClockMap}
-use Rattle.stream_meaning.specs.Instants.{Setting}
+use Rattle.stream_meaning.specs.Instants.{Setting, answered}
 use Rattle.run_records.specs.Records.{Run, setting_in}
-use Rattle.stations.specs.Stations.{Way, IsBegunIn, IsLawfulIn, setting_after}
+use Rattle.stations.specs.Stations.{Way, IsBegunIn, IsLawfulIn, answers_with}
 use Rattle.buffer_ends.specs.Local.{Answers}
 use Rattle.buffer_ends.specs.declared.counts.Counts.{Counts}
 use Rattle.buffer_ends.specs.declared.run_end.End.{End}
@@ -22,8 +22,8 @@ use Rattle.station_render.specs.declared.output_sink.OutputSink.{OutputSink}
 
 -- the engines of a job have made so many ticks, in some run
 abbrev pub HaveEnded : {S : Type 0} → Job → List (ClockEngine S) → Type 0
-HaveEnded job engines = (setting : Setting) × (world : Setting) × (ticks : ℕ) × (setting.plan ≡ job.plan.now)
-    × (setting.clocks ≡ job.ready.now.clocks.of) × ArePast setting world ticks engines
+HaveEnded job engines = (setting : Setting) × (world : Setting) × (ticks : ℕ) × (setting.plan ≡ job.plan)
+    × (setting.clocks ≡ job.ready.clocks.of) × ArePast setting world ticks engines
 
 -- The outputs of a plan were created, in this order of their clocks, by a shelf that told this, and the engines of all
 -- clocks took the sinks, each of which holds its header and has room for its samples. No tick was made.
@@ -54,5 +54,5 @@ pub record RanSome {S : Type 0} (told : S → SinkTold) (setting : Setting) (clo
     (old new : List (ClockEngine S)) (end : End) : Type 0 where
   pub run : Run
   pub begun : IsBegunIn setting clocks ticks way run
-  pub part : HaveRunPart told (setting_after way setting run) begun.made begun.tried old new
+  pub part : HaveRunPart told (λ rest. answered setting (answers_with way run rest)) begun.made begun.tried old new
   pub failed : (clock sink : ℕ) → end ≡ Write clock sink → HasFailed told (outs_of new)

@@ -36,4 +36,4 @@ cue_files_if false library sinks marks = []
 cue_files_if true library sinks marks = cue_files_with library sinks marks
 
 abbrev pub cue_files_by : Job → List (List Cue) → List OutputFile
-cue_files_by job marks = cue_files_if job.cues job.ready.now.library job.plan.now.sinks marks
+cue_files_by job marks = cue_files_if job.cues job.ready.library job.plan.sinks marks

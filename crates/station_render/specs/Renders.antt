@@ -9,7 +9,6 @@ use Rattle.plan_core.specs.declared.sink.SinkPlan.TheVariants.{Output, Feed}
 use Rattle.clock_infer.specs.declared.clock_map.ClockMap.{ClockMap}
 use Rattle.clock_infer.specs.declared.clock_map.NodeClock.{NodeClock}
 use Rattle.clock_infer.specs.declared.clock_map.NodeClock.TheVariants.{Main, Sub}
-use Rattle.frame_core.specs.Library.{Sounds}
 use Rattle.frame_core.specs.Calls.{Answer}
 use Rattle.stream_meaning.specs.Instants.{Setting, answered, clock_of}
 use Rattle.run_records.specs.Buffers.{main_of as main_clock}
@@ -62,16 +61,6 @@ front_file setting ticks made tried output = record {
   name = output.name;
   least = front_bytes setting output.wide ticks (made (main_clock setting output.node)) output.node;
   most = front_bytes setting output.wide ticks (tried (main_clock setting output.node)) output.node;
-}
-
--- a plan with its files, its clocks and its start second, before its buffers have answered
-abbrev pub setting_for : Plan → Sounds → ClockMap → (start : ℕ) → Setting
-setting_for plan library clocks start = record {
-  plan = plan;
-  library = library;
-  clocks = clocks.of;
-  start = start;
-  answers = λ buffer. [];
 }
 
 -- what an output owes, where so many bytes stand behind its header: as `OutputSinks` counts it

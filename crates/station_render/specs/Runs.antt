@@ -12,17 +12,17 @@ use Rattle.stations.specs.Cues.{marks_of}
 use Rattle.stations.specs.Findings.{IsFit}
 use Rattle.stations.specs.Outputs.{OutputFile, with_outputs}
 use Rattle.stations.specs.Reports.{answers_line}
-use Rattle.stations.specs.Stations.{Station, Way, InRounds, InWindows, Again, IsBegun, IsLawful, answers_with, bare, setting_of_run, station_of}
+use Rattle.stations.specs.Stations.{Station, Way, InRounds, InWindows, Again, IsBegun, IsLawful, answers_with, bare, setting_of_run}
 use Rattle.stations.specs.Streams.{gaps_in_order, output_files}
 use Rattle.stations.specs.Traces.{files_of, traced}
 use Rattle.buffer_ends.specs.declared.counts.Counts.{Counts}
 use Rattle.buffer_ends.specs.Local.{Answers}
 use Rattle.buffer_sides.specs.Logs.{told as told_of}
 use Rattle.rounds_run.specs.Runs.{counts_of_windows}
-use Rattle.trace_records.specs.Traces.{IsAccepted}
+use Rattle.trace_records.specs.Traces.{IsAccepted, base_of}
 use Rattle.station_render.specs.Sinks.{AreCreated}
 use Rattle.station_render.specs.Marks.{cues_of}
-use Rattle.station_render.specs.Renders.{AreBegun, IsWhole, setting_for, written}
+use Rattle.station_render.specs.Renders.{AreBegun, IsWhole, written}
 use Rattle.station_render.specs.declared.job.Job.{Job}
 use Rattle.station_render.specs.declared.output_sink.OutputSink.{OutputSink}
 use Rattle.station_render.specs.declared.rendered.Rendered.{Rendered}
@@ -42,15 +42,24 @@ name_in job = option_map (λ (name : Bor (List ℕ)). name.now) job.trace
 
 -- what a job may rely on
 abbrev pub IsFitting : Job → Type 0
-IsFitting job = IsFit job.plan.now job.ready.now.library job.ready.now.clocks job.ticks
+IsFitting job = IsFit job.plan job.ready.library job.ready.clocks job.ticks
 
 -- what the streams of a job rest on, before its buffers have answered
 abbrev pub setting_by : Job → Setting
-setting_by job = setting_for job.plan.now job.ready.now.library job.ready.now.clocks job.start.second
+setting_by job = base_of job.plan job.ready.library job.ready.clocks job.start.second
 
 -- the station of a job that is rendered in such a way
 abbrev pub station_in : Job → Way → Station
-station_in job way = station_of job.plan.now job.ready.now job.start.second job.ticks way (name_in job) job.cues
+station_in job way = record {
+  plan = job.plan;
+  library = job.ready.library;
+  clocks = job.ready.clocks;
+  start = job.start.second;
+  ticks = job.ticks;
+  way = way;
+  trace = name_in job;
+  cues = job.cues;
+}
 
 -- the ticks of a window, where there are windows
 abbrev pub window_of : Way → Option ℕ

@@ -8,7 +8,8 @@ ghost use Rattle.stations.specs.Findings.{IsFit};
 ghost use Rattle.station_render.specs.OutputSinks.{inner};
 ghost use Rattle.station_render.specs.Shelves.{OnlyCreates};
 ghost use Rattle.station_render.specs.Sinks.{AreCreated, AreEmpty, HasFailed, lists_of};
-ghost use Rattle.station_render.specs.Renders.{AreBegun, IsCutShort, IsOpened, IsReady, NoneCreated, WasCreated, order_of, setting_for, written};
+ghost use Rattle.trace_records.specs.Traces.{base_of};
+ghost use Rattle.station_render.specs.Renders.{AreBegun, IsCutShort, IsOpened, IsReady, NoneCreated, WasCreated, order_of, written};
 
 use crate::RenderFault;
 use crate::headers::{Opening, opening_of};
@@ -34,13 +35,13 @@ pub(crate) fn create_each<S: Shelf>(
     requires none { order.old.items ≡ [] }
     requires empty { AreEmpty clocks.now.running (lists_of groups.old.items) }
     ensures ready { OnOk result ((library : Sounds) → (start : ℕ)
-        → AreCreated (IsReady S.Out.told (S.told shelf.old) (setting_for plan.now library clocks.now start) ticks)
+        → AreCreated (IsReady S.Out.told (S.told shelf.old) (base_of plan.now library clocks.now start) ticks)
         (written plan.now.sinks) order.new.items (lists_of groups.new.items)) }
     ensures order { OnOk result ((library : Sounds) → (start : ℕ)
-        → order.new.items ≡ order_of (setting_for plan.now library clocks.now start) (written plan.now.sinks)) }
+        → order.new.items ≡ order_of (base_of plan.now library clocks.now start) (written plan.now.sinks)) }
     ensures begun { (library : Sounds) → (start : ℕ) → (answers : (ℕ → List Answer) → ℕ → List Answer)
         → (made tried : ℕ → ℕ) → ((k : ℕ) → made k ≡ 0)
-        → AreBegun S.Out.told (S.told shelf.old) (setting_for plan.now library clocks.now start) answers ticks made
+        → AreBegun S.Out.told (S.told shelf.old) (base_of plan.now library clocks.now start) answers ticks made
         tried order.new.items (lists_of groups.new.items)
         (S.told shelf.new).created }
     ensures size { length (lists_of groups.new.items) ≡ clocks.now.running }

@@ -23,18 +23,18 @@ pub(crate) fn leave_wanted<S: Shelf>(
     marks: &[Vec<CueMark>],
     shelf: &mut S,
 ) -> Result<(), RenderFault>
-    requires many { job.now.cues ≡ true → length marks.now ≡ length (written job.now.plan.now.sinks) }
+    requires many { job.now.cues ≡ true → length marks.now ≡ length (written job.now.plan.sinks) }
     ensures all { OnOk result
-        (WroteFiles (S.told shelf.old) (S.told shelf.new) (cue_names_if job.now.cues job.now.plan.now.sinks)
+        (WroteFiles (S.told shelf.old) (S.told shelf.new) (cue_names_if job.now.cues job.now.plan.sinks)
         (cue_files_by job.now (cues_of marks.now))) }
-    ensures some { WroteUpto (S.told shelf.old) (S.told shelf.new) (cue_names_if job.now.cues job.now.plan.now.sinks)
+    ensures some { WroteUpto (S.told shelf.old) (S.told shelf.new) (cue_names_if job.now.cues job.now.plan.sinks)
         (cue_files_by job.now (cues_of marks.now)) }
     ensures cause { IsErrOf result RenderFault.Write → Rose (S.told shelf.old).writes (S.told shelf.new).writes }
 {
     if !job.cues {
         return Ok(());
     }
-    leave_cues(alloc, job.plan, &job.ready.library, marks, shelf)
+    leave_cues(alloc, &job.plan, &job.ready.library, marks, shelf)
 }
 
 // Leaves the cue file of each output.

@@ -61,7 +61,7 @@ fn keep_if<'a, O: Sink>(wanted: bool, engine: ClockEngine<'a, O>) -> ClockEngine
 // Makes the engine of a clock, which takes its sinks.
 fn make_engine<'a, O: Sink>(
     alloc: Global,
-    job: &Job<'a>,
+    job: &'a Job<'_>,
     groups: &mut Vec<Vec<O>>,
     clock: usize,
 ) -> Result<ClockEngine<'a, O>, Memory>
@@ -79,7 +79,7 @@ fn make_engine<'a, O: Sink>(
     let outs = take_out(alloc, groups, clock);
     match ClockEngine::new(
         alloc,
-        job.plan,
+        &job.plan,
         &job.ready.clocks,
         clock as u32,
         &job.ready.library,
@@ -110,7 +110,7 @@ fn give_back<O: Sink>(engines: Vec<ClockEngine<'_, O>>, groups: &mut Vec<Vec<O>>
 /// Makes the engines of all clocks, which take the sinks.
 pub(crate) fn make_engines<'a, O: Sink>(
     alloc: Global,
-    job: &Job<'a>,
+    job: &'a Job<'_>,
     groups: &mut Vec<Vec<O>>,
 ) -> Result<Vec<ClockEngine<'a, O>>, Memory>
     requires fit { IsFitting job.now }
@@ -209,19 +209,19 @@ fn marks_if<O: Sink>(
     job: &Job<'_>,
     engines: &[ClockEngine<'_, O>],
 ) -> Result<Vec<Vec<CueMark>>, AllocError>
-    requires main { AreMain job.now.plan.now job.now.ready.now.clocks }
-    requires size { length engines.now ≡ job.now.ready.now.clocks.running }
-    requires few { length job.now.plan.now.sinks < 2 ^ 32 }
+    requires main { AreMain job.now.plan job.now.ready.clocks }
+    requires size { length engines.now ≡ job.now.ready.clocks.running }
+    requires few { length job.now.plan.sinks < 2 ^ 32 }
     requires keeping { AreKeeping job.now.cues engines.now }
     requires stand { HaveEnded job.now engines.now }
-    ensures { IfOk result (λ marks. (setting world : Setting) (ticks : ℕ) → setting.plan ≡ job.now.plan.now
-        → setting.clocks ≡ job.now.ready.now.clocks.of → ArePast setting world ticks engines.now
-        → cues_of marks.items ≡ marks_wanted job.now.cues world ticks job.now.plan.now.sinks) }
+    ensures { IfOk result (λ marks. (setting world : Setting) (ticks : ℕ) → setting.plan ≡ job.now.plan
+        → setting.clocks ≡ job.now.ready.clocks.of → ArePast setting world ticks engines.now
+        → cues_of marks.items ≡ marks_wanted job.now.cues world ticks job.now.plan.sinks) }
 {
     if !job.cues {
         return Ok(Vec::new(alloc));
     }
-    marks_of(alloc, job.plan, &job.ready.clocks, engines)
+    marks_of(alloc, &job.plan, &job.ready.clocks, engines)
 }
 
 // What is told of a run that ended so.
@@ -231,18 +231,18 @@ fn tell<O: Sink>(
     engines: &[ClockEngine<'_, O>],
     run: RunEnd,
 ) -> Result<Rendered, RenderFault>
-    requires main { AreMain job.now.plan.now job.now.ready.now.clocks }
-    requires size { length engines.now ≡ job.now.ready.now.clocks.running }
-    requires few { length job.now.plan.now.sinks < 2 ^ 32 }
+    requires main { AreMain job.now.plan job.now.ready.clocks }
+    requires size { length engines.now ≡ job.now.ready.clocks.running }
+    requires few { length job.now.plan.sinks < 2 ^ 32 }
     requires keeping { run.end ≡ Done → AreKeeping job.now.cues engines.now }
     requires stand { run.end ≡ Done → HaveEnded job.now engines.now }
     ensures done { OnOk result (run.end ≡ Done) }
-    ensures gaps { IfOk result (λ rendered. (setting world : Setting) (ticks : ℕ) → setting.plan ≡ job.now.plan.now
-        → setting.clocks ≡ job.now.ready.now.clocks.of → ArePast setting world ticks engines.now
-        → rendered.gaps.items ≡ counts_in world ticks job.now.plan.now.sinks) }
-    ensures cues { IfOk result (λ rendered. (setting world : Setting) (ticks : ℕ) → setting.plan ≡ job.now.plan.now
-        → setting.clocks ≡ job.now.ready.now.clocks.of → ArePast setting world ticks engines.now
-        → cues_of rendered.cues.items ≡ marks_wanted job.now.cues world ticks job.now.plan.now.sinks) }
+    ensures gaps { IfOk result (λ rendered. (setting world : Setting) (ticks : ℕ) → setting.plan ≡ job.now.plan
+        → setting.clocks ≡ job.now.ready.clocks.of → ArePast setting world ticks engines.now
+        → rendered.gaps.items ≡ counts_in world ticks job.now.plan.sinks) }
+    ensures cues { IfOk result (λ rendered. (setting world : Setting) (ticks : ℕ) → setting.plan ≡ job.now.plan
+        → setting.clocks ≡ job.now.ready.clocks.of → ArePast setting world ticks engines.now
+        → cues_of rendered.cues.items ≡ marks_wanted job.now.cues world ticks job.now.plan.sinks) }
     ensures counts { IfOk result (λ rendered. rendered.counts.items ≡ run.counts.items) }
     ensures logs { IfOk result (λ rendered. rendered.logs.items ≡ run.logs.items) }
     ensures write { IsErrOf result RenderFault.Write → (clock : ℕ) × (sink : ℕ) × (run.end ≡ WriteEnd clock sink) }
@@ -250,7 +250,7 @@ fn tell<O: Sink>(
     let RunEnd { counts, logs, end } = run;
     match end {
         End::Done => {
-            let gaps = gaps_of(alloc, job.plan, &job.ready.clocks, engines)?;
+            let gaps = gaps_of(alloc, &job.plan, &job.ready.clocks, engines)?;
             let cues = marks_if(alloc, job, engines)?;
             Ok(Rendered {
                 gaps,
@@ -272,21 +272,21 @@ pub(crate) fn take_back<O: Sink>(
     run: RunEnd,
     groups: &mut Vec<Vec<O>>,
 ) -> Result<Rendered, RenderFault>
-    requires main { AreMain job.now.plan.now job.now.ready.now.clocks }
-    requires size { length engines.items ≡ job.now.ready.now.clocks.running }
-    requires few { length job.now.plan.now.sinks < 2 ^ 32 }
+    requires main { AreMain job.now.plan job.now.ready.clocks }
+    requires size { length engines.items ≡ job.now.ready.clocks.running }
+    requires few { length job.now.plan.sinks < 2 ^ 32 }
     requires keeping { run.end ≡ Done → AreKeeping job.now.cues engines.items }
     requires stand { run.end ≡ Done → HaveEnded job.now engines.items }
     requires many { length (lists_of groups.old.items) ≡ length engines.items }
     requires empty { AreEmptyBelow (length engines.items) (lists_of groups.old.items) }
     ensures back { lists_of groups.new.items ≡ outs_of engines.entry.items }
     ensures done { OnOk result (run.end ≡ Done) }
-    ensures gaps { IfOk result (λ rendered. (setting world : Setting) (ticks : ℕ) → setting.plan ≡ job.now.plan.now
-        → setting.clocks ≡ job.now.ready.now.clocks.of → ArePast setting world ticks engines.entry.items
-        → rendered.gaps.items ≡ counts_in world ticks job.now.plan.now.sinks) }
-    ensures cues { IfOk result (λ rendered. (setting world : Setting) (ticks : ℕ) → setting.plan ≡ job.now.plan.now
-        → setting.clocks ≡ job.now.ready.now.clocks.of → ArePast setting world ticks engines.entry.items
-        → cues_of rendered.cues.items ≡ marks_wanted job.now.cues world ticks job.now.plan.now.sinks) }
+    ensures gaps { IfOk result (λ rendered. (setting world : Setting) (ticks : ℕ) → setting.plan ≡ job.now.plan
+        → setting.clocks ≡ job.now.ready.clocks.of → ArePast setting world ticks engines.entry.items
+        → rendered.gaps.items ≡ counts_in world ticks job.now.plan.sinks) }
+    ensures cues { IfOk result (λ rendered. (setting world : Setting) (ticks : ℕ) → setting.plan ≡ job.now.plan
+        → setting.clocks ≡ job.now.ready.clocks.of → ArePast setting world ticks engines.entry.items
+        → cues_of rendered.cues.items ≡ marks_wanted job.now.cues world ticks job.now.plan.sinks) }
     ensures counts { IfOk result (λ rendered. rendered.counts.items ≡ run.counts.items) }
     ensures logs { IfOk result (λ rendered. rendered.logs.items ≡ run.logs.items) }
     ensures write { IsErrOf result RenderFault.Write → (clock : ℕ) × (sink : ℕ) × (run.end ≡ WriteEnd clock sink) }

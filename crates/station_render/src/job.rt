@@ -4,10 +4,10 @@ use plan_core::Plan;
 use stations::Ready;
 
 /// What is rendered: a plan over its files and clocks, from a second of the week on.
-#[derive(Clone, Copy)]
+#[derive(Drop)]
 pub struct Job<'a> {
-    pub plan: &'a Plan,
-    pub ready: &'a Ready,
+    pub plan: Plan,
+    pub ready: Ready,
 
     /// The second of the week at which it begins.
     pub start: WeekSecond,

@@ -25,4 +25,4 @@ pub use fault::RenderFault;
 pub use job::Job;
 pub use rendered::Rendered;
 pub use rendering::{render, render_again, render_alone};
-pub use reports::report;
+pub use reports::{push_counts, report};

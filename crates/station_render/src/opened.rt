@@ -35,7 +35,7 @@ pub(crate) struct Places<O> {
 /// the sinks. After a fault it closes what it created.
 pub(crate) fn open_outputs<'a, S: Shelf>(
     alloc: Global,
-    job: &Job<'a>,
+    job: &'a Job<'_>,
     shelf: &mut S,
 ) -> Result<
     (
@@ -49,13 +49,13 @@ pub(crate) fn open_outputs<'a, S: Shelf>(
         (λ opened. HaveOpened S.Out.told (S.told shelf.old) job.now opened.0.order.items
         (lists_of opened.0.groups.items) opened.1.items) }
     ensures part { IfErr result (λ fault. (way : Way)
-        → HasRecord (setting_by job.now) job.now.ready.now.clocks.running job.now.ticks way
+        → HasRecord (setting_by job.now) job.now.ready.clocks.running job.now.ticks way
         → ForSome (S.told shelf.old).files
         (λ files. WrotePart (station_in job.now way) (is_device fault) files (S.told shelf.old) (S.told shelf.new))) }
     ensures cause { IsErrOf result RenderFault.Write → Rose (S.told shelf.old).writes (S.told shelf.new).writes }
     ensures shelf { OnOk result (OnlyOpened job.now (S.told shelf.old) (S.told shelf.new)) }
     ensures front { OnErr result
-        (CreatedFront (names_in job.now.plan.now.sinks) (S.told shelf.old) (S.told shelf.new)) }
+        (CreatedFront (names_in job.now.plan.sinks) (S.told shelf.old) (S.told shelf.new)) }
     ensures reads { (S.told shelf.old).reads ≤ (S.told shelf.new).reads }
     ensures writes { (S.told shelf.old).writes ≤ (S.told shelf.new).writes }
 {
@@ -71,29 +71,36 @@ pub(crate) fn open_outputs<'a, S: Shelf>(
 // sinks of each clock, where engines are not made.
 fn open_all<'a, S: Shelf>(
     alloc: Global,
-    job: &Job<'a>,
+    job: &'a Job<'_>,
     shelf: &mut S,
     order: &mut Vec<u32>,
     groups: &mut Vec<Vec<OutputSink<S::Out>>>,
 ) -> Result<Vec<ClockEngine<'a, OutputSink<S::Out>>>, RenderFault>
     requires fit { IsFitting job.now }
     requires none { order.old.items ≡ [] }
-    requires empty { AreEmpty job.now.ready.now.clocks.running (lists_of groups.old.items) }
+    requires empty { AreEmpty job.now.ready.clocks.running (lists_of groups.old.items) }
     ensures opened { IfOk result
-        (λ engines. AreOpened S.Out.told (S.told shelf.old) (setting_by job.now) job.now.ready.now.clocks job.now.ticks
+        (λ engines. AreOpened S.Out.told (S.told shelf.old) (setting_by job.now) job.now.ready.clocks job.now.ticks
         order.new.items engines.items (lists_of groups.new.items)) }
     ensures keeping { IfOk result (λ engines. AreKeeping job.now.cues engines.items) }
     ensures part { OnErr result ((way : Way)
-        → HasRecord (setting_by job.now) job.now.ready.now.clocks.running job.now.ticks way
+        → HasRecord (setting_by job.now) job.now.ready.clocks.running job.now.ticks way
         → (ran : RanPart S.Out.told (S.told shelf.old) (station_in job.now way) order.new.items
         (lists_of groups.new.items) (S.told shelf.new).created) × ((m : ℕ) → ran.begun.made m ≡ 0)) }
     ensures cause { IsErrOf result RenderFault.Write
         → Rose (S.told shelf.old).writes (S.told shelf.new).writes
         ⊎ HasFailed (inner S.Out.told) (lists_of groups.new.items) }
     ensures made { OnOk result ((S.told shelf.new).created
-        ≡ after_making (names_in job.now.plan.now.sinks) (S.told shelf.old).created) }
+        ≡ after_making (names_in job.now.plan.sinks) (S.told shelf.old).created) }
     ensures shelf { OnlyCreates (S.told shelf.old) (S.told shelf.new) }
 {
-    create_each(job.plan, &job.ready.clocks, job.ticks, shelf, order, groups)?;
+    create_each(
+        &job.plan,
+        &job.ready.clocks,
+        job.ticks,
+        shelf,
+        order,
+        groups,
+    )?;
     Ok(make_engines(alloc, job, groups)?)
 }

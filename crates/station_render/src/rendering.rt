@@ -85,8 +85,8 @@ pub fn render_again<S: Shelf>(
 ) -> Result<Rendered, RenderFault>
     requires fit { IsFitting job.now }
     requires trace { IsTrace trace.now }
-    requires accepted { IsAccepted (setting_by job.now) job.now.ready.now.clocks.running job.now.ticks trace.now }
-    requires turns { AreAllTurns (setting_by job.now) job.now.ready.now.clocks trace.now turns }
+    requires accepted { IsAccepted (setting_by job.now) job.now.ready.clocks.running job.now.ticks trace.now }
+    requires turns { AreAllTurns (setting_by job.now) job.now.ready.clocks trace.now turns }
     ensures { Renders (station_in job.now (Again trace.now)) (S.told shelf.old) (S.told shelf.new) result }
 {
     let (places, engines) = open_outputs(alloc, job, shelf)?;
@@ -146,7 +146,7 @@ fn close_outputs<S: Shelf>(
     ensures closed { (way : Way) (first : ShelfTold) → OnlyOpened job.now first (S.told shelf.old)
         → MayClose S.Out.told first job.now way places.order.items (lists_of places.groups.items) engines.entry.items
         run
-        → HaveClosed 0 (names_in job.now.plan.now.sinks) first.closed (S.told shelf.new).closed }
+        → HaveClosed 0 (names_in job.now.plan.sinks) first.closed (S.told shelf.new).closed }
     ensures shelf { OnlyCloses (S.told shelf.old) (S.told shelf.new) }
 {
     let Places { order, mut groups } = places;

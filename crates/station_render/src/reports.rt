@@ -3,7 +3,7 @@ ghost use Rattle.std.specs.Prelude.{◌≡◌, ◌≤◌, ◌<◌, ◌*◌, ◌+
 ghost use Rattle.run_records.specs.Records.{Run};
 ghost use Rattle.stations.specs.Stations.{Station};
 ghost use Rattle.stations.specs.Streams.{gaps_in_order};
-ghost use Rattle.stations.specs.Reports.{rendered_line, rendered_lines, report_of};
+ghost use Rattle.stations.specs.Reports.{counted_part, rendered_line, rendered_lines, report_of};
 ghost use Rattle.station_render.specs.Renders.{written};
 ghost use Rattle.station_render.specs.Runs.{IsTold, counted_lines};
 
@@ -58,13 +58,26 @@ fn push_line(
 ) -> Result<(), AllocError>
     ensures { OnOk result (string_bytes text.new ≡ string_bytes text.old ++ rendered_line name.now samples gaps) }
 {
+    push_counts(alloc, text, name, samples, gaps)?;
+    text.push_str("\n")
+}
+
+/// Adds the line of an output, but for its end: its samples on each side, and its gaps.
+pub fn push_counts(
+    alloc: Global,
+    text: &mut String,
+    name: &str,
+    samples: u64,
+    gaps: u64,
+) -> Result<(), AllocError>
+    ensures { OnOk result (string_bytes text.new ≡ string_bytes text.old ++ counted_part name.now samples gaps) }
+{
     text.push_str("output ")?;
     text.push_str(name)?;
     text.push_str(" samples ")?;
     text.push_str(&samples.to_string(alloc)?)?;
     text.push_str(" gaps ")?;
-    text.push_str(&gaps.to_string(alloc)?)?;
-    text.push_str("\n")
+    text.push_str(&gaps.to_string(alloc)?)
 }
 
 // The lines of the buffers.

@@ -23,7 +23,7 @@ use trace_replay::{RecordTurns, replay};
 pub(crate) fn tick_by_threads<'a, O: Sink + Send, G: Gate + Sync, R: Threads + Wait + Sync>(
     rt: &R,
     alloc: Global,
-    job: &Job<'a>,
+    job: &'a Job<'_>,
     window: u64,
     gate: &G,
     engines: Vec<ClockEngine<'a, O>>,
@@ -36,7 +36,7 @@ pub(crate) fn tick_by_threads<'a, O: Sink + Send, G: Gate + Sync, R: Threads + W
     run_threads(
         rt,
         alloc,
-        job.plan,
+        &job.plan,
         &job.ready.clocks,
         engines,
         job.ticks,
@@ -48,7 +48,7 @@ pub(crate) fn tick_by_threads<'a, O: Sink + Send, G: Gate + Sync, R: Threads + W
 /// All clocks make their ticks on one thread, in rounds.
 pub(crate) fn tick_in_rounds<'a, O: Sink>(
     alloc: Global,
-    job: &Job<'a>,
+    job: &'a Job<'_>,
     engines: Vec<ClockEngine<'a, O>>,
 ) -> (Vec<ClockEngine<'a, O>>, RunEnd)
     requires fit { IsFitting job.now }
@@ -56,29 +56,29 @@ pub(crate) fn tick_in_rounds<'a, O: Sink>(
     ensures ticked { HaveTicked O.told job.now InRounds engines.entry.items result.0.items result.1 }
 {
     let mut engines = engines;
-    let run = run_rounds(alloc, job.plan, &mut engines, job.ticks);
+    let run = run_rounds(alloc, &job.plan, &mut engines, job.ticks);
     (engines, run)
 }
 
 /// The clocks make their ticks in turns on one thread, as a trace tells, of whose record the turns are.
 pub(crate) fn tick_again<'a, O: Sink>(
     alloc: Global,
-    job: &Job<'a>,
+    job: &'a Job<'_>,
     trace: &Trace,
     turns: RecordTurns,
     engines: Vec<ClockEngine<'a, O>>,
 ) -> (Vec<ClockEngine<'a, O>>, RunEnd)
     requires fit { IsFitting job.now }
     requires trace { IsTrace trace.now }
-    requires accepted { IsAccepted (setting_by job.now) job.now.ready.now.clocks.running job.now.ticks trace.now }
-    requires turns { AreAllTurns (setting_by job.now) job.now.ready.now.clocks trace.now turns }
+    requires accepted { IsAccepted (setting_by job.now) job.now.ready.clocks.running job.now.ticks trace.now }
+    requires turns { AreAllTurns (setting_by job.now) job.now.ready.clocks trace.now turns }
     requires ready { AreReady O.told job.now engines.items }
     ensures ticked { HaveTicked O.told job.now (Again trace.now) engines.entry.items result.0.items result.1 }
 {
     let mut engines = engines;
     let run = replay(
         alloc,
-        job.plan,
+        &job.plan,
         &job.ready.clocks,
         &job.ready.library,
         job.start,

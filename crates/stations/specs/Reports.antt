@@ -11,10 +11,14 @@ use Rattle.run_records.specs.Records.{Run, answers_of, puts_of}
 use Rattle.stations.specs.Stations.{Station, bare}
 use Rattle.stations.specs.Streams.{gaps_of}
 
+-- the line of an output that was rendered, but for its end
+abbrev pub counted_part : (name : List ℕ) (samples gaps : ℕ) → List ℕ
+counted_part name samples gaps = codes "output " ++ name ++ codes " samples " ++ decimal samples ++ codes " gaps "
+    ++ decimal gaps
+
 -- the line of an output that was rendered
 abbrev pub rendered_line : (name : List ℕ) (samples gaps : ℕ) → List ℕ
-rendered_line name samples gaps =
-    codes "output " ++ name ++ codes " samples " ++ decimal samples ++ codes " gaps " ++ decimal gaps ++ codes "\n"
+rendered_line name samples gaps = counted_part name samples gaps ++ codes "\n"
 
 -- a line for each output of a rendering
 abbrev pub rendered_lines : Station → Run → List SinkPlan → List ℕ

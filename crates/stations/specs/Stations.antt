@@ -8,7 +8,6 @@ use Rattle.frame_core.specs.Calls.{Answer}
 use Rattle.run_records.specs.Records.{AreRoundsBegun, AreWindowsBegun, AreWindows, IsRounds, IsWithin, Run, answers_of, setting_in, ticks_by}
 use Rattle.trace_log.specs.Values.{TraceValue}
 use Rattle.trace_records.specs.Traces.{IsRecordOf, base_of}
-use Rattle.stations.specs.declared.ready.Ready.{Ready}
 
 -- how a station is rendered: on one thread, in rounds; by threads, in windows of so many ticks; or again, on one
 -- thread, as a trace tells
@@ -44,13 +43,9 @@ answers_with InRounds run rest = λ buffer. answers_of run buffer ++ rest buffer
 answers_with (InWindows window) run rest = λ buffer. answers_of run buffer ++ rest buffer
 answers_with (Again trace) run rest = answers_of run
 
--- what the streams rest on in a run that was broken off, if these answers had followed
-abbrev pub setting_after : Way → Setting → Run → (rest : ℕ → List Answer) → Setting
-setting_after way setting run rest = answered setting (answers_with way run rest)
-
 -- the setting of a run that broke off, had it gone on with these answers
 abbrev pub setting_with : Station → Run → (rest : ℕ → List Answer) → Setting
-setting_with station run rest = setting_after station.way (bare station) run rest
+setting_with station run rest = answered (bare station) (answers_with station.way run rest)
 
 -- this is the record that a trace of so many ticks tells
 pub record IsReplay (setting : Setting) (clocks ticks : ℕ) (trace : TraceValue) (run : Run) : Type 0 where
@@ -101,16 +96,3 @@ IsLawful station run = IsLawfulIn (bare station) station.clocks.running station.
 -- the run is a lawful one that may have broken off
 abbrev pub IsBegun : Station → Run → Type 0
 IsBegun station run = IsBegunIn (bare station) station.clocks.running station.ticks station.way run
-
--- the station of a plan with these files and clocks
-abbrev pub station_of : Plan → Ready → (start ticks : ℕ) → Way → (trace : Option (List ℕ)) → (cues : Bool) → Station
-station_of plan ready start ticks way trace cues = record {
-  plan = plan;
-  library = ready.library;
-  clocks = ready.clocks;
-  start = start;
-  ticks = ticks;
-  way = way;
-  trace = trace;
-  cues = cues;
-}

@@ -1,23 +1,13 @@
-use Rattle.std.proofs.Common.{refl, sym, subst}
+use Rattle.std.proofs.Common.{refl}
 use Rattle.std.specs.Prelude.{None}
-use Rattle.station_jobs.specs.Read.{asked_of}
-use Rattle.station_jobs.specs.Words.{Check, Render, Replay, TakesThreads, texts}
+use Rattle.station_jobs.specs.Read.{rendering_read}
+use Rattle.station_jobs.specs.Words.{Check, Render, Replay, texts}
 use Rattle.liq_cli.proofs.Asking.{asks_one}
 use Rattle.liq_cli.proofs.Complete.{completes}
 use Rattle.liq_cli.proofs.Ended.{finished, unformed}
-use Rattle.liq_cli.proofs.Threading.{read_takes, takes_threads, unread}
+use Rattle.liq_cli.proofs.Threading.{read_takes, unread}
 use Rattle.liq_cli.proofs.call.liq_alone.Goals as goal
 use Rattle.liq_cli.proofs.call.liq_alone.Goals.{in-Check, in-Alone, in-Replay}
-
-pub returns-in-Threaded-clause-none : goal.returns-in-Threaded-clause-none
-returns-in-Threaded-clause-none g c = (
-  λ at. record {
-    asked = asked_of c.in-Some.form;
-    is_asked = c.in-Some.ensures.found;
-    takes = subst (λ f. TakesThreads (asked_of f)) (sym c.in-Threaded.is) (takes_threads c.in-Threaded.field-0);
-  },
-  λ needs. refl,
-)
 
 pub returns-clause-none : goal.returns-clause-none
 returns-clause-none g c = (
@@ -43,7 +33,7 @@ returns-clause-ends g c =
     elim c.match-form.branch [
       | in-Check w ↦ rw w.shelf-is (finished (texts c.args.words.now) _ _ (Check w.in-Check.file.now) (rw w.in-Check.is at asks)
           w.check_job-job.result c.finish.result w.check_job-job.ensures (rw w.job-is at c.finish.ensures))
-      | in-Alone w ↦ rw w.shelf-is (finished (texts c.args.words.now) _ _ (Render w.in-Alone.file.now w.in-Alone.start.second w.in-Alone.ticks.count None None w.in-Alone.cues) (rw w.in-Alone.is at asks)
+      | in-Alone w ↦ rw w.shelf-is (finished (texts c.args.words.now) _ _ (Render (rendering_read w.in-Alone.asked) None) (rw w.in-Alone.is at asks)
           w.alone_job-job.result c.finish.result w.alone_job-job.ensures (rw w.job-is at c.finish.ensures))
       | in-Replay w ↦ rw w.shelf-is (finished (texts c.args.words.now) _ _ (Replay w.in-Replay.file.now w.in-Replay.start.second w.in-Replay.ticks.count w.in-Replay.trace.now) (rw w.in-Replay.is at asks)
           w.replay_job-job.result c.finish.result w.replay_job-job.ensures (rw w.job-is at c.finish.ensures))

@@ -2,19 +2,20 @@ use Rattle.std.proofs.Common.{refl}
 use Rattle.std.proofs.lemmas.Result.{err_from_is_err_and}
 use Rattle.std.specs.Prelude.{Some}
 use Rattle.stations.specs.Stations.{InWindows}
-use Rattle.station_jobs.specs.Read.{asked_to_render, named}
+use Rattle.station_jobs.specs.Read.{rendering_read}
+use Rattle.station_jobs.specs.Words.{Render}
 use Rattle.station_jobs.proofs.Leavings.{ended_early}
 use Rattle.station_jobs.proofs.Outcomes.{plain_ruled, render_plain}
 use Rattle.station_jobs.proofs.jobs.threads_job.Goals as goal
 
-pub returns-in_err-work : goal.returns-in_err-work
-returns-in_err-work g c =
+pub returns-in_err-job : goal.returns-in_err-job
+returns-in_err-job g c =
     let p = err_from_is_err_and c.from_residual.result c.from_residual.ensures.1 in rw (p.1, p.2)
-    (ended_early (asked_to_render c.args.asked.now) (λ files. refl) _ _ _ c.in_err-work.ensures.ends c.prepare.ensures.shelf)
+    (ended_early (Render (rendering_read c.args.asked.now) (Some c.args.window.ticks)) (λ files. refl) _ _ _ c.in_err-job.ensures.ends c.prepare.ensures.shelf)
 
 pub returns : goal.returns
 returns g c =
-    let asked = asked_to_render c.args.asked.now in
-    c.conclude.ensures asked (InWindows c.args.asked.now.window.ticks) _ _ _ (record { is_rendering = λ plan library clocks way. refl; start_is = refl; ticks_are = refl; trace_is = refl; cues_are = refl })
-    (λ files t. plain_ruled asked (InWindows c.args.asked.now.window.ticks) (render_plain c.args.asked.now.file.now c.args.asked.now.start.second c.args.asked.now.ticks.count (Some c.args.asked.now.window.ticks) (named c.args.asked.now.trace) c.args.asked.now.cues) files _ _ _ (c.in_ok-work.ensures.found files t))
+    let asked = Render (rendering_read c.args.asked.now) (Some c.args.window.ticks) in
+    c.conclude.ensures asked (InWindows c.args.window.ticks) _ _ _ (λ station. refl) c.in_ok-job.ensures.asked
+    (λ files t. plain_ruled asked (InWindows c.args.window.ticks) (render_plain (rendering_read c.args.asked.now) (Some c.args.window.ticks)) files _ _ _ (c.in_ok-job.ensures.found files t))
     c.prepare.ensures.shelf c.render-ended.ensures

@@ -1,15 +1,15 @@
 use Rattle.std.proofs.Common.{◌≡◌, None, rules}
 use Rattle.std.proofs.lemmas.Result.{err_from_is_err_and}
 use Rattle.refusal_lines.specs.declared.replay_lines.ReplayFault.TheVariants.{DoesNotFit}
-use Rattle.trace_records.specs.Traces.{base_of}
+use Rattle.station_render.specs.Runs.{setting_by}
 use Rattle.station_jobs.proofs.Untold.{ends_told, trace_ends_as}
 use Rattle.station_jobs.proofs.traces.find_trace.Goals as goal
 
 pub returns-in_err-trace-clause-ends : goal.returns-in_err-trace-clause-ends
 returns-in_err-trace-clause-ends g c =
-    let base = base_of c.args.plan.now c.args.ready.now.library c.args.ready.now.clocks c.args.start.second in
+    let base = setting_by c.args.job.now in
     let p = err_from_is_err_and c.from_residual.result c.from_residual.ensures.1 in rw (p.1, p.2)
-    (trace_ends_as _ base c.args.ready.now.clocks.running c.args.ticks _ _ _ (c.in_err-trace.ensures.ends base c.args.ready.now.clocks.running c.args.ticks))
+    (trace_ends_as _ base c.args.job.now.ready.clocks.running c.args.job.now.ticks _ _ _ (c.in_err-trace.ensures.ends base c.args.job.now.ready.clocks.running c.args.job.now.ticks))
 
 pub returns-in_default-clause-ends : goal.returns-in_default-clause-ends
 returns-in_default-clause-ends g c =

@@ -18,5 +18,5 @@ returns-clause-back g c =
 
 pub returns-clause-gaps : goal.returns-clause-gaps
 returns-clause-gaps g c =
-    subst (λ es. IfOk c.tell-told.result (λ rendered. (setting world : _) (ticks : _) → setting.plan ≡ c.args.job.now.plan.now → setting.clocks ≡ c.args.job.now.ready.now.clocks.of → ArePast setting world ticks es
-    → rendered.gaps.items ≡ counts_in world ticks c.args.job.now.plan.now.sinks)) c.deref.ensures.value c.tell-told.ensures.gaps
+    subst (λ es. IfOk c.tell-told.result (λ rendered. (setting world : _) (ticks : _) → setting.plan ≡ c.args.job.now.plan → setting.clocks ≡ c.args.job.now.ready.clocks.of → ArePast setting world ticks es
+    → rendered.gaps.items ≡ counts_in world ticks c.args.job.now.plan.sinks)) c.deref.ensures.value c.tell-told.ensures.gaps

@@ -23,7 +23,7 @@ pub returns-in_err-groups-clause-part : goal.returns-in_err-groups-clause-part
 returns-in_err-groups-clause-part g c =
     let p = err_from_is_err_and c.from_residual.result c.from_residual.ensures.1 in rw (p.1, p.2)
     (λ way may.
-    let none = not_begun (setting_by c.args.job.now) c.args.job.now.ready.now.clocks.running c.args.job.now.ticks way may in
+    let none = not_begun (setting_by c.args.job.now) c.args.job.now.ready.clocks.running c.args.job.now.ticks way may in
     λ files at. inl (none_written (station_in c.args.job.now way) none.run none.begun none.none _ _ (omega arith) refl refl refl files at))
 
 pub returns-in_err-groups-clause-front : goal.returns-in_err-groups-clause-front

@@ -15,7 +15,7 @@ use Rattle.station_render.proofs.Staging.{all_back, closes_after, empty_back, en
 use Rattle.station_render.proofs.rendering.close_outputs.Goals as goal
 
 pub take_back-told-requires-clause-main : goal.take_back-told-requires-clause-main
-take_back-told-requires-clause-main g c = are_main c.args.job.now.plan.now c.args.job.now.ready.now.library c.args.job.now.ready.now.clocks c.args.job.now.ticks c.requires.fit
+take_back-told-requires-clause-main g c = are_main c.args.job.now.plan c.args.job.now.ready.library c.args.job.now.ready.clocks c.args.job.now.ticks c.requires.fit
 
 pub take_back-told-requires-clause-size : goal.take_back-told-requires-clause-size
 take_back-told-requires-clause-size g c = all_back c.requires.fit c.requires.may.2
@@ -35,7 +35,7 @@ take_back-told-requires-clause-empty g c = empty_back c.requires.fit c.requires.
 pub close_all-requires-clause-sizes : goal.close_all-requires-clause-sizes
 close_all-requires-clause-sizes g c κs lives =
     subst (λ o. HaveSizes o (lists_of c.take_back-told.new.groups.items)) (sym c.deref.ensures.value)
-    (sizes (WillClose g.S.Out.Sink.told c.requires.may.1.closed) (names_in c.args.job.now.plan.now.sinks) c.args.places.order.items (lists_of c.take_back-told.new.groups.items)
+    (sizes (WillClose g.S.Out.Sink.told c.requires.may.1.closed) (names_in c.args.job.now.plan.sinks) c.args.places.order.items (lists_of c.take_back-told.new.groups.items)
     (closes_after c.requires.fit c.requires.may.2 c.take_back-told.ensures.back))
 
 pub close_all-requires-clause-rooms : goal.close_all-requires-clause-rooms
@@ -73,7 +73,7 @@ returns-clause-cause g c = λ e.
 
 pub returns-clause-closed : goal.returns-clause-closed
 returns-clause-closed g c = λ way first opened may.
-    let sinks = names_in c.args.job.now.plan.now.sinks in
+    let sinks = names_in c.args.job.now.plan.sinks in
     closed_any 1 sinks first.closed (g.S.Shelf.told c.close_all.new.shelf).closed
     (subst (λ told. HaveClosed 1 sinks told (g.S.Shelf.told c.close_all.new.shelf).closed) opened.closed_kept
     (c.close_all.ensures.closed sinks

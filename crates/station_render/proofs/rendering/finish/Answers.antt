@@ -18,7 +18,7 @@ use Rattle.station_render.proofs.rendering.finish.Goals as goal
 pub leave_wanted-requires-clause-many : goal.leave_wanted-requires-clause-many
 leave_wanted-requires-clause-many g c κs lives wanted =
     let may = c.requires.may in
-    subst (λ marks. length marks ≡ length (written c.args.job.now.plan.now.sinks)) (sym c.deref.ensures.value)
+    subst (λ marks. length marks ≡ length (written c.args.job.now.plan.sinks)) (sym c.deref.ensures.value)
     (has_marks (station_in c.args.job.now may.0) _ _ c.in_ok-rendered.rendered (c.in_ok-rendered.ensures.done may.0 may.2 may.3 may.4) wanted)
 
 pub leave_trace-requires-clause-trace : goal.leave_trace-requires-clause-trace
@@ -31,7 +31,7 @@ pub returns-in_err-rendered : goal.returns-in_err-rendered
 returns-in_err-rendered g c =
     let p = err_from_is_err_and c.from_residual.result c.from_residual.ensures.1 in rw (p.1, p.2)
     (λ way first is kept may.
-    let sinks = c.args.job.now.plan.now.sinks in
+    let sinks = c.args.job.now.plan.sinks in
     broke_off (station_in c.args.job.now way) first (g.S.Shelf.told c.close_outputs.new.shelf) _ _ refl (c.in_err-rendered.ensures.part way first kept may) (λ e. rose_within _ _ _ _ kept.writes_grew (omega arith) (c.in_err-rendered.ensures.cause e))
     (then_front (names_in sinks) (cue_names_if c.args.job.now.cues sinks ++ trace_names_in way (name_in c.args.job.now)) first (g.S.Shelf.told c.close_outputs.new.shelf) (g.S.Shelf.told c.close_outputs.new.shelf) (c.close_outputs.ensures.shelf.created_kept ∙ kept.made) (c.close_outputs.ensures.closed way first kept may)
     (none_made _ (g.S.Shelf.told c.close_outputs.new.shelf) (g.S.Shelf.told c.close_outputs.new.shelf) refl refl))
@@ -43,7 +43,7 @@ returns-in_err-leave_wanted g c =
     (λ way first is kept may.
     let low : first.writes ≤ (g.S.Shelf.told c.close_outputs.new.shelf).writes = omega (arith, kept.writes_grew, c.close_outputs.ensures.shelf.writes_grew) in
     let station = station_in c.args.job.now way in
-    let sinks = c.args.job.now.plan.now.sinks in
+    let sinks = c.args.job.now.plan.sinks in
     let wrote = c.in_ok-rendered.ensures.done way first kept may in
     broke_off station first (g.S.Shelf.told c.leave_wanted.new.shelf) _ _ refl
     (later_part station first (g.S.Shelf.told c.close_outputs.new.shelf) c.in_ok-rendered.rendered wrote (c.close_outputs.ensures.shelf.created_kept ∙ kept.made) (cue_names_if c.args.job.now.cues sinks) _ (g.S.Shelf.told c.leave_wanted.new.shelf) c.leave_wanted.ensures.some.front _
@@ -58,7 +58,7 @@ returns-in_err-leave_wanted g c =
 pub returns : goal.returns
 returns g c = λ way first is kept may.
     let station = station_in c.args.job.now way in
-    let sinks = c.args.job.now.plan.now.sinks in
+    let sinks = c.args.job.now.plan.sinks in
     let cue_names = cue_names_if c.args.job.now.cues sinks in
     let last_names = trace_names_in way (name_in c.args.job.now) in
     let wrote = c.in_ok-rendered.ensures.done way first kept may in

@@ -13,7 +13,7 @@ replay-run-requires-clause-setting g c = is_setting c.requires.fit c.args.job.no
 
 pub replay-run-requires-clause-accepted : goal.replay-run-requires-clause-accepted
 replay-run-requires-clause-accepted g c =
-    subst (λ n. IsAccepted (setting_by c.args.job.now) c.args.job.now.ready.now.clocks.running n c.args.trace.now) (sym c.requires.accepted.ticks) c.requires.accepted
+    subst (λ n. IsAccepted (setting_by c.args.job.now) c.args.job.now.ready.clocks.running n c.args.trace.now) (sym c.requires.accepted.ticks) c.requires.accepted
 
 pub replay-run-requires-clause-engines : goal.replay-run-requires-clause-engines
 replay-run-requires-clause-engines g c =
