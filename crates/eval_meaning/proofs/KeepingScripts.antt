@@ -168,7 +168,7 @@ by_end : (r : Result Machine Ending) (plan : Plan) → Leaves IsNoted r → and_
 by_end (Ok m) plan is same = subst (λ (p : Plan). IsWellFormed p) (by_output (list_any is_output m.plan.sinks) m plan same) is.sound.well_formed
 by_end (Err e) plan is same = absurd cc
 
-with_calls : (r : Result Plan Ending) (m : Machine) (plan : Plan) (calls : List ℕ) → and_then r (λ p. Ok (p, m.calls)) ≡ Ok (plan, calls) → (r ≡ Ok plan) × (m.calls ≡ calls)
+with_calls : (r : Result Plan Ending) (m : Machine) (plan : Plan) (calls : List ℕ) → and_then {B = Plan × List ℕ} r (λ p. Ok (p, m.calls)) ≡ Ok (plan, calls) → (r ≡ Ok plan) × (m.calls ≡ calls)
 with_calls (Ok p) m plan calls is =
     let same : ◌≡◌ {A = Plan × List ℕ} (p, m.calls) (plan, calls) = cc in
     (ap Ok (ap (λ (x : Plan × List ℕ). x.0) same), ap (λ (x : Plan × List ℕ). x.1) same)

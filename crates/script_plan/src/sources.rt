@@ -21,7 +21,7 @@ use typing_rules::Use;
 /// calls that run within each other, the outermost. Or the first fault of the bytes. Want of memory may come in place
 /// of either.
 pub fn sources_of(alloc: Global, text: &[u8]) -> Result<Sources, ScriptFault>
-    ensures sources { IfOk result (λ s. HasSources text.now s.plan s.calls) }
+    ensures calls { IfOk result (λ s. HasSources text.now s.plan s.calls) }
     ensures plan { IfOk result (λ s. IsPlan text.now s.plan) }
     ensures well_formed { IfOk result (λ s. IsWellFormed s.plan) }
     ensures each { IfOk result (λ s. length s.calls ≡ length s.plan.nodes) }
@@ -34,7 +34,7 @@ pub fn sources_of(alloc: Global, text: &[u8]) -> Result<Sources, ScriptFault>
 // Those of a script, or the fault of its types or of its evaluation.
 fn sources_in_script(alloc: Global, script: &Script) -> Result<Sources, ScriptFault>
     requires { IsPlaced 0 (view_script script.now) }
-    ensures sources { IfOk result (λ s. AreSources (view_script script.now) s.plan s.calls) }
+    ensures calls { IfOk result (λ s. AreSources (view_script script.now) s.plan s.calls) }
     ensures plan { IfOk result (λ s. HasPlan (view_script script.now) s.plan) }
     ensures well_formed { IfOk result (λ s. IsWellFormed s.plan) }
     ensures each { IfOk result (λ s. length s.calls ≡ length s.plan.nodes) }
@@ -48,7 +48,7 @@ fn sources_in_script(alloc: Global, script: &Script) -> Result<Sources, ScriptFa
 fn made(alloc: Global, script: &Script, uses: &[Use]) -> Result<Sources, ScriptFault>
     requires placed { IsPlaced 0 (view_script script.now) }
     requires typed { IsTyped (view_script script.now) uses.now }
-    ensures sources { IfOk result (λ s. sources (view_script script.now) uses.now ≡ Ok (s.plan, s.calls)) }
+    ensures calls { IfOk result (λ s. sources (view_script script.now) uses.now ≡ Ok (s.plan, s.calls)) }
     ensures plan { IfOk result (λ s. evaluation (view_script script.now) uses.now ≡ Ok s.plan) }
     ensures well_formed { IfOk result (λ s. IsWellFormed s.plan) }
     ensures each { IfOk result (λ s. length s.calls ≡ length s.plan.nodes) }
