@@ -22,7 +22,7 @@ use Rattle.script_grammar.specs.declared.tree.If.{If}
 use Rattle.eval_meaning.specs.Meaning as meaning
 use Rattle.eval_meaning.specs.Meaning.{Surroundings, operator_applied}
 use Rattle.expression_eval.specs.Places.{Place, Failed, Goes, Joins, GoesBehind, Notes, Tells}
-use Rattle.expression_eval.specs.Steps.{after_count, operation}
+use Rattle.expression_eval.specs.Steps.{after_count, noted_value, operation}
 use Rattle.expression_eval.specs.declared.steps.Operator.{Operator}
 use Rattle.expression_eval.proofs.Loops.{Steps, ends, fails_on, fails_same, stops, turn}
 use Rattle.expression_eval.proofs.Productions.{alone_means, choice_means, chosen, compared_means, first_fails, with_last}
@@ -71,7 +71,7 @@ joins_goes o (Ok v) now (Ok w) m n q is gives = subst (λ (r : Outcome). Gives (
 pub notes_gives : (at before : ℕ) (old now : Place) (a m n : Machine) (meant : Outcome) → before ≡ length a.plan.nodes → Gives (λ v. (view_value v, m)) old meant → Notes at before old m now n → Gives (λ v. (view_value v, n)) now (noted at a meant)
 notes_gives at before (Ok v) now a m n meant same is notes =
     subst (λ (o : Outcome). Gives (λ w. (view_value w, n)) now (noted at a o)) (sym is)
-    (subst (λ (k : ℕ). Gives (λ w. (view_value w, n)) now (Ok (view_value v, noted_by at k m))) same notes)
+    (subst (λ (k : ℕ). Gives (λ w. (view_value w, n)) now (noted_value at k (view_value v) m)) same notes)
 notes_gives at before (Err e) now a m n meant same fault is =
     subst (λ (p : Place). Gives (λ w. (view_value w, n)) p (noted at a meant)) (sym is) (fails_on e meant (λ x. Ok (x.0, noted_by at (length a.plan.nodes) x.1)) fault)
 

@@ -3,9 +3,9 @@
 ghost use Rattle.std.specs.Prelude.{◌≡◌, [], ◌∷◌, ◌++◌, IfOk, Ok, map};
 ghost use Rattle.eval_meaning.specs.Meaning.{format};
 ghost use Rattle.expression_eval.specs.Places.{Goes, GoesOn, Joins, GoesBehind, Notes, Tells};
-ghost use Rattle.expression_eval.specs.Steps.{after_count, operation};
+ghost use Rattle.expression_eval.specs.Steps.{after_count, noted_value, operation};
 ghost use Rattle.script_values.specs.Gives.{Gives};
-ghost use Rattle.script_values.specs.Machines.{count_work, noted_by};
+ghost use Rattle.script_values.specs.Machines.{count_work};
 ghost use Rattle.script_values.specs.Numbers.{negative, opposite};
 ghost use Rattle.script_values.specs.Values.{TextValue as a_text};
 ghost use Rattle.script_values.specs.View.{view_value};
@@ -144,7 +144,7 @@ fn noted_value(
     before: usize,
     value: Value,
 ) -> Result<Value, Stop>
-    ensures { Gives (λ v. (view_value v, machine.new)) result (Ok (view_value value, noted_by at before machine.old)) }
+    ensures { Gives (λ v. (view_value v, machine.new)) result (noted_value at before (view_value value) machine.old) }
 {
     note(machine, at, before)?;
     Ok(value)

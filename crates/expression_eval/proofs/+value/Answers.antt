@@ -262,7 +262,7 @@ bodies::parameters-returns t c =
 
 pub calls::applied-returns-in-Some : goal.calls::applied-returns-in-Some
 calls::applied-returns-in-Some t c =
-    rw c.put.ensures (applied_gives (scope_of c.args.scope.now) (use_at c.args.at c.args.scope.now.uses.now.all.now) c.in-Some.found.now c.args.at c.sources_made-before.result (map view_given c.args.given.items) c.applied_to-made.result c.noted.result c.args.machine.now c.applied_to-made.new.machine c.noted.new.machine (sym c.in-Some.ensures) c.sources_made-before.ensures c.applied_to-made.ensures c.noted.ensures)
+    rw c.put-in-Some.ensures (applied_gives (scope_of c.args.scope.now) (use_at c.args.at c.args.scope.now.uses.now.all.now) c.in-Some.found.now c.args.at c.sources_made-before.result (map view_given c.args.given.items) c.applied_to-made.result c.noted.result c.args.machine.now c.applied_to-made.new.machine c.noted.new.machine (sym c.in-Some.ensures) c.sources_made-before.ensures c.applied_to-made.ensures c.noted.ensures)
 
 pub calls::call_def-returns-then-scope-eq0 : goal.calls::call_def-returns-then-scope-eq0
 calls::call_def-returns-then-scope-eq0 t c = calls_end (world_of c.args.scope.now) c.args.scope.now.calls c.args.at c.args.kinds.now (map view_given c.args.given.items) c.args.machine.now (omega arith)
