@@ -3,4 +3,4 @@
 
 mod script;
 
-pub use script::{Sources, eval, sources};
+pub use script::{Sources, eval, eval_with_calls};

@@ -44,13 +44,17 @@ pub fn eval(alloc: Global, script: &Script, uses: &[Use]) -> Result<Plan, EvalFa
     ensures exact { Answers (λ p. p) result (evaluation (view_script script.now) uses.now) }
     ensures well_formed { IfOk result (λ p. IsWellFormed p) }
 {
-    let made = sources(alloc, script, uses)?;
+    let made = eval_with_calls(alloc, script, uses)?;
     Ok(made.plan)
 }
 
 /// The same with the calls of the plan's sources.
 #[tactic(auto, using(crate::proofs::Answered::is_not_stuck))]
-pub fn sources(alloc: Global, script: &Script, uses: &[Use]) -> Result<Sources, EvalFault>
+pub fn eval_with_calls(
+    alloc: Global,
+    script: &Script,
+    uses: &[Use],
+) -> Result<Sources, EvalFault>
     requires placed { IsPlaced 0 (view_script script.now) }
     requires typed { IsTypedScript (view_script script.now) uses.now }
     ensures exact { Answers (λ s. (s.plan, s.calls)) result (sources (view_script script.now) uses.now) }

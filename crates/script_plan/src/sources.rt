@@ -12,7 +12,7 @@ ghost use Rattle.typing_rules.specs.Answers.{IsTyped};
 
 use crate::fault::ScriptFault;
 use crate::plan::{script_of, uses_of};
-use script_eval::{Sources, sources};
+use script_eval::{Sources, eval_with_calls};
 use script_grammar::tree::Script;
 use std::alloc::Global;
 use typing_rules::Use;
@@ -54,6 +54,6 @@ fn made(alloc: Global, script: &Script, uses: &[Use]) -> Result<Sources, ScriptF
     ensures each { IfOk result (λ s. length s.calls ≡ length s.plan.nodes) }
     ensures fault { IfErr result (IsOfEvaluation (view_script script.now) uses.now) }
 {
-    let found = sources(alloc, script, uses)?;
+    let found = eval_with_calls(alloc, script, uses)?;
     Ok(found)
 }

@@ -1,6 +1,6 @@
 use Rattle.script_grammar.specs.View.{view_script}
 use Rattle.script_eval.proofs.Answered.{answers_plan, each_called, made_well}
-use Rattle.script_eval.proofs.script.sources.Goals as goal
+use Rattle.script_eval.proofs.script.eval_with_calls.Goals as goal
 
 pub returns : goal.returns
 returns c =
