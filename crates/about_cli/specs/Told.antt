@@ -1,5 +1,5 @@
 -- What is told of the bytes of a script.
-use Rattle.std.specs.Prelude.{◌≡◌, ◌≢◌, ◌<◌, ℕ, Bool, true, false, All, List, Option, Some, None, slice_get}
+use Rattle.std.specs.Prelude.{◌≡◌, ◌≢◌, ◌<◌, ℕ, Bool, true, false, All, List, length, map, Option, Some, None, slice_get}
 use Rattle.about_cli.specs.declared.verb.Question.{Question}
 use Rattle.about_cli.specs.declared.verb.Question.TheVariants.{Week, Picture, Files, Tokens}
 use Rattle.fallible_infer.specs.Infallible.{mark_at, refuses}
@@ -8,7 +8,11 @@ use Rattle.liq_base.specs.declared.limits.TheConstants.{MAX_ALL_BYTES, MAX_FILE_
 use Rattle.plan_core.specs.declared.plan.Plan.{Plan}
 use Rattle.plan_core.specs.declared.sink.SinkPlan.{SinkPlan}
 use Rattle.plan_picture.specs.Pictures.{IsPicture}
+use Rattle.script_lex.specs.Tokens.{AreTokens}
+use Rattle.script_lex.specs.declared.token.Token.{Token}
+use Rattle.script_places.specs.Starts.{start}
 use Rattle.script_plan.specs.Plans.{IsPlan, IsPlanFault}
+use Rattle.script_plan.specs.Sources.{HasSources}
 use Rattle.script_plan.specs.declared.fault.ScriptFault.{ScriptFault}
 use Rattle.script_plan.specs.declared.fault.ScriptFault.TheVariants as fault
 use Rattle.station_facts.specs.Files.{IsTold}
@@ -42,6 +46,15 @@ pub record OfPlan (text : List ℕ) (P : Plan → Type 0) : Type 0 where
   pub is_plan : IsPlan text plan
   pub holds : P plan
 
+-- it has a plan, and of that and of the bytes at which the calls begin that make its sources this holds
+pub record OfSources (text : List ℕ) (P : Plan → (ats : List ℕ) → Type 0) : Type 0 where
+  pub plan : Plan
+  pub calls : List ℕ
+  pub sources : HasSources text plan calls
+  pub tokens : List Token
+  pub are_tokens : AreTokens text tokens
+  pub holds : P plan (map (start (length text) tokens) calls)
+
 -- the lines of the week of a plan
 pub record IsWeekOf (plan : Plan) (told : List ℕ) : Type 0 where
   pub inferred : Inferred
@@ -51,7 +64,7 @@ pub record IsWeekOf (plan : Plan) (told : List ℕ) : Type 0 where
 -- What is told of the bytes of a script.
 abbrev pub Tells : Question → (text : List ℕ) → (old new : ShelfTold) → (told : List ℕ) → Type 0
 Tells Tokens text old new told = AreTold text told
-Tells Files text old new told = OfPlan text (λ plan. IsTold (rules_for plan sizes) plan old new told)
+Tells Files text old new told = OfSources text (λ plan ats. IsTold (rules_for plan sizes) plan ats old new told)
 Tells Picture text old new told = OfPlan text (λ plan. IsDrawn plan told)
 Tells Week text old new told = OfPlan text (λ plan. IsWeekOf plan told)
 

@@ -1,11 +1,13 @@
 // What is told of the bytes of a script.
-ghost use Rattle.std.specs.Prelude.{◌≡◌, IfErr, IfOk};
+ghost use Rattle.std.specs.Prelude.{◌≡◌, IfErr, IfOk, map};
 ghost use Rattle.about_cli.specs.Told.{HasNoPlan, IsDrawn, IsRefused, IsWeekOf, OfPlan, Tells};
 ghost use Rattle.about_cli.specs.declared.told.Untold.TheVariants as untold;
 ghost use Rattle.fallible_infer.specs.Infallible.{mark_at};
 ghost use Rattle.liq_base.specs.Shelves.{OnlyRead};
 ghost use Rattle.plan_core.specs.Plans.{IsWellFormed};
+ghost use Rattle.script_places.specs.Starts.{start};
 ghost use Rattle.script_plan.specs.Plans.{IsPlan};
+ghost use Rattle.script_plan.specs.Sources.{HasSources};
 
 use crate::verb::Question;
 use fallible_infer::check_outputs;
@@ -13,7 +15,10 @@ use liq_base::limits::{MAX_ALL_BYTES, MAX_FILE_BYTES};
 use liq_base::{Memory, Shelf};
 use plan_core::Plan;
 use plan_picture::picture;
-use script_plan::{ScriptFault, plan_of};
+use script_eval::Sources;
+use script_lex::{Token, lex};
+use script_places::start;
+use script_plan::{ScriptFault, plan_of, sources_of};
 use station_facts::{infer, tell_files, tell_tokens};
 use std::alloc::Global;
 use track_library::Sizes;
@@ -124,10 +129,44 @@ fn files_of<S: Shelf>(alloc: Global, text: &[u8], shelf: &mut S) -> Result<Vec<u
     ensures no_plan { IfErr result (λ why. why ≡ untold.NoPlan → HasNoPlan text.now) }
     ensures shelf { OnlyRead (S.told shelf.old) (S.told shelf.new) }
 {
-    let plan = plan_in(alloc, text)?;
+    let sources = sources_in(alloc, text)?;
+    let Ok(tokens) = lex(alloc, text) else {
+        // a text with a plan has tokens
+        return Err(Untold::Memory);
+    };
+    let ats = starts(alloc, text.len(), &tokens, sources.calls.as_slice())?;
     let sizes = Sizes {
         file: MAX_FILE_BYTES,
         all: MAX_ALL_BYTES,
     };
-    Ok(tell_files(alloc, &plan, shelf, sizes)?)
+    Ok(tell_files(alloc, &sources.plan, &ats, shelf, sizes)?)
+}
+
+// The plan of a script with the calls of its sources.
+fn sources_in(alloc: Global, text: &[u8]) -> Result<Sources, Untold>
+    ensures sources { IfOk result (λ s. HasSources text.now s.plan s.calls) }
+    ensures well_formed { IfOk result (λ s. IsWellFormed s.plan) }
+    ensures no_plan { IfErr result (λ why. why ≡ untold.NoPlan → HasNoPlan text.now) }
+{
+    match sources_of(alloc, text) {
+        Ok(sources) => Ok(sources),
+        Err(ScriptFault::Memory) => Err(Untold::Memory),
+        Err(_) => Err(Untold::NoPlan),
+    }
+}
+
+// The bytes at which these tokens begin.
+fn starts(
+    alloc: Global,
+    total: usize,
+    tokens: &[Token],
+    numbers: &[u32],
+) -> Result<Vec<usize>, Memory>
+    ensures { IfOk result (λ ats. ats.items ≡ map (start total tokens.now) numbers.now) }
+{
+    let mut ats = Vec::new(alloc);
+    for number in numbers {
+        ats.push(start(total, tokens, u64::from(*number)))?;
+    }
+    Ok(ats)
 }

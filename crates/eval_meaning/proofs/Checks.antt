@@ -25,7 +25,7 @@ use Rattle.builtin_calls.specs.Settings.{duration_of, rate_of, set_duration, set
 use Rattle.builtin_calls.specs.Sinks.{add_output}
 use Rattle.builtin_calls.specs.Times.{track_of}
 use Rattle.eval_meaning.specs.Meaning.{full, expr, ors, conjunction, ands, negation, compare, sum, addends, product, factors, times, operand, choice, fulls, call, arguments, argued, applied, named, parameter, parameters, inners, body, call_by}
-use Rattle.eval_meaning.specs.Scripts.{settings_ended, evaluation, statement, statements, turned}
+use Rattle.eval_meaning.specs.Scripts.{and_then, settings_ended, evaluation, ran, statement, statements, turned}
 
 abbrev only : Tree AFull → Script
 only f = more (Stmt (BindPart (Bind 0 (codes "x") f)) false) none
@@ -197,6 +197,11 @@ uses_of_kinds =
 each_kind : evaluation two_kinds uses_of_kinds ≡ Ok (record { rate = 44100; frame = 1764; nodes = record { op = node_op.Blank 0; kind = Mono; children = [] } ∷ record { op = node_op.Blank 0; kind = Stereo; children = [] } ∷ []; sinks = Output (codes "A") 0 false false ∷ Output (codes "B") 1 false false ∷ []; buffers = [] })
 unfolding statements turned statement full expr ors conjunction ands negation compare sum addends product factors operand call arguments argued applied builtin blank output_file decimal_or bool_or plain_argument plain_format plain_text plain_source as_format as_text source_of track_of add push add_output parameters inners body call_by count_work settings_ended
 each_kind = refl
+
+-- its two sources are made by the calls of g, which stand outside of defs
+calls_of_g : and_then (ran two_kinds uses_of_kinds) (λ m. Ok m.calls) ≡ Ok (26 ∷ 36 ∷ [])
+unfolding statements turned statement full expr ors conjunction ands negation compare sum addends product factors operand call arguments argued applied builtin blank output_file decimal_or bool_or plain_argument plain_format plain_text plain_source as_format as_text source_of track_of add push add_output parameters inners body call_by count_work settings_ended
+calls_of_g = refl
 
 -- ---- formats
 

@@ -23,7 +23,7 @@ use Rattle.script_values.specs.declared.fault.Stop.TheVariants as faults
 use Rattle.script_values.specs.declared.machine.Machine.{Machine}
 use Rattle.script_values.specs.Machines.{count_work}
 use Rattle.script_values.specs.Numbers.{literal_value, negative, added, multiplied, compared, either, both, opposite, truth_of}
-use Rattle.script_values.specs.Outcomes.{◌>>=◌, Outcome}
+use Rattle.script_values.specs.Outcomes.{◌>>=◌, Outcome, noted}
 use Rattle.script_values.specs.Slots.{Argument, value_at_token}
 use Rattle.script_values.specs.Values as value
 use Rattle.script_values.specs.Values.{Value, many, size}
@@ -89,11 +89,16 @@ called_safe bs s t (target.Def u) at (Some ks) given gs g m knows kinds has held
 called_safe bs s t (target.Builtin b) at None given gs g m knows kinds has held = let e = has.1 in absurd cc
 called_safe bs s t (target.Builtin b) at (Some ks) given gs g m knows kinds has held = bs b at ks gs g (subst (λ (l : List Kind). IsCallOf b gs l g) (same_kinds (t.kinds at) has.0 ks has.1 kinds) has.2) given m held
 
+noted_safe : (ns : List Node) (g : Ground) (at : ℕ) (m : Machine) (made : Outcome) → Safe ns (Of g) made → Safe ns (Of g) (noted at m made)
+noted_safe ns g at m (Ok x) safe = safe
+noted_safe ns g at m (Err e) safe = safe
+
 applied_safe : BuiltinsAreSafe → (s : Surroundings) (t : Sight) (o : Option Use) (at : ℕ) (given : List Argument) (gs : List (arguments.GivenArgument Ground)) (g : Ground) (m : Machine) → Knows s t m.plan.nodes
     → t.kinds at ≡ kinds_in o s.kinds → Applied t at (target_said o) gs g → AreA m.plan.nodes given gs → Safe m.plan.nodes (Of g) (meaning.applied s o at given m)
 unfolding meaning.applied
 applied_safe bs s t None at given gs g m knows kinds has held = absurd has
-applied_safe bs s t (Some u) at given gs g m knows kinds has held = called_safe bs s t u.target at (kinds_of s.kinds u.kinds) given gs g m knows kinds has held
+applied_safe bs s t (Some u) at given gs g m knows kinds has held =
+    noted_safe m.plan.nodes g at m (meaning.applied_to s u.target at (kinds_of s.kinds u.kinds) given m) (called_safe bs s t u.target at (kinds_of s.kinds u.kinds) given gs g m knows kinds has held)
 
 are_push : (ns : List Node) (given : List Argument) (gs : List (arguments.GivenArgument Ground)) (one : Argument) (two : arguments.GivenArgument Ground) → AreA ns given gs → one.0 ≡ two.0 → IsA ns one.1 two.1 → AreA ns (given ++ one ∷ []) (gs ++ two ∷ [])
 are_push ns [] [] one two held label is = (label, is, tt)

@@ -20,10 +20,11 @@ use Rattle.typing_rules.specs.Uses.{use_at}
 use Rattle.typing_rules.proofs.Reading.{same_kinds, same_target}
 use Rattle.script_values.specs.declared.machine.Machine.{Machine}
 use Rattle.script_values.specs.Machines.{first_machine}
+use Rattle.script_values.specs.Outcomes.{noted}
 use Rattle.script_values.specs.Slots.{Argument, SlotValue}
 use Rattle.eval_meaning.specs.Calls.{holds_call, is_setting, means_set}
 use Rattle.eval_meaning.specs.Meaning.{Surroundings, applied, applied_to, call_by, run}
-use Rattle.eval_meaning.specs.Scripts.{Ending, and_then, evaluation, ending_in, numbered, plan_of, settings_settled, statement, statements, top_scope, turned}
+use Rattle.eval_meaning.specs.Scripts.{Ending, and_then, evaluation, ending_in, numbered, plan_of, ran, sources, sources_of, settings_settled, statement, statements, top_scope, turned}
 use Rattle.eval_meaning.proofs.UsesAlike.{Alike, body_same, part_same}
 use Rattle.eval_meaning.proofs.UsesReadable.{AreBelow, are_read, counted_below, mono_same, numbers_below}
 use Rattle.eval_meaning.proofs.UsesTokens.{AtsAreWithin, Found, IsBlock, block_used, found_in, text_block}
@@ -154,7 +155,7 @@ by_uses script a b pair slots k same owner chain ns ja jb block ra rb leads n in
     let meant : target_in (meanings_of script) n.at ≡ Some u.target = sym (ap (λ (ms : List Meaning). target_in ms n.at) pair.first.targets) ∙ sym (same_target a n.at) ∙ ap target_said iso in
     let f = found_in pair.within 0 [] script (owner, ns) n u.target pair.placed block inside meant in
     let same_one : u.target ≡ v.target = some_target u.target v.target targets in
-    by_target script a b pair slots k same chain ns ja jb ra rb leads n inside u v iso isp u.target refl (sym same_one) f given m ∙ ap (λ (w : Target). applied_to (scope_with script b slots k jb) w n.at (kinds_of jb v.kinds) given m) same_one
+    ap (noted n.at m) (by_target script a b pair slots k same chain ns ja jb ra rb leads n inside u v iso isp u.target refl (sym same_one) f given m ∙ ap (λ (w : Target). applied_to (scope_with script b slots k jb) w n.at (kinds_of jb v.kinds) given m) same_one)
 
 text_alike : (script : Script) (a b : List Use) → Pair script a b → (slots : List SlotValue) (k : ℕ) → SameCalls script a b slots k → (owner : Option ℕ) (chain : List ℕ) (ns : List Name) (ja jb : List Kind) → IsBlock (blocks [] script) (owner, ns) → Reaches a chain ns ja → Reaches b chain ns jb → Leads script chain ns
     → Alike (scope_with script a slots k ja) (scope_with script b slots k jb) ns
@@ -231,5 +232,11 @@ statements_same script a b pair (more (Stmt part semicolon) rest) sc n slots m i
     ap (λ r. and_then r first) (turned_same script a b pair sc part semicolon (n + 1) slots m (inside (owner (Stmt part semicolon), names sc part) (inl refl)))
     ∙ then_each (turned script b part (n + 1) slots m) first second (λ x. statements_same script a b pair rest (with_statement (Stmt part semicolon) sc) (n + 1) x.0 x.1 (λ y is. inside y (inr is)))
 
+ran_same : AtsAreWithin → (script : Script) (a b : List Use) → IsPlaced 0 script → IsTyped script a → IsTyped script b → ran script a ≡ ran script b
+ran_same within script a b placed first second = statements_same script a b (record { within = within; placed = placed; first = first; second = second }) script [] 0 [] first_machine (λ x is. is)
+
 pub one_plan : AtsAreWithin → (script : Script) (a b : List Use) → IsPlaced 0 script → IsTyped script a → IsTyped script b → evaluation script a ≡ evaluation script b
-one_plan within script a b placed first second = ap (λ r. and_then r plan_of) (statements_same script a b (record { within = within; placed = placed; first = first; second = second }) script [] 0 [] first_machine (λ x is. is))
+one_plan within script a b placed first second = ap (λ r. and_then r plan_of) (ran_same within script a b placed first second)
+
+pub same_sources : AtsAreWithin → (script : Script) (a b : List Use) → IsPlaced 0 script → IsTyped script a → IsTyped script b → sources script a ≡ sources script b
+same_sources within script a b placed first second = ap (λ r. and_then r sources_of) (ran_same within script a b placed first second)

@@ -3,7 +3,8 @@ use Rattle.std.specs.Prelude.{ℕ, List, Result, Ok, Err, ⊤}
 use Rattle.liq_base.specs.declared.memory.Kind.{Kind}
 use Rattle.typing_rules.specs.declared.uses.Builtin.{Builtin}
 use Rattle.script_values.specs.declared.machine.Machine.{Machine}
-use Rattle.script_values.specs.Machines.{count_work}
+use Rattle.script_values.specs.Machines.{count_work, noted_by}
+use Rattle.script_values.specs.Outcomes.{noted}
 use Rattle.script_values.specs.Slots.{Argument}
 use Rattle.builtin_calls.specs.Builtins.{builtin}
 
@@ -16,8 +17,9 @@ abbrev pub Leaves : {E : Type 0} → (Machine → Type 0) → Result Machine E �
 Leaves P (Ok m) = P m
 Leaves P (Err e) = ⊤
 
--- counting keeps it, and so does each call of a builtin
+-- counting keeps it, and so does each call of a builtin with its sources noted, and noting those of a call of a def
 pub record IsKept (P : Machine → Type 0) : Type 0 where
   pub counts : (n : ℕ) (m : Machine) → P m → Leaves P (count_work n m)
   pub builtins : (b : Builtin) (at : ℕ) (kinds : List Kind) (given : List Argument) (m : Machine) → P m
-      → HoldsBehind P (builtin b at kinds given m)
+      → HoldsBehind P (noted at m (builtin b at kinds given m))
+  pub notes : (at before : ℕ) (m : Machine) → P m → P (noted_by at before m)

@@ -1,4 +1,4 @@
--- The plan of a script: its statements in order, and the end of its settings.
+-- The plan of a script and the calls of its sources: its statements in order, and the end of its settings.
 use Rattle.std.specs.Prelude.{◌≡◌, ℕ, ◌+◌, ℤ, pos, int_le, nat_le, List, [], ◌∷◌, ◌++◌, Bool, true, false, ◌&&◌, Option, Some, None, Result, Ok, Err, ⊤}
 use Rattle.std.specs.List.{list_any}
 use Rattle.liq_base.specs.declared.limits.TheConstants.{MAX_FRAME, MAX_CALLS}
@@ -101,9 +101,22 @@ plan_of m =
       | false ↦ Err (Some told.NoOutput)
     ]
 
+-- the state behind the statements of a script, or its first fault
+abbrev pub ran : Script → List Use → Result Machine Ending
+ran script uses = statements script uses script 0 [] first_machine
+
 -- the plan of a script, or its first fault
 abbrev pub evaluation : Script → List Use → Result Plan Ending
-evaluation script uses = and_then (statements script uses script 0 [] first_machine) plan_of
+evaluation script uses = and_then (ran script uses) plan_of
+
+-- the plan behind the statements, with the calls of its sources
+abbrev pub sources_of : Machine → Result (Plan × List ℕ) Ending
+sources_of m = and_then (plan_of m) (λ plan. Ok (plan, m.calls))
+
+-- the plan of a script, and for each of its sources the token of the call that made it: of calls that run within each
+-- other, the outermost; or its first fault
+abbrev pub sources : Script → List Use → Result (Plan × List ℕ) Ending
+sources script uses = and_then (ran script uses) sources_of
 
 -- want of memory is free, and any other fault is the defined one
 abbrev pub Ends : {Y : Type 0} → EvalFault → Result Y Ending → Type 0

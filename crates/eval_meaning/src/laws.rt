@@ -1,8 +1,8 @@
 // What follows from the meaning of a script. A caller that needs a law calls its function, which does nothing.
-ghost use Rattle.std.specs.Prelude.{◌≡◌, List, Ok};
+ghost use Rattle.std.specs.Prelude.{◌≡◌, ℕ, List, Ok, length};
 ghost use Rattle.eval_meaning.specs.BuiltinSafety.{BuiltinsAreSafe};
 ghost use Rattle.eval_meaning.specs.Safety.{IsNotStuck};
-ghost use Rattle.eval_meaning.specs.Scripts.{evaluation};
+ghost use Rattle.eval_meaning.specs.Scripts.{evaluation, sources};
 ghost use Rattle.plan_core.specs.declared.plan.Plan.{Plan};
 ghost use Rattle.plan_core.specs.Plans.{IsWellFormed};
 ghost use Rattle.script_grammar.specs.Placed.{IsPlaced};
@@ -16,10 +16,12 @@ pub fn builtins_are_safe()
     ensures safe { BuiltinsAreSafe }
 {}
 
-/// The plan of a script is well formed.
+/// The plan of a script is well formed, and each of its sources has a call that made it.
 pub fn plans_are_well_formed()
     ensures made { (script : Script) (uses : List Use) (plan : Plan) → evaluation script uses ≡ Ok plan
         → IsWellFormed plan }
+    ensures calls { (script : Script) (uses : List Use) (plan : Plan) (calls : List ℕ)
+        → sources script uses ≡ Ok (plan, calls) → length calls ≡ length plan.nodes }
 {}
 
 /// The evaluation of a typed script meets no value of a wrong type: it ends with a plan or with a fault that is told.
@@ -28,10 +30,13 @@ pub fn typed_scripts_are_not_stuck()
         → IsNotStuck (evaluation script uses) }
 {}
 
-/// Whichever of the uses that typing allows a script it is given, evaluation ends with the same plan or the same fault.
+/// Whichever of the uses that typing allows a script it is given, evaluation ends with the same plan or the same fault,
+/// and the same calls make its sources.
 pub fn one_plan()
     ensures one { (script : Script) (uses others : List Use) → IsPlaced 0 script → IsTyped script uses
         → IsTyped script others → evaluation script uses ≡ evaluation script others }
+    ensures sources { (script : Script) (uses others : List Use) → IsPlaced 0 script → IsTyped script uses
+        → IsTyped script others → sources script uses ≡ sources script others }
 {
     script_grammar::laws::ats_are_within();
 }

@@ -3,9 +3,13 @@ use Rattle.std.proofs.Common.{◌≡◌, ℕ, ◌+◌, ◌<◌, ◌≤◌, Bool,
 use Rattle.std.specs.Prelude.{map, is_err}
 use Rattle.script_grammar.specs.Tree.{Sort, Tree, Many, none}
 use Rattle.script_grammar.specs.View.{listed, view_compare, view_full, view_if, view_sum}
+use Rattle.typing_rules.specs.declared.uses.Use.{Use}
+use Rattle.typing_rules.specs.Kinds.{kinds_of}
 use Rattle.script_values.specs.Gives.{Fails, Gives}
+use Rattle.script_values.specs.Machines.{noted_by}
 use Rattle.script_values.specs.Numbers.{truth_of}
-use Rattle.script_values.specs.Outcomes.{◌>>=◌, Outcome}
+use Rattle.script_values.specs.Outcomes.{◌>>=◌, Outcome, noted}
+use Rattle.script_values.specs.Slots.{Argument}
 use Rattle.script_values.specs.Values.{Value}
 use Rattle.script_values.specs.View.{view_value}
 use Rattle.script_values.specs.declared.fault.Stop.{Stop}
@@ -17,8 +21,8 @@ use Rattle.script_grammar.specs.declared.tree.Full.{Full}
 use Rattle.script_grammar.specs.declared.tree.If.{If}
 use Rattle.eval_meaning.specs.Meaning as meaning
 use Rattle.eval_meaning.specs.Meaning.{Surroundings, operator_applied}
-use Rattle.expression_eval.specs.Places.{Place, Failed, Goes, Joins, GoesBehind, Tells}
-use Rattle.expression_eval.specs.Steps.{after_count, operation}
+use Rattle.expression_eval.specs.Places.{Place, Failed, Goes, Joins, GoesBehind, Notes, Tells}
+use Rattle.expression_eval.specs.Steps.{after_count, noted_value, operation}
 use Rattle.expression_eval.specs.declared.steps.Operator.{Operator}
 use Rattle.expression_eval.proofs.Loops.{Steps, ends, fails_on, fails_same, stops, turn}
 use Rattle.expression_eval.proofs.Productions.{alone_means, choice_means, chosen, compared_means, first_fails, with_last}
@@ -62,6 +66,23 @@ joins_goes o (Err e) now right m n q gives joins = joins
 joins_goes o (Ok v) now (Err e) m n q fault same =
     subst (λ (p : Place). Gives (λ w. (view_value w, n)) p (operator_applied (operation o) (view_value v) q)) (sym same) (fails_on e q (λ x. after_count (operation o (view_value v) x.0) x.1) fault)
 joins_goes o (Ok v) now (Ok w) m n q is gives = subst (λ (r : Outcome). Gives (λ u. (view_value u, n)) now (operator_applied (operation o) (view_value v) r)) (sym is) gives
+
+-- a call with its sources noted
+pub notes_gives : (at before : ℕ) (old now : Place) (a m n : Machine) (meant : Outcome) → before ≡ length a.plan.nodes → Gives (λ v. (view_value v, m)) old meant → Notes at before old m now n → Gives (λ v. (view_value v, n)) now (noted at a meant)
+notes_gives at before (Ok v) now a m n meant same is notes =
+    subst (λ (o : Outcome). Gives (λ w. (view_value w, n)) now (noted at a o)) (sym is)
+    (subst (λ (k : ℕ). Gives (λ w. (view_value w, n)) now (noted_value at k (view_value v) m)) same notes)
+notes_gives at before (Err e) now a m n meant same fault is =
+    subst (λ (p : Place). Gives (λ w. (view_value w, n)) p (noted at a meant)) (sym is) (fails_on e meant (λ x. Ok (x.0, noted_by at (length a.plan.nodes) x.1)) fault)
+
+applied_means : (s : Surroundings) (o : Option Use) (u : Use) (at : ℕ) (given : List Argument) (m : Machine) → o ≡ Some u → meaning.applied s o at given m ≡ noted at m (meaning.applied_to s u.target at (kinds_of s.kinds u.kinds) given m)
+unfolding meaning.applied
+applied_means s o u at given m is = ap (λ (x : Option Use). meaning.applied s x at given m) is
+
+pub applied_gives : (s : Surroundings) (o : Option Use) (u : Use) (at before : ℕ) (given : List Argument) (old now : Place) (a m n : Machine) → o ≡ Some u → before ≡ length a.plan.nodes
+    → Gives (λ v. (view_value v, m)) old (meaning.applied_to s u.target at (kinds_of s.kinds u.kinds) given a) → Notes at before old m now n → Gives (λ v. (view_value v, n)) now (meaning.applied s o at given a)
+applied_gives s o u at before given old now a m n is same gives notes =
+    gives_same now n (meaning.applied s o at given a) _ (applied_means s o u at given a is) (notes_gives at before old now a m n (meaning.applied_to s u.target at (kinds_of s.kinds u.kinds) given a) same gives notes)
 
 pub goes_same : (old now : Place) (m : Machine) (f g : Value → Outcome) → ((v : Value) → f v ≡ g v) → Goes g old now m → Goes f old now m
 goes_same (Ok v) now m f g same goes = gives_same now m (f (view_value v)) (g (view_value v)) (same (view_value v)) goes

@@ -1,6 +1,6 @@
 -- The place that a function of the evaluator writes its result into: a value, or the fault that ended evaluation.
-use Rattle.std.specs.Prelude.{◌≡◌, Bool, true, false, List, [], ◌∷◌, ◌++◌, Option, Some, None, Result, Ok, Err}
-use Rattle.expression_eval.specs.Steps.{after_count, operation}
+use Rattle.std.specs.Prelude.{◌≡◌, ℕ, Bool, true, false, List, [], ◌∷◌, ◌++◌, Option, Some, None, Result, Ok, Err}
+use Rattle.expression_eval.specs.Steps.{after_count, noted_value, operation}
 use Rattle.expression_eval.specs.declared.steps.Operator.{Operator}
 use Rattle.script_values.specs.Gives.{Fails, Gives}
 use Rattle.script_values.specs.Numbers.{truth_of}
@@ -54,3 +54,8 @@ GoesBehind made (Ok v) true before after now = after ≡ before ++ made (view_va
 GoesBehind made (Ok v) false before after now = now ≡ Err fault.Memory
 GoesBehind made (Err e) true before after now = ⊥
 GoesBehind made (Err e) false before after now = now ≡ Err e
+
+-- what a call at this token made, with its sources noted; a fault stays
+abbrev pub Notes : (at before : ℕ) → Place → Machine → Place → Machine → Type 0
+Notes at before (Ok v) m now n = Gives (λ w. (view_value w, n)) now (noted_value at before (view_value v) m)
+Notes at before (Err e) m now n = now ≡ Err e

@@ -1,8 +1,8 @@
 -- What steps give that evaluate no expression.
-use Rattle.std.specs.Prelude.{Result, Ok}
+use Rattle.std.specs.Prelude.{ℕ, Result, Ok}
 use Rattle.expression_eval.specs.declared.steps.Operator.{Operator}
 use Rattle.expression_eval.specs.declared.steps.Operator.TheVariants as operator
-use Rattle.script_values.specs.Machines.{count_work}
+use Rattle.script_values.specs.Machines.{count_work, noted_by}
 use Rattle.script_values.specs.Numbers.{added, both, compared, either, multiplied}
 use Rattle.script_values.specs.Outcomes.{◌>>=◌, Outcome}
 use Rattle.script_values.specs.Values.{Value}
@@ -20,3 +20,7 @@ operation operator.And = both
 operation (operator.Sum minus at) = added minus at
 operation (operator.Product divide at) = multiplied divide at
 operation (operator.Comparison op) = compared op
+
+-- a value that a call at this token made, with its sources noted of this state, before which there were so many
+abbrev pub noted_value : (at before : ℕ) → Value → Machine → Outcome
+noted_value at before v m = Ok (v, noted_by at before m)

@@ -11,13 +11,13 @@ ghost use Rattle.script_values.specs.Views.{view_given};
 ghost use Rattle.script_values.specs.View.{view_value};
 
 use crate::bodies::body;
-use crate::steps::{kept_argument, put};
+use crate::steps::{kept_argument, noted, put};
 use crate::values::put_full;
 use builtin_calls::builtin;
 use eval_scope::{Scope, kinds_of};
 use liq_base::Kind;
 use script_grammar::tree::{Arg, Call};
-use script_values::{Given, Limit, Machine, Stop, Value};
+use script_values::{Given, Limit, Machine, Stop, Value, sources_made};
 use std::alloc::Global;
 use typing_rules::{Target, Use};
 
@@ -86,7 +86,7 @@ fn arguments(
     Some(given)
 }
 
-/// A call, at this token, of what the name there stands for.
+/// A call, at this token, of what the name there stands for. The sources that it makes are noted as its own.
 #[cycle(value)]
 #[inline(never)]
 #[tactic(auto, unfolding(eval_meaning::specs::Meaning::applied))]
@@ -105,14 +105,15 @@ fn applied(
 {
     match scope.uses.find(at) {
         None => put(out, Err(Stop::Stuck)),
-        Some(found) => put(
-            out,
-            applied_to(alloc, scope, left, machine, found, at, given),
-        ),
+        Some(found) => {
+            let before = sources_made(&machine.plan);
+            let made = applied_to(alloc, scope, left, machine, found, at, given);
+            put(out, noted(machine, at, before, made));
+        }
     }
 }
 
-/// The same of what a use says: a def or a builtin.
+/// The same of what a use says: a def or a builtin. No source is noted yet.
 #[cycle(value)]
 fn applied_to(
     alloc: Global,

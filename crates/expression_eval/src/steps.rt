@@ -2,8 +2,8 @@
 // here, and not in the descent.
 ghost use Rattle.std.specs.Prelude.{◌≡◌, [], ◌∷◌, ◌++◌, IfOk, Ok, map};
 ghost use Rattle.eval_meaning.specs.Meaning.{format};
-ghost use Rattle.expression_eval.specs.Places.{Goes, GoesOn, Joins, GoesBehind, Tells};
-ghost use Rattle.expression_eval.specs.Steps.{after_count, operation};
+ghost use Rattle.expression_eval.specs.Places.{Goes, GoesOn, Joins, GoesBehind, Notes, Tells};
+ghost use Rattle.expression_eval.specs.Steps.{after_count, noted_value, operation};
 ghost use Rattle.script_values.specs.Gives.{Gives};
 ghost use Rattle.script_values.specs.Machines.{count_work};
 ghost use Rattle.script_values.specs.Numbers.{negative, opposite};
@@ -16,7 +16,7 @@ use liq_base::{Memory, Text};
 use script_grammar::tree::{CompareOp, Literal};
 use script_values::{
     Given, Machine, Stop, Value, added, both, compared, copy_label, count, either, multiplied,
-    negative, opposite, truth_of,
+    negative, note, opposite, truth_of,
 };
 use std::alloc::Global;
 use std::mem;
@@ -120,6 +120,34 @@ pub fn step(machine: &mut Machine, out: &mut Result<Value, Stop>) -> bool
             false
         }
     }
+}
+
+/// What a call at this token made, with its sources noted, where there were so many sources before it.
+#[inline(never)]
+pub fn noted(
+    machine: &mut Machine,
+    at: u32,
+    before: usize,
+    made: Result<Value, Stop>,
+) -> Result<Value, Stop>
+    ensures { Notes at before made machine.old result machine.new }
+{
+    match made {
+        Err(fault) => Err(fault),
+        Ok(value) => noted_value(machine, at, before, value),
+    }
+}
+
+fn noted_value(
+    machine: &mut Machine,
+    at: u32,
+    before: usize,
+    value: Value,
+) -> Result<Value, Stop>
+    ensures { Gives (λ v. (view_value v, machine.new)) result (noted_value at before (view_value value) machine.old) }
+{
+    note(machine, at, before)?;
+    Ok(value)
 }
 
 /// Moves the value in the place behind the others. `false` where there is none, and then a fault is in the place.

@@ -1,8 +1,6 @@
-//! Evaluation: the plan of a typed script, or its first fault; and which statement makes a source.
+//! Evaluation: the plan of a typed script, or its first fault; and the calls that make its sources.
 #![tactic(auto)]
 
-mod makers;
 mod script;
 
-pub use makers::maker;
-pub use script::eval;
+pub use script::{Sources, eval, eval_with_calls};

@@ -1,8 +1,8 @@
-// The plan of a script: its statements in order, and the end of its settings.
-ghost use Rattle.std.specs.Prelude.{◌≡◌, ◌≢◌, ℕ, Option, Some, None, [], IfOk, map, unwrap_or};
+// The plan of a script and the calls of its sources: its statements in order, and the end of its settings.
+ghost use Rattle.std.specs.Prelude.{◌≡◌, ◌≢◌, ℕ, Option, Some, None, [], IfOk, length, map, unwrap_or};
 ghost use Rattle.std.specs.List.{list_any};
 ghost use Rattle.eval_meaning.specs.Meaning.{call, choice, full};
-ghost use Rattle.eval_meaning.specs.Scripts.{Answers, settings_ended, evaluation, settings_settled, statement, statements, tick_of, top_scope, turned};
+ghost use Rattle.eval_meaning.specs.Scripts.{Answers, settings_ended, evaluation, settings_settled, sources, statement, statements, tick_of, top_scope, turned};
 ghost use Rattle.eval_meaning.specs.Safety.{IsNotStuck};
 ghost use Rattle.plan_core.specs.Plans.{IsWellFormed, is_output};
 ghost use Rattle.script_grammar.specs.Placed.{IsPlaced};
@@ -20,7 +20,7 @@ use eval_scope::{Defs, Globals, Scope, Uses};
 use expression_eval::{call, choice, full, is_setting};
 use fixed_text::Decimal;
 use liq_base::limits::{MAX_CALLS, MAX_FRAME};
-use plan_core::{Plan, SinkPlan};
+use plan_core::{Items, Plan, SinkPlan};
 use script_grammar::tree::{Bind, Call, Full, If, Script, Stmt, StmtPart};
 use script_values::{EvalFault, Machine, Slot, Stop, Value, fault_in};
 use std::alloc::Global;
@@ -29,22 +29,46 @@ use typing_rules::Use;
 // How deep evaluation may nest: 200 levels of each of 17 bodies, and more.
 const LEVELS: usize = 4096;
 
+/// The plan of a script, and for each of its sources the token of the call that made it.
+#[derive(Debug, Drop)]
+pub struct Sources {
+    pub plan: Plan,
+    pub calls: Items<u32>,
+}
+
 /// The plan of a typed script whose names stand for what `uses` says, or its first fault. Want of memory may come at
 /// any place; it is also the answer where a script nests deeper than any that parsing answers.
-#[tactic(auto, using(crate::proofs::Answered::made_well, crate::proofs::Answered::is_not_stuck))]
 pub fn eval(alloc: Global, script: &Script, uses: &[Use]) -> Result<Plan, EvalFault>
     requires placed { IsPlaced 0 (view_script script.now) }
     requires typed { IsTypedScript (view_script script.now) uses.now }
     ensures exact { Answers (λ p. p) result (evaluation (view_script script.now) uses.now) }
     ensures well_formed { IfOk result (λ p. IsWellFormed p) }
 {
+    let made = eval_with_calls(alloc, script, uses)?;
+    Ok(made.plan)
+}
+
+/// The same with the calls of the plan's sources.
+#[tactic(auto, using(crate::proofs::Answered::is_not_stuck))]
+pub fn eval_with_calls(
+    alloc: Global,
+    script: &Script,
+    uses: &[Use],
+) -> Result<Sources, EvalFault>
+    requires placed { IsPlaced 0 (view_script script.now) }
+    requires typed { IsTypedScript (view_script script.now) uses.now }
+    ensures exact { Answers (λ s. (s.plan, s.calls)) result (sources (view_script script.now) uses.now) }
+    ensures plan { Answers (λ s. s.plan) result (evaluation (view_script script.now) uses.now) }
+    ensures well_formed { IfOk result (λ s. IsWellFormed s.plan) }
+    ensures each { IfOk result (λ s. length s.calls ≡ length s.plan.nodes) }
+{
     answered(alloc, script, uses)
 }
 
-// The tables of a script and of its uses, and the plan by them.
-fn answered(alloc: Global, script: &Script, uses: &[Use]) -> Result<Plan, EvalFault>
+// The tables of a script and of its uses, and what evaluation makes by them.
+fn answered(alloc: Global, script: &Script, uses: &[Use]) -> Result<Sources, EvalFault>
     requires { IsNotStuck (evaluation (view_script script.now) uses.now) }
-    ensures { Answers (λ p. p) result (evaluation (view_script script.now) uses.now) }
+    ensures { Answers (λ s. (s.plan, s.calls)) result (sources (view_script script.now) uses.now) }
 {
     let Ok(defs) = Defs::new(alloc, script) else {
         return Err(EvalFault::Memory);
@@ -56,14 +80,17 @@ fn answered(alloc: Global, script: &Script, uses: &[Use]) -> Result<Plan, EvalFa
 }
 
 #[tactic(auto, using(crate::proofs::Statements::first_not_stuck))]
-fn planned(alloc: Global, defs: &Defs<'_>, uses: &Uses<'_>) -> Result<Plan, EvalFault>
+fn planned(alloc: Global, defs: &Defs<'_>, uses: &Uses<'_>) -> Result<Sources, EvalFault>
     requires { IsNotStuck (evaluation (view_script defs.now.script.now) uses.now.all.now) }
-    ensures { Answers (λ p. p) result (evaluation (view_script defs.now.script.now) uses.now.all.now) }
+    ensures { Answers (λ s. (s.plan, s.calls)) result (sources (view_script defs.now.script.now) uses.now.all.now) }
 {
     let mut machine = Machine::new(alloc);
     run(alloc, defs, uses, &defs.script.statements, &mut machine)?;
     if has_output(machine.plan.plan().sinks.as_slice()) {
-        Ok(machine.plan.into_plan())
+        Ok(Sources {
+            plan: machine.plan.into_plan(),
+            calls: machine.calls,
+        })
     } else {
         Err(EvalFault::NoOutput)
     }
@@ -102,7 +129,7 @@ fn run(
 
 // A statement, with the end of the settings before it.
 #[tactic(auto, unfolding(eval_meaning::specs::Scripts::turned), using(crate::proofs::Statements::fault_is_told))]
-pub(crate) fn turn(
+fn turn(
     alloc: Global,
     defs: &Defs<'_>,
     uses: &Uses<'_>,

@@ -1,3 +1,2 @@
-mod MadeBy
 pub mod Lexical
 pub mod OneAnswer

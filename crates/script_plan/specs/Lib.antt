@@ -1,3 +1,3 @@
-pub mod Makers
 pub mod Plans
+pub mod Sources
 pub mod Stages

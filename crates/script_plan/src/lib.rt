@@ -1,11 +1,11 @@
-//! From the bytes of a script to its plan, or to its first fault; and to the statement that makes a source.
+//! From the bytes of a script to its plan, or to its first fault; and to the calls that make the plan's sources.
 #![tactic(auto)]
 
 mod fault;
 pub mod laws;
-mod makers;
 mod plan;
+mod sources;
 
 pub use fault::ScriptFault;
-pub use makers::maker_of;
 pub use plan::plan_of;
+pub use sources::sources_of;

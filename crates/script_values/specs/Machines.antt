@@ -1,5 +1,5 @@
--- The state of evaluation: the first one, and what counting work makes of one.
-use Rattle.std.specs.Prelude.{ℕ, ◌+◌, pos, T, true, false, [], nat_le, Result, Ok, Err}
+-- The state of evaluation: the first one, and what counting work and noting calls make of one.
+use Rattle.std.specs.Prelude.{ℕ, ◌+◌, ◌-◌, pos, T, true, false, List, [], ◌++◌, length, take, replicate, nat_le, Result, Ok, Err}
 use Rattle.liq_base.specs.declared.limits.TheConstants.{MAX_WORK}
 use Rattle.fixed_text.specs.declared.decimal.Decimal.{Decimal}
 use Rattle.script_values.specs.declared.machine.Machine.{Machine}
@@ -16,6 +16,7 @@ first_machine = record {
   plan = record { rate = 44100; frame = 1764; nodes = []; sinks = []; buffers = [] };
   work = 0;
   settings = record { duration = some_millionths 40000 tt; last = 0; statement = 0; allowed = true };
+  calls = [];
 }
 
 -- adds the cost of a step; past the bound there is too much work
@@ -25,3 +26,11 @@ count_work steps m =
       | true ↦ Ok (record m { work = m.work + steps })
       | false ↦ Err TooMuchWork
     ]
+
+-- the calls of the first sources, and this one for each source behind them, of so many
+abbrev pub filled : (at : ℕ) → (sources : ℕ) → List ℕ → List ℕ
+filled at sources calls = calls ++ replicate (sources - length calls) at
+
+-- the state behind a call at this token, before which there were so many sources: those that it made are its own
+abbrev pub noted_by : (at before : ℕ) → Machine → Machine
+noted_by at before m = record m { calls = filled at (length m.plan.nodes) (take before m.calls) }

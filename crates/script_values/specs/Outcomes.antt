@@ -1,7 +1,8 @@
 -- What a step of evaluation comes to, and the steps behind it.
-use Rattle.std.specs.Prelude.{Result, Ok, Err}
+use Rattle.std.specs.Prelude.{ℕ, length, Result, Ok, Err}
 use Rattle.script_values.specs.declared.fault.Stop.{Stop}
 use Rattle.script_values.specs.declared.machine.Machine.{Machine}
+use Rattle.script_values.specs.Machines.{noted_by}
 use Rattle.script_values.specs.Values.{Value}
 
 -- the first fault ends the steps
@@ -13,3 +14,7 @@ abbrev pub ◌>>=◌ : {A B : Type 0} → Result A Stop → (A → Result B Stop
 -- a value, and the state behind it
 abbrev pub Outcome : Type 0
 Outcome = Result (Value × Machine) Stop
+
+-- what a call at this token makes of this state: the sources that it made are its own
+abbrev pub noted : ℕ → Machine → Outcome → Outcome
+noted at m made = made >>= λ x. Ok (x.0, noted_by at (length m.plan.nodes) x.1)

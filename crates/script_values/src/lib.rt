@@ -8,7 +8,7 @@ mod slots;
 mod value;
 
 pub use fault::{EvalFault, Limit, Stop, fault_in};
-pub use machine::{Machine, Settings, count, count_value};
+pub use machine::{Machine, Settings, count, count_value, note, sources_made};
 pub use numbers::{
     added, both, compared, either, literal, multiplied, negative, opposite, truth_of,
 };

@@ -1,18 +1,19 @@
-// What evaluation changes: the plan so far, the work, and the settings.
-ghost use Rattle.std.specs.Prelude.{◌≡◌};
+// What evaluation changes: the plan so far, the work, the settings, and the calls of its sources.
+ghost use Rattle.std.specs.Prelude.{◌≡◌, OnOk, length};
 ghost use Rattle.script_values.specs.Gives.{Gives};
-ghost use Rattle.script_values.specs.Machines.{count_work, first_machine};
+ghost use Rattle.script_values.specs.Machines.{count_work, filled, first_machine, noted_by};
 ghost use Rattle.script_values.specs.Values.{size};
 ghost use Rattle.script_values.specs.View.{view_value};
 
 use crate::value::size;
 use crate::{Stop, Value};
 use fixed_text::Decimal;
+use liq_base::Memory;
 use liq_base::limits::MAX_WORK;
-use plan_core::Draft;
+use plan_core::{Draft, Items};
 use std::alloc::Global;
 
-/// The plan so far, the work that was done, and the settings so far.
+/// The plan so far, the work that was done, the settings so far, and the calls of the sources.
 #[derive(Drop)]
 pub struct Machine {
     pub plan: Draft,
@@ -20,6 +21,9 @@ pub struct Machine {
     /// What was evaluated so far, at most 999999.
     pub work: u64,
     pub settings: Settings,
+
+    /// For each source, the token of the call that made it: of calls that run within each other, the outermost.
+    pub calls: Items<u32>,
 }
 
 /// The settings so far; the rate stands in the plan.
@@ -53,6 +57,7 @@ impl Machine {
                 statement: 0,
                 allowed: true,
             },
+            calls: Items::new(alloc),
         }
     }
 }
@@ -74,4 +79,31 @@ pub fn count_value(machine: &mut Machine, value: &Value) -> Result<(), Stop>
     ensures { Gives (λ _. machine.new) result (count_work (size (view_value value.now)) machine.old) }
 {
     count(machine, size(value))
+}
+
+/// How many sources were made so far.
+pub fn sources_made(plan: &Draft) -> usize
+    ensures { result ≡ length plan.now.nodes }
+{
+    plan.plan().nodes.len()
+}
+
+/// Notes a call at this token, before which there were so many sources: those that it made are its own. Where memory is
+/// refused, some of them may be noted.
+pub fn note(machine: &mut Machine, at: u32, before: usize) -> Result<(), Memory>
+    ensures { OnOk result (machine.new ≡ noted_by at before machine.old) }
+{
+    let sources = sources_made(&machine.plan);
+    machine.calls.truncate(before);
+    fill(&mut machine.calls, at, sources)
+}
+
+// Adds this call until there are so many.
+fn fill(calls: &mut Items<u32>, at: u32, sources: usize) -> Result<(), Memory>
+    ensures { OnOk result (calls.new ≡ filled at sources calls.old) }
+{
+    'turns: while calls.len() < sources {
+        calls.push(at)?;
+    }
+    Ok(())
 }

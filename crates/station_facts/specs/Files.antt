@@ -135,18 +135,18 @@ limit_members rules = number_member (codes "most") rules.all ++ (number_member (
     ++ (number_member (codes "list_most") MAX_LIST_BYTES ++ number_member (codes "script_most") MAX_SCRIPT_BYTES))
 
 -- the whole object
-abbrev pub files_object : Rules → Plan → Inferred → List ListLook → List Look → List Token
-files_object rules plan inferred list_looks looks = object (plan_members plan inferred
+abbrev pub files_object : Rules → Plan → (ats : List ℕ) → Inferred → List ListLook → List Look → List Token
+files_object rules plan ats inferred list_looks looks = object (plan_members plan ats inferred
     ++ (paired_member (codes "lists") list_object (lists_of plan) list_looks
     ++ (paired_member (codes "sounds") (sound_object rules) (sounds_of plan list_looks) looks
     ++ (number_member (codes "bytes") (all_bytes rules looks) ++ limit_members rules))))
 
--- what is told of a plan over a shelf: as each list and each audio file was found
-pub record IsTold (rules : Rules) (plan : Plan) (old new : ShelfTold) (told : List ℕ) : Type 0 where
+-- what is told of a plan, whose sources are made at these bytes, over a shelf: as each list and each audio file was found
+pub record IsTold (rules : Rules) (plan : Plan) (ats : List ℕ) (old new : ShelfTold) (told : List ℕ) : Type 0 where
   pub inferred : Inferred
   pub is_inferred : IsInferred plan inferred
   pub list_looks : List ListLook
   pub lists : AreListLooks (lists_of plan) old new list_looks
   pub looks : List Look
   pub sounds : AreLooks rules (sounds_of plan list_looks) old new looks
-  pub text : told ≡ print (files_object rules plan inferred list_looks looks)
+  pub text : told ≡ print (files_object rules plan ats inferred list_looks looks)

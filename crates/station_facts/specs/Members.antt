@@ -38,6 +38,17 @@ paired text (x ∷ xs) (y ∷ ys) = text x y ++ paired text xs ys
 abbrev pub paired_member : {A B : Type 0} → (name : List ℕ) → (A → B → List Token) → List A → List B → List Token
 paired_member name text xs ys = key name ∷ begin_array ∷ (paired text xs ys ++ end_array ∷ [])
 
+-- of each three items at one place of three lists
+abbrev pub by_threes : {A B C : Type 0} → (A → B → C → List Token) → List A → List B → List C → List Token
+by_threes text [] ys zs = []
+by_threes text (x ∷ xs) [] zs = []
+by_threes text (x ∷ xs) (y ∷ ys) [] = []
+by_threes text (x ∷ xs) (y ∷ ys) (z ∷ zs) = text x y z ++ by_threes text xs ys zs
+
+abbrev pub member_by_threes : {A B C : Type 0} → (name : List ℕ) → (A → B → C → List Token) → List A → List B → List C
+    → List Token
+member_by_threes name text xs ys zs = key name ∷ begin_array ∷ (by_threes text xs ys zs ++ end_array ∷ [])
+
 -- an object of these members
 abbrev pub object : List Token → List Token
 object members = begin_object ∷ (members ++ end_object ∷ [])

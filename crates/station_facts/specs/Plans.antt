@@ -16,7 +16,7 @@ use Rattle.plan_core.specs.declared.sink.SinkPlan.TheVariants.{Output, Feed}
 use Rattle.station_facts.specs.declared.inferred.Inferred.{Inferred}
 use Rattle.week_windows.specs.Windows.{case_windows}
 use Rattle.week_windows.specs.declared.windows.Windows.{Windows}
-use Rattle.station_facts.specs.Members.{bits_of, flag_member, kind_member, list_member, number_member, object, paired_member, text_member}
+use Rattle.station_facts.specs.Members.{bits_of, flag_member, kind_member, list_member, member_by_threes, number_member, object, text_member}
 
 -- the clocks of a plan, or why it has none
 abbrev pub AreClocks : Plan → Result ClockMap ClockFault → Type 0
@@ -92,14 +92,15 @@ op_members (op.Crossfade overlap) = text_member (codes "op") (codes "crossfade")
 op_members (op.Buffer buffer) = text_member (codes "op") (codes "buffer")
 op_members (op.Clock id) = text_member (codes "op") (codes "clock")
 
--- a source: its operator, its channels, the numbers of its children, and whether it is never silent
-abbrev pub source_object : Node → (always : Bool) → List Token
-source_object node always = object (op_members node.op ++ (kind_member node.kind
+-- a source: its operator, its channels, the numbers of its children, whether it is never silent, and the byte of the
+-- script at which the call that made it begins
+abbrev pub source_object : Node → (always : Bool) → (at : ℕ) → List Token
+source_object node always at = object (op_members node.op ++ (kind_member node.kind
     ++ (list_member (codes "children") (λ child. number (decimal child) ∷ []) node.children
-    ++ flag_member (codes "always") always)))
+    ++ (flag_member (codes "always") always ++ number_member (codes "at") at))))
 
--- the members of a plan
-abbrev pub plan_members : Plan → Inferred → List Token
-plan_members plan inferred = number_member (codes "rate") plan.rate ++ (number_member (codes "tick") plan.frame
+-- the members of a plan, whose sources are made at these bytes
+abbrev pub plan_members : Plan → (ats : List ℕ) → Inferred → List Token
+plan_members plan ats inferred = number_member (codes "rate") plan.rate ++ (number_member (codes "tick") plan.frame
     ++ (list_member (codes "outputs") (output_object plan inferred) plan.sinks
-    ++ paired_member (codes "sources") source_object plan.nodes inferred.marks.items))
+    ++ member_by_threes (codes "sources") source_object plan.nodes inferred.marks.items ats))

@@ -20,18 +20,19 @@ use sound_looks::{ListLook, Look};
 use std::alloc::Global;
 use track_library::{Rules, Sizes};
 
-/// What a plan is, and what becomes of each file that it plays, as one object of JSON. Each list and each audio file is
-/// read once, and of the audio files one is held at a time.
+/// What a plan is, whose sources are made at these bytes, and what becomes of each file that it plays, as one object of
+/// JSON. Each list and each audio file is read once, and of the audio files one is held at a time.
 pub fn tell_files<S: Shelf>(
     alloc: Global,
     plan: &Plan,
+    ats: &[usize],
     shelf: &mut S,
     sizes: Sizes,
 ) -> Result<Vec<u8>, Memory>
     requires plan { IsWellFormed plan.now }
     requires rules { AreRules (rules_for plan.now sizes) }
     ensures told { IfOk result
-        (λ told. IsTold (rules_for plan.now sizes) plan.now (S.told shelf.old) (S.told shelf.new) told.items) }
+        (λ told. IsTold (rules_for plan.now sizes) plan.now ats.now (S.told shelf.old) (S.told shelf.new) told.items) }
     ensures shelf { OnlyRead (S.told shelf.old) (S.told shelf.new) }
 {
     let rules = Rules {
@@ -49,6 +50,7 @@ pub fn tell_files<S: Shelf>(
         alloc,
         &mut out,
         plan,
+        ats,
         &inferred,
         lists.as_slice(),
         &list_looks,
@@ -64,6 +66,7 @@ fn push_all(
     alloc: Global,
     out: &mut Out,
     plan: &Plan,
+    ats: &[usize],
     inferred: &Inferred,
     lists: &[Text],
     list_looks: &[ListLook],
@@ -73,10 +76,10 @@ fn push_all(
 ) -> Result<(), Memory>
     requires lists { lists.now ≡ lists_of plan.now }
     requires sounds { sounds.now ≡ sounds_of plan.now list_looks.now }
-    ensures { OnOk result (Adds out.old out.new (files_object rules plan.now inferred.now list_looks.now looks.now)) }
+    ensures { OnOk result (Adds out.old out.new (files_object rules plan.now ats.now inferred.now list_looks.now looks.now)) }
 {
     begin(out)?;
-    push_plan(alloc, out, plan, inferred)?;
+    push_plan(alloc, out, plan, ats, inferred)?;
     push_lists(out, lists, list_looks)?;
     push_sounds(out, sounds, looks, rules)?;
     push_number(out, "bytes", all_bytes(looks, rules)?)?;

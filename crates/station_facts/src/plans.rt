@@ -1,7 +1,7 @@
 // What is told of a plan.
 ghost use Rattle.std.specs.Prelude.{◌≡◌, ◌++◌, ◌∷◌, [], OnOk, Some, codes, decimal, if◌then◌else◌, map, nat_eq, slice_get};
 ghost use Rattle.json.specs.Token.{number};
-ghost use Rattle.station_facts.specs.Members.{Adds, each, flag_member, list_member, number_member, paired, paired_member, text_member};
+ghost use Rattle.station_facts.specs.Members.{Adds, by_threes, each, flag_member, list_member, member_by_threes, number_member, text_member};
 ghost use Rattle.station_facts.specs.Plans.{clock_members, length_members, main_members, name_members, op_members, output_object, plan_members, side_members, source_object, windows_object};
 ghost use Rattle.time_pred.specs.View.{view_shared};
 ghost use Rattle.week_windows.specs.Windows.{case_windows};
@@ -18,19 +18,20 @@ use std::alloc::Global;
 use time_pred::SharedPred;
 use week_windows::{Windows, windows_of};
 
-/// Writes the members of a plan.
+/// Writes the members of a plan, whose sources are made at these bytes.
 pub fn push_plan(
     alloc: Global,
     out: &mut Out,
     plan: &Plan,
+    ats: &[usize],
     inferred: &Inferred,
 ) -> Result<(), Memory>
-    ensures { OnOk result (Adds out.old out.new (plan_members plan.now inferred.now)) }
+    ensures { OnOk result (Adds out.old out.new (plan_members plan.now ats.now inferred.now)) }
 {
     push_number(out, "rate", u64::from(plan.rate))?;
     push_number(out, "tick", u64::from(plan.frame))?;
     push_outputs(out, plan, inferred)?;
-    push_sources(alloc, out, plan.nodes.as_slice(), &inferred.marks)
+    push_sources(alloc, out, plan.nodes.as_slice(), &inferred.marks, ats)
 }
 
 fn push_outputs(out: &mut Out, plan: &Plan, inferred: &Inferred) -> Result<(), Memory>
@@ -126,12 +127,18 @@ fn push_clock_name(out: &mut Out, names: &[Text], number: u32) -> Result<(), Mem
     }
 }
 
-fn push_sources(alloc: Global, out: &mut Out, nodes: &[Node], marks: &[bool]) -> Result<(), Memory>
-    ensures { OnOk result
-        (Adds out.old out.new (paired_member (codes "sources") source_object nodes.now marks.now)) }
+fn push_sources(
+    alloc: Global,
+    out: &mut Out,
+    nodes: &[Node],
+    marks: &[bool],
+    ats: &[usize],
+) -> Result<(), Memory>
+    ensures { OnOk result (Adds out.old out.new
+        (member_by_threes (codes "sources") source_object nodes.now marks.now ats.now)) }
 {
     begin_list(out, "sources")?;
-    push_each_source(alloc, out, nodes, marks)?;
+    push_each_source(alloc, out, nodes, marks, ats)?;
     end_list(out)
 }
 
@@ -140,26 +147,37 @@ fn push_each_source(
     out: &mut Out,
     nodes: &[Node],
     marks: &[bool],
+    ats: &[usize],
 ) -> Result<(), Memory>
-    ensures { OnOk result (Adds out.old out.new (paired source_object nodes.now marks.now)) }
+    ensures { OnOk result (Adds out.old out.new (by_threes source_object nodes.now marks.now ats.now)) }
 {
     for (k, node) in nodes.iter().enumerate() {
-        match marks.get(k) {
-            Some(always) => push_source(alloc, out, node, *always)?,
-            None => return Ok(()),
-        }
+        let Some(always) = marks.get(k) else {
+            return Ok(());
+        };
+        let Some(at) = ats.get(k) else {
+            return Ok(());
+        };
+        push_source(alloc, out, node, *always, *at)?;
     }
     Ok(())
 }
 
-fn push_source(alloc: Global, out: &mut Out, node: &Node, always: bool) -> Result<(), Memory>
-    ensures { OnOk result (Adds out.old out.new (source_object node.now always)) }
+fn push_source(
+    alloc: Global,
+    out: &mut Out,
+    node: &Node,
+    always: bool,
+    at: usize,
+) -> Result<(), Memory>
+    ensures { OnOk result (Adds out.old out.new (source_object node.now always at)) }
 {
     begin(out)?;
     push_op(alloc, out, &node.op)?;
     push_kind(out, node.kind)?;
     push_children(out, node.children.as_slice())?;
     push_flag(out, "always", always)?;
+    push_number(out, "at", at as u64)?;
     end(out)
 }
 

@@ -2,5 +2,5 @@ pub mod Walks
 pub mod Faults
 pub mod Beginnings
 pub mod Causing
-pub mod Making
+pub mod Sourcing
 mod Passed

@@ -13,16 +13,11 @@ use Rattle.script_places.specs.declared.named.Named.{Named}
 use Rattle.script_places.specs.declared.named.Named.TheVariants.{Byte, Token as NamedToken, Statement, Source, Clash, Text, Fallible}
 use Rattle.where_lines.specs.Calls.{part}
 use Rattle.where_lines.specs.Causes.{IsCauseAt}
-use Rattle.where_lines.specs.Clashes.{Clashes}
 use Rattle.where_lines.specs.Nowhere.{HasNoOutput, HasNoStatement, HasNoText, HasNoTokens}
-use Rattle.where_lines.specs.Sources.{IsInStatement, IsSourceAt}
+use Rattle.where_lines.specs.Sources.{IsSourceAt}
+use Rattle.where_lines.specs.Statements.{IsInStatement}
 use Rattle.where_lines.specs.Texts.{IsTextAt}
-
--- the text has these tokens, and token k begins at this byte
-pub record IsTokenAt (text : List ℕ) (k at : ℕ) : Type 0 where
-  pub tokens : List Token
-  pub are_tokens : AreTokens text tokens
-  pub begins : at ≡ start (length text) tokens k
+use Rattle.where_lines.specs.Tokens.{IsTokenAt}
 
 -- the text has these tokens, which spell this script, and the first token of its statement begins at this byte
 pub record IsStatementAt (text : List ℕ) (number at : ℕ) : Type 0 where
@@ -46,7 +41,7 @@ Begins line text (Byte n) at = at ≡ n
 Begins line text (NamedToken k) at = IsTokenAt text k at
 Begins line text (Statement number) at = IsStatementAt text number at
 Begins line text (Source k) at = IsSourceAt text k at
-Begins line text (Clash number) at = IsInStatement Clashes text number at
+Begins line text (Clash number) at = IsInStatement text number at
 Begins line text (Text from to) at = IsTextAt text (part line from to) at
 Begins line text (Fallible from to) at = IsCauseAt text (part line from to) at
 

@@ -5,6 +5,7 @@ use Rattle.script_lex.specs.declared.token.Symbol.TheVariants.{OpenRound, OpenSq
 use Rattle.script_lex.specs.declared.token.Token.{Token}
 use Rattle.script_lex.specs.declared.token.TokenKind.{TokenKind}
 use Rattle.script_lex.specs.declared.token.TokenKind.TheVariants as kind
+use Rattle.where_lines.specs.Clashes.{Clashes}
 use Rattle.where_lines.specs.declared.calls.Bracket.{Bracket}
 use Rattle.where_lines.specs.declared.calls.Bracket.TheVariants as bracket
 use Rattle.where_lines.specs.declared.calls.Role.{Role}
@@ -71,14 +72,14 @@ calls_from text s (token ∷ tokens) = calls_from text (behind text s token) tok
 abbrev pub calls_of : List ℕ → List Token → Closed
 calls_of text tokens = calls_from text (record { texts = []; brackets = [] }) tokens
 
--- A call of these tokens tells what is wanted: behind a front and the calls that are closed before it the answer is no,
--- and it is yes where this call takes the place of those of them that are its arguments. It begins at this byte.
-pub record IsCaller (Tells : List ℕ → Bool → Type 0) (text front : List ℕ) (tokens : List Token) (at : ℕ) : Type 0 where
+-- Types clash with a call of these tokens: behind a front and the calls that are closed before it they do not, and they
+-- do where this call takes the place of those of them that are its arguments. It begins at this byte.
+pub record IsCaller (text front : List ℕ) (tokens : List Token) (at : ℕ) : Type 0 where
   -- the call's last token
   pub number : ℕ
   pub last : Token
   pub last_is : slice_get tokens number ≡ Some last
   pub others : ℕ
   pub is_open : newest (calls_of text (take number tokens)).brackets ≡ Some (bracket.Call at others)
-  pub before : Tells (front ++ (calls_of text (take number tokens)).texts) false
-  pub with_it : Tells (front ++ (take others (calls_of text (take number tokens)).texts ++ part text at last.end)) true
+  pub before : Clashes (front ++ (calls_of text (take number tokens)).texts) false
+  pub with_it : Clashes (front ++ (take others (calls_of text (take number tokens)).texts ++ part text at last.end)) true

@@ -1,10 +1,11 @@
 -- What the search for a call finds on its way; these are for the functions of `src/calls.rt` alone.
-use Rattle.std.specs.Prelude.{◌≡◌, ℕ, Bool, true, false, List, ◌++◌, take, Some, slice_get}
+use Rattle.std.specs.Prelude.{◌≡◌, ℕ, true, false, List, ◌++◌, take, Some, slice_get}
 use Rattle.script_lex.specs.declared.token.Token.{Token}
 use Rattle.where_lines.specs.declared.calls.Bracket.{Bracket}
 use Rattle.where_lines.specs.declared.calls.Bracket.TheVariants as bracket
 use Rattle.where_lines.specs.declared.calls.Found.{Found}
 use Rattle.where_lines.specs.Calls.{calls_of, newest, part}
+use Rattle.where_lines.specs.Clashes.{Clashes}
 
 -- the calls that are closed among some tokens
 abbrev pub AreCalls : List ℕ → List Token → List ℕ → List Bracket → Type 0
@@ -19,8 +20,8 @@ pub record IsCandidate (text : List ℕ) (tokens : List Token) (found : Found) :
   pub texts_are : found.texts.items ≡ (calls_of text (take number tokens)).texts
   pub ends : found.end ≡ last.end
 
--- it tells what is wanted
-pub record IsCalled (Tells : List ℕ → Bool → Type 0) (text front : List ℕ) (found : Found) (at : ℕ) : Type 0 where
+-- types clash with it
+pub record IsCalled (text front : List ℕ) (found : Found) (at : ℕ) : Type 0 where
   pub begins : at ≡ found.start
-  pub before : Tells (front ++ found.texts.items) false
-  pub with_it : Tells (front ++ (take found.others found.texts.items ++ part text found.start found.end)) true
+  pub before : Clashes (front ++ found.texts.items) false
+  pub with_it : Clashes (front ++ (take found.others found.texts.items ++ part text found.start found.end)) true

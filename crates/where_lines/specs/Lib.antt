@@ -5,6 +5,7 @@ pub mod Causes
 pub mod Clashes
 pub mod Nowhere
 pub mod Sources
+pub mod Statements
 pub mod Texts
-pub mod Wanted
+pub mod Tokens
 pub mod Passes

@@ -1,86 +1,14 @@
--- The statement that makes a source, and the call in it.
-use Rattle.std.specs.Prelude.{◌≡◌, ◌≢◌, ◌⊎◌, ℕ, ◌+◌, Bool, true, false, List, [], ◌∷◌, length, take, drop, Option, Some, None, is_some, if◌then◌else◌}
-use Rattle.script_lex.specs.Tokens.{AreTokens}
-use Rattle.script_lex.specs.declared.token.Keyword.{Keyword}
-use Rattle.script_lex.specs.declared.token.Keyword.TheVariants.{Def}
-use Rattle.script_lex.specs.declared.token.Token.{Token}
-use Rattle.script_lex.specs.declared.token.TokenKind.{TokenKind}
-use Rattle.script_lex.specs.declared.token.TokenKind.TheVariants as kind
-use Rattle.script_grammar.specs.Tree.{Script}
-use Rattle.script_grammar.specs.Spelling.{spelling}
-use Rattle.script_grammar.specs.Placed.{IsPlaced}
-use Rattle.script_plan.specs.Makers.{IsMaker}
-use Rattle.parse_base.specs.Gives.{kinds}
-use Rattle.script_places.specs.Starts.{start, first_token}
-use Rattle.where_lines.specs.Calls.{IsCaller}
+-- The call that makes a source.
+use Rattle.std.specs.Prelude.{◌≡◌, ℕ, List, Some, slice_get}
+use Rattle.plan_core.specs.declared.plan.Plan.{Plan}
+use Rattle.script_plan.specs.Sources.{HasSources}
+use Rattle.where_lines.specs.Tokens.{IsTokenAt}
 
--- where a first token begins; where there is none, the end
-abbrev pub begins_at : ℕ → List Token → Option ℕ → ℕ
-begins_at total tokens (Some first) = start total tokens first
-begins_at total tokens None = total
-
--- where a statement begins; behind the last one, the end
-abbrev pub beginning : List ℕ → List Token → Script → ℕ → ℕ
-beginning text tokens script number = begins_at (length text) tokens (first_token script number)
-
--- what stands before a statement
-abbrev pub before : List ℕ → List Token → Script → ℕ → List ℕ
-before text tokens script number = take (beginning text tokens script number) text
-
--- the number of a first token; where there is none, that of all tokens
-abbrev pub or_all : List Token → Option ℕ → ℕ
-or_all tokens (Some first) = first
-or_all tokens None = length tokens
-
-abbrev pub first_of : List Token → Script → ℕ → ℕ
-first_of tokens script number = or_all tokens (first_token script number)
-
--- the tokens of a statement: from its first one up to the first one of the next
-abbrev pub tokens_of : List Token → Script → ℕ → List Token
-tokens_of tokens script number = drop (first_of tokens script number)
-    (take (first_of tokens script (number + 1)) tokens)
-
--- the word of a def
-abbrev pub is_def_word : Keyword → Bool
-is_def_word Def = true
-is_def_word word = false
-
-abbrev pub is_def : TokenKind → Bool
-is_def (kind.Keyword word) = is_def_word word
-is_def k = false
-
-abbrev pub begins_def : List Token → Bool
-begins_def [] = false
-begins_def (token ∷ tokens) = is_def token.kind
-
--- what of a statement's tokens may hold calls: of a def, what stands behind its name, which opens no call
-abbrev pub calling : List Token → List Token
-calling tokens = if begins_def tokens then drop 2 tokens else tokens
-
--- a byte of a statement: where it begins, or where a call of it begins that tells what is wanted behind the statements
--- before
-abbrev pub IsShown : (Tells : List ℕ → Bool → Type 0) → List ℕ → List Token → Script → ℕ → ℕ → Type 0
-IsShown Tells text tokens script number at = (at ≡ beginning text tokens script number)
-    ⊎ IsCaller Tells text (before text tokens script number) (calling (tokens_of tokens script number)) at
-
--- a statement of the script that the text's tokens spell, and a byte of it
-pub record IsInStatement (Tells : List ℕ → Bool → Type 0) (text : List ℕ) (number at : ℕ) : Type 0 where
-  pub tokens : List Token
-  pub are_tokens : AreTokens text tokens
-  pub script : Script
-  pub spelled : spelling script ≡ kinds tokens
-  pub placed : IsPlaced 0 script
-  pub there : first_token script number ≢ None
-  pub shown : IsShown Tells text tokens script number at
-
--- whether the script of a text makes source k
-pub record Makes (k : ℕ) (text : List ℕ) (made : Bool) : Type 0 where
-  pub number : Option ℕ
-  pub is_maker : IsMaker text k number
-  pub told : made ≡ is_some number
-
--- a statement makes source k, and the place lies in it
+-- by evaluation a call makes source k of the plan, and its token begins at this byte
 pub record IsSourceAt (text : List ℕ) (k at : ℕ) : Type 0 where
-  pub number : ℕ
-  pub is_maker : IsMaker text k (Some number)
-  pub place : IsInStatement (Makes k) text number at
+  pub plan : Plan
+  pub calls : List ℕ
+  pub sources : HasSources text plan calls
+  pub token : ℕ
+  pub token_is : slice_get calls k ≡ Some token
+  pub place : IsTokenAt text token at

@@ -1,14 +1,15 @@
-// The call of a statement that tells what is wanted.
+// The call of a statement with which types clash.
 ghost use Rattle.std.specs.Prelude.{◌≡◌, ◌++◌, false, IfOk, IfSome, OnOk, Some, take};
 ghost use Rattle.where_lines.specs.declared.calls.Bracket.TheVariants as bracket;
 ghost use Rattle.where_lines.specs.Calls.{IsCaller, calls_from, newest, brackets_behind, role_of, symbol_role, texts_behind, with_closed};
 ghost use Rattle.where_lines.specs.Candidates.{AreCalls, IsCalled, IsCandidate};
-ghost use Rattle.where_lines.specs.Wanted.{Tells};
+ghost use Rattle.where_lines.specs.Clashes.{Clashes};
 
+use crate::clashing::clashes;
 use crate::fronts::{front, joined, part};
-use crate::wanted::{Wanted, tells};
+
 use liq_base::Memory;
-use script_lex::{Keyword, Symbol, Token, TokenKind};
+use script_lex::{Symbol, Token, TokenKind};
 use std::alloc::Global;
 
 /// What stands open.
@@ -54,88 +55,75 @@ pub struct Found {
     pub end: usize,
 }
 
-/// The byte at which the call begins, among the tokens of a statement, that tells what is wanted behind a front of the
+/// The byte at which the call begins, among the tokens of a statement, with which types clash behind a front of the
 /// script; nothing where none is found. Calls are made in the order in which they are closed.
 pub fn caller(
     alloc: Global,
     text: &[u8],
     done: &[u8],
     tokens: &[Token],
-    wanted: Wanted,
 ) -> Result<Option<usize>, Memory>
-    ensures { IfOk result (λ at. IfSome at (IsCaller (Tells wanted) text.now done.now tokens.now)) }
+    ensures { IfOk result (λ at. IfSome at (IsCaller text.now done.now tokens.now)) }
 {
-    match candidate(alloc, text, done, tokens, wanted)? {
-        Some(found) => confirmed(alloc, text, done, &found, wanted),
+    match candidate(alloc, text, done, tokens)? {
+        Some(found) => confirmed(alloc, text, done, &found),
         None => Ok(None),
     }
 }
 
-// Where a call begins, if it tells what is wanted and those before it do not.
+// Where a call begins, if types clash with it and not with those before it.
 fn confirmed(
     alloc: Global,
     text: &[u8],
     done: &[u8],
     found: &Found,
-    wanted: Wanted,
 ) -> Result<Option<usize>, Memory>
-    ensures { IfOk result (λ at. IfSome at (IsCalled (Tells wanted) text.now done.now found.now)) }
+    ensures { IfOk result (λ at. IfSome at (IsCalled text.now done.now found.now)) }
 {
-    match tells_with(alloc, done, &found.texts, wanted)? {
-        Some(false) => told_with_call(alloc, text, done, found, wanted),
-        Some(true) => Ok(None),
-        None => Ok(None),
+    if clash_with(alloc, done, &found.texts)? {
+        return Ok(None);
     }
+    clash_with_call(alloc, text, done, found)
 }
 
-// The same, where those before it do not tell it.
-fn told_with_call(
+// The same, where they do not clash with those before it.
+fn clash_with_call(
     alloc: Global,
     text: &[u8],
     done: &[u8],
     found: &Found,
-    wanted: Wanted,
 ) -> Result<Option<usize>, Memory>
-    requires { Tells wanted (done.now ++ found.now.texts.items) false }
-    ensures { IfOk result (λ at. IfSome at (IsCalled (Tells wanted) text.now done.now found.now)) }
+    requires { Clashes (done.now ++ found.now.texts.items) false }
+    ensures { IfOk result (λ at. IfSome at (IsCalled text.now done.now found.now)) }
 {
     let call = part(text, found.start, found.end);
     let texts = joined(alloc, front(&found.texts, found.others), call)?;
-    match tells_with(alloc, done, &texts, wanted)? {
-        Some(true) => Ok(Some(found.start)),
-        Some(false) => Ok(None),
-        None => Ok(None),
+    if clash_with(alloc, done, &texts)? {
+        return Ok(Some(found.start));
     }
+    Ok(None)
 }
 
-// Whether a front of the script with the texts of calls behind it tells what is wanted.
-fn tells_with(
-    alloc: Global,
-    done: &[u8],
-    texts: &[u8],
-    wanted: Wanted,
-) -> Result<Option<bool>, Memory>
-    ensures { IfOk result (λ told. IfSome told (Tells wanted (done.now ++ texts.now))) }
+// Whether types clash in a front of the script with the texts of calls behind it.
+fn clash_with(alloc: Global, done: &[u8], texts: &[u8]) -> Result<bool, Memory>
+    ensures { IfOk result (Clashes (done.now ++ texts.now)) }
 {
     let whole = joined(alloc, done, texts)?;
-    tells(alloc, &whole, wanted)
+    clashes(alloc, &whole)
 }
 
-// The call that may tell it. With the calls that are closed before token `low` it is not told, with those before token
-// `high` it is: the token in the middle takes the place of one of them, until they are neighbours.
+// The call that may do it. With the calls that are closed before token `low` types do not clash, with those before
+// token `high` they do: the token in the middle takes the place of one of them, until they are neighbours.
 fn candidate(
     alloc: Global,
     text: &[u8],
     done: &[u8],
     tokens: &[Token],
-    wanted: Wanted,
 ) -> Result<Option<Found>, Memory>
     ensures { IfOk result (λ found. IfSome found (IsCandidate text.now tokens.now)) }
 {
-    match last_token(alloc, text, done, tokens, wanted)? {
-        Some(low) => found_at(alloc, text, tokens, low),
-        None => Ok(None),
-    }
+    let low = last_token(alloc, text, done, tokens)?;
+    found_at(alloc, text, tokens, low)
 }
 
 // The number of the token that closes it.
@@ -144,11 +132,7 @@ fn last_token(
     text: &[u8],
     done: &[u8],
     tokens: &[Token],
-    wanted: Wanted,
-) -> Result<Option<usize>, Memory> {
-    if is_source(wanted) && tokens.iter().any(|token| is_if(&token.kind)) {
-        return Ok(None);
-    }
+) -> Result<usize, Memory> {
     let mut low: usize = 0;
     let mut high = tokens.len();
     for _ in 0..64 {
@@ -157,13 +141,13 @@ fn last_token(
             break;
         }
         let calls = closed_calls(alloc, text, first_tokens(tokens, middle))?;
-        match tells_with(alloc, done, &calls.texts, wanted)? {
-            Some(true) => high = middle,
-            Some(false) => low = middle,
-            None => return Ok(None),
+        if clash_with(alloc, done, &calls.texts)? {
+            high = middle;
+        } else {
+            low = middle;
         }
     }
-    Ok(Some(low))
+    Ok(low)
 }
 
 // The call that a token closes.
@@ -301,15 +285,4 @@ fn symbol_role(symbol: Symbol) -> Role
         Symbol::CloseRound | Symbol::CloseSquare | Symbol::CloseCurly => Role::Closes,
         _ => Role::Neither,
     }
-}
-
-fn is_source(wanted: Wanted) -> bool {
-    match wanted {
-        Wanted::Source(_) => true,
-        Wanted::Clash => false,
-    }
-}
-
-fn is_if(kind: &TokenKind) -> bool {
-    matches!(kind, TokenKind::Keyword(Keyword::If))
 }

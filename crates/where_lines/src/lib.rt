@@ -7,13 +7,15 @@ ghost use Rattle.where_lines.specs.Passes.{AllPassed};
 
 mod calls;
 mod causes;
+mod clashes;
+mod clashing;
 mod fronts;
 mod passing;
 mod places;
 mod reading;
 mod sources;
 mod texts;
-mod wanted;
+mod tokens;
 
 use liq_base::Sink;
 pub use passing::Broke;

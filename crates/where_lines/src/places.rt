@@ -1,14 +1,16 @@
 // Where what a line names begins in a script.
 ghost use Rattle.std.specs.Prelude.{◌≡◌, None, IfOk, IfSome};
 ghost use Rattle.script_lex.specs.Tokens.{AreTokens};
-ghost use Rattle.where_lines.specs.Beginning.{Begins, IsNowhere, IsStatementAt, IsTokenAt, beginning_of};
-ghost use Rattle.where_lines.specs.Nowhere.{HasNoStatement, HasNoStatementAmong, HasNoTokens};
+ghost use Rattle.where_lines.specs.Beginning.{Begins, IsNowhere, IsStatementAt, beginning_of};
+ghost use Rattle.where_lines.specs.Nowhere.{HasNoStatement, HasNoStatementAmong};
 
 use crate::causes::cause_place;
+use crate::clashes::clash_place;
 use crate::fronts::part;
 use crate::reading::{no_script, no_tokens};
-use crate::sources::{clash_place, source_place};
+use crate::sources::source_place;
 use crate::texts::text_place;
+use crate::tokens::token_place;
 use liq_base::Memory;
 use script_lex::{Token, lex};
 use script_parse::parse;
@@ -35,17 +37,6 @@ pub fn place_of(
         Named::Clash(statement) => clash_place(alloc, text, statement),
         Named::Text { start, end } => text_place(alloc, text, part(line, start, end)),
         Named::Fallible { start, end } => cause_place(alloc, text, part(line, start, end)),
-    }
-}
-
-// Where a token begins.
-fn token_place(alloc: Global, text: &[u8], token: u64) -> Result<Option<usize>, Memory>
-    ensures place { IfOk result (λ at. IfSome at (IsTokenAt text.now token)) }
-    ensures none { IfOk result (λ at. at ≡ None → HasNoTokens text.now) }
-{
-    match lex(alloc, text) {
-        Ok(tokens) => Ok(Some(start(text.len(), &tokens, token))),
-        Err(fault) => no_tokens(&fault),
     }
 }
 

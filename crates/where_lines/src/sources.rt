@@ -1,44 +1,54 @@
-// The statement that makes a source or whose types clash, and the call in it.
-ghost use Rattle.std.specs.Prelude.{◌≡◌, ◌≢◌, ◌≤◌, None, IfOk, IfSome, length};
+// The call that makes a source.
+ghost use Rattle.std.specs.Prelude.{◌≡◌, ◌≢◌, ◌≤◌, None, IfOk, IfSome, length, slice_get};
 ghost use Rattle.plan_core.specs.declared.plan.Plan.{Plan};
-ghost use Rattle.parse_base.specs.Gives.{kinds};
-ghost use Rattle.script_grammar.specs.Placed.{IsPlaced};
-ghost use Rattle.script_grammar.specs.Spelling.{spelling};
-ghost use Rattle.script_grammar.specs.View.{view_script};
-ghost use Rattle.script_lex.specs.Tokens.{AreTokens};
-ghost use Rattle.script_places.specs.Starts.{first_token};
 ghost use Rattle.script_plan.specs.declared.fault.ScriptFault.TheVariants as fault;
 ghost use Rattle.script_plan.specs.Plans.{IsPlan};
-ghost use Rattle.where_lines.specs.Clashes.{Clashes};
-ghost use Rattle.where_lines.specs.Nowhere.{HasNoStatement, HasNoStatementAmong};
-ghost use Rattle.where_lines.specs.Sources.{IsInStatement, IsShown, IsSourceAt};
-ghost use Rattle.where_lines.specs.Wanted.{Tells};
+ghost use Rattle.script_plan.specs.Sources.{HasSources};
+ghost use Rattle.where_lines.specs.Sources.{IsSourceAt};
 
-use crate::calls::caller;
-use crate::fronts::{before, beginning, calling, tokens_of};
-use crate::reading::{no_script, no_tokens};
-use crate::wanted::Wanted;
+use crate::tokens::token_place;
 use liq_base::Memory;
-use script_grammar::tree::Script;
-use script_lex::{Token, lex};
-use script_parse::parse;
-use script_places::first_token;
-use script_plan::{ScriptFault, laws, maker_of};
+use script_eval::Sources;
+use script_plan::{ScriptFault, laws, sources_of};
 use std::alloc::Global;
 
-/// The byte at which the call begins that makes the source of this number: where a call of a def makes it, that call;
-/// where no one call of the statement is found, the statement. Nothing where the script has no such source.
+/// The byte at which the call begins that makes the source of this number: of calls that run within each other, the
+/// outermost. Nothing where the script has no such source.
 pub fn source_place(alloc: Global, text: &[u8], source: u64) -> Result<Option<usize>, Memory>
     ensures place { IfOk result (λ at. IfSome at (IsSourceAt text.now source)) }
     ensures none { IfOk result (λ at. at ≡ None → (plan : Plan) → IsPlan text.now plan → length plan.nodes ≤ source) }
 {
     laws::one_answer();
-    match maker_of(alloc, text, source) {
-        // the statement is there
-        Ok(Some(number)) => place_in(alloc, text, u64::from(number), Wanted::Source(source)),
-        Ok(None) => Ok(None),
+    match sources_of(alloc, text) {
+        Ok(sources) => call_place(alloc, text, &sources, source),
         Err(fault) => nowhere(&fault),
     }
+}
+
+// The same, where these are the plan and its calls.
+fn call_place(
+    alloc: Global,
+    text: &[u8],
+    sources: &Sources,
+    source: u64,
+) -> Result<Option<usize>, Memory>
+    requires sources { HasSources text.now sources.now.plan sources.now.calls }
+    requires plan { IsPlan text.now sources.now.plan }
+    requires each { length sources.now.calls ≡ length sources.now.plan.nodes }
+    ensures place { IfOk result (λ at. IfSome at (IsSourceAt text.now source)) }
+    ensures none { IfOk result (λ at. at ≡ None → (plan : Plan) → IsPlan text.now plan → length plan.nodes ≤ source) }
+{
+    laws::one_answer();
+    match call_of(sources.calls.as_slice(), source) {
+        Some(token) => token_place(alloc, text, u64::from(token)),
+        None => Ok(None),
+    }
+}
+
+fn call_of(calls: &[u32], source: u64) -> Option<u32>
+    ensures { result ≡ slice_get calls.now source }
+{
+    calls.get(source as usize).copied()
 }
 
 /// Nothing, where a script has a fault that is no want of memory.
@@ -52,95 +62,5 @@ pub fn nowhere(told: &ScriptFault) -> Result<Option<usize>, Memory>
         ScriptFault::Parse(_) => Ok(None),
         ScriptFault::Type(_) => Ok(None),
         ScriptFault::Eval(_) => Ok(None),
-    }
-}
-
-/// The byte at which the call begins with which the types of a statement clash; where no one call of it is found, the
-/// statement. Nothing where the script has no such statement.
-pub fn clash_place(alloc: Global, text: &[u8], statement: u64) -> Result<Option<usize>, Memory>
-    ensures place { IfOk result (λ at. IfSome at (IsInStatement Clashes text.now statement)) }
-    ensures none { IfOk result (λ at. at ≡ None → HasNoStatement text.now statement) }
-{
-    place_in(alloc, text, statement, Wanted::Clash)
-}
-
-// The byte of a statement that is shown: where the call begins that tells what is wanted, or where the statement
-// begins.
-fn place_in(
-    alloc: Global,
-    text: &[u8],
-    statement: u64,
-    wanted: Wanted,
-) -> Result<Option<usize>, Memory>
-    ensures place { IfOk result (λ at. IfSome at (IsInStatement (Tells wanted) text.now statement)) }
-    ensures none { IfOk result (λ at. at ≡ None → HasNoStatement text.now statement) }
-{
-    match lex(alloc, text) {
-        Ok(tokens) => place_among(alloc, text, &tokens, statement, wanted),
-        Err(fault) => no_tokens(&fault),
-    }
-}
-
-// The same, where these are the tokens.
-fn place_among(
-    alloc: Global,
-    text: &[u8],
-    tokens: &[Token],
-    statement: u64,
-    wanted: Wanted,
-) -> Result<Option<usize>, Memory>
-    requires { AreTokens text.now tokens.now }
-    ensures place { IfOk result (λ at. IfSome at (IsInStatement (Tells wanted) text.now statement)) }
-    ensures none { IfOk result (λ at. at ≡ None → HasNoStatementAmong tokens.now statement) }
-{
-    match parse(alloc, text, tokens) {
-        Ok(script) => place_within(alloc, text, tokens, &script, statement, wanted),
-        Err(fault) => no_script(&fault),
-    }
-}
-
-// The same in a script.
-fn place_within(
-    alloc: Global,
-    text: &[u8],
-    tokens: &[Token],
-    script: &Script,
-    statement: u64,
-    wanted: Wanted,
-) -> Result<Option<usize>, Memory>
-    requires tokens { AreTokens text.now tokens.now }
-    requires spelled { spelling (view_script script.now) ≡ kinds tokens.now }
-    requires placed { IsPlaced 0 (view_script script.now) }
-    ensures place { IfOk result (λ at. IfSome at (IsInStatement (Tells wanted) text.now statement)) }
-    ensures none { IfOk result (λ at. at ≡ None → first_token (view_script script.now) statement ≡ None) }
-{
-    if first_token(script, statement).is_none() {
-        return Ok(None);
-    }
-    let at = shown_in(alloc, text, tokens, script, statement, wanted)?;
-    Ok(Some(at))
-}
-
-// The byte that is shown of a statement that is there.
-fn shown_in(
-    alloc: Global,
-    text: &[u8],
-    tokens: &[Token],
-    script: &Script,
-    statement: u64,
-    wanted: Wanted,
-) -> Result<usize, Memory>
-    requires { IsPlaced 0 (view_script script.now) }
-    ensures { IfOk result (IsShown (Tells wanted) text.now tokens.now (view_script script.now) statement) }
-{
-    if statement == u64::MAX {
-        // no script has so many statements
-        return Ok(beginning(text, tokens, script, statement));
-    }
-    let done = before(text, tokens, script, statement);
-    let own = calling(tokens_of(tokens, script, statement));
-    match caller(alloc, text, done, own, wanted)? {
-        Some(at) => Ok(at),
-        None => Ok(beginning(text, tokens, script, statement)),
     }
 }

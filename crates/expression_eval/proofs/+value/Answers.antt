@@ -36,7 +36,7 @@ use Rattle.expression_eval.specs.declared.steps.Operator.TheVariants as operator
 use Rattle.expression_eval.proofs.Joins.{plus_means, times_means}
 use Rattle.expression_eval.proofs.Loops.{turn, stops, ends}
 use Rattle.expression_eval.proofs.Productions.{expr_means, conjunction_means, sum_means, product_means, call_means, ors_steps, ands_steps, addends_steps, factors_steps, fulls_steps, arguments_steps, inners_steps, with_last, went, ors_none, ands_none, addends_none, factors_none, fulls_none, arguments_none, inners_none, first_fails, pair_means, as_list, as_tuple, not_means, plain_means, alone_means, compared_means, argued_means, call_counted, choice_counted, paren_counted, tuple_counted, list_counted, calls_end, calls_turn}
-use Rattle.expression_eval.proofs.Putting.{behind_gives, choice_fails, choice_goes, compare_stops, failed_gives, failed_means, failed_same, failed_stops, full_same, gives_same, goes_means, goes_same, joins_goes, kept_off, kept_on, left_ends, left_starts, left_stops, left_turns, made_gives, plain_last}
+use Rattle.expression_eval.proofs.Putting.{applied_gives, behind_gives, choice_fails, choice_goes, compare_stops, failed_gives, failed_means, failed_same, failed_stops, full_same, gives_same, goes_means, goes_same, joins_goes, kept_off, kept_on, left_ends, left_starts, left_stops, left_turns, made_gives, plain_last}
 use Rattle.expression_eval.proofs.Singles.{full_lone}
 use Rattle.expression_eval.proofs.Slots.{filled_by, filled_none, filled_steps, from_taken, next_taken, none_fails, none_left, one_less, parameters_filled, slot_fails, slot_went}
 use Rattle.expression_eval.specs.Parameters.{all_filled, filled, view_taken}
@@ -259,6 +259,10 @@ bodies::parameters-returns t c =
     parameters_filled (base_of c.args.scope.now) (listed (map view_param c.args.params.now)) (map view_given c.args.given.items) [] c.args.machine.now
     ∙ ap (λ (os : List (Option Value)). all_filled (base_of c.args.scope.now) (listed (map view_param c.args.params.now)) os [] c.args.machine.now) (sym c.in_ok-taken.ensures) in
     subst (λ (r : Result (List (ℕ × Value) × Machine) Stop). Gives (λ (v : Vec Slot). (map view_slot v.items, c.filled_parameters.new.machine)) c.filled_parameters.result r) (sym same) c.filled_parameters.ensures
+
+pub calls::applied-returns-in-Some : goal.calls::applied-returns-in-Some
+calls::applied-returns-in-Some t c =
+    rw c.put-in-Some.ensures (applied_gives (scope_of c.args.scope.now) (use_at c.args.at c.args.scope.now.uses.now.all.now) c.in-Some.found.now c.args.at c.sources_made-before.result (map view_given c.args.given.items) c.applied_to-made.result c.noted.result c.args.machine.now c.applied_to-made.new.machine c.noted.new.machine (sym c.in-Some.ensures) c.sources_made-before.ensures c.applied_to-made.ensures c.noted.ensures)
 
 pub calls::call_def-returns-then-scope-eq0 : goal.calls::call_def-returns-then-scope-eq0
 calls::call_def-returns-then-scope-eq0 t c = calls_end (world_of c.args.scope.now) c.args.scope.now.calls c.args.at c.args.kinds.now (map view_given c.args.given.items) c.args.machine.now (omega arith)

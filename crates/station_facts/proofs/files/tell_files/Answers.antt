@@ -23,7 +23,7 @@ returns-clause-told g c =
       sounds = looks_wider rules (sounds_of c.args.plan.now list_looks) old mid new new looks c.in_ok-list_looks.ensures.shelf
           (only_read_same new) (rw (c.as_slice-2.ensures.keys, c.in_ok-sounds.ensures, c.deref.ensures.value) at c.in_ok-looks.ensures.looks);
       text = alone c.into_inner.result.items c.new-out.result c.push_all.new.out
-          (files_object rules c.args.plan.now c.in_ok-inferred.inferred list_looks looks)
+          (files_object rules c.args.plan.now c.args.ats.now c.in_ok-inferred.inferred list_looks looks)
           (c.new-out.ensures.before ∙ c.new.ensures.items) c.new-out.ensures.tokens
           (rw (c.deref-2.ensures.value, c.deref-3.ensures.value) at c.in_ok-push_all.ensures) c.into_inner.ensures.items;
     }

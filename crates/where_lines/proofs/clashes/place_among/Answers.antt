@@ -1,6 +1,6 @@
 use Rattle.script_grammar.specs.View.{view_script}
 use Rattle.where_lines.proofs.Faults.{no_script, of_tokens_if}
-use Rattle.where_lines.proofs.sources.place_among.Goals as goal
+use Rattle.where_lines.proofs.clashes.place_among.Goals as goal
 
 pub returns-in-Ok-clause-none : goal.returns-in-Ok-clause-none
 returns-in-Ok-clause-none c =

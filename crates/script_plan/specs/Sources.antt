@@ -1,0 +1,21 @@
+-- The plan of a text, with the calls that make its sources.
+use Rattle.std.specs.Prelude.{◌≡◌, ℕ, List, Ok}
+use Rattle.plan_core.specs.declared.plan.Plan.{Plan}
+use Rattle.script_grammar.specs.Tree.{Script}
+use Rattle.typing_rules.specs.declared.uses.Use.{Use}
+use Rattle.typing_rules.specs.Answers.{IsTyped}
+use Rattle.eval_meaning.specs.Scripts.{sources}
+use Rattle.script_plan.specs.Plans.{Types}
+
+-- evaluation ends with this plan, and for each of its sources this is the token of the call that made it
+pub record HasSources (text : List ℕ) (plan : Plan) (calls : List ℕ) : Type 0 where
+  pub script : Script
+  pub uses : List Use
+  pub typed : Types text script uses
+  pub evaluated : sources script uses ≡ Ok (plan, calls)
+
+-- the same of a script; this is for `src/sources.rt` alone
+pub record AreSources (script : Script) (plan : Plan) (calls : List ℕ) : Type 0 where
+  pub uses : List Use
+  pub typed : IsTyped script uses
+  pub evaluated : sources script uses ≡ Ok (plan, calls)
