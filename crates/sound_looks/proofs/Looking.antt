@@ -6,10 +6,10 @@ use Rattle.liq_base.specs.Files.{Files, file_at}
 use Rattle.liq_base.specs.Shelves.{ShelfTold}
 use Rattle.wav_io.specs.Reading.{Wav, read_of}
 use Rattle.wav_io.specs.declared.fault.WavFault.{WavFault}
-use Rattle.sound_looks.specs.Looks.{count_of, counted_as, IsLooked, IsLookOf, look_in, look_of}
+use Rattle.sound_looks.specs.Looks.{counted_as, IsLooked, IsLookOf, look_in, look_of}
 use Rattle.sound_looks.specs.declared.look.Look.{Look}
 use Rattle.sound_looks.specs.declared.look.Look.TheVariants.{Unread, Bad, Sound}
-use Rattle.track_library.specs.Walk.{Audio, audio_in, audio_opened, bytes_in, counted_bytes, sound_of}
+use Rattle.track_library.specs.Walk.{Audio, audio_in, audio_opened, bytes_in, count_of, counted_bytes, sound_of}
 use Rattle.track_library.specs.declared.rules.Rules.{Rules}
 use Rattle.track_library.specs.declared.fault.Unusable.{Unusable}
 use Rattle.track_library.specs.declared.fault.Unusable.TheVariants.{TooLong}
