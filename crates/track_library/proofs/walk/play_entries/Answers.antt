@@ -1,11 +1,11 @@
-use Rattle.std.proofs.Common.{rules, arith, ◌∙◌, ◌+◌, [], List, ℕ, ap, sym, subst, drop}
+use Rattle.std.proofs.Common.{rules, ◌∙◌, ◌+◌, [], List, ℕ, ap, sym, subst, drop}
 use Rattle.std.specs.Prelude.{Ok}
 use Rattle.liq_base.proofs.Shelves.{read_then}
 use Rattle.track_library.specs.Walk.{Ends, entries_played, entry_played, use_audio}
 use Rattle.track_library.specs.Reads.{EntriesRead, FirstRead}
 use Rattle.track_library.specs.States.{heard_of}
 use Rattle.track_library.proofs.Ending.{ends_through}
-use Rattle.track_library.proofs.Keeping.{keeps_all, keeps_on, keeps_since}
+use Rattle.track_library.proofs.Keeping.{keeps_on, keeps_since}
 use Rattle.track_library.proofs.Played.{PlaysSoFar, plays_found, played_found}
 use Rattle.track_library.proofs.Steps.{next_entry_of, entries_end, next_read, later_read}
 use Rattle.track_library.proofs.walk.play_entries.Goals as goal
