@@ -2,7 +2,7 @@
 use Rattle.std.proofs.Common.{◌≡◌, ℕ, Bool, true, false, cond, List, length, refl, sym, subst}
 use Rattle.std.specs.Prelude.{Result, Ok, Err, nat_le}
 use Rattle.std.specs.Option.{ForSome}
-use Rattle.liq_base.specs.Files.{Files, file_at}
+use Rattle.liq_base.specs.Files.{file_at}
 use Rattle.liq_base.specs.Shelves.{ShelfTold}
 use Rattle.wav_io.specs.Reading.{Wav, read_of}
 use Rattle.wav_io.specs.declared.fault.WavFault.{WavFault}

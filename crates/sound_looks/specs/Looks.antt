@@ -1,9 +1,9 @@
 -- What a look at audio files and lists finds, and what it says of their use.
-use Rattle.std.specs.Prelude.{◌≡◌, ◌≤◌, ⊤, ℕ, ◌+◌, ◌^◌, ◌&&◌, Bool, not, List, [], ◌∷◌, length, take, drop, Result, Ok, Err, if◌then◌else◌, nat_eq, nat_le, slice_index}
+use Rattle.std.specs.Prelude.{◌≡◌, ◌≤◌, ℕ, ◌+◌, ◌^◌, ◌&&◌, Bool, not, List, [], ◌∷◌, length, take, drop, Result, Ok, Err, if◌then◌else◌, nat_eq, nat_le, slice_index}
 use Rattle.std.specs.Option.{ForSome}
 use Rattle.std.specs.Str.{is_utf8}
 use Rattle.liq_base.specs.Counts.{Rose}
-use Rattle.liq_base.specs.Files.{Files, file_at}
+use Rattle.liq_base.specs.Files.{file_at}
 use Rattle.liq_base.specs.Shelves.{ShelfTold}
 use Rattle.wav_io.specs.Reading.{Wav, read_of}
 use Rattle.wav_io.specs.declared.fault.WavFault.{WavFault}
