@@ -2,14 +2,14 @@
 use Rattle.std.proofs.Common.{◌≡◌, ℕ, Bool, true, false, cond, List, length, refl, sym, subst}
 use Rattle.std.specs.Prelude.{Result, Ok, Err, nat_le}
 use Rattle.std.specs.Option.{ForSome}
-use Rattle.liq_base.specs.Files.{Files, file_at}
+use Rattle.liq_base.specs.Files.{file_at}
 use Rattle.liq_base.specs.Shelves.{ShelfTold}
 use Rattle.wav_io.specs.Reading.{Wav, read_of}
 use Rattle.wav_io.specs.declared.fault.WavFault.{WavFault}
-use Rattle.sound_looks.specs.Looks.{count_of, counted_as, IsLooked, IsLookOf, look_in, look_of}
+use Rattle.sound_looks.specs.Looks.{counted_as, IsLooked, IsLookOf, look_in, look_of}
 use Rattle.sound_looks.specs.declared.look.Look.{Look}
 use Rattle.sound_looks.specs.declared.look.Look.TheVariants.{Unread, Bad, Sound}
-use Rattle.track_library.specs.Walk.{Audio, audio_in, audio_opened, bytes_in, counted_bytes, sound_of}
+use Rattle.track_library.specs.Walk.{Audio, audio_in, audio_opened, bytes_in, count_of, counted_bytes, sound_of}
 use Rattle.track_library.specs.declared.rules.Rules.{Rules}
 use Rattle.track_library.specs.declared.fault.Unusable.{Unusable}
 use Rattle.track_library.specs.declared.fault.Unusable.TheVariants.{TooLong}

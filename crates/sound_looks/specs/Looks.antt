@@ -1,15 +1,15 @@
 -- What a look at audio files and lists finds, and what it says of their use.
-use Rattle.std.specs.Prelude.{◌≡◌, ◌≤◌, ⊤, ℕ, ◌+◌, ◌^◌, ◌&&◌, Bool, not, List, [], ◌∷◌, length, take, drop, Result, Ok, Err, if◌then◌else◌, nat_eq, nat_le, slice_index}
+use Rattle.std.specs.Prelude.{◌≡◌, ◌≤◌, ℕ, ◌+◌, ◌^◌, ◌&&◌, Bool, not, List, [], ◌∷◌, length, take, drop, Result, Ok, Err, if◌then◌else◌, nat_eq, nat_le, slice_index}
 use Rattle.std.specs.Option.{ForSome}
 use Rattle.std.specs.Str.{is_utf8}
 use Rattle.liq_base.specs.Counts.{Rose}
-use Rattle.liq_base.specs.Files.{Files, file_at}
+use Rattle.liq_base.specs.Files.{file_at}
 use Rattle.liq_base.specs.Shelves.{ShelfTold}
 use Rattle.wav_io.specs.Reading.{Wav, read_of}
 use Rattle.wav_io.specs.declared.fault.WavFault.{WavFault}
 use Rattle.resample.specs.Resampled.{blocks_of, output_length}
 use Rattle.track_library.specs.Lists.{lines, names_listed, without_cr, without_mark}
-use Rattle.track_library.specs.Walk.{Audio, bytes_in, counted_bytes, samples_at, sound_of}
+use Rattle.track_library.specs.Walk.{bytes_in, counted_bytes, samples_at, sound_of}
 use Rattle.track_library.specs.declared.rules.Rules.{Rules}
 use Rattle.track_library.specs.declared.fault.Unusable.{Unusable}
 use Rattle.track_library.specs.declared.fault.Unusable.TheVariants.{NotThere, NotWav, TooLong}
@@ -94,8 +94,3 @@ abbrev pub counted_as : Rules → Look → Result ℕ Unusable
 counted_as rules Unread = Err NotThere
 counted_as rules (Bad fault) = Err fault
 counted_as rules (Sound facts) = if nat_le facts.bytes rules.file then Ok facts.bytes else Err TooLong
-
--- for how many bytes the audio that a walk met counts
-abbrev pub count_of : Result Audio Unusable → Result ℕ Unusable
-count_of (Err fault) = Err fault
-count_of (Ok audio) = Ok audio.1

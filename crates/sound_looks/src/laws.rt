@@ -1,8 +1,8 @@
 // A law of looks, for whatever rests on it. It is the contract of a function that does nothing.
 ghost use Rattle.std.specs.Prelude.{◌≡◌, ℕ, List};
 ghost use Rattle.liq_base.specs.Files.{Files, file_at};
-ghost use Rattle.sound_looks.specs.Looks.{count_of, counted_as, look_of};
-ghost use Rattle.track_library.specs.Walk.{audio_at, bytes_in};
+ghost use Rattle.sound_looks.specs.Looks.{counted_as, look_of};
+ghost use Rattle.track_library.specs.Walk.{audio_at, bytes_in, count_of};
 ghost use Rattle.track_library.specs.declared.rules.Rules.{Rules};
 
 /// What a look finds says whether a walk uses the file, where all that it met fits, and for how many bytes it counts.

@@ -11,6 +11,7 @@ use Rattle.clock_infer.specs.declared.clock_map.ClockMap.{ClockMap}
 use Rattle.clock_infer.specs.declared.clock_map.ClockFault.{ClockFault}
 use Rattle.clock_infer.specs.declared.clock_map.ClockFault.TheVariants.{TwoClocks, Nested, TooManyClocks}
 use Rattle.clock_infer.specs.Answers.{IsCause, IsClockMap}
+use Rattle.track_library.specs.Loads.{CanLoad}
 use Rattle.track_library.specs.Walk.{Ends, load_of}
 use Rattle.track_library.specs.declared.fault.LoadFault.{LoadFault}
 use Rattle.track_library.specs.declared.fault.LoadFault.TheVariants.{Missing, BadAudio, FileTooLarge, AllTooLarge, ReadFault}
@@ -97,20 +98,22 @@ rest_ends old new plan ticks library (Refused fault) loaded h = λ files t. h fi
 rest_ends old new plan ticks library Read loaded h = absurd h
 rest_ends old new plan ticks library Memory loaded h = tt
 
--- the clocks that the rest answers are those of a plan whose files were loaded
-pub rest_fits : (told : Option Files) (plan : Plan) (ticks : ℕ) (library : Sounds) (result : Result ClockMap Halt)
-    → ForSome told (λ files. IsLoaded files plan library) → IsLibrary library
+-- the clocks that the rest answers are those of a plan whose files can be loaded
+pub rest_fits : (told : Option Files) (plan : Plan) (ticks : ℕ) (result : Result ClockMap Halt)
+    → ForSome told (λ files. CanLoad (rules_of plan) files plan.nodes)
     → IfOk result (λ clocks. (files : Files) (library : Sounds) → IsLoaded files plan library → IsLibrary library → IsFound files plan ticks (Fits library clocks))
     → IfOk result (λ clocks. ForSome told (λ files. FitsBy files plan ticks clocks))
-rest_fits told plan ticks library (Ok clocks) loaded sounds found = λ files t. record { library = library; found = found files library (loaded files t) sounds }
-rest_fits told plan ticks library (Err halt) loaded sounds found = tt
+rest_fits told plan ticks (Ok clocks) can found = λ files t. (let of = can files t in record { library = of.library; found = found files of.library of.loaded of.sounds })
+rest_fits told plan ticks (Err halt) can found = tt
 
 -- and so is its fault
-pub rest_fails : (old new : ShelfTold) (plan : Plan) (ticks : ℕ) (library : Sounds) (result : Result ClockMap Halt)
-    → ForSome old.files (λ files. IsLoaded files plan library) → IfErr result (RestHalts plan ticks)
+pub rest_fails : (old new : ShelfTold) (plan : Plan) (ticks : ℕ) (result : Result ClockMap Halt)
+    → ForSome old.files (λ files. CanLoad (rules_of plan) files plan.nodes) → IfErr result (RestHalts plan ticks)
     → IfErr result (HaltsFor old new (λ files fault. IsFound files plan ticks (Fails fault)))
-rest_fails old new plan ticks library (Ok clocks) loaded h = tt
-rest_fails old new plan ticks library (Err halt) loaded h = rest_ends old new plan ticks library halt loaded h
+rest_fails old new plan ticks (Ok clocks) can h = tt
+rest_fails old new plan ticks (Err (Refused fault)) can h = λ files t. h files (can files t).library (can files t).loaded
+rest_fails old new plan ticks (Err Read) can h = absurd h
+rest_fails old new plan ticks (Err Memory) can h = tt
 
 -- the loading ends for these ticks
 pub load_ends : (old new : ShelfTold) (plan : Plan) (ticks : ℕ) (halt : Halt)

@@ -11,7 +11,7 @@ ghost use Rattle.liq_base.specs.Shelves.{OnlyRead};
 
 use crate::Halt;
 use crate::clocks::find_clocks;
-use crate::files::read_files;
+use crate::files::{check_files, read_files};
 use crate::gaps::check_gaps;
 use crate::lengths::check_lengths;
 use clock_infer::ClockMap;
@@ -52,7 +52,7 @@ pub fn check_plan<S: Shelf>(
 }
 
 /// The clocks of a plan, as `check_plan` answers them for so many ticks, or the fault that it answers. The audio files
-/// are read, each once, and given back: no memory is taken for samples.
+/// are read, each once, and none is kept: at most one of them is held at a time.
 pub fn check_clocks<S: Shelf>(
     alloc: Global,
     plan: &Plan,
@@ -73,8 +73,7 @@ pub fn check_clocks<S: Shelf>(
         (HaltsFor (S.told shelf.old) (S.told shelf.new) (λ files fault. IsFound files plan.now ticks (Fails fault))) }
     ensures shelf { OnlyRead (S.told shelf.old) (S.told shelf.new) }
 {
-    let files = read_files(alloc, plan, shelf)?;
-    drop(files);
+    check_files(alloc, plan, shelf)?;
     check_rest(alloc, plan, ticks)
 }
 

@@ -1,9 +1,10 @@
 // The audio files of a plan.
-ghost use Rattle.std.specs.Prelude.{◌≡◌, ◌≤◌, ℕ, IfOk, IfErr};
+ghost use Rattle.std.specs.Prelude.{◌≡◌, ◌≤◌, ℕ, IfOk, IfErr, OnOk};
+ghost use Rattle.std.specs.Option.{ForSome};
 ghost use Rattle.plan_core.specs.Plans.{IsWellFormed};
 ghost use Rattle.stations.specs.Findings.{Fails, IsFound, rules_of};
 ghost use Rattle.station_check.specs.Halts.{HaltsFor, load_halt};
-ghost use Rattle.track_library.specs.Loads.{AreLoaded};
+ghost use Rattle.track_library.specs.Loads.{AreLoaded, CanLoad};
 ghost use Rattle.liq_base.specs.Shelves.{OnlyRead};
 
 use crate::Halt;
@@ -12,7 +13,13 @@ use liq_base::limits::{MAX_ALL_BYTES, MAX_FILE_BYTES};
 use plan_core::Plan;
 use stations::StationFault;
 use std::alloc::Global;
-use track_library::{LoadFault, PlanFiles, Sizes, find_files};
+use track_library::{LoadFault, PlanFiles, Sizes, find_files, try_files};
+
+/// How many bytes the audio files of a plan may count for.
+const SIZES: Sizes = Sizes {
+    file: MAX_FILE_BYTES,
+    all: MAX_ALL_BYTES,
+};
 
 /// The audio files of a plan, each read once and none decoded; or the first fault of their loading.
 pub fn read_files<S: Shelf>(alloc: Global, plan: &Plan, shelf: &mut S) -> Result<PlanFiles, Halt>
@@ -22,12 +29,23 @@ pub fn read_files<S: Shelf>(alloc: Global, plan: &Plan, shelf: &mut S) -> Result
         (λ files fault. (ticks : ℕ) → IsFound files plan.now ticks (Fails fault))) }
     ensures shelf { OnlyRead (S.told shelf.old) (S.told shelf.new) }
 {
-    let sizes = Sizes {
-        file: MAX_FILE_BYTES,
-        all: MAX_ALL_BYTES,
-    };
-    match find_files(alloc, plan, shelf, sizes) {
+    match find_files(alloc, plan, shelf, SIZES) {
         Ok(files) => Ok(files),
+        Err(fault) => Err(halt_of(fault)),
+    }
+}
+
+/// Whether the audio files of a plan can be loaded, or the first fault of that. Each is read once, and none is kept.
+pub fn check_files<S: Shelf>(alloc: Global, plan: &Plan, shelf: &mut S) -> Result<(), Halt>
+    requires { IsWellFormed plan.now }
+    ensures can { OnOk result (ForSome (S.told shelf.old).files
+        (λ files. CanLoad (rules_of plan.now) files plan.now.nodes)) }
+    ensures fault { IfErr result (HaltsFor (S.told shelf.old) (S.told shelf.new)
+        (λ files fault. (ticks : ℕ) → IsFound files plan.now ticks (Fails fault))) }
+    ensures shelf { OnlyRead (S.told shelf.old) (S.told shelf.new) }
+{
+    match try_files(alloc, plan, shelf, SIZES) {
+        Ok(()) => Ok(()),
         Err(fault) => Err(halt_of(fault)),
     }
 }

@@ -100,15 +100,15 @@ one_at (first ∷ nodes) (leaf ∷ leaves) are zero node file at single =
     let e : first ≡ node = (cc) in are.0 file (ap (λ n. n.op) e ∙ single)
 one_at (first ∷ nodes) (leaf ∷ leaves) are (suc i) node file at single = one_at nodes leaves are.1 i node file at single
 
-loaded : (walked : Result (Walked × List (List ℕ)) LoadFault) (library : Sounds) → sounds_or_fault walked ≡ Ok library
+loaded : (rules : Rules) (files : Files) (walked : Result (Walked × List (List ℕ)) LoadFault) (library : Sounds) → sounds_or_fault rules files walked ≡ Ok library
     → (after : Walked) × (walked ≡ Ok (after, library.leaves))
-loaded (Err fault) library is = absurd (cc)
-loaded (Ok (after, leaves)) library is =
+loaded rules files (Err fault) library is = absurd (cc)
+loaded rules files (Ok (after, leaves)) library is =
     let e : leaves ≡ library.leaves = ap leaves_of is in (after, ap (λ ls. Ok (after, ls)) e)
 
 pub leaves_are : (rules : Rules) (files : Files) (nodes : List Node) (library : Sounds) → load_of rules files nodes ≡ Ok library → AreLeaves nodes library.leaves
 leaves_are rules files nodes library is =
-    let at = loaded (nodes_walked rules files nodes (Ok (nothing_met, []))) library is in
+    let at = loaded rules files (nodes_walked rules files nodes (Ok (nothing_met, []))) library is in
     let goes = walks rules files nodes nothing_met at.0 [] library.leaves at.1 in
     subst (AreLeaves nodes) (sym goes.added) goes.are
 

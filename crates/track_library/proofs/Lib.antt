@@ -3,6 +3,7 @@ pub mod Sound
 pub mod Ending
 pub mod Names
 pub mod Finding
+pub mod Keeping
 pub mod Played
 pub mod Steps
 pub mod Leaves

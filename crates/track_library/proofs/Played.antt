@@ -9,8 +9,8 @@ use Rattle.track_library.specs.declared.fault.Unusable.{Unusable}
 
 pub record PlaysSoFar (old new : Heard) (leaf : List ℕ) : Type 0 where
   pub heard : IsHeard new
-  pub grew : length old.sounds ≤ length new.sounds
-  pub below : All (λ number. number < length new.sounds) leaf
+  pub grew : length old.titles ≤ length new.titles
+  pub below : All (λ number. number < length new.titles) leaf
 
 further : (a b : ℕ) (leaf : List ℕ) → a ≤ b → All (λ number. number < a) leaf → All (λ number. number < b) leaf
 further a b leaf le h k d within = let below : slice_index_or leaf k d < a = h k d within in omega arith
@@ -19,14 +19,14 @@ pub plays_more : (old now new : Heard) (leaf : List ℕ) (number : ℕ) → Play
 plays_more old now new leaf number p f = record {
   heard = f.heard;
   grew = omega (arith, p.grew, f.grew);
-  below = All-push (λ n. n < length new.sounds) leaf number (further (length now.sounds) (length new.sounds) leaf f.grew p.below) f.number;
+  below = All-push (λ n. n < length new.titles) leaf number (further (length now.titles) (length new.titles) leaf f.grew p.below) f.number;
 }
 
 pub plays_on : (old now new : Heard) (leaf : List ℕ) (fault : Unusable) → PlaysSoFar old now leaf → Finds now new (Err fault) → PlaysSoFar old new leaf
 plays_on old now new leaf fault p f = record {
   heard = f.heard;
   grew = omega (arith, p.grew, f.grew);
-  below = further (length now.sounds) (length new.sounds) leaf f.grew p.below;
+  below = further (length now.titles) (length new.titles) leaf f.grew p.below;
 }
 
 pub plays_found : (old now new : Heard) (leaf : List ℕ) (found : Result ℕ Unusable) → PlaysSoFar old now leaf → Finds now new found → PlaysSoFar old new (with_found leaf found)

@@ -28,6 +28,12 @@ pub record AreLoaded (told : Option Files) (rules : Rules) (nodes : List Node) (
   pub singles : HaveSingles nodes library.leaves
   pub sounds : IsLibrary library
 
+-- the audio files of the nodes can be loaded
+pub record CanLoad (rules : Rules) (files : Files) (nodes : List Node) : Type 0 where
+  pub library : Sounds
+  pub loaded : load_of rules files nodes ≡ Ok library
+  pub sounds : IsLibrary library
+
 -- why the audio files of the nodes are not loaded
 abbrev pub LoadEnds : (old new : ShelfTold) → Rules → List Node → LoadFault → Type 0
 LoadEnds old new rules nodes = Ends old new (λ files. LoadReads rules files nodes) (λ files. load_of rules files nodes)
@@ -40,7 +46,7 @@ pub record HaveWalked (told : Option Files) (rules : Rules) (nodes : List Node) 
   pub walked : ForSome told (λ files. nodes_walked rules files nodes (Ok (nothing_met, []))
       ≡ Ok (walked_of walk, leaves))
   pub heard : IsHeard (heard_of walk.audio)
-  pub below : All (All (λ number. number < length walk.audio.files.items)) leaves
+  pub below : All (All (λ number. number < length walk.audio.titles.items)) leaves
   pub few : All (λ leaf. length leaf < 2 ^ 32) leaves
   pub many : length leaves ≡ length nodes
   pub singles : HaveSingles nodes leaves

@@ -1,10 +1,12 @@
 -- What contracts see of the audio files that were met and of the lists that were read.
-use Rattle.std.specs.Prelude.{◌≡◌, ◌≤◌, ◌<◌, ◌^◌, ℕ, [], ◌∷◌, ◌++◌, List, length, map, Result, Ok, Err, IfOk, string_bytes, String, Vec, slice_index_or}
+use Rattle.std.specs.Prelude.{◌≡◌, ◌≤◌, ◌<◌, ◌^◌, ℕ, [], ◌∷◌, ◌++◌, Bool, true, List, length, map, Option, Result, Ok, Err, IfOk, if◌then◌else◌, string_bytes, String, Vec, slice_index_or}
 use Rattle.std.specs.List.{All}
+use Rattle.std.specs.Option.{ForSome}
 use Rattle.std.specs.declared.alloc.Global.{Global}
-use Rattle.frame_core.specs.Sounds.{IsSound}
+use Rattle.liq_base.specs.Files.{Files}
+use Rattle.frame_core.specs.Sounds.{IsSound, Sound}
 use Rattle.resample.specs.Resampled.{IsFile}
-use Rattle.track_library.specs.Walk.{Heard, Walked}
+use Rattle.track_library.specs.Walk.{Heard, Walked, sounds_named}
 use Rattle.track_library.specs.declared.rules.Rules.{Rules}
 use Rattle.track_library.specs.declared.recording.Recording.{Recording}
 use Rattle.track_library.specs.declared.walk.Walk.{Walk}
@@ -34,7 +36,6 @@ listed entries = map (λ e. (string_bytes e.0, e.1.items)) entries
 abbrev pub heard_of : AudioFiles → Heard
 heard_of audio = record {
   names = named audio.names.entries;
-  sounds = audio.files.items;
   titles = audio.titles.items;
   bytes = audio.bytes;
 }
@@ -46,25 +47,43 @@ lists_of read = listed read.lists.entries
 abbrev pub names_at : List (List ℕ × List (List ℕ)) → ℕ → List (List ℕ)
 names_at lists at = (slice_index_or lists at ([], [])).1
 
--- each number that a name has is that of a sound, each sound has whole blocks, at least one, and a name, and there are
--- fewer than 2^32
+-- each number that a name has is that of a file that is used, and there are fewer than 2^32
 pub record IsHeard (heard : Heard) : Type 0 where
-  pub numbers : All (λ e. IfOk e.1 (λ number. number < length heard.sounds)) heard.names
-  pub sounds : All IsSound heard.sounds
-  pub titles : length heard.titles ≡ length heard.sounds
-  pub many : length heard.sounds < 2 ^ 32
+  pub numbers : All (λ e. IfOk e.1 (λ number. number < length heard.titles)) heard.names
+  pub many : length heard.titles < 2 ^ 32
 
--- what a name was found to be, between two states: sounds were added alone, and its number is that of a sound
+-- one sound more, if sounds are kept
+abbrev pub one_kept : (keeps : Bool) → List Sound → Sound → List Sound
+one_kept keeps sounds sound = if keeps then sounds ++ sound ∷ [] else sounds
+
+-- the files that are used hold sounds, where the shelf tells its files; and if sounds are kept, they are these, each
+-- with whole blocks, at least one
+pub record AreKept (rules : Rules) (told : Option Files) (keeps : Bool) (titles : List (List ℕ))
+    (sounds : List Sound) : Type 0 where
+  pub usable : ForSome told (λ files. All IsSound (sounds_named rules files titles))
+  pub named : keeps ≡ true → ForSome told (λ files. sounds_named rules files titles ≡ sounds)
+  pub sound : keeps ≡ true → All IsSound sounds
+  pub many : keeps ≡ true → length sounds ≡ length titles
+
+abbrev pub IsKept : Rules → (told : Option Files) → AudioFiles → Type 0
+IsKept rules told audio = AreKept rules told audio.keeps audio.titles.items audio.files.items
+
+-- what is kept, between two states
+pub record Keeps (rules : Rules) (told : Option Files) (old new : AudioFiles) : Type 0 where
+  pub same : new.keeps ≡ old.keeps
+  pub kept : IsKept rules told old → IsKept rules told new
+
+-- what a name was found to be, between two states: files were added alone, and its number is that of a file
 pub record Finds (old new : Heard) (found : Result ℕ Unusable) : Type 0 where
   pub heard : IsHeard new
-  pub grew : length old.sounds ≤ length new.sounds
-  pub number : IfOk found (λ number. number < length new.sounds)
+  pub grew : length old.titles ≤ length new.titles
+  pub number : IfOk found (λ number. number < length new.titles)
 
--- what a leaf plays, between two states: sounds were added alone, and its numbers, fewer than 2^32, are those of sounds
+-- what a leaf plays, between two states: files were added alone, and its numbers, fewer than 2^32, are those of files
 pub record Plays (old new : Heard) (leaf : List ℕ) : Type 0 where
   pub heard : IsHeard new
-  pub grew : length old.sounds ≤ length new.sounds
-  pub below : All (λ number. number < length new.sounds) leaf
+  pub grew : length old.titles ≤ length new.titles
+  pub below : All (λ number. number < length new.titles) leaf
   pub few : length leaf < 2 ^ 32
 
 -- a leaf and what an entry was found to be

@@ -1,5 +1,5 @@
 -- The walk over the nodes of a plan that finds the audio files that they play. `docs/formats.md` has the rules.
-use Rattle.std.specs.Prelude.{◌≡◌, ℕ, ℤ, ◌+◌, ◌*◌, ◌^◌, max, ⊤, Bool, List, [], ◌∷◌, ◌++◌, length, Option, Some, None, Result, Ok, Err, if◌then◌else◌, nat_le, Vec}
+use Rattle.std.specs.Prelude.{◌≡◌, ℕ, ℤ, ◌+◌, ◌*◌, ◌^◌, max, ⊤, Bool, List, [], ◌∷◌, ◌++◌, length, map, Option, Some, None, Result, Ok, Err, if◌then◌else◌, nat_le, Vec}
 use Rattle.std.specs.declared.alloc.Global.{Global}
 use Rattle.std.specs.Option.{ForSome}
 use Rattle.std.specs.Str.{bytes_eq}
@@ -13,7 +13,7 @@ use Rattle.wav_io.specs.Reading.{Wav, read_of}
 use Rattle.resample.specs.Resampled.{resampled}
 use Rattle.frame_core.specs.Bytes.{samples_from}
 use Rattle.sample_bytes.specs.Wide.{wide_samples_in}
-use Rattle.frame_core.specs.Library.{Sounds}
+use Rattle.frame_core.specs.Library.{Sounds, no_sound}
 use Rattle.frame_core.specs.Sounds.{Sound}
 use Rattle.wav_io.specs.declared.fault.WavFault.{WavFault}
 use Rattle.track_library.specs.Lists.{names_listed}
@@ -72,52 +72,63 @@ audio_opened rules (Ok bytes) = audio_in rules bytes (read_of bytes)
 abbrev pub audio_at : Rules → Files → List ℕ → Result Audio Unusable
 audio_at rules files name = audio_opened rules (bytes_in rules.file (file_at files name))
 
+-- the sound of an audio file, and how many bytes the file counts for, if it can be used
+abbrev pub sound_from : Result Audio Unusable → Sound
+sound_from (Err fault) = no_sound
+sound_from (Ok audio) = audio.0
+
+abbrev pub count_of : Result Audio Unusable → Result ℕ Unusable
+count_of (Err fault) = Err fault
+count_of (Ok audio) = Ok audio.1
+
+-- the sounds of the audio files of these names
+abbrev pub sounds_named : Rules → Files → List (List ℕ) → List Sound
+sounds_named rules files names = map (λ name. sound_from (audio_at rules files name)) names
+
 -- what stands first under a name
 abbrev pub entry_of : {V : Type 0} → List ℕ → List (List ℕ × V) → Option V
 entry_of name [] = None
 entry_of name (entry ∷ entries) = if bytes_eq name entry.0 then Some entry.1 else entry_of name entries
 
--- the audio files that were met: what each name is, which is the number of a sound or a fault; the sounds that are
--- used, in the order in which they were met, with the names of their files; and how many bytes these count for
+-- the audio files that were met: what each name is, which is the number of a file that is used or a fault; the names of
+-- the files that are used, in the order in which they were met; and how many bytes these count for
 pub record Heard : Type 0 where
   pub names : List (List ℕ × Result ℕ Unusable)
-  pub sounds : List Sound
   pub titles : List (List ℕ)
   pub bytes : ℕ
 
--- a name that was not met before: a sound is used, if what its file counts for fits beside the others
-abbrev pub first_use : ℕ → Heard → List ℕ → Result Audio Unusable → Result (Heard × Result ℕ Unusable) LoadFault
+-- a name that was not met before: its file is used, if what it counts for fits beside the others
+abbrev pub first_use : ℕ → Heard → List ℕ → Result ℕ Unusable → Result (Heard × Result ℕ Unusable) LoadFault
 first_use all heard name (Err fault) = Ok (
   record {
     names = heard.names ++ (name, Err fault) ∷ [];
-    sounds = heard.sounds;
     titles = heard.titles;
     bytes = heard.bytes;
   },
   Err fault,
 )
-first_use all heard name (Ok audio) =
-    if nat_le (heard.bytes + audio.1) all then
+first_use all heard name (Ok count) =
+    if nat_le (heard.bytes + count) all then
     Ok (
       record {
-        names = heard.names ++ (name, Ok (length heard.sounds)) ∷ [];
-        sounds = heard.sounds ++ audio.0 ∷ [];
+        names = heard.names ++ (name, Ok (length heard.titles)) ∷ [];
         titles = heard.titles ++ name ∷ [];
-        bytes = heard.bytes + audio.1;
+        bytes = heard.bytes + count;
       },
-      Ok (length heard.sounds),
+      Ok (length heard.titles),
     )
     else Err AllTooLarge
 
 -- what a name is: a name that was met before is what it was
-abbrev pub use_of : ℕ → Heard → List ℕ → Option (Result ℕ Unusable) → Result Audio Unusable
+abbrev pub use_of : ℕ → Heard → List ℕ → Option (Result ℕ Unusable) → Result ℕ Unusable
     → Result (Heard × Result ℕ Unusable) LoadFault
-use_of all heard name (Some found) audio = Ok (heard, found)
-use_of all heard name None audio = first_use all heard name audio
+use_of all heard name (Some found) count = Ok (heard, found)
+use_of all heard name None count = first_use all heard name count
 
 -- an audio file is used: one that was met before is the same file
 abbrev pub use_audio : Rules → Files → Heard → List ℕ → Result (Heard × Result ℕ Unusable) LoadFault
-use_audio rules files heard name = use_of rules.all heard name (entry_of name heard.names) (audio_at rules files name)
+use_audio rules files heard name = use_of rules.all heard name (entry_of name heard.names)
+    (count_of (audio_at rules files name))
 
 -- the fault that is told of a file that cannot be used
 abbrev pub told_fault : List ℕ → Unusable → LoadFault
@@ -215,21 +226,21 @@ nodes_walked rules files [] walked = walked
 nodes_walked rules files (node ∷ nodes) walked = nodes_walked rules files nodes (node_next rules files node walked)
 
 -- the sounds of a plan once all nodes were met, or the first fault
-abbrev pub sounds_or_fault : Result (Walked × List (List ℕ)) LoadFault → Result Sounds LoadFault
-sounds_or_fault (Err fault) = Err fault
-sounds_or_fault (Ok (walked, leaves)) = Ok (record {
-  files = walked.heard.sounds;
+abbrev pub sounds_or_fault : Rules → Files → Result (Walked × List (List ℕ)) LoadFault → Result Sounds LoadFault
+sounds_or_fault rules files (Err fault) = Err fault
+sounds_or_fault rules files (Ok (walked, leaves)) = Ok (record {
+  files = sounds_named rules files walked.heard.titles;
   names = walked.heard.titles;
   leaves = leaves;
 })
 
 -- before the first node
 abbrev pub nothing_met : Walked
-nothing_met = record { lists = []; heard = record { names = []; sounds = []; titles = []; bytes = 0 } }
+nothing_met = record { lists = []; heard = record { names = []; titles = []; bytes = 0 } }
 
 -- the library of a plan, or the first fault of the walk
 abbrev pub load_of : Rules → Files → List Node → Result Sounds LoadFault
-load_of rules files nodes = sounds_or_fault (nodes_walked rules files nodes (Ok (nothing_met, [])))
+load_of rules files nodes = sounds_or_fault rules files (nodes_walked rules files nodes (Ok (nothing_met, [])))
 
 -- why a step ends with this fault: a read that failed let the count of failed reads rise, and is one of those of the
 -- step; memory may be refused anywhere; every other fault is the one of the files, where they are told

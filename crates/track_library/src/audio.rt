@@ -1,10 +1,12 @@
 // The audio files that were met on the walk.
-ghost use Rattle.std.specs.Prelude.{◌≡◌, ◌≤◌, ◌<◌, ◌+◌, ◌^◌, ◌++◌, ◌∷◌, [], length, Ok, Err, None, Some, IfOk, IfErr, OnOk};
+ghost use Rattle.std.specs.Prelude.{◌≡◌, ◌≤◌, ◌<◌, ◌+◌, ◌^◌, ◌++◌, ◌∷◌, [], length, Ok, Err, None, Some, IfOk, IfErr, OnOk, Option};
 ghost use Rattle.std.specs.Option.{ForSome};
 ghost use Rattle.frame_core.specs.Sounds.{IsSound};
-ghost use Rattle.track_library.specs.Walk.{Ends, EndsAt, first_use, use_audio, entry_of};
+ghost use Rattle.liq_base.specs.Files.{Files};
+ghost use Rattle.track_library.specs.Walk.{Ends, EndsAt, audio_at, count_of, first_use, use_audio, entry_of};
 ghost use Rattle.track_library.specs.Reads.{FirstRead};
-ghost use Rattle.track_library.specs.States.{heard_of, AreRules, Finds, IsHeard};
+ghost use Rattle.track_library.specs.States.{heard_of, one_kept, AreRules, Finds, IsHeard, Keeps};
+ghost use Rattle.track_library.specs.declared.rules.Rules.{Rules};
 ghost use Rattle.liq_base.specs.Shelves.{OnlyRead};
 
 use crate::fault::{LoadFault, Unusable};
@@ -15,20 +17,23 @@ use indexmap::IndexMap;
 use liq_base::{Memory, Shelf, Text};
 use std::alloc::Global;
 
-/// The audio files that were met: what each name is, and the sounds of those that are used.
+/// The audio files that were met: what each name is, and, if they are kept, those that are used.
 #[derive(Drop)]
 pub struct AudioFiles {
     /// Each name's number among the files, or why its file cannot be used.
     pub names: IndexMap<String, Result<u32, Unusable>>,
 
-    /// The files that are used, in the order in which they were met. None is decoded.
-    pub files: Vec<Undecoded>,
-
-    /// Their names.
+    /// The names of the files that are used, in the order in which they were met.
     pub titles: Vec<Text>,
 
     /// How many bytes they count for.
     pub bytes: u64,
+
+    /// Whether the files are kept.
+    pub keeps: bool,
+
+    /// The files that are used, in that order, if they are kept. None is decoded.
+    pub files: Vec<Undecoded>,
 }
 
 impl AudioFiles {
@@ -47,29 +52,28 @@ impl AudioFiles {
         found: Result<u32, Unusable>,
     ) -> Result<(), Memory>
         requires { entry_of name.now (heard_of self.old).names ≡ None }
-        ensures { OnOk result (heard_of self.new ≡ record (heard_of self.old) {
+        ensures noted { OnOk result (heard_of self.new ≡ record (heard_of self.old) {
           names = (heard_of self.old).names
               ++ (name.now, found) ∷ [];
         }) }
+        ensures kept { OnOk result ((rules : Rules) (told : Option Files) → Keeps rules told self.old self.new) }
     {
         self.names.insert(String::from_str(alloc, name)?, found)?;
         Ok(())
     }
 
-    /// Keeps a sound and the name of its file, and answers its number.
+    /// Adds the name of a file that is used, and the file if files are kept, and answers its number.
     fn keep(&mut self, alloc: Global, name: &str, file: Undecoded) -> Result<u32, Memory>
-        ensures number { IfOk result (λ number. number ≡ length (heard_of self.old).sounds) }
+        ensures number { IfOk result (λ number. number ≡ length (heard_of self.old).titles) }
         ensures few { IfOk result (λ number. number + 1 < 2 ^ 32) }
-        ensures kept { OnOk result (heard_of self.new
-            ≡ record (heard_of self.old) {
-              sounds = (heard_of self.old).sounds ++ file
-                  ∷ [];
-              titles = (heard_of self.old).titles ++ name.now ∷ [];
-            }) }
+        ensures titled { OnOk result (heard_of self.new
+            ≡ record (heard_of self.old) { titles = (heard_of self.old).titles ++ name.now ∷ [] }) }
+        ensures files { OnOk result (self.new.files.items ≡ one_kept self.old.keeps self.old.files.items file) }
+        ensures keeps { OnOk result (self.new.keeps ≡ self.old.keeps) }
     {
-        let number = new_number(self.files.len())?;
+        let number = new_number(self.titles.len())?;
+        push_if(&mut self.files, self.keeps, file)?;
         self.titles.push(Text::from_str(alloc, name)?)?;
-        self.files.push(file)?;
         Ok(number)
     }
 
@@ -84,10 +88,12 @@ impl AudioFiles {
         requires heard { IsHeard (heard_of self.old) }
         requires sound { IfOk found (λ audio. IsSound audio.0) }
         requires unknown { entry_of name.now (heard_of self.old).names ≡ None }
-        ensures used { IfOk result (λ number. first_use all (heard_of self.old) name.now found
+        ensures used { IfOk result (λ number. first_use all (heard_of self.old) name.now (count_of found)
             ≡ Ok (heard_of self.new, number)) }
         ensures finds { IfOk result (λ number. Finds (heard_of self.old) (heard_of self.new) number) }
-        ensures fault { IfErr result (EndsAt (first_use all (heard_of self.old) name.now found)) }
+        ensures kept { OnOk result ((rules : Rules) (told : Option Files)
+            → ForSome told (λ files. audio_at rules files name.now ≡ found) → Keeps rules told self.old self.new) }
+        ensures fault { IfErr result (EndsAt (first_use all (heard_of self.old) name.now (count_of found))) }
     {
         let (file, size) = match found {
             Ok(audio) => audio,
@@ -120,6 +126,7 @@ impl AudioFiles {
             (λ found. ForSome (S.told shelf.old).files (λ files. use_audio rules files (heard_of self.old) name.now
             ≡ Ok (heard_of self.new, found))) }
         ensures finds { IfOk result (λ found. Finds (heard_of self.old) (heard_of self.new) found) }
+        ensures kept { OnOk result (Keeps rules (S.told shelf.old).files self.old self.new) }
         ensures fault { IfErr result
             (Ends (S.told shelf.old) (S.told shelf.new) (λ _. FirstRead (heard_of self.old).names name.now)
             (λ files. use_audio rules files (heard_of self.old) name.now)) }
@@ -133,7 +140,17 @@ impl AudioFiles {
     }
 }
 
-/// The number of a sound or a list behind so many, if one more still has one.
+/// Adds a file to those that are kept, if files are kept.
+fn push_if(files: &mut Vec<Undecoded>, keeps: bool, file: Undecoded) -> Result<(), Memory>
+    ensures { OnOk result (files.new.items ≡ one_kept keeps files.old.items file) }
+{
+    if keeps {
+        files.push(file)?;
+    }
+    Ok(())
+}
+
+/// The number of a file or a list behind so many, if one more still has one.
 pub fn new_number(count: usize) -> Result<u32, Memory>
     ensures number { IfOk result (λ number. number ≡ count) }
     ensures few { IfOk result (λ number. number + 1 < 2 ^ 32) }

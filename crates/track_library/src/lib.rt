@@ -22,4 +22,4 @@ pub use plan_files::PlanFiles;
 pub use reading::{block_count, written_bytes};
 pub use rules::{Rules, Sizes};
 pub use samples::read_samples;
-pub use walk::{find_files, load};
+pub use walk::{find_files, load, try_files};

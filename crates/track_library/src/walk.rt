@@ -1,13 +1,15 @@
 // The walk over the nodes of a plan.
-ghost use Rattle.std.specs.Prelude.{◌≡◌, ◌≤◌, ◌<◌, ◌^◌, [], length, Ok, IfOk, IfErr, OnOk};
+ghost use Rattle.std.specs.Prelude.{◌≡◌, ◌≤◌, ◌<◌, ◌^◌, [], length, true, Ok, IfOk, IfErr, OnOk, Option};
 ghost use Rattle.std.specs.List.{All};
 ghost use Rattle.std.specs.Option.{ForSome};
 ghost use Rattle.frame_core.specs.Library.{IsLibrary};
 ghost use Rattle.track_library.specs.Walk.{Ends, entries_played, leaf_of, nothing_met, single_leaf, use_audio};
-ghost use Rattle.track_library.specs.Loads.{AreLoaded, HaveWalked, LoadEnds, rules_for};
+ghost use Rattle.track_library.specs.Loads.{AreLoaded, CanLoad, HaveWalked, LoadEnds, rules_for};
 ghost use Rattle.track_library.specs.Reads.{EntriesRead, FirstRead, LeafReads};
 ghost use Rattle.track_library.specs.Singles.{HasOne};
-ghost use Rattle.track_library.specs.States.{heard_of, AreRules, IsHeard, Plays, walked_of, with_found};
+ghost use Rattle.track_library.specs.States.{heard_of, AreRules, IsHeard, IsKept, Keeps, Plays, walked_of, with_found};
+ghost use Rattle.track_library.specs.declared.rules.Rules.{Rules};
+ghost use Rattle.liq_base.specs.Files.{Files};
 ghost use Rattle.liq_base.specs.Shelves.{OnlyRead};
 
 use crate::audio::AudioFiles;
@@ -30,9 +32,11 @@ pub struct Walk {
 }
 
 impl Walk {
-    /// A walk that has read nothing.
-    fn new(alloc: Global) -> Walk
-        ensures { walked_of result ≡ nothing_met }
+    /// A walk that has read nothing, and is to keep the files that are used, or none.
+    fn new(alloc: Global, keeps: bool) -> Walk
+        ensures unread { walked_of result ≡ nothing_met }
+        ensures keeps { result.audio.keeps ≡ keeps }
+        ensures kept { (rules : Rules) (told : Option Files) → IsKept rules told result.audio }
     {
         Walk {
             lists: ReadLists {
@@ -40,9 +44,10 @@ impl Walk {
             },
             audio: AudioFiles {
                 names: IndexMap::new(alloc),
-                files: Vec::new(alloc),
                 titles: Vec::new(alloc),
                 bytes: 0,
+                keeps,
+                files: Vec::new(alloc),
             },
         }
     }
@@ -64,6 +69,7 @@ impl Walk {
             (Ends (S.told shelf.old) (S.told shelf.new) (λ files. LeafReads rules files op.now (walked_of self.old))
             (λ files. leaf_of rules files op.now (walked_of self.old))) }
         ensures plays { IfOk result (λ leaf. Plays (heard_of self.old.audio) (heard_of self.new.audio) leaf.items) }
+        ensures kept { OnOk result (Keeps rules (S.told shelf.old).files self.old.audio self.new.audio) }
         ensures single { IfOk result (λ leaf. HasOne op.now leaf.items) }
         ensures shelf { OnlyRead (S.told shelf.old) (S.told shelf.new) }
     {
@@ -77,11 +83,13 @@ impl Walk {
         }
     }
 
-    /// The files that were used.
+    /// The files that were used, which were kept.
     fn into_files(self, leaves: LeafLists) -> PlanFiles
-        requires heard { IsHeard (heard_of self.audio) }
-        requires below { All (All (λ number. number < length self.audio.files.items)) leaves }
-        requires few { All (λ leaf. length leaf < 2 ^ 32) leaves }
+        requires { IsLibrary (record {
+          files = self.audio.files.items;
+          names = self.audio.titles.items;
+          leaves = leaves;
+        }) }
         ensures same { result ≡ record {
           files = self.audio.files.items;
           names = self.audio.titles.items;
@@ -92,9 +100,10 @@ impl Walk {
         let Walk { lists: _, audio } = self;
         let AudioFiles {
             names: _,
-            files,
             titles,
             bytes: _,
+            keeps: _,
+            files,
         } = audio;
         PlanFiles::new(files, titles, leaves)
     }
@@ -136,10 +145,36 @@ pub fn find_files<S: Shelf>(
         file: sizes.file,
         all: sizes.all,
     };
-    let mut walk = Walk::new(alloc);
+    let mut walk = Walk::new(alloc, true);
     let mut leaves = LeafLists::new(alloc);
     walk_nodes(alloc, plan, shelf, rules, &mut walk, &mut leaves)?;
     Ok(walk.into_files(leaves))
+}
+
+/// Whether the audio files of a plan can be loaded. They are read as `find_files` reads them, and none is kept: at most
+/// one of them is held at a time.
+pub fn try_files<S: Shelf>(
+    alloc: Global,
+    plan: &Plan,
+    shelf: &mut S,
+    sizes: Sizes,
+) -> Result<(), LoadFault>
+    requires { AreRules (rules_for plan.now sizes) }
+    ensures can { OnOk result (ForSome (S.told shelf.old).files
+        (λ files. CanLoad (rules_for plan.now sizes) files plan.now.nodes)) }
+    ensures fault { IfErr result
+        (LoadEnds (S.told shelf.old) (S.told shelf.new) (rules_for plan.now sizes) plan.now.nodes) }
+    ensures shelf { OnlyRead (S.told shelf.old) (S.told shelf.new) }
+{
+    let rules = Rules {
+        rate: plan.rate,
+        file: sizes.file,
+        all: sizes.all,
+    };
+    let mut walk = Walk::new(alloc, false);
+    let mut leaves = LeafLists::new(alloc);
+    walk_nodes(alloc, plan, shelf, rules, &mut walk, &mut leaves)?;
+    Ok(())
 }
 
 /// Walks over the nodes of a plan, and adds what is read and the list of each node.
@@ -155,6 +190,7 @@ fn walk_nodes<S: Shelf>(
     requires unread { walked_of walk.old ≡ nothing_met }
     requires empty { leaves.old ≡ [] }
     ensures walked { OnOk result (HaveWalked (S.told shelf.old).files rules plan.now.nodes walk.new leaves.new) }
+    ensures kept { OnOk result (Keeps rules (S.told shelf.old).files walk.old.audio walk.new.audio) }
     ensures fault { IfErr result (LoadEnds (S.told shelf.old) (S.told shelf.new) rules plan.now.nodes) }
     ensures shelf { OnlyRead (S.told shelf.old) (S.told shelf.new) }
 {
@@ -183,6 +219,7 @@ fn find_single<S: Shelf>(
         (Ends (S.told shelf.old) (S.told shelf.new) (λ _. FirstRead (heard_of audio.old).names name.now)
         (λ files. single_leaf name.now (use_audio rules files (heard_of audio.old) name.now))) }
     ensures plays { IfOk result (λ leaf. Plays (heard_of audio.old) (heard_of audio.new) leaf.items) }
+    ensures kept { OnOk result (Keeps rules (S.told shelf.old).files audio.old audio.new) }
     ensures one { IfOk result (λ leaf. length leaf.items ≡ 1) }
     ensures shelf { OnlyRead (S.told shelf.old) (S.told shelf.new) }
 {
@@ -225,6 +262,7 @@ fn play_entries<S: Shelf>(
         (λ files. EntriesRead rules files names.now (Ok (heard_of audio.old, [])))
         (λ files. entries_played rules files names.now (Ok (heard_of audio.old, [])))) }
     ensures plays { IfOk result (λ leaf. Plays (heard_of audio.old) (heard_of audio.new) leaf.items) }
+    ensures kept { OnOk result (Keeps rules (S.told shelf.old).files audio.old audio.new) }
     ensures shelf { OnlyRead (S.told shelf.old) (S.told shelf.new) }
 {
     let mut leaf = Vec::new(alloc);

@@ -1,10 +1,11 @@
-use Rattle.std.proofs.Common.{rules, arith, ◌∙◌, ◌+◌, [], List, ℕ, ap, sym, subst, drop}
+use Rattle.std.proofs.Common.{rules, ◌∙◌, ◌+◌, [], List, ℕ, ap, sym, subst, drop}
 use Rattle.std.specs.Prelude.{Ok}
 use Rattle.liq_base.proofs.Shelves.{read_then}
 use Rattle.track_library.specs.Walk.{Ends, entries_played, entry_played, use_audio}
 use Rattle.track_library.specs.Reads.{EntriesRead, FirstRead}
 use Rattle.track_library.specs.States.{heard_of}
 use Rattle.track_library.proofs.Ending.{ends_through}
+use Rattle.track_library.proofs.Keeping.{keeps_on, keeps_since}
 use Rattle.track_library.proofs.Played.{PlaysSoFar, plays_found, played_found}
 use Rattle.track_library.proofs.Steps.{next_entry_of, entries_end, next_read, later_read}
 use Rattle.track_library.proofs.walk.play_entries.Goals as goal
@@ -53,4 +54,6 @@ loop-name-preserved g c =
           (Ok (heard_of c.find.new.self, c.push_found.new.leaf.items)) c.loop-name-test.true c.name-item.is c.as_str.ensures.same
           (ap (entry_played c.loop-name.leaf.items) (c.in_ok-found.ensures.used files (c.loop-name.invariant.0.files ∙ t))
           ∙ (played_found (heard_of c.find.new.self) c.loop-name.leaf.items c.in_ok-found.found ∙ ap (λ (l : List ℕ). Ok (heard_of c.find.new.self, l)) (sym pushed))) h),
+      keeps_on c.args.rules (g.S.Shelf.told c.args.shelf.now).files c.args.audio.now c.loop-name.audio c.find.new.self c.loop-name.invariant.4
+          (keeps_since c.args.rules (g.S.Shelf.told c.args.shelf.now).files (g.S.Shelf.told c.loop-name.shelf).files c.loop-name.audio c.find.new.self c.loop-name.invariant.0.files c.in_ok-found.ensures.kept),
     )

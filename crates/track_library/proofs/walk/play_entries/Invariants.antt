@@ -4,7 +4,7 @@ use Rattle.std.specs.Option.{ForSome}
 use Rattle.liq_base.specs.Shelves.{OnlyRead}
 use Rattle.track_library.specs.Walk.{entries_played}
 use Rattle.track_library.specs.Reads.{EntriesRead}
-use Rattle.track_library.specs.States.{heard_of}
+use Rattle.track_library.specs.States.{heard_of, Keeps}
 use Rattle.track_library.proofs.Played.{PlaysSoFar}
 use Rattle.track_library.proofs.walk.play_entries.Given as goal
 
@@ -17,3 +17,4 @@ invariant-loop-name g l =
     ≡ entries_played l.rules files (drop l.name-index l.names) (Ok (heard_of l.audio, l.leaf.items)))
     × ForSome (g.S.Shelf.told l.fn.shelf).files (λ files. (read : List ℕ) → EntriesRead l.rules files (drop l.name-index l.names) (Ok (heard_of l.audio, l.leaf.items)) read
     → EntriesRead l.rules files l.names (Ok (heard_of l.fn.audio, [])) read)
+    × Keeps l.rules (g.S.Shelf.told l.fn.shelf).files l.fn.audio l.audio

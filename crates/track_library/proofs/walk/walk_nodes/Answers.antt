@@ -7,6 +7,7 @@ use Rattle.track_library.specs.Walk.{Ends, load_of, leaf_of, leaf_added, nodes_w
 use Rattle.track_library.specs.Reads.{LeafReads, LoadReads}
 use Rattle.track_library.specs.States.{heard_of, walked_of}
 use Rattle.track_library.proofs.Ending.{ends_through}
+use Rattle.track_library.proofs.Keeping.{keeps_on, keeps_since}
 use Rattle.track_library.proofs.Leaves.{LeavesSoFar, one_leaf_more}
 use Rattle.track_library.proofs.OneFile.{SinglesSoFar, all_singles, one_single_more}
 use Rattle.track_library.proofs.Steps.{next_node_of, nodes_end, next_node_reads, later_node_reads}
@@ -26,7 +27,7 @@ returns-in_err-leaf-clause-fault g c =
     (λ files. load_of by files c.args.plan.now.nodes) c.in_err-leaf.field-0.0
     c.loop-node.invariant.0
     (λ files t e h.
-    ap sounds_or_fault
+    ap (sounds_or_fault by files)
     (c.loop-node.invariant.2 files t
     ∙ next_node_of by files c.as_slice-node-items.result.now c.args.plan.now.nodes c.loop-node.node-index (walked_of c.loop-node.walk) leaves c.node-item.result
     c.as_slice-node-items.ensures c.loop-node-test.true c.node-item.is
@@ -63,6 +64,8 @@ loop-node-preserved g c =
       subst (λ (ls : List (List ℕ)). SinglesSoFar (c.loop-node.node-index + 1) c.args.plan.now.nodes ls) (sym pushed)
           (one_single_more c.as_slice-node-items.result.now c.args.plan.now.nodes c.loop-node.node-index leaves c.in_ok-leaf.leaf.items c.node-item.result
           c.as_slice-node-items.ensures c.loop-node-test.true c.node-item.is c.loop-node.invariant.4 c.in_ok-leaf.ensures.single c.loop-node.invariant.5),
+      keeps_on by (g.S.Shelf.told c.args.shelf.now).files c.args.walk.now.audio c.loop-node.walk.audio c.find_leaf.new.self.audio c.loop-node.invariant.6
+          (keeps_since by (g.S.Shelf.told c.args.shelf.now).files (g.S.Shelf.told c.loop-node.shelf).files c.loop-node.walk.audio c.find_leaf.new.self.audio c.loop-node.invariant.0.files c.in_ok-leaf.ensures.kept),
     )
 
 pub returns-clause-walked : goal.returns-clause-walked

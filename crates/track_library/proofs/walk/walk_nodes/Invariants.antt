@@ -4,7 +4,7 @@ use Rattle.std.specs.Option.{ForSome}
 use Rattle.liq_base.specs.Shelves.{OnlyRead}
 use Rattle.track_library.specs.Walk.{nodes_walked, nothing_met}
 use Rattle.track_library.specs.Reads.{LoadReads, NodesRead}
-use Rattle.track_library.specs.States.{heard_of, walked_of}
+use Rattle.track_library.specs.States.{heard_of, Keeps, walked_of}
 use Rattle.track_library.proofs.Leaves.{LeavesSoFar}
 use Rattle.track_library.proofs.OneFile.{SinglesSoFar}
 use Rattle.track_library.proofs.walk.walk_nodes.Given as goal
@@ -21,3 +21,4 @@ invariant-loop-node g l =
     → LoadReads l.rules files l.plan.nodes read)
     × (length l.leaves ≡ l.node-index)
     × SinglesSoFar l.node-index l.plan.nodes l.leaves
+    × Keeps l.rules (g.S.Shelf.told l.fn.shelf).files l.fn.walk.audio l.walk.audio
