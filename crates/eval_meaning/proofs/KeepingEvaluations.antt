@@ -14,7 +14,7 @@ use Rattle.script_values.specs.declared.fault.Stop.TheVariants.{Stuck}
 use Rattle.script_values.specs.declared.machine.Machine.{Machine}
 use Rattle.script_values.specs.Machines.{count_work}
 use Rattle.script_values.specs.Numbers.{literal_value, negative, added, multiplied, compared, either, both, opposite, truth_of}
-use Rattle.script_values.specs.Outcomes.{◌>>=◌, Outcome, noted}
+use Rattle.script_values.specs.Outcomes.{◌>>=◌, Outcome, ascribed}
 use Rattle.script_values.specs.Slots.{Argument, SlotValue, value_at_token}
 use Rattle.script_values.specs.Values as value
 use Rattle.script_values.specs.Values.{Value, many, size}
@@ -70,11 +70,11 @@ named_keeps kept s (Some u) m is = slot_keeps kept s u.target m is
 abbrev KeepsCalls : (Machine → Type 0) → Surroundings → Type 0
 KeepsCalls P s = (t : ℕ) (kinds : List Kind) (given : List Argument) (m : Machine) → P m → HoldsBehind P (s.call t kinds given m)
 
-noted_keeps : {P : Machine → Type 0} → IsKept P → (at : ℕ) (m : Machine) (made : Outcome) → HoldsBehind P made → HoldsBehind P (noted at m made)
+noted_keeps : {P : Machine → Type 0} → IsKept P → (at : ℕ) (m : Machine) (made : Outcome) → HoldsBehind P made → HoldsBehind P (ascribed at m made)
 noted_keeps kept at m (Ok x) is = kept.notes at (length m.plan.nodes) x.1 is
 noted_keeps kept at m (Err e) is = tt
 
-called_keeps : {P : Machine → Type 0} → IsKept P → (s : Surroundings) → KeepsCalls P s → (t : Target) (at : ℕ) (o : Option (List Kind)) (given : List Argument) (m : Machine) → P m → HoldsBehind P (noted at m (meaning.applied_to s t at o given m))
+called_keeps : {P : Machine → Type 0} → IsKept P → (s : Surroundings) → KeepsCalls P s → (t : Target) (at : ℕ) (o : Option (List Kind)) (given : List Argument) (m : Machine) → P m → HoldsBehind P (ascribed at m (meaning.applied_to s t at o given m))
 called_keeps kept s calls t at None given m is = tt
 called_keeps kept s calls (target.Slot t) at (Some kinds) given m is = tt
 called_keeps kept s calls (target.Def t) at (Some kinds) given m is = noted_keeps kept at m (s.call t kinds given m) (calls t kinds given m is)

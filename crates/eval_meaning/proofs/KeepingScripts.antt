@@ -16,7 +16,7 @@ use Rattle.script_values.specs.declared.fault.Stop.TheVariants.{TooMuchWork}
 use Rattle.script_values.specs.declared.fault.EvalFault.TheVariants as told
 use Rattle.script_values.specs.declared.machine.Machine.{Machine}
 use Rattle.script_values.specs.Machines.{count_work, filled, first_machine, noted_by}
-use Rattle.script_values.specs.Outcomes.{Outcome, noted}
+use Rattle.script_values.specs.Outcomes.{Outcome, ascribed}
 use Rattle.script_values.specs.Slots.{SlotValue}
 use Rattle.script_values.specs.Values.{Value}
 use Rattle.script_values.proofs.Noting.{filled_length}
@@ -54,7 +54,7 @@ noted_calls at before m few = filled_length at (length m.plan.nodes) (take befor
 noted_sound : (at before : ℕ) (m : Machine) → IsSound m → IsSound (noted_by at before m)
 noted_sound at before m is = record { well_formed = is.well_formed; outputs = is.outputs; feeds = is.feeds }
 
-noted_by_call : (at : ℕ) (m : Machine) (r : Outcome) → ((x : Value × Machine) → r ≡ Ok x → Keeps m x.1) → IsNoted m → HoldsBehind IsNoted (noted at m r)
+noted_by_call : (at : ℕ) (m : Machine) (r : Outcome) → ((x : Value × Machine) → r ≡ Ok x → Keeps m x.1) → IsNoted m → HoldsBehind IsNoted (ascribed at m r)
 noted_by_call at m (Ok x) keeps is =
     let here : Keeps m x.1 = keeps x refl in
     let more = no_fewer m.plan.nodes x.1.plan.nodes here.nodes in

@@ -23,7 +23,7 @@ use Rattle.script_values.specs.declared.fault.Stop.TheVariants as faults
 use Rattle.script_values.specs.declared.machine.Machine.{Machine}
 use Rattle.script_values.specs.Machines.{count_work}
 use Rattle.script_values.specs.Numbers.{literal_value, negative, added, multiplied, compared, either, both, opposite, truth_of}
-use Rattle.script_values.specs.Outcomes.{◌>>=◌, Outcome, noted}
+use Rattle.script_values.specs.Outcomes.{◌>>=◌, Outcome, ascribed}
 use Rattle.script_values.specs.Slots.{Argument, value_at_token}
 use Rattle.script_values.specs.Values as value
 use Rattle.script_values.specs.Values.{Value, many, size}
@@ -89,7 +89,7 @@ called_safe bs s t (target.Def u) at (Some ks) given gs g m knows kinds has held
 called_safe bs s t (target.Builtin b) at None given gs g m knows kinds has held = let e = has.1 in absurd cc
 called_safe bs s t (target.Builtin b) at (Some ks) given gs g m knows kinds has held = bs b at ks gs g (subst (λ (l : List Kind). IsCallOf b gs l g) (same_kinds (t.kinds at) has.0 ks has.1 kinds) has.2) given m held
 
-noted_safe : (ns : List Node) (g : Ground) (at : ℕ) (m : Machine) (made : Outcome) → Safe ns (Of g) made → Safe ns (Of g) (noted at m made)
+noted_safe : (ns : List Node) (g : Ground) (at : ℕ) (m : Machine) (made : Outcome) → Safe ns (Of g) made → Safe ns (Of g) (ascribed at m made)
 noted_safe ns g at m (Ok x) safe = safe
 noted_safe ns g at m (Err e) safe = safe
 

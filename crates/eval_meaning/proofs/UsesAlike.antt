@@ -17,7 +17,7 @@ use Rattle.script_values.specs.declared.fault.Stop.TheVariants.{Stuck}
 use Rattle.script_values.specs.declared.machine.Machine.{Machine}
 use Rattle.script_values.specs.Machines.{count_work}
 use Rattle.script_values.specs.Numbers.{added, multiplied, compared, either, both, opposite, truth_of}
-use Rattle.script_values.specs.Outcomes.{◌>>=◌, Outcome, noted}
+use Rattle.script_values.specs.Outcomes.{◌>>=◌, Outcome, ascribed}
 use Rattle.script_values.specs.Slots.{Argument, SlotValue, value_at_token}
 use Rattle.script_values.specs.Values as value
 use Rattle.script_values.specs.Values.{Value, many, size}
@@ -75,7 +75,7 @@ to_within s slots (target.Builtin b) at (Some kinds) given m = refl
 applied_within : (s : Surroundings) (slots : List SlotValue) (o : Option Use) (at : ℕ) (given : List Argument) (m : Machine) → applied (with_slots s slots) o at given m ≡ applied s o at given m
 unfolding applied
 applied_within s slots None at given m = refl
-applied_within s slots (Some u) at given m = ap (noted at m) (to_within s slots u.target at (kinds_of s.kinds u.kinds) given m)
+applied_within s slots (Some u) at given m = ap (ascribed at m) (to_within s slots u.target at (kinds_of s.kinds u.kinds) given m)
 
 alike_within : (s r : Surroundings) (ns : List Name) (slots : List SlotValue) → Alike s r ns → Alike (with_slots s slots) (with_slots r slots) ns
 alike_within s r ns slots alike = record {

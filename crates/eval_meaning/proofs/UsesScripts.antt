@@ -20,7 +20,7 @@ use Rattle.typing_rules.specs.Uses.{use_at}
 use Rattle.typing_rules.proofs.Reading.{same_kinds, same_target}
 use Rattle.script_values.specs.declared.machine.Machine.{Machine}
 use Rattle.script_values.specs.Machines.{first_machine}
-use Rattle.script_values.specs.Outcomes.{noted}
+use Rattle.script_values.specs.Outcomes.{ascribed}
 use Rattle.script_values.specs.Slots.{Argument, SlotValue}
 use Rattle.eval_meaning.specs.Calls.{holds_call, is_setting, means_set}
 use Rattle.eval_meaning.specs.Meaning.{Surroundings, applied, applied_to, call_by, run}
@@ -155,7 +155,7 @@ by_uses script a b pair slots k same owner chain ns ja jb block ra rb leads n in
     let meant : target_in (meanings_of script) n.at ≡ Some u.target = sym (ap (λ (ms : List Meaning). target_in ms n.at) pair.first.targets) ∙ sym (same_target a n.at) ∙ ap target_said iso in
     let f = found_in pair.within 0 [] script (owner, ns) n u.target pair.placed block inside meant in
     let same_one : u.target ≡ v.target = some_target u.target v.target targets in
-    ap (noted n.at m) (by_target script a b pair slots k same chain ns ja jb ra rb leads n inside u v iso isp u.target refl (sym same_one) f given m ∙ ap (λ (w : Target). applied_to (scope_with script b slots k jb) w n.at (kinds_of jb v.kinds) given m) same_one)
+    ap (ascribed n.at m) (by_target script a b pair slots k same chain ns ja jb ra rb leads n inside u v iso isp u.target refl (sym same_one) f given m ∙ ap (λ (w : Target). applied_to (scope_with script b slots k jb) w n.at (kinds_of jb v.kinds) given m) same_one)
 
 text_alike : (script : Script) (a b : List Use) → Pair script a b → (slots : List SlotValue) (k : ℕ) → SameCalls script a b slots k → (owner : Option ℕ) (chain : List ℕ) (ns : List Name) (ja jb : List Kind) → IsBlock (blocks [] script) (owner, ns) → Reaches a chain ns ja → Reaches b chain ns jb → Leads script chain ns
     → Alike (scope_with script a slots k ja) (scope_with script b slots k jb) ns

@@ -4,7 +4,7 @@ use Rattle.liq_base.specs.declared.memory.Kind.{Kind}
 use Rattle.typing_rules.specs.declared.uses.Builtin.{Builtin}
 use Rattle.script_values.specs.declared.machine.Machine.{Machine}
 use Rattle.script_values.specs.Machines.{count_work, noted_by}
-use Rattle.script_values.specs.Outcomes.{noted}
+use Rattle.script_values.specs.Outcomes.{ascribed}
 use Rattle.script_values.specs.Slots.{Argument}
 use Rattle.builtin_calls.specs.Builtins.{builtin}
 
@@ -21,5 +21,5 @@ Leaves P (Err e) = ⊤
 pub record IsKept (P : Machine → Type 0) : Type 0 where
   pub counts : (n : ℕ) (m : Machine) → P m → Leaves P (count_work n m)
   pub builtins : (b : Builtin) (at : ℕ) (kinds : List Kind) (given : List Argument) (m : Machine) → P m
-      → HoldsBehind P (noted at m (builtin b at kinds given m))
+      → HoldsBehind P (ascribed at m (builtin b at kinds given m))
   pub notes : (at before : ℕ) (m : Machine) → P m → P (noted_by at before m)

@@ -17,7 +17,7 @@ use Rattle.script_values.specs.Values.{Value, many, size}
 use Rattle.script_values.specs.Values as value
 use Rattle.script_values.specs.Numbers.{literal_value, negative, added, multiplied, compared, either, both, opposite, truth_of}
 use Rattle.script_values.specs.Machines.{count_work}
-use Rattle.script_values.specs.Outcomes.{Outcome, noted, ◌>>=◌}
+use Rattle.script_values.specs.Outcomes.{Outcome, ascribed, ◌>>=◌}
 use Rattle.builtin_calls.specs.Builtins.{builtin}
 use Rattle.eval_meaning.specs.Preds.{or_pred}
 use Rattle.script_values.specs.Slots.{Argument, SlotValue, value_at_token}
@@ -60,7 +60,7 @@ applied_to s (target.Builtin b) at (Some kinds) given m = builtin b at kinds giv
 -- made before.
 unfoldable pub applied : Surroundings → Option Use → ℕ → List Argument → Machine → Outcome
 applied s None at given m = Err Stuck
-applied s (Some u) at given m = noted at m (applied_to s u.target at (kinds_of s.kinds u.kinds) given m)
+applied s (Some u) at given m = ascribed at m (applied_to s u.target at (kinds_of s.kinds u.kinds) given m)
 
 -- the format that `%wav` names at this token: its samples have 16 bits without a size and with 16, they are wide with
 -- 24, and no other size is one

@@ -8,7 +8,7 @@ use Rattle.typing_rules.specs.Kinds.{kinds_of}
 use Rattle.script_values.specs.Gives.{Fails, Gives}
 use Rattle.script_values.specs.Machines.{noted_by}
 use Rattle.script_values.specs.Numbers.{truth_of}
-use Rattle.script_values.specs.Outcomes.{◌>>=◌, Outcome, noted}
+use Rattle.script_values.specs.Outcomes.{◌>>=◌, Outcome, ascribed}
 use Rattle.script_values.specs.Slots.{Argument}
 use Rattle.script_values.specs.Values.{Value}
 use Rattle.script_values.specs.View.{view_value}
@@ -68,14 +68,14 @@ joins_goes o (Ok v) now (Err e) m n q fault same =
 joins_goes o (Ok v) now (Ok w) m n q is gives = subst (λ (r : Outcome). Gives (λ u. (view_value u, n)) now (operator_applied (operation o) (view_value v) r)) (sym is) gives
 
 -- a call with its sources noted
-pub notes_gives : (at before : ℕ) (old now : Place) (a m n : Machine) (meant : Outcome) → before ≡ length a.plan.nodes → Gives (λ v. (view_value v, m)) old meant → Notes at before old m now n → Gives (λ v. (view_value v, n)) now (noted at a meant)
+pub notes_gives : (at before : ℕ) (old now : Place) (a m n : Machine) (meant : Outcome) → before ≡ length a.plan.nodes → Gives (λ v. (view_value v, m)) old meant → Notes at before old m now n → Gives (λ v. (view_value v, n)) now (ascribed at a meant)
 notes_gives at before (Ok v) now a m n meant same is notes =
-    subst (λ (o : Outcome). Gives (λ w. (view_value w, n)) now (noted at a o)) (sym is)
+    subst (λ (o : Outcome). Gives (λ w. (view_value w, n)) now (ascribed at a o)) (sym is)
     (subst (λ (k : ℕ). Gives (λ w. (view_value w, n)) now (noted_value at k (view_value v) m)) same notes)
 notes_gives at before (Err e) now a m n meant same fault is =
-    subst (λ (p : Place). Gives (λ w. (view_value w, n)) p (noted at a meant)) (sym is) (fails_on e meant (λ x. Ok (x.0, noted_by at (length a.plan.nodes) x.1)) fault)
+    subst (λ (p : Place). Gives (λ w. (view_value w, n)) p (ascribed at a meant)) (sym is) (fails_on e meant (λ x. Ok (x.0, noted_by at (length a.plan.nodes) x.1)) fault)
 
-applied_means : (s : Surroundings) (o : Option Use) (u : Use) (at : ℕ) (given : List Argument) (m : Machine) → o ≡ Some u → meaning.applied s o at given m ≡ noted at m (meaning.applied_to s u.target at (kinds_of s.kinds u.kinds) given m)
+applied_means : (s : Surroundings) (o : Option Use) (u : Use) (at : ℕ) (given : List Argument) (m : Machine) → o ≡ Some u → meaning.applied s o at given m ≡ ascribed at m (meaning.applied_to s u.target at (kinds_of s.kinds u.kinds) given m)
 unfolding meaning.applied
 applied_means s o u at given m is = ap (λ (x : Option Use). meaning.applied s x at given m) is
 

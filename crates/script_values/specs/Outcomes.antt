@@ -16,5 +16,5 @@ abbrev pub Outcome : Type 0
 Outcome = Result (Value × Machine) Stop
 
 -- what a call at this token makes of this state: the sources that it made are its own
-abbrev pub noted : ℕ → Machine → Outcome → Outcome
-noted at m made = made >>= λ x. Ok (x.0, noted_by at (length m.plan.nodes) x.1)
+abbrev pub ascribed : ℕ → Machine → Outcome → Outcome
+ascribed at m made = made >>= λ x. Ok (x.0, noted_by at (length m.plan.nodes) x.1)
