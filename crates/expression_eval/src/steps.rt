@@ -138,12 +138,7 @@ pub fn noted(
     }
 }
 
-fn noted_value(
-    machine: &mut Machine,
-    at: u32,
-    before: usize,
-    value: Value,
-) -> Result<Value, Stop>
+fn noted_value(machine: &mut Machine, at: u32, before: usize, value: Value) -> Result<Value, Stop>
     ensures { Gives (λ v. (view_value v, machine.new)) result (noted_value at before (view_value value) machine.old) }
 {
     note(machine, at, before)?;

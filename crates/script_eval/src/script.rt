@@ -50,11 +50,7 @@ pub fn eval(alloc: Global, script: &Script, uses: &[Use]) -> Result<Plan, EvalFa
 
 /// The same with the calls of the plan's sources.
 #[tactic(auto, using(crate::proofs::Answered::is_not_stuck))]
-pub fn eval_with_calls(
-    alloc: Global,
-    script: &Script,
-    uses: &[Use],
-) -> Result<Sources, EvalFault>
+pub fn eval_with_calls(alloc: Global, script: &Script, uses: &[Use]) -> Result<Sources, EvalFault>
     requires placed { IsPlaced 0 (view_script script.now) }
     requires typed { IsTypedScript (view_script script.now) uses.now }
     ensures exact { Answers (λ s. (s.plan, s.calls)) result (sources (view_script script.now) uses.now) }

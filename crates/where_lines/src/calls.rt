@@ -7,7 +7,6 @@ ghost use Rattle.where_lines.specs.Clashes.{Clashes};
 
 use crate::clashing::clashes;
 use crate::fronts::{front, joined, part};
-
 use liq_base::Memory;
 use script_lex::{Symbol, Token, TokenKind};
 use std::alloc::Global;
@@ -127,12 +126,7 @@ fn candidate(
 }
 
 // The number of the token that closes it.
-fn last_token(
-    alloc: Global,
-    text: &[u8],
-    done: &[u8],
-    tokens: &[Token],
-) -> Result<usize, Memory> {
+fn last_token(alloc: Global, text: &[u8], done: &[u8], tokens: &[Token]) -> Result<usize, Memory> {
     let mut low: usize = 0;
     let mut high = tokens.len();
     for _ in 0..64 {
