@@ -8,7 +8,7 @@ use std::alloc::Global;
 use std::io::{ErrorKind, Read};
 
 /// Bytes that one read asks for: they are cleared for each file, and a short file is not to wait for that.
-const CHUNK: usize = 16_384;
+pub(crate) const CHUNK: usize = 16_384;
 
 /// Adds the bytes that a reader has left, if they are at most `most`. A read that gives nothing is the end, and one
 /// that was interrupted is made again. Any other failure of the reader is `Failed`; it is never taken for the end.

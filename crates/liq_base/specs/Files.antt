@@ -1,5 +1,5 @@
 -- The files of a shelf: bytes under names.
-use Rattle.std.specs.Prelude.{◌≡◌, ◌≤◌, ◌⊎◌, ℕ, List, ◌++◌, length, Option, Some, None, IsSomeAnd}
+use Rattle.std.specs.Prelude.{◌≡◌, ◌≤◌, ◌⊎◌, min, ℕ, List, ◌++◌, length, Option, Some, None, IsSomeAnd}
 use Rattle.std.specs.Option.{ForSome}
 use Rattle.std.specs.Ordering.{nat_cmp}
 use Rattle.std.specs.Cmp.Lexicographic.{slice_cmp}
@@ -23,6 +23,19 @@ pub record Found (files : Option Files) (name : List ℕ) (most : ℕ) (before a
   pub bytes : List ℕ
   pub appended : after ≡ before ++ bytes
   pub fits : length bytes ≤ most
+  pub is_file : ForSome files (λ all. file_at all name ≡ Some bytes)
+
+-- the front of a file of `size` bytes, at most `most`, was added to what a list held: all of it, or its first `front`
+-- bytes and maybe more; where the files are told, it is the one of this name
+pub record FrontFound (files : Option Files) (name : List ℕ) (front most size : ℕ)
+    (before after : List ℕ) : Type 0 where
+  pub bytes : List ℕ
+  pub shown : List ℕ
+  pub appended : after ≡ before ++ shown
+  pub is_front : IsPrefix shown bytes
+  pub enough : min front size ≤ length shown
+  pub sized : length bytes ≡ size
+  pub fits : size ≤ most
   pub is_file : ForSome files (λ all. file_at all name ≡ Some bytes)
 
 -- the name holds a prefix of the bytes, or what it held; nothing else changed

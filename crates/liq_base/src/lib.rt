@@ -21,7 +21,7 @@ pub use mem_shelf::MemShelf;
 pub use mem_sink::MemSink;
 pub use memory::{Kind, Memory};
 pub use named_sink::NamedSink;
-pub use shelf::{Fetched, Shelf, ShelfFault};
+pub use shelf::{Fetched, Looked, Shelf, ShelfFault};
 pub use sink::{Failed, Sink};
 pub use sure_shelf::SureShelf;
 pub use sure_sink::SureSink;

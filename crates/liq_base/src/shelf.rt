@@ -1,8 +1,8 @@
 // A place where files are read, created and closed by name.
-ghost use Rattle.std.specs.Prelude.{◌≡◌, ◌≢◌, ◌<◌, length, IsSomeAnd, IfOk, OnOk, OnErr, IsErrOf, Ok, None};
+ghost use Rattle.std.specs.Prelude.{◌≡◌, ◌≢◌, ◌<◌, ℕ, length, IsSomeAnd, IfOk, OnOk, OnErr, IsErrOf, Ok, None};
 ghost use Rattle.std.specs.Option.{ForSome};
 ghost use Rattle.liq_base.specs.Counts.{Rose};
-ghost use Rattle.liq_base.specs.Files.{Found, Closed, ClosedPart, file_at};
+ghost use Rattle.liq_base.specs.Files.{Found, FrontFound, Closed, ClosedPart, file_at};
 ghost use Rattle.liq_base.specs.Shelves.{IsFresh, OnlyClosed, OnlyMade, OnlyRead, ShelfTold};
 
 use crate::{Failed, Memory, Sink};
@@ -13,6 +13,17 @@ use std::fmt;
 pub enum Fetched {
     /// The file, whose bytes were added to the list.
     Found,
+    /// No file of this name.
+    Missing,
+    /// A file of more bytes than were allowed.
+    TooLarge,
+}
+
+/// What a look came upon.
+#[derive(Clone, Copy, Debug, PartialEq, Eq, Hash)]
+pub enum Looked {
+    /// The file, whose first bytes were added to the list, and how many bytes it has.
+    Found(u64),
     /// No file of this name.
     Missing,
     /// A file of more bytes than were allowed.
@@ -71,6 +82,34 @@ pub trait Shelf {
         ensures otherwise { result ≢ Ok Fetched.Found → into.new.items ≡ into.old.items }
         ensures cause { IsErrOf result ShelfFault.Failed → Rose (told self.old).reads (told self.new).reads }
         ensures shelf { OnlyRead (told self.old) (told self.new) };
+
+    /// Adds the first bytes of the file to `into`, at least `front` of them or all, if it has at most `most`, and tells
+    /// how many it has; any answer but `Found` leaves `into` as it was.
+    fn look(
+        &mut self,
+        name: &str,
+        into: &mut Vec<u8>,
+        front: u64,
+        most: u64,
+    ) -> Result<Looked, ShelfFault>
+        ensures found { (size : ℕ) → result ≡ Ok (Looked.Found size)
+            → FrontFound (told self.old).files name.now front most size into.old.items into.new.items }
+        ensures missing { result ≡ Ok Looked.Missing
+            → ForSome (told self.old).files (λ files. file_at files name.now ≡ None) }
+        ensures too_large { result ≡ Ok Looked.TooLarge
+            → ForSome (told self.old).files (λ files. IsSomeAnd (file_at files name.now) (λ bytes. most
+            < length bytes)) }
+        ensures otherwise { ((size : ℕ) → result ≢ Ok (Looked.Found size)) → into.new.items ≡ into.old.items }
+        ensures cause { IsErrOf result ShelfFault.Failed → Rose (told self.old).reads (told self.new).reads }
+        ensures shelf { OnlyRead (told self.old) (told self.new) }
+    {
+        let before = into.len();
+        match self.read(name, into, most)? {
+            Fetched::Found => Ok(Looked::Found((into.len() - before) as u64)),
+            Fetched::Missing => Ok(Looked::Missing),
+            Fetched::TooLarge => Ok(Looked::TooLarge),
+        }
+    }
 
     /// An empty sink of this name, with room for so many bytes. The name holds what it held until
     /// the sink is closed.

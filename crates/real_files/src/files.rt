@@ -1,12 +1,14 @@
 // Real files as a shelf. It tells no files; it counts its failures.
-ghost use Rattle.std.specs.Prelude.{◌≡◌, ◌≤◌, ◌+◌, vec_len, Ok};
+ghost use Rattle.std.specs.Prelude.{◌≡◌, ◌≢◌, ◌≤◌, ◌<◌, ◌+◌, ℕ, vec_len, IfSome, None, Ok};
+ghost use Rattle.liq_base.specs.Files.{FrontFound};
 ghost use Rattle.file_sinks.specs.Reading.{Extends};
 
 use crate::places::Places;
-use file_sinks::{FileSink, read_rest, unopened};
-use liq_base::{Failed, Fetched, Shelf, ShelfFault};
+use file_sinks::{FileSink, look_at_front, look_at_whole, read_rest, unopened};
+use liq_base::{Failed, Fetched, Looked, Shelf, ShelfFault};
 use std::alloc::Global;
 use std::fs::{self, File};
+use std::io::ErrorKind;
 use std::rt::Files;
 
 /// The files of the system, by their paths, for one run: each real file is created once.
@@ -73,6 +75,28 @@ impl<'a, R: Files<File = File> + Alloc<A = Global>> Shelf for FileShelf<'a, R> {
         fetched
     }
 
+    fn look(
+        &mut self,
+        name: &str,
+        into: &mut Vec<u8>,
+        front: u64,
+        most: u64,
+    ) -> Result<Looked, ShelfFault> {
+        let before = into.len();
+        let looked = if self.regular && may_wait(self.rt, name) {
+            Err(ShelfFault::Failed)
+        } else {
+            look_at_file(self.rt, name, into, front, most)
+        };
+        match looked {
+            Ok(Looked::Found(size)) => return Ok(Looked::Found(size)),
+            Err(ShelfFault::Failed) => self.read_faults = self.read_faults.saturating_add(1),
+            Ok(_) | Err(ShelfFault::Memory) => {}
+        }
+        into.truncate(before);
+        looked
+    }
+
     fn create(&mut self, name: &str, room: u64) -> Result<FileSink<File>, ShelfFault> {
         let created = self.outputs.create(self.rt, name, room);
         if let Err(ShelfFault::Failed) = created {
@@ -109,7 +133,63 @@ fn read_file<R: Files<File = File>>(
     ensures fits { result ≡ Ok Fetched.Found → vec_len into.new ≤ vec_len into.old + most }
 {
     match File::open(rt, name) {
-        Ok(mut file) => read_rest(&mut file, into, most),
+        Ok(mut file) => {
+            if into.reserve_exact(room_for(&file, most)).is_err() {
+                return Err(ShelfFault::Memory);
+            }
+            read_rest(&mut file, into, most)
+        }
         Err(error) => unopened(error.kind()),
+    }
+}
+
+// The bytes of a regular file that has at most `most`, and 0 of any other: room for them is asked for at once. What is
+// read decides how many there are.
+fn room_for(file: &File, most: u64) -> usize {
+    match file.metadata() {
+        Ok(found) if found.is_file() && found.len() <= most => found.len() as usize,
+        _ => 0,
+    }
+}
+
+// Adds the first bytes of a file that has at most `most`: of a regular one that has more than `front`, so many, and of
+// any other all.
+fn look_at_file<R: Files<File = File>>(
+    rt: &R,
+    name: &str,
+    into: &mut Vec<u8>,
+    front: u64,
+    most: u64,
+) -> Result<Looked, ShelfFault>
+    ensures extends { Extends into.old.items into.new.items }
+    ensures found { (size : ℕ) → result ≡ Ok (Looked.Found size)
+        → FrontFound None name.now front most size into.old.items into.new.items }
+{
+    match File::open(rt, name) {
+        Ok(mut file) => match size_past(&file, front) {
+            Some(size) => look_at_front(&mut file, into, front, size, most),
+            None => look_at_whole(&mut file, into, front, most),
+        },
+        Err(error) => unlooked(error.kind()),
+    }
+}
+
+// The size of a regular file that has more bytes than these.
+fn size_past(file: &File, front: u64) -> Option<u64>
+    ensures { IfSome result (λ size. front < size) }
+{
+    match file.metadata() {
+        Ok(found) if found.is_file() && found.len() > front => Some(found.len()),
+        _ => None,
+    }
+}
+
+// What a failed opening says of a file that was to be looked at.
+fn unlooked(kind: ErrorKind) -> Result<Looked, ShelfFault>
+    ensures { (size : ℕ) → result ≢ Ok (Looked.Found size) }
+{
+    match unopened(kind) {
+        Ok(_) => Ok(Looked::Missing),
+        Err(fault) => Err(fault),
     }
 }

@@ -66,7 +66,7 @@ known_format body size format is =
     }
 
 -- a chunk that is found stands behind the place from which it is looked for
-named_there : (bytes : List ℕ) (place : ℕ) (name : List ℕ) (chunks : List Chunk) (found : Chunk) → AreChunks bytes place chunks → first_named name chunks ≡ Some found
+pub named_there : (bytes : List ℕ) (place : ℕ) (name : List ℕ) (chunks : List Chunk) (found : Chunk) → AreChunks bytes place chunks → first_named name chunks ≡ Some found
     → (place ≤ found.place) × (found.place + 8 ≤ length bytes)
 named_there bytes place name [] found are is = absurd (cc)
 named_there bytes place name (chunk ∷ chunks) found are is =

@@ -4,3 +4,4 @@ pub mod Own
 pub mod Blocks
 pub mod Heads
 mod Places
+mod Fronts

@@ -8,7 +8,7 @@ use Rattle.wav_io.specs.Reading.{format_chunk}
 use Rattle.wav_io.specs.declared.chunks.Chunk.{Chunk}
 
 -- one number is within another or above it
-within_or : (m n : ℕ) → (m ≤ n) ⊎ (n < m)
+pub within_or : (m n : ℕ) → (m ≤ n) ⊎ (n < m)
 within_or m n = at_test (nat_le m n) refl where
   at_test : (b : Bool) → nat_le m n ≡ b → (m ≤ n) ⊎ (n < m)
   at_test true e = inl (leb-true m n e)
@@ -24,7 +24,7 @@ unfolding chunks_from
 no_chunk zero bytes place short = refl
 no_chunk (suc most) bytes place short = chosen_none (nat_le (place + 8) (length bytes)) _ _ (lt-leb (place + 8) (length bytes) short)
 
-one_chunk : (most : ℕ) (bytes : List ℕ) (place : ℕ) → place + 8 ≤ length bytes
+pub one_chunk : (most : ℕ) (bytes : List ℕ) (place : ℕ) → place + 8 ≤ length bytes
     → chunks_from (suc most) bytes place ≡ chunk_at bytes place ∷ chunks_from most bytes (place_behind (chunk_at bytes place))
 unfolding chunks_from
 one_chunk most bytes place long = ap (λ t. cond t (chunk_at bytes place ∷ chunks_from most bytes (place_behind (chunk_at bytes place))) []) (le-leb (place + 8) (length bytes) long)

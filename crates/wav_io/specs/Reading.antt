@@ -31,6 +31,15 @@ format_chunk chunks = first_named (codes "fmt ") (before_named (codes "data") ch
 abbrev pub body_of : List ℕ → Chunk → List ℕ
 body_of bytes chunk = take chunk.size (drop (chunk.place + 8) bytes)
 
+-- the place behind the head of a chunk, and 0 where there is none
+abbrev pub behind_head : Option Chunk → ℕ
+behind_head None = 0
+behind_head (Some chunk) = chunk.place + 8
+
+-- the place of the first byte of the samples: behind the head of the first data chunk
+abbrev pub place_of : List ℕ → ℕ
+place_of bytes = behind_head (first_named (codes "data") (chunks_of bytes))
+
 -- a body of 16, 18 or 40 bytes that is not cut
 abbrev pub is_format_body : List ℕ → ℕ → Bool
 is_format_body body size = (nat_eq size 16 || nat_eq size 18 || nat_eq size 40) && nat_eq (length body) size

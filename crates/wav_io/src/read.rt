@@ -1,6 +1,6 @@
 // WAV files that others wrote.
 ghost use Rattle.std.specs.Prelude.{◌≡◌, ◌≤◌, ◌<◌, ◌+◌, length, take, drop, Ok, Err, IfOk, MatchResult};
-ghost use Rattle.wav_io.specs.Reading.{read_of, is_riff, whole_blocks, AreBlocks};
+ghost use Rattle.wav_io.specs.Reading.{read_of, is_riff, place_of, whole_blocks, AreBlocks};
 
 use crate::WavFault;
 use crate::chunks::{chunk_body, find_data, find_format};
@@ -38,6 +38,7 @@ pub fn read_wav(bytes: &[u8]) -> Result<Wav<'_>, WavFault>
         (λ fault. read_of bytes.now ≡ Err fault) }
     ensures blocks { IfOk result (λ wav. AreBlocks wav.wide wav.kind wav.body.now) }
     ensures rate { IfOk result (λ wav. 0 < wav.rate) }
+    ensures at { IfOk result (λ wav. wav.at ≡ place_of bytes.now) }
     ensures place { IfOk result (λ wav. (wav.body.now ≡ take (length wav.body.now) (drop wav.at bytes.now))
         × (wav.at + length wav.body.now ≤ length bytes.now)) }
     // The heads of the file and of the two chunks, and the format, stand beside the blocks.
@@ -63,7 +64,7 @@ pub fn read_wav(bytes: &[u8]) -> Result<Wav<'_>, WavFault>
 }
 
 /// Whether `RIFF` and `WAVE` stand at their places.
-fn is_riff(bytes: &[u8]) -> bool
+pub(crate) fn is_riff(bytes: &[u8]) -> bool
     ensures { result ≡ is_riff bytes.now }
 {
     bytes.len() >= 12 && &bytes[..4] == b"RIFF".as_slice() && &bytes[8..12] == b"WAVE".as_slice()

@@ -1,0 +1,15 @@
+// The words of a call.
+use std::alloc::Global;
+use std::env;
+use std::io::ErrorKind;
+use std::rt::Env;
+
+/// The words after the program's name, or nothing if memory is refused. An argument that is not UTF-8 makes no form of
+/// the words, as no words at all.
+pub fn words<R: Env + Alloc<A = Global>>(rt: &R) -> Option<Vec<String>> {
+    match env::args(rt) {
+        Ok(args) => args.skip(1).collect(rt.alloc()).ok(),
+        Err(error) if error.kind() == ErrorKind::OutOfMemory => None,
+        Err(_) => Some(Vec::new(rt.alloc())),
+    }
+}
