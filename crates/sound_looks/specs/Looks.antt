@@ -1,13 +1,15 @@
 -- What a look at audio files and lists finds, and what it says of their use.
-use Rattle.std.specs.Prelude.{◌≡◌, ◌≤◌, ℕ, ◌+◌, ◌^◌, ◌&&◌, Bool, not, List, [], ◌∷◌, length, take, drop, Result, Ok, Err, if◌then◌else◌, nat_eq, nat_le, slice_index}
+use Rattle.std.specs.Prelude.{◌≡◌, ℕ, ◌+◌, ◌^◌, ◌&&◌, max, Bool, not, List, [], ◌∷◌, length, Result, Ok, Err, if◌then◌else◌, nat_eq, nat_le, slice_index}
 use Rattle.std.specs.Option.{ForSome}
 use Rattle.std.specs.Str.{is_utf8}
 use Rattle.liq_base.specs.Counts.{Rose}
 use Rattle.liq_base.specs.Files.{file_at}
 use Rattle.liq_base.specs.Shelves.{ShelfTold}
-use Rattle.wav_io.specs.Reading.{Wav, read_of}
+use Rattle.wav_io.specs.Reading.{Wav, place_of, read_of}
+use Rattle.wav_io.specs.declared.head.Head.{Head}
 use Rattle.wav_io.specs.declared.fault.WavFault.{WavFault}
 use Rattle.resample.specs.Resampled.{blocks_of, output_length}
+use Rattle.track_library.specs.Heads.{blocks_in, written_size}
 use Rattle.track_library.specs.Lists.{lines, names_listed, without_cr, without_mark}
 use Rattle.track_library.specs.Walk.{bytes_in, counted_bytes, samples_at, sound_of}
 use Rattle.track_library.specs.declared.rules.Rules.{Rules}
@@ -19,43 +21,44 @@ use Rattle.sound_looks.specs.declared.look.Look.TheVariants.{Unread, Bad, Sound}
 use Rattle.sound_looks.specs.declared.list.ListLook.{ListLook}
 use Rattle.sound_looks.specs.declared.list.ListLook.TheVariants as list_look
 
--- of a WAV file of so many bytes, whose samples begin at this place
-abbrev pub facts_of : Rules → (size place : ℕ) → Wav → Facts
-facts_of rules size place wav = record {
+-- of the WAV file of these bytes
+abbrev pub facts_of : Rules → (bytes : List ℕ) → Wav → Facts
+facts_of rules bytes wav = record {
   kind = wav.kind;
   rate = wav.rate;
   wide = wav.wide;
-  place = place;
+  place = place_of bytes;
   own = blocks_of wav.kind (samples_at wav.wide wav.body);
   played = output_length (blocks_of wav.kind (samples_at wav.wide wav.body)) wav.rate rules.rate;
-  bytes = counted_bytes size (sound_of rules.rate wav);
+  bytes = counted_bytes (length bytes) (sound_of rules.rate wav);
 }
 
--- of so many bytes, as they were read
-abbrev pub look_in : Rules → (size place : ℕ) → Result Wav WavFault → Look
-look_in rules size place (Err fault) = Bad (NotWav fault)
-look_in rules size place (Ok wav) = Sound (facts_of rules size place wav)
+-- the same, by its head
+abbrev pub head_facts : Rules → (size : ℕ) → Head → Facts
+head_facts rules size head = record {
+  kind = head.kind;
+  rate = head.rate;
+  wide = head.wide;
+  place = head.at;
+  own = blocks_in head;
+  played = output_length (blocks_in head) head.rate rules.rate;
+  bytes = max size (written_size head rules.rate);
+}
+
+-- of these bytes, as they were read
+abbrev pub look_in : Rules → (bytes : List ℕ) → Result Wav WavFault → Look
+look_in rules bytes (Err fault) = Bad (NotWav fault)
+look_in rules bytes (Ok wav) = Sound (facts_of rules bytes wav)
 
 -- of a file
-abbrev pub look_of : Rules → (place : ℕ) → Result (List ℕ) Unusable → Look
-look_of rules place (Err fault) = Bad fault
-look_of rules place (Ok bytes) = look_in rules (length bytes) place (read_of bytes)
-
--- the samples of a file stand at this place of it
-abbrev pub StandAt : (place : ℕ) → Result (List ℕ) Unusable → Type 0
-StandAt place found = (bytes : List ℕ) (wav : Wav) → found ≡ Ok bytes → read_of bytes ≡ Ok wav
-    → (wav.body ≡ take (length wav.body) (drop place bytes)) × (place + length wav.body ≤ length bytes)
-
--- what a file is; one that was found was read
-abbrev pub IsLookOf : Rules → Result (List ℕ) Unusable → Look → Type 0
-IsLookOf rules found Unread = ⊥
-IsLookOf rules found (Bad fault) = look_of rules 0 found ≡ Bad fault
-IsLookOf rules found (Sound facts) = (look_of rules facts.place found ≡ Sound facts) × StandAt facts.place found
+abbrev pub look_of : Rules → Result (List ℕ) Unusable → Look
+look_of rules (Err fault) = Bad fault
+look_of rules (Ok bytes) = look_in rules bytes (read_of bytes)
 
 -- the file of a name is this, where the shelf tells its files
 abbrev pub Looks : Rules → (name : List ℕ) → ShelfTold → Look → Type 0
 Looks rules name told found = ForSome told.files
-    (λ files. IsLookOf rules (bytes_in rules.file (file_at files name)) found)
+    (λ files. look_of rules (bytes_in rules.file (file_at files name)) ≡ found)
 
 -- what was found under a name: a read that failed let the count rise, and else it is what the file is
 abbrev pub IsLooked : Rules → (name : List ℕ) → (old new : ShelfTold) → Look → Type 0

@@ -7,6 +7,6 @@ ghost use Rattle.track_library.specs.declared.rules.Rules.{Rules};
 
 /// What a look finds says whether a walk uses the file, where all that it met fits, and for how many bytes it counts.
 pub fn looks_tell_uses()
-    ensures { (rules : Rules) (files : Files) (place : ℕ) (name : List ℕ) → count_of (audio_at rules files name)
-        ≡ counted_as rules (look_of rules place (bytes_in rules.file (file_at files name))) }
+    ensures { (rules : Rules) (files : Files) (name : List ℕ) → count_of (audio_at rules files name)
+        ≡ counted_as rules (look_of rules (bytes_in rules.file (file_at files name))) }
 {}

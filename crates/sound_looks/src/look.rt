@@ -1,14 +1,14 @@
 // Looks at audio files.
-ghost use Rattle.std.specs.Prelude.{◌≡◌, ◌≤◌, ◌<◌, Ok, length, IfOk};
-ghost use Rattle.wav_io.specs.Reading.{Wav, read_of, AreBlocks};
+ghost use Rattle.std.specs.Prelude.{◌≡◌, ◌≤◌, ◌<◌, IfOk};
+ghost use Rattle.wav_io.specs.Fronts.{AreWhole};
 ghost use Rattle.liq_base.specs.Shelves.{OnlyRead};
-ghost use Rattle.sound_looks.specs.Looks.{facts_of, IsLooked, IsLookOf};
+ghost use Rattle.sound_looks.specs.Looks.{head_facts, IsLooked};
 ghost use Rattle.track_library.specs.States.{AreRules};
 
-use liq_base::{Fetched, Kind, Memory, Shelf, ShelfFault};
+use liq_base::{Kind, Memory, Shelf};
 use std::alloc::Global;
-use track_library::{Rules, Unusable, block_count, written_bytes};
-use wav_io::{Wav, read_wav};
+use track_library::{LoadFault, Rules, Unusable, block_count, find_head, written_bytes};
+use wav_io::Head;
 
 /// What a WAV file holds, and for how much it counts.
 #[derive(Clone, Copy, Debug)]
@@ -47,7 +47,7 @@ pub enum Look {
     Sound(Facts),
 }
 
-/// Looks at the audio file of this name. Its bytes are given back before it answers.
+/// Looks at the audio file of this name. What was read of it is given back before it answers.
 pub fn look_at<S: Shelf>(
     alloc: Global,
     shelf: &mut S,
@@ -58,50 +58,31 @@ pub fn look_at<S: Shelf>(
     ensures looked { IfOk result (IsLooked rules name.now (S.told shelf.old) (S.told shelf.new)) }
     ensures shelf { OnlyRead (S.told shelf.old) (S.told shelf.new) }
 {
-    let mut bytes = Vec::new(alloc);
-    match shelf.read(name, &mut bytes, rules.file) {
-        Ok(Fetched::Found) => Ok(look_in(&bytes, rules)),
-        Ok(Fetched::Missing) => Ok(Look::Bad(Unusable::NotThere)),
-        Ok(Fetched::TooLarge) => Ok(Look::Bad(Unusable::TooLong)),
-        Err(ShelfFault::Failed) => Ok(Look::Unread),
-        Err(ShelfFault::Memory) => Err(Memory),
+    match find_head(alloc, shelf, name, rules.file) {
+        Ok(Ok((head, size))) => Ok(Look::Sound(facts_of(size, head, rules))),
+        Ok(Err(fault)) => Ok(Look::Bad(fault)),
+        Err(LoadFault::ReadFault(_)) => Ok(Look::Unread),
+        Err(_) => Err(Memory),
     }
 }
 
-// What these bytes are as an audio file. No memory is taken.
-fn look_in(bytes: &[u8], rules: Rules) -> Look
+// The facts of a WAV file of this head and of so many bytes.
+fn facts_of(size: u64, head: Head, rules: Rules) -> Facts
     requires rules { AreRules rules }
-    requires few { length bytes.now ≤ rules.file }
-    ensures { IsLookOf rules (Ok bytes.now) result }
+    requires rate { 0 < head.rate }
+    requires blocks { AreWhole head.wide head.kind head.size }
+    requires few { head.size ≤ 268435456 }
+    ensures { result ≡ head_facts rules size head }
 {
-    match read_wav(bytes) {
-        Ok(wav) => Look::Sound(facts_of(bytes.len() as u64, &wav, rules)),
-        Err(fault) => Look::Bad(Unusable::NotWav(fault)),
-    }
-}
-
-// The facts of a WAV file of so many bytes.
-fn facts_of(size: u64, wav: &Wav<'_>, rules: Rules) -> Facts
-    requires rules { AreRules rules }
-    requires rate { 0 < wav.now.rate }
-    requires blocks { AreBlocks wav.now.wide wav.now.kind wav.now.body.now }
-    requires few { length wav.now.body.now ≤ 268435456 }
-    ensures { result ≡ facts_of rules size wav.now.at (record {
-      kind = wav.now.kind;
-      rate = wav.now.rate;
-      wide = wav.now.wide;
-      body = wav.now.body.now;
-    }) }
-{
-    let own = block_count(wav.wide, wav.kind, wav.body);
-    let written = written_bytes(wav.wide, wav.kind, wav.body, wav.rate, rules.rate);
+    let own = block_count(head);
+    let written = written_bytes(head, rules.rate);
     Facts {
-        kind: wav.kind,
-        rate: wav.rate,
-        wide: wav.wide,
-        place: wav.at as u64,
+        kind: head.kind,
+        rate: head.rate,
+        wide: head.wide,
+        place: head.at,
         own,
-        played: resample::length(own, wav.rate, rules.rate),
+        played: resample::length(own, head.rate, rules.rate),
         bytes: size.max(written),
     }
 }

@@ -18,8 +18,8 @@ use Rattle.track_library.specs.declared.fault.LoadFault.TheVariants.{Missing, Ba
 use Rattle.stations.specs.Findings.{Fails, Fits, IsFound, IsLoaded, rules_of}
 use Rattle.station_check.specs.Halts.{HaltsFor, ClockHalts, GapHalts, LengthHalts, RestHalts, load_halt, clock_halt}
 use Rattle.station_check.specs.Steps.{FitsBy, IsUngapped, OnlyCause, OnlyClocks}
-use Rattle.station_check.specs.declared.halt.Halt.{Halt}
-use Rattle.station_check.specs.declared.halt.Halt.TheVariants.{Refused, Read, Memory}
+use Rattle.station_check.specs.declared.halt.CheckEnd.{CheckEnd}
+use Rattle.station_check.specs.declared.halt.CheckEnd.TheVariants.{Refused, Read, Memory}
 use Rattle.station_check.proofs.Findings.{found_cause, found_file, found_gap, found_long}
 
 -- the loading of the files
@@ -71,19 +71,19 @@ cause_found plan result TooManyClocks is cause exact only =
 cause_found plan result ClockFault.Memory is cause exact only = tt
 
 -- what each step of the rest ends with
-pub gap_ends : (plan : Plan) (ticks : ℕ) (halt : Halt) → IsWellFormed plan → GapHalts plan halt → RestHalts plan ticks halt
+pub gap_ends : (plan : Plan) (ticks : ℕ) (halt : CheckEnd) → IsWellFormed plan → GapHalts plan halt → RestHalts plan ticks halt
 gap_ends plan ticks (Refused fault) well h = λ files library loaded.
     rw h.fault_is (found_gap files plan ticks h.name well (record { library = library; loaded = loaded; mark = h.mark; marking = h.marking; first = h.first }))
 gap_ends plan ticks Read well h = absurd h
 gap_ends plan ticks Memory well h = tt
 
-pub clocks_end : (plan : Plan) (ticks : ℕ) (halt : Halt) → IsWellFormed plan → IsUngapped plan → ClockHalts plan halt → RestHalts plan ticks halt
+pub clocks_end : (plan : Plan) (ticks : ℕ) (halt : CheckEnd) → IsWellFormed plan → IsUngapped plan → ClockHalts plan halt → RestHalts plan ticks halt
 clocks_end plan ticks (Refused fault) well ungapped h = λ files library loaded.
     rw h.fault_is (found_cause files plan ticks library h.clock_fault well ungapped h.only_cause loaded)
 clocks_end plan ticks Read well ungapped h = absurd h
 clocks_end plan ticks Memory well ungapped h = tt
 
-pub length_ends : (plan : Plan) (ticks : ℕ) (clocks : ClockMap) (halt : Halt) → IsWellFormed plan → IsUngapped plan → OnlyClocks plan clocks → LengthHalts plan ticks halt
+pub length_ends : (plan : Plan) (ticks : ℕ) (clocks : ClockMap) (halt : CheckEnd) → IsWellFormed plan → IsUngapped plan → OnlyClocks plan clocks → LengthHalts plan ticks halt
     → RestHalts plan ticks halt
 length_ends plan ticks clocks (Refused fault) well ungapped one h = λ files library loaded.
     rw h.fault_is (found_long files plan ticks library clocks h.name well ungapped one h.first loaded)
@@ -91,7 +91,7 @@ length_ends plan ticks clocks Read well ungapped one h = absurd h
 length_ends plan ticks clocks Memory well ungapped one h = tt
 
 -- the rest ends for a plan whose files were loaded
-pub rest_ends : (old new : ShelfTold) (plan : Plan) (ticks : ℕ) (library : Sounds) (halt : Halt)
+pub rest_ends : (old new : ShelfTold) (plan : Plan) (ticks : ℕ) (library : Sounds) (halt : CheckEnd)
     → ((files : Files) → old.files ≡ Some files → IsLoaded files plan library) → RestHalts plan ticks halt
     → HaltsFor old new (λ files fault. IsFound files plan ticks (Fails fault)) halt
 rest_ends old new plan ticks library (Refused fault) loaded h = λ files t. h files library (loaded files t)
@@ -99,7 +99,7 @@ rest_ends old new plan ticks library Read loaded h = absurd h
 rest_ends old new plan ticks library Memory loaded h = tt
 
 -- the clocks that the rest answers are those of a plan whose files can be loaded
-pub rest_fits : (told : Option Files) (plan : Plan) (ticks : ℕ) (result : Result ClockMap Halt)
+pub rest_fits : (told : Option Files) (plan : Plan) (ticks : ℕ) (result : Result ClockMap CheckEnd)
     → ForSome told (λ files. CanLoad (rules_of plan) files plan.nodes)
     → IfOk result (λ clocks. (files : Files) (library : Sounds) → IsLoaded files plan library → IsLibrary library → IsFound files plan ticks (Fits library clocks))
     → IfOk result (λ clocks. ForSome told (λ files. FitsBy files plan ticks clocks))
@@ -107,7 +107,7 @@ rest_fits told plan ticks (Ok clocks) can found = λ files t. (let of = can file
 rest_fits told plan ticks (Err halt) can found = tt
 
 -- and so is its fault
-pub rest_fails : (old new : ShelfTold) (plan : Plan) (ticks : ℕ) (result : Result ClockMap Halt)
+pub rest_fails : (old new : ShelfTold) (plan : Plan) (ticks : ℕ) (result : Result ClockMap CheckEnd)
     → ForSome old.files (λ files. CanLoad (rules_of plan) files plan.nodes) → IfErr result (RestHalts plan ticks)
     → IfErr result (HaltsFor old new (λ files fault. IsFound files plan ticks (Fails fault)))
 rest_fails old new plan ticks (Ok clocks) can h = tt
@@ -116,7 +116,7 @@ rest_fails old new plan ticks (Err Read) can h = absurd h
 rest_fails old new plan ticks (Err Memory) can h = tt
 
 -- the loading ends for these ticks
-pub load_ends : (old new : ShelfTold) (plan : Plan) (ticks : ℕ) (halt : Halt)
+pub load_ends : (old new : ShelfTold) (plan : Plan) (ticks : ℕ) (halt : CheckEnd)
     → HaltsFor old new (λ files fault. (ticks : ℕ) → IsFound files plan ticks (Fails fault)) halt
     → HaltsFor old new (λ files fault. IsFound files plan ticks (Fails fault)) halt
 load_ends old new plan ticks (Refused fault) h = λ files t. h files t ticks

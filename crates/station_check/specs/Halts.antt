@@ -15,18 +15,18 @@ use Rattle.stations.specs.declared.fault.StationFault.{StationFault}
 use Rattle.stations.specs.declared.fault.StationFault.TheVariants.{FallibleOutput, Clocks, OutputTooLong}
 use Rattle.stations.specs.Findings.{Fails, IsFound, IsLoaded, first_name, is_too_long}
 use Rattle.station_check.specs.Steps.{OnlyCause}
-use Rattle.station_check.specs.declared.halt.Halt.{Halt}
-use Rattle.station_check.specs.declared.halt.Halt.TheVariants.{Refused, Read, Memory}
+use Rattle.station_check.specs.declared.halt.CheckEnd.{CheckEnd}
+use Rattle.station_check.specs.declared.halt.CheckEnd.TheVariants.{Refused, Read, Memory}
 
 -- a plan is refused for what is found where the files are told; a read failed where the count of failed reads rose; and
 -- memory may be refused anywhere
-abbrev pub HaltsFor : (old new : ShelfTold) → (Files → StationFault → Type 0) → Halt → Type 0
+abbrev pub HaltsFor : (old new : ShelfTold) → (Files → StationFault → Type 0) → CheckEnd → Type 0
 HaltsFor old new IsTold (Refused fault) = ForSome old.files (λ files. IsTold files fault)
 HaltsFor old new IsTold Read = Rose old.reads new.reads
 HaltsFor old new IsTold Memory = ⊤
 
 -- how a check ends at a fault of files, and at one of clocks
-abbrev pub load_halt : LoadFault → Halt
+abbrev pub load_halt : LoadFault → CheckEnd
 load_halt (Missing name) = Refused (StationFault.Files (Missing name))
 load_halt (BadAudio name fault) = Refused (StationFault.Files (BadAudio name fault))
 load_halt (FileTooLarge name) = Refused (StationFault.Files (FileTooLarge name))
@@ -34,7 +34,7 @@ load_halt AllTooLarge = Refused (StationFault.Files AllTooLarge)
 load_halt (ReadFault name) = Read
 load_halt LoadFault.Memory = Memory
 
-abbrev pub clock_halt : ClockFault → Halt
+abbrev pub clock_halt : ClockFault → CheckEnd
 clock_halt (TwoClocks node first second) = Refused (Clocks (TwoClocks node first second))
 clock_halt (Nested node) = Refused (Clocks (Nested node))
 clock_halt TooManyClocks = Refused (Clocks TooManyClocks)
@@ -48,7 +48,7 @@ pub record IsGapped (plan : Plan) (fault : StationFault) : Type 0 where
   pub marking : IsMarking plan.nodes mark
   pub first : first_name (refuses mark) plan.sinks ≡ Some name
 
-abbrev pub GapHalts : Plan → Halt → Type 0
+abbrev pub GapHalts : Plan → CheckEnd → Type 0
 GapHalts plan (Refused fault) = IsGapped plan fault
 GapHalts plan Read = ⊥
 GapHalts plan Memory = ⊤
@@ -59,7 +59,7 @@ pub record HasNoClocks (plan : Plan) (fault : StationFault) : Type 0 where
   pub fault_is : fault ≡ Clocks clock_fault
   pub only_cause : OnlyCause plan clock_fault
 
-abbrev pub ClockHalts : Plan → Halt → Type 0
+abbrev pub ClockHalts : Plan → CheckEnd → Type 0
 ClockHalts plan (Refused fault) = HasNoClocks plan fault
 ClockHalts plan Read = ⊥
 ClockHalts plan Memory = ⊤
@@ -70,13 +70,13 @@ pub record IsLong (plan : Plan) (ticks : ℕ) (fault : StationFault) : Type 0 wh
   pub fault_is : fault ≡ OutputTooLong name
   pub first : first_name (is_too_long plan ticks) plan.sinks ≡ Some name
 
-abbrev pub LengthHalts : Plan → (ticks : ℕ) → Halt → Type 0
+abbrev pub LengthHalts : Plan → (ticks : ℕ) → CheckEnd → Type 0
 LengthHalts plan ticks (Refused fault) = IsLong plan ticks fault
 LengthHalts plan ticks Read = ⊥
 LengthHalts plan ticks Memory = ⊤
 
 -- the fault of a plan whose audio files are there
-abbrev pub RestHalts : Plan → (ticks : ℕ) → Halt → Type 0
+abbrev pub RestHalts : Plan → (ticks : ℕ) → CheckEnd → Type 0
 RestHalts plan ticks (Refused fault) = (files : Files) (library : Sounds) → IsLoaded files plan library
     → IsFound files plan ticks (Fails fault)
 RestHalts plan ticks Read = ⊥

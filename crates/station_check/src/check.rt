@@ -9,7 +9,7 @@ ghost use Rattle.station_check.specs.Halts.{HaltsFor, RestHalts};
 ghost use Rattle.station_check.specs.Steps.{FitsBy, IsUngapped, OnlyClocks};
 ghost use Rattle.liq_base.specs.Shelves.{OnlyRead};
 
-use crate::Halt;
+use crate::CheckEnd;
 use crate::clocks::find_clocks;
 use crate::files::{check_files, read_files};
 use crate::gaps::check_gaps;
@@ -28,7 +28,7 @@ pub fn check_plan<S: Shelf>(
     plan: &Plan,
     ticks: u64,
     shelf: &mut S,
-) -> Result<Ready, Halt>
+) -> Result<Ready, CheckEnd>
     requires plan { IsWellFormed plan.now }
     requires few { ticks ≤ 1000000000 }
     // What is answered is what is found of the plan, and nothing else is.
@@ -58,7 +58,7 @@ pub fn check_clocks<S: Shelf>(
     plan: &Plan,
     ticks: u64,
     shelf: &mut S,
-) -> Result<ClockMap, Halt>
+) -> Result<ClockMap, CheckEnd>
     requires plan { IsWellFormed plan.now }
     requires few { ticks ≤ 1000000000 }
     // The plan is found to be one with some audio files and these clocks, and nothing else is found.
@@ -78,7 +78,7 @@ pub fn check_clocks<S: Shelf>(
 }
 
 // The clocks of a plan whose audio files are there, or its first fault.
-fn check_rest(alloc: Global, plan: &Plan, ticks: u64) -> Result<ClockMap, Halt>
+fn check_rest(alloc: Global, plan: &Plan, ticks: u64) -> Result<ClockMap, CheckEnd>
     requires plan { IsWellFormed plan.now }
     requires few { ticks ≤ 1000000000 }
     ensures found { IfOk result (λ clocks. (files : Files) (library : Sounds) → IsLoaded files plan.now library

@@ -4,14 +4,14 @@ ghost use Rattle.plan_core.specs.Plans.{IsWellFormed};
 ghost use Rattle.station_check.specs.Steps.{OnlyClocks};
 ghost use Rattle.station_check.specs.Halts.{ClockHalts, clock_halt};
 
-use crate::Halt;
+use crate::CheckEnd;
 use clock_infer::{ClockFault, ClockMap, assign};
 use plan_core::Plan;
 use stations::StationFault;
 use std::alloc::Global;
 
 /// The clocks of a plan, or the cause for which it has none.
-pub fn find_clocks(alloc: Global, plan: &Plan) -> Result<ClockMap, Halt>
+pub fn find_clocks(alloc: Global, plan: &Plan) -> Result<ClockMap, CheckEnd>
     requires { IsWellFormed plan.now }
     ensures map { IfOk result (λ clocks. OnlyClocks plan.now clocks) }
     ensures fault { IfErr result (ClockHalts plan.now) }
@@ -23,11 +23,11 @@ pub fn find_clocks(alloc: Global, plan: &Plan) -> Result<ClockMap, Halt>
 }
 
 // How a check ends at a fault of clocks.
-fn halt_of(fault: ClockFault) -> Halt
+fn halt_of(fault: ClockFault) -> CheckEnd
     ensures { result ≡ clock_halt fault }
 {
     match fault {
-        ClockFault::Memory => Halt::Memory,
-        _ => Halt::Refused(StationFault::Clocks(fault)),
+        ClockFault::Memory => CheckEnd::Memory,
+        _ => CheckEnd::Refused(StationFault::Clocks(fault)),
     }
 }

@@ -7,7 +7,7 @@ ghost use Rattle.station_check.specs.Halts.{HaltsFor, load_halt};
 ghost use Rattle.track_library.specs.Loads.{AreLoaded, CanLoad};
 ghost use Rattle.liq_base.specs.Shelves.{OnlyRead};
 
-use crate::Halt;
+use crate::CheckEnd;
 use liq_base::Shelf;
 use liq_base::limits::{MAX_ALL_BYTES, MAX_FILE_BYTES};
 use plan_core::Plan;
@@ -22,7 +22,11 @@ const SIZES: Sizes = Sizes {
 };
 
 /// The audio files of a plan, each read once and none decoded; or the first fault of their loading.
-pub fn read_files<S: Shelf>(alloc: Global, plan: &Plan, shelf: &mut S) -> Result<PlanFiles, Halt>
+pub fn read_files<S: Shelf>(
+    alloc: Global,
+    plan: &Plan,
+    shelf: &mut S,
+) -> Result<PlanFiles, CheckEnd>
     requires { IsWellFormed plan.now }
     ensures loaded { IfOk result (AreLoaded (S.told shelf.old).files (rules_of plan.now) plan.now.nodes) }
     ensures fault { IfErr result (HaltsFor (S.told shelf.old) (S.told shelf.new)
@@ -36,7 +40,7 @@ pub fn read_files<S: Shelf>(alloc: Global, plan: &Plan, shelf: &mut S) -> Result
 }
 
 /// Whether the audio files of a plan can be loaded, or the first fault of that. Each is read once, and none is kept.
-pub fn check_files<S: Shelf>(alloc: Global, plan: &Plan, shelf: &mut S) -> Result<(), Halt>
+pub fn check_files<S: Shelf>(alloc: Global, plan: &Plan, shelf: &mut S) -> Result<(), CheckEnd>
     requires { IsWellFormed plan.now }
     ensures can { OnOk result (ForSome (S.told shelf.old).files
         (λ files. CanLoad (rules_of plan.now) files plan.now.nodes)) }
@@ -51,12 +55,12 @@ pub fn check_files<S: Shelf>(alloc: Global, plan: &Plan, shelf: &mut S) -> Resul
 }
 
 // How a check ends at a fault of files.
-fn halt_of(fault: LoadFault) -> Halt
+fn halt_of(fault: LoadFault) -> CheckEnd
     ensures { result ≡ load_halt fault }
 {
     match fault {
-        LoadFault::ReadFault(_) => Halt::Read,
-        LoadFault::Memory => Halt::Memory,
-        _ => Halt::Refused(StationFault::Files(fault)),
+        LoadFault::ReadFault(_) => CheckEnd::Read,
+        LoadFault::Memory => CheckEnd::Memory,
+        _ => CheckEnd::Refused(StationFault::Files(fault)),
     }
 }

@@ -5,7 +5,7 @@ ghost use Rattle.stations.specs.Findings.{sink_name};
 ghost use Rattle.station_check.specs.Steps.{IsUngapped};
 ghost use Rattle.station_check.specs.Halts.{GapHalts};
 
-use crate::Halt;
+use crate::CheckEnd;
 use fallible_infer::{check_outputs, infallible};
 use liq_base::{Memory, Text};
 use plan_core::{Plan, SinkPlan};
@@ -23,7 +23,7 @@ pub fn output_name(alloc: Global, sink: &SinkPlan) -> Result<Text, Memory>
 }
 
 /// Refuses the first output that needs an infallible source and has none.
-pub fn check_gaps(alloc: Global, plan: &Plan) -> Result<(), Halt>
+pub fn check_gaps(alloc: Global, plan: &Plan) -> Result<(), CheckEnd>
     requires { IsWellFormed plan.now }
     ensures safe { OnOk result (IsUngapped plan.now) }
     ensures fault { IfErr result (GapHalts plan.now) }
@@ -31,7 +31,7 @@ pub fn check_gaps(alloc: Global, plan: &Plan) -> Result<(), Halt>
     let marks = infallible(alloc, plan)?;
     if let Err(fault) = check_outputs(plan, &marks) {
         let name = output_name(alloc, &plan.sinks.as_slice()[fault.sink as usize])?;
-        return Err(Halt::Refused(StationFault::FallibleOutput(name)));
+        return Err(CheckEnd::Refused(StationFault::FallibleOutput(name)));
     }
     Ok(())
 }

@@ -1,13 +1,13 @@
 // Why a check ends without the plan's audio files and clocks.
 ghost use Rattle.std.specs.Prelude.{◌≡◌};
-ghost use Rattle.station_check.specs.declared.halt.Halt.TheVariants.{Memory as no_memory};
+ghost use Rattle.station_check.specs.declared.halt.CheckEnd.TheVariants.{Memory as no_memory};
 
 use liq_base::Memory;
 use stations::StationFault;
 
 /// Why a check ends without the plan's audio files and clocks.
 #[derive(Debug, Drop)]
-pub enum Halt {
+pub enum CheckEnd {
     /// The plan is refused.
     Refused(StationFault),
 
@@ -18,10 +18,10 @@ pub enum Halt {
     Memory,
 }
 
-impl From<Memory> for Halt {
+impl From<Memory> for CheckEnd {
     ghost from_gives = { λ _ e. e ≡ no_memory };
 
-    fn from(_refused: Memory) -> Halt {
-        Halt::Memory
+    fn from(_refused: Memory) -> CheckEnd {
+        CheckEnd::Memory
     }
 }

@@ -5,7 +5,7 @@ ghost use Rattle.stations.specs.Findings.{first_name, is_too_long, node_kind};
 ghost use Rattle.wav_io.specs.Header.{header_at};
 ghost use Rattle.station_check.specs.Halts.{LengthHalts};
 
-use crate::Halt;
+use crate::CheckEnd;
 use crate::gaps::output_name;
 use liq_base::Kind;
 use liq_base::limits::MAX_RATE;
@@ -15,7 +15,7 @@ use std::alloc::Global;
 use wav_io::{header, header_wide};
 
 /// Refuses the first output that is too long for the header of its file after so many ticks, at most 1000000000.
-pub fn check_lengths(alloc: Global, plan: &Plan, ticks: u64) -> Result<(), Halt>
+pub fn check_lengths(alloc: Global, plan: &Plan, ticks: u64) -> Result<(), CheckEnd>
     requires plan { IsWellFormed plan.now }
     requires few { ticks ≤ 1000000000 }
     ensures short { OnOk result (first_name (is_too_long plan.now ticks) plan.now.sinks ≡ None) }
@@ -24,7 +24,7 @@ pub fn check_lengths(alloc: Global, plan: &Plan, ticks: u64) -> Result<(), Halt>
     for sink in plan.sinks.as_slice() {
         if is_too_long(plan, ticks, sink) {
             let name = output_name(alloc, sink)?;
-            return Err(Halt::Refused(StationFault::OutputTooLong(name)));
+            return Err(CheckEnd::Refused(StationFault::OutputTooLong(name)));
         }
     }
     Ok(())

@@ -11,5 +11,5 @@ mod lengths;
 mod report;
 
 pub use check::{check_clocks, check_plan};
-pub use halt::Halt;
+pub use halt::CheckEnd;
 pub use report::check_report;

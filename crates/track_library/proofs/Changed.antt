@@ -1,15 +1,16 @@
 -- Audio files at the rate of the script, and what they count for.
-use Rattle.std.proofs.Common.{Bool, true, false, not, ◌≡◌, ◌≤◌, ◌<◌, ℕ, ℤ, ◌+◌, ◌*◌, List, length, refl, sym, ap, ◌∙◌, subst, take, drop, arith}
+use Rattle.std.proofs.Common.{Bool, true, false, ◌≡◌, ◌≤◌, ◌<◌, ℕ, ℤ, ◌+◌, ◌*◌, List, length, sym, ap, ◌∙◌, arith}
 use Rattle.std.specs.Prelude.{Result, Ok, Err}
 use Rattle.liq_base.specs.Kinds.{channels_of}
 use Rattle.liq_base.specs.declared.memory.Kind.{Kind}
 use Rattle.liq_base.specs.declared.memory.Kind.TheVariants.{Mono, Stereo}
-use Rattle.frame_core.specs.Bytes.{samples_from}
 use Rattle.frame_core.specs.Sounds.{IsSound, Sound}
 use Rattle.wav_io.specs.Reading.{AreBlocks, Wav, read_of}
+use Rattle.wav_io.specs.Fronts.{IsHeadOf, wav_at}
+use Rattle.wav_io.specs.declared.head.Head.{Head}
 use Rattle.wav_io.proofs.Heads.{is_file}
 use Rattle.resample.specs.Resampled.{IsFile, blocks_of, output_length, resampled}
-use Rattle.resample.proofs.Laws.{resampled_length, resampled_some, resampled_whole, same_rate}
+use Rattle.resample.proofs.Formulas.{resampled_length, resampled_some, resampled_whole, same_rate}
 use Rattle.wav_io.specs.declared.fault.WavFault.{WavFault}
 use Rattle.track_library.specs.Files.{IsReadable, sound_in}
 use Rattle.track_library.specs.Walk.{counted_bytes, samples_at, sound_of}
@@ -57,23 +58,17 @@ written_is kind samples from to block count is_block is_count =
     ∙ ap (λ n. 44 + 2 * n) (sym (resampled_length from to kind samples))
 
 -- a file at the rate of the script
-abbrev sound_with : Kind → List ℤ → Sound
+abbrev pub sound_with : Kind → List ℤ → Sound
 sound_with kind samples = record { kind = kind; samples = samples }
 
-own_samples : (from to : ℕ) (kind : Kind) (samples : List ℤ) → from ≡ to → 0 < to → IsFile kind samples → resampled from to kind samples ≡ samples
-own_samples from to kind samples same some file = ap (λ n. resampled n to kind samples) same ∙ same_rate to kind samples some file
-
-pub own_track : (own rate : ℕ) (kind : Kind) (samples : List ℤ) (track : Sound) → own ≡ rate → 8000 ≤ rate → IsFile kind samples
-    → track ≡ sound_with kind samples → track ≡ sound_with kind (resampled own rate kind samples)
-own_track own rate kind samples track same least file is =
-    let some : 0 < rate = omega arith in
-    is ∙ ap (λ (s : List ℤ). sound_with kind s) (sym (own_samples own rate kind samples same some file))
+own_samples : (rate : ℕ) (kind : Kind) (samples : List ℤ) → 0 < rate → IsFile kind samples → resampled rate rate kind samples ≡ samples
+own_samples rate kind samples some file = same_rate rate kind samples some file
 
 pub own_sound : (bytes : List ℕ) (wav : Wav) → length bytes ≤ 268435456 → read_of bytes ≡ Ok wav → sound_of wav.rate wav ≡ sound_with wav.kind (samples_at wav.wide wav.body)
 own_sound bytes wav few read =
     let file = is_file bytes wav read in
     let within : length wav.body ≤ 268435456 = omega (arith, file.heads) in
-    ap (λ (s : List ℤ). sound_with wav.kind s) (own_samples wav.rate wav.rate wav.kind (samples_at wav.wide wav.body) refl file.rate (file_of wav.wide wav.kind wav.body file.blocks within))
+    ap (λ (s : List ℤ). sound_with wav.kind s) (own_samples wav.rate wav.kind (samples_at wav.wide wav.body) file.rate (file_of wav.wide wav.kind wav.body file.blocks within))
 
 pub own_bytes : (bytes : List ℕ) (wav : Wav) → length bytes ≤ 268435456 → read_of bytes ≡ Ok wav → counted_bytes (length bytes) (sound_of wav.rate wav) ≡ length bytes
 own_bytes bytes wav few read =
@@ -82,25 +77,16 @@ own_bytes bytes wav few read =
     let twice_is = two_each wav.wide wav.body in
     omega (arith, file.heads, is, twice_is)
 
--- a file whose blocks stand at a place
-abbrev pub wav_at : Kind → (rate : ℕ) → (wide : Bool) → (at size : ℕ) → List ℕ → Wav
-wav_at kind rate wide at size bytes = record { kind = kind; rate = rate; wide = wide; body = take size (drop at bytes) }
+-- a file of a known head
+pub head_file : (bytes : List ℕ) (head : Head) → IsHeadOf bytes head → length bytes ≤ 268435456 → IsFile head.kind (samples_at head.wide (wav_at bytes head).body)
+head_file bytes head told few =
+    let file = is_file bytes (wav_at bytes head) told.read in
+    file_of head.wide head.kind (wav_at bytes head).body file.blocks (omega (arith, file.heads, few))
 
-is_narrow : (wide : Bool) → not wide ≡ true → wide ≡ false
-is_narrow false h = refl
-is_narrow true h = cc
+pub head_blocks : (bytes : List ℕ) (head : Head) → IsHeadOf bytes head → IsSound (sound_with head.kind (samples_at head.wide (wav_at bytes head).body))
+head_blocks bytes head told = blocks_sound head.wide head.kind (wav_at bytes head).body (is_file bytes (wav_at bytes head) told.read).blocks
 
--- a file of 16 bits at the rate of the script is what its bytes hold
-pub kept_sound : (bytes : List ℕ) (wav : Wav) (rate : ℕ) (track : Sound) → length bytes ≤ 268435456 → read_of bytes ≡ Ok wav → wav.rate ≡ rate → not wav.wide ≡ true
-    → track ≡ sound_with wav.kind (samples_from wav.body) → track ≡ sound_in rate (read_of bytes)
-kept_sound bytes wav rate track few read same narrow is =
-    is
-    ∙ ap (λ wide. sound_with wav.kind (samples_at wide wav.body)) (sym (is_narrow wav.wide narrow))
-    ∙ sym (own_sound bytes wav few read)
-    ∙ ap (λ n. sound_of n wav) same
-    ∙ ap (sound_in rate) (sym read)
-
-pub kept_blocks : (bytes : List ℕ) (wav : Wav) → read_of bytes ≡ Ok wav → not wav.wide ≡ true → IsSound (sound_with wav.kind (samples_from wav.body))
-kept_blocks bytes wav read narrow =
-    subst (λ wide. IsSound (sound_with wav.kind (samples_at wide wav.body))) (is_narrow wav.wide narrow)
-    (blocks_sound wav.wide wav.kind wav.body (is_file bytes wav read).blocks)
+-- at its own rate it is what its bytes hold
+pub head_sound : (bytes : List ℕ) (head : Head) → IsHeadOf bytes head → length bytes ≤ 268435456
+    → sound_with head.kind (samples_at head.wide (wav_at bytes head).body) ≡ sound_in head.rate (read_of bytes)
+head_sound bytes head told few = sym (own_sound bytes (wav_at bytes head) few told.read) ∙ sym (ap (sound_in head.rate) told.read)

@@ -1,10 +1,9 @@
 -- Lists that are chosen by numbers, one more.
-use Rattle.std.proofs.Common.{◌≡◌, ◌∙◌, ◌<◌, ◌++◌, ℕ, suc, List, [], ◌∷◌, length, map, ap, arith, refl, length-append}
+use Rattle.std.proofs.Common.{◌≡◌, ◌∙◌, ◌<◌, ◌++◌, ℕ, suc, List, [], ◌∷◌, length, map, ap, arith, refl}
 use Rattle.std.specs.Prelude.{Vec, slice_index_or}
 use Rattle.std.specs.declared.alloc.Global.{Global}
 use Rattle.std.specs.List.{All}
 use Rattle.std.proofs.lemmas.List.{length-map}
-use Rattle.std.proofs.lemmas.List.Elements.{All-push}
 use Rattle.frame_core.specs.Library.{chosen_lists}
 use Rattle.track_library.proofs.Leaves.{all_more}
 use Rattle.track_library.proofs.OneFile.{at_end, at_front}
@@ -42,12 +41,3 @@ pushed_own old new leaf numbers more number grown pushed last there =
     let same : chosen_lists (items new) numbers ≡ chosen_lists (items old) numbers =
     ap (λ ls. chosen_lists ls numbers) lists_are ∙ same_chosen (items old) leaf.items numbers (all_more (length old) (length (items old)) numbers (omega (arith, many)) there) in
     pushed_shared new leaf.items numbers more number pushed here ∙ ap (λ ls. ls ++ leaf.items ∷ []) same
-
--- the numbers are still those of lists
-pub there_still : {A : Type 0} (old new : List A) (x : A) (numbers : List ℕ) → new ≡ old ++ x ∷ [] → All (λ n. n < length old) numbers → All (λ n. n < length new) numbers
-there_still old new x numbers grown there =
-    let many = ap length grown ∙ length-append old (x ∷ []) in
-    all_more (length old) (length new) numbers (omega (arith, many)) there
-
-pub there_more : (count : ℕ) (numbers more : List ℕ) (number : ℕ) → more ≡ numbers ++ number ∷ [] → number < count → All (λ n. n < count) numbers → All (λ n. n < count) more
-there_more count numbers more number pushed low there = rw pushed (All-push (λ n. n < count) numbers number there low)

@@ -5,7 +5,7 @@ use Rattle.liq_base.specs.Counts.{Rose}
 use Rattle.liq_base.specs.Files.{Files}
 use Rattle.liq_base.specs.Shelves.{OnlyRead, ShelfTold}
 use Rattle.std.specs.Option.{ForSome}
-use Rattle.track_library.specs.Walk.{Ends, EndsAt, IsReading, told_fault}
+use Rattle.track_library.specs.Walk.{Ends, IsReading, told_fault}
 use Rattle.track_library.specs.declared.fault.Unusable.{Unusable}
 use Rattle.track_library.specs.declared.fault.Unusable.TheVariants.{NotThere, NotWav, TooLong}
 use Rattle.track_library.specs.declared.fault.LoadFault.{LoadFault}
@@ -20,16 +20,6 @@ read_ends file old new reads step (FileTooLarge name) asked h = absurd h
 read_ends file old new reads step AllTooLarge asked h = absurd h
 read_ends file old new reads step (ReadFault name) asked h = (h.0, λ files t. asked files t name h.1)
 read_ends file old new reads step Memory asked h = h
-
--- a part that reads nothing
-pub part_ends : {X Y : Type 0} (old new : ShelfTold) (reads : Files → List ℕ → Type 0) (part : Result X LoadFault) (step : Files → Result Y LoadFault) (fault : LoadFault)
-    → ((files : Files) → old.files ≡ Some files → (e : LoadFault) → part ≡ Err e → step files ≡ Err e) → EndsAt part fault → Ends old new reads step fault
-part_ends old new reads part step (Missing name) more h = λ files t. more files t (Missing name) h
-part_ends old new reads part step (BadAudio name fault) more h = λ files t. more files t (BadAudio name fault) h
-part_ends old new reads part step (FileTooLarge name) more h = λ files t. more files t (FileTooLarge name) h
-part_ends old new reads part step AllTooLarge more h = λ files t. more files t AllTooLarge h
-part_ends old new reads part step (ReadFault name) more h = absurd h
-part_ends old new reads part step Memory more h = h
 
 -- a part that began later
 pub ends_through : {X Y : Type 0} (old began new : ShelfTold) (asked reads : Files → List ℕ → Type 0) (part : Files → Result X LoadFault) (step : Files → Result Y LoadFault) (fault : LoadFault)

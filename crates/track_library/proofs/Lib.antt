@@ -11,3 +11,4 @@ pub mod OneFile
 pub mod Changed
 pub mod Taken
 pub mod Chosen
+pub mod Counting

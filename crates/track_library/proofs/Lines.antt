@@ -29,10 +29,6 @@ one_line (b ∷ c ∷ bytes) some none =
     ap (λ t. cond t ([] ∷ lines (c ∷ bytes)) (with_first b (lines (c ∷ bytes)))) (none 0 (omega arith))
     ∙ ap (with_first b) (one_line (c ∷ bytes) (omega arith) (λ k h. none (suc k) (omega arith)))
 
--- a line that is a name, and one that is none
-pub one_name : (line : List ℕ) (rest : List (List ℕ)) → is_name (without_cr line) ≡ true → names_among (line ∷ rest) ≡ without_cr line ∷ names_among rest
-one_name line rest e = ap (λ t. cond t (without_cr line ∷ names_among rest) (names_among rest)) e
-
 pub no_name : (line : List ℕ) (rest : List (List ℕ)) → is_name (without_cr line) ≡ false → names_among (line ∷ rest) ≡ names_among rest
 no_name line rest e = ap (λ t. cond t (without_cr line ∷ names_among rest) (names_among rest)) e
 

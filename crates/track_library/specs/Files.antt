@@ -1,12 +1,10 @@
--- Audio files that are used, before they are decoded and after.
-use Rattle.std.specs.Prelude.{◌≡◌, ◌≤◌, ⊤, ℕ, List, length, Result, Ok, Err}
+-- Audio files that are used, as they were read.
+use Rattle.std.specs.Prelude.{◌≤◌, ⊤, ℕ, List, length, Result, Ok, Err}
 use Rattle.frame_core.specs.Library.{no_sound}
 use Rattle.frame_core.specs.Sounds.{Sound}
-use Rattle.resample.specs.Resampled.{resampled}
 use Rattle.wav_io.specs.Reading.{Wav, read_of}
 use Rattle.wav_io.specs.declared.fault.WavFault.{WavFault}
 use Rattle.track_library.specs.Walk.{sound_of}
-use Rattle.track_library.specs.declared.recording.Recording.{Recording}
 
 -- a WAV file, and no fault
 abbrev pub IsReadable : Result Wav WavFault → Type 0
@@ -24,14 +22,3 @@ pub record IsUsed (rate : ℕ) (bytes : List ℕ) : Type 0 where
   pub most : rate ≤ 192000
   pub few : length bytes ≤ 268435456
   pub readable : IsReadable (read_of bytes)
-
--- the sound of a recording at the rate of the script
-abbrev pub at_rate : (rate : ℕ) → Recording → Sound
-at_rate rate recording = record {
-  kind = recording.kind;
-  samples = resampled recording.rate rate recording.kind recording.samples.items;
-}
-
--- a recording is the sound of some bytes at each rate
-abbrev pub SoundsAs : Result Wav WavFault → Recording → Type 0
-SoundsAs wav recording = (rate : ℕ) → sound_in rate wav ≡ at_rate rate recording

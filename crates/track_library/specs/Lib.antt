@@ -5,3 +5,4 @@ pub mod States
 pub mod Singles
 pub mod Files
 pub mod Loads
+pub mod Heads

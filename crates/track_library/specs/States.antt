@@ -1,14 +1,12 @@
 -- What contracts see of the audio files that were met and of the lists that were read.
-use Rattle.std.specs.Prelude.{◌≡◌, ◌≤◌, ◌<◌, ◌^◌, ℕ, [], ◌∷◌, ◌++◌, Bool, true, List, length, map, Option, Result, Ok, Err, IfOk, if◌then◌else◌, string_bytes, String, Vec, slice_index_or}
+use Rattle.std.specs.Prelude.{◌≡◌, ◌≤◌, ◌<◌, ◌^◌, ℕ, [], ◌∷◌, ◌++◌, Bool, true, List, length, map, Option, Some, None, Result, Ok, Err, IfOk, string_bytes, String, Vec, slice_index_or}
 use Rattle.std.specs.List.{All}
 use Rattle.std.specs.Option.{ForSome}
 use Rattle.std.specs.declared.alloc.Global.{Global}
 use Rattle.liq_base.specs.Files.{Files}
 use Rattle.frame_core.specs.Sounds.{IsSound, Sound}
-use Rattle.resample.specs.Resampled.{IsFile}
-use Rattle.track_library.specs.Walk.{Heard, Walked, sounds_named}
+use Rattle.track_library.specs.Walk.{Heard, Walked, audio_at, sound_from, sounds_named}
 use Rattle.track_library.specs.declared.rules.Rules.{Rules}
-use Rattle.track_library.specs.declared.recording.Recording.{Recording}
 use Rattle.track_library.specs.declared.walk.Walk.{Walk}
 use Rattle.track_library.specs.declared.audio.AudioFiles.{AudioFiles}
 use Rattle.track_library.specs.declared.read_lists.ReadLists.{ReadLists}
@@ -19,11 +17,6 @@ pub record AreRules (rules : Rules) : Type 0 where
   pub least : 8000 ≤ rules.rate
   pub most : rules.rate ≤ 192000
   pub file : rules.file ≤ 268435456
-
--- a rate above 0, and whole blocks, as many as may be changed to another rate
-pub record IsRecording (recording : Recording) : Type 0 where
-  pub rate : 0 < recording.rate
-  pub file : IsFile recording.kind recording.samples.items
 
 -- values under names, in the order of a map
 abbrev pub named : {V : Type 0} → List (String Global × V) → List (List ℕ × V)
@@ -52,9 +45,16 @@ pub record IsHeard (heard : Heard) : Type 0 where
   pub numbers : All (λ e. IfOk e.1 (λ number. number < length heard.titles)) heard.names
   pub many : length heard.titles < 2 ^ 32
 
--- one sound more, if sounds are kept
-abbrev pub one_kept : (keeps : Bool) → List Sound → Sound → List Sound
-one_kept keeps sounds sound = if keeps then sounds ++ sound ∷ [] else sounds
+-- one sound more, if there is one
+abbrev pub one_kept : List Sound → Option Sound → List Sound
+one_kept sounds None = sounds
+one_kept sounds (Some sound) = sounds ++ sound ∷ []
+
+-- this is the sound of the audio file of this name
+abbrev pub IsHeld : Rules → (told : Option Files) → (name : List ℕ) → Option Sound → Type 0
+IsHeld rules told name None = ⊥
+IsHeld rules told name (Some sound) = IsSound sound
+    × ForSome told (λ files. sound_from (audio_at rules files name) ≡ sound)
 
 -- the files that are used hold sounds, where the shelf tells its files; and if sounds are kept, they are these, each
 -- with whole blocks, at least one

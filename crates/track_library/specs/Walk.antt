@@ -11,8 +11,8 @@ use Rattle.plan_core.specs.declared.node.Op.{Op}
 use Rattle.plan_core.specs.declared.node.Op.TheVariants.{Single, Playlist}
 use Rattle.wav_io.specs.Reading.{Wav, read_of}
 use Rattle.resample.specs.Resampled.{resampled}
-use Rattle.frame_core.specs.Bytes.{samples_from}
-use Rattle.sample_bytes.specs.Wide.{wide_samples_in}
+-- the samples of a WAV file: of three bytes each the upper two, or of two bytes
+pub use Rattle.resample.specs.Bytes.{samples_at}
 use Rattle.frame_core.specs.Library.{Sounds, no_sound}
 use Rattle.frame_core.specs.Sounds.{Sound}
 use Rattle.wav_io.specs.declared.fault.WavFault.{WavFault}
@@ -32,10 +32,6 @@ bytes_in most (Some bytes) = if nat_le (length bytes) most then Ok bytes else Er
 abbrev pub items_of : Result (Vec ℕ Global) Unusable → Result (List ℕ) Unusable
 items_of (Err fault) = Err fault
 items_of (Ok bytes) = Ok bytes.items
-
--- the samples of a WAV file: of three bytes each the upper two, or of two bytes
-abbrev pub samples_at : Bool → List ℕ → List ℤ
-samples_at wide bytes = if wide then wide_samples_in bytes else samples_from bytes
 
 -- the sound of a WAV file, changed to the rate of the script
 abbrev pub sound_of : ℕ → Wav → Sound
@@ -62,6 +58,16 @@ audio_in rules bytes (Err fault) = Err (NotWav fault)
 audio_in rules bytes (Ok wav) = of_at_most rules.file
     (sound_of rules.rate wav, counted_bytes (length bytes) (sound_of rules.rate wav))
 
+-- a WAV file, or why its bytes are none
+abbrev pub wav_or_fault : Result Wav WavFault → Result Wav Unusable
+wav_or_fault (Err fault) = Err (NotWav fault)
+wav_or_fault (Ok wav) = Ok wav
+
+-- the WAV file of these bytes, or why there is none
+abbrev pub wav_opened : Result (List ℕ) Unusable → Result Wav Unusable
+wav_opened (Err fault) = Err fault
+wav_opened (Ok bytes) = wav_or_fault (read_of bytes)
+
 -- what becomes of the bytes of an audio file, or why there are none
 abbrev pub audio_opened : Rules → Result (List ℕ) Unusable → Result Audio Unusable
 audio_opened rules (Err fault) = Err fault
@@ -77,7 +83,7 @@ abbrev pub sound_from : Result Audio Unusable → Sound
 sound_from (Err fault) = no_sound
 sound_from (Ok audio) = audio.0
 
-abbrev pub count_of : Result Audio Unusable → Result ℕ Unusable
+abbrev pub count_of : {S : Type 0} → Result (S × ℕ) Unusable → Result ℕ Unusable
 count_of (Err fault) = Err fault
 count_of (Ok audio) = Ok audio.1
 

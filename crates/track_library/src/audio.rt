@@ -1,16 +1,15 @@
 // The audio files that were met on the walk.
-ghost use Rattle.std.specs.Prelude.{◌≡◌, ◌≤◌, ◌<◌, ◌+◌, ◌^◌, ◌++◌, ◌∷◌, [], length, Ok, Err, None, Some, IfOk, IfErr, OnOk, Option};
+ghost use Rattle.std.specs.Prelude.{◌≡◌, ◌≤◌, ◌<◌, ◌+◌, ◌^◌, ◌++◌, ◌∷◌, [], length, true, Ok, Err, None, Some, IfOk, IfErr, OnOk, Option};
 ghost use Rattle.std.specs.Option.{ForSome};
-ghost use Rattle.frame_core.specs.Sounds.{IsSound};
 ghost use Rattle.liq_base.specs.Files.{Files};
 ghost use Rattle.track_library.specs.Walk.{Ends, EndsAt, audio_at, count_of, first_use, use_audio, entry_of};
 ghost use Rattle.track_library.specs.Reads.{FirstRead};
-ghost use Rattle.track_library.specs.States.{heard_of, one_kept, AreRules, Finds, IsHeard, Keeps};
+ghost use Rattle.track_library.specs.States.{heard_of, one_kept, AreRules, Finds, IsHeard, IsHeld, Keeps};
 ghost use Rattle.track_library.specs.declared.rules.Rules.{Rules};
 ghost use Rattle.liq_base.specs.Shelves.{OnlyRead};
 
 use crate::fault::{LoadFault, Unusable};
-use crate::reading::read_audio;
+use crate::reading::find_audio;
 use crate::rules::Rules;
 use crate::undecoded::Undecoded;
 use indexmap::IndexMap;
@@ -62,17 +61,17 @@ impl AudioFiles {
         Ok(())
     }
 
-    /// Adds the name of a file that is used, and the file if files are kept, and answers its number.
-    fn keep(&mut self, alloc: Global, name: &str, file: Undecoded) -> Result<u32, Memory>
+    /// Adds the name of a file that is used, and the file if it is to be kept, and answers its number.
+    fn keep(&mut self, alloc: Global, name: &str, file: Option<Undecoded>) -> Result<u32, Memory>
         ensures number { IfOk result (λ number. number ≡ length (heard_of self.old).titles) }
         ensures few { IfOk result (λ number. number + 1 < 2 ^ 32) }
         ensures titled { OnOk result (heard_of self.new
             ≡ record (heard_of self.old) { titles = (heard_of self.old).titles ++ name.now ∷ [] }) }
-        ensures files { OnOk result (self.new.files.items ≡ one_kept self.old.keeps self.old.files.items file) }
+        ensures files { OnOk result (self.new.files.items ≡ one_kept self.old.files.items file) }
         ensures keeps { OnOk result (self.new.keeps ≡ self.old.keeps) }
     {
         let number = new_number(self.titles.len())?;
-        push_if(&mut self.files, self.keeps, file)?;
+        push_some(&mut self.files, file)?;
         self.titles.push(Text::from_str(alloc, name)?)?;
         Ok(number)
     }
@@ -82,17 +81,18 @@ impl AudioFiles {
         &mut self,
         alloc: Global,
         name: &str,
-        found: Result<(Undecoded, u64), Unusable>,
+        found: Result<(Option<Undecoded>, u64), Unusable>,
         all: u64,
     ) -> Result<Result<u32, Unusable>, LoadFault>
         requires heard { IsHeard (heard_of self.old) }
-        requires sound { IfOk found (λ audio. IsSound audio.0) }
         requires unknown { entry_of name.now (heard_of self.old).names ≡ None }
         ensures used { IfOk result (λ number. first_use all (heard_of self.old) name.now (count_of found)
             ≡ Ok (heard_of self.new, number)) }
         ensures finds { IfOk result (λ number. Finds (heard_of self.old) (heard_of self.new) number) }
         ensures kept { OnOk result ((rules : Rules) (told : Option Files)
-            → ForSome told (λ files. audio_at rules files name.now ≡ found) → Keeps rules told self.old self.new) }
+            → ForSome told (λ files. count_of (audio_at rules files name.now) ≡ count_of found)
+            → (self.old.keeps ≡ true → IfOk found (λ audio. IsHeld rules told name.now audio.0))
+            → Keeps rules told self.old self.new) }
         ensures fault { IfErr result (EndsAt (first_use all (heard_of self.old) name.now (count_of found))) }
     {
         let (file, size) = match found {
@@ -135,16 +135,16 @@ impl AudioFiles {
         if let Some(found) = self.known(name) {
             return Ok(found);
         }
-        let found = read_audio(alloc, shelf, name, rules)?;
+        let found = find_audio(alloc, shelf, name, rules, self.keeps)?;
         self.add(alloc, name, found, rules.all)
     }
 }
 
-/// Adds a file to those that are kept, if files are kept.
-fn push_if(files: &mut Vec<Undecoded>, keeps: bool, file: Undecoded) -> Result<(), Memory>
-    ensures { OnOk result (files.new.items ≡ one_kept keeps files.old.items file) }
+/// Adds a file to those that are kept, if there is one.
+fn push_some(files: &mut Vec<Undecoded>, file: Option<Undecoded>) -> Result<(), Memory>
+    ensures { OnOk result (files.new.items ≡ one_kept files.old.items file) }
 {
-    if keeps {
+    if let Some(file) = file {
         files.push(file)?;
     }
     Ok(())

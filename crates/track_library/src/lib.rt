@@ -19,7 +19,7 @@ pub use fault::{LoadFault, Unusable};
 pub use laws::own_rate_changes_nothing;
 pub use list::{cut_cr, cut_line, cut_mark, read_list};
 pub use plan_files::PlanFiles;
-pub use reading::{block_count, written_bytes};
+pub use reading::{block_count, find_head, written_bytes};
 pub use rules::{Rules, Sizes};
 pub use samples::read_samples;
 pub use walk::{find_files, load, try_files};

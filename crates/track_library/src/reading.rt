@@ -1,25 +1,30 @@
 // Audio files that are read from a shelf.
-ghost use Rattle.std.specs.Prelude.{◌≡◌, ◌≤◌, ◌+◌, ◌*◌, length, Ok, Err, IfOk, IfErr, MatchResult};
+ghost use Rattle.std.specs.Prelude.{◌≡◌, ◌≤◌, ◌<◌, [], length, true, Ok, Err, IfOk, IfErr, MatchResult};
 ghost use Rattle.std.specs.Option.{ForSome};
 ghost use Rattle.liq_base.specs.Counts.{Rose};
 ghost use Rattle.liq_base.specs.Files.{file_at};
 ghost use Rattle.frame_core.specs.Sounds.{IsSound};
-ghost use Rattle.wav_io.specs.Reading.{AreBlocks, read_of};
-ghost use Rattle.resample.specs.Resampled.{AreRates, blocks_of, resampled};
-ghost use Rattle.track_library.specs.Walk.{audio_at, audio_in, bytes_in, items_of, samples_at, IsReading};
-ghost use Rattle.track_library.specs.Files.{IsReadable, sound_in};
-ghost use Rattle.track_library.specs.States.{AreRules};
+ghost use Rattle.wav_io.specs.Fronts.{AreWhole, IsHeadOf};
+ghost use Rattle.wav_io.specs.Reading.{read_of};
+ghost use Rattle.resample.specs.Resampled.{AreRates};
+ghost use Rattle.track_library.specs.Heads.{blocks_in, head_count, samples_in, written_size, IsFoundFront, IsFoundHead, IsHeadIn};
+ghost use Rattle.track_library.specs.Walk.{audio_at, audio_in, bytes_in, count_of, items_of, IsReading};
+ghost use Rattle.track_library.specs.Files.{sound_in};
+ghost use Rattle.track_library.specs.States.{AreRules, IsHeld};
 ghost use Rattle.liq_base.specs.Shelves.{OnlyRead, ShelfTold};
 
 use crate::fault::{LoadFault, Unusable};
 use crate::rules::Rules;
 use crate::undecoded::Undecoded;
-use liq_base::{Fetched, Kind, Memory, Shelf, ShelfFault, Text};
+use liq_base::{Fetched, Looked, Memory, Shelf, ShelfFault, Text};
 use std::alloc::Global;
-use wav_io::read_wav;
+use wav_io::{Head, head_of, read_head};
 
 /// The bytes that stand before the blocks of a file with nothing else in it.
 const HEADER_BYTES: u64 = 44;
+
+/// The first bytes of a file that are looked at.
+const FRONT_BYTES: u64 = 16_384;
 
 /// The bytes of a file that is there and has at most so many.
 pub fn fetch<S: Shelf>(
@@ -54,21 +59,100 @@ fn read_fault(alloc: Global, name: &str) -> LoadFault
     }
 }
 
-/// How many bytes an audio file of these bytes counts for, if these are at most as many as one may. No memory is taken.
-fn count_bytes(bytes: &[u8], rules: Rules) -> Result<u64, Unusable>
+/// The head of the audio file of this name, and how many bytes it has, if it is there and is a WAV file. Where its
+/// first bytes tell its head, no more of it is asked for.
+pub fn find_head<S: Shelf>(
+    alloc: Global,
+    shelf: &mut S,
+    name: &str,
+    most: u64,
+) -> Result<Result<(Head, u64), Unusable>, LoadFault>
+    ensures head { IfOk result (IsFoundHead name.now most (S.told shelf.old).files) }
+    ensures fault { IfErr result (λ fault. IsReading name.now (S.told shelf.old) (S.told shelf.new) fault) }
+    ensures shelf { OnlyRead (S.told shelf.old) (S.told shelf.new) }
+{
+    let mut front = Vec::new(alloc);
+    let size = match look_at_front(alloc, shelf, name, &mut front, most)? {
+        Ok(size) => size,
+        Err(fault) => return Ok(Err(fault)),
+    };
+    match read_head(&front, size) {
+        Some(Ok(head)) => Ok(Ok((head, size))),
+        Some(Err(fault)) => Ok(Err(Unusable::NotWav(fault))),
+        None => find_whole_head(alloc, shelf, name, most),
+    }
+}
+
+/// Adds the first bytes of the file of this name to an empty list, and answers how many bytes it has.
+fn look_at_front<S: Shelf>(
+    alloc: Global,
+    shelf: &mut S,
+    name: &str,
+    front: &mut Vec<u8>,
+    most: u64,
+) -> Result<Result<u64, Unusable>, LoadFault>
+    requires { front.old.items ≡ [] }
+    ensures front { IfOk result (IsFoundFront name.now most (S.told shelf.old).files front.new.items) }
+    ensures fault { IfErr result (λ fault. IsReading name.now (S.told shelf.old) (S.told shelf.new) fault) }
+    ensures shelf { OnlyRead (S.told shelf.old) (S.told shelf.new) }
+{
+    match shelf.look(name, front, FRONT_BYTES, most) {
+        Ok(Looked::Found(size)) => Ok(Ok(size)),
+        Ok(Looked::Missing) => Ok(Err(Unusable::NotThere)),
+        Ok(Looked::TooLarge) => Ok(Err(Unusable::TooLong)),
+        Err(ShelfFault::Failed) => Err(read_fault(alloc, name)),
+        Err(ShelfFault::Memory) => Err(LoadFault::Memory),
+    }
+}
+
+/// The head of the audio file of this name, which is read whole, and how many bytes it has.
+fn find_whole_head<S: Shelf>(
+    alloc: Global,
+    shelf: &mut S,
+    name: &str,
+    most: u64,
+) -> Result<Result<(Head, u64), Unusable>, LoadFault>
+    ensures head { IfOk result (IsFoundHead name.now most (S.told shelf.old).files) }
+    ensures fault { IfErr result (λ fault. IsReading name.now (S.told shelf.old) (S.told shelf.new) fault) }
+    ensures shelf { OnlyRead (S.told shelf.old) (S.told shelf.new) }
+{
+    match fetch(alloc, shelf, name, most)? {
+        Ok(bytes) => Ok(head_in(&bytes)),
+        Err(fault) => Ok(Err(fault)),
+    }
+}
+
+/// The head of these bytes, and how many they are, if they are a WAV file.
+fn head_in(bytes: &[u8]) -> Result<(Head, u64), Unusable>
+    ensures { IsHeadIn bytes.now result }
+{
+    match head_of(bytes) {
+        Ok(head) => Ok((head, bytes.len() as u64)),
+        Err(fault) => Err(Unusable::NotWav(fault)),
+    }
+}
+
+/// How many bytes an audio file of these bytes and this head counts for, if they are at most as many as one may.
+fn count_bytes(bytes: &[u8], head: Head, rules: Rules) -> Result<u64, Unusable>
     requires rules { AreRules rules }
     requires few { length bytes.now ≤ rules.file }
+    requires head { IsHeadOf bytes.now head }
     ensures counted { MatchResult result
         (λ count. audio_in rules bytes.now (read_of bytes.now) ≡ Ok (sound_in rules.rate (read_of bytes.now), count))
         (λ fault. audio_in rules bytes.now (read_of bytes.now) ≡ Err fault) }
-    ensures readable { IfOk result (λ _. IsReadable (read_of bytes.now)) }
 {
-    let wav = match read_wav(bytes) {
-        Ok(wav) => wav,
-        Err(fault) => return Err(Unusable::NotWav(fault)),
-    };
-    let size = bytes.len() as u64;
-    let counted = size.max(written_bytes(wav.wide, wav.kind, wav.body, wav.rate, rules.rate));
+    count_head(head, bytes.len() as u64, rules)
+}
+
+/// How many bytes a file of this head and of so many bytes counts for, if these are at most as many as one may.
+fn count_head(head: Head, size: u64, rules: Rules) -> Result<u64, Unusable>
+    requires rules { AreRules rules }
+    requires rate { 0 < head.rate }
+    requires blocks { AreWhole head.wide head.kind head.size }
+    requires few { head.size ≤ 268435456 }
+    ensures { result ≡ head_count rules head size }
+{
+    let counted = size.max(written_bytes(head, rules.rate));
     if counted > rules.file {
         return Err(Unusable::TooLong);
     }
@@ -82,46 +166,48 @@ fn use_bytes(bytes: Vec<u8>, rules: Rules) -> Result<(Undecoded, u64), Unusable>
     ensures audio { audio_in rules bytes.items (read_of bytes.items) ≡ result }
     ensures sound { IfOk result (λ audio. IsSound audio.0) }
 {
-    match count_bytes(&bytes, rules) {
-        Ok(count) => Ok((Undecoded::new(bytes, rules.rate), count)),
+    let head = match head_of(&bytes) {
+        Ok(head) => head,
+        Err(fault) => return Err(Unusable::NotWav(fault)),
+    };
+    match count_bytes(&bytes, head, rules) {
+        Ok(count) => Ok((Undecoded::new(bytes, head, rules.rate), count)),
         Err(fault) => Err(fault),
     }
 }
 
-/// How many bytes a file with these blocks has at another rate, with samples of 16 bits.
-pub fn written_bytes(wide: bool, kind: Kind, blocks: &[u8], from: u32, to: u32) -> u64
-    requires blocks { AreBlocks wide kind blocks.now }
-    requires few { length blocks.now ≤ 268435456 }
-    requires rates { AreRates from to }
-    ensures { result ≡ 44 + 2 * length (resampled from to kind (samples_at wide blocks.now)) }
+/// How many bytes a file of this head has at another rate, with samples of 16 bits.
+pub fn written_bytes(head: Head, to: u32) -> u64
+    requires blocks { AreWhole head.wide head.kind head.size }
+    requires few { head.size ≤ 268435456 }
+    requires rates { AreRates head.rate to }
+    ensures { result ≡ written_size head to }
 {
-    let block = 2 * u64::from(kind.channels());
-    let count = block_count(wide, kind, blocks);
-    HEADER_BYTES + block * resample::length(count, from, to)
+    let block = 2 * u64::from(head.kind.channels());
+    HEADER_BYTES + block * resample::length(block_count(head), head.rate, to)
 }
 
-/// How many blocks these are.
-pub fn block_count(wide: bool, kind: Kind, blocks: &[u8]) -> u64
-    requires blocks { AreBlocks wide kind blocks.now }
-    requires few { length blocks.now ≤ 268435456 }
-    ensures count { result ≡ blocks_of kind (samples_at wide blocks.now) }
+/// How many blocks a file of this head has.
+pub fn block_count(head: Head) -> u64
+    requires blocks { AreWhole head.wide head.kind head.size }
+    requires few { head.size ≤ 268435456 }
+    ensures count { result ≡ blocks_in head }
+    ensures some { 1 ≤ result }
     ensures few { result ≤ 134217728 }
 {
-    let samples = sample_count(wide, blocks);
-    samples / u64::from(kind.channels())
+    sample_count(head.wide, head.size) / u64::from(head.kind.channels())
 }
 
-/// How many samples stand in so many bytes.
-fn sample_count(wide: bool, blocks: &[u8]) -> u64
-    ensures { result ≡ length (samples_at wide blocks.now) }
+/// How many samples stand in so many bytes of blocks.
+fn sample_count(wide: bool, size: u64) -> u64
+    ensures { result ≡ samples_in wide size }
 {
-    let size = blocks.len() as u64;
     if wide { size / 3 } else { size / 2 }
 }
 
 /// The audio file of this name, and how many bytes it counts for, if it can be used. Whether it can is known from its
 /// bytes alone: no memory is taken for its samples.
-pub fn read_audio<S: Shelf>(
+fn read_audio<S: Shelf>(
     alloc: Global,
     shelf: &mut S,
     name: &str,
@@ -137,5 +223,54 @@ pub fn read_audio<S: Shelf>(
     match fetch(alloc, shelf, name, rules.file)? {
         Ok(bytes) => Ok(use_bytes(bytes, rules)),
         Err(fault) => Ok(Err(fault)),
+    }
+}
+
+/// How many bytes the audio file of this name counts for, if it can be used. It is not kept, and is known by its head.
+fn count_audio<S: Shelf>(
+    alloc: Global,
+    shelf: &mut S,
+    name: &str,
+    rules: Rules,
+) -> Result<Result<u64, Unusable>, LoadFault>
+    requires { AreRules rules }
+    ensures counted { IfOk result
+        (λ found. ForSome (S.told shelf.old).files (λ files. count_of (audio_at rules files name.now) ≡ found)) }
+    ensures fault { IfErr result (λ fault. IsReading name.now (S.told shelf.old) (S.told shelf.new) fault) }
+    ensures shelf { OnlyRead (S.told shelf.old) (S.told shelf.new) }
+{
+    match find_head(alloc, shelf, name, rules.file)? {
+        Ok((head, size)) => Ok(count_head(head, size, rules)),
+        Err(fault) => Ok(Err(fault)),
+    }
+}
+
+/// What the audio file of this name counts for, if it can be used, and the file, if files are kept.
+pub fn find_audio<S: Shelf>(
+    alloc: Global,
+    shelf: &mut S,
+    name: &str,
+    rules: Rules,
+    keeps: bool,
+) -> Result<Result<(Option<Undecoded>, u64), Unusable>, LoadFault>
+    requires { AreRules rules }
+    ensures counted { IfOk result
+        (λ found. ForSome (S.told shelf.old).files (λ files. count_of (audio_at rules files name.now)
+        ≡ count_of found)) }
+    ensures kept { keeps ≡ true → IfOk result
+        (λ found. IfOk found (λ audio. IsHeld rules (S.told shelf.old).files name.now audio.0)) }
+    ensures fault { IfErr result (λ fault. IsReading name.now (S.told shelf.old) (S.told shelf.new) fault) }
+    ensures shelf { OnlyRead (S.told shelf.old) (S.told shelf.new) }
+{
+    if keeps {
+        match read_audio(alloc, shelf, name, rules)? {
+            Ok((file, count)) => Ok(Ok((Some(file), count))),
+            Err(fault) => Ok(Err(fault)),
+        }
+    } else {
+        match count_audio(alloc, shelf, name, rules)? {
+            Ok(count) => Ok(Ok((None, count))),
+            Err(fault) => Ok(Err(fault)),
+        }
     }
 }

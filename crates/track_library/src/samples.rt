@@ -2,7 +2,6 @@
 ghost use Rattle.frame_core.specs.Bytes.{samples_from};
 ghost use Rattle.sample_bytes.specs.Wide.{wide_samples_in};
 ghost use Rattle.std.specs.Prelude.{◌≡◌, IfOk};
-ghost use Rattle.track_library.specs.Walk.{samples_at};
 
 use liq_base::Memory;
 use sample_bytes::{decode, decode_wide};
@@ -22,7 +21,7 @@ pub fn read_samples(alloc: Global, blocks: &[u8]) -> Result<Vec<i16>, Memory>
 
 /// The samples of so many whole blocks of 24 bits, of which the lowest byte is dropped. Of the bytes one or two at the
 /// end are left out. They are the only copy that it makes.
-fn read_wide(alloc: Global, blocks: &[u8]) -> Result<Vec<i16>, Memory>
+pub fn read_wide(alloc: Global, blocks: &[u8]) -> Result<Vec<i16>, Memory>
     ensures samples { IfOk result (λ samples. samples.items ≡ wide_samples_in blocks.now) }
 {
     let count = blocks.len() / 3;
@@ -30,15 +29,4 @@ fn read_wide(alloc: Global, blocks: &[u8]) -> Result<Vec<i16>, Memory>
     let (whole, _) = blocks.split_at(3 * count);
     decode_wide(whole, &mut samples);
     Ok(samples)
-}
-
-/// The samples of whole blocks of 24 bits or of 16.
-pub fn read_blocks(alloc: Global, wide: bool, blocks: &[u8]) -> Result<Vec<i16>, Memory>
-    ensures samples { IfOk result (λ samples. samples.items ≡ samples_at wide blocks.now) }
-{
-    if wide {
-        read_wide(alloc, blocks)
-    } else {
-        read_samples(alloc, blocks)
-    }
 }

@@ -4,4 +4,4 @@ use Rattle.sound_looks.proofs.Looking.{tells}
 use Rattle.sound_looks.proofs.laws.looks_tell_uses.Goals as goal
 
 pub returns : goal.returns
-returns c = λ rules files place name. tells rules place (bytes_in rules.file (file_at files name))
+returns c = λ rules files name. tells rules (bytes_in rules.file (file_at files name))
