@@ -1,10 +1,9 @@
 -- Cells that are kept as lists side by side.
-use Rattle.std.proofs.Common.{◌≡◌, ◌<◌, ◌∙◌, ◌++◌, ℕ, zero, suc, ℤ, List, [], ◌∷◌, Some, length, drop, map, slice_get, slice_index_or, arith, ap, refl, Bool, true, false, if◌then◌else◌}
+use Rattle.std.proofs.Common.{◌≡◌, ◌<◌, ◌∙◌, ◌++◌, ℕ, zero, suc, ℤ, List, [], ◌∷◌, Some, length, drop, map, slice_get, slice_index_or, arith, ap, refl, sym}
 use Rattle.frame_core.specs.declared.cell.Cell.{Cell}
 use Rattle.frame_core.specs.declared.cell.CellMark.{CellMark}
-use Rattle.frame_core.specs.declared.frame.Mark.TheVariants.{First, Inner}
-use Rattle.frame_core.specs.Chunks.{cell_with, cells_in, mark_in, slot_mark}
-use Rattle.frame_core.specs.Frames.{slot_of, slots_in, some_list, somes}
+use Rattle.frame_core.specs.Chunks.{cell_with, cells_in, mark_in}
+use Rattle.frame_core.specs.Frames.{Laid, some_list}
 
 pub length-cells : (lefts rights : List ℤ) (marks : List CellMark) → length lefts ≡ length marks → length rights ≡ length marks → length (cells_in lefts rights marks) ≡ length marks
 length-cells [] rights [] l r = refl
@@ -75,25 +74,37 @@ read_cell lefts rights marks cells at left right mark h l r is x y m =
     there (x ∷ lefts) (y ∷ rights) (m ∷ marks) zero left right mark h l r = refl
     there (x ∷ lefts) (y ∷ rights) (m ∷ marks) (suc at) left right mark h l r = there lefts rights marks at left right mark (omega (arith, h)) (omega (arith, l)) (omega (arith, r))
 
--- one cell more
-pub cells_next : (lefts rights : List ℤ) (marks : List CellMark) (cells : List Cell) (cell : Cell) → length lefts ≡ length marks → length rights ≡ length marks → cells_in lefts rights marks ≡ cells
-    → cells_in (lefts ++ cell.left ∷ []) (rights ++ cell.right ∷ []) (marks ++ mark_in cell ∷ []) ≡ cells ++ cell ∷ []
-cells_next lefts rights marks cells cell l r is = cells-append lefts rights marks (cell.left ∷ []) (cell.right ∷ []) (mark_in cell ∷ []) l r ∙ ap (λ cs. cs ++ cell ∷ []) is
+-- the cells are those of lists that are kept side by side
+pub same_cells : (lefts rights lefts_too rights_too : List ℤ) (marks marks_too : List CellMark)
+    → length lefts ≡ length marks → length rights ≡ length marks → length lefts_too ≡ length marks_too → length rights_too ≡ length marks_too
+    → cells_in lefts rights marks ≡ cells_in lefts_too rights_too marks_too → (lefts ≡ lefts_too) × (rights ≡ rights_too) × (marks ≡ marks_too)
+same_cells lefts rights lefts_too rights_too marks marks_too l r l_too r_too is = (
+  sym (lefts_of lefts rights marks l r) ∙ ap (map (λ (c : Cell). c.left)) is ∙ lefts_of lefts_too rights_too marks_too l_too r_too,
+  sym (rights_of lefts rights marks l r) ∙ ap (map (λ (c : Cell). c.right)) is ∙ rights_of lefts_too rights_too marks_too l_too r_too,
+  sym (marks_of_cells lefts rights marks l r) ∙ ap (map mark_in) is ∙ marks_of_cells lefts_too rights_too marks_too l_too r_too,
+)
 
 pub some_cells : (cells all : List Cell) → 0 < length cells → cells ≡ all → Some cells ≡ some_list all
 some_cells cells [] more is = absurd (omega (arith, more, ap length is))
 some_cells cells (c ∷ all) more is = ap Some is
 
--- where no slot is empty, the cells are those of the marks
-pub whole_cells : (lefts rights : List ℤ) (cells : List CellMark) → somes (slots_in (map slot_mark cells) lefts rights) ≡ cells_in lefts rights cells
-whole_cells [] rights [] = refl
-whole_cells [] rights (m ∷ cells) = refl
-whole_cells (x ∷ lefts) [] [] = refl
-whole_cells (x ∷ lefts) (y ∷ rights) [] = refl
-whole_cells (x ∷ lefts) [] (m ∷ cells) = refl
-whole_cells (x ∷ lefts) (y ∷ rights) (m ∷ cells) =
-    ap (λ slot. somes (slot ∷ slots_in (map slot_mark cells) lefts rights)) (there m.first m.title) ∙ ap (λ cs. cell_with x y m ∷ cs) (whole_cells lefts rights cells)
-  where
-    there : (first : Bool) (title : ℕ) → slot_of (if first then First title else Inner title) x y ≡ Some (record { left = x; right = y; first = first; title = title })
-    there false title = refl
-    there true title = refl
+-- these cells, and room for so many
+abbrev laid_as : List Cell → ℕ → Laid
+laid_as cells room = record { cells = cells; room = room }
+
+-- how many cells a frame has
+pub held : (lefts rights : List ℤ) (marks : List CellMark) (room : ℕ) (was : Laid) → length lefts ≡ length marks → length rights ≡ length marks
+    → laid_as (cells_in lefts rights marks) room ≡ was → length was.cells ≡ length marks
+held lefts rights marks room was l r is = sym (ap (λ (f : Laid). length f.cells) is) ∙ length-cells lefts rights marks l r
+
+-- cells are laid behind those that it has
+pub laid : (lefts rights : List ℤ) (marks : List CellMark) (room : ℕ) (was : Laid) (xs ys : List ℤ) (ms : List CellMark) → length lefts ≡ length marks → length rights ≡ length marks
+    → laid_as (cells_in lefts rights marks) room ≡ was
+    → {now_lefts now_rights : List ℤ} {now_marks : List CellMark} → now_lefts ≡ lefts ++ xs → now_rights ≡ rights ++ ys → now_marks ≡ marks ++ ms
+    → laid_as (cells_in now_lefts now_rights now_marks) room ≡ laid_as (was.cells ++ cells_in xs ys ms) was.room
+laid lefts rights marks room was xs ys ms l r is {now_lefts} {now_rights} {now_marks} nl nr nm =
+    ap (λ us. laid_as (cells_in us now_rights now_marks) room) nl
+    ∙ ap (λ us. laid_as (cells_in (lefts ++ xs) us now_marks) room) nr
+    ∙ ap (λ us. laid_as (cells_in (lefts ++ xs) (rights ++ ys) us) room) nm
+    ∙ ap (λ cs. laid_as cs room) (cells-append lefts rights marks xs ys ms l r)
+    ∙ ap (λ (f : Laid). laid_as (f.cells ++ cells_in xs ys ms) f.room) is

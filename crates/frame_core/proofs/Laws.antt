@@ -91,12 +91,6 @@ module _ {X : Type 0} where
   ordered_left C (Got c n ∷ es) q r o =
       ordered_left C es o.0 r o.3 ∙ ap (λ l. drop (suc (length (gots_of es))) (l ++ map (λ m. m.0) (puts_of es))) (sym o.1)
 
-  -- no moves
-  pub no_moves : (es : List (Move X)) → puts_of es ≡ [] → gots_of es ≡ [] → es ≡ []
-  no_moves [] p g = refl
-  no_moves (Put c n ∷ es) p g = cc
-  no_moves (Got c n ∷ es) p g = cc
-
   pub fits_yes : (s d : ℕ) (bs : List Bool) (ms : List (X × ℕ)) (m : X × ℕ) → Fits s d bs ms → Fits s d (bs ++ true ∷ []) (ms ++ m ∷ [])
   fits_yes s d [] [] m f = tt
   fits_yes s d [] (k ∷ ms) m f = absurd f

@@ -1,9 +1,7 @@
 -- Cells that are kept as lists side by side.
-use Rattle.std.specs.Prelude.{ℤ, List, [], ◌∷◌, if◌then◌else◌}
+use Rattle.std.specs.Prelude.{ℤ, List, [], ◌∷◌}
 use Rattle.frame_core.specs.declared.cell.Cell.{Cell}
 use Rattle.frame_core.specs.declared.cell.CellMark.{CellMark}
-use Rattle.frame_core.specs.declared.frame.Mark.{Mark}
-use Rattle.frame_core.specs.declared.frame.Mark.TheVariants.{First, Inner}
 
 -- the cell of two samples and a mark, and the mark of a cell
 abbrev pub cell_with : ℤ → ℤ → CellMark → Cell
@@ -11,10 +9,6 @@ cell_with left right mark = record { left = left; right = right; first = mark.fi
 
 abbrev pub mark_in : Cell → CellMark
 mark_in cell = record { first = cell.first; title = cell.title }
-
--- the mark of a slot whose cell has this mark
-abbrev pub slot_mark : CellMark → Mark
-slot_mark mark = if mark.first then First mark.title else Inner mark.title
 
 -- the cells that samples and marks stand for, place by place
 abbrev pub cells_in : List ℤ → List ℤ → List CellMark → List Cell

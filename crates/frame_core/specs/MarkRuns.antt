@@ -1,5 +1,5 @@
 -- Marks that are kept as runs of one title.
-use Rattle.std.specs.Prelude.{Bool, false, not, ◌&&◌, ℕ, zero, suc, List, [], ◌∷◌, ◌++◌, replicate, nat_eq}
+use Rattle.std.specs.Prelude.{◌≡◌, ◌<◌, Bool, false, not, ◌&&◌, ℕ, zero, suc, List, [], ◌∷◌, ◌++◌, replicate, nat_eq}
 use Rattle.frame_core.specs.declared.cell.CellMark.{CellMark}
 use Rattle.frame_core.specs.declared.cell.MarkRun.{MarkRun}
 
@@ -17,6 +17,16 @@ marks_in (run ∷ runs) = run_marks run.first run.title run.count ++ marks_in ru
 abbrev pub mark_at : MarkRun → ℕ → CellMark
 mark_at run at = record { first = run.first && nat_eq at 0; title = run.title }
 
--- a mark that goes on with a run
-abbrev pub lengthens : MarkRun → CellMark → Bool
-lengthens run mark = not mark.first && nat_eq mark.title run.title
+-- a run that goes on with another one
+abbrev pub joins : MarkRun → MarkRun → Bool
+joins last run = not run.first && nat_eq last.title run.title
+
+-- the first of some runs does not go on with this one
+abbrev pub IsApart : MarkRun → List MarkRun → Type 0
+IsApart last [] = Unit {0}
+IsApart last (run ∷ runs) = joins last run ≡ false
+
+-- each run has a mark, and none goes on with the one before it
+abbrev pub AreTight : List MarkRun → Type 0
+AreTight [] = Unit {0}
+AreTight (run ∷ runs) = (0 < run.count) × IsApart run runs × AreTight runs

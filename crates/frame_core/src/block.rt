@@ -1,10 +1,9 @@
 // The cells of a chunk, which those who hold it share.
 ghost use Rattle.std.specs.Prelude.{◌≡◌, ◌<◌, ◌≤◌, length, map, slice_get, IfOk, Some};
-ghost use Rattle.frame_core.specs.Frames.{chunk_of};
+ghost use Rattle.frame_core.specs.Frames.{some_list};
 ghost use Rattle.frame_core.specs.Chunks.{mark_in};
 ghost use Rattle.frame_core.specs.MarkRuns.{marks_in};
 
-use crate::runs::whole_runs;
 use crate::{Cell, Frame, MarkRun, mark_at};
 use liq_base::Memory;
 use liq_base::limits::MAX_FRAME;
@@ -42,42 +41,15 @@ impl Model for Block {
 impl Block {
     // The cells of a frame, in order. `None` comes exactly where it has none.
     pub fn from_frame(alloc: Global, frame: &Frame) -> Result<Option<Block>, Memory>
-        ensures cells { IfOk result (λ block. block ≡ chunk_of frame.now) }
+        ensures cells { IfOk result (λ block. block ≡ some_list frame.now.cells) }
     {
-        let (marks, left, right) = frame.lanes();
-        let Some(runs) = whole_runs(alloc, marks)? else {
-            return Block::gather(alloc, frame);
-        };
+        let (runs, left, right) = frame.lanes();
         if left.is_empty() {
             return Ok(None);
         }
         let left = Vec::from_slice(alloc, left)?;
         let right = Vec::from_slice(alloc, right)?;
-        Ok(Some(Block { left, right, runs }))
-    }
-
-    // The cells of a frame that may have gaps, slot by slot.
-    fn gather(alloc: Global, frame: &Frame) -> Result<Option<Block>, Memory>
-        ensures cells { IfOk result (λ block. block ≡ chunk_of frame.now) }
-    {
-        let len = frame.len() as usize;
-        let mut left = Vec::with_capacity(alloc, len)?;
-        let mut right = Vec::with_capacity(alloc, len)?;
-        let mut runs = Vec::with_capacity(alloc, len)?;
-        for at in 0..frame.len() {
-            if let Some(cell) = frame.slot(at) {
-                left.push_reserved(cell.left);
-                right.push_reserved(cell.right);
-                runs.push_reserved(MarkRun {
-                    first: cell.first,
-                    title: cell.title,
-                    count: 1,
-                });
-            }
-        }
-        if left.is_empty() {
-            return Ok(None);
-        }
+        let runs = Vec::from_slice(alloc, runs)?;
         Ok(Some(Block { left, right, runs }))
     }
 

@@ -27,7 +27,7 @@ pub struct CellMark {
 }
 
 /// Marks of one title, of which the first alone may begin a track.
-#[derive(Clone, Copy, Debug)]
+#[derive(Clone, Copy, Debug, PartialEq, Eq)]
 pub struct MarkRun {
     /// Whether a track begins at the first of them.
     pub first: bool,

@@ -1,6 +1,6 @@
 // The cells that a tick gives to a buffer.
 ghost use Rattle.std.specs.Prelude.{◌≡◌, ◌<◌, ◌≤◌, length, map, slice_get, IfOk, Some};
-ghost use Rattle.frame_core.specs.Frames.{chunk_of};
+ghost use Rattle.frame_core.specs.Frames.{some_list};
 ghost use Rattle.frame_core.specs.Chunks.{mark_in};
 ghost use Rattle.frame_core.specs.MarkRuns.{marks_in};
 
@@ -36,7 +36,7 @@ impl Model for Chunk {
 impl Chunk {
     /// The cells of a frame, in order. `None` comes exactly where it has none.
     pub fn from_frame(alloc: Global, frame: &Frame) -> Result<Option<Chunk>, Memory>
-        ensures cells { IfOk result (λ chunk. chunk ≡ chunk_of frame.now) }
+        ensures cells { IfOk result (λ chunk. chunk ≡ some_list frame.now.cells) }
     {
         let Some(block) = Block::from_frame(alloc, frame)? else {
             return Ok(None);

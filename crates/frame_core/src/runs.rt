@@ -1,13 +1,10 @@
 // Marks that are kept as runs of one title.
-ghost use Rattle.std.specs.Prelude.{◌≡◌, ◌<◌, ◌≤◌, ◌++◌, length, map, slice_get, IfOk, IfSome, OnOk, Some};
-ghost use Rattle.frame_core.specs.Chunks.{slot_mark};
-ghost use Rattle.frame_core.specs.MarkRuns.{lengthens, mark_at, marks_in, run_marks};
+ghost use Rattle.std.specs.Prelude.{◌≡◌, ◌<◌, ◌≤◌, ◌+◌, ◌++◌, length, slice_get, vec_capacity, Some};
+ghost use Rattle.frame_core.specs.MarkRuns.{AreTight, joins, mark_at, marks_in, run_marks};
 ghost use Rattle.liq_base.specs.declared.limits.TheConstants.{MAX_FRAME};
 
-use crate::frame::Mark;
 use crate::{CellMark, MarkRun};
-use liq_base::Memory;
-use std::alloc::Global;
+use liq_base::limits::MAX_FRAME;
 
 /// The mark at a place of some runs, counted from 0, if there is one.
 pub fn mark_at(runs: &[MarkRun], at: u32) -> Option<CellMark>
@@ -42,51 +39,37 @@ fn run_at(runs: &[MarkRun], at: usize) -> MarkRun
     runs[at]
 }
 
-// The marks of a frame as runs, where no slot is empty.
-pub(crate) fn whole_runs(alloc: Global, marks: &[Mark]) -> Result<Option<Vec<MarkRun>>, Memory>
-    requires { length marks.now ≤ MAX_FRAME }
-    ensures whole { IfOk result (λ found. IfSome found (λ runs. marks.now ≡ map slot_mark (marks_in runs.items))) }
+// Whether a run goes on with another one.
+fn joins(last: MarkRun, run: MarkRun) -> bool
+    ensures { result ≡ joins last run }
 {
-    let mut runs = Vec::new(alloc);
-    let mut run = MarkRun {
-        first: false,
-        title: 0,
-        count: 0,
-    };
-    for at in 0..marks.len() {
-        let Some(mark) = marks[at].in_cell() else {
-            return Ok(None);
-        };
-        if lengthens(run, mark) {
-            run.count += 1;
-            continue;
-        }
-        put_run(&mut runs, run)?;
-        run = MarkRun {
-            first: mark.first,
-            title: mark.title,
-            count: 1,
-        };
-    }
-    put_run(&mut runs, run)?;
-    Ok(Some(runs))
+    !run.first && last.title == run.title
 }
 
-// Whether a mark goes on with a run.
-fn lengthens(run: MarkRun, mark: CellMark) -> bool
-    ensures { result ≡ lengthens run mark }
-{
-    !mark.first && mark.title == run.title
-}
-
-// Appends a run that has a mark.
-fn put_run(runs: &mut Vec<MarkRun>, run: MarkRun) -> Result<(), Memory>
-    ensures marks { OnOk result
-        (marks_in runs.new.items ≡ marks_in runs.old.items ++ run_marks run.first run.title run.count) }
+// Appends a run, to the last one where it goes on with it.
+pub(crate) fn put_run(runs: &mut Vec<MarkRun>, run: MarkRun)
+    requires tight { AreTight runs.old.items }
+    requires room { length (marks_in runs.old.items) + run.count ≤ vec_capacity runs.old }
+    requires few { length (marks_in runs.old.items) + run.count ≤ MAX_FRAME }
+    ensures marks { marks_in runs.new.items ≡ marks_in runs.old.items ++ run_marks run.first run.title run.count }
+    ensures tight { AreTight runs.new.items }
+    ensures room { vec_capacity runs.new ≡ vec_capacity runs.old }
 {
     if run.count == 0 {
-        return Ok(());
+        return;
     }
-    runs.push(run)?;
-    Ok(())
+    let Some(last) = runs.pop() else {
+        runs.push_reserved(run);
+        return;
+    };
+    if joins(last, run) {
+        runs.push_reserved(MarkRun {
+            first: last.first,
+            title: last.title,
+            count: last.count + run.count,
+        });
+    } else {
+        runs.push_reserved(last);
+        runs.push_reserved(run);
+    }
 }

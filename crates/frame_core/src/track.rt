@@ -1,6 +1,7 @@
 // An audio file, held as samples.
 ghost use Rattle.std.specs.Prelude.{◌≡◌, ◌<◌, ◌≤◌, ◌+ℤ◌, ◌*◌, ◌+◌, ◌/◌, ◌^◌, ℕ, ℤ, pos, length, map, take, drop, int_div, nat_eq};
 ghost use Rattle.std.specs.List.{range_with_len};
+ghost use Rattle.std.specs.Simd.Lanes.{zip2};
 ghost use Rattle.liq_base.specs.Kinds.{channels_of};
 ghost use Rattle.frame_core.specs.Bytes.{samples_from};
 ghost use Rattle.frame_core.specs.Held.{are_inside, samples_held};
@@ -9,6 +10,7 @@ ghost use Rattle.liq_base.specs.declared.memory.Kind.TheVariants.{Mono, Stereo};
 
 use crate::Cell;
 use liq_base::Kind;
+use resample::Changed;
 use std::marker::Model;
 
 /// An audio file: whole blocks of signed samples, left before right, and at least one block.
@@ -18,11 +20,12 @@ pub struct Track {
     held: Held,
 }
 
-/// Samples as numbers, or as they stand in a file.
+/// Samples as numbers, as they stand in a file, or of a file at another rate.
 #[derive(Debug, Drop)]
 pub enum Held {
     Numbers(Vec<i16>),
     Bytes(Raw),
+    OtherRate(Changed),
 }
 
 /// Samples of two bytes, the lower first: so many bytes from a place on.
@@ -35,13 +38,14 @@ pub struct Raw {
 
 impl Model for Track {
     ghost use Rattle.frame_core.specs.Sounds.{Sound, IsSound};
-    ghost use Rattle.frame_core.specs.Held.{are_inside, samples_held};
+    ghost use Rattle.frame_core.specs.Held.{are_inside, are_of, samples_held};
 
     ghost Value = { Sound };
 
     ghost view = { λ t. record { kind = t.kind; samples = samples_held t.held } };
 
-    ghost invariant = { λ t. IsSound (record { kind = t.kind; samples = samples_held t.held }) × are_inside t.held };
+    ghost invariant = { λ t. IsSound (record { kind = t.kind; samples = samples_held t.held }) × are_inside t.held
+        × are_of t.kind t.held };
 }
 
 impl Track {
@@ -65,6 +69,17 @@ impl Track {
         Track {
             kind,
             held: Held::Bytes(Raw { bytes, from, size }),
+        }
+    }
+
+    /// The file that is read at another rate.
+    pub fn of_changed(changed: Changed) -> Track
+        requires { IsSound (record { kind = changed.kind; samples = changed.samples }) }
+        ensures { result ≡ record { kind = changed.kind; samples = changed.samples } }
+    {
+        Track {
+            kind: changed.kind(),
+            held: Held::OtherRate(changed),
         }
     }
 
@@ -160,6 +175,9 @@ impl Track {
                 right,
             ),
             Held::Bytes(raw) => read_bytes(self.kind, body_of(raw), at as usize, kind, left, right),
+            Held::OtherRate(changed) => {
+                read_changed(self.kind, changed, at as usize, kind, left, right);
+            }
         }
     }
 }
@@ -173,6 +191,7 @@ fn count_held(held: &Held) -> usize
     match held {
         Held::Numbers(samples) => samples.len(),
         Held::Bytes(raw) => raw.size / 2,
+        Held::OtherRate(changed) => changed.count(),
     }
 }
 
@@ -185,6 +204,7 @@ fn held_at(held: &Held, at: usize) -> i16
     match held {
         Held::Numbers(samples) => samples[at],
         Held::Bytes(raw) => number_at(body_of(raw), at),
+        Held::OtherRate(changed) => changed.sample(at),
     }
 }
 
@@ -260,6 +280,55 @@ fn read_bytes(own: Kind, bytes: &[u8], at: usize, kind: Kind, left: &mut [i16], 
             right.fill(0);
         }
         (Kind::Stereo, Kind::Stereo) => read_pairs(bytes, at, left, right),
+    }
+}
+
+// The same of a file at another rate.
+fn read_changed(
+    own: Kind,
+    changed: &Changed,
+    at: usize,
+    kind: Kind,
+    left: &mut [i16],
+    right: &mut [i16],
+)
+    requires own { changed.now.kind ≡ own }
+    requires same { length right.old ≡ length left.old }
+    requires within { at + length left.old ≤ length changed.now.samples / channels_of changed.now.kind }
+    ensures left { left.new
+        ≡ lefts_from (record { kind = own; samples = changed.now.samples }) kind at (length left.old) }
+    ensures right { right.new
+        ≡ rights_from (record { kind = own; samples = changed.now.samples }) kind at (length left.old) }
+{
+    match (own, kind) {
+        (Kind::Mono, Kind::Mono) => {
+            changed.read(at, 0, left);
+            right.fill(0);
+        }
+        (Kind::Mono, Kind::Stereo) => {
+            changed.read(at, 0, left);
+            right.copy_from_slice(left);
+        }
+        (Kind::Stereo, Kind::Mono) => {
+            changed.read(at, 0, left);
+            changed.read(at, 1, right);
+            halve_sides(left, right);
+            right.fill(0);
+        }
+        (Kind::Stereo, Kind::Stereo) => {
+            changed.read(at, 0, left);
+            changed.read(at, 1, right);
+        }
+    }
+}
+
+// Half the sum of a side and the other one.
+fn halve_sides(left: &mut [i16], right: &[i16])
+    requires { length right.now ≡ length left.old }
+    ensures { left.new ≡ zip2 (λ l r. int_div (l +ℤ r) (pos 2)) left.old right.now }
+{
+    for j in 0..left.len() {
+        left[j] = half_sum(left[j], right[j]);
     }
 }
 

@@ -1,7 +1,6 @@
 pub mod Positions
 pub mod Cursors
 pub mod Turns
-pub mod Holding
 mod Stretching
 mod Giving
 pub mod Onward

@@ -2,7 +2,6 @@
 use Rattle.std.proofs.Common.{◌≡◌, ◌<◌, ◌≤◌, ◌+◌, ◌%◌, ◌∙◌, ◌&&◌, ℕ, zero, suc, Bool, true, false, not, min, Some, None, IsSome, List, length, get_or, take, nat_eq, nat_lt, if◌then◌else◌, cond, arith, refl, sym, ap, subst}
 use Rattle.std.proofs.lemmas.Bool.{false≢true}
 use Rattle.std.proofs.lemmas.Bool.Decides.{nat_tests}
-use Rattle.std.proofs.lemmas.Nat.{mod_below}
 use Rattle.frame_core.specs.Slots.{Slot, title_of, goes_on, is_inner}
 use Rattle.frame_core.specs.Sounds.{Sound, length_of}
 use Rattle.frame_core.specs.Library.{IsLibrary, Sounds, no_sound, sound_at, tracks_of}
@@ -192,9 +191,6 @@ blank_ends blank position (suc n) track stands some ends =
     blank_first blank.track (position + suc n) track
     ∙ ap (λ q. not (nat_eq (q % blank.track) 0)) e
     ∙ ap (λ q. not (nat_eq q 0)) (mod-round (position + n) blank.track (blank.at + n) (sym (blank_place blank.track blank.at position n track (blank_at blank position track stands) (omega (arith, ends)))) (omega (arith, ends)))
-
-pub below_track : (blank : Blank) (position : ℕ) → 0 < blank.track → BlankStandsAt blank position → blank.at < blank.track
-below_track blank position some stands = let low = mod_below position blank.track some in let is = blank_at blank position some stands in omega (arith, low, is)
 
 -- ---- the cells of a stretch
 

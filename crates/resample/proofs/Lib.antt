@@ -1,6 +1,9 @@
 pub mod Quotients
 pub mod Inverses
 pub mod Moves
-pub mod Laws
+pub mod Formulas
 pub mod Rounds
 pub mod Rows
+pub mod Numbers
+pub mod Changing
+pub mod Eights

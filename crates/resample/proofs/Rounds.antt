@@ -9,7 +9,7 @@ use Rattle.liq_base.specs.Kinds.{channels_of}
 use Rattle.liq_base.specs.declared.memory.Kind.{Kind}
 use Rattle.liq_base.specs.declared.memory.Kind.TheVariants.{Mono, Stereo}
 use Rattle.resample.specs.Resampled.{AreRates, IsFile, interpolated, block_before, blocks_of, output_length, parts_behind, resampled, sample_before, sample_behind, side_at}
-use Rattle.resample.proofs.Laws.{number_at, numbered, some_channels}
+use Rattle.resample.proofs.Formulas.{number_at, numbered, some_channels}
 use Rattle.resample.proofs.Moves.{within}
 
 few_channels : (kind : Kind) → channels_of kind ≤ 2

@@ -1,7 +1,10 @@
 // Where a sample of the new rate stands in the file.
-ghost use Rattle.std.specs.Prelude.{◌≡◌, ◌<◌, ◌≤◌, ◌+◌, ◌^◌};
+ghost use Rattle.std.specs.Prelude.{◌≡◌, ◌<◌, ◌≤◌, ◌+◌, ◌*◌, ◌^◌};
+ghost use Rattle.resample.specs.Changes.{IsWay};
 ghost use Rattle.resample.specs.Places.{reached};
+ghost use Rattle.resample.specs.Resampled.{AreRates};
 
+use crate::midway::inverse_of;
 use liq_base::limits::MAX_RATE;
 
 /// A place in the file. The way from a block to the next one has as many parts as a second has samples at the new rate.
@@ -12,6 +15,49 @@ pub struct Place {
 
     /// How many parts it lies behind that block, fewer than all.
     pub part: u32,
+}
+
+/// A rate, another, and what stands for the way from one sample of that to the next.
+#[derive(Clone, Copy)]
+pub struct Way {
+    pub from: u32,
+    pub to: u32,
+    pub step: Place,
+
+    /// What takes the place of a division by `to`, and of eight at once.
+    pub inverse: u64,
+    pub by_lanes: u64,
+}
+
+/// The way from a rate to another.
+pub fn way_of(from: u32, to: u32) -> Way
+    requires { AreRates from to }
+    ensures way { IsWay result }
+    ensures from { result.from ≡ from }
+    ensures to { result.to ≡ to }
+{
+    Way {
+        from,
+        to,
+        step: step_of(from, to),
+        inverse: inverse_of(to),
+        by_lanes: sample_kernels::inverse_of(to),
+    }
+}
+
+/// The place of a sample, by its number.
+pub fn place_of(way: &Way, number: u64) -> Place
+    requires some { 0 < way.now.to }
+    requires room { number * way.now.from < 2 ^ 64 }
+    ensures whole { reached way.now.to result ≡ number * way.now.from }
+    ensures part { result.part < way.now.to }
+{
+    let parts = number * u64::from(way.from);
+    let to = u64::from(way.to);
+    Place {
+        block: (parts / to) as usize,
+        part: (parts % to) as u32,
+    }
 }
 
 /// How far it is from one sample to the next.

@@ -12,3 +12,4 @@ pub mod Quotients
 pub mod MixedSums
 pub mod LongMixes
 pub mod LongScales
+pub mod Fadings

@@ -49,7 +49,7 @@ weighted_is a times fits small =
 abbrev pub sum_lane : ℕ → ℕ → ℕ → ℕ → ℕ
 sum_lane x y at whole = added (multiplied x (subtracted whole at)) (multiplied y at)
 
-one_sum : (a b : ℤ) (at whole : ℕ) → FitsSigned w16 a → FitsSigned w16 b → at < whole → whole < 65536 →
+pub one_sum : (a b : ℤ) (at whole : ℕ) → FitsSigned w16 a → FitsSigned w16 b → at < whole → whole < 65536 →
     sum_lane (of_z w32 a) (of_z w32 b) at whole ≡ of_z w32 (sum_of a b at whole)
 one_sum a b at whole fit_a fit_b less short =
     let small : whole - at < 65536 = omega (arith, short) in

@@ -8,13 +8,15 @@ ghost use Rattle.op_cross.specs.States.{AllInner, Crossing, IsCrossing, StandsFo
 ghost use Rattle.op_leaf.specs.declared.leaf.Leaf.{Leaf as TheLeaf};
 ghost use Rattle.op_leaf.specs.Leaves.{leaf_slot};
 ghost use Rattle.op_leaf.specs.Readers.{read_by, reader_slot};
-ghost use Rattle.plan_core.specs.declared.node.Node.{Node as TheNode};
 ghost use Rattle.plan_core.specs.Plans.{AreNodes};
 ghost use Rattle.stream_meaning.specs.Arithmetic.{Mixing, mix_slot};
 ghost use Rattle.stream_meaning.specs.Calls.{GoDown, calls_of, takes_at};
 ghost use Rattle.stream_meaning.specs.Operators.{Choice, Eligible, Fades, Mixes, Picks, Plays, Reads};
-ghost use Rattle.stream_meaning.specs.Instants.{Setting, Moment, IsMeaning, gives_before, crossfaded, gives, first_instants, moment_after, offer, part_at, position, reading_after, reading_at, work_at};
-ghost use Rattle.stretch_laws.specs.Stretches.{AreFilled, AreQuiet, IsLike, IsNode, IsOn, IsStretch, going_on, lane};
+ghost use Rattle.stream_meaning.specs.Instants.{Setting, Moment, IsMeaning, gives_before, crossfaded, gives};
+ghost use Rattle.stream_meaning.specs.Instants.{first_instants, moment_after, offer, part_at, position, reading_after};
+ghost use Rattle.stream_meaning.specs.Instants.{reading_at};
+ghost use Rattle.stretch_laws.specs.Lanes.{NodeOver, first_over, gives_over, lane_over, work_over};
+ghost use Rattle.stretch_laws.specs.Stretches.{AreFilled, AreQuiet, IsLike, IsOn, IsStretch, going_on, lane};
 
 /// Over a stretch demands, picks of demanded nodes and who offers are those of its first instant, and none that gives
 /// begins a track behind that. What a node knows of the past counts on.
@@ -33,40 +35,22 @@ pub fn stretches_stay_alike()
 /// What a node that gives offers over a stretch: a leaf its next cells, a crossfade its next items, a reader its next
 /// cells, a node that chooses the cells of one child, and a mix what it makes of those of its children.
 pub fn stretches_have_lanes()
-    ensures played { (setting : Setting) (sub : ℕ → ℕ
-        → List TheSlot) (clock : NodeClock) (past : List Moment) (instants i j : ℕ) (node : TheNode) (leaf : TheLeaf)
-        → AreNodes setting.plan.nodes → IsStretch setting sub clock past instants → IsNode setting clock i node
-        → work_at setting i node ≡ Plays leaf
-        → j < instants → gives (moment_after setting sub clock past) i ≡ true
-        → lane setting sub clock past j i ≡ leaf_slot setting.library leaf (gives_before past i + j) }
-    ensures faded { (setting : Setting) (sub : ℕ → ℕ
-        → List TheSlot) (clock : NodeClock) (past : List Moment) (instants i j overlap : ℕ) (node : TheNode)
-        → AreNodes setting.plan.nodes → IsStretch setting sub clock past instants → IsNode setting clock i node
-        → work_at setting i node ≡ Fades overlap
-        → j < instants → gives (moment_after setting sub clock past) i ≡ true
-        → lane setting sub clock past j i ≡ item_of overlap (sub i) (position past i + j) }
-    ensures read { (setting : Setting) (sub : ℕ → ℕ
-        → List TheSlot) (clock : NodeClock) (past : List Moment) (instants i j buffer : ℕ) (node : TheNode)
-        → AreNodes setting.plan.nodes → IsStretch setting sub clock past instants → IsNode setting clock i node
-        → work_at setting i node ≡ Reads buffer
-        → 0 < j → j < instants → gives (moment_after setting sub clock past) i ≡ true
-        → lane setting sub clock past j i
-        ≡ reader_slot (read_by j
-        (reading_at setting buffer (length past) (reading_after setting i buffer past)).reader) }
-    ensures mixed { (setting : Setting) (sub : ℕ → ℕ
-        → List TheSlot) (clock : NodeClock) (past : List Moment) (instants i j : ℕ) (node : TheNode) (mixing : Mixing)
-        → AreNodes setting.plan.nodes → IsStretch setting sub clock past instants → IsNode setting clock i node
-        → work_at setting i node ≡ Mixes mixing
-        → lane setting sub clock past j i ≡ mix_slot mixing (map (lane setting sub clock past j) node.children) }
-    ensures chosen { (setting : Setting) (sub : ℕ → ℕ
-        → List TheSlot) (clock : NodeClock) (past : List Moment) (instants i j place child : ℕ) (node : TheNode)
-        (choice : Choice) (eligible : Eligible)
-        → AreNodes setting.plan.nodes → IsStretch setting sub clock past instants → IsNode setting clock i node
-        → work_at setting i node ≡ Picks choice eligible
-        → 0 < j → j < instants → gives (moment_after setting sub clock past) i ≡ true
-        → (part_at (moment_after setting sub clock past).parts i).pick ≡ Some place
-        → slice_get node.children place ≡ Some child → lane setting sub clock past j i
-        ≡ lane setting sub clock past j child }
+    ensures played { (over : NodeOver) (leaf : TheLeaf) (j : ℕ)
+        → work_over over ≡ Plays leaf → j < over.instants → gives_over over ≡ true
+        → lane_over over j over.i ≡ leaf_slot over.setting.library leaf (gives_before over.past over.i + j) }
+    ensures faded { (over : NodeOver) (overlap j : ℕ)
+        → work_over over ≡ Fades overlap → j < over.instants → gives_over over ≡ true
+        → lane_over over j over.i ≡ item_of overlap (over.sub over.i) (position over.past over.i + j) }
+    ensures read { (over : NodeOver) (buffer j : ℕ)
+        → work_over over ≡ Reads buffer → 0 < j → j < over.instants → gives_over over ≡ true
+        → lane_over over j over.i ≡ reader_slot (read_by j (reading_at over.setting buffer (length over.past)
+        (reading_after over.setting over.i buffer over.past)).reader) }
+    ensures mixed { (over : NodeOver) (mixing : Mixing) (j : ℕ) → work_over over ≡ Mixes mixing
+        → lane_over over j over.i ≡ mix_slot mixing (map (lane_over over j) over.node.children) }
+    ensures chosen { (over : NodeOver) (choice : Choice) (eligible : Eligible) (place child j : ℕ)
+        → work_over over ≡ Picks choice eligible → 0 < j → j < over.instants → gives_over over ≡ true
+        → (part_at (first_over over).parts over.i).pick ≡ Some place → slice_get over.node.children place ≡ Some child
+        → lane_over over j over.i ≡ lane_over over j child }
 {}
 
 /// Over a stretch a node that gives keeps its title.

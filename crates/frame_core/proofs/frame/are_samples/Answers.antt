@@ -3,4 +3,4 @@ use Rattle.std.proofs.lemmas.Slice.Eq.{slice_eq-Decides}
 use Rattle.frame_core.proofs.frame.are_samples.Goals as goal
 
 pub returns : goal.returns
-returns c = λ is. (slice_eq-Decides Decides-int_eq c.args.one.now c.args.other.now _ c.eq.ensures).0 is
+returns c = slice_eq-Decides Decides-int_eq c.args.one.now c.args.other.now _ c.eq.ensures

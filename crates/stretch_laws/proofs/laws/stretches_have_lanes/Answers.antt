@@ -3,10 +3,10 @@ use Rattle.stretch_laws.proofs.laws.stretches_have_lanes.Goals as goal
 
 pub returns : goal.returns
 returns c = record {
-  played = λ setting sub clock past instants i j node leaf nodes stretch is at within gave. played setting sub clock past instants nodes stretch i node is leaf j at within gave;
-  faded = λ setting sub clock past instants i j overlap node nodes stretch is at within gave. faded setting sub clock past instants nodes stretch i node is overlap j at within gave;
-  read = λ setting sub clock past instants i j buffer node nodes stretch is at some within gave. read setting sub clock past instants nodes stretch i node is buffer j at some within gave;
-  mixed = λ setting sub clock past instants i j node mixing nodes stretch is at. mixed setting sub clock past instants nodes stretch i node is mixing j at;
-  chosen = λ setting sub clock past instants i j place child node choice eligible nodes stretch is at some within gave pick there.
-      chosen setting sub clock past instants nodes stretch i node is choice eligible place child j at some within gave pick there;
+  played = λ over leaf j at within gave. played over.setting over.sub over.clock over.past over.instants over.nodes over.stretch over.i over.node over.there leaf j at within gave;
+  faded = λ over overlap j at within gave. faded over.setting over.sub over.clock over.past over.instants over.nodes over.stretch over.i over.node over.there overlap j at within gave;
+  read = λ over buffer j at some within gave. read over.setting over.sub over.clock over.past over.instants over.nodes over.stretch over.i over.node over.there buffer j at some within gave;
+  mixed = λ over mixing j at. mixed over.setting over.sub over.clock over.past over.instants over.nodes over.stretch over.i over.node over.there mixing j at;
+  chosen = λ over choice eligible place child j at some within gave pick there.
+      chosen over.setting over.sub over.clock over.past over.instants over.nodes over.stretch over.i over.node over.there choice eligible place child j at some within gave pick there;
 }

@@ -1,30 +1,70 @@
-use Rattle.std.proofs.Common.{length, ap, arith}
-use Rattle.std.proofs.lemmas.List.{with_items_is}
-use Rattle.frame_core.proofs.Lanes.{length-slots_in}
-use Rattle.frame_core.proofs.Laid.{laid}
+use Rattle.std.proofs.Common.{◌∙◌, length, ap, arith}
+use Rattle.std.proofs.lemmas.List.{length-append}
+use Rattle.frame_core.specs.Frames.{Laid}
+use Rattle.frame_core.specs.MarkRuns.{marks_in, run_marks}
+use Rattle.frame_core.proofs.Chunks.{held, laid}
+use Rattle.frame_core.proofs.MarkRuns.{length-run}
 use Rattle.frame_core.proofs.frame.Frame.lay.Goals as goal
+
+pub overflow_cast-left : goal.overflow_cast-left
+overflow_cast-left c =
+    let v = c.self.inside in
+    let i = c.self.invariant in
+    let long = held v.left.items v.right.items (marks_in v.runs.items) v.room c.args.self.now i.0 i.1 c.self.view_is in
+    omega (arith, c.requires.room, long, i.4, ap (λ (l : Laid). l.room) c.self.view_is)
+
+pub put_run-requires-clause-room : goal.put_run-requires-clause-room
+put_run-requires-clause-room c =
+    let v = c.self.inside in
+    let i = c.self.invariant in
+    let long = held v.left.items v.right.items (marks_in v.runs.items) v.room c.args.self.now i.0 i.1 c.self.view_is in
+    omega (arith, c.requires.room, long, i.7, ap (λ (l : Laid). l.room) c.self.view_is)
+
+pub put_run-requires-clause-few : goal.put_run-requires-clause-few
+put_run-requires-clause-few c =
+    let v = c.self.inside in
+    let i = c.self.invariant in
+    let long = held v.left.items v.right.items (marks_in v.runs.items) v.room c.args.self.now i.0 i.1 c.self.view_is in
+    omega (arith, c.requires.room, long, i.4, ap (λ (l : Laid). l.room) c.self.view_is)
 
 pub put_samples-requires : goal.put_samples-requires
 put_samples-requires c =
+    let v = c.self.inside in
     let i = c.self.invariant in
-    omega (arith, c.requires.there, i.0, length-slots_in c.self.inside.marks.items c.self.inside.left.items c.self.inside.right.items i.0 i.1, ap length c.self.view_is, ap length c.deref_mut.ensures.value)
+    let long = held v.left.items v.right.items (marks_in v.runs.items) v.room c.args.self.now i.0 i.1 c.self.view_is in
+    omega (arith, c.requires.room, long, i.0, i.5, v.left.ok.0, ap (λ (l : Laid). l.room) c.self.view_is)
 
 pub put_samples-requires-2 : goal.put_samples-requires-2
 put_samples-requires-2 c =
+    let v = c.self.inside in
     let i = c.self.invariant in
-    omega (arith, c.requires.there, c.requires.same, i.1, length-slots_in c.self.inside.marks.items c.self.inside.left.items c.self.inside.right.items i.0 i.1, ap length c.self.view_is, ap length c.deref_mut-2.ensures.value)
+    let long = held v.left.items v.right.items (marks_in v.runs.items) v.room c.args.self.now i.0 i.1 c.self.view_is in
+    omega (arith, c.requires.room, c.requires.same, long, i.1, i.6, v.right.ok.0, ap (λ (l : Laid). l.room) c.self.view_is)
 
-pub put_marks-requires : goal.put_marks-requires
-put_marks-requires c =
+pub invariant_of-self : goal.invariant_of-self
+invariant_of-self c =
+    let v = c.self.inside in
     let i = c.self.invariant in
-    omega (arith, c.requires.there, length-slots_in c.self.inside.marks.items c.self.inside.left.items c.self.inside.right.items i.0 i.1, ap length c.self.view_is, ap length c.deref_mut-3.ensures.value)
+    let marks = run_marks c.args.first c.args.title (length c.args.left.now) in
+    let long = held v.left.items v.right.items (marks_in v.runs.items) v.room c.args.self.now i.0 i.1 c.self.view_is in
+    let room = ap (λ (l : Laid). l.room) c.self.view_is in
+    let many = length-run c.args.first c.args.title (length c.args.left.now) in
+    let lefts = ap length c.put_samples.ensures.items ∙ length-append v.left.items c.args.left.now in
+    let rights = ap length c.put_samples-2.ensures.items ∙ length-append v.right.items c.args.right.now in
+    let all = ap length c.put_run.ensures.marks ∙ length-append (marks_in v.runs.items) marks in (
+      omega (arith, lefts, all, many, i.0),
+      omega (arith, rights, all, many, i.1, c.requires.same),
+      c.put_run.ensures.tight,
+      omega (arith, all, many, long, room, c.requires.room),
+      omega (arith, i.4),
+      omega (arith, c.put_samples.ensures.room, i.5),
+      omega (arith, c.put_samples-2.ensures.room, i.6),
+      omega (arith, c.put_run.ensures.room, i.7),
+    )
 
 pub returns : goal.returns
 returns c =
-    let i = c.self.invariant in
     let v = c.self.inside in
-    let lefts = with_items_is v.left c.put_samples.new.into (omega (arith, c.put_samples.auto.into, c.deref_mut.ensures.len)) in
-    let rights = with_items_is v.right c.put_samples-2.new.into (omega (arith, c.put_samples-2.auto.into, c.deref_mut-2.ensures.len)) in
-    let marks = with_items_is v.marks c.put_marks.new.marks (omega (arith, c.put_marks.auto.marks, c.deref_mut-3.ensures.len)) in
-    rw (lefts, rights, marks, c.put_samples.ensures, c.put_samples-2.ensures, c.put_marks.ensures, c.deref_mut.ensures.value, c.deref_mut-2.ensures.value, c.deref_mut-3.ensures.value)
-    (laid v.marks.items v.left.items v.right.items c.args.self.now c.args.at c.args.first c.args.title c.args.left.now c.args.right.now i.0 i.1 c.self.view_is c.requires.same)
+    let i = c.self.invariant in
+    laid v.left.items v.right.items (marks_in v.runs.items) v.room c.args.self.now c.args.left.now c.args.right.now (run_marks c.args.first c.args.title (length c.args.left.now))
+    i.0 i.1 c.self.view_is c.put_samples.ensures.items c.put_samples-2.ensures.items c.put_run.ensures.marks

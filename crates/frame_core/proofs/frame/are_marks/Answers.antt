@@ -1,6 +1,0 @@
-use Rattle.std.proofs.Common.{rules}
-use Rattle.std.proofs.lemmas.Slice.Eq.{slice_eq-Decides}
-use Rattle.frame_core.proofs.frame.are_marks.Goals as goal
-
-pub returns : goal.returns
-returns c = λ is. (slice_eq-Decides (λ a b. search rules) c.args.one.now c.args.other.now _ c.eq.ensures).0 is

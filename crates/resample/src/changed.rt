@@ -1,0 +1,299 @@
+// A file at another rate, whose samples are made where they are read.
+ghost use Rattle.std.specs.Prelude.{◌≡◌, ◌<◌, ◌≤◌, ◌+◌, ◌*◌, ◌-◌, ◌/◌, ◌^◌, ℕ, pos, length, map, min, take, drop, slice_index_or, true};
+ghost use Rattle.std.specs.List.{range_with_len};
+ghost use Rattle.std.specs.Simd.Lanes.{put_chunk};
+ghost use Rattle.liq_base.specs.Kinds.{channels_of};
+ghost use Rattle.resample.specs.Bytes.{samples_at, samples_from, wide_samples_in};
+ghost use Rattle.resample.specs.Changes.{blocks_at, changed_from, samples_in, samples_of, AreThere, IsSource, IsWay};
+ghost use Rattle.resample.specs.Places.{reached};
+ghost use Rattle.resample.specs.Resampled.{blocks_of, interpolated, resampled_sample, side_at, AreRates};
+
+use crate::midway::number_between;
+use crate::place::{Place, Way, moved, place_of, way_of};
+use crate::rates::length;
+use liq_base::Kind;
+use sample_kernels::fade_eight;
+use std::marker::Model;
+
+/// A file at another rate. It holds the bytes of the file as they are.
+#[derive(Debug, Drop)]
+pub struct Changed {
+    blocks: Blocks,
+
+    // Samples a second, of the file and of what is read.
+    from: u32,
+    to: u32,
+}
+
+/// Whole blocks of a file: so many of its bytes, from a place on.
+#[derive(Debug, Drop)]
+pub struct Blocks {
+    pub kind: Kind,
+
+    /// Whether the samples have 24 bits; else they have 16.
+    pub wide: bool,
+
+    pub bytes: Vec<u8>,
+    pub at: usize,
+    pub size: usize,
+}
+
+/// Whole blocks that are all of these bytes, and the number of the last one.
+#[derive(Clone, Copy)]
+pub struct Source<'a> {
+    pub bytes: &'a [u8],
+    pub wide: bool,
+    pub kind: Kind,
+    pub last: usize,
+}
+
+impl Model for Changed {
+    ghost use Rattle.resample.specs.Changes.{changed_from, AreThere, Samples};
+    ghost use Rattle.resample.specs.Resampled.{AreRates};
+
+    ghost Value = { Samples };
+
+    ghost view = { λ c. changed_from c.from c.to c.blocks };
+
+    ghost invariant = { λ c. AreRates c.from c.to × AreThere c.blocks };
+}
+
+impl Changed {
+    /// The file of these blocks at another rate, from `MIN_RATE` to `MAX_RATE`.
+    pub fn new(blocks: Blocks, from: u32, to: u32) -> Changed
+        requires rates { AreRates from to }
+        requires there { AreThere blocks }
+        ensures { result ≡ changed_from from to blocks }
+    {
+        Changed { blocks, from, to }
+    }
+
+    /// How many channels it has.
+    pub fn kind(&self) -> Kind
+        ensures { result ≡ self.now.kind }
+    {
+        self.blocks.kind
+    }
+
+    /// How many samples it has, those of both channels where there are two.
+    pub fn count(&self) -> usize
+        ensures count { result ≡ length self.now.samples }
+        ensures few { result < 2 ^ 63 }
+    {
+        let source = source_of(&self.blocks);
+        let blocks = length(source.last as u64 + 1, self.from, self.to) as usize;
+        blocks * usize::from(source.kind.channels())
+    }
+
+    /// The sample at a place in the order in which they stand.
+    pub fn sample(&self, at: usize) -> i16
+        requires { at < length self.now.samples }
+        ensures { result ≡ slice_index_or self.now.samples at (pos 0) }
+    {
+        let source = source_of(&self.blocks);
+        let way = way_of(self.from, self.to);
+        let channels = usize::from(source.kind.channels());
+        let place = place_of(&way, (at / channels) as u64);
+        sample_between(source, &way, place, at % channels)
+    }
+
+    /// The samples of a side, which is counted from 0, as many as the slice is long, from a block on.
+    pub fn read(&self, at: usize, side: usize, into: &mut [i16])
+        requires side { side < channels_of self.now.kind }
+        requires within { at + length into.old ≤ length self.now.samples / channels_of self.now.kind }
+        ensures { into.new ≡ map (λ j. side_at self.now.kind self.now.samples j side)
+            (range_with_len at (length into.old)) }
+    {
+        let source = source_of(&self.blocks);
+        let way = way_of(self.from, self.to);
+        read_side(source, &way, side, at, into);
+    }
+}
+
+// The blocks, by themselves.
+fn source_of(blocks: &Blocks) -> Source<'_>
+    requires { AreThere blocks.now }
+    ensures source { IsSource result }
+    ensures samples { samples_in result ≡ samples_of blocks.now }
+    ensures kind { result.kind ≡ blocks.now.kind }
+{
+    let (_, behind) = blocks.bytes.split_at(blocks.at);
+    let bytes = &behind[..blocks.size];
+    let channels = usize::from(blocks.kind.channels());
+    Source {
+        bytes,
+        wide: blocks.wide,
+        kind: blocks.kind,
+        last: count_in(bytes, blocks.wide) / channels - 1,
+    }
+}
+
+// How many samples stand in some bytes.
+fn count_in(bytes: &[u8], wide: bool) -> usize
+    ensures { result ≡ length (samples_at wide bytes.now) }
+{
+    if wide {
+        bytes.len() / 3
+    } else {
+        bytes.len() / 2
+    }
+}
+
+// Makes the samples of a side, from a block of what is read on.
+fn read_side(source: Source<'_>, way: &Way, side: usize, at: usize, into: &mut [i16])
+    requires source { IsSource source }
+    requires way { IsWay way.now }
+    requires side { side < channels_of source.kind }
+    requires within { at + length into.old ≤ blocks_at source way.now }
+    ensures { into.new ≡ map (λ j. resampled_sample way.now.from way.now.to source.entry.kind (samples_in source.entry) j side)
+        (range_with_len at (length into.old)) }
+{
+    if way.to < 65_536 && are_inside(source, way, at + into.len()) {
+        read_inside(source, way, side, at, into);
+    } else {
+        read_each(source, way, side, at, into);
+    }
+}
+
+// Whether so many blocks of what is read lie before the last one of the file.
+fn are_inside(source: Source<'_>, way: &Way, blocks: usize) -> bool
+    requires source { IsSource source }
+    requires way { IsWay way.now }
+    requires there { blocks ≤ blocks_at source way.now }
+    ensures { result ≡ true → blocks * way.now.from ≤ source.entry.last * way.now.to }
+{
+    blocks as u64 * u64::from(way.from) <= source.last as u64 * u64::from(way.to)
+}
+
+// Makes samples that lie before the last block, eight at a time by lanes and the rest one by one.
+fn read_inside(source: Source<'_>, way: &Way, side: usize, at: usize, into: &mut [i16])
+    requires source { IsSource source }
+    requires way { IsWay way.now }
+    requires short { way.now.to < 65536 }
+    requires side { side < channels_of source.kind }
+    requires within { at + length into.old ≤ blocks_at source way.now }
+    requires inside { (at + length into.old) * way.now.from ≤ source.last * way.now.to }
+    ensures { into.new ≡ map (λ j. resampled_sample way.now.from way.now.to source.entry.kind (samples_in source.entry) j side)
+        (range_with_len at (length into.old)) }
+{
+    let mut place = place_of(way, at as u64);
+    let mut done = 0;
+    while into.len() - done >= 8 {
+        place = make_eight(source, way, side, at + done, place, into, done);
+        done += 8;
+    }
+    for k in done..into.len() {
+        into[k] = sample_between(source, way, place, side);
+        place = moved(place, way.step, way.to);
+    }
+}
+
+// Makes eight samples that lie before the last block, of which the first has this number and stands at this place, and
+// answers the place behind them.
+fn make_eight(
+    source: Source<'_>,
+    way: &Way,
+    side: usize,
+    first: usize,
+    from: Place,
+    into: &mut [i16],
+    at: usize,
+) -> Place
+    requires source { IsSource source }
+    requires way { IsWay way.now }
+    requires short { way.now.to < 65536 }
+    requires side { side < channels_of source.kind }
+    requires inside { (first + 8) * way.now.from ≤ source.last * way.now.to }
+    requires part { from.part < way.now.to }
+    requires whole { reached way.now.to from ≡ first * way.now.from }
+    requires room { at + 8 ≤ length into.old }
+    ensures made { into.new ≡ put_chunk at into.old (map (λ j. resampled_sample way.now.from way.now.to
+        source.entry.kind (samples_in source.entry) j side) (range_with_len first 8)) }
+    ensures part { result.part < way.now.to }
+    ensures whole { reached way.now.to result ≡ (first + 8) * way.now.from }
+{
+    let mut before = [0_i16; 8];
+    let mut behind = [0_i16; 8];
+    let mut parts = [0_u16; 8];
+    let mut place = from;
+    for k in 0..8 {
+        before[k] = sample_of(source, place.block, side);
+        behind[k] = sample_of(source, place.block + 1, side);
+        parts[k] = place.part as u16;
+        place = moved(place, way.step, way.to);
+    }
+    fade_eight(&before, &behind, &parts, way.to, way.by_lanes, into, at);
+    place
+}
+
+// Makes samples one by one.
+fn read_each(source: Source<'_>, way: &Way, side: usize, at: usize, into: &mut [i16])
+    requires source { IsSource source }
+    requires way { IsWay way.now }
+    requires side { side < channels_of source.kind }
+    requires within { at + length into.old ≤ blocks_at source way.now }
+    ensures { into.new ≡ map (λ j. resampled_sample way.now.from way.now.to source.entry.kind (samples_in source.entry) j side)
+        (range_with_len at (length into.old)) }
+{
+    let mut place = place_of(way, at as u64);
+    for k in 0..into.len() {
+        into[k] = sample_between(source, way, place, side);
+        place = moved(place, way.step, way.to);
+    }
+}
+
+// The sample of a side at a place.
+fn sample_between(source: Source<'_>, way: &Way, place: Place, side: usize) -> i16
+    requires source { IsSource source }
+    requires way { IsWay way.now }
+    requires side { side < channels_of source.kind }
+    requires block { place.block < blocks_of source.kind (samples_in source) }
+    requires part { place.part < way.now.to }
+    ensures { result ≡ interpolated (side_at source.entry.kind (samples_in source.entry) place.block side)
+        (side_at source.entry.kind (samples_in source.entry)
+        (min (place.block + 1) (blocks_of source.entry.kind (samples_in source.entry) - 1)) side) place.part way.now.to }
+{
+    let next = source.last.min(place.block + 1);
+    let before = sample_of(source, place.block, side);
+    let behind = sample_of(source, next, side);
+    number_between(way.inverse, before, behind, place.part, way.to)
+}
+
+// The sample of a side in a block.
+fn sample_of(source: Source<'_>, block: usize, side: usize) -> i16
+    requires source { IsSource source }
+    requires side { side < channels_of source.kind }
+    requires block { block < blocks_of source.kind (samples_in source) }
+    ensures { result ≡ side_at source.entry.kind (samples_in source.entry) block side }
+{
+    let channels = usize::from(source.kind.channels());
+    number_at(source.bytes, source.wide, block * channels + side)
+}
+
+// The sample at a place of some bytes.
+fn number_at(bytes: &[u8], wide: bool, at: usize) -> i16
+    requires { at < length (samples_at wide bytes.now) }
+    ensures { result ≡ slice_index_or (samples_at wide bytes.now) at (pos 0) }
+{
+    if wide {
+        wide_at(bytes, at)
+    } else {
+        narrow_at(bytes, at)
+    }
+}
+
+// The sample of 24 bits at a place of some bytes.
+fn wide_at(bytes: &[u8], at: usize) -> i16
+    requires { 3 * at + 2 < length bytes.now }
+    ensures { result ≡ slice_index_or (wide_samples_in bytes.now) at (pos 0) }
+{
+    i16::from_le_bytes([bytes[3 * at + 1], bytes[3 * at + 2]])
+}
+
+// The sample of 16 bits at a place of some bytes.
+fn narrow_at(bytes: &[u8], at: usize) -> i16
+    requires { 2 * at + 1 < length bytes.now }
+    ensures { result ≡ slice_index_or (samples_from bytes.now) at (pos 0) }
+{
+    i16::from_le_bytes([bytes[2 * at], bytes[2 * at + 1]])
+}
