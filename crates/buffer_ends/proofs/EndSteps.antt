@@ -1,14 +1,13 @@
 -- A call on an end comes at the end of each list for which the taps stood.
 use Rattle.std.proofs.Common.{◌≡◌, ◌≢◌, ◌⊎◌, ℕ, ◌<◌, ◌==◌, eqb, Bool, true, false, List, [], ◌∷◌, ◌++◌, length, get_or, set, sym, refl, ap, ◌∙◌, subst, arith, slice_index_or, Option, Some, None, ⊎_elim, inl, inr, if◌then◌else◌, Result, Ok, Err, IfErr, OnErr, get_or-set_same, get_or-set_other, length-set, append-nil}
 use Rattle.std.proofs.lemmas.Bool.Decides.{eqb_tells}
-use Rattle.std.proofs.lemmas.List.{get_or_default}
 use Rattle.frame_core.specs.Calls.{Call, takes_of, puts_to, put_of, IsGive}
 use Rattle.frame_core.specs.Calls.Call.{Took, Given}
 use Rattle.frame_core.specs.declared.chunk.Gave.{Gave}
 use Rattle.frame_core.specs.declared.chunk.Gave.TheVariants.{Accepted, Full}
 use Rattle.frame_core.specs.declared.cell.Cell.{Cell}
 use Rattle.buffer_ends.specs.Local.{LocalBuffer}
-use Rattle.buffer_ends.specs.Sides.{Side, Falling, PutsSide, TakesSide, SameSide, SameSides}
+use Rattle.buffer_ends.specs.Sides.{Side, Falling, PutsSide, TakesSide}
 use Rattle.buffer_ends.specs.Ends.{ListsStand, PutsStand, TakesStand, EndsStand, Has}
 use Rattle.buffer_ends.proofs.Places.{one_place}
 use Rattle.buffer_ends.proofs.Steps.{if_true, if_false, lists_other, list_took, list_gave, TakesOf, GivesTo}
@@ -78,9 +77,6 @@ falling_set ends after k e is room same falling = subst Falling (sym is)
 
 has_set : (ends : List Side) (k : ℕ) (e : Side) → k < length ends → ((d : Side) → e.buffer ≡ (slice_index_or ends k d).buffer) → (b : ℕ) → Has ends b → Has (set ends k e) b
 has_set ends k e room same b h = (h.0, omega (arith, length-set ends k e, h.1), λ d. buffers_set ends k e room same h.0 d ∙ h.2 d)
-
-has_unset : (ends : List Side) (k : ℕ) (e : Side) → k < length ends → ((d : Side) → e.buffer ≡ (slice_index_or ends k d).buffer) → (b : ℕ) → Has (set ends k e) b → Has ends b
-has_unset ends k e room same b h = (h.0, omega (arith, length-set ends k e, h.1), λ d. sym (buffers_set ends k e room same h.0 d) ∙ h.2 d)
 
 gives_answers : (e : Side) (c : List Cell) (f : Side) (g : Gave) → PutsSide e c f g → (a : Bool) × IsGive e.buffer c g (Given e.buffer c a) × (f.buffer ≡ e.buffer) × (f.window.answers ≡ e.window.answers ++ put_of c a ∷ [])
 gives_answers e c f Accepted g = (true, refl, g.0, g.1.answers)
@@ -182,13 +178,3 @@ err_map (Err e) f p = f e p
 pub on_err_map : {T E : Type 0} {P Q : Type 0} (r : Result T E) → (P → Q) → OnErr r P → OnErr r Q
 on_err_map (Ok x) f p = p
 on_err_map (Err e) f p = f p
-
-pub same_set : (ends after : List Side) (k : ℕ) (x e : Side) → after ≡ set ends k e → x ≡ get_or ends k x → k < length ends → SameSide x e → SameSides ends after
-same_set ends after k x e is old room s = subst (λ (l : List Side). SameSides ends l) (sym is) (record {
-  many = length-set ends k e;
-  each = λ j d h. ⊎_elim
-      (λ (t : (eqb j k ≡ true) × (j ≡ k)).
-      subst (λ (y : Side × Side). SameSide y.0 y.1)
-      (λ i. ((old ∙ get_or_default ends k x d room ∙ ap (λ n. get_or ends n d) (sym t.1)) i, sym (ap (λ n. get_or (set ends k e) n d) t.1 ∙ get_or-set_same ends k e d room) i)) s)
-      (λ t. subst (λ (y : Side). SameSide (get_or ends j d) y) (sym (get_or-set_other ends k j e d t.1)) (record { buffer = refl; queue = refl; opening = refl })) (eqb_tells j k);
-})

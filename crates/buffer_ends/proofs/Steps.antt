@@ -9,7 +9,6 @@ use Rattle.frame_core.specs.Calls.Call.{Took, Given}
 use Rattle.frame_core.specs.declared.chunk.Gave.{Gave}
 use Rattle.frame_core.specs.declared.chunk.Gave.TheVariants.{Accepted, Full}
 use Rattle.buffer_ends.specs.Local.{LocalBuffer, Held, held, buffer_of, on, Step, Leads, empty_list}
-use Rattle.buffer_ends.specs.Same.{SameBuffer, SameBuffers}
 use Rattle.buffer_ends.specs.Ends.{ListsStand}
 
 pub if_true : {A : Type 0} (t : Bool) (x y : A) → t ≡ true → (if t then x else y) ≡ x
@@ -93,14 +92,3 @@ list_took E lists after b o room t calls stand = subst (λ (l : List LocalBuffer
 pub list_gave : (E : ℕ → Type 0) (lists after : List LocalBuffer) (b : ℕ) (c : List Cell) (g : Gave) → b < length lists → (t : GivesTo lists b c after g)
     → (calls : List Call) → ListsStand E lists calls → ListsStand E after (calls ++ t.2 ∷ [])
 list_gave E lists after b c g room t calls stand = subst (λ (l : List LocalBuffer). ListsStand E l (calls ++ t.2 ∷ [])) (sym t.1) (lists_step E lists calls b t.0 t.2 (gave_buffer b c g t.2 t.3) room t.4 stand)
-
--- a list in the place of another with the same capacity and closed windows
-pub buffers_set : (lists after : List LocalBuffer) (k : ℕ) (x l : LocalBuffer) → after ≡ set lists k l → x ≡ get_or lists k x → k < length lists → SameBuffer x l → SameBuffers lists after
-buffers_set lists after k x l is old room same = subst (λ (ls : List LocalBuffer). SameBuffers lists ls) (sym is) (record {
-  many = length-set lists k l;
-  each = λ j d h. ⊎_elim
-      (λ (t : (eqb j k ≡ true) × (j ≡ k)).
-      subst (λ (y : LocalBuffer × LocalBuffer). SameBuffer y.0 y.1)
-      (λ i. ((old ∙ get_or_default lists k x d room ∙ ap (λ n. get_or lists n d) (sym t.1)) i, sym (ap (λ n. get_or (set lists k l) n d) t.1 ∙ get_or-set_same lists k l d room) i)) same)
-      (λ t. subst (λ (y : LocalBuffer). SameBuffer (get_or lists j d) y) (sym (get_or-set_other lists k j l d t.1)) (record { capacity = refl; closed = refl })) (eqb_tells j k);
-})

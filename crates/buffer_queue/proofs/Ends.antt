@@ -47,10 +47,10 @@ take_no t u v w bs cs e p b l k =
     subst (λ (y : TableId × View × List Bool). TakeEnd y.0 y.1 y.2) (λ i. (sym e i, sym p i, sym b i)) goes
 
 abbrev pub put_window : TableId → View → List Bool → Window
-put_window t v bs = record { queue = t; opening = v.opening; answers = answers_of bs v.put }
+put_window t v bs = record { queue = t; opening = v.opening; left = last_or (length v.opening) v.put; answers = answers_of bs v.put }
 
 abbrev pub take_window : TableId → View → List Bool → Window
-take_window t v bs = record { queue = t; opening = v.since; answers = answers_of bs v.got }
+take_window t v bs = record { queue = t; opening = v.since; left = last_or (length v.since) v.got; answers = answers_of bs v.got }
 
 -- the answers alone
 pub answers_alone : (s d : ℕ) (bs : List Bool) (ms : List (Cells × ℕ)) → Fits s d bs ms → map is_chunk (answers_of bs ms) ≡ bs
@@ -82,10 +82,11 @@ pub put_stops : (t u : TableId) (v w : View) (bs cs : List Bool) (V : Window) �
     → (last_or (length v.opening) v.put ≡ t.slots) × (t.slots ≤ length v.opening + length v.put) → PutEnd t v bs → IsFull V × Stays V (put_window u w cs)
 put_stops t u v w bs cs V is e p b l k =
     let count = length-answers_of t.slots (length v.opening) bs v.put k.3 in
-    let full : IsFull (put_window t v bs) = record { many = omega (arith, l.1, count) } in
+    let full : IsFull (put_window t v bs) = record { left = l.0; many = omega (arith, l.1, count) } in
     let stays : Stays (put_window t v bs) (put_window u w cs) = record {
       queue = e;
       opening = ap (λ (y : View). y.opening) p;
+      left = ap (λ (y : View). last_or (length y.opening) y.put) p;
       answers = (λ i. answers_of (b i) (p i).put) ∙ answers_no t.slots (length v.opening) bs v.put k.3;
     } in
     subst (λ (y : Window). IsFull y × Stays y (put_window u w cs)) is (full, stays)
@@ -94,10 +95,11 @@ pub take_stops : (t u : TableId) (v w : View) (bs cs : List Bool) (V : Window) �
     → (last_or (length v.since) v.got ≡ 0) × (length v.since ≤ length v.got) → TakeEnd t v bs → IsEmpty V × Stays V (take_window u w cs)
 take_stops t u v w bs cs V is e p b l k =
     let count = length-answers_of 0 (length v.since) bs v.got k.3 in
-    let none : IsEmpty (take_window t v bs) = record { taken = omega (arith, l.1, count) } in
+    let none : IsEmpty (take_window t v bs) = record { left = l.0; taken = omega (arith, l.1, count) } in
     let stays : Stays (take_window t v bs) (take_window u w cs) = record {
       queue = e;
       opening = ap (λ (y : View). y.since) p;
+      left = ap (λ (y : View). last_or (length y.since) y.got) p;
       answers = (λ i. answers_of (b i) (p i).got) ∙ answers_no 0 (length v.since) bs v.got k.3;
     } in
     subst (λ (y : Window). IsEmpty y × Stays y (take_window u w cs)) is (none, stays)

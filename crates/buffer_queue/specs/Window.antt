@@ -1,6 +1,6 @@
 -- What a clause sees of a queue and of its ends: which queue it is, and the window that is open.
 use Rattle.std.specs.Prelude.{◌≡◌, ℕ, ◌+◌, ◌≤◌, Bool, true, false, List, [], ◌∷◌, ◌++◌, length, Option, Some, None, refl}
-use Rattle.std.specs.Coded.{Coded, code_by, coded×, coded_list, coded_option}
+use Rattle.std.specs.Coded.{Coded, code_by, coded×, coded_ℕ, coded_list, coded_option}
 use Rattle.atomic_table.specs.Seated.{TableId, table_id_coded}
 use Rattle.frame_core.specs.Coded.{cell_coded}
 use Rattle.frame_core.specs.declared.cell.Cell.{Cell}
@@ -9,22 +9,24 @@ use Rattle.frame_core.specs.declared.chunk.Gave.TheVariants.{Accepted, Full}
 use Rattle.frame_core.specs.Frames.{somes}
 use Rattle.frame_core.specs.Legal.{Legal}
 
--- The window of one end: of which queue, the chunks with which it opened, and the answers so far, each a chunk that was
--- moved or None.
+-- The window of one end: of which queue, the chunks with which it opened, how many chunks the last move of this end
+-- left in the queue, or else the opening, and the answers so far, each a chunk that was moved or None.
 pub record Window : Type 0 where
   pub queue : TableId
   pub opening : List (List Cell)
+  pub left : ℕ
   pub answers : List (Option (List Cell))
 
 abbrev pub window_coded : Coded Window
 window_coded =
-    code_by (TableId × (List (List Cell) × List (Option (List Cell))))
+    code_by (TableId × (List (List Cell) × (ℕ × List (Option (List Cell)))))
     (coded× table_id_coded (coded× (coded_list (coded_list cell_coded))
-    (coded_list (coded_option (coded_list cell_coded)))))
-    (λ w. (w.queue, (w.opening, w.answers))) (λ p. record {
+    (coded× coded_ℕ (coded_list (coded_option (coded_list cell_coded))))))
+    (λ w. (w.queue, (w.opening, (w.left, w.answers)))) (λ p. record {
       queue = p.0;
       opening = p.1.0;
-      answers = p.1.1;
+      left = p.1.1.0;
+      answers = p.1.1.1;
     }) (λ _. refl)
 
 -- how many chunks a queue may hold
@@ -33,7 +35,7 @@ capacity_of queue = queue.slots
 
 -- an end whose window has just opened with these chunks
 abbrev pub opened : TableId → List (List Cell) → Window
-opened queue chunks = record { queue = queue; opening = chunks; answers = [] }
+opened queue chunks = record { queue = queue; opening = chunks; left = length chunks; answers = [] }
 
 -- true for an answer that moved a chunk
 abbrev pub is_chunk : Option (List Cell) → Bool
@@ -50,14 +52,18 @@ pub record Moves (before : Window) (chunk : List Cell) (after : Window) : Type 0
 pub record Stays (before after : Window) : Type 0 where
   pub queue : after.queue ≡ before.queue
   pub opening : after.opening ≡ before.opening
+  pub left : after.left ≡ before.left
   pub answers : after.answers ≡ before.answers ++ None ∷ []
 
--- the opening and the chunks accepted in the window are together no fewer than the capacity
+-- The last accepted put of the window, or its opening, left as many chunks as the capacity, and the opening and the
+-- accepted chunks together are no fewer.
 pub record IsFull (window : Window) : Type 0 where
+  pub left : window.left ≡ capacity_of window.queue
   pub many : capacity_of window.queue ≤ length window.opening + length (somes window.answers)
 
--- every chunk of the opening was got
+-- The last chunk got in the window, or its opening, left none, and every chunk of the opening was got.
 pub record IsEmpty (window : Window) : Type 0 where
+  pub left : window.left ≡ 0
   pub taken : length window.opening ≤ length (somes window.answers)
 
 -- the answers of a put of this chunk, with the window before and after it

@@ -71,7 +71,7 @@ pub struct PutPass {
 impl Model for PutPass {
     ghost use Rattle.std.specs.Prelude.{◌≡◌, [], true, false, length};
     ghost use Rattle.crossbeam_queue.specs.Passes.{view as view_of};
-    ghost use Rattle.frame_core.specs.Order.{Fits, answers_of};
+    ghost use Rattle.frame_core.specs.Order.{Fits, last_or, answers_of};
     ghost use Rattle.buffer_queue.specs.Window.{Window, window_coded};
 
     ghost Value = { Window };
@@ -81,6 +81,7 @@ impl Model for PutPass {
     ghost view = { λ p. record {
       queue = p.pass.table_id;
       opening = (view_of p.pass).opening;
+      left = last_or (length (view_of p.pass).opening) (view_of p.pass).put;
       answers = answers_of p.answers.items (view_of p.pass).put;
     } };
 
@@ -99,7 +100,7 @@ pub struct TakePass {
 impl Model for TakePass {
     ghost use Rattle.std.specs.Prelude.{◌≡◌, [], true, false, length};
     ghost use Rattle.crossbeam_queue.specs.Passes.{view as view_of};
-    ghost use Rattle.frame_core.specs.Order.{Fits, answers_of};
+    ghost use Rattle.frame_core.specs.Order.{Fits, last_or, answers_of};
     ghost use Rattle.buffer_queue.specs.Window.{Window, window_coded};
 
     ghost Value = { Window };
@@ -109,6 +110,7 @@ impl Model for TakePass {
     ghost view = { λ p. record {
       queue = p.pass.table_id;
       opening = (view_of p.pass).since;
+      left = last_or (length (view_of p.pass).since) (view_of p.pass).got;
       answers = answers_of p.answers.items (view_of p.pass).got;
     } };
 

@@ -1,5 +1,5 @@
 -- Marks that are kept as runs.
-use Rattle.std.proofs.Common.{◌≡◌, ◌<◌, ◌≤◌, ◌+◌, ◌-◌, ◌∙◌, ◌++◌, ℕ, zero, suc, Bool, true, false, not, ◌&&◌, List, [], ◌∷◌, Some, None, length, nat_eq, nat_lt, take, drop, slice_get, arith, ap, refl, sym, append-nil, append_assoc, length-append, length-drop, drop-drop, subst, take_all, true≢false}
+use Rattle.std.proofs.Common.{◌≡◌, ◌<◌, ◌≤◌, ◌+◌, ◌-◌, ◌∙◌, ◌++◌, ℕ, zero, suc, Bool, true, false, ◌&&◌, List, [], ◌∷◌, Some, None, length, nat_eq, nat_lt, take, drop, slice_get, arith, ap, refl, sym, append-nil, append_assoc, length-append, length-drop, drop-drop, subst, take_all, true≢false}
 use Rattle.std.proofs.lemmas.List.{drop_all, drop-replicate}
 use Rattle.std.proofs.lemmas.Bool.Decides.{nat_tests}
 use Rattle.std.proofs.lemmas.Option.{slice_get_past}
@@ -8,9 +8,9 @@ use Rattle.circular_buffer.proofs.Places.{slice_get-append_left, slice_get-drop}
 use Rattle.frame_core.specs.declared.cell.CellMark.{CellMark}
 use Rattle.frame_core.specs.declared.cell.MarkRun.{MarkRun}
 use Rattle.cell_ring.specs.declared.mark_ring.Found.{Found}
-use Rattle.frame_core.specs.MarkRuns.{mark_at, marks_in, run_marks}
-use Rattle.frame_core.proofs.MarkRuns.{inner_mark, inner_marks, item_and_rest, joined, length-run, first_at, first_past, marks-append, not_zero, run_there}
-use Rattle.cell_ring.specs.MarkRuns.{AreSome, Walked, joins, mark_of, passing, rest_run}
+use Rattle.frame_core.specs.MarkRuns.{joins, mark_at, marks_in, run_marks}
+use Rattle.frame_core.proofs.MarkRuns.{inner_mark, inner_marks, item_and_rest, joined, joins_by, length-run, first_at, first_past, marks-append, not_zero, run_there}
+use Rattle.cell_ring.specs.MarkRuns.{AreSome, Walked, mark_of, passing, rest_run}
 use Rattle.cell_ring.specs.Rings.{Runs}
 use Rattle.cell_ring.proofs.Moves.{lane_more}
 use Rattle.cell_ring.proofs.Parts.{drop-parts}
@@ -240,14 +240,6 @@ module _ (old now : Buffer MarkRun) (run : MarkRun) (some : AreSome old.items) (
 some_last : (xs : List MarkRun) (x : MarkRun) → AreSome (xs ++ x ∷ []) → 0 < x.count
 some_last [] x s = s.0
 some_last (y ∷ xs) x s = some_last xs x s.1
-
-joins_by : (last run : MarkRun) → joins last run ≡ true → (run.first ≡ false) × (last.title ≡ run.title)
-joins_by last run it = by run.first (nat_eq last.title run.title) refl refl it
-  where
-    by : (first same : Bool) → run.first ≡ first → nat_eq last.title run.title ≡ same → not first && same ≡ true → (run.first ≡ false) × (last.title ≡ run.title)
-    by true same f e y = absurd (true≢false (sym y))
-    by false true f e y = (f, grind (arith, nat_tests))
-    by false false f e y = absurd (true≢false (sym y))
 
 -- the last run of some
 module _ (items : List MarkRun) (last : MarkRun) (is : slice_get items (length items - 1) ≡ Some last) where

@@ -1,7 +1,7 @@
 -- A ring and what is left of a spare chunk behind it.
 use Rattle.std.proofs.Common.{◌≡◌, ◌<◌, ◌≤◌, ◌+◌, ◌-◌, ◌∙◌, ◌++◌, ℕ, ℤ, Bool, true, false, List, Option, Some, None, length, nat_lt, take, drop, map, min, slice_get, arith, ap, refl, sym, true≢false}
 use Rattle.std.proofs.lemmas.Bool.Decides.{nat_tests}
-use Rattle.std.proofs.lemmas.List.{drop_all, drop_min, drop-drop, length-append, length-map}
+use Rattle.std.proofs.lemmas.List.{drop_min, drop-drop, length-append, length-map}
 use Rattle.std.proofs.lemmas.Option.{slice_get_past}
 use Rattle.std.proofs.Math.Seq.{drop-nil}
 use Rattle.circular_buffer.proofs.Places.{slice_get-append_left, slice_get-append_right, slice_get-drop}
@@ -59,12 +59,6 @@ gone_on cells spare gone first count n least rest =
     ap (λ l. l ++ spare_cells spare (gone + count)) (ap (λ m. drop m cells) other ∙ drop_min n cells)
     ∙ ap (λ l. drop n cells ++ l) (spare_on spare gone count ∙ ap (λ m. drop m (spare_cells spare gone)) behind)
     ∙ drop-parts cells (spare_cells spare gone) n
-
--- nothing goes where nothing is
-pub none_goes : (cells more : List Cell) → length cells ≡ 0 → length more ≡ 0 → cells ++ more ≡ drop 1 (cells ++ more)
-none_goes cells more empty none =
-    let long = length-append cells more in
-    drop_all 0 (cells ++ more) (omega (arith, long, empty, none)) ∙ sym (drop_all 1 (cells ++ more) (omega (arith, long, empty, none)))
 
 module _ {A : Type 0} (test : Option A → Bool) (none : test None ≡ false) (front back : List A) (from most here : ℕ)
     (pass : (j : ℕ) → j < here → test (slice_get front (from + j)) ≡ true) where

@@ -1,5 +1,5 @@
 -- Marks that are kept as runs of one title, in a ring.
-use Rattle.std.specs.Prelude.{◌≡◌, ◌<◌, ◌≤◌, ◌+◌, ◌-◌, Bool, true, false, not, ◌&&◌, ℕ, List, [], ◌∷◌, Option, Some, None, length, slice_get, nat_eq}
+use Rattle.std.specs.Prelude.{◌≡◌, ◌<◌, ◌≤◌, ◌+◌, ◌-◌, Bool, true, false, ◌&&◌, ℕ, List, [], ◌∷◌, Option, Some, None, length, slice_get, nat_eq}
 use Rattle.frame_core.specs.declared.cell.CellMark.{CellMark}
 use Rattle.frame_core.specs.declared.cell.MarkRun.{MarkRun}
 use Rattle.cell_ring.specs.declared.mark_ring.Found.{Found}
@@ -14,10 +14,6 @@ AreSome (run ∷ runs) = (0 < run.count) × AreSome runs
 abbrev pub mark_of : Option MarkRun → Option CellMark
 mark_of None = None
 mark_of (Some run) = Some (record { first = run.first; title = run.title })
-
--- a run that goes on with another one
-abbrev pub joins : MarkRun → MarkRun → Bool
-joins last run = not run.first && nat_eq last.title run.title
 
 -- a run without so many of its first marks
 abbrev pub rest_run : MarkRun → (skip : ℕ) → MarkRun

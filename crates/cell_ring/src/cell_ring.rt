@@ -7,6 +7,7 @@ ghost use Rattle.cell_ring.specs.Rings.{Ring, has_title, inner_cells};
 ghost use Rattle.cell_ring.specs.Lanes.{slot_in};
 
 use crate::mark_ring::MarkRing;
+use crate::side_ring::SideRing;
 use circular_buffer::HeapCircularBuffer;
 use frame_core::{Cell, CellMark, MarkRun};
 use liq_base::Memory;
@@ -14,11 +15,11 @@ use std::alloc::Global;
 use std::marker::Model;
 
 /// A queue of cells, which is reserved when it is made; no other call takes memory. Samples are kept apart from marks,
-/// and of these runs of one title.
+/// and of these runs of one title. A right side that is silent takes no room.
 #[derive(Drop)]
 pub struct CellRing {
     left: HeapCircularBuffer<i16>,
-    right: HeapCircularBuffer<i16>,
+    right: SideRing,
     marks: MarkRing,
 }
 
@@ -43,7 +44,7 @@ impl CellRing {
         ensures { IfOk result (λ ring. ring ≡ record { cells = []; room = room }) }
     {
         let left = HeapCircularBuffer::with_capacity(alloc, room as usize)?;
-        let right = HeapCircularBuffer::with_capacity(alloc, room as usize)?;
+        let right = SideRing::new(alloc, room as usize)?;
         let marks = MarkRing::new(alloc, room)?;
         Ok(CellRing { left, right, marks })
     }
@@ -69,7 +70,7 @@ impl CellRing {
     {
         slot_in(
             self.left.front().copied(),
-            self.right.front().copied(),
+            self.right.front(),
             self.marks.front(),
         )
     }
@@ -99,7 +100,7 @@ impl CellRing {
         ensures { self.new ≡ record { cells = self.old.cells ++ cell ∷ []; room = self.old.room } }
     {
         self.left.push_back(cell.left);
-        self.right.push_back(cell.right);
+        self.right.push_all(&[cell.right]);
         self.marks.push(cell.first, cell.title, 1);
     }
 
@@ -114,7 +115,7 @@ impl CellRing {
         } }
     {
         self.left.extend_from_slice(left);
-        self.right.extend_from_slice(right);
+        self.right.push_all(right);
         self.marks.push_all(runs, skip);
     }
 
@@ -128,7 +129,7 @@ impl CellRing {
         } }
     {
         self.left.extend_from_slice(left);
-        self.right.extend_from_slice(right);
+        self.right.push_all(right);
         self.marks.push(false, title, left.len() as u32);
     }
 
@@ -137,7 +138,7 @@ impl CellRing {
         ensures { self.new ≡ record { cells = drop 1 self.old.cells; room = self.old.room } }
     {
         self.left.pop_front();
-        self.right.pop_front();
+        self.right.pop();
         self.marks.drop_front(1);
     }
 
@@ -151,7 +152,7 @@ impl CellRing {
     {
         let count = left.len();
         self.left.read_into(left);
-        self.right.read_into(right);
+        self.right.take_into(right);
         self.marks.drop_front(count as u32);
     }
 }

@@ -2,8 +2,8 @@
 ghost use Rattle.std.specs.Prelude.{◌≡◌, ◌+◌, ◌<◌, ◌≤◌, ◌^◌, [], ◌∷◌, ◌++◌, ℕ, true, false, length, drop, slice_get, Some, IfOk};
 ghost use Rattle.circular_buffer.specs.Buffer.{Buffer, buffer};
 ghost use Rattle.cell_ring.specs.Lanes.{begins_none, has_name};
-ghost use Rattle.frame_core.specs.MarkRuns.{mark_at, marks_in, run_marks};
-ghost use Rattle.cell_ring.specs.MarkRuns.{AreSome, Walked, joins, mark_of, passing, rest_run};
+ghost use Rattle.frame_core.specs.MarkRuns.{joins, mark_at, marks_in, run_marks};
+ghost use Rattle.cell_ring.specs.MarkRuns.{AreSome, Walked, mark_of, passing, rest_run};
 
 use circular_buffer::HeapCircularBuffer;
 use frame_core::{CellMark, MarkRun};

@@ -20,20 +20,15 @@ use Rattle.op_mix.specs.Stretches.{Lanes, samples_of}
 use Rattle.node_states.specs.declared.state.NodeState.{NodeState}
 use Rattle.node_states.specs.Passing.{passes}
 use Rattle.node_states.specs.Stretches.{GoesOn, filled_on}
-use Rattle.node_states.specs.States.{StateStands, reads, reads_at, reads_in}
+use Rattle.node_states.specs.States.{StateStands, reads, reads_in}
 use Rattle.clock_nodes.specs.Nodes.{IsFirst}
 use Rattle.node_states.proofs.Running.{kept_stands}
 use Rattle.clock_instants.specs.Held.{goes_through}
 use Rattle.node_states.specs.Histories.{history_of}
 use Rattle.clock_instants.specs.Sides.{both}
-use Rattle.clock_instants.specs.Stretches.{HasGoneOn, IsGoing, NodeGivesOn, NodeHasGone, begun_on}
-use Rattle.clock_nodes.specs.States.{ClockStands, IsIn}
-use Rattle.clock_instants.proofs.Samples.{samples_none}
+use Rattle.clock_instants.specs.Stretches.{HasGoneOn, NodeGivesOn, NodeHasGone, begun_on}
+use Rattle.clock_nodes.specs.States.{IsIn}
 use Rattle.clock_nodes.proofs.Places.{item_there, same_or_other, slice_get-set_other, slice_get-set_same}
-
-begun_none : (more : Bool) (filled : ℕ) → filled_on more 0 filled ≡ filled
-begun_none true filled = omega arith
-begun_none false filled = refl
 
 below_by : (i c child : ℕ) (children : List ℕ) (here : Bool) → nat_eq c child ≡ here → (here || list_any (nat_eq c) children) ≡ true → child < i
     → (list_any (nat_eq c) children ≡ true → c < i) → c < i
@@ -154,19 +149,6 @@ module _ (setting : Setting) (sub : ℕ → ℕ → List Slot) (clock : NodeCloc
       ];
     }
 
-  -- no instant more
-  pub gone_on_none : (filled : ℕ → ℕ) (states : List NodeState) (left right : Lanes) → ClockStands setting sub clock (First ∷ past) filled states
-      → HasGoneOn setting sub clock past 0 filled states left right states
-  gone_on_none filled states left right stands = record {
-    stands = record {
-      each = λ i node state inside found.
-          subst (λ n. StateStands setting sub (First ∷ past) n i (work_at setting i node) state)
-          (sym (begun_none (lies_in setting clock i && (goes_through First states i || reads_at setting i)) (filled i)))
-          (stands.each i node state inside found);
-    };
-    lanes = λ i gave. record { left_is = samples_none left i; right_is = samples_none right i; inner = λ j low. absurd (omega (arith, low)) };
-  }
-
   -- a node that does not give
   pub kept_run : (many filled i : ℕ) (node : Node) (state : NodeState) (left right : Lanes) → AreNodes setting.plan.nodes → 0 < many → IsStretch setting sub clock past (suc many) → IsNode setting clock i node
       → gives First i ≡ false → (reads (work_at setting i node) ≡ true → filled ≡ suc (length past)) → StateStands setting sub (First ∷ past) filled i (work_at setting i node) state
@@ -198,20 +180,6 @@ module _ (setting : Setting) (sub : ℕ → ℕ → List Slot) (clock : NodeCloc
       (λ k d h. (let under = (nodes i node found).children k d h in
       let inside = slice_get_within setting.plan.nodes i node found in
       let long = length-take-le i setting.plan.nodes (omega (arith, inside)) in omega (arith, under, long))) among
-
--- the same over equal lists
-pub going_over : (setting : Setting) (sub : ℕ → ℕ → List Slot) (clock : NodeClock) (past : List Moment) (many : ℕ) (filled : ℕ → ℕ) (held other : List Part) (states : List NodeState) (left left_new right right_new : Lanes)
-    → other ≡ held → left_new ≡ left → right_new ≡ right → IsGoing setting sub clock past many filled held states left right → IsGoing setting sub clock past many filled other states left_new right_new
-going_over setting sub clock past many filled held other states left left_new right right_new same one two going =
-    subst (λ (ps : List Part). IsGoing setting sub clock past many filled ps states left_new right_new) (sym same)
-    (subst (λ (xs : Lanes). IsGoing setting sub clock past many filled held states xs right_new) (sym one)
-    (subst (λ (xs : Lanes). IsGoing setting sub clock past many filled held states left xs) (sym two) going))
-
-pub gone_over : (setting : Setting) (sub : ℕ → ℕ → List Slot) (clock : NodeClock) (past : List Moment) (many : ℕ) (filled : ℕ → ℕ) (old : List NodeState) (left left_new right right_new : Lanes) (states : List NodeState)
-    → left_new ≡ left → right_new ≡ right → HasGoneOn setting sub clock past many filled old left right states → HasGoneOn setting sub clock past many filled old left_new right_new states
-gone_over setting sub clock past many filled old left left_new right right_new states same alike went =
-    subst (λ (xs : Lanes). HasGoneOn setting sub clock past many filled old xs right_new states) (sym same)
-    (subst (λ (xs : Lanes). HasGoneOn setting sub clock past many filled old left xs states) (sym alike) went)
 
 -- what a node that gives did
 pub has_run : (setting : Setting) (sub : ℕ → ℕ → List Slot) (clock : NodeClock) (past : List Moment) (many filled i : ℕ) (node : Node) (old : NodeState) (own_left : List ℤ) (left : Lanes) (own_right : List ℤ) (right : Lanes) (state : NodeState)

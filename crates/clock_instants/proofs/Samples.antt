@@ -1,12 +1,12 @@
 -- The samples of nodes, where the lane of one is exchanged.
-use Rattle.std.proofs.Common.{◌≡◌, ◌<◌, ◌≤◌, ◌∙◌, ◌++◌, ℕ, ℤ, zero, suc, Bool, true, false, List, [], ◌∷◌, cond, length, pos, replicate, set, take, arith, ap, sym, subst, refl, inl, inr}
+use Rattle.std.proofs.Common.{◌≡◌, ◌<◌, ◌∙◌, ◌++◌, ℕ, ℤ, zero, suc, Bool, true, false, List, [], ◌∷◌, cond, length, pos, replicate, set, take, arith, ap, refl}
 use Rattle.std.specs.Prelude.{Vec, nat_lt}
 use Rattle.std.specs.declared.alloc.Global.{Global}
 use Rattle.std.specs.Option.{option_map_or}
 use Rattle.std.proofs.lemmas.Bool.{le-ltb}
 use Rattle.std.proofs.lemmas.List.{length-append}
-use Rattle.op_mix.specs.Stretches.{HasLane, Lanes, heard_of, lane_at, samples_of}
-use Rattle.clock_nodes.proofs.Places.{same_or_other, slice_get-set_other, slice_get-set_same}
+use Rattle.op_mix.specs.Stretches.{Lanes, heard_of, lane_at, samples_of}
+use Rattle.clock_nodes.proofs.Places.{slice_get-set_same}
 
 pub take_front : {A : Type 0} (n : ℕ) (new rest : List A) → length new ≡ n → take n (new ++ rest) ≡ new
 take_front zero [] rest long = refl
@@ -20,9 +20,6 @@ heard_front count new rest long =
     ap (λ short. cond short (replicate count (pos 0)) (take count (new ++ rest))) (le-ltb (length (new ++ rest)) count (omega (arith, all, long)))
     ∙ take_front count new rest long
 
-lane_apart : (k i : ℕ) (lanes : Lanes) (lane : Vec ℤ Global) → (k ≡ i → ⊥) → lane_at (set lanes i lane) k ≡ lane_at lanes k
-lane_apart k i lanes lane apart = ap (λ found. option_map_or (λ (l : Vec ℤ Global). l.items) found []) (slice_get-set_other lanes i k lane (λ e. apart (sym e)))
-
 lane_own : (i : ℕ) (lanes : Lanes) (lane : Vec ℤ Global) → i < length lanes → lane_at (set lanes i lane) i ≡ lane.items
 lane_own i lanes lane within = ap (λ found. option_map_or (λ (l : Vec ℤ Global). l.items) found []) (slice_get-set_same lanes i lane within)
 
@@ -34,18 +31,7 @@ samples_none lanes i = by (nat_lt (length (lane_at lanes i)) 0)
     by true = refl
     by false = refl
 
--- the samples of any other node stay
-pub samples_apart : (k i count : ℕ) (lanes : Lanes) (lane : Vec ℤ Global) → (k ≡ i → ⊥) → samples_of (set lanes i lane) k count ≡ samples_of lanes k count
-samples_apart k i count lanes lane apart = ap (λ l. heard_of l count) (lane_apart k i lanes lane apart)
-
 -- and the node's are those at the front of its lane
 pub samples_own : (i count : ℕ) (lanes : Lanes) (lane : Vec ℤ Global) (new rest : List ℤ) → i < length lanes → lane.items ≡ new ++ rest → length new ≡ count
     → samples_of (set lanes i lane) i count ≡ new
 samples_own i count lanes lane new rest within is long = ap (λ l. heard_of l count) (lane_own i lanes lane within ∙ is) ∙ heard_front count new rest long
-
--- nodes keep lanes with room
-pub lane_kept : (k i : ℕ) (lanes : Lanes) (lane : Vec ℤ Global) → i < length lanes → 2048 ≤ length lane.items → HasLane lanes k → HasLane (set lanes i lane) k
-lane_kept k i lanes lane within long has = elim (same_or_other i k) [
-  | inl same ↦ subst (λ n. HasLane (set lanes i lane) n) same (subst (λ l. 2048 ≤ length l) (sym (lane_own i lanes lane within)) long)
-  | inr apart ↦ subst (λ l. 2048 ≤ length l) (sym (lane_apart k i lanes lane (λ e. apart (sym e)))) has
-]

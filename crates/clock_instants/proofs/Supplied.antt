@@ -1,5 +1,5 @@
 -- What a crossfade through which cells pass is given in a run.
-use Rattle.std.proofs.Common.{◌≡◌, ◌<◌, ◌+◌, ◌∙◌, ◌++◌, ℕ, ℤ, zero, suc, Bool, true, false, Some, Option, List, [], ◌∷◌, length, get_or, slice_get, arith, refl, ap, sym, subst}
+use Rattle.std.proofs.Common.{◌≡◌, ◌<◌, ℕ, Bool, true, false, Some, Option, List, length, get_or, slice_get, arith, refl, ap, subst}
 use Rattle.std.specs.Option.{option_map_or}
 use Rattle.std.proofs.lemmas.Bool.{false≢true}
 use Rattle.std.proofs.lemmas.Option.{slice_get-get_or}
@@ -8,13 +8,9 @@ use Rattle.plan_core.specs.declared.node.Node.{Node}
 use Rattle.plan_core.specs.declared.node.Op.{Op}
 use Rattle.plan_core.specs.declared.node.Op.TheVariants.{Crossfade}
 use Rattle.plan_core.specs.Plans.{AreNodes, HasChildren}
-use Rattle.clock_infer.specs.declared.clock_map.NodeClock.TheVariants.{Sub}
 use Rattle.frame_core.specs.Slots.{Slot}
-use Rattle.op_leaf.specs.Lanes.{AreTitled, IsLane}
 use Rattle.stream_meaning.specs.Operators.{Work, Plays, Picks, Mixes, Fades, Reads, work_of}
-use Rattle.stream_meaning.specs.Instants.{Setting, Moment, IsMeaning, crossfaded, first_instants, moment_after, offer, work_at}
-use Rattle.stretch_laws.specs.Stretches.{going_on, lane}
-use Rattle.clock_infer.specs.declared.clock_map.NodeClock.{NodeClock}
+use Rattle.stream_meaning.specs.Instants.{Setting, Moment, crossfaded, work_at}
 use Rattle.op_mix.specs.Stretches.{Lanes, samples_of}
 use Rattle.node_states.specs.declared.state.NodeState.{NodeState}
 use Rattle.node_states.specs.declared.state.NodeState.TheVariants.{Leaf, Select, Turn, Mix, Cross, Read, Idle}
@@ -63,27 +59,3 @@ child_fills setting sub past many filled i title node state left right nodes fou
       there = slice_get-get_or node.children 0 0 some;
       fills = subst (λ n. LaneFills (sub i) filled many title (samples_of left n many) (samples_of right n many)) is fills;
     }
-
--- the instants of a clock from one on
-pub first_instants_later : (setting : Setting) (sub : ℕ → ℕ → List Slot) (clock : NodeClock) (n j : ℕ) → first_instants setting sub clock (n + j) ≡ going_on setting sub clock j (first_instants setting sub clock n)
-first_instants_later setting sub clock n zero = let e : n + 0 ≡ n = omega arith in ap (first_instants setting sub clock) e
-first_instants_later setting sub clock n (suc j) =
-    let e : n + suc j ≡ suc (n + j) = omega arith in
-    ap (first_instants setting sub clock) e ∙ ap (λ past. moment_after setting sub clock past ∷ past) (first_instants_later setting sub clock n j)
-
--- what a run of its sub-clock leaves for a crossfade
-pub lane_fills : (setting : Setting) (sub : ℕ → ℕ → List Slot) (k n many title : ℕ) (left right : List ℤ) → IsMeaning setting sub
-    → IsLane (λ j. lane setting sub (Sub k) (first_instants setting sub (Sub k) n) (suc j) (crossfaded setting.plan.nodes k)) many left right
-    → AreTitled (λ j. lane setting sub (Sub k) (first_instants setting sub (Sub k) n) (suc j) (crossfaded setting.plan.nodes k)) many title
-    → LaneFills (sub k) (suc n) many title left right
-lane_fills setting sub k n many title left right means made titled = record {
-  slots = λ j. lane setting sub (Sub k) (first_instants setting sub (Sub k) n) (suc j) (crossfaded setting.plan.nodes k);
-  lane = made;
-  titled = titled;
-  filled = λ m less.
-      let e : suc n + m ≡ n + suc m = omega arith in
-      means k (suc (suc n + m))
-      ∙ ap (λ l. l ++ offer (moment_after setting sub (Sub k) (first_instants setting sub (Sub k) (suc n + m))) (crossfaded setting.plan.nodes k) ∷ []) (sym (means k (suc n + m)))
-      ∙ ap (λ past. sub k (suc n + m) ++ offer (moment_after setting sub (Sub k) past) (crossfaded setting.plan.nodes k) ∷ [])
-      (ap (first_instants setting sub (Sub k)) e ∙ first_instants_later setting sub (Sub k) n (suc m));
-}

@@ -6,10 +6,8 @@ use Rattle.std.proofs.lemmas.Option.{slice_get_within}
 use Rattle.frame_core.specs.declared.cell.Cell.{Cell}
 use Rattle.frame_core.specs.declared.chunk.Gave.{Gave}
 use Rattle.frame_core.specs.declared.chunk.Gave.TheVariants.{Accepted, Full}
-use Rattle.frame_core.specs.Slots.{Slot}
-use Rattle.frame_core.specs.Frames.{chunk_of, some_list, somes}
+use Rattle.frame_core.specs.Frames.{some_list}
 use Rattle.frame_core.specs.Calls.{Adds, Call, Given, IsGive}
-use Rattle.stream_meaning.specs.Arithmetic.{cells_of}
 use Rattle.stream_meaning.specs.Calls.{IsBegin, given, joined_upto}
 use Rattle.stream_meaning.proofs.Answering.{begin_joined, begin_none, joined_same}
 use Rattle.clock_outputs.specs.declared.feed.FeedPort.{FeedPort}
@@ -19,11 +17,6 @@ use Rattle.clock_outputs.specs.Feeds.{HasGiven, HaveGiven, HaveGivenSome, HaveOw
 pub on_fault : {A E P : Type 0} (r : Result A E) → P → OnErr r P
 on_fault (Ok x) p = tt
 on_fault (Err e) p = p
-
-pub somes_are : (slots : List Slot) → somes slots ≡ cells_of slots
-somes_are [] = refl
-somes_are (None ∷ slots) = somes_are slots
-somes_are (Some cell ∷ slots) = ap (λ (cells : List Cell). cell ∷ cells) (somes_are slots)
 
 no_list : (cells : List Cell) → some_list cells ≡ None → cells ≡ []
 no_list [] is = refl
@@ -48,15 +41,15 @@ pub adds_more : {T : Type 0} (stands : T → List Call → Type 0) (a b c : T) (
 adds_more stands a b c first next one two = λ calls at. subst (stands c) (append_assoc calls first next) (two (calls ++ first) (one calls at))
 
 module _ {T : Type 0} (stands : T → List Call → Type 0) where
-  pub given_none : (feed : FeedPort) (a : T) → None ≡ chunk_of feed.frame → HasGiven stands feed a a
+  pub given_none : (feed : FeedPort) (a : T) → None ≡ some_list feed.frame.cells → HasGiven stands feed a a
   given_none feed a is = record {
     more = [];
     taps = adds_nothing stands a;
     accepted = true;
-    is = ap (λ (cells : List Cell). given feed.buffer cells true) (sym (sym (somes_are feed.frame) ∙ no_list (somes feed.frame) (sym is)));
+    is = ap (λ (cells : List Cell). given feed.buffer cells true) (sym (no_list feed.frame.cells (sym is)));
   }
 
-  pub given_one : (feed : FeedPort) (a b : T) (chunk : List Cell) (gave : Gave) → Some chunk ≡ chunk_of feed.frame
+  pub given_one : (feed : FeedPort) (a b : T) (chunk : List Cell) (gave : Gave) → Some chunk ≡ some_list feed.frame.cells
       → (call : Call) × IsGive feed.buffer chunk gave call × Adds stands a b (call ∷ []) → HasGiven stands feed a b
   given_one feed a b chunk gave is made =
       let answer = gave_call feed.buffer chunk gave made.0 made.1 in
@@ -64,8 +57,7 @@ module _ {T : Type 0} (stands : T → List Call → Type 0) where
         more = made.0 ∷ [];
         taps = made.2;
         accepted = answer.0;
-        is = ap (λ (call : Call). call ∷ []) answer.1 ∙ sym (given_some feed.buffer (somes feed.frame) chunk answer.0 (sym is))
-            ∙ ap (λ (cells : List Cell). given feed.buffer cells answer.0) (somes_are feed.frame);
+        is = ap (λ (call : Call). call ∷ []) answer.1 ∙ sym (given_some feed.buffer feed.frame.cells chunk answer.0 (sym is));
       }
 
   module _ (feeds : List FeedPort) where
@@ -85,7 +77,7 @@ module _ {T : Type 0} (stands : T → List Call → Type 0) where
       same_before answer own j low (Some other) at =
           let apart : other.buffer ≡ feed.buffer → ⊥ = λ same. (let e = own.each j n other feed at there same in omega (arith, e, low)) in
           let differs : nat_eq other.buffer feed.buffer ≡ false = grind (arith, nat_tests) in
-          ap (given other.buffer (cells_of other.frame)) (sym (ap (λ (b : Bool). cond b answer (so.accepted other.buffer)) differs))
+          ap (given other.buffer other.frame.cells) (sym (ap (λ (b : Bool). cond b answer (so.accepted other.buffer)) differs))
 
       pub gives_more : HasGiven stands feed b c → HaveGiven stands feeds (suc n) a c
       gives_more one = record {
@@ -96,7 +88,7 @@ module _ {T : Type 0} (stands : T → List Call → Type 0) where
             ap (λ (cs : List Call). cs ++ one.more) (so.are own ∙ joined_same (λ k. given_by so.accepted (slice_get feeds k)) (λ k. given_by (with_answer one.accepted) (slice_get feeds k)) n
             (λ j low. same_before one.accepted own j low (slice_get feeds j) refl))
             ∙ ap (λ (cs : List Call). joined_upto (λ k. given_by (with_answer one.accepted) (slice_get feeds k)) n ++ cs)
-            (one.is ∙ ap (given feed.buffer (cells_of feed.frame)) (sym (own_answer one.accepted)) ∙ ap (given_by (with_answer one.accepted)) (sym there));
+            (one.is ∙ ap (given feed.buffer feed.frame.cells) (sym (own_answer one.accepted)) ∙ ap (given_by (with_answer one.accepted)) (sym there));
       }
 
       pub gives_stopped : Adds stands b c [] → HaveGivenSome stands feeds a c

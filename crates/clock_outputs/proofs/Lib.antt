@@ -3,3 +3,4 @@ pub mod Mapped
 pub mod Pieces
 pub mod Taken
 pub mod Gives
+pub mod Fed

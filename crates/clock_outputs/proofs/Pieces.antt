@@ -1,16 +1,13 @@
 -- The bytes of a tick, and the slots that they are the blocks of.
-use Rattle.std.proofs.Common.{◌≡◌, ◌<◌, ◌≤◌, ◌+◌, ◌*◌, ◌^◌, ◌-◌, ◌∙◌, ◌++◌, min, ℕ, zero, suc, ℤ, Bool, true, false, Some, None, List, [], ◌∷◌, length, map, take, drop, replicate, set, arith, refl, ap, sym, append_assoc, append-nil, length-append}
+use Rattle.std.proofs.Common.{◌≡◌, ◌<◌, ◌≤◌, ◌+◌, ◌*◌, ◌^◌, ◌-◌, ◌∙◌, ◌++◌, min, ℕ, zero, suc, ℤ, Bool, true, false, Some, None, List, [], ◌∷◌, length, map, take, drop, replicate, arith, refl, ap, sym, append_assoc, append-nil, length-append}
 use Rattle.std.specs.List.{flat_map}
 use Rattle.std.specs.Simd.Lanes.{put_chunk}
-use Rattle.std.proofs.lemmas.List.{length-map}
 use Rattle.std.proofs.lemmas.Simd.{length-put_chunk, put_chunk_is, take_more_put_chunk}
 use Rattle.std.proofs.Math.Nat.{suc-mul}
 use Rattle.liq_base.specs.declared.memory.Kind.{Kind}
 use Rattle.liq_base.specs.declared.memory.Kind.TheVariants.{Mono, Stereo}
 use Rattle.cell_ring.specs.Rings.{inner_cell, inner_cells}
-use Rattle.cell_ring.proofs.Runs.{long_run}
 use borrow.Rule.Slice.PartMut.{put_mid}
-use Rattle.frame_core.specs.Frames.{laid_slots}
 use Rattle.stream_meaning.specs.Sinks.{block_length, sample_block, slot_block}
 use Rattle.clock_outputs.specs.Filled.{Filled}
 use Rattle.clock_outputs.specs.Blocks.{sample_blocks}
@@ -100,28 +97,6 @@ after_gaps port (suc count) some =
     ap (λ bytes. with_bytes port bytes (min (port.gaps + suc count) (2 ^ 64 - 1))) (sym (append_assoc port.piece.bytes (slot_block port.wide port.kind None) blocks))
     ∙ ap (λ n. with_bytes port ((port.piece.bytes ++ slot_block port.wide port.kind None) ++ blocks) n) same
     ∙ after_more (after_slot port None) count less
-
--- a run has as many slots as samples
-pub cells_long : (title : ℕ) (left right : List ℤ) → length right ≡ length left → length (map Some (inner_cells title left right)) ≡ length left
-cells_long title left right same = length-map (inner_cells title left right) Some ∙ long_run title left right same
-
--- one slot is changed, and those behind it
-put_behind : {X : Type 0} (xs more : List X) (at : ℕ) (x : X) → at < length xs → put_chunk (suc at) (set xs at x) more ≡ put_chunk at xs (x ∷ more)
-put_behind [] more at x fits = absurd (omega (arith, fits))
-put_behind (y ∷ xs) more zero x fits = refl
-put_behind (y ∷ xs) more (suc at) x fits = ap (λ ys. y ∷ ys) (put_behind xs more at x (omega (arith, fits)))
-
-pub set_then_put : {X : Type 0} (xs more : List X) (at : ℕ) (x : X) → at + suc (length more) ≤ length xs → put_chunk (at + 1) (set xs at x) more ≡ put_chunk at xs (x ∷ more)
-set_then_put xs more at x fits =
-    let next : at + 1 ≡ suc at = omega arith in
-    ap (λ n. put_chunk n (set xs at x) more) next ∙ put_behind xs more at x (omega (arith, fits))
-
--- cells of which none begins a track
-pub laid_inner : (title : ℕ) (lefts rights : List ℤ) → laid_slots false title lefts rights ≡ map Some (inner_cells title lefts rights)
-laid_inner title [] [] = refl
-laid_inner title [] (right ∷ rights) = refl
-laid_inner title (left ∷ lefts) [] = refl
-laid_inner title (left ∷ lefts) (right ∷ rights) = ap (λ slots. Some (inner_cell title left right) ∷ slots) (laid_inner title lefts rights)
 
 -- a write to a part of a list
 pub part_put : {X : Type 0} (at k n : ℕ) (xs whole ys zs : List X) → k ≡ n → whole ≡ xs → ys ≡ zs → length zs ≡ n → at + n ≤ length xs → put_mid at k whole ys ≡ put_chunk at xs zs

@@ -1,20 +1,38 @@
 -- What a feed takes of its node in a tick, and gives at the tick's end.
-use Rattle.std.specs.Prelude.{◌≡◌, ℕ, Bool, Option, Some, None, List, [], slice_get, length}
-use Rattle.std.specs.Simd.Lanes.{put_chunk}
+use Rattle.std.specs.Prelude.{◌≡◌, ◌≤◌, ◌+◌, ◌++◌, ℕ, All, Bool, Option, Some, None, List, [], slice_get, length}
 use Rattle.frame_core.specs.Slots.{Slot}
 use Rattle.frame_core.specs.Calls.{Adds, Call}
 use Rattle.stream_meaning.specs.Arithmetic.{cells_of}
 use Rattle.stream_meaning.specs.Calls.{IsBegin, given, joined_upto}
 use Rattle.clock_outputs.specs.declared.feed.FeedPort.{FeedPort}
 
--- after slots from a place of the tick on
-abbrev pub with_slots_from : ℕ → List Slot → FeedPort → FeedPort
-with_slots_from at slots feed = record { buffer = feed.buffer; node = feed.node; frame = put_chunk at feed.frame slots }
+-- at the start of a tick
+abbrev pub unfed : FeedPort → FeedPort
+unfed feed = record {
+  buffer = feed.buffer;
+  node = feed.node;
+  frame = record { cells = []; room = feed.frame.room };
+}
+
+-- after more slots of its node
+abbrev pub fed : FeedPort → List Slot → FeedPort
+fed feed slots = record {
+  buffer = feed.buffer;
+  node = feed.node;
+  frame = record { cells = feed.frame.cells ++ cells_of slots; room = feed.frame.room };
+}
+
+-- there is room for the cells of so many slots more
+abbrev pub HasFeedRoom : ℕ → FeedPort → Type 0
+HasFeedRoom slots feed = length feed.frame.cells + slots ≤ feed.frame.room
+
+abbrev pub AllHaveFeedRoom : ℕ → List FeedPort → Type 0
+AllHaveFeedRoom slots feeds = All (λ feed. HasFeedRoom slots feed) feeds
 
 -- the give of a feed, where `accepted b` is what buffer b answers
 abbrev pub given_by : (accepted : ℕ → Bool) → Option FeedPort → List Call
 given_by accepted None = []
-given_by accepted (Some feed) = given feed.buffer (cells_of feed.frame) (accepted feed.buffer)
+given_by accepted (Some feed) = given feed.buffer feed.frame.cells (accepted feed.buffer)
 
 -- no buffer has two feeds
 pub record HaveOwnBuffers (feeds : List FeedPort) : Type 0 where
@@ -27,7 +45,7 @@ pub record HasGiven {T : Type 0} (stands : T → List Call
   pub more : List Call
   pub taps : Adds stands taps_old taps_new more
   pub accepted : Bool
-  pub is : more ≡ given feed.buffer (cells_of feed.frame) accepted
+  pub is : more ≡ given feed.buffer feed.frame.cells accepted
 
 -- the first feeds gave theirs
 pub record HaveGiven {T : Type 0} (stands : T → List Call

@@ -1,16 +1,15 @@
 // A feed of a clock.
-ghost use Rattle.std.specs.Prelude.{◌≡◌, ◌<◌, ◌≤◌, ◌+◌, ◌^◌, suc, [], All, None, Some, length, map, replicate, IfOk, IfSome, OnOk, OnErr};
+ghost use Rattle.std.specs.Prelude.{◌≡◌, ◌<◌, suc, [], All, Some, length, map, IfOk, IfSome, OnOk, OnErr};
 ghost use Rattle.frame_core.specs.Calls.{Adds};
-ghost use Rattle.frame_core.specs.Frames.{chunk_of};
-ghost use Rattle.cell_ring.specs.Rings.{inner_cells};
-ghost use Rattle.clock_outputs.specs.Feeds.{HasGiven, HaveGiven, HaveGivenSome, with_slots_from};
+ghost use Rattle.frame_core.specs.Frames.{some_list};
+ghost use Rattle.clock_outputs.specs.Feeds.{HasFeedRoom, HasGiven, HaveGiven, HaveGivenSome, unfed, fed};
 ghost use Rattle.clock_outputs.specs.Segments.{segment_slots};
 
 use frame_core::{Cell, Chunk, Frame, Gave, Taps};
 use liq_base::Memory;
 use std::alloc::Global;
 
-/// A feed of a clock: its buffer, its node, and the slots of its node in the tick.
+/// A feed of a clock: its buffer, its node, and the cells of its node in the tick so far.
 #[derive(Debug, Drop)]
 pub struct FeedPort {
     pub buffer: u32,
@@ -19,37 +18,35 @@ pub struct FeedPort {
 }
 
 impl FeedPort {
-    /// Takes the slots of its node in a segment that begins at a place of the tick: that of its first instant, and
-    /// behind it the cells of these samples, which have its title and begin no track; or as many slots without a cell
-    /// where the first one has none.
-    pub fn hear(&mut self, at: u32, slot: Option<Cell>, left: &[i16], right: &[i16])
-        requires same { length right.now ≡ length left.now }
-        requires there { at + suc (length left.now) ≤ length self.old.frame }
-        requires fits { at + suc (length left.now) < 2 ^ 32 }
-        ensures { self.new ≡ with_slots_from at (segment_slots slot (length left.now) left.now right.now) self.old }
+    // Begins a tick.
+    fn begin(&mut self)
+        ensures { self.new ≡ unfed self.old }
     {
-        self.frame.set(at, slot);
-        match slot {
-            Some(cell) => self.hear_cells(at + 1, cell.title, left, right),
-            None => self.hear_gaps(at + 1, left.len() as u32),
-        }
+        self.frame.clear();
     }
 
-    // Takes cells with this title and these samples, from a place of the tick on.
-    fn hear_cells(&mut self, at: u32, title: u32, left: &[i16], right: &[i16])
+    /// Takes the slots of its node in a segment: that of its first instant, and behind it the cells of these samples,
+    /// which have its title and begin no track; or as many slots without a cell where the first one has none.
+    pub fn hear(&mut self, slot: Option<Cell>, left: &[i16], right: &[i16])
         requires same { length right.now ≡ length left.now }
-        requires there { at + length left.now ≤ length self.old.frame }
-        ensures { self.new ≡ with_slots_from at (map Some (inner_cells title left.now right.now)) self.old }
+        requires room { HasFeedRoom (suc (length left.now)) self.old }
+        ensures { self.new ≡ fed self.old (segment_slots slot (length left.now) left.now right.now) }
     {
-        self.frame.lay(at, left, right, false, title);
+        let Some(cell) = slot else {
+            return;
+        };
+        self.frame
+            .lay(&[cell.left], &[cell.right], cell.first, cell.title);
+        self.frame.lay(left, right, false, cell.title);
     }
+}
 
-    // Takes so many slots without a cell, from a place of the tick on.
-    fn hear_gaps(&mut self, at: u32, count: u32)
-        requires { at + count ≤ length self.old.frame }
-        ensures { self.new ≡ with_slots_from at (replicate count None) self.old }
-    {
-        self.frame.clear(at, count);
+/// Begins a tick: no feed has cells yet.
+pub fn begin_feeds(feeds: &mut Vec<FeedPort>)
+    ensures { feeds.new.items ≡ map unfed feeds.old.items }
+{
+    for k in 0..feeds.len() {
+        feeds[k].begin();
     }
 }
 
@@ -59,7 +56,7 @@ struct Made<'a> {
     node: u32,
     frame: &'a Frame,
     chunk: Chunk,
-    ghost is: { Some chunk ≡ chunk_of frame.now },
+    ghost is: { Some chunk ≡ some_list frame.now.cells },
 }
 
 /// Gives the chunk of each feed that has cells to its buffer, in their order. Where memory is refused some of these
@@ -130,7 +127,7 @@ fn chunk_of_feed<'a>(
     feed: &'a FeedPort,
     made: &mut Vec<Made<'a>>,
 ) -> Result<Option<Chunk>, Memory>
-    ensures cells { IfOk result (λ chunk. chunk ≡ chunk_of feed.now.frame) }
+    ensures cells { IfOk result (λ chunk. chunk ≡ some_list feed.now.frame.cells) }
 {
     if let Some(chunk) = shared_chunk(made, feed)? {
         return Ok(Some(chunk));
@@ -149,7 +146,7 @@ fn chunk_of_feed<'a>(
 
 // The chunk that an earlier feed of the same node made, if there is one.
 fn shared_chunk(made: &[Made<'_>], feed: &FeedPort) -> Result<Option<Chunk>, Memory>
-    ensures { IfOk result (λ found. IfSome found (λ chunk. Some chunk ≡ chunk_of feed.now.frame)) }
+    ensures { IfOk result (λ found. IfSome found (λ chunk. Some chunk ≡ some_list feed.now.frame.cells)) }
 {
     for k in 0..made.len() {
         let one = &made[k];

@@ -7,6 +7,6 @@ mod piece;
 mod port;
 
 pub use appends::append_all;
-pub use feed::{FeedPort, give_all};
+pub use feed::{FeedPort, begin_feeds, give_all};
 pub use piece::{Piece, block_size};
 pub use port::{Port, begin_tick};

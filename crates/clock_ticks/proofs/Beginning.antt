@@ -1,5 +1,5 @@
 -- The parts of a new engine, one by one.
-use Rattle.std.proofs.Common.{◌≡◌, ◌<◌, ◌+◌, ◌∙◌, ◌++◌, ◌⊎◌, inl, inr, ℕ, zero, suc, Bool, false, Some, List, [], ◌∷◌, length, get_or, slice_get, arith, refl, ap, sym, subst}
+use Rattle.std.proofs.Common.{◌≡◌, ◌+◌, ◌∙◌, ◌++◌, ◌⊎◌, inl, inr, ℕ, zero, suc, Bool, false, Some, List, [], ◌∷◌, length, get_or, slice_get, arith, refl, ap, sym, subst}
 use Rattle.std.proofs.lemmas.List.{length-append}
 use Rattle.plan_core.specs.declared.node.Node.{Node}
 use Rattle.plan_core.specs.declared.plan.Plan.{Plan}
@@ -7,12 +7,6 @@ use Rattle.clock_infer.specs.declared.clock_map.NodeClock.{NodeClock}
 use Rattle.node_states.specs.declared.state.NodeState.{NodeState}
 use Rattle.clock_ticks.proofs.Numbered.{no_item}
 use Rattle.clock_ticks.specs.Beginnings.{AreNewStates, IsNewState}
-
--- the items of a list with one more
-pub in_front : (xs : List Bool) (x : Bool) (k : ℕ) → k < length xs → get_or (xs ++ x ∷ []) k false ≡ get_or xs k false
-in_front [] x k h = absurd (omega (arith, h))
-in_front (y ∷ xs) x zero h = refl
-in_front (y ∷ xs) x (suc k) h = in_front xs x k (omega (arith, h))
 
 pub behind : (xs : List Bool) (x : Bool) (k : ℕ) → k ≡ length xs → get_or (xs ++ x ∷ []) k false ≡ x
 behind [] x zero e = refl

@@ -1,8 +1,8 @@
 -- The feeds of a clock, one sink after another.
-use Rattle.std.proofs.Common.{◌≡◌, ◌+◌, ◌∙◌, ◌++◌, ℕ, suc, Bool, true, false, Some, List, [], ◌∷◌, map, drop, slice_get, append_assoc, add-one, ap, sym}
+use Rattle.std.proofs.Common.{◌≡◌, ◌+◌, ◌∙◌, ◌++◌, ℕ, suc, true, Some, List, [], ◌∷◌, map, drop, slice_get, append_assoc, add-one, ap, sym}
 use Rattle.std.proofs.lemmas.List.{map-append}
 use Rattle.plan_core.specs.declared.sink.SinkPlan.{SinkPlan}
-use Rattle.plan_core.specs.declared.sink.SinkPlan.TheVariants.{Output, Feed}
+use Rattle.plan_core.specs.declared.sink.SinkPlan.TheVariants.{Feed}
 use Rattle.clock_infer.specs.declared.clock_map.NodeClock.TheVariants.{Main}
 use Rattle.stream_meaning.specs.Instants.{Setting, lies_in}
 use Rattle.clock_outputs.specs.declared.feed.FeedPort.{FeedPort}
@@ -17,15 +17,6 @@ module _ (setting : Setting) (m i : ℕ) (sinks : List SinkPlan) where
       → feeds_from setting m (drop i sinks) ≡ (buffer, node) ∷ feeds_from setting m (drop (i + 1) sinks)
   feed_here buffer node at inside =
       ap (feeds_from setting m) (dropped sinks i (Feed buffer node) at) ∙ rw inside (ap (λ os. (buffer, node) ∷ os) next_is)
-
-  pub feed_other : (buffer node : ℕ) → slice_get sinks i ≡ Some (Feed buffer node) → lies_in setting (Main m) node ≡ false
-      → feeds_from setting m (drop i sinks) ≡ feeds_from setting m (drop (i + 1) sinks)
-  feed_other buffer node at outside =
-      ap (feeds_from setting m) (dropped sinks i (Feed buffer node) at) ∙ rw outside next_is
-
-  pub no_feed : (name : List ℕ) (node : ℕ) (fallible wide : Bool) → slice_get sinks i ≡ Some (Output name node fallible wide)
-      → feeds_from setting m (drop i sinks) ≡ feeds_from setting m (drop (i + 1) sinks)
-  no_feed name node fallible wide at = ap (feeds_from setting m) (dropped sinks i (Output name node fallible wide) at) ∙ next_is
 
 -- one feed more
 pub feeds_more : (feeds : List FeedPort) (feed : FeedPort) (key : ℕ × ℕ) (rest : List (ℕ × ℕ)) → feed_of feed ≡ key

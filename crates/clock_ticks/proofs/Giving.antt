@@ -5,7 +5,6 @@ use Rattle.plan_core.specs.declared.sink.SinkPlan.TheVariants.{Output, Feed}
 use Rattle.clock_infer.specs.declared.clock_map.NodeClock.TheVariants.{Main}
 use Rattle.frame_core.specs.declared.cell.Cell.{Cell}
 use Rattle.frame_core.specs.Calls.{Call}
-use Rattle.stream_meaning.specs.Arithmetic.{cells_of}
 use Rattle.stream_meaning.specs.Instants.{Setting, lies_in}
 use Rattle.stream_meaning.specs.Sinks.{feed_cells}
 use Rattle.stream_meaning.specs.Calls.{give_by, given, joined_upto}
@@ -25,9 +24,9 @@ gives_flat accepted (feed ∷ feeds) =
 
 -- the chunk of a feed is the one of its node in the tick
 abbrev Gives : Setting → (t : ℕ) → List FeedPort → Type 0
-Gives setting t feeds = (k : ℕ) (feed : FeedPort) → slice_get feeds k ≡ Some feed → cells_of feed.frame ≡ feed_cells setting feed.node t
+Gives setting t feeds = (k : ℕ) (feed : FeedPort) → slice_get feeds k ≡ Some feed → feed.frame.cells ≡ feed_cells setting feed.node t
 
-one_given : (setting : Setting) (accepted : ℕ → Bool) (t buffer node : ℕ) (feed : FeedPort) → feed_of feed ≡ (buffer, node) → cells_of feed.frame ≡ feed_cells setting feed.node t
+one_given : (setting : Setting) (accepted : ℕ → Bool) (t buffer node : ℕ) (feed : FeedPort) → feed_of feed ≡ (buffer, node) → feed.frame.cells ≡ feed_cells setting feed.node t
     → given_by accepted (Some feed) ≡ given buffer (feed_cells setting node t) (accepted buffer)
 one_given setting accepted t buffer node feed key cells =
     ap (λ (cs : List Cell). given feed.buffer cs (accepted feed.buffer)) cells

@@ -3,22 +3,23 @@ use Rattle.std.proofs.Common.{◌≡◌, ◌<◌, ◌≤◌, ◌+◌, ◌∙◌,
 use Rattle.std.specs.List.{range_with_len}
 use Rattle.std.proofs.lemmas.Bool.{cases_lt}
 use Rattle.std.proofs.lemmas.Option.{slice_get_within, slice_get-get_or}
-use Rattle.std.specs.Simd.Lanes.{put_chunk}
 use Rattle.std.proofs.lemmas.List.{get_or-map, length-append, length-map}
-use Rattle.std.proofs.lemmas.Simd.{length-put_chunk}
 use Rattle.std.proofs.Math.Nat.{mul-le-mul_right, suc-mul}
 use Rattle.liq_base.specs.declared.memory.Kind.{Kind}
 use Rattle.liq_base.specs.declared.memory.Kind.TheVariants.{Mono, Stereo}
 use Rattle.clock_infer.specs.declared.clock_map.NodeClock.{NodeClock}
+use Rattle.frame_core.specs.declared.cell.Cell.{Cell}
 use Rattle.frame_core.specs.Slots.{Slot}
 use Rattle.frame_core.specs.Calls.{Call, Answer}
+use Rattle.stream_meaning.specs.Arithmetic.{cells_of}
 use Rattle.stream_meaning.specs.Instants.{Setting, first_instants, part_at}
 use Rattle.stream_meaning.specs.Calls.{HasAnswers, IsBegin, after_calls, calls_of, joined_upto}
 use Rattle.stream_meaning.proofs.Answering.{after_calls-none, after_calls-then, answers_first, answers_then, begin_all, begin_joined, begin_none, joined_same}
 use Rattle.stream_meaning.specs.Sinks.{block_length, slot_block}
 use Rattle.clock_outputs.specs.declared.port.Port.{Port}
 use Rattle.clock_outputs.specs.declared.feed.FeedPort.{FeedPort}
-use Rattle.clock_outputs.specs.Feeds.{with_slots_from}
+use Rattle.clock_outputs.specs.Feeds.{AllHaveFeedRoom, HasFeedRoom, fed, unfed}
+use Rattle.clock_outputs.proofs.Fed.{cells_of-append}
 use Rattle.clock_outputs.proofs.Gives.{adds_more, adds_nothing}
 use Rattle.clock_outputs.specs.Ports.{AllHaveRoomLeft, HasRoomLeft, after_slot, after_slots, emptied}
 use Rattle.clock_nodes.specs.declared.scene.Scene.{Scene}
@@ -31,7 +32,7 @@ use Rattle.clock_ticks.specs.declared.cues.Cues.{Cues}
 use Rattle.clock_ticks.specs.Cues.{HasGrown, HasKept, HasMarked, marks_if}
 use Rattle.clock_ticks.proofs.Cueing.{marked_more, marked_some, marks_more, marks_none}
 use Rattle.clock_ticks.proofs.Numbered.{got_mapped}
-use Rattle.clock_ticks.specs.Hearings.{HasMadeInstants, Heard, HeardSome, IsMeant, Hearing, SegmentBroken, SegmentMade, calls_from, feed_key, outcome, segment_of, slot_in, tapped, with_slots}
+use Rattle.clock_ticks.specs.Hearings.{HasMadeInstants, Heard, HeardSome, IsMeant, Hearing, SegmentBroken, SegmentMade, calls_from, feed_key, outcome, segment_of, slot_in, tapped}
 
 pub after_slots-append : (port : Port) (slots more : List Slot) → after_slots port (slots ++ more) ≡ after_slots (after_slots port slots) more
 after_slots-append port [] more = refl
@@ -119,62 +120,68 @@ ports_within nodes slots first now are within k d h =
     let is : get_or now k d ≡ hear port = ap (λ ps. get_or ps k d) are ∙ get_or-map hear first k d d here in
     subst (λ n. n < nodes) (sym (ap (λ p. p.node) is ∙ after_slots-node (emptied port) (slots port.node))) (within k d here)
 
-pub feeds_within : (nodes : ℕ) (slots : ℕ → List Slot) (first now : List FeedPort) → now ≡ map (λ feed. with_slots feed (slots feed.node)) first
+pub feeds_within : (nodes : ℕ) (slots : ℕ → List Slot) (first now : List FeedPort) → now ≡ map (λ feed. fed (unfed feed) (slots feed.node)) first
     → All (λ feed. feed.node < nodes) first → All (λ feed. feed.node < nodes) now
 feeds_within nodes slots first now are within k d h =
-    let feeds : FeedPort → FeedPort = λ feed. with_slots feed (slots feed.node) in
+    let feeds : FeedPort → FeedPort = λ feed. fed (unfed feed) (slots feed.node) in
     let here : k < length first = (let same = ap length are ∙ length-map first feeds in omega (arith, same, h)) in
     let is : get_or now k d ≡ feeds (get_or first k d) = ap (λ fs. get_or fs k d) are ∙ get_or-map feeds first k d d here in
     subst (λ n. n < nodes) (sym (ap (λ f. f.node) is)) (within k d here)
 
--- the slots of a tick so far, and what is left of the ones before, some slots later
-put_front : (back more : List Slot) → length more ≤ length back → put_chunk 0 back more ≡ more ++ drop (length more) back
-put_front [] [] low = refl
-put_front [] (s ∷ more) low = absurd (omega (arith, low))
-put_front (t ∷ back) [] low = refl
-put_front (t ∷ back) (s ∷ more) low = ap (λ (xs : List Slot). s ∷ xs) (put_front back more (omega (arith, low)))
+-- the cells of a tick so far, some slots later
+fed_one : (slots : ℕ → List Slot) (all : ClockStates) (many : ℕ) (feed : FeedPort)
+    → fed (fed (unfed feed) (slots feed.node)) (segment_of all many feed.node) ≡ fed (unfed feed) (more_slots slots all many feed.node)
+fed_one slots all many feed =
+    ap (λ (cells : List Cell). record { buffer = feed.buffer; node = feed.node; frame = record { cells = cells; room = feed.frame.room } })
+    (sym (cells_of-append (slots feed.node) (segment_of all many feed.node)))
 
-filled_more : (front back more : List Slot) → length front + length more ≤ length back
-    → put_chunk (length front) (front ++ drop (length front) back) more ≡ (front ++ more) ++ drop (length (front ++ more)) back
-filled_more [] back more low = put_front back more (omega (arith, low))
-filled_more (s ∷ front) [] more low = absurd (omega (arith, low))
-filled_more (s ∷ front) (t ∷ back) more low = ap (λ (xs : List Slot). s ∷ xs) (filled_more front back more (omega (arith, low)))
+fed_all : (slots : ℕ → List Slot) (all : ClockStates) (many : ℕ) (first : List FeedPort)
+    → map (λ feed. fed feed (segment_of all many feed.node)) (map (λ feed. fed (unfed feed) (slots feed.node)) first)
+    ≡ map (λ feed. fed (unfed feed) (more_slots slots all many feed.node)) first
+fed_all slots all many [] = refl
+fed_all slots all many (feed ∷ first) =
+    ap (λ f. f ∷ map (λ feed. fed feed (segment_of all many feed.node)) (map (λ feed. fed (unfed feed) (slots feed.node)) first)) (fed_one slots all many feed)
+    ∙ ap (λ fs. fed (unfed feed) (more_slots slots all many feed.node) ∷ fs) (fed_all slots all many first)
 
-fed_one : (slots : ℕ → List Slot) (all : ClockStates) (many at : ℕ) (feed : FeedPort) → length (slots feed.node) ≡ at → at + length (segment_of all many feed.node) ≤ length feed.frame
-    → with_slots_from at (segment_of all many feed.node) (with_slots feed (slots feed.node)) ≡ with_slots feed (more_slots slots all many feed.node)
-fed_one slots all many at feed long low =
-    let more : List Slot = segment_of all many feed.node in
-    ap (λ (n : ℕ). with_slots_from n more (with_slots feed (slots feed.node))) (sym long)
-    ∙ ap (λ (xs : List Slot). record { buffer = feed.buffer; node = feed.node; frame = xs }) (filled_more (slots feed.node) feed.frame more (omega (arith, long, low)))
+-- each feed has room for what is left of the tick
+few_cells : (slots : List Slot) → length (cells_of slots) ≤ length slots
+few_cells [] = omega arith
+few_cells (None ∷ slots) = omega (arith, few_cells slots)
+few_cells (Some cell ∷ slots) = omega (arith, few_cells slots)
 
-fed_all : (slots : ℕ → List Slot) (all : ClockStates) (many at : ℕ) (first : List FeedPort) → ((i : ℕ) → length (slots i) ≡ at) → ((i : ℕ) → length (segment_of all many i) ≡ suc many)
-    → All (λ feed. at + suc many ≤ length feed.frame) first
-    → map (λ feed. with_slots_from at (segment_of all many feed.node) feed) (map (λ feed. with_slots feed (slots feed.node)) first)
-    ≡ map (λ feed. with_slots feed (more_slots slots all many feed.node)) first
-fed_all slots all many at [] long size low = refl
-fed_all slots all many at (feed ∷ first) long size low =
-    let here : at + length (segment_of all many feed.node) ≤ length feed.frame = (let n = size feed.node in let l = low 0 feed (omega arith) in omega (arith, n, l)) in
-    ap (λ f. f ∷ map (λ feed. with_slots_from at (segment_of all many feed.node) feed) (map (λ feed. with_slots feed (slots feed.node)) first))
-    (fed_one slots all many at feed (long feed.node) here)
-    ∙ ap (λ fs. with_slots feed (more_slots slots all many feed.node) ∷ fs) (fed_all slots all many at first long size (λ k d h. low (suc k) d (omega (arith, h))))
+pub feed_room_left : (many left : ℕ) (f : FeedPort → List Slot) → ((feed : FeedPort) → length (f feed) ≡ many) → (feeds : List FeedPort)
+    → AllHaveFeedRoom (many + left) feeds → AllHaveFeedRoom left (map (λ feed. fed feed (f feed)) feeds)
+feed_room_left many left f long feeds room k d h =
+    let within : k < length feeds = (let same = length-map feeds (λ feed. fed feed (f feed)) in omega (arith, same, h)) in
+    let feed = get_or feeds k d in
+    subst (λ p. HasFeedRoom left p) (sym (get_or-map (λ feed. fed feed (f feed)) feeds k d d within))
+    (omega (arith, room k d within, length-append feed.frame.cells (cells_of (f feed)), few_cells (f feed), long feed))
 
--- each feed has room for the slots of a segment of the tick
-pub all_low : (frame upto : ℕ) (feeds : List FeedPort) → upto ≤ frame → All (λ feed. length feed.frame ≡ frame) feeds → All (λ feed. upto ≤ length feed.frame) feeds
-all_low frame upto feeds low all k d h = let long = all k d h in omega (arith, low, long)
+pub feed_room_less : (few many : ℕ) (feeds : List FeedPort) → few ≤ many → AllHaveFeedRoom many feeds → AllHaveFeedRoom few feeds
+feed_room_less few many feeds less room k d h = let at = room k d h in omega (arith, at, less)
 
-pub frames_filled : (frame at : ℕ) (f : FeedPort → List Slot) (feeds : List FeedPort) → All (λ feed. length feed.frame ≡ frame) feeds → All (λ feed. length feed.frame ≡ frame) (map (λ feed. with_slots_from at (f feed) feed) feeds)
-frames_filled frame at f feeds all k d h =
-    let within : k < length feeds = (let long = length-map feeds (λ feed. with_slots_from at (f feed) feed) in omega (arith, long, h)) in
-    subst (λ feed. length feed.frame ≡ frame) (sym (get_or-map (λ feed. with_slots_from at (f feed) feed) feeds k d d within))
-    (length-put_chunk at (get_or feeds k d).frame (f (get_or feeds k d)) ∙ all k d within)
+pub unfed_room : (frame : ℕ) (feeds : List FeedPort) → All (λ feed. frame ≤ feed.frame.room) feeds → AllHaveFeedRoom frame (map unfed feeds)
+unfed_room frame feeds all k d h =
+    let within : k < length feeds = (let same = length-map feeds unfed in omega (arith, same, h)) in
+    subst (λ p. HasFeedRoom frame p) (sym (get_or-map unfed feeds k d d within)) (omega (arith, all k d within))
 
-pub keys_filled : (at : ℕ) (f : FeedPort → List Slot) (feeds : List FeedPort) → map feed_key (map (λ feed. with_slots_from at (f feed) feed) feeds) ≡ map feed_key feeds
-keys_filled at f [] = refl
-keys_filled at f (feed ∷ feeds) = ap (λ keys. feed_key feed ∷ keys) (keys_filled at f feeds)
+pub frames_unfed : (frame : ℕ) (feeds : List FeedPort) → All (λ feed. frame ≤ feed.frame.room) feeds → All (λ feed. frame ≤ feed.frame.room) (map unfed feeds)
+frames_unfed frame feeds all k d h =
+    let within : k < length feeds = (let same = length-map feeds unfed in omega (arith, same, h)) in
+    subst (λ feed. frame ≤ feed.frame.room) (sym (get_or-map unfed feeds k d d within)) (all k d within)
 
-none_filled : (first : List FeedPort) → first ≡ map (λ feed. with_slots feed []) first
-none_filled [] = refl
-none_filled (feed ∷ first) = ap (λ fs. feed ∷ fs) (none_filled first)
+pub frames_fed : (frame : ℕ) (f : FeedPort → List Slot) (feeds : List FeedPort) → All (λ feed. frame ≤ feed.frame.room) feeds → All (λ feed. frame ≤ feed.frame.room) (map (λ feed. fed feed (f feed)) feeds)
+frames_fed frame f feeds all k d h =
+    let within : k < length feeds = (let long = length-map feeds (λ feed. fed feed (f feed)) in omega (arith, long, h)) in
+    subst (λ feed. frame ≤ feed.frame.room) (sym (get_or-map (λ feed. fed feed (f feed)) feeds k d d within)) (all k d within)
+
+pub keys_fed : (f : FeedPort → List Slot) (feeds : List FeedPort) → map feed_key (map (λ feed. fed feed (f feed)) feeds) ≡ map feed_key feeds
+keys_fed f [] = refl
+keys_fed f (feed ∷ feeds) = ap (λ keys. feed_key feed ∷ keys) (keys_fed f feeds)
+
+pub keys_unfed : (feeds : List FeedPort) → map feed_key (map unfed feeds) ≡ map feed_key feeds
+keys_unfed [] = refl
+keys_unfed (feed ∷ feeds) = ap (λ keys. feed_key feed ∷ keys) (keys_unfed feeds)
 
 -- some instants and those behind them
 mapped_range : {A : Type 0} (f : ℕ → A) (from n m all : ℕ) → all ≡ n + m → map f (range_with_len from n) ++ map f (range_with_len (from + n) m) ≡ map f (range_with_len from all)
@@ -204,16 +211,16 @@ begin_upto calls i n low = elim (cases_lt i n) [
 ]
 
 module _ {T : Type 0} (stands : T → List Call → Type 0) (scene : Scene) (clock : NodeClock) (own : List Bool) where
-  pub heard_none : (state : ClockState) (first now : List Port) (feeds : List FeedPort) (cues begun : Cues) (start : ℕ) (a : T) → now ≡ map emptied first
+  pub heard_none : (state : ClockState) (first now : List Port) (feeds fresh : List FeedPort) (cues begun : Cues) (start : ℕ) (a : T) → now ≡ map emptied first → fresh ≡ map unfed feeds
       → begun.keeping ≡ cues.keeping → length begun.lists.items ≡ length cues.lists.items
       → ((k : ℕ) (old new : CueList) → slice_get cues.lists.items k ≡ Some old → slice_get begun.lists.items k ≡ Some new → HasMarked [] old new)
       → Heard stands scene clock own 0 (record { state = state; ports = first; feeds = feeds; cues = cues; start = start; taps = a })
-      (record { state = state; ports = now; feeds = feeds; cues = begun; start = start; taps = a })
-  heard_none state first now feeds cues begun start a is keeping lists marked = record {
+      (record { state = state; ports = now; feeds = fresh; cues = begun; start = start; taps = a })
+  heard_none state first now feeds fresh cues begun start a is anew keeping lists marked = record {
     slots = λ i. [];
     long = λ i. refl;
     ports_are = is;
-    feeds_are = none_filled feeds;
+    feeds_are = anew;
     keeping = keeping;
     lists = lists;
     cues_are = λ k port old new at_port at_old at_new. subst (λ marks. HasMarked marks old new) (sym (marks_none cues.keeping start)) (marked k old new at_old at_new);
@@ -263,19 +270,18 @@ module _ {T : Type 0} (stands : T → List Call → Type 0) (scene : Scene) (clo
         let within = slice_get_within before.cues.lists.items k old at in
         (get_or mid.cues.lists.items k old, slice_get-get_or mid.cues.lists.items k old (omega (arith, within, lists)))
 
-    pub heard_more : after.feeds ≡ map (λ feed. with_slots_from count (segment_of after.state.clocks many feed.node) feed) mid.feeds
+    pub heard_more : after.feeds ≡ map (λ feed. fed feed (segment_of after.state.clocks many feed.node)) mid.feeds
         → ((i : ℕ) → length (segment_of after.state.clocks many i) ≡ suc many)
-        → All (λ feed. count + suc many ≤ length feed.frame) before.feeds
         → after.cues.keeping ≡ mid.cues.keeping → length after.cues.lists.items ≡ length mid.cues.lists.items
         → ((k : ℕ) (port : Port) (old new : CueList) → slice_get after.ports k ≡ Some port → slice_get mid.cues.lists.items k ≡ Some old → slice_get after.cues.lists.items k ≡ Some new
         → HasKept (marks_if mid.cues.keeping (before.start + count) ((part_at after.state.clocks.latest.parts.items port.node).slot ∷ [])) old new)
         → Heard stands scene clock own upto before after
-    heard_more filled size low keeping lists kept = record {
+    heard_more filled size keeping lists kept = record {
       slots = more_slots heard.slots after.state.clocks many;
       long = λ i. (let both = length-append (heard.slots i) (segment_of after.state.clocks many i) in let first = heard.long i in let last = size i in omega (arith, both, first, last, sum));
       ports_are = ports_now;
-      feeds_are = filled ∙ ap (map (λ feed. with_slots_from count (segment_of after.state.clocks many feed.node) feed)) heard.feeds_are
-          ∙ fed_all heard.slots after.state.clocks many count before.feeds heard.long size low;
+      feeds_are = filled ∙ ap (map (λ feed. fed feed (segment_of after.state.clocks many feed.node))) heard.feeds_are
+          ∙ fed_all heard.slots after.state.clocks many before.feeds;
       keeping = keeping ∙ heard.keeping;
       lists = lists ∙ heard.lists;
       cues_are = λ k port old new at_port at_old at_new.

@@ -1,5 +1,5 @@
 -- An engine after a tick.
-use Rattle.std.proofs.Common.{◌≡◌, ◌++◌, drop, append_assoc, Bool, ◌<◌, ◌≤◌, ◌+◌, ◌*◌, ◌∙◌, ℕ, suc, Some, Option, List, [], ◌∷◌, flat_map, All, length, get_or, map, slice_get, true, false, arith, refl, ap, sym, subst, ◌-◌, None, add-one}
+use Rattle.std.proofs.Common.{◌≡◌, ◌++◌, append_assoc, Bool, ◌<◌, ◌≤◌, ◌+◌, ◌*◌, ◌∙◌, ℕ, suc, Some, Option, List, [], ◌∷◌, flat_map, All, length, get_or, map, slice_get, true, false, arith, refl, ap, sym, subst, ◌-◌, None, add-one}
 use mathlib.Core.Path.{fun_ext}
 use Rattle.std.proofs.Math.Nat.{suc-mul}
 use Rattle.std.proofs.lemmas.Bool.{true≢false}
@@ -18,11 +18,11 @@ use Rattle.stream_meaning.proofs.Unread.{no_given, no_tick_takes, none_in_joined
 use Rattle.node_states.specs.Ticks.{HasStopped, HasTicked}
 use Rattle.clock_outputs.specs.declared.port.Port.{Port}
 use Rattle.clock_outputs.specs.declared.feed.FeedPort.{FeedPort}
-use Rattle.clock_outputs.specs.Feeds.{HaveGiven, HaveGivenSome, HaveOwnBuffers, given_by}
+use Rattle.clock_outputs.specs.Feeds.{HaveGiven, HaveGivenSome, HaveOwnBuffers, fed, given_by, unfed}
 use Rattle.clock_outputs.specs.Ports.{after_slots, emptied}
 use Rattle.clock_outputs.specs.Appends.{BrokeAt, HaveRoom, TookAll}
 use Rattle.clock_ticks.specs.Standing.{IsClockState, ClockStateStands}
-use Rattle.clock_ticks.specs.Hearings.{HasMadeInstants, Heard, HeardSome, IsMeant, outcome, with_slots}
+use Rattle.clock_ticks.specs.Hearings.{HasMadeInstants, Heard, HeardSome, IsMeant, outcome}
 use Rattle.clock_ticks.specs.declared.cues.CueList.{CueList}
 use Rattle.clock_ticks.specs.Cues.{mark_of, marks_if, marks_of}
 use Rattle.clock_ticks.proofs.Cueing.{AreHeld, its_port, taken_before, there_is}
@@ -97,7 +97,7 @@ module _ (parts other : EngineParts) (fit : AreParts parts)
       within k h = let same = ap length ports_are ∙ length-map parts.ports.items hear in omega (arith, same, h)
 
   pub parts_after : (ticks : ℕ) (stopped : Option TickFault) → map feed_of other.feeds.items ≡ map feed_of parts.feeds.items
-      → All (λ feed. length feed.frame ≡ parts.scene.plan.now.frame) other.feeds.items → length other.cues.lists.items ≡ length parts.cues.lists.items
+      → All (λ feed. parts.scene.plan.now.frame ≤ feed.frame.room) other.feeds.items → length other.cues.lists.items ≡ length parts.cues.lists.items
       → AreParts (after_tick parts other ticks stopped)
   parts_after ticks stopped same_feeds frames lists = record {
     plan = fit.plan;
@@ -243,19 +243,13 @@ module _ (parts other : EngineParts) (fit : AreParts parts)
           (room_less (told before).room ticks (piece_size (setting_of parts) sink node) (all.each k sink node before at_output was)));
     }
 
-filled_whole : (slots frame : List Slot) → length slots ≡ length frame → slots ++ drop (length slots) frame ≡ slots
-filled_whole [] [] same = refl
-filled_whole [] (s ∷ frame) same = absurd (omega (arith, same))
-filled_whole (s ∷ slots) [] same = absurd (omega (arith, same))
-filled_whole (s ∷ slots) (f ∷ frame) same = ap (λ (xs : List Slot). s ∷ xs) (filled_whole slots frame (omega (arith, same)))
-
-keys_same : (slots : ℕ → List Slot) (feeds : List FeedPort) → map feed_of (map (λ feed. with_slots feed (slots feed.node)) feeds) ≡ map feed_of feeds
+keys_same : (slots : ℕ → List Slot) (feeds : List FeedPort) → map feed_of (map (λ feed. fed (unfed feed) (slots feed.node)) feeds) ≡ map feed_of feeds
 keys_same slots [] = refl
 keys_same slots (feed ∷ feeds) = ap (λ keys. feed_of feed ∷ keys) (keys_same slots feeds)
 
 none_given_by : (buffer : ℕ) (accepted : ℕ → Bool) (found : Option FeedPort) → answers_in buffer (given_by accepted found) ≡ []
 none_given_by buffer accepted None = refl
-none_given_by buffer accepted (Some feed) = no_given buffer feed.buffer (cells_of feed.frame) (accepted feed.buffer)
+none_given_by buffer accepted (Some feed) = no_given buffer feed.buffer feed.frame.cells (accepted feed.buffer)
 
 pub none_given_in : (buffer : ℕ) (accepted : ℕ → Bool) (feeds : List FeedPort) (n : ℕ) → answers_in buffer (joined_upto (λ k. given_by accepted (slice_get feeds k)) n) ≡ []
 none_given_in buffer accepted feeds n = none_in_joined buffer (λ k. given_by accepted (slice_get feeds k)) (λ k. none_given_by buffer accepted (slice_get feeds k)) n
@@ -362,13 +356,12 @@ module _ (parts other : EngineParts) (fit : AreParts parts) {T : Type 0} (stands
     takes_are = ran.calls
 
     -- a feed has the cells of its node
-    feed_cells_are : (k : ℕ) (feed : FeedPort) → slice_get other.feeds.items k ≡ Some feed → cells_of feed.frame ≡ feed_cells S feed.node t
+    feed_cells_are : (k : ℕ) (feed : FeedPort) → slice_get other.feeds.items k ≡ Some feed → feed.frame.cells ≡ feed_cells S feed.node t
     feed_cells_are k feed at =
-        let found = from_mapped (λ f. with_slots f (heard.slots f.node)) parts.feeds.items k feed (sym (ap (λ xs. slice_get xs k) heard.feeds_are) ∙ at) in
+        let found = from_mapped (λ f. fed (unfed f) (heard.slots f.node)) parts.feeds.items k feed (sym (ap (λ xs. slice_get xs k) heard.feeds_are) ∙ at) in
         let inside = feed_inside (setting_of parts) parts.clock parts.feeds.items fit.feeds k found.0 found.1 in
-        let size = all_at (λ f. length f.frame ≡ parts.scene.plan.now.frame) parts.feeds.items fit.frames k found.0 found.1 in
-        ap (λ f. cells_of f.frame) (sym found.2)
-        ∙ ap cells_of (filled_whole (heard.slots found.0.node) found.0.frame (heard.long found.0.node ∙ sym size) ∙ slots_are found.0.node inside (feed_root parts fit k found.0 found.1).1)
+        ap (λ f. f.frame.cells) (sym found.2)
+        ∙ ap cells_of (slots_are found.0.node inside (feed_root parts fit k found.0 found.1).1)
         ∙ ap (λ i. feed_cells S i t) (ap (λ f. f.node) found.2)
 
     same_feeds : map feed_of other.feeds.items ≡ feeds_of (setting_of parts) parts.clock

@@ -1,8 +1,8 @@
 -- The outputs of a clock, one sink after another.
-use Rattle.std.proofs.Common.{◌≡◌, ◌+◌, ◌∙◌, ◌++◌, ℕ, zero, suc, Bool, true, false, Some, List, [], ◌∷◌, All, map, drop, slice_get, append_assoc, add-one, arith, ap, sym}
+use Rattle.std.proofs.Common.{◌≡◌, ◌+◌, ◌∙◌, ◌++◌, ℕ, zero, suc, Bool, true, Some, List, [], ◌∷◌, All, map, drop, slice_get, append_assoc, add-one, arith, ap, sym}
 use Rattle.std.proofs.lemmas.List.{map-append}
 use Rattle.plan_core.specs.declared.sink.SinkPlan.{SinkPlan}
-use Rattle.plan_core.specs.declared.sink.SinkPlan.TheVariants.{Output, Feed}
+use Rattle.plan_core.specs.declared.sink.SinkPlan.TheVariants.{Output}
 use Rattle.clock_infer.specs.declared.clock_map.NodeClock.TheVariants.{Main}
 use Rattle.stream_meaning.specs.Instants.{Setting, lies_in}
 use Rattle.clock_outputs.specs.declared.port.Port.{Port}
@@ -22,15 +22,6 @@ module _ (setting : Setting) (m i : ℕ) (sinks : List SinkPlan) where
       → outputs_from setting m i (drop i sinks) ≡ (i, node) ∷ outputs_from setting m (i + 1) (drop (i + 1) sinks)
   at_output name node fallible wide at inside =
       ap (outputs_from setting m i) (dropped sinks i (Output name node fallible wide) at) ∙ rw inside (ap (λ os. (i, node) ∷ os) next_is)
-
-  pub at_other : (name : List ℕ) (node : ℕ) (fallible wide : Bool) → slice_get sinks i ≡ Some (Output name node fallible wide) → lies_in setting (Main m) node ≡ false
-      → outputs_from setting m i (drop i sinks) ≡ outputs_from setting m (i + 1) (drop (i + 1) sinks)
-  at_other name node fallible wide at outside =
-      ap (outputs_from setting m i) (dropped sinks i (Output name node fallible wide) at) ∙ rw outside next_is
-
-  pub at_feed : (buffer node : ℕ) → slice_get sinks i ≡ Some (Feed buffer node)
-      → outputs_from setting m i (drop i sinks) ≡ outputs_from setting m (i + 1) (drop (i + 1) sinks)
-  at_feed buffer node at = ap (outputs_from setting m i) (dropped sinks i (Feed buffer node) at) ∙ next_is
 
 -- one output more
 pub outputs_more : (ports : List Port) (port : Port) (output : ℕ × ℕ) (rest : List (ℕ × ℕ)) → output_of port ≡ output

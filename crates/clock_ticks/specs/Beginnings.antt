@@ -38,4 +38,4 @@ pub record IsNewPort (setting : Setting) (port : Port) : Type 0 where
 
 -- a feed before the first tick
 pub record IsNewFeed (frame : ℕ) (feed : FeedPort) : Type 0 where
-  pub long : length feed.frame ≡ frame
+  pub room : frame ≤ feed.frame.room

@@ -101,7 +101,7 @@ pub record AreParts (parts : EngineParts) : Type 0 where
   pub rooms : All (λ port. parts.scene.plan.now.frame * block_length port.wide port.kind
       ≤ port.piece.room) parts.ports.items
   pub feeds : map feed_of parts.feeds.items ≡ feeds_of (setting_of parts) parts.clock
-  pub frames : All (λ feed. length feed.frame ≡ parts.scene.plan.now.frame) parts.feeds.items
+  pub frames : All (λ feed. parts.scene.plan.now.frame ≤ feed.frame.room) parts.feeds.items
   pub lists : length parts.cues.lists.items ≡ length parts.ports.items
 
 -- an engine, as contracts see it: its parts, and the sinks of its outputs

@@ -1,5 +1,5 @@
 -- What the outputs and feeds of a clock hear in a tick.
-use Rattle.std.specs.Prelude.{◌≡◌, ◌<◌, ◌^◌, ℕ, suc, ◌+◌, All, Bool, true, false, Some, List, ◌++◌, drop, length, map, slice_get, slice_index_or}
+use Rattle.std.specs.Prelude.{◌≡◌, ◌<◌, ◌≤◌, ◌^◌, ℕ, suc, ◌+◌, All, Bool, true, false, Some, List, length, map, slice_get, slice_index_or}
 use Rattle.std.specs.List.{range_with_len}
 use Rattle.clock_infer.specs.declared.clock_map.NodeClock.{NodeClock}
 use Rattle.frame_core.specs.Slots.{Slot}
@@ -8,6 +8,7 @@ use Rattle.stream_meaning.specs.Instants.{Setting, IsMeaning, first_instants, mo
 use Rattle.stream_meaning.specs.Calls.{GoDown, HasAnswers, IsBegin, after_calls, calls_of, joined_upto}
 use Rattle.clock_outputs.specs.declared.port.Port.{Port}
 use Rattle.clock_outputs.specs.declared.feed.FeedPort.{FeedPort}
+use Rattle.clock_outputs.specs.Feeds.{fed, unfed}
 use Rattle.clock_outputs.specs.Ports.{AllHaveRoomLeft, after_slots, emptied}
 use Rattle.clock_outputs.specs.Segments.{segment_slots}
 use Rattle.clock_nodes.specs.declared.scene.Scene.{Scene}
@@ -41,14 +42,6 @@ calls_from setting sub clock n count = joined_upto
 -- the buffer and the node of a feed
 abbrev pub feed_key : FeedPort → ℕ × ℕ
 feed_key feed = (feed.buffer, feed.node)
-
--- a feed whose node had these slots in the tick so far
-abbrev pub with_slots : FeedPort → List Slot → FeedPort
-with_slots feed slots = record {
-  buffer = feed.buffer;
-  node = feed.node;
-  frame = slots ++ drop (length slots) feed.frame;
-}
 
 -- what some instants of a clock came to: the slots of its nodes, the calls, and the states after them
 pub record Outcome : Type 0 where
@@ -96,7 +89,7 @@ pub record CanHear (scene : Scene) (ports : List Port) (feeds : List FeedPort) (
   pub heard : All (λ port. port.node < length scene.plan.now.nodes) ports
   pub fed : All (λ feed. feed.node < length scene.plan.now.nodes) feeds
   pub room : AllHaveRoomLeft scene.plan.now.frame (map emptied ports)
-  pub frames : All (λ feed. length feed.frame ≡ scene.plan.now.frame) feeds
+  pub frames : All (λ feed. scene.plan.now.frame ≤ feed.frame.room) feeds
   pub marks : length cues.lists.items ≡ length ports
   pub late : start + scene.plan.now.frame < 2 ^ 64
 
@@ -108,7 +101,7 @@ pub record Heard {T : Type 0} (stands : T → List Call
   pub slots : ℕ → List Slot
   pub long : (i : ℕ) → length (slots i) ≡ count
   pub ports_are : after.ports ≡ map (λ port. after_slots (emptied port) (slots port.node)) before.ports
-  pub feeds_are : after.feeds ≡ map (λ feed. with_slots feed (slots feed.node)) before.feeds
+  pub feeds_are : after.feeds ≡ map (λ feed. fed (unfed feed) (slots feed.node)) before.feeds
   pub keeping : after.cues.keeping ≡ before.cues.keeping
   pub lists : length after.cues.lists.items ≡ length before.cues.lists.items
   pub cues_are : (k : ℕ) (port : Port) (old new : CueList) → slice_get before.ports k ≡ Some port

@@ -3,7 +3,7 @@ ghost use Rattle.clock_ticks.specs.declared.fault.TickFault.{TickFault as Fault}
 ghost use Rattle.clock_ticks.specs.declared.fault.TickFault.TheVariants.{Memory as OutOfMemory, Write};
 ghost use Rattle.frame_core.specs.Calls.{Call, Answer};
 ghost use Rattle.clock_outputs.specs.Feeds.{HaveGiven, HaveGivenSome};
-ghost use Rattle.std.specs.Prelude.{◌≡◌, ◌<◌, ◌+◌, ◌⊎◌, ℕ, Some, None, true, false, List, [], All, map, length, IfOk, OnOk, OnErr, IfErr};
+ghost use Rattle.std.specs.Prelude.{◌≡◌, ◌<◌, ◌≤◌, ◌+◌, ◌⊎◌, ℕ, Some, None, true, false, List, [], All, map, length, IfOk, OnOk, OnErr, IfErr};
 ghost use Rattle.plan_core.specs.Plans.{IsWellFormed};
 ghost use Rattle.clock_infer.specs.Answers.{IsClockMap};
 ghost use Rattle.frame_core.specs.Library.{IsLibrary};
@@ -137,7 +137,7 @@ fn run_parts<T: Taps>(parts: &mut EngineParts<'_>, taps: &mut T) -> Result<(), M
     requires buffers { T.buffers taps.old ≡ length parts.old.scene.plan.now.buffers }
     ensures kept { parts.new ≡ after_tick parts.old parts.new parts.old.ticks parts.old.stopped }
     ensures state { IsClockState parts.old.scene parts.new.state }
-    ensures frames { All (λ feed. length feed.frame ≡ parts.old.scene.plan.now.frame) parts.new.feeds.items }
+    ensures frames { All (λ feed. parts.old.scene.plan.now.frame ≤ feed.frame.room) parts.new.feeds.items }
     ensures feeds { map feed_of parts.new.feeds.items ≡ map feed_of parts.old.feeds.items }
     ensures buffers { T.buffers taps.new ≡ T.buffers taps.old }
     ensures same { T.same taps.old taps.new }
@@ -178,7 +178,7 @@ fn run_or_stop<T: Taps>(parts: &mut EngineParts<'_>, taps: &mut T) -> Result<(),
     ensures ended { IfErr result (λ fault. (fault ≡ OutOfMemory)
         × (parts.new ≡ after_tick parts.old parts.new parts.old.ticks (Some OutOfMemory))) }
     ensures state { IsClockState parts.old.scene parts.new.state }
-    ensures frames { All (λ feed. length feed.frame ≡ parts.old.scene.plan.now.frame) parts.new.feeds.items }
+    ensures frames { All (λ feed. parts.old.scene.plan.now.frame ≤ feed.frame.room) parts.new.feeds.items }
     ensures feeds { map feed_of parts.new.feeds.items ≡ map feed_of parts.old.feeds.items }
     ensures buffers { T.buffers taps.new ≡ T.buffers taps.old }
     ensures same { T.same taps.old taps.new }

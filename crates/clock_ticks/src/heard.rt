@@ -1,7 +1,7 @@
 // What the outputs and feeds of a clock hear in a segment.
-ghost use Rattle.std.specs.Prelude.{◌≡◌, ◌<◌, ◌≤◌, ◌+◌, ◌^◌, suc, All, length, map};
+ghost use Rattle.std.specs.Prelude.{◌≡◌, ◌<◌, ◌≤◌, suc, All, map};
 ghost use Rattle.clock_instants.specs.Stretches.{HasStretchRoom};
-ghost use Rattle.clock_outputs.specs.Feeds.{with_slots_from};
+ghost use Rattle.clock_outputs.specs.Feeds.{AllHaveFeedRoom, HasFeedRoom, fed};
 ghost use Rattle.clock_outputs.specs.Ports.{AllHaveRoomLeft, HasRoomLeft, after_slots};
 ghost use Rattle.clock_ticks.specs.Hearings.{segment_of};
 
@@ -40,35 +40,31 @@ fn hear_one(port: &mut Port, clocks: &ClockStates, many: u32, nodes: usize)
     );
 }
 
-/// Each feed takes the slots of its node in the latest segment, which began at a place of the tick, and had so many
-/// instants behind its first one. There are `nodes` nodes.
-pub fn feed_all(feeds: &mut Vec<FeedPort>, at: u32, clocks: &ClockStates, many: u32, nodes: usize)
+/// Each feed takes the slots of its node in the latest segment, which had so many instants behind its first one. There
+/// are `nodes` nodes.
+pub fn feed_all(feeds: &mut Vec<FeedPort>, clocks: &ClockStates, many: u32, nodes: usize)
     requires stretch_room { HasStretchRoom nodes clocks.now.room }
     requires short { many ≤ 2048 }
     requires within { All (λ feed. feed.node < nodes) feeds.old.items }
-    requires there { All (λ feed. at + suc many ≤ length feed.frame) feeds.old.items }
-    requires fits { at + suc many < 2 ^ 32 }
-    ensures { feeds.new.items
-        ≡ map (λ feed. with_slots_from at (segment_of clocks.now many feed.node) feed) feeds.old.items }
+    requires room { AllHaveFeedRoom (suc many) feeds.old.items }
+    ensures { feeds.new.items ≡ map (λ feed. fed feed (segment_of clocks.now many feed.node)) feeds.old.items }
 {
     for k in 0..feeds.len() {
-        feed_one(&mut feeds[k], at, clocks, many, nodes);
+        feed_one(&mut feeds[k], clocks, many, nodes);
     }
 }
 
 // A feed takes the slots of its node.
-fn feed_one(feed: &mut FeedPort, at: u32, clocks: &ClockStates, many: u32, nodes: usize)
+fn feed_one(feed: &mut FeedPort, clocks: &ClockStates, many: u32, nodes: usize)
     requires stretch_room { HasStretchRoom nodes clocks.now.room }
     requires short { many ≤ 2048 }
     requires within { feed.old.node < nodes }
-    requires there { at + suc many ≤ length feed.old.frame }
-    requires fits { at + suc many < 2 ^ 32 }
-    ensures { feed.new ≡ with_slots_from at (segment_of clocks.now many feed.old.node) feed.old }
+    requires room { HasFeedRoom (suc many) feed.old }
+    ensures { feed.new ≡ fed feed.old (segment_of clocks.now many feed.old.node) }
 {
     let slot = slot_of(&clocks.latest.parts, feed.node);
     let count = many as usize;
     feed.hear(
-        at,
         slot,
         clocks.room.left_of(feed.node, count),
         clocks.room.right_of(feed.node, count),

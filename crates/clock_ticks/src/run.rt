@@ -1,5 +1,5 @@
 // The segments of a tick.
-ghost use Rattle.std.specs.Prelude.{◌≡◌, ◌<◌, ◌+◌, ◌⊎◌, true, All, length, map, OnOk, OnErr};
+ghost use Rattle.std.specs.Prelude.{◌≡◌, ◌<◌, ◌≤◌, ◌+◌, ◌⊎◌, true, All, map, OnOk, OnErr};
 ghost use Rattle.clock_instants.specs.Takes.{HasReader, ReadersAreIn};
 ghost use Rattle.clock_ticks.specs.Standing.{CanMake, IsClockState};
 ghost use Rattle.clock_ticks.specs.Hearings.{CanHear, Heard, HeardSome, feed_key, hearing_by};
@@ -9,7 +9,7 @@ use crate::cues::{Cues, begin_cues, mark_all};
 use crate::heard::{feed_all, hear_all};
 use clock_infer::NodeClock;
 use clock_nodes::Scene;
-use clock_outputs::{FeedPort, Port, begin_tick};
+use clock_outputs::{FeedPort, Port, begin_feeds, begin_tick};
 use frame_core::Taps;
 use liq_base::Memory;
 use op_mix::MAX_STRETCH;
@@ -31,7 +31,7 @@ pub fn run_tick<T: Taps>(
     requires hearing { CanHear scene.now ports.old.items feeds.old.items cues.old start }
     requires readers { ReadersAreIn scene.now.plan.now (T.buffers taps.old) }
     ensures state { IsClockState scene.now state.new }
-    ensures frames { All (λ feed. length feed.frame ≡ scene.now.plan.now.frame) feeds.new.items }
+    ensures frames { All (λ feed. scene.now.plan.now.frame ≤ feed.frame.room) feeds.new.items }
     ensures keys { map feed_key feeds.new.items ≡ map feed_key feeds.old.items }
     ensures keeping { cues.new.keeping ≡ cues.old.keeping }
     ensures buffers { T.buffers taps.new ≡ T.buffers taps.old }
@@ -47,13 +47,14 @@ pub fn run_tick<T: Taps>(
     let frame = scene.plan.frame;
     let nodes = scene.plan.nodes.len();
     begin_tick(ports);
+    begin_feeds(feeds);
     begin_cues(cues);
     let mut instant = 0;
     while instant < frame {
         let most = (frame - instant - 1).min(MAX_STRETCH);
         let many = make_segment(scene, clock, own, state, most, taps)?;
         hear_all(ports, &state.clocks, many, nodes);
-        feed_all(feeds, instant, &state.clocks, many, nodes);
+        feed_all(feeds, &state.clocks, many, nodes);
         mark_all(cues, ports, start + instant as u64, &state.clocks)?;
         instant += 1 + many;
     }

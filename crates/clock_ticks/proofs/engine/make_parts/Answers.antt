@@ -24,7 +24,7 @@ returns-clause-parts c =
       widths = λ k d h. (c.in_ok-ports.ensures.new S k d h).wide;
       rooms = λ k d h. (c.in_ok-ports.ensures.new S k d h).room;
       feeds = c.in_ok-feeds.ensures.feeds S;
-      frames = λ k d h. (c.in_ok-feeds.ensures.new k d h).long;
+      frames = λ k d h. (c.in_ok-feeds.ensures.new k d h).room;
       lists = c.in_ok-cues.ensures.size ∙ c.len.ensures ∙ c.in_ok-ports.ports.ok.0;
     }
 

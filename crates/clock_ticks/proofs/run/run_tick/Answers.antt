@@ -1,14 +1,14 @@
-use Rattle.std.proofs.Common.{◌≡◌, ◌<◌, ◌≤◌, ◌-◌, ◌+◌, ◌∙◌, ℕ, suc, List, All, length, map, slice_get, Fits, w32, ap, sym, arith, refl, rules, subst, inl, inr}
+use Rattle.std.proofs.Common.{◌≡◌, ◌<◌, ◌≤◌, ◌-◌, ◌+◌, ◌∙◌, ℕ, suc, List, All, length, map, slice_get, ap, sym, arith, refl, subst, inl, inr}
 use Rattle.frame_core.specs.Slots.{Slot}
 use Rattle.clock_outputs.specs.declared.port.Port.{Port}
 use Rattle.clock_outputs.specs.declared.feed.FeedPort.{FeedPort}
 use Rattle.clock_outputs.specs.Ports.{AllHaveRoomLeft, after_slots}
-use Rattle.clock_outputs.specs.Feeds.{with_slots_from}
+use Rattle.clock_outputs.specs.Feeds.{AllHaveFeedRoom, fed}
 use Rattle.node_states.proofs.Chunks.{on_err}
 use Rattle.std.proofs.lemmas.List.{length-map}
 use Rattle.clock_ticks.specs.Hearings.{Heard, feed_key, segment_of}
 use Rattle.clock_ticks.proofs.Cueing.{its_port}
-use Rattle.clock_ticks.proofs.Hearing.{all_low, feeds_within, frames_filled, heard_broken, heard_more, heard_part, heard_none, keys_filled, ports_within, room_left, room_less}
+use Rattle.clock_ticks.proofs.Hearing.{feed_room_left, feed_room_less, feeds_within, frames_fed, frames_unfed, heard_broken, heard_more, heard_part, heard_none, keys_fed, keys_unfed, ports_within, room_left, room_less, unfed_room}
 use Rattle.clock_ticks.proofs.Segments.{segment_long}
 use Rattle.clock_ticks.proofs.run.run_tick.Goals as goal
 
@@ -19,11 +19,14 @@ loop-instant-init g c = record {
   room = (let all : c.args.scene.now.plan.now.frame ≡ c.args.scene.now.plan.now.frame - 0 = omega arith in
       subst (λ n. AllHaveRoomLeft n c.begin_tick.new.ports.items) all
       (subst (λ ports. AllHaveRoomLeft c.args.scene.now.plan.now.frame ports) (sym c.begin_tick.ensures) c.requires.hearing.room));
-  frames = c.requires.hearing.frames;
-  keys = refl;
+  feed_room = (let all : c.args.scene.now.plan.now.frame ≡ c.args.scene.now.plan.now.frame - 0 = omega arith in
+      subst (λ n. AllHaveFeedRoom n c.begin_feeds.new.feeds.items) all
+      (subst (λ feeds. AllHaveFeedRoom c.args.scene.now.plan.now.frame feeds) (sym c.begin_feeds.ensures) (unfed_room c.args.scene.now.plan.now.frame c.args.feeds.now.items c.requires.hearing.frames)));
+  frames = subst (λ feeds. All (λ feed. c.args.scene.now.plan.now.frame ≤ feed.frame.room) feeds) (sym c.begin_feeds.ensures) (frames_unfed c.args.scene.now.plan.now.frame c.args.feeds.now.items c.requires.hearing.frames);
+  keys = ap (map feed_key) c.begin_feeds.ensures ∙ keys_unfed c.args.feeds.now.items;
   buffers = refl;
   same = g.met.T.Taps.same_refl c.args.taps.now;
-  heard = heard_none g.T.Taps.stands _ _ _ c.args.state.now c.args.ports.now.items c.begin_tick.new.ports.items c.args.feeds.now.items c.args.cues.now c.begin_cues.new.cues c.args.start c.args.taps.now c.begin_tick.ensures
+  heard = heard_none g.T.Taps.stands _ _ _ c.args.state.now c.args.ports.now.items c.begin_tick.new.ports.items c.args.feeds.now.items c.begin_feeds.new.feeds.items c.args.cues.now c.begin_cues.new.cues c.args.start c.args.taps.now c.begin_tick.ensures c.begin_feeds.ensures
       c.begin_cues.ensures.keeping c.begin_cues.ensures.size c.begin_cues.ensures.marked;
 }
 
@@ -44,18 +47,12 @@ feed_all-requires-clause-within g c =
     subst (λ n. All (λ feed. feed.node < n) c.loop-instant.feeds.items) (sym c.len-nodes.ensures)
     (feeds_within (length c.args.scene.now.plan.now.nodes) c.loop-instant.invariant.heard.slots c.args.feeds.now.items c.loop-instant.feeds.items c.loop-instant.invariant.heard.feeds_are c.requires.hearing.fed)
 
-pub feed_all-requires-clause-there : goal.feed_all-requires-clause-there
-feed_all-requires-clause-there g c =
+pub feed_all-requires-clause-room : goal.feed_all-requires-clause-room
+feed_all-requires-clause-room g c =
     let many = c.in_ok-many.many in
     let short : many ≤ c.args.scene.now.plan.now.frame - c.loop-instant.instant - 1 = omega (arith, c.in_ok-many.ensures.within, c.min-most.ensures) in
-    all_low c.args.scene.now.plan.now.frame (c.loop-instant.instant + suc many) c.loop-instant.feeds.items (omega (arith, short, c.loop-instant-test.true)) c.loop-instant.invariant.frames
-
-pub feed_all-requires-clause-fits : goal.feed_all-requires-clause-fits
-feed_all-requires-clause-fits g c =
-    let many = c.in_ok-many.many in
-    let short : many ≤ c.args.scene.now.plan.now.frame - c.loop-instant.instant - 1 = omega (arith, c.in_ok-many.ensures.within, c.min-most.ensures) in
-    let fits : Fits w32 c.args.scene.now.plan.now.frame = search rules in
-    omega (arith, short, c.loop-instant-test.true, fits)
+    let less : suc many ≤ c.args.scene.now.plan.now.frame - c.loop-instant.instant = omega (arith, short, c.loop-instant-test.true) in
+    feed_room_less (suc many) (c.args.scene.now.plan.now.frame - c.loop-instant.instant) c.loop-instant.feeds.items less c.loop-instant.invariant.feed_room
 
 pub loop-instant-preserved : goal.loop-instant-preserved
 loop-instant-preserved g c =
@@ -70,19 +67,21 @@ loop-instant-preserved g c =
     let slots : ℕ → List Slot = segment_of clocks many in
     let long = segment_long clocks many in
     let is : c.hear_all.new.ports.items ≡ map (λ (port : Port). after_slots port (slots port.node)) c.loop-instant.ports.items = c.hear_all.ensures in
-    let filled : c.feed_all.new.feeds.items ≡ map (λ (feed : FeedPort). with_slots_from instant (slots feed.node) feed) c.loop-instant.feeds.items = c.feed_all.ensures in
+    let filled : c.feed_all.new.feeds.items ≡ map (λ (feed : FeedPort). fed feed (slots feed.node)) c.loop-instant.feeds.items = c.feed_all.ensures in
     record {
       low = omega (arith, low, next);
       state = c.make_segment.ensures.state;
       room = subst (λ ports. AllHaveRoomLeft (frame - (instant + (1 + many))) ports) (sym is)
           (room_left (suc many) (frame - (instant + (1 + many))) (λ port. slots port.node) (λ port. long port.node) c.loop-instant.ports.items
           (subst (λ n. AllHaveRoomLeft n c.loop-instant.ports.items) left c.loop-instant.invariant.room));
-      frames = subst (λ feeds. All (λ feed. length feed.frame ≡ frame) feeds) (sym filled) (frames_filled frame instant (λ feed. slots feed.node) c.loop-instant.feeds.items c.loop-instant.invariant.frames);
-      keys = ap (map feed_key) filled ∙ keys_filled instant (λ feed. slots feed.node) c.loop-instant.feeds.items ∙ c.loop-instant.invariant.keys;
+      feed_room = subst (λ feeds. AllHaveFeedRoom (frame - (instant + (1 + many))) feeds) (sym filled)
+          (feed_room_left (suc many) (frame - (instant + (1 + many))) (λ feed. slots feed.node) (λ feed. long feed.node) c.loop-instant.feeds.items
+          (subst (λ n. AllHaveFeedRoom n c.loop-instant.feeds.items) left c.loop-instant.invariant.feed_room));
+      frames = subst (λ feeds. All (λ feed. frame ≤ feed.frame.room) feeds) (sym filled) (frames_fed frame (λ feed. slots feed.node) c.loop-instant.feeds.items c.loop-instant.invariant.frames);
+      keys = ap (map feed_key) filled ∙ keys_fed (λ feed. slots feed.node) c.loop-instant.feeds.items ∙ c.loop-instant.invariant.keys;
       buffers = c.make_segment.ensures.buffers ∙ c.loop-instant.invariant.buffers;
       same = g.met.T.Taps.same_trans c.args.taps.now c.loop-instant.taps c.make_segment.new.taps c.loop-instant.invariant.same c.make_segment.ensures.same;
-      heard = heard_more g.T.Taps.stands _ _ _ instant many (instant + (1 + many)) _ _ _ next c.in_ok-many.ensures.run is c.loop-instant.invariant.heard filled long
-          (all_low frame (instant + suc many) c.args.feeds.now.items low c.requires.hearing.frames) c.mark_all.ensures.keeping c.mark_all.ensures.size
+      heard = heard_more g.T.Taps.stands _ _ _ instant many (instant + (1 + many)) _ _ _ next c.in_ok-many.ensures.run is c.loop-instant.invariant.heard filled long c.mark_all.ensures.keeping c.mark_all.ensures.size
           (λ k port old new at_port at_old at_new. c.in_ok-mark_all.ensures.kept k port old new (ap (λ ps. slice_get ps k) c.deref.ensures.value ∙ at_port) at_old at_new);
     }
 
@@ -128,15 +127,15 @@ returns-in_err-mark_all-clause-needs g c =
 pub returns-in_err-mark_all-clause-frames : goal.returns-in_err-mark_all-clause-frames
 returns-in_err-mark_all-clause-frames g c =
     let slots : ℕ → List Slot = segment_of c.make_segment.new.state.clocks c.in_ok-many.many in
-    let filled : c.feed_all.new.feeds.items ≡ map (λ (feed : FeedPort). with_slots_from c.loop-instant.instant (slots feed.node) feed) c.loop-instant.feeds.items = c.feed_all.ensures in
-    subst (λ feeds. All (λ feed. length feed.frame ≡ c.args.scene.now.plan.now.frame) feeds) (sym filled)
-    (frames_filled c.args.scene.now.plan.now.frame c.loop-instant.instant (λ feed. slots feed.node) c.loop-instant.feeds.items c.loop-instant.invariant.frames)
+    let filled : c.feed_all.new.feeds.items ≡ map (λ (feed : FeedPort). fed feed (slots feed.node)) c.loop-instant.feeds.items = c.feed_all.ensures in
+    subst (λ feeds. All (λ feed. c.args.scene.now.plan.now.frame ≤ feed.frame.room) feeds) (sym filled)
+    (frames_fed c.args.scene.now.plan.now.frame (λ feed. slots feed.node) c.loop-instant.feeds.items c.loop-instant.invariant.frames)
 
 pub returns-in_err-mark_all-clause-keys : goal.returns-in_err-mark_all-clause-keys
 returns-in_err-mark_all-clause-keys g c =
     let slots : ℕ → List Slot = segment_of c.make_segment.new.state.clocks c.in_ok-many.many in
-    let filled : c.feed_all.new.feeds.items ≡ map (λ (feed : FeedPort). with_slots_from c.loop-instant.instant (slots feed.node) feed) c.loop-instant.feeds.items = c.feed_all.ensures in
-    ap (map feed_key) filled ∙ keys_filled c.loop-instant.instant (λ feed. slots feed.node) c.loop-instant.feeds.items ∙ c.loop-instant.invariant.keys
+    let filled : c.feed_all.new.feeds.items ≡ map (λ (feed : FeedPort). fed feed (slots feed.node)) c.loop-instant.feeds.items = c.feed_all.ensures in
+    ap (map feed_key) filled ∙ keys_fed (λ feed. slots feed.node) c.loop-instant.feeds.items ∙ c.loop-instant.invariant.keys
 
 pub returns-in_err-mark_all-clause-buffers : goal.returns-in_err-mark_all-clause-buffers
 returns-in_err-mark_all-clause-buffers g c = c.make_segment.ensures.buffers ∙ c.loop-instant.invariant.buffers

@@ -5,5 +5,5 @@ pub returns : goal.returns
 returns c =
     let v = c.self.inside in
     let i = c.self.invariant in
-    less_cells v.left v.right c.pop_front.new.self c.pop_front-2.new.self v.marks c.drop_front.new.self 1 c.args.self.now i.0 i.1 c.self.view_is
-    c.pop_front.ensures.items c.pop_front-2.ensures.items c.drop_front.ensures
+    less_cells v.left v.right c.pop_front.new.self c.pop.new.self v.marks c.drop_front.new.self 1 c.args.self.now i.0 i.1 c.self.view_is
+    c.pop_front.ensures.items c.pop.ensures c.drop_front.ensures

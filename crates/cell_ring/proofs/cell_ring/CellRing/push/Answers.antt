@@ -18,13 +18,19 @@ returns c =
     let right = to_z w16 (of_z w16 cell.right) in
     let long = held v.left v.right v.marks c.args.self.now i.0 i.1 c.self.view_is in
     let room = ap (λ (r : Ring). r.room) c.self.view_is in
-    more_cells v.left v.right c.push_back.new.self c.push_back-2.new.self v.marks c.push.new.self (left ∷ []) (right ∷ []) (record { first = cell.first; title = cell.title } ∷ []) (cell ∷ [])
+    more_cells v.left v.right c.push_back.new.self c.push_all.new.self v.marks c.push.new.self (left ∷ []) (right ∷ []) (record { first = cell.first; title = cell.title } ∷ []) (cell ∷ [])
     c.args.self.now i.0 i.1 c.self.view_is
     (ap (λ x. record { left = x; right = right; first = cell.first; title = cell.title } ∷ []) (to_z-of_z w16 cell.left fits_left)
     ∙ ap (λ y. record { left = cell.left; right = y; first = cell.first; title = cell.title } ∷ []) (to_z-of_z w16 cell.right fits_right))
     (lane_more v.left c.push_back.new.self (left ∷ []) (omega (arith, c.requires, long, room, i.0, i.2)) c.push_back.ensures.items)
-    (lane_more v.right c.push_back-2.new.self (right ∷ []) (omega (arith, c.requires, long, room, i.1, i.3)) c.push_back-2.ensures.items)
+    c.push_all.ensures
     c.push.ensures
+
+pub push_all-requires : goal.push_all-requires
+push_all-requires c =
+    let v = c.self.inside in
+    let i = c.self.invariant in
+    omega (arith, c.requires, i.1, i.3, held v.left v.right v.marks c.args.self.now i.0 i.1 c.self.view_is, ap (λ (r : Ring). r.room) c.self.view_is)
 
 pub push-requires : goal.push-requires
 push-requires c =
@@ -43,7 +49,7 @@ invariant_of-self c =
     let long = held v.left v.right v.marks c.args.self.now i.0 i.1 c.self.view_is in
     let room = ap (λ (r : Ring). r.room) c.self.view_is in
     let left = lane_more v.left c.push_back.new.self lefts (omega (arith, c.requires, long, room, i.0, i.2)) c.push_back.ensures.items in
-    let right = lane_more v.right c.push_back-2.new.self rights (omega (arith, c.requires, long, room, i.1, i.3)) c.push_back-2.ensures.items in
+    let right = c.push_all.ensures in
     let mark = c.push.ensures in
     let long_left = ap (λ (b : Buffer ℤ). length b.items) left in
     let long_right = ap (λ (b : Buffer ℤ). length b.items) right in

@@ -12,6 +12,12 @@ pub push_all-requires : goal.push_all-requires
 push_all-requires c =
     let v = c.self.inside in
     let i = c.self.invariant in
+    omega (arith, c.requires.there, c.requires.same.0, c.requires.same.1, i.1, i.3, held v.left v.right v.marks c.args.self.now i.0 i.1 c.self.view_is, ap (λ (r : Ring). r.room) c.self.view_is)
+
+pub push_all-requires-2 : goal.push_all-requires-2
+push_all-requires-2 c =
+    let v = c.self.inside in
+    let i = c.self.invariant in
     omega (arith, c.requires.there, c.requires.same.0, held v.left v.right v.marks c.args.self.now i.0 i.1 c.self.view_is, ap (λ (r : Ring). r.room) c.self.view_is)
 
 pub returns : goal.returns
@@ -23,11 +29,11 @@ returns c =
     let marks = drop c.args.skip (marks_in c.args.runs.now) in
     let long = held v.left v.right v.marks c.args.self.now i.0 i.1 c.self.view_is in
     let room = ap (λ (r : Ring). r.room) c.self.view_is in
-    more_cells v.left v.right c.extend_from_slice.new.self c.extend_from_slice-2.new.self v.marks c.push_all.new.self
+    more_cells v.left v.right c.extend_from_slice.new.self c.push_all.new.self v.marks c.push_all-2.new.self
     lefts rights marks (cells_in lefts rights marks) c.args.self.now i.0 i.1 c.self.view_is refl
     (lane_more v.left c.extend_from_slice.new.self lefts (omega (arith, c.requires.there, c.requires.same.0, long, room, i.0, i.2)) c.extend_from_slice.ensures)
-    (lane_more v.right c.extend_from_slice-2.new.self rights (omega (arith, c.requires.there, c.requires.same.0, c.requires.same.1, long, room, i.1, i.3)) c.extend_from_slice-2.ensures)
     c.push_all.ensures
+    c.push_all-2.ensures
 
 pub invariant_of-self : goal.invariant_of-self
 invariant_of-self c =
@@ -39,8 +45,8 @@ invariant_of-self c =
     let long = held v.left v.right v.marks c.args.self.now i.0 i.1 c.self.view_is in
     let room = ap (λ (r : Ring). r.room) c.self.view_is in
     let left = lane_more v.left c.extend_from_slice.new.self lefts (omega (arith, c.requires.there, c.requires.same.0, long, room, i.0, i.2)) c.extend_from_slice.ensures in
-    let right = lane_more v.right c.extend_from_slice-2.new.self rights (omega (arith, c.requires.there, c.requires.same.0, c.requires.same.1, long, room, i.1, i.3)) c.extend_from_slice-2.ensures in
-    let mark = c.push_all.ensures in
+    let right = c.push_all.ensures in
+    let mark = c.push_all-2.ensures in
     let long_left = ap (λ (b : Buffer ℤ). length b.items) left in
     let long_right = ap (λ (b : Buffer ℤ). length b.items) right in
     let long_mark = ap (λ (b : Buffer CellMark). length b.items) mark in

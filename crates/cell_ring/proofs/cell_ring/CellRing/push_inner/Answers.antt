@@ -10,6 +10,12 @@ use Rattle.frame_core.specs.MarkRuns.{run_marks}
 use Rattle.frame_core.proofs.MarkRuns.{inner_marks, length-run}
 use Rattle.cell_ring.proofs.cell_ring.CellRing.push_inner.Goals as goal
 
+pub push_all-requires : goal.push_all-requires
+push_all-requires c =
+    let v = c.self.inside in
+    let i = c.self.invariant in
+    omega (arith, c.requires.there, c.requires.same, i.1, i.3, held v.left v.right v.marks c.args.self.now i.0 i.1 c.self.view_is, ap (λ (r : Ring). r.room) c.self.view_is)
+
 pub push-requires : goal.push-requires
 push-requires c =
     let v = c.self.inside in
@@ -24,11 +30,11 @@ returns c =
     let rights = c.args.right.now in
     let long = held v.left v.right v.marks c.args.self.now i.0 i.1 c.self.view_is in
     let room = ap (λ (r : Ring). r.room) c.self.view_is in
-    more_cells v.left v.right c.extend_from_slice.new.self c.extend_from_slice-2.new.self v.marks c.push.new.self
+    more_cells v.left v.right c.extend_from_slice.new.self c.push_all.new.self v.marks c.push.new.self
     lefts rights (run_marks false c.args.title (length lefts)) (inner_cells c.args.title lefts rights)
     c.args.self.now i.0 i.1 c.self.view_is (ap (λ ms. cells_in lefts rights ms) (inner_marks c.args.title (length lefts)) ∙ inner_in c.args.title lefts rights c.requires.same)
     (lane_more v.left c.extend_from_slice.new.self lefts (omega (arith, c.requires.there, long, room, i.0, i.2)) c.extend_from_slice.ensures)
-    (lane_more v.right c.extend_from_slice-2.new.self rights (omega (arith, c.requires.there, c.requires.same, long, room, i.1, i.3)) c.extend_from_slice-2.ensures)
+    c.push_all.ensures
     c.push.ensures
 
 pub invariant_of-self : goal.invariant_of-self
@@ -41,7 +47,7 @@ invariant_of-self c =
     let long = held v.left v.right v.marks c.args.self.now i.0 i.1 c.self.view_is in
     let room = ap (λ (r : Ring). r.room) c.self.view_is in
     let left = lane_more v.left c.extend_from_slice.new.self lefts (omega (arith, c.requires.there, long, room, i.0, i.2)) c.extend_from_slice.ensures in
-    let right = lane_more v.right c.extend_from_slice-2.new.self rights (omega (arith, c.requires.there, c.requires.same, long, room, i.1, i.3)) c.extend_from_slice-2.ensures in
+    let right = c.push_all.ensures in
     let mark = c.push.ensures in
     let long_left = ap (λ (b : Buffer ℤ). length b.items) left in
     let long_right = ap (λ (b : Buffer ℤ). length b.items) right in

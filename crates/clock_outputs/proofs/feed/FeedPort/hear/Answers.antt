@@ -1,46 +1,36 @@
-use Rattle.std.proofs.Common.{◌≤◌, ◌+◌, ◌∙◌, ◌∷◌, suc, Some, None, List, length, map, replicate, ap, arith, sym}
-use Rattle.std.specs.Simd.Lanes.{put_chunk}
-use Rattle.std.proofs.lemmas.List.{length-replicate, length-set}
-use Rattle.cell_ring.specs.Rings.{inner_cells}
-use Rattle.frame_core.specs.Slots.{Slot}
+use Rattle.std.proofs.Common.{◌≡◌, ◌∙◌, ◌++◌, ◌∷◌, [], suc, length, ap, sym, to_z, of_z, w16, FitsSigned, arith, rules}
+use Rattle.std.proofs.lemmas.Int.{to_z-of_z}
+use Rattle.std.proofs.lemmas.List.{length-append}
+use Rattle.frame_core.specs.declared.cell.Cell.{Cell}
+use Rattle.frame_core.specs.Frames.{Laid}
+use Rattle.clock_outputs.specs.Feeds.{fed}
 use Rattle.clock_outputs.specs.Segments.{segment_slots}
-use Rattle.clock_outputs.proofs.Pieces.{cells_long, set_then_put}
+use Rattle.clock_outputs.proofs.Fed.{fed_cells, fed_none}
 use Rattle.clock_outputs.proofs.feed.FeedPort.hear.Goals as goal
 
-pub hear_cells-requires-clause-there : goal.hear_cells-requires-clause-there
-hear_cells-requires-clause-there c =
-    let long = ap length c.set.ensures ∙ length-set c.args.self.now.frame c.args.at c.args.slot in
-    omega (arith, long, c.requires.there)
+pub lay-requires-2-clause-room : goal.lay-requires-2-clause-room
+lay-requires-2-clause-room c =
+    let cell = c.in-Some.cell in
+    let one = c.lay.ensures in
+    let more : Cell = record { left = to_z w16 (of_z w16 cell.left); right = to_z w16 (of_z w16 cell.right); first = cell.first; title = cell.title } in
+    let long = ap (λ (f : Laid). length f.cells) one ∙ length-append c.args.self.now.frame.cells (more ∷ []) in
+    omega (arith, long, ap (λ (f : Laid). f.room) one, c.requires.room)
 
-pub hear_gaps-requires : goal.hear_gaps-requires
-hear_gaps-requires c =
-    let long = ap length c.set.ensures ∙ length-set c.args.self.now.frame c.args.at c.args.slot in
-    omega (arith, long, c.requires.there)
-
-pub returns-in-Some : goal.returns-in-Some
-returns-in-Some c =
+pub returns-in_default : goal.returns-in_default
+returns-in_default c =
     let feed = c.args.self.now in
-    let left = c.args.left.now in
-    let right = c.args.right.now in
-    let more : List Slot = map Some (inner_cells c.in-Some.cell.title left right) in
-    let fits : c.args.at + suc (length more) ≤ length feed.frame = (let long = cells_long c.in-Some.cell.title left right c.requires.same in omega (arith, long, c.requires.there)) in
-    c.hear_cells.ensures
-    ∙ ap (λ (xs : List Slot). record { buffer = feed.buffer; node = feed.node; frame = xs })
-    (ap (λ xs. put_chunk (c.args.at + 1) xs more) c.set.ensures
-    ∙ set_then_put feed.frame more c.args.at c.args.slot fits
-    ∙ ap (λ (s : Slot). put_chunk c.args.at feed.frame (s ∷ more)) c.in-Some.is
-    ∙ sym (ap (λ s. put_chunk c.args.at feed.frame (segment_slots s (length left) left right)) c.in-Some.is))
+    fed_none feed (suc (length c.args.left.now))
+    ∙ sym (ap (λ s. fed feed (segment_slots s (length c.args.left.now) c.args.left.now c.args.right.now)) c.in_default.is)
 
-pub returns-in-None : goal.returns-in-None
-returns-in-None c =
+pub returns : goal.returns
+returns c =
     let feed = c.args.self.now in
-    let left = c.args.left.now in
-    let right = c.args.right.now in
-    let more : List Slot = replicate (length left) None in
-    let fits : c.args.at + suc (length more) ≤ length feed.frame = (let long = length-replicate {A = Slot} (length left) None in omega (arith, long, c.requires.there)) in
-    c.hear_gaps.ensures
-    ∙ ap (λ (xs : List Slot). record { buffer = feed.buffer; node = feed.node; frame = xs })
-    (ap (λ xs. put_chunk (c.args.at + 1) xs more) c.set.ensures
-    ∙ set_then_put feed.frame more c.args.at c.args.slot fits
-    ∙ ap (λ (s : Slot). put_chunk c.args.at feed.frame (s ∷ more)) c.in-None.is
-    ∙ sym (ap (λ s. put_chunk c.args.at feed.frame (segment_slots s (length left) left right)) c.in-None.is))
+    let cell = c.in-Some.cell in
+    let fits_left : FitsSigned w16 cell.left = search rules in
+    let fits_right : FitsSigned w16 cell.right = search rules in
+    let one : c.lay.new.self ≡ record { cells = feed.frame.cells ++ cell ∷ []; room = feed.frame.room } =
+    c.lay.ensures
+    ∙ ap (λ l. record { cells = feed.frame.cells ++ record { left = l; right = to_z w16 (of_z w16 cell.right); first = cell.first; title = cell.title } ∷ []; room = feed.frame.room }) (to_z-of_z w16 cell.left fits_left)
+    ∙ ap (λ r. record { cells = feed.frame.cells ++ record { left = cell.left; right = r; first = cell.first; title = cell.title } ∷ []; room = feed.frame.room }) (to_z-of_z w16 cell.right fits_right) in
+    fed_cells feed cell c.args.left.now c.args.right.now c.lay.new.self c.lay-2.new.self c.requires.same one c.lay-2.ensures
+    ∙ sym (ap (λ s. fed feed (segment_slots s (length c.args.left.now) c.args.left.now c.args.right.now)) c.in-Some.is)
