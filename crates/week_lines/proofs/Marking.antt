@@ -38,13 +38,6 @@ pub record AreMarked (nodes : List Node) (marks : List Bool) (from : ℕ) : Type
   pub closed : (n m : ℕ) (node : Node) → from ≤ n → slice_get nodes n ≡ Some node → (is_crossfade node.op || marked marks n) ≡ true → plays m node ≡ true
       → marked marks m ≡ true
 
-pub none_marked : (nodes : List Node) (marks : List Bool) → length marks ≡ length nodes → ((n : ℕ) → marked marks n ≡ false) → AreMarked nodes marks (length nodes)
-none_marked nodes marks size none = record {
-  size = size;
-  sound = λ n is. absurd (true≢false (sym is ∙ none n));
-  closed = λ n m node from here over is. absurd (let within = slice_get_within nodes n node here in omega (arith, from, within));
-}
-
 -- a node that is none and lies below none
 pub marked_none : (nodes : List Node) (marks : List Bool) (n from : ℕ) (node : Node) → from ≡ n + 1 → slice_get nodes n ≡ Some node → AreMarked nodes marks from
     → (is_crossfade node.op || marked marks n) ≡ false → AreMarked nodes marks n

@@ -1,6 +1,6 @@
 -- The nodes that play a source, and the children behind one.
-use Rattle.std.proofs.Common.{◌≡◌, ◌<◌, ◌≤◌, ◌+◌, ◌∙◌, ℕ, Bool, true, false, cond, Option, Some, List, [], ◌∷◌, ◌++◌, take, drop, length, get_or, refl, ap, sym, append-nil}
-use Rattle.std.proofs.lemmas.Bool.{eq-eqb, ne_eqb, true≢false}
+use Rattle.std.proofs.Common.{◌≡◌, ◌<◌, ◌≤◌, ◌+◌, ◌∙◌, ℕ, Bool, true, false, cond, Option, List, [], ◌∷◌, ◌++◌, take, drop, length, get_or, refl, ap, sym, append-nil}
+use Rattle.std.proofs.lemmas.Bool.{true≢false}
 use Rattle.std.proofs.lemmas.List.{at_drop_more, take-append-drop, take_all}
 use Rattle.std.proofs.lemmas.List.Elements.{filter-append, filter_more}
 use Rattle.plan_core.specs.declared.node.Node.{Node}
@@ -66,18 +66,6 @@ played_all nodes number i instead false end before =
 abbrev pub behind : (number : ℕ) → (passed : Bool) → List ℕ → Option ℕ
 behind number false children = child_behind number children
 behind number true children = first_other number children
-
-pub behind_here : (number : ℕ) (passed : Bool) (child : ℕ) (rest : List ℕ) → child ≡ number → behind number passed (child ∷ rest) ≡ first_other number rest
-behind_here number false child rest is = ap (λ (b : Bool). cond b (first_other number rest) (child_behind number rest)) (eq-eqb child number is)
-behind_here number true child rest is = ap (λ (b : Bool). cond b (first_other number rest) (Some child)) (eq-eqb child number is)
-
-pub behind_before : (number : ℕ) (passed : Bool) (child : ℕ) (rest : List ℕ) → (child ≡ number → ⊥) → passed ≡ false → behind number passed (child ∷ rest) ≡ child_behind number rest
-behind_before number true child rest other first = absurd (true≢false first)
-behind_before number false child rest other first = ap (λ (b : Bool). cond b (first_other number rest) (child_behind number rest)) (ne_eqb child number other)
-
-pub behind_found : (number : ℕ) (passed : Bool) (child : ℕ) (rest : List ℕ) → (child ≡ number → ⊥) → passed ≡ true → behind number passed (child ∷ rest) ≡ Some child
-behind_found number false child rest other first = absurd (true≢false (sym first))
-behind_found number true child rest other first = ap (λ (b : Bool). cond b (first_other number rest) (Some child)) (ne_eqb child number other)
 
 -- one child on
 pub rest_at : (number : ℕ) (passed : Bool) (children : List ℕ) (i child : ℕ) → i < length children → child ≡ get_or children i child

@@ -1,8 +1,7 @@
 -- What is told of switches, one by one.
-use Rattle.std.proofs.Common.{◌≡◌, ◌≢◌, ◌↔◌, ◌<◌, ◌+◌, ◌∙◌, ℕ, suc, Bool, true, false, ◌||◌, Option, Some, List, [], ◌∷◌, ◌++◌, map, length, get_or, arith, refl, ap, sym, inl, inr, append-nil, length-append}
+use Rattle.std.proofs.Common.{◌≡◌, ◌↔◌, ◌<◌, ◌+◌, ◌∙◌, ℕ, suc, Bool, true, ◌||◌, Some, List, [], ◌∷◌, ◌++◌, map, length, get_or, arith, refl, ap, sym, inl, inr, append-nil, length-append}
 use Rattle.std.specs.Prelude.{slice_get}
 use Rattle.std.specs.List.{concat}
-use Rattle.std.specs.Option.{option_map_or}
 use Rattle.std.proofs.Math.ListN.{get_or-append}
 use Rattle.std.proofs.Math.Seq.{get_or-append_seam}
 use Rattle.std.proofs.lemmas.Bool.{cases_eq}
@@ -10,7 +9,6 @@ use Rattle.std.proofs.lemmas.List.Folds.{concat-append}
 use Rattle.std.proofs.lemmas.List.{length-map}
 use Rattle.std.proofs.lemmas.Option.{slice_get_within}
 use Rattle.plan_core.specs.declared.node.Node.{Node}
-use Rattle.plan_core.specs.declared.node.Op.{Op}
 use Rattle.plan_core.specs.declared.node.Op.TheVariants.{Switch}
 use Rattle.plan_core.specs.declared.plan.Plan.{Plan}
 use Rattle.plan_core.specs.Plans.{IsWellFormed}
@@ -20,7 +18,7 @@ use Rattle.time_pred.specs.declared.shared.SharedPred.{SharedPred}
 use Rattle.week_plan.specs.Spans.{AreSpansOf, IsDaily}
 use Rattle.week_plan.specs.Tables.{IsTableOf, is_told}
 use Rattle.week_plan.specs.declared.span.Span.{Span}
-use Rattle.week_lines.specs.Weeks.{AreLines, IsOfSource, is_silent, is_silent_by, some_silent}
+use Rattle.week_lines.specs.Weeks.{AreLines, IsOfSource, is_silent, some_silent}
 
 -- what is told of each second of the week
 pub spans_same : (test other : ℕ → Bool) (spans : List Span) → ((at : ℕ) → at < 604800 → test at ≡ other at) → AreSpansOf test spans → AreSpansOf other spans
@@ -89,19 +87,6 @@ more_silent plan k old new before after =
     let next : suc k ≡ k + 1 = omega arith in
     table_same (λ at. is_told old at || is_silent plan k at) (some_silent plan (k + 1)) new
     (λ at low. ap (λ (b : Bool). b || is_silent plan k at) (before.same at low) ∙ ap (λ (n : ℕ). some_silent plan n at) next) after
-
--- no switch
-pub no_switch : (plan : Plan) (mark : ℕ → Bool) (number : ℕ) (op : Op) (children : List ℕ) → ((sensitive : Bool) (preds : List Predicate) → op ≢ Switch sensitive preds)
-    → IsOfSource plan mark number op children []
-no_switch plan mark number (Switch sensitive preds) children other = absurd (other sensitive preds refl)
-no_switch plan mark number op children other = refl
-
-pub not_silent : (plan : Plan) (number at : ℕ) (op : Op) → ((sensitive : Bool) (preds : List Predicate) → op ≢ Switch sensitive preds) → is_silent_by plan number op at ≡ false
-not_silent plan number at (Switch sensitive preds) other = absurd (other sensitive preds refl)
-not_silent plan number at op other = refl
-
-pub silent_of : (plan : Plan) (number at : ℕ) (node : Node) → slice_get plan.nodes number ≡ Some node → is_silent plan number at ≡ is_silent_by plan number node.op at
-silent_of plan number at node here = ap (λ (found : Option Node). option_map_or (λ (n : Node). is_silent_by plan number n.op at) found false) here
 
 -- a switch has as many children as predicates
 pub switch_size : (plan : Plan) (number : ℕ) (node : Node) (sensitive : Bool) (preds : List Predicate) (own : List SharedPred) → IsWellFormed plan → slice_get plan.nodes number ≡ Some node

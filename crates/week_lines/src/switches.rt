@@ -3,7 +3,7 @@ ghost use Rattle.std.specs.Prelude.{◌≡◌, ◌↔◌, ◌++◌, [], ◌&&◌
 ghost use Rattle.fallible_infer.specs.Infallible.{mark_at};
 ghost use Rattle.plan_core.specs.Plans.{IsWellFormed};
 ghost use Rattle.time_pred.specs.View.{view_shared};
-ghost use Rattle.week_plan.specs.Cases.{AreFates};
+ghost use Rattle.week_plan.specs.Looked.{IsLooked};
 ghost use Rattle.week_plan.specs.Spans.{AreSpansOf, IsDaily, some_case_holds};
 ghost use Rattle.week_plan.specs.Tables.{IsTable, IsTableOf, is_told};
 ghost use Rattle.week_plan.specs.declared.span.Span.{Span};
@@ -18,7 +18,7 @@ use liq_base::Memory;
 use plan_core::{Node, Op, Plan};
 use std::alloc::Global;
 use time_pred::SharedPred;
-use week_plan::{Seen, Span, Way, is_daily, join, look, spans_of};
+use week_plan::{Looked, Seen, Span, Way, is_daily, join, look_again, spans_of, unlooked};
 
 /// A switch: its number, what plays in its place, whether a track that runs ends first, and whether it follows the
 /// clock of a crossfade.
@@ -46,6 +46,29 @@ pub fn push_switches(
     ensures lines { OnOk result (AreLines plan.now (mark_at marks.now) into.new.items) }
     ensures silent { OnOk result (IsTableOf (some_silent plan.now (length plan.now.nodes)) silent.new) }
 {
+    let mut looked = unlooked(alloc)?;
+    push_each(alloc, into, silent, plan, marks, below, &mut looked)?;
+    Ok(())
+}
+
+// The same; what was told of the switch before is kept, since the next one may have the same cases.
+fn push_each<'a>(
+    alloc: Global,
+    into: &mut Vec<u8>,
+    silent: &mut [u64],
+    plan: &'a Plan,
+    marks: &[bool],
+    below: &[bool],
+    looked: &mut Looked<'a>,
+) -> Result<(), Memory>
+    requires plan { IsWellFormed plan.now }
+    requires empty { into.old.items ≡ [] }
+    requires none { IsTableOf (λ at. false) silent.old }
+    requires below { (number : ℕ) → (get_or below.now number false ≡ true) ↔ IsBelow plan.now.nodes number }
+    requires looked { IsLooked looked.old }
+    ensures lines { OnOk result (AreLines plan.now (mark_at marks.now) into.new.items) }
+    ensures silent { OnOk result (IsTableOf (some_silent plan.now (length plan.now.nodes)) silent.new) }
+{
     let nodes = plan.nodes.as_slice();
     for number in 0..nodes.len() {
         push_node(
@@ -57,30 +80,34 @@ pub fn push_switches(
             marks,
             below,
             number,
+            looked,
         )?;
     }
     Ok(())
 }
 
-fn push_node(
+fn push_node<'a>(
     alloc: Global,
     into: &mut Vec<u8>,
     silent: &mut [u64],
     plan: &Plan,
-    node: &Node,
+    node: &'a Node,
     marks: &[bool],
     below: &[bool],
     number: usize,
+    looked: &mut Looked<'a>,
 ) -> Result<(), Memory>
     requires plan { IsWellFormed plan.now }
     requires node { slice_get plan.now.nodes number ≡ Some node.now }
     requires table { IsTable silent.old }
     requires below { (get_or below.now number false ≡ true) ↔ IsBelow plan.now.nodes number }
+    requires looked { IsLooked looked.old }
     ensures text { OnOk result ((own : List ℕ)
         × IsOfSource plan.now (mark_at marks.now) number node.now.op node.now.children own
         × (into.new.items ≡ into.old.items ++ own)) }
     ensures silent { OnOk result
         (IsTableOf (λ at. is_told silent.old at || is_silent plan.now number at) silent.new) }
+    ensures looked { OnOk result (IsLooked looked.new) }
 {
     match &node.op {
         Op::Switch { sensitive, preds } => {
@@ -98,6 +125,7 @@ fn push_node(
                 preds.as_slice(),
                 node.children.as_slice(),
                 marks,
+                looked,
             )
         }
         _ => Ok(()),
@@ -105,27 +133,30 @@ fn push_node(
 }
 
 // Appends what is told of a switch with these cases.
-fn push_looked(
+fn push_looked<'a>(
     alloc: Global,
     into: &mut Vec<u8>,
     silent: &mut [u64],
     switch: Switch,
-    preds: &[SharedPred],
+    preds: &'a [SharedPred],
     children: &[u32],
     marks: &[bool],
+    looked: &mut Looked<'a>,
 ) -> Result<(), Memory>
     requires size { length children.now ≡ length preds.now }
     requires table { IsTable silent.old }
+    requires looked { IsLooked looked.old }
     ensures text { OnOk result ((own : List ℕ)
         × IsSwitchText switch.number switch.instead switch.sensitive switch.below (map view_shared preds.now)
         (map (mark_at marks.now) children.now) own
         × (into.new.items ≡ into.old.items ++ own)) }
     ensures silent { OnOk result (IsTableOf (λ at. is_told silent.old at
         || (is_silence switch.instead && not (some_case_holds (map view_shared preds.now) at))) silent.new) }
+    ensures looked { OnOk result (IsLooked looked.new) }
 {
     let sure = sure_of(alloc, marks, children)?;
-    let seen = look(alloc, preds, &sure)?;
-    push_seen(alloc, into, silent, switch, &seen)?;
+    look_again(alloc, looked, preds, sure)?;
+    push_seen(alloc, into, silent, switch, &looked.seen)?;
     Ok(())
 }
 

@@ -5,13 +5,13 @@ use Rattle.std.specs.List.{list_any, zip}
 use Rattle.std.proofs.Math.ListN.{get_or-append}
 use Rattle.std.proofs.Math.Seq.{get_or-append_seam}
 use Rattle.std.proofs.lemmas.Bool.{cases_eq}
-use Rattle.std.proofs.lemmas.List.{get_or-map, take_all}
+use Rattle.std.proofs.lemmas.List.{get_or-map, get_or_default, take_all}
 use Rattle.std.proofs.lemmas.List.Folds.{list_any_more}
 use Rattle.std.proofs.lemmas.Slice.Zip.{get_or-zip}
 use Rattle.time_pred.specs.Predicates.{Predicate, holds}
 use Rattle.time_pred.specs.View.{view_shared}
 use Rattle.time_pred.specs.declared.shared.SharedPred.{SharedPred}
-use Rattle.week_plan.specs.Cases.{AreFates, IsFate, IsFateBy, IsNever, IsOnce, first_holds, holds_surely, is_taken, may_choose}
+use Rattle.week_plan.specs.Cases.{AreFates, IsFate, IsFateBy, IsKept, IsNever, first_holds, holds_surely, is_taken, may_choose}
 use Rattle.week_plan.specs.Spans.{some_case_holds}
 use Rattle.week_plan.specs.Tables.{IsTableOf, is_told}
 use Rattle.week_plan.specs.declared.cases.Fate.{Fate}
@@ -148,14 +148,6 @@ all_fates preds sure k fates end size each = record {
   each = λ j low. each j (let s = size_viewed preds in omega (arith, low, s, end));
 }
 
--- what two tables meet at, or nowhere
-pub once_both : (test : ℕ → Bool) → (at : ℕ) × (at < 604800) × ((test at && test at) ≡ true) → IsOnce test
-once_both test (at, low, both) = (at, low, by (test at) both)
-  where
-    by : (b : Bool) → (b && b) ≡ true → b ≡ true
-    by true is = refl
-    by false is = is
-
 pub never_both : (test : ℕ → Bool) → ((at : ℕ) → at < 604800 → (test at && test at) ≡ false) → IsNever test
 never_both test none = λ at from to. by (test at) (none at to)
   where
@@ -163,11 +155,14 @@ never_both test none = λ at from to. by (test at) (none at to)
     by true is = is
     by false is = refl
 
-pub without_sure : (a b : Bool) → (a && not b) ≡ (a && not (b && true))
-without_sure a true = refl
-without_sure a false = refl
+-- what is told of each second of the week by the table of a case
+pub table_as : (test other : ℕ → Bool) (words : List ℕ) → ((at : ℕ) → at < 604800 → test at ≡ other at) → IsTableOf test words → IsTableOf other words
+table_as test other words same of = record { table = of.table; same = λ at low. of.same at low ∙ same at low }
 
-pub without_none : (a b : Bool) → a ≡ (a && not (b && false))
-without_none true true = refl
-without_none true false = refl
-without_none false b = refl
+-- the table of a case is kept for the next one
+pub kept_next : (preds : List SharedPred) (k : ℕ) (pred : SharedPred) (table : List ℕ) → k < length preds → pred ≡ get_or preds k pred
+    → IsTableOf (holds (view_shared pred)) table → IsKept preds (k + 1) table
+kept_next preds k pred table here is of = λ j before next at.
+    let same : j ≡ k = omega (arith, next) in
+    let one : pred ≡ before = is ∙ get_or_default preds k pred before here ∙ ap (λ (n : ℕ). get_or preds n before) (sym same) ∙ sym at in
+    table_as (holds (view_shared pred)) (holds (view_shared before)) table (λ x low. ap (λ (p : SharedPred). holds (view_shared p) x) one) of

@@ -1,5 +1,5 @@
 -- How the table of a mark or of an interval is filled.
-use Rattle.std.proofs.Common.{◌≡◌, ◌<◌, ◌≤◌, ◌*◌, ◌%◌, ◌∙◌, ℕ, Bool, true, false, ◌&&◌, ◌||◌, max, List, arith, ap, sym, inl, inr}
+use Rattle.std.proofs.Common.{◌≡◌, ◌<◌, ◌≤◌, ◌*◌, ◌%◌, ◌∙◌, ℕ, Bool, true, false, ◌&&◌, ◌||◌, List, arith, ap, sym, inl, inr}
 use Rattle.std.specs.Prelude.{pos, ◌-ℤ◌, unsigned_abs, nat_le, nat_lt}
 use Rattle.std.specs.Int.{int_rem_euclid}
 use Rattle.std.proofs.Math.Bool.{or-false}
@@ -7,7 +7,7 @@ use Rattle.std.proofs.Math.Nat.{mod-mod}
 use Rattle.std.proofs.lemmas.Bool.{cases_lt}
 use Rattle.std.proofs.lemmas.Bool.Decides.{nat_tests}
 use Rattle.fixed_text.specs.declared.time_mark.TimeMark.{TimeMark}
-use Rattle.time_pred.specs.Marks.{finest_of, is_at, is_between, is_in_interval, period_of, value_of}
+use Rattle.time_pred.specs.Marks.{finest_of, is_at, period_of, value_of}
 use Rattle.week_plan.specs.Spans.{IsFor}
 use Rattle.week_plan.specs.Tables.{is_told}
 
@@ -16,13 +16,6 @@ pub mark_back : (mark : TimeMark) (minutes : ℕ) → 60 * minutes ≡ period_of
 mark_back mark minutes is at =
     ap (λ (n : ℕ). is_at mark (at % n)) is
     ∙ ap (λ (n : ℕ). nat_lt (unsigned_abs (int_rem_euclid (pos n -ℤ pos (value_of mark)) (pos (period_of mark)))) (finest_of mark)) (mod-mod at (period_of mark))
-
-pub interval_back : (from to : TimeMark) (one other minutes : ℕ) → 60 * one ≡ period_of from → 60 * other ≡ period_of to → minutes ≡ max one other
-    → (at : ℕ) → is_between from to (at % (60 * minutes)) ≡ is_between from to at
-interval_back from to one other minutes first second is at =
-    let period : 60 * minutes ≡ max (period_of from) (period_of to) = omega (arith, first, second, is) in
-    ap (λ (n : ℕ). is_between from to (at % n)) period
-    ∙ ap (is_in_interval (value_of from) (value_of to)) (mod-mod at (max (period_of from) (period_of to)))
 
 -- the seconds before this one are told where the test holds, and none is from there on
 pub record IsFilled (test : ℕ → Bool) (words : List ℕ) (at : ℕ) : Type 0 where

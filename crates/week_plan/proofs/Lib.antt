@@ -10,3 +10,4 @@ mod Counts
 mod Fillings
 mod Alike
 mod Parts
+mod Sames

@@ -5,7 +5,6 @@ use Rattle.std.specs.Int.{bit_at, trailing_zeros}
 use Rattle.std.proofs.Math.Arith.{mod-mul}
 use Rattle.std.proofs.Math.ListN.{set}
 use Rattle.std.proofs.Math.Nat.{add-mod_left, pow-le-pow_right}
-use Rattle.std.proofs.Math.Bool.{or-false}
 use Rattle.std.proofs.lemmas.Bool.{cases_eq, cases_lt}
 use Rattle.std.proofs.lemmas.Bool.Decides.{nat_tests}
 use Rattle.std.proofs.lemmas.Grind.{get_or-set_at}
@@ -117,12 +116,6 @@ span_more old words from to k word here done rest is at low = elim (cases_lt at 
         ∙ ap (λ (b : Bool). is_set (get_or old k 0) s || b) (set_span (max from (k * 60) - k * 60) (min to (k * 60 + 60) - k * 60) s ∙ lies_in_minute from to k s short)
         ∙ ap (λ (b : Bool). b || lies from to (60 * k + s)) (sym (second_of old k s short))
         ∙ ap (λ (n : ℕ). is_told old n || lies from to n) (sym same)
-
-pub nothing_behind : (old words : List ℕ) (from to k at : ℕ) → to ≤ 60 * k → 60 * k ≤ at
-    → ((j : ℕ) → k ≤ j → get_or words j 0 ≡ get_or old j 0) → is_told words at ≡ (is_told old at || lies from to at)
-nothing_behind old words from to k at end behind rest =
-    ap (λ (n : ℕ). is_set n (at % 60)) (rest (at / 60) (omega (arith, behind)))
-    ∙ (let none : lies from to at ≡ false = grind (arith, nat_tests, end, behind) in let is : is_told old at ≡ (is_told old at || lies from to at) = sym (ap (λ (b : Bool). is_told old at || b) none ∙ or-false (is_told old at)) in is)
 
 -- one minute more is repeated
 pub repeated_more : (old words : List ℕ) (minutes k : ℕ) → k < length words → minutes ≤ k → 0 < minutes

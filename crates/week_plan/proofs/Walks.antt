@@ -101,21 +101,6 @@ passed test spans since at next w later within told =
       below = All-weaker (λ r. r.to ≤ at) (λ r. r.to < next) (λ r end. omega (arith, end, later)) (with_span spans since at) s.below;
     }
 
--- it is told from one second up to another
-pub went_on : (test : ℕ → Bool) (spans : List Span) (since at next : ℕ) → IsWalked test spans since at → at < next → next ≤ 604800 → IsFor test at next true
-    → IsWalked test spans since next
-went_on test spans since at next w later within told = record {
-  order = omega (arith, later, w.order);
-  within = within;
-  exact = w.exact;
-  told = λ x first last. elim (cases_lt x at) [
-    | inl before ↦ w.told x first before
-    | inr behind ↦ told x behind last
-  ];
-  apart = w.apart;
-  below = w.below;
-}
-
 -- at the end of the week
 pub finished : (test : ℕ → Bool) (spans : List Span) (since at : ℕ) → IsWalked test spans since at → 604800 ≤ at → AreSpansOf test (with_span spans since 604800)
 finished test spans since at w end =

@@ -1,10 +1,13 @@
 -- Which cases of a switch may be chosen, and what becomes of each.
-use Rattle.std.specs.Prelude.{◌≡◌, ◌<◌, ℕ, Bool, true, false, not, ◌&&◌, List, [], ◌∷◌, take, drop, length, get_or}
+use Rattle.std.specs.Prelude.{◌≡◌, ◌<◌, ◌+◌, ℕ, Bool, true, false, not, ◌&&◌, List, [], ◌∷◌, take, drop, length, get_or}
 use Rattle.std.specs.List.{list_any, zip}
 use Rattle.time_pred.specs.Predicates.{Predicate, holds}
+use Rattle.time_pred.specs.View.{view_shared}
+use Rattle.time_pred.specs.declared.shared.SharedPred.{SharedPred}
 use Rattle.week_plan.specs.declared.cases.Fate.{Fate}
 use Rattle.week_plan.specs.declared.cases.Fate.TheVariants.{Chosen, Hidden, Never}
 use Rattle.week_plan.specs.Spans.{IsFor}
+use Rattle.week_plan.specs.Tables.{IsTableOf}
 
 -- a case holds whose source never falls silent
 abbrev pub holds_surely : (at : ℕ) → Predicate × Bool → Bool
@@ -46,3 +49,8 @@ IsFate preds sure case fate = IsFateBy (first_holds (drop case preds)) (may_choo
 pub record AreFates (preds : List Predicate) (sure : List Bool) (fates : List Fate) : Type 0 where
   pub size : length fates ≡ length preds
   pub each : (case : ℕ) → case < length preds → IsFate preds sure case (get_or fates case Chosen)
+
+-- the table of the case before this one is kept
+abbrev pub IsKept : List SharedPred → (case : ℕ) → (table : List ℕ) → Type 0
+IsKept preds case table = (k : ℕ) (pred : SharedPred) → case ≡ k + 1 → pred ≡ get_or preds k pred
+    → IsTableOf (holds (view_shared pred)) table

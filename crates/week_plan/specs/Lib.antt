@@ -3,3 +3,4 @@ pub mod Tables
 pub mod Cases
 pub mod Texts
 pub mod Listing
+pub mod Looked

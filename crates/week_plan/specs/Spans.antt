@@ -1,5 +1,5 @@
 -- Spans of the week, in seconds since Monday at 00:00:00, and the holes of a switch.
-use Rattle.std.specs.Prelude.{◌≡◌, ◌<◌, ◌≤◌, ◌⊎◌, ℕ, zero, suc, ◌+◌, ⊤, Bool, true, false, not, ◌&&◌, nat_lt, nat_le, if◌then◌else◌, List, [], ◌∷◌, ◌++◌, All}
+use Rattle.std.specs.Prelude.{◌≡◌, ◌<◌, ◌≤◌, ℕ, suc, ◌+◌, ⊤, Bool, not, ◌&&◌, nat_lt, nat_le, if◌then◌else◌, List, [], ◌∷◌, ◌++◌, All}
 use Rattle.std.specs.List.{list_any}
 use Rattle.time_pred.specs.Predicates.{Predicate, holds}
 use Rattle.week_plan.specs.declared.span.Span.{Span}
@@ -42,23 +42,3 @@ with_span spans from to = if nat_lt from to then spans ++ record { from = from; 
 -- each day is told the same of as the one before
 abbrev pub IsDaily : (ℕ → Bool) → Type 0
 IsDaily test = (at : ℕ) → at + 86400 < 604800 → test (at + 86400) ≡ test at
-
--- a second is reached from the beginning of the week in so many steps, over each of which what is told of a second
--- stays
-abbrev pub IsReached : (ℕ → Bool) → (steps at : ℕ) → Type 0
-IsReached test zero at = at ≡ 0
-IsReached test (suc steps) at = (from : ℕ) × IsReached test steps from × (from < at) × (at ≤ 604800)
-    × IsFor test from at (test from)
-
--- so many steps lead through the week, unless they are the most
-pub record AreSteps (test : ℕ → Bool) (steps most : ℕ) : Type 0 where
-  pub at : ℕ
-  pub reached : IsReached test steps at
-  pub all : steps < most → at ≡ 604800
-
--- so many steps lead to the first second of which it is told, or through the week, unless they are the most
-pub record AreStepsTo (test : ℕ → Bool) (steps most : ℕ) : Type 0 where
-  pub at : ℕ
-  pub reached : IsReached test steps at
-  pub before : IsFor test 0 at false
-  pub there : steps < most → (at ≡ 604800) ⊎ (test at ≡ true)

@@ -2,11 +2,12 @@
 ghost use Rattle.std.specs.Prelude.{◌≡◌, ◌<◌, ℕ, ◌&&◌, [], true, IfOk, OnOk, length, map, not};
 ghost use Rattle.time_pred.specs.Predicates.{holds};
 ghost use Rattle.time_pred.specs.View.{view_shared};
-ghost use Rattle.week_plan.specs.Cases.{AreFates, IsFateBy};
+ghost use Rattle.week_plan.specs.Cases.{AreFates, IsFateBy, IsKept};
 ghost use Rattle.week_plan.specs.Spans.{some_case_holds};
 ghost use Rattle.week_plan.specs.Tables.{IsTable, IsTableOf, is_told};
 
 use crate::preds::table_of;
+use crate::same::same_pred;
 use crate::table::{Way, filled, join, meet};
 use liq_base::Memory;
 use std::alloc::Global;
@@ -80,36 +81,69 @@ fn push_fates(
     ensures holes { OnOk result (IsTableOf (λ at. not (some_case_holds (map view_shared preds.now) at)) holes.new) }
     ensures fates { OnOk result (AreFates (map view_shared preds.now) sure.now into.new.items) }
 {
+    let mut kept = filled(alloc, false)?;
+    push_each_fate(alloc, into, holes, free, preds, sure, &mut kept)?;
+    Ok(())
+}
+
+// The same, with room for the table of a case, which is kept for the next one.
+fn push_each_fate(
+    alloc: Global,
+    into: &mut Vec<Fate>,
+    holes: &mut [u64],
+    free: &mut [u64],
+    preds: &[SharedPred],
+    sure: &[bool],
+    kept: &mut Vec<u64>,
+) -> Result<(), Memory>
+    requires size { length sure.now ≡ length preds.now }
+    requires none { into.old.items ≡ [] }
+    requires holes { IsTableOf (λ at. true) holes.old }
+    requires free { IsTableOf (λ at. true) free.old }
+    ensures holes { OnOk result (IsTableOf (λ at. not (some_case_holds (map view_shared preds.now) at)) holes.new) }
+    ensures fates { OnOk result (AreFates (map view_shared preds.now) sure.now into.new.items) }
+{
     for (k, pred) in preds.iter().enumerate() {
-        let fate = take_case(alloc, holes, free, pred, sure[k])?;
+        keep_table(alloc, kept, preds, k, pred)?;
+        let fate = take_case(holes, free, kept, sure[k]);
         into.push(fate)?;
     }
     Ok(())
 }
 
-// What becomes of a case that may be chosen at the seconds that are free. Those at which it holds are taken from a
-// table, and if its source never falls silent, from the free ones.
-fn take_case(
+// Makes the table of a case, unless it is that of the case before it, which is kept.
+fn keep_table(
     alloc: Global,
-    holes: &mut [u64],
-    free: &mut [u64],
+    kept: &mut Vec<u64>,
+    preds: &[SharedPred],
+    k: usize,
     pred: &SharedPred,
-    sure: bool,
-) -> Result<Fate, Memory>
+) -> Result<(), Memory>
+    requires here { k < length preds.now }
+    requires kept { IsKept preds.now k kept.old.items }
+    ensures { OnOk result (IsTableOf (holds (view_shared pred.now)) kept.new.items) }
+{
+    if k > 0 && same_pred(&preds[k - 1], pred) {
+        return Ok(());
+    }
+    *kept = table_of(alloc, pred.as_pred())?;
+    Ok(())
+}
+
+// What becomes of a case that holds at the seconds of a table, and may be chosen at those that are free. They are taken
+// from the holes, and if its source never falls silent, from the free ones.
+fn take_case(holes: &mut [u64], free: &mut [u64], table: &[u64], sure: bool) -> Fate
     requires holes { IsTable holes.old }
     requires free { IsTable free.old }
-    ensures fate { IfOk result (IsFateBy (holds (view_shared pred.now))
-        (λ at. holds (view_shared pred.now) at && is_told free.old at)) }
-    ensures holes { OnOk result
-        (IsTableOf (λ at. is_told holes.old at && not (holds (view_shared pred.now) at)) holes.new) }
-    ensures free { OnOk result
-        (IsTableOf (λ at. is_told free.old at && not (holds (view_shared pred.now) at && sure)) free.new) }
+    requires table { IsTable table.now }
+    ensures fate { IsFateBy (is_told table.now) (λ at. is_told table.now at && is_told free.old at) result }
+    ensures holes { IsTableOf (λ at. is_told holes.old at && not (is_told table.now at)) holes.new }
+    ensures free { IsTableOf (λ at. is_told free.old at && not (is_told table.now at && sure)) free.new }
 {
-    let table = table_of(alloc, pred.as_pred())?;
-    let fate = fate_of(&table, free);
-    join(holes, &table, Way::Without);
-    take_if(free, &table, sure);
-    Ok(fate)
+    let fate = fate_of(table, free);
+    join(holes, table, Way::Without);
+    take_if(free, table, sure);
+    fate
 }
 
 // Takes the seconds of a table from another one, if its source never falls silent.

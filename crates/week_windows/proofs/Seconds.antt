@@ -149,3 +149,8 @@ same_spans test other at (suc count) same =
 -- of what is told alike of each second of the week the spans are the same
 pub same_week : (test other : ℕ → Bool) → ((at : ℕ) → at < 604800 → test at ≡ other at) → spans_from test 0 604800 ≡ spans_from other 0 604800
 same_week test other same = same_spans test other 0 604800 (λ x first last. same x last)
+
+-- of nothing there are no spans
+pub none_told : (at count : ℕ) → spans_from (λ x. false) at count ≡ []
+none_told at zero = none_left (λ x. false) at
+none_told at (suc count) = one_more (λ x. false) at count ∙ none_told (at + 1) count

@@ -1,5 +1,6 @@
 -- The windows of the cases of a switch: for how long each of them is the first that holds.
 use Rattle.std.specs.Prelude.{ℕ, zero, suc, ◌+◌, ◌-◌, min, max, Bool, not, ◌&&◌, List, [], ◌∷◌, length, map, nat_eq, if◌then◌else◌}
+use Rattle.std.specs.Global.{Vec}
 use Rattle.std.specs.List.{list_any}
 use Rattle.time_pred.specs.Predicates.{Predicate, holds}
 use Rattle.week_plan.specs.Spans.{some_case_holds}
@@ -61,3 +62,16 @@ is_first earlier pred at = holds pred at && not (some_case_holds earlier at)
 abbrev pub case_windows : (earlier : List Predicate) → List Predicate → List Windows
 case_windows earlier [] = []
 case_windows earlier (pred ∷ preds) = windows_of (is_first earlier pred) ∷ case_windows (pred ∷ earlier) preds
+
+-- the spans of each of these cases, which stand behind these earlier ones
+abbrev pub case_spans : (earlier : List Predicate) → List Predicate → List (List Span)
+case_spans earlier [] = []
+case_spans earlier (pred ∷ preds) = spans_from (is_first earlier pred) 0 604800 ∷ case_spans (pred ∷ earlier) preds
+
+-- the spans at which none of these cases holds
+abbrev pub hole_spans : List Predicate → List Span
+hole_spans preds = spans_from (λ at. not (some_case_holds preds at)) 0 604800
+
+-- the spans that are held
+abbrev pub spans_in : Vec Span → List Span
+spans_in spans = spans.items

@@ -3,8 +3,10 @@
 #![tactic(auto)]
 
 mod cases;
+mod known;
 pub mod laws;
 mod windows;
 
-pub use cases::windows_of;
+pub use cases::{Hours, hours_of};
+pub use known::{Known, hours_again, known_holes, unknown, windows_again};
 pub use windows::Windows;

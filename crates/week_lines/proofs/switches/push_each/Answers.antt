@@ -3,7 +3,7 @@ use Rattle.std.specs.Prelude.{slice_get}
 use Rattle.std.proofs.lemmas.Option.{slice_get_read}
 use Rattle.fallible_infer.specs.Infallible.{mark_at}
 use Rattle.week_lines.proofs.Telling.{all_lines, more_lines, more_silent}
-use Rattle.week_lines.proofs.switches.push_switches.Goals as goal
+use Rattle.week_lines.proofs.switches.push_each.Goals as goal
 
 pub loop-number-preserved : goal.loop-number-preserved
 loop-number-preserved c =
@@ -16,6 +16,7 @@ loop-number-preserved c =
     record {
       lines = more_lines c.args.plan.now (mark_at c.args.marks.now) k node c.loop-number.into.items c.push_node.new.into.items told.0 c.loop-number.invariant.lines here told.1 told.2;
       silent = more_silent c.args.plan.now k c.loop-number.silent c.push_node.new.silent c.loop-number.invariant.silent c.in_ok-push_node.ensures.silent;
+      looked = c.in_ok-push_node.ensures.looked;
     }
 
 pub returns-clause-lines : goal.returns-clause-lines

@@ -1,0 +1,120 @@
+// Whether predicates are the same, part by part.
+ghost use Rattle.std.specs.Prelude.{◌≡◌, true, map};
+ghost use Rattle.time_pred.specs.Predicates.{Always, At, Between, Never};
+ghost use Rattle.time_pred.specs.View.{view_pred, view_shared};
+
+use fixed_text::TimeMark;
+use time_pred::{Pred, SharedPred};
+
+/// Whether two lists have the same predicates, in the same order. It takes no memory.
+pub fn same_preds(preds: &[SharedPred], others: &[SharedPred]) -> bool
+    ensures { result ≡ true → map view_shared preds.now ≡ map view_shared others.now }
+{
+    if preds.len() != others.len() {
+        return false;
+    }
+    for k in 0..preds.len() {
+        if !same_pred(&preds[k], &others[k]) {
+            return false;
+        }
+    }
+    true
+}
+
+/// Whether two predicates are the same. It takes no memory.
+pub fn same_pred(pred: &SharedPred, other: &SharedPred) -> bool
+    ensures { result ≡ true → view_shared pred.now ≡ view_shared other.now }
+{
+    is_same(pred.as_pred(), other.as_pred())
+}
+
+#[cycle(same)]
+fn is_same(pred: &Pred, other: &Pred) -> bool
+    ensures { result ≡ true → view_pred pred.now ≡ view_pred other.now }
+{
+    match pred {
+        Pred::Always => is_always(other),
+        Pred::Never => is_never(other),
+        Pred::At(mark) => is_mark(*mark, other),
+        Pred::Between(from, to) => is_interval(*from, *to, other),
+        Pred::Not(inner) => match other {
+            Pred::Not(turned) => is_same(inner, turned),
+            _ => false,
+        },
+        Pred::All(parts) => match other {
+            Pred::All(others) => all_same(parts, others),
+            _ => false,
+        },
+        Pred::Any(parts) => match other {
+            Pred::Any(others) => all_same(parts, others),
+            _ => false,
+        },
+    }
+}
+
+#[cycle(same)]
+fn all_same(parts: &[Pred], others: &[Pred]) -> bool
+    ensures { result ≡ true → map view_pred parts.now ≡ map view_pred others.now }
+{
+    if parts.len() != others.len() {
+        return false;
+    }
+    for k in 0..parts.len() {
+        if !is_same(&parts[k], &others[k]) {
+            return false;
+        }
+    }
+    true
+}
+
+fn is_always(pred: &Pred) -> bool
+    ensures { result ≡ true → Always ≡ view_pred pred.now }
+{
+    match pred {
+        Pred::Always => true,
+        _ => false,
+    }
+}
+
+fn is_never(pred: &Pred) -> bool
+    ensures { result ≡ true → Never ≡ view_pred pred.now }
+{
+    match pred {
+        Pred::Never => true,
+        _ => false,
+    }
+}
+
+fn is_mark(mark: TimeMark, pred: &Pred) -> bool
+    ensures { result ≡ true → At mark ≡ view_pred pred.now }
+{
+    match pred {
+        Pred::At(other) => is_one(mark, *other),
+        _ => false,
+    }
+}
+
+fn is_interval(from: TimeMark, to: TimeMark, pred: &Pred) -> bool
+    ensures { result ≡ true → Between from to ≡ view_pred pred.now }
+{
+    match pred {
+        Pred::Between(since, until) => is_both(from, *since, to, *until),
+        _ => false,
+    }
+}
+
+fn is_both(from: TimeMark, since: TimeMark, to: TimeMark, until: TimeMark) -> bool
+    ensures from { result ≡ true → from ≡ since }
+    ensures to { result ≡ true → to ≡ until }
+{
+    if is_one(from, since) {
+        return is_one(to, until);
+    }
+    false
+}
+
+fn is_one(mark: TimeMark, other: TimeMark) -> bool
+    ensures { result ≡ true → mark ≡ other }
+{
+    mark == other
+}
