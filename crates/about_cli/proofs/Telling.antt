@@ -1,143 +1,63 @@
 -- From the bytes of a script to its name, and from the words to what they ask for.
-use Rattle.std.proofs.Common.{◌≡◌, ◌≢◌, ◌<◌, ℕ, suc, List, [], ◌∷◌, length, get_or, refl, sym, ap, ◌∙◌, subst, arith, ◌⊎◌, inl, inr}
-use Rattle.std.specs.Prelude.{Option, Some, None, IsSomeAnd, String, string_bytes}
-use Rattle.std.specs.Option.{ForSome}
+use Rattle.std.proofs.Common.{◌≡◌, ◌≢◌, ◌<◌, ℕ, suc, List, [], ◌∷◌, length, get_or, refl, sym, ap, ◌∙◌, subst, arith}
+use Rattle.std.specs.Prelude.{Option, Some, None, IfErr, IsSomeAnd, Result, Ok, Err, String, string_bytes}
 use Rattle.std.specs.declared.alloc.Global.{Global}
-use Rattle.liq_base.specs.Counts.{Rose}
 use Rattle.liq_base.specs.Files.{file_at}
 use Rattle.liq_base.specs.Pieces.{SinkTold}
 use Rattle.liq_base.specs.Shelves.{OnlyRead, ShelfTold}
 use Rattle.liq_base.specs.declared.limits.TheConstants.{MAX_SCRIPT_BYTES}
-use Rattle.about_cli.specs.Ends.{Answers, Ends, Holds, Outside, Puts, Said, TellsText, Told, UsageSaid}
+use Rattle.script_lex.specs.declared.token.LexFault.TheVariants as lex_fault
+use Rattle.script_plan.specs.declared.fault.ScriptFault.TheVariants as fault
+use Rattle.about_cli.specs.Ends.{Answers, Ends, Holds, Outside, TellsLong, Told, UsageSaid}
 use Rattle.about_cli.specs.Told.{HasNoPlan, Tells}
 use Rattle.about_cli.specs.Words.{AsksFor, HasNoForm, texts, verb_of}
+use Rattle.about_cli.specs.declared.told.Untold.{Untold}
+use Rattle.about_cli.specs.declared.told.Untold.TheVariants.{NoPlan}
 use Rattle.about_cli.specs.declared.verb.Question.{Question}
+use Rattle.about_cli.specs.declared.verb.Question.TheVariants.{Tokens}
 use Rattle.about_cli.specs.declared.verb.Verb.{Verb}
-
-some_and : {A : Type 0} (P : A → Type 0) (o : Option A) (x : A) → o ≡ Some x → P x → IsSomeAnd o P
-some_and P o x is p = subst (λ (o : Option _). IsSomeAnd o P) (sym is) p
 
 and_more : {A : Type 0} (P Q : A → Type 0) (o : Option A) → ((x : A) → P x → Q x) → IsSomeAnd o P → IsSomeAnd o Q
 and_more P Q None goes h = h
 and_more P Q (Some x) goes h = goes x h
 
-holds : (shelf : ShelfTold) (file text : List ℕ) (P : List ℕ → Type 0) → ForSome shelf.files (λ files. file_at files file ≡ Some text)
-    → P text → Holds shelf file P
-holds shelf file text P is p files told = some_and P (file_at files file) text (is files told) p
+holds_more : (shelf : ShelfTold) (file : List ℕ) (P Q : List ℕ → Type 0) → ((text : List ℕ) → P text → Q text) → Holds shelf file P
+    → Holds shelf file Q
+holds_more shelf file P Q goes h = λ files told. and_more P Q (file_at files file) goes (h files told)
 
--- an answer on the bytes of a script is one on its name
-pub told_of_text : (question : Question) (file text : List ℕ) (scripts scripts_new old new : ShelfTold) (out out_new : SinkTold) (status : ℕ)
-    → ForSome scripts.files (λ files. file_at files file ≡ Some text) → TellsText question text old new out out_new status
-    → Told question file scripts scripts_new old new out out_new status
-told_of_text question file text scripts scripts_new old new out out_new status is tells = record {
-  is_status = tells.is_status;
-  done = λ at. let said = tells.done at in record {
-    told = said.told;
-    said = said.said;
-    is = holds scripts file text (λ t. Tells question t old new said.told) is said.is;
-  };
-  no_plan = λ at. (
-    holds scripts file text (λ t. (MAX_SCRIPT_BYTES < length t) ⊎ HasNoPlan t) is (inr (tells.no_plan at).0),
-    (tells.no_plan at).1,
-  );
-  no_usage = tells.no_usage;
-  unread = λ at. absurd (tells.no_read at);
-  unwritten = λ at. let said = tells.unwritten at in record {
-    told = said.told;
-    part = said.part;
-    is = holds scripts file text (λ t. Tells question t old new said.told) is said.is;
-  };
-  refused = tells.refused;
-}
+-- a text that is too long has no plan
+long_has_none : (text : List ℕ) → MAX_SCRIPT_BYTES < length text → HasNoPlan text
+long_has_none text long = record { cause = fault.Lex lex_fault.TextTooLong; meant = λ is. absurd cc; is_fault = long }
 
--- a script that is too long has no plan
-pub too_long : (question : Question) (file : List ℕ) (scripts scripts_new old : ShelfTold) (out : SinkTold)
-    → Holds scripts file (λ text. MAX_SCRIPT_BYTES < length text) → Told question file scripts scripts_new old old out out 1
-too_long question file scripts scripts_new old out long = record {
-  is_status = omega arith;
-  done = λ at. absurd (omega arith);
-  no_plan = λ at. (
-    (λ files told. and_more (λ (t : List ℕ). MAX_SCRIPT_BYTES < length t) (λ (t : List ℕ). (MAX_SCRIPT_BYTES < length t) ⊎ HasNoPlan t)
-        (file_at files file) (λ t h. inl h) (long files told)),
-    refl,
-  );
-  no_usage = λ at. absurd (omega arith);
-  unread = λ at. absurd (omega arith);
-  unwritten = λ at. absurd (omega arith);
-  refused = λ at. absurd (omega arith);
-}
+-- an answer on each text that is too long is one on a script that is
+pub told_of_long : (question : Question) (file : List ℕ) (scripts scripts_new old : ShelfTold) (out out_new : SinkTold) (status : ℕ)
+    → Holds scripts file (λ text. MAX_SCRIPT_BYTES < length text) → TellsLong question old out out_new status
+    → Told question file scripts scripts_new old old out out_new status
+told_of_long question file scripts scripts_new old out out_new status long tells =
+    let Long : List ℕ → Type 0 = λ text. MAX_SCRIPT_BYTES < length text in
+    record {
+      is_status = tells.is_status;
+      done = λ at. let said = tells.done at in record {
+        told = said.told;
+        said = said.said;
+        is = holds_more scripts file Long (λ t. Tells question t old old said.told) said.is long;
+      };
+      no_plan = λ at. let none = tells.no_plan at in (none.0, holds_more scripts file Long HasNoPlan long_has_none long, none.1);
+      no_usage = tells.no_usage;
+      unread = λ at. absurd (tells.no_read at);
+      unwritten = λ at. let said = tells.unwritten at in record {
+        told = said.told;
+        part = said.part;
+        is = holds_more scripts file Long (λ t. Tells question t old old said.told) said.is long;
+      };
+      refused = tells.refused;
+    }
 
--- one that was not read is not told of
-pub not_read : (question : Question) (file : List ℕ) (scripts scripts_new old : ShelfTold) (out : SinkTold)
-    → Rose scripts.reads scripts_new.reads ⊎ ForSome scripts.files (λ files. file_at files file ≡ None)
-    → Told question file scripts scripts_new old old out out 3
-not_read question file scripts scripts_new old out why = record {
-  is_status = omega arith;
-  done = λ at. absurd (omega arith);
-  no_plan = λ at. absurd (omega arith);
-  no_usage = λ at. absurd (omega arith);
-  unread = λ at. (why, refl);
-  unwritten = λ at. absurd (omega arith);
-  refused = λ at. absurd (omega arith);
-}
-
-pub starved : (question : Question) (file : List ℕ) (scripts scripts_new old : ShelfTold) (out : SinkTold)
-    → Told question file scripts scripts_new old old out out 5
-starved question file scripts scripts_new old out = record {
-  is_status = omega arith;
-  done = λ at. absurd (omega arith);
-  no_plan = λ at. absurd (omega arith);
-  no_usage = λ at. absurd (omega arith);
-  unread = λ at. absurd (omega arith);
-  unwritten = λ at. absurd (omega arith);
-  refused = λ at. refl;
-}
-
--- what was put is what is told
-pub put_told : (question : Question) (text told : List ℕ) (old new : ShelfTold) (out out_new : SinkTold) (status : ℕ)
-    → Tells question text old new told → Puts told 0 out out_new status → TellsText question text old new out out_new status
-put_told question text told old new out out_new status is (inl put) = record {
-  is_status = let s = put.0 in omega arith;
-  done = λ at. record { told = told; said = put.1; is = is };
-  no_plan = λ at. absurd (let s = put.0 in omega arith);
-  no_usage = λ at. absurd (let s = put.0 in omega arith);
-  no_read = λ at. absurd (let s = put.0 in omega arith);
-  unwritten = λ at. absurd (let s = put.0 in omega arith);
-  refused = λ at. absurd (let s = put.0 in omega arith);
-}
-put_told question text told old new out out_new status is (inr put) = record {
-  is_status = let s = put.0 in omega arith;
-  done = λ at. absurd (let s = put.0 in omega arith);
-  no_plan = λ at. absurd (let s = put.0 in omega arith);
-  no_usage = λ at. absurd (let s = put.0 in omega arith);
-  no_read = λ at. absurd (let s = put.0 in omega arith);
-  unwritten = λ at. record { told = told; part = put.1; is = is };
-  refused = λ at. absurd (let s = put.0 in omega arith);
-}
-
-pub without_plan : (question : Question) (text : List ℕ) (old new : ShelfTold) (out : SinkTold) → HasNoPlan text
-    → TellsText question text old new out out 1
-without_plan question text old new out none = record {
-  is_status = omega arith;
-  done = λ at. absurd (omega arith);
-  no_plan = λ at. (none, refl);
-  no_usage = λ at. absurd (omega arith);
-  no_read = λ at. absurd (omega arith);
-  unwritten = λ at. absurd (omega arith);
-  refused = λ at. absurd (omega arith);
-}
-
-pub without_memory : (question : Question) (text : List ℕ) (old new : ShelfTold) (out : SinkTold)
-    → TellsText question text old new out out 5
-without_memory question text old new out = record {
-  is_status = omega arith;
-  done = λ at. absurd (omega arith);
-  no_plan = λ at. absurd (omega arith);
-  no_usage = λ at. absurd (omega arith);
-  no_read = λ at. absurd (omega arith);
-  unwritten = λ at. absurd (omega arith);
-  refused = λ at. refl;
-}
+-- a text without a plan, of which something else than its tokens is asked
+pub no_plan_but : {A : Type 0} (question : Question) (text : List ℕ) (r : Result A Untold) → question ≢ Tokens
+    → IfErr r (λ why. why ≡ NoPlan → HasNoPlan text) → IfErr r (λ why. why ≡ NoPlan → (question ≢ Tokens) × HasNoPlan text)
+no_plan_but question text (Ok a) other none = tt
+no_plan_but question text (Err why) other none = λ is. (other, none is)
 
 -- words ask for one thing
 asks_one : (words : List (List ℕ)) (v w : Verb) (f g : List ℕ) → AsksFor words v f → AsksFor words w g → (v ≡ w) × (f ≡ g)

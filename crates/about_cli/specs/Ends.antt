@@ -1,16 +1,20 @@
 -- What a call leaves, for each status.
-use Rattle.std.specs.Prelude.{◌≡◌, ◌≤◌, ◌<◌, ◌⊎◌, ℕ, List, length, Option, Some, None, IsSomeAnd, Result, Ok, Err}
+use Rattle.std.specs.Prelude.{◌≡◌, ◌≢◌, ◌≤◌, ◌<◌, ◌⊎◌, ℕ, List, length, Option, Some, None, IsSomeAnd, Result, Ok, Err}
 use Rattle.std.specs.Option.{ForSome}
 use Rattle.about_cli.specs.Told.{HasNoPlan, Tells}
 use Rattle.about_cli.specs.Words.{AsksFor, HasNoForm, usage_line}
 use Rattle.about_cli.specs.declared.verb.Question.{Question}
+use Rattle.about_cli.specs.declared.verb.Question.TheVariants.{Files, Tokens}
 use Rattle.about_cli.specs.declared.verb.Verb.{Verb}
 use Rattle.about_cli.specs.declared.verb.Verb.TheVariants.{Where, Tell}
+use Rattle.plan_core.specs.declared.plan.Plan.{Plan}
+use Rattle.script_plan.specs.Plans.{IsPlan}
 use Rattle.liq_base.specs.Counts.{Rose}
 use Rattle.liq_base.specs.Files.{file_at}
 use Rattle.liq_base.specs.Pieces.{SinkTold, TookPart, TookPiece}
 use Rattle.liq_base.specs.Shelves.{OnlyRead, ShelfTold}
 use Rattle.liq_base.specs.declared.limits.TheConstants.{MAX_SCRIPT_BYTES}
+use Rattle.where_lines.specs.Broken.{BrokeOff}
 use Rattle.where_lines.specs.Passes.{AllPassed}
 use Rattle.where_lines.specs.declared.passing.Broke.{Broke}
 use Rattle.where_lines.specs.declared.passing.Broke.TheVariants.{Input, Output, Memory}
@@ -42,15 +46,29 @@ pub record Broken (P : List ℕ → Type 0) (out out_new : SinkTold) : Type 0 wh
   pub part : TookPart told out out_new
   pub is : P told
 
+-- this is told of each text that is too long
+abbrev pub TellsEachLong : Question → (shelf : ShelfTold) → (told : List ℕ) → Type 0
+TellsEachLong question shelf told = (text : List ℕ) → MAX_SCRIPT_BYTES < length text → Tells question text shelf shelf told
+
 -- the answer on the bytes of a script, by status
 pub record TellsText (question : Question) (text : List ℕ) (old new : ShelfTold) (out out_new : SinkTold)
     (status : ℕ) : Type 0 where
   pub is_status : status ≤ 5
   pub done : status ≡ 0 → Said (Tells question text old new) out out_new
-  pub no_plan : status ≡ 1 → HasNoPlan text × (out_new ≡ out)
+  pub no_plan : status ≡ 1 → (question ≢ Tokens) × HasNoPlan text × (out_new ≡ out)
   pub no_usage : status ≡ 2 → ⊥
   pub no_read : status ≡ 3 → ⊥
   pub unwritten : status ≡ 4 → Broken (Tells question text old new) out out_new
+  pub refused : status ≡ 5 → out_new ≡ out
+
+-- The answer on a script that is too long, whatever its bytes are. No file is read.
+pub record TellsLong (question : Question) (shelf : ShelfTold) (out out_new : SinkTold) (status : ℕ) : Type 0 where
+  pub is_status : status ≤ 5
+  pub done : status ≡ 0 → Said (TellsEachLong question shelf) out out_new
+  pub no_plan : status ≡ 1 → (question ≢ Tokens) × (out_new ≡ out)
+  pub no_usage : status ≡ 2 → ⊥
+  pub no_read : status ≡ 3 → ⊥
+  pub unwritten : status ≡ 4 → Broken (TellsEachLong question shelf) out out_new
   pub refused : status ≡ 5 → out_new ≡ out
 
 -- of the script's bytes, where the shelf tells its files
@@ -63,8 +81,7 @@ pub record Told (question : Question) (file : List ℕ) (scripts scripts_new old
   pub is_status : status ≤ 5
   pub done : status ≡ 0
       → Said (λ told. Holds scripts file (λ text. Tells question text old new told)) out out_new
-  pub no_plan : status ≡ 1
-      → Holds scripts file (λ text. (MAX_SCRIPT_BYTES < length text) ⊎ HasNoPlan text) × (out_new ≡ out)
+  pub no_plan : status ≡ 1 → (question ≢ Tokens) × Holds scripts file HasNoPlan × (out_new ≡ out)
   pub no_usage : status ≡ 2 → ⊥
   pub unread : status ≡ 3
       → (Rose scripts.reads scripts_new.reads ⊎ ForSome scripts.files (λ files. file_at files file ≡ None))
@@ -94,13 +111,23 @@ pub record AllShown (file : List ℕ) (scripts scripts_new : ShelfTold) (input :
   pub is_script : IsScript file scripts scripts_new script
   pub passed : AllPassed file script input out out_new
 
--- `where` is a filter: what it passed on before it broke off is not said
+-- it broke off: what was passed on until then, and why
+pub record ShownUntil (broke : Broke) (file : List ℕ) (scripts scripts_new : ShelfTold) (input : Option (List ℕ))
+    (out out_new : SinkTold) : Type 0 where
+  pub script : Option (List ℕ)
+  pub is_script : IsScript file scripts scripts_new script
+  pub broke_off : BrokeOff file script broke input out out_new
+
+-- The answer of `where`, by status. Why reading an input fails is not told, so neither is why status 3 came.
 pub record Passed (file : List ℕ) (scripts scripts_new : ShelfTold) (input : Option (List ℕ))
     (out out_new : SinkTold) (status : ℕ) : Type 0 where
   pub is_status : status ≤ 5
   pub done : status ≡ 0 → AllShown file scripts scripts_new input out out_new
   pub no_plan : status ≡ 1 → ⊥
   pub no_usage : status ≡ 2 → ⊥
+  pub unread : status ≡ 3 → ShownUntil Input file scripts scripts_new input out out_new
+  pub unwritten : status ≡ 4 → ShownUntil Output file scripts scripts_new input out out_new
+  pub refused : status ≡ 5 → (out_new ≡ out) ⊎ ShownUntil Memory file scripts scripts_new input out out_new
 
 abbrev pub Answers : Verb → (file : List ℕ) → (input : Option (List ℕ)) → (old new : Outside) → (status : ℕ) → Type 0
 Answers Where file input old new status =
@@ -122,3 +149,37 @@ pub record Ends (words : List (List ℕ)) (input : Option (List ℕ)) (old new :
   pub asked : (verb : Verb) (file : List ℕ) → AsksFor words verb file
       → Answers verb file input old new status × (new.err ≡ old.err)
   pub usage : HasNoForm words → UsageSaid old new status
+
+-- the words ask for what is told of files
+abbrev pub AsksForFiles : List (List ℕ) → Type 0
+AsksForFiles words = (file : List ℕ) × AsksFor words (Tell Files) file
+
+-- no count rose
+pub record Calm (old new : Outside) : Type 0 where
+  pub scripts : Rose old.scripts.reads new.scripts.reads → ⊥
+  pub out : Rose old.out.faults new.out.faults → ⊥
+  pub err : Rose old.err.faults new.err.faults → ⊥
+
+-- this is the status, or memory was refused
+abbrev pub Comes : (wanted status : ℕ) → Type 0
+Comes wanted status = (status ≡ wanted) ⊎ (status ≡ 5)
+
+-- the status of what is asked of a text: 0, but 1 where it needs a plan and the text has none
+pub record Completes (question : Question) (text : List ℕ) (status : ℕ) : Type 0 where
+  pub tokens : question ≡ Tokens → Comes 0 status
+  pub planned : (plan : Plan) → IsPlan text plan → Comes 0 status
+  pub unplanned : question ≢ Tokens → HasNoPlan text → Comes 1 status
+
+-- and of a file that is there or is not
+abbrev pub CompletesFor : Question → Option (List ℕ) → (status : ℕ) → Type 0
+CompletesFor question None status = Comes 3 status
+CompletesFor question (Some text) status = Completes question text status
+
+-- Where no count rose, the status is the one that the words and the files come to, unless memory was refused. `where`
+-- may also end with 3, as nothing is told of why an input fails.
+pub record IsComplete (words : List (List ℕ)) (old new : Outside) (status : ℕ) : Type 0 where
+  pub told : Calm old new → (question : Question) (file : List ℕ) → AsksFor words (Tell question) file
+      → ForSome old.scripts.files (λ files. CompletesFor question (file_at files file) status)
+  pub shown : Calm old new → (file : List ℕ) → AsksFor words Where file
+      → (status ≡ 0) ⊎ (status ≡ 3) ⊎ (status ≡ 5)
+  pub usage : Calm old new → HasNoForm words → status ≡ 2

@@ -1,7 +1,7 @@
 -- What is told of the bytes of a script.
 use Rattle.std.specs.Prelude.{◌≡◌, ◌≢◌, ◌<◌, ℕ, Bool, true, false, All, List, length, map, Option, Some, None, slice_get}
 use Rattle.about_cli.specs.declared.verb.Question.{Question}
-use Rattle.about_cli.specs.declared.verb.Question.TheVariants.{Week, Picture, Files, Tokens}
+use Rattle.about_cli.specs.declared.verb.Question.TheVariants.{Week, Picture, Files, Hours, Tokens}
 use Rattle.fallible_infer.specs.Infallible.{mark_at, refuses}
 use Rattle.liq_base.specs.Shelves.{ShelfTold}
 use Rattle.liq_base.specs.declared.limits.TheConstants.{MAX_ALL_BYTES, MAX_FILE_BYTES}
@@ -16,6 +16,7 @@ use Rattle.script_plan.specs.Sources.{HasSources}
 use Rattle.script_plan.specs.declared.fault.ScriptFault.{ScriptFault}
 use Rattle.script_plan.specs.declared.fault.ScriptFault.TheVariants as fault
 use Rattle.station_facts.specs.Files.{IsTold}
+use Rattle.station_facts.specs.Hours.{AreHours}
 use Rattle.station_facts.specs.Plans.{IsInferred}
 use Rattle.station_facts.specs.Tokens.{AreTold}
 use Rattle.station_facts.specs.declared.inferred.Inferred.{Inferred}
@@ -65,6 +66,7 @@ pub record IsWeekOf (plan : Plan) (told : List ℕ) : Type 0 where
 abbrev pub Tells : Question → (text : List ℕ) → (old new : ShelfTold) → (told : List ℕ) → Type 0
 Tells Tokens text old new told = AreTold text told
 Tells Files text old new told = OfSources text (λ plan ats. IsTold (rules_for plan sizes) plan ats old new told)
+Tells Hours text old new told = OfSources text (λ plan ats. AreHours plan ats told)
 Tells Picture text old new told = OfPlan text (λ plan. IsDrawn plan told)
 Tells Week text old new told = OfPlan text (λ plan. IsWeekOf plan told)
 

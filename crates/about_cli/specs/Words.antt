@@ -2,7 +2,7 @@
 use Rattle.std.specs.Prelude.{◌≡◌, ℕ, List, [], ◌∷◌, codes, map, string_bytes, String, Option, Some, None, if◌then◌else◌}
 use Rattle.std.specs.Str.{bytes_eq}
 use Rattle.std.specs.declared.alloc.Global.{Global}
-use Rattle.about_cli.specs.declared.verb.Question.TheVariants.{Week, Picture, Files, Tokens}
+use Rattle.about_cli.specs.declared.verb.Question.TheVariants.{Week, Picture, Files, Hours, Tokens}
 use Rattle.about_cli.specs.declared.verb.Verb.{Verb}
 use Rattle.about_cli.specs.declared.verb.Verb.TheVariants.{Where, Tell}
 
@@ -15,6 +15,7 @@ verb_of word =
     else if bytes_eq word (codes "week") then Some (Tell Week)
     else if bytes_eq word (codes "picture") then Some (Tell Picture)
     else if bytes_eq word (codes "files") then Some (Tell Files)
+    else if bytes_eq word (codes "hours") then Some (Tell Hours)
     else if bytes_eq word (codes "tokens") then Some (Tell Tokens)
     else None
 
@@ -28,4 +29,4 @@ abbrev pub HasNoForm : List (List ℕ) → Type 0
 HasNoForm words = (verb : Verb) (file : List ℕ) → AsksFor words verb file → ⊥
 
 abbrev pub usage_line : List ℕ
-usage_line = codes "usage: about where|week|picture|files|tokens FILE\n"
+usage_line = codes "usage: about where|week|picture|files|hours|tokens FILE\n"

@@ -1,18 +1,20 @@
 // The top call.
-ghost use Rattle.std.specs.Prelude.{◌≡◌, [], None, Some, IfOk, if◌then◌else◌};
-ghost use Rattle.about_cli.specs.Ends.{Ends, IsPassedBy, IsScript, Passed, Puts, TellsText, Told, outside_of};
+ghost use Rattle.std.specs.Prelude.{◌≡◌, ◌≢◌, [], None, Some, IfOk, if◌then◌else◌};
+ghost use Rattle.about_cli.specs.Ends.{AsksForFiles, Ends, IsComplete, IsPassedBy, IsScript, Passed, Puts, TellsLong, TellsText, Told, outside_of};
 ghost use Rattle.about_cli.specs.Words.{texts};
-ghost use Rattle.liq_base.specs.Shelves.{OnlyRead};
+ghost use Rattle.liq_base.specs.Shelves.{OnlyRead, ShelfTold};
 
 use crate::told::{Untold, told_of};
 use crate::verb::{Question, Verb, verb_of};
 use liq_base::limits::MAX_SCRIPT_BYTES;
 use liq_base::{Failed, Fetched, Memory, Shelf, ShelfFault, Sink};
+use script_plan::laws;
+use station_facts::tell_too_long;
 use std::alloc::Global;
 use std::io::Read;
 use where_lines::{Broke, pass_on};
 
-const USAGE: &str = "usage: about where|week|picture|files|tokens FILE\n";
+const USAGE: &str = "usage: about where|week|picture|files|hours|tokens FILE\n";
 
 /// All was told.
 const DONE: u8 = 0;
@@ -33,8 +35,8 @@ const NO_OUTPUT: u8 = 4;
 const NO_MEMORY: u8 = 5;
 
 /// Tells what the words ask about a script of `scripts`, whose files are those of `shelf`, and answers the status, from 0
-/// to 5. `out` gets the answer in one piece, but for `where`, which passes the lines of `input` on one by one. Both `out`
-/// and `err` tell no room left.
+/// to 5. `out` gets the answer in one piece, but for `where`, which passes the lines of `input` on. Both `out` and `err`
+/// tell no room left. Nothing is read from `shelf` unless the words ask for `files`.
 pub fn about<T: Shelf, S: Shelf, I: Read + Drop, O: Sink, E: Sink>(
     alloc: Global,
     words: &[String],
@@ -46,11 +48,18 @@ pub fn about<T: Shelf, S: Shelf, I: Read + Drop, O: Sink, E: Sink>(
 ) -> u8
     requires out_room { (O.told out.old).room ≡ None }
     requires err_room { (E.told err.old).room ≡ None }
-    ensures { Ends (texts words.now) (I.remaining input)
+    ensures ends { Ends (texts words.now) (I.remaining input)
         (outside_of (T.told scripts.old) (S.told shelf.old) (O.told out.old) (E.told err.old))
         (outside_of (T.told scripts.new) (S.told shelf.new) (O.told out.new) (E.told err.new))
         result }
+    ensures complete { IsComplete (texts words.now)
+        (outside_of (T.told scripts.old) (S.told shelf.old) (O.told out.old) (E.told err.old))
+        (outside_of (T.told scripts.new) (S.told shelf.new) (O.told out.new) (E.told err.new))
+        result }
+    ensures untouched { (AsksForFiles (texts words.now) → ⊥) → shelf.new ≡ shelf.old }
 {
+    laws::one_answer();
+    laws::one_list_of_calls();
     if words.len() == 2 {
         match verb_of(words[0].as_str()) {
             Some(Verb::Where) => return show(alloc, words[1].as_str(), scripts, input, out),
@@ -128,14 +137,37 @@ fn answer<T: Shelf, S: Shelf, O: Sink>(
         (O.told out.old) (O.told out.new) result }
     ensures scripts { OnlyRead (T.told scripts.old) (T.told scripts.new) }
     ensures shelf { OnlyRead (S.told shelf.old) (S.told shelf.new) }
+    ensures untouched { question ≢ Question.Files → shelf.new ≡ shelf.old }
 {
     let mut text = Vec::new(alloc);
     match scripts.read(file, &mut text, MAX_SCRIPT_BYTES) {
         Ok(Fetched::Found) => tell(alloc, question, text.as_slice(), shelf, out),
-        Ok(Fetched::TooLarge) => NO_PLAN,
+        Ok(Fetched::TooLarge) => tell_long(alloc, question, out),
         Ok(Fetched::Missing) => NO_INPUT,
         Err(ShelfFault::Failed) => NO_INPUT,
         Err(ShelfFault::Memory) => NO_MEMORY,
+    }
+}
+
+// Tells what is asked of a script that is too long.
+fn tell_long<O: Sink>(alloc: Global, question: Question, out: &mut O) -> u8
+    requires { (O.told out.old).room ≡ None }
+    ensures { (shelf : ShelfTold) → TellsLong question shelf (O.told out.old) (O.told out.new) result }
+{
+    match question {
+        Question::Tokens => put_long(alloc, out),
+        _ => NO_PLAN,
+    }
+}
+
+// Tells the tokens of such a script, which are none.
+fn put_long<O: Sink>(alloc: Global, out: &mut O) -> u8
+    requires { (O.told out.old).room ≡ None }
+    ensures { (shelf : ShelfTold) → TellsLong Question.Tokens shelf (O.told out.old) (O.told out.new) result }
+{
+    match tell_too_long(alloc) {
+        Ok(told) => put(out, &told, DONE),
+        Err(Memory) => NO_MEMORY,
     }
 }
 
@@ -150,6 +182,7 @@ fn tell<S: Shelf, O: Sink>(
     requires { (O.told out.old).room ≡ None }
     ensures told { TellsText question text.now (S.told shelf.old) (S.told shelf.new) (O.told out.old) (O.told out.new) result }
     ensures shelf { OnlyRead (S.told shelf.old) (S.told shelf.new) }
+    ensures untouched { question ≢ Question.Files → shelf.new ≡ shelf.old }
 {
     match told_of(alloc, question, text, shelf) {
         Ok(told) => put(out, &told, DONE),

@@ -1,6 +1,6 @@
 // What is told of the bytes of a script.
-ghost use Rattle.std.specs.Prelude.{◌≡◌, IfErr, IfOk, map};
-ghost use Rattle.about_cli.specs.Told.{HasNoPlan, IsDrawn, IsRefused, IsWeekOf, OfPlan, Tells};
+ghost use Rattle.std.specs.Prelude.{◌≡◌, ◌≢◌, IfErr, IfOk, length, map};
+ghost use Rattle.about_cli.specs.Told.{HasNoPlan, IsDrawn, IsRefused, IsWeekOf, OfPlan, OfSources, Tells};
 ghost use Rattle.about_cli.specs.declared.told.Untold.TheVariants as untold;
 ghost use Rattle.fallible_infer.specs.Infallible.{mark_at};
 ghost use Rattle.liq_base.specs.Shelves.{OnlyRead};
@@ -8,6 +8,7 @@ ghost use Rattle.plan_core.specs.Plans.{IsWellFormed};
 ghost use Rattle.script_places.specs.Starts.{start};
 ghost use Rattle.script_plan.specs.Plans.{IsPlan};
 ghost use Rattle.script_plan.specs.Sources.{HasSources};
+ghost use Rattle.station_facts.specs.Hours.{AreHours};
 
 use crate::verb::Question;
 use fallible_infer::check_outputs;
@@ -19,7 +20,7 @@ use script_eval::Sources;
 use script_lex::{Token, lex};
 use script_places::start;
 use script_plan::{ScriptFault, plan_of, sources_of};
-use station_facts::{infer, tell_files, tell_tokens};
+use station_facts::{infer, tell_files, tell_hours, tell_tokens};
 use std::alloc::Global;
 use track_library::Sizes;
 use week_lines::week;
@@ -53,14 +54,16 @@ pub fn told_of<S: Shelf>(
 ) -> Result<Vec<u8>, Untold>
     ensures told { IfOk result
         (λ told. Tells question text.now (S.told shelf.old) (S.told shelf.new) told.items) }
-    ensures no_plan { IfErr result (λ why. why ≡ untold.NoPlan → HasNoPlan text.now) }
+    ensures no_plan { IfErr result (λ why. why ≡ untold.NoPlan → (question ≢ Question.Tokens) × HasNoPlan text.now) }
     ensures shelf { OnlyRead (S.told shelf.old) (S.told shelf.new) }
+    ensures untouched { question ≢ Question.Files → shelf.new ≡ shelf.old }
 {
     match question {
         Question::Tokens => Ok(tell_tokens(alloc, text)?),
         Question::Week => week_of(alloc, text),
         Question::Picture => picture_of(alloc, text),
         Question::Files => files_of(alloc, text, shelf),
+        Question::Hours => hours_of(alloc, text),
     }
 }
 
@@ -142,10 +145,24 @@ fn files_of<S: Shelf>(alloc: Global, text: &[u8], shelf: &mut S) -> Result<Vec<u
     Ok(tell_files(alloc, &sources.plan, &ats, shelf, sizes)?)
 }
 
+fn hours_of(alloc: Global, text: &[u8]) -> Result<Vec<u8>, Untold>
+    ensures told { IfOk result (λ told. OfSources text.now (λ plan ats. AreHours plan ats told.items)) }
+    ensures no_plan { IfErr result (λ why. why ≡ untold.NoPlan → HasNoPlan text.now) }
+{
+    let sources = sources_in(alloc, text)?;
+    let Ok(tokens) = lex(alloc, text) else {
+        // a text with a plan has tokens
+        return Err(Untold::Memory);
+    };
+    let ats = starts(alloc, text.len(), &tokens, sources.calls.as_slice())?;
+    Ok(tell_hours(alloc, &sources.plan, &ats)?)
+}
+
 // The plan of a script with the calls of its sources.
 fn sources_in(alloc: Global, text: &[u8]) -> Result<Sources, Untold>
     ensures sources { IfOk result (λ s. HasSources text.now s.plan s.calls) }
     ensures well_formed { IfOk result (λ s. IsWellFormed s.plan) }
+    ensures each { IfOk result (λ s. length s.calls ≡ length s.plan.nodes) }
     ensures no_plan { IfErr result (λ why. why ≡ untold.NoPlan → HasNoPlan text.now) }
 {
     match sources_of(alloc, text) {

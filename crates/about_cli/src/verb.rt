@@ -24,6 +24,9 @@ pub enum Question {
     /// Its plan, and what becomes of each file that it plays.
     Files,
 
+    /// The hours of its switches.
+    Hours,
+
     /// Its tokens.
     Tokens,
 }
@@ -40,6 +43,8 @@ pub fn verb_of(word: &str) -> Option<Verb>
         Some(Verb::Tell(Question::Picture))
     } else if word == "files" {
         Some(Verb::Tell(Question::Files))
+    } else if word == "hours" {
+        Some(Verb::Tell(Question::Hours))
     } else if word == "tokens" {
         Some(Verb::Tell(Question::Tokens))
     } else {

@@ -2,12 +2,8 @@
 #![tactic(auto)]
 
 use about_cli::about;
-use real_files::{FileShelf, OutSink};
-use std::alloc::Global;
-use std::env;
-use std::io::ErrorKind;
+use real_files::{FileShelf, OutSink, words};
 use std::process::ExitCode;
-use std::rt::Env;
 
 /// The status of a call whose words could not be held.
 const NO_MEMORY: u8 = 5;
@@ -31,14 +27,4 @@ fn main(rt: HostRuntime) -> ExitCode {
         &mut err,
     );
     ExitCode::from(status)
-}
-
-// The words after the program's name; nothing where memory is refused. An argument that is not UTF-8 makes no form of
-// the words, as no words at all.
-fn words<R: Env + Alloc<A = Global>>(rt: &R) -> Option<Vec<String>> {
-    match env::args(rt) {
-        Ok(args) => args.skip(1).collect(rt.alloc()).ok(),
-        Err(error) if error.kind() == ErrorKind::OutOfMemory => None,
-        Err(_) => Some(Vec::new(rt.alloc())),
-    }
 }

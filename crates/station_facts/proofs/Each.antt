@@ -29,9 +29,6 @@ pub record Goes {A : Type 0} (text : A → List Token) (xs : List A) (i : ℕ) (
   pub tokens : new.tokens ++ each text (drop i xs) ≡ old.tokens ++ each text xs
   pub before : new.before ≡ old.before
 
-pub goes_first : {A : Type 0} (text : A → List Token) (xs : List A) (a : Written) → Goes text xs 0 a a
-goes_first text xs a = record { tokens = refl; before = refl }
-
 pub goes_on : {A : Type 0} (text : A → List Token) (xs : List A) (i : ℕ) (x : A) (a b c : Written) → i < length xs
     → x ≡ get_or xs i x → Goes text xs i a b → Adds b c (text x) → Goes text xs (i + 1) a c
 goes_on text xs i x a b c here is so_far more = record {
@@ -53,90 +50,14 @@ pub record Pairs {A B : Type 0} (text : A → B → List Token) (xs : List A) (y
   pub tokens : new.tokens ++ paired text (drop i xs) (drop i ys) ≡ old.tokens ++ paired text xs ys
   pub before : new.before ≡ old.before
 
-pub pairs_first : {A B : Type 0} (text : A → B → List Token) (xs : List A) (ys : List B) (a : Written) → Pairs text xs ys 0 a a
-pairs_first text xs ys a = record { tokens = refl; before = refl }
-
-pub pairs_on : {A B : Type 0} (text : A → B → List Token) (xs : List A) (ys : List B) (i : ℕ) (x : A) (y : B) (a b c : Written)
-    → i < length xs → x ≡ get_or xs i x → i < length ys → y ≡ get_or ys i y → Pairs text xs ys i a b → Adds b c (text x y)
-    → Pairs text xs ys (i + 1) a c
-pairs_on text xs ys i x y a b c x_here x_is y_here y_is so_far more = record {
-  tokens = ap (λ t. t ++ paired text (drop (i + 1) xs) (drop (i + 1) ys)) more.tokens
-      ∙ append_assoc b.tokens (text x y) (paired text (drop (i + 1) xs) (drop (i + 1) ys))
-      ∙ ap (λ l. b.tokens ++ paired text l (y ∷ drop (i + 1) ys)) (at_place xs i x x_here x_is)
-      ∙ ap (λ l. b.tokens ++ paired text (drop i xs) l) (at_place ys i y y_here y_is) ∙ so_far.tokens;
-  before = more.before ∙ so_far.before;
-}
-
-paired_none : {A B : Type 0} (text : A → B → List Token) (xs : List A) → paired text xs [] ≡ []
-paired_none text [] = refl
-paired_none text (x ∷ xs) = refl
-
-pub pairs_last : {A B : Type 0} (text : A → B → List Token) (xs : List A) (ys : List B) (i : ℕ) (a b : Written) → length xs ≤ i
-    → Pairs text xs ys i a b → Adds a b (paired text xs ys)
-pairs_last text xs ys i a b all so_far = record {
-  tokens = sym (append-nil b.tokens) ∙ ap (λ l. b.tokens ++ paired text l (drop i ys)) (sym (drop_all i xs all))
-      ∙ so_far.tokens;
-  before = so_far.before;
-}
-
-pub pairs_short : {A B : Type 0} (text : A → B → List Token) (xs : List A) (ys : List B) (i : ℕ) (a b : Written) → length ys ≤ i
-    → Pairs text xs ys i a b → Adds a b (paired text xs ys)
-pairs_short text xs ys i a b all so_far = record {
-  tokens = sym (append-nil b.tokens) ∙ ap (λ t. b.tokens ++ t) (sym (paired_none text (drop i xs)))
-      ∙ ap (λ l. b.tokens ++ paired text (drop i xs) l) (sym (drop_all i ys all)) ∙ so_far.tokens;
-  before = so_far.before;
-}
-
 -- the same of three lists
 pub record Threes {A B C : Type 0} (text : A → B → C → List Token) (xs : List A) (ys : List B) (zs : List C) (i : ℕ) (old new : Written) : Type 0 where
   pub tokens : new.tokens ++ by_threes text (drop i xs) (drop i ys) (drop i zs) ≡ old.tokens ++ by_threes text xs ys zs
   pub before : new.before ≡ old.before
 
-pub threes_first : {A B C : Type 0} (text : A → B → C → List Token) (xs : List A) (ys : List B) (zs : List C) (a : Written) → Threes text xs ys zs 0 a a
-threes_first text xs ys zs a = record { tokens = refl; before = refl }
-
-pub threes_on : {A B C : Type 0} (text : A → B → C → List Token) (xs : List A) (ys : List B) (zs : List C) (i : ℕ) (x : A) (y : B) (z : C) (a b c : Written)
-    → i < length xs → x ≡ get_or xs i x → i < length ys → y ≡ get_or ys i y → i < length zs → z ≡ get_or zs i z
-    → Threes text xs ys zs i a b → Adds b c (text x y z) → Threes text xs ys zs (i + 1) a c
-threes_on text xs ys zs i x y z a b c x_here x_is y_here y_is z_here z_is so_far more = record {
-  tokens = ap (λ t. t ++ by_threes text (drop (i + 1) xs) (drop (i + 1) ys) (drop (i + 1) zs)) more.tokens
-      ∙ append_assoc b.tokens (text x y z) (by_threes text (drop (i + 1) xs) (drop (i + 1) ys) (drop (i + 1) zs))
-      ∙ ap (λ l. b.tokens ++ by_threes text l (y ∷ drop (i + 1) ys) (z ∷ drop (i + 1) zs)) (at_place xs i x x_here x_is)
-      ∙ ap (λ l. b.tokens ++ by_threes text (drop i xs) l (z ∷ drop (i + 1) zs)) (at_place ys i y y_here y_is)
-      ∙ ap (λ l. b.tokens ++ by_threes text (drop i xs) (drop i ys) l) (at_place zs i z z_here z_is) ∙ so_far.tokens;
-  before = more.before ∙ so_far.before;
-}
-
 no_second : {A B C : Type 0} (text : A → B → C → List Token) (xs : List A) (zs : List C) → by_threes text xs [] zs ≡ []
 no_second text [] zs = refl
 no_second text (x ∷ xs) zs = refl
-
-no_third : {A B C : Type 0} (text : A → B → C → List Token) (xs : List A) (ys : List B) → by_threes text xs ys [] ≡ []
-no_third text [] ys = refl
-no_third text (x ∷ xs) [] = refl
-no_third text (x ∷ xs) (y ∷ ys) = refl
-
--- nothing is left to write
-threes_end : {A B C : Type 0} (text : A → B → C → List Token) (xs : List A) (ys : List B) (zs : List C) (i : ℕ) (a b : Written) → by_threes text (drop i xs) (drop i ys) (drop i zs) ≡ []
-    → Threes text xs ys zs i a b → Adds a b (by_threes text xs ys zs)
-threes_end text xs ys zs i a b none so_far = record {
-  tokens = sym (append-nil b.tokens) ∙ ap (λ t. b.tokens ++ t) (sym none) ∙ so_far.tokens;
-  before = so_far.before;
-}
-
-pub threes_last : {A B C : Type 0} (text : A → B → C → List Token) (xs : List A) (ys : List B) (zs : List C) (i : ℕ) (a b : Written) → length xs ≤ i
-    → Threes text xs ys zs i a b → Adds a b (by_threes text xs ys zs)
-threes_last text xs ys zs i a b all so_far = threes_end text xs ys zs i a b (ap (λ l. by_threes text l (drop i ys) (drop i zs)) (drop_all i xs all)) so_far
-
-pub threes_short : {A B C : Type 0} (text : A → B → C → List Token) (xs : List A) (ys : List B) (zs : List C) (i : ℕ) (a b : Written) → length ys ≤ i
-    → Threes text xs ys zs i a b → Adds a b (by_threes text xs ys zs)
-threes_short text xs ys zs i a b all so_far =
-    threes_end text xs ys zs i a b (ap (λ l. by_threes text (drop i xs) l (drop i zs)) (drop_all i ys all) ∙ no_second text (drop i xs) (drop i zs)) so_far
-
-pub threes_shorter : {A B C : Type 0} (text : A → B → C → List Token) (xs : List A) (ys : List B) (zs : List C) (i : ℕ) (a b : Written) → length zs ≤ i
-    → Threes text xs ys zs i a b → Adds a b (by_threes text xs ys zs)
-threes_shorter text xs ys zs i a b all so_far =
-    threes_end text xs ys zs i a b (ap (λ l. by_threes text (drop i xs) (drop i ys) l) (drop_all i zs all) ∙ no_third text (drop i xs) (drop i ys)) so_far
 
 -- a writer that had nothing holds these tokens alone
 pub alone : (told : List ℕ) (a b : Written) (ts : List Token) → a.before ≡ [] → a.tokens ≡ [] → Adds a b ts

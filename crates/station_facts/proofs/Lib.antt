@@ -1,3 +1,4 @@
 pub mod Each
 pub mod Gathered
 pub mod Found
+mod Switches

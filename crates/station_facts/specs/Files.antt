@@ -1,10 +1,10 @@
 -- What is told of the files that a plan plays.
-use Rattle.std.specs.Prelude.{◌≡◌, ⊤, ℕ, ◌+◌, Bool, List, [], ◌∷◌, ◌++◌, codes, nat_le, true, false, Result, Ok, Err}
+use Rattle.std.specs.Prelude.{◌≡◌, ℕ, ◌+◌, Bool, List, [], ◌∷◌, ◌++◌, codes, nat_le, true, false, Result, Ok, Err}
 use Rattle.std.specs.Str.{bytes_eq}
 use Rattle.indexmap.specs.IndexSet.{insert_all}
 use Rattle.json.specs.Token.{Token, string}
 use Rattle.json.specs.Print.{print}
-use Rattle.liq_base.specs.Shelves.{ShelfTold}
+use Rattle.liq_base.specs.Shelves.{OnlyRead, ShelfTold}
 use Rattle.liq_base.specs.declared.limits.TheConstants.{MAX_LIST_BYTES, MAX_SCRIPT_BYTES}
 use Rattle.plan_core.specs.declared.node.Node.{Node}
 use Rattle.plan_core.specs.declared.node.Op.{Op}
@@ -60,20 +60,23 @@ lists_of plan = once (lists plan.nodes)
 abbrev pub sounds_of : Plan → List ListLook → List (List ℕ)
 sounds_of plan looks = once (singles plan.nodes ++ in_each entries_in looks)
 
--- this was found of each name, one for each
-abbrev pub AreFound : {A : Type 0} → (List ℕ → A → Type 0) → List (List ℕ) → List A → Type 0
-AreFound IsFound [] [] = ⊤
-AreFound IsFound (name ∷ names) [] = ⊥
-AreFound IsFound [] (found ∷ looks) = ⊥
-AreFound IsFound (name ∷ names) (found ∷ looks) = IsFound name found × AreFound IsFound names looks
+-- Of each name this was found, one for each, in one call of the shelf after another: the first of them left what the next
+-- one found there.
+abbrev pub AreFound : {A : Type 0} → (List ℕ → (old new : ShelfTold) → A → Type 0) → List (List ℕ)
+    → (old new : ShelfTold) → List A → Type 0
+AreFound IsFound [] old new [] = new ≡ old
+AreFound IsFound (name ∷ names) old new [] = ⊥
+AreFound IsFound [] old new (found ∷ looks) = ⊥
+AreFound IsFound (name ∷ names) old new (found ∷ looks) =
+    (mid : ShelfTold) × IsFound name old mid found × OnlyRead old mid × AreFound IsFound names mid new looks
 
 -- each of these lists was looked at
 abbrev pub AreListLooks : List (List ℕ) → (old new : ShelfTold) → List ListLook → Type 0
-AreListLooks names old new looks = AreFound (λ name found. IsListLook name old new found) names looks
+AreListLooks names old new looks = AreFound IsListLook names old new looks
 
 -- each of these audio files was
 abbrev pub AreLooks : Rules → List (List ℕ) → (old new : ShelfTold) → List Look → Type 0
-AreLooks rules names old new looks = AreFound (λ name found. IsLooked rules name old new found) names looks
+AreLooks rules names old new looks = AreFound (IsLooked rules) names old new looks
 
 -- the number of a fault, as the line E21 has it
 abbrev pub wav_number : WavFault → ℕ
@@ -141,12 +144,14 @@ files_object rules plan ats inferred list_looks looks = object (plan_members pla
     ++ (paired_member (codes "sounds") (sound_object rules) (sounds_of plan list_looks) looks
     ++ (number_member (codes "bytes") (all_bytes rules looks) ++ limit_members rules))))
 
--- what is told of a plan, whose sources are made at these bytes, over a shelf: as each list and each audio file was found
+-- What is told of a plan, whose sources are made at these bytes, over a shelf: as each list was found, and then each audio
+-- file.
 pub record IsTold (rules : Rules) (plan : Plan) (ats : List ℕ) (old new : ShelfTold) (told : List ℕ) : Type 0 where
   pub inferred : Inferred
   pub is_inferred : IsInferred plan inferred
   pub list_looks : List ListLook
-  pub lists : AreListLooks (lists_of plan) old new list_looks
+  pub behind_lists : ShelfTold
+  pub lists : AreListLooks (lists_of plan) old behind_lists list_looks
   pub looks : List Look
-  pub sounds : AreLooks rules (sounds_of plan list_looks) old new looks
+  pub sounds : AreLooks rules (sounds_of plan list_looks) behind_lists new looks
   pub text : told ≡ print (files_object rules plan ats inferred list_looks looks)

@@ -1,5 +1,5 @@
 // All of a plan and of its files.
-ghost use Rattle.std.specs.Prelude.{◌≡◌, IfOk, OnOk};
+ghost use Rattle.std.specs.Prelude.{◌≡◌, IfOk, OnOk, length};
 ghost use Rattle.liq_base.specs.Shelves.{OnlyRead};
 ghost use Rattle.plan_core.specs.Plans.{IsWellFormed};
 ghost use Rattle.station_facts.specs.Files.{files_object, limit_members, lists_of, sounds_of, IsTold};
@@ -31,6 +31,7 @@ pub fn tell_files<S: Shelf>(
 ) -> Result<Vec<u8>, Memory>
     requires plan { IsWellFormed plan.now }
     requires rules { AreRules (rules_for plan.now sizes) }
+    requires each { length ats.now ≡ length plan.now.nodes }
     ensures told { IfOk result
         (λ told. IsTold (rules_for plan.now sizes) plan.now ats.now (S.told shelf.old) (S.told shelf.new) told.items) }
     ensures shelf { OnlyRead (S.told shelf.old) (S.told shelf.new) }

@@ -3,6 +3,7 @@
 
 mod fault;
 mod files;
+mod hours;
 mod inferred;
 mod leaves;
 mod members;
@@ -11,5 +12,6 @@ mod sounds;
 mod tokens;
 
 pub use files::tell_files;
+pub use hours::tell_hours;
 pub use inferred::{Inferred, infer};
-pub use tokens::tell_tokens;
+pub use tokens::{tell_tokens, tell_too_long};

@@ -4,6 +4,7 @@ ghost use Rattle.json.specs.Token.{number};
 ghost use Rattle.station_facts.specs.Members.{Adds, by_threes, each, flag_member, list_member, member_by_threes, number_member, text_member};
 ghost use Rattle.station_facts.specs.Plans.{clock_members, length_members, main_members, name_members, op_members, output_object, plan_members, side_members, source_object, windows_object};
 ghost use Rattle.time_pred.specs.View.{view_shared};
+ghost use Rattle.week_windows.specs.Known.{IsKnown};
 ghost use Rattle.week_windows.specs.Windows.{case_windows};
 
 use crate::inferred::Inferred;
@@ -16,7 +17,7 @@ use liq_base::{Memory, Text};
 use plan_core::{Node, Op, Plan, SinkPlan};
 use std::alloc::Global;
 use time_pred::SharedPred;
-use week_windows::{Windows, windows_of};
+use week_windows::{Known, Windows, unknown, windows_again};
 
 /// Writes the members of a plan, whose sources are made at these bytes.
 pub fn push_plan(
@@ -137,18 +138,22 @@ fn push_sources(
     ensures { OnOk result (Adds out.old out.new
         (member_by_threes (codes "sources") source_object nodes.now marks.now ats.now)) }
 {
+    let mut known = unknown(alloc)?;
     begin_list(out, "sources")?;
-    push_each_source(alloc, out, nodes, marks, ats)?;
+    push_each_source(alloc, out, nodes, marks, ats, &mut known)?;
     end_list(out)
 }
 
-fn push_each_source(
+// The windows of the switch before are kept, since the next one may have the same cases.
+fn push_each_source<'a>(
     alloc: Global,
     out: &mut Out,
-    nodes: &[Node],
+    nodes: &'a [Node],
     marks: &[bool],
     ats: &[usize],
+    known: &mut Known<'a>,
 ) -> Result<(), Memory>
+    requires { IsKnown known.old }
     ensures { OnOk result (Adds out.old out.new (by_threes source_object nodes.now marks.now ats.now)) }
 {
     for (k, node) in nodes.iter().enumerate() {
@@ -158,27 +163,31 @@ fn push_each_source(
         let Some(at) = ats.get(k) else {
             return Ok(());
         };
-        push_source(alloc, out, node, *always, *at)?;
+        push_source(alloc, out, node, *always, *at, known)?;
     }
     Ok(())
 }
 
-fn push_source(
+fn push_source<'a>(
     alloc: Global,
     out: &mut Out,
-    node: &Node,
+    node: &'a Node,
     always: bool,
     at: usize,
+    known: &mut Known<'a>,
 ) -> Result<(), Memory>
-    ensures { OnOk result (Adds out.old out.new (source_object node.now always at)) }
+    requires { IsKnown known.old }
+    ensures known { OnOk result (IsKnown known.new) }
+    ensures told { OnOk result (Adds out.old out.new (source_object node.now always at)) }
 {
     begin(out)?;
-    push_op(alloc, out, &node.op)?;
+    push_op(alloc, out, &node.op, known)?;
     push_kind(out, node.kind)?;
     push_children(out, node.children.as_slice())?;
     push_flag(out, "always", always)?;
     push_number(out, "at", at as u64)?;
-    end(out)
+    end(out)?;
+    Ok(())
 }
 
 fn push_children(out: &mut Out, children: &[u32]) -> Result<(), Memory>
@@ -199,8 +208,15 @@ fn push_each_child(out: &mut Out, children: &[u32]) -> Result<(), Memory>
     Ok(())
 }
 
-fn push_op(alloc: Global, out: &mut Out, op: &Op) -> Result<(), Memory>
-    ensures { OnOk result (Adds out.old out.new (op_members op.now)) }
+fn push_op<'a>(
+    alloc: Global,
+    out: &mut Out,
+    op: &'a Op,
+    known: &mut Known<'a>,
+) -> Result<(), Memory>
+    requires { IsKnown known.old }
+    ensures known { OnOk result (IsKnown known.new) }
+    ensures told { OnOk result (Adds out.old out.new (op_members op.now)) }
 {
     match op {
         Op::Single(file) => push_file(out, "single", file),
@@ -213,7 +229,9 @@ fn push_op(alloc: Global, out: &mut Out, op: &Op) -> Result<(), Memory>
         Op::Square { .. } => push_word(out, "square"),
         Op::Fail => push_word(out, "fail"),
         Op::Fallback { sensitive } => push_choice(out, "fallback", *sensitive),
-        Op::Switch { sensitive, preds } => push_switch(alloc, out, *sensitive, preds.as_slice()),
+        Op::Switch { sensitive, preds } => {
+            push_switch(alloc, out, *sensitive, preds.as_slice(), known)
+        }
         Op::Sequence => push_word(out, "sequence"),
         Op::Rotate => push_word(out, "rotate"),
         Op::Random { .. } => push_word(out, "random"),
@@ -258,17 +276,20 @@ fn push_choice(out: &mut Out, word: &str, sensitive: bool) -> Result<(), Memory>
     Ok(())
 }
 
-fn push_switch(
+fn push_switch<'a>(
     alloc: Global,
     out: &mut Out,
     sensitive: bool,
-    preds: &[SharedPred],
+    preds: &'a [SharedPred],
+    known: &mut Known<'a>,
 ) -> Result<(), Memory>
-    ensures { OnOk result (Adds out.old out.new (text_member (codes "op") (codes "switch")
+    requires { IsKnown known.old }
+    ensures known { OnOk result (IsKnown known.new) }
+    ensures told { OnOk result (Adds out.old out.new (text_member (codes "op") (codes "switch")
         ++ (flag_member (codes "sensitive") sensitive
         ++ list_member (codes "windows") windows_object (case_windows [] (map view_shared preds.now))))) }
 {
-    let windows = windows_of(alloc, preds)?;
+    let windows = windows_again(alloc, known, preds)?;
     push_word(out, "switch")?;
     push_flag(out, "sensitive", sensitive)?;
     push_windows(out, &windows)?;

@@ -1,5 +1,6 @@
 // The tokens of a script.
-ghost use Rattle.std.specs.Prelude.{◌≡◌, OnOk, IfOk, codes};
+ghost use Rattle.std.specs.Prelude.{◌≡◌, ◌<◌, ℕ, List, length, OnOk, IfOk, codes};
+ghost use Rattle.liq_base.specs.declared.limits.TheConstants.{MAX_SCRIPT_BYTES};
 ghost use Rattle.station_facts.specs.Members.{Adds, each, list_member, number_member, object};
 ghost use Rattle.station_facts.specs.Tokens.{AreTold, fault_members, kind_word, stop_members, text_item, token_array};
 ghost use Rattle.std.specs.Prelude.{◌++◌};
@@ -17,6 +18,16 @@ pub fn tell_tokens(alloc: Global, text: &[u8]) -> Result<Vec<u8>, Memory>
     let (tokens, stop) = lex_front(alloc, text)?;
     let mut out = Writer::new(Vec::new(alloc));
     push_front(&mut out, &tokens, stop)?;
+    Ok(out.into_inner())
+}
+
+/// What is told of each script that is longer than a script may be: no token, and that fault.
+pub fn tell_too_long(alloc: Global) -> Result<Vec<u8>, Memory>
+    ensures { IfOk result (λ told. (text : List ℕ) → MAX_SCRIPT_BYTES < length text → AreTold text told.items) }
+{
+    let mut out = Writer::new(Vec::new(alloc));
+    let none = Vec::new(alloc);
+    push_front(&mut out, &none, Some(LexFault::TextTooLong))?;
     Ok(out.into_inner())
 }
 

@@ -16,8 +16,8 @@ use Rattle.station_render.specs.declared.rendered.Rendered.{Rendered}
 use Rattle.station_jobs.specs.Prepared.{Ended, IsJobFor, IsOneRuling, IsToRender, granted, halt_of_render}
 use Rattle.station_jobs.specs.Words.{Asked, Rendering, rendering_of}
 use Rattle.station_jobs.specs.Verdicts.{station_for}
-use Rattle.station_jobs.specs.declared.halt.Halt.{Halt}
-use Rattle.station_jobs.specs.declared.halt.Halt.TheVariants.{Memory as no_memory}
+use Rattle.station_jobs.specs.declared.halt.CallEnd.{CallEnd}
+use Rattle.station_jobs.specs.declared.halt.CallEnd.TheVariants.{Memory as no_memory}
 use Rattle.station_jobs.proofs.Leavings.{RunLaws, broke_off, ended_rendered}
 
 -- the station of a job
@@ -54,7 +54,7 @@ module _ (laws : RunLaws) (asked : Asked) (job : Job) (way : Way) (first old new
       broke_off asked first old new _ _ _ way (renders_it station) ruled laws fits begins read e broke.part broke.front (λ same. broke.cause (ap Err same))
 
   -- with its report, unless memory was refused for that
-  pub concluded : (r : Result Rendered RenderFault) (value : Rendered) → r ≡ Ok value → Renders (station_in job way) old new r → (result : Result (String Global) Halt) → IfErr result (λ e. e ≡ no_memory)
+  pub concluded : (r : Result Rendered RenderFault) (value : Rendered) → r ≡ Ok value → Renders (station_in job way) old new r → (result : Result (String Global) CallEnd) → IfErr result (λ e. e ≡ no_memory)
       → IfOk result (λ text. (run : Run) → IsTold (station_in job way) run value → string_bytes text ≡ report_of (station_in job way) run) → Ended asked first new result
   concluded r value at renders result starved tells =
       let whole : Renders station old new (Ok value) = subst (λ (z : Station × Result Rendered RenderFault). Renders z.0 old new z.1) (λ i. (sym station_is i, at i)) renders in

@@ -9,20 +9,20 @@ use Rattle.script_plan.specs.declared.fault.ScriptFault.{ScriptFault}
 use Rattle.script_plan.specs.declared.fault.ScriptFault.TheVariants as script_fault
 use Rattle.script_plan.specs.Plans.{IsPlan, IsPlanFault}
 use Rattle.stations.specs.Findings.{Fails, IsFound}
-use Rattle.station_check.specs.declared.halt.Halt.{Halt as CheckHalt}
-use Rattle.station_check.specs.declared.halt.Halt.TheVariants.{Refused as check_refused, Read as check_read, Memory as check_memory}
+use Rattle.station_check.specs.declared.halt.CheckEnd.{CheckEnd}
+use Rattle.station_check.specs.declared.halt.CheckEnd.TheVariants.{Refused as check_refused, Read as check_read, Memory as check_memory}
 use Rattle.station_check.specs.Halts.{HaltsFor}
 use Rattle.refusal_lines.specs.declared.fault.Fault.{Fault}
 use Rattle.refusal_lines.specs.declared.fault.Fault.TheVariants.{Script}
 use Rattle.station_jobs.specs.Words.{Rendering}
-use Rattle.station_jobs.specs.declared.halt.Halt.{Halt}
-use Rattle.station_jobs.specs.declared.halt.Halt.TheVariants.{Memory, Refused as refused_for}
+use Rattle.station_jobs.specs.declared.halt.CallEnd.{CallEnd}
+use Rattle.station_jobs.specs.declared.halt.CallEnd.TheVariants.{Memory, Refused as refused_for}
 use Rattle.station_jobs.specs.Verdicts.{HasPlan, clash_of}
 use Rattle.station_jobs.specs.Prepared.{ClashEnds, EndsFor, IsOneOutcome, Lost, halt_of_check, halt_of_script}
 use Rattle.station_jobs.proofs.Found.{ScriptLaws, clash_has, plan_outcome, script_has}
 
 -- a step ends as its part did
-pub ends_as : {T U : Type 0} (rendering : Rendering) (old new : ShelfTold) (e : Halt)
+pub ends_as : {T U : Type 0} (rendering : Rendering) (old new : ShelfTold) (e : CallEnd)
     → EndsFor {T = T} rendering old new (Err e) → EndsFor {T = U} rendering old new (Err e)
 ends_as rendering old new e ends = record {
   fault = λ fault at. ends.fault fault (cc);
@@ -61,7 +61,7 @@ module _ {T : Type 0} (laws : ScriptLaws) (rendering : Rendering) (old new : She
   script_ends script_fault.Memory is = ends_starved rendering old new
 
   -- two files of its rendering would have one name
-  pub clash_ends : {U : Type 0} (plan : Plan) → IsPlan text plan → (e : Halt) → ClashEnds {T = U} (clash_of plan rendering.trace rendering.cues) (Err e) → EndsFor {T = T} rendering old new (Err e)
+  pub clash_ends : {U : Type 0} (plan : Plan) → IsPlan text plan → (e : CallEnd) → ClashEnds {T = U} (clash_of plan rendering.trace rendering.cues) (Err e) → EndsFor {T = T} rendering old new (Err e)
   clash_ends plan is_plan e ends = record {
     fault = λ fault at files t.
         let clash = ends.fault fault (cc) in
@@ -72,7 +72,7 @@ module _ {T : Type 0} (laws : ScriptLaws) (rendering : Rendering) (old new : She
 
 -- the plan of the script is not rendered
 pub check_ends : {T : Type 0} (laws : ScriptLaws) (rendering : Rendering) (first old new : ShelfTold) (plan : Plan)
-    → ForSome first.files (λ files. HasPlan files rendering.file plan) → clash_of plan rendering.trace rendering.cues ≡ None → OnlyRead first old → (h : CheckHalt)
+    → ForSome first.files (λ files. HasPlan files rendering.file plan) → clash_of plan rendering.trace rendering.cues ≡ None → OnlyRead first old → (h : CheckEnd)
     → HaltsFor old new (λ files fault. IsFound files plan rendering.ticks (Fails fault)) h → EndsFor {T = T} rendering first new (Err (halt_of_check h))
 check_ends laws rendering first old new plan there apart read (check_refused fault) halts =
     ends_refused rendering first new (Fault.Station fault) (λ files t. plan_outcome laws files rendering plan (there files t) apart (Fails fault) (halts files (read.files ∙ t)))

@@ -36,8 +36,8 @@ use Rattle.station_render.specs.declared.fault.RenderFault.TheVariants.{Write as
 use Rattle.station_render.specs.Runs.{IsRendered, IsTold, setting_by}
 use Rattle.station_render.specs.declared.job.Job.{Job}
 use Rattle.station_render.specs.declared.rendered.Rendered.{Rendered as Shown}
-use Rattle.station_jobs.specs.declared.halt.Halt.{Halt}
-use Rattle.station_jobs.specs.declared.halt.Halt.TheVariants.{Read, Write, Memory as no_memory, Refused as refused_for}
+use Rattle.station_jobs.specs.declared.halt.CallEnd.{CallEnd}
+use Rattle.station_jobs.specs.declared.halt.CallEnd.TheVariants.{Read, Write, Memory as no_memory, Refused as refused_for}
 use Rattle.refusal_lines.specs.declared.fault.Fault.{Fault}
 use Rattle.station_jobs.specs.Words.{Asked, Check, Replay, rendering_by, rendering_of}
 use Rattle.station_jobs.specs.Verdicts.{Verdict, Usage, Refused, Accepted, IsVerdictOn, files_for, station_for}
@@ -56,7 +56,7 @@ pub ended_starved : (asked : Asked) (old new : ShelfTold) → OnlyRead old new �
 ended_starved asked old new kept = λ files t verdict is. kept_starved asked files verdict old new is kept
 
 -- a job over the files of the shelf ends as the steps before the rendering do
-pub ended_early : {T : Type 0} (asked : Asked) → ((files : Files) → files_for asked files ≡ files) → (old new : ShelfTold) (e : Halt)
+pub ended_early : {T : Type 0} (asked : Asked) → ((files : Files) → files_for asked files ≡ files) → (old new : ShelfTold) (e : CallEnd)
     → EndsFor {T = T} (rendering_of asked) old new (Err e) → OnlyRead old new → Ended asked old new (Err e)
 ended_early asked own old new (refused_for fault) ends kept = (
   λ files t. for_one asked files (Denied fault) (λ v. v ≡ Refused fault)
@@ -69,7 +69,7 @@ ended_early asked own old new Write ends kept = absurd (ends.no_write (cc))
 ended_early asked own old new no_memory ends kept = ended_starved asked old new kept
 
 -- a job whose last step is its report
-pub ended_told : {F : Type 0} (asked : Asked) (old new : ShelfTold) (r : Result (String Global) Halt) (s : Result (String Global) F) (P : String Global → Type 0)
+pub ended_told : {F : Type 0} (asked : Asked) (old new : ShelfTold) (r : Result (String Global) CallEnd) (s : Result (String Global) F) (P : String Global → Type 0)
     → IfOk r (λ t. s ≡ Ok t) → IfErr r (λ e. e ≡ no_memory) → IfOk s P → ((text : String Global) → P text → ForOneOf asked old (λ files v. IsDone v files old new (string_bytes text)))
     → Ended asked old new (Err no_memory) → Ended asked old new r
 ended_told asked old new (Ok t) s P is starved holds done memory = done t (subst (λ x. IfOk x P) is holds)
@@ -104,7 +104,7 @@ told_ruled laws file trace job start ticks start_is ticks_are files one told is 
 
 -- the trace of a replay is not rendered again
 pub ended_untold : {T : Type 0} (laws : TraceLaws) (file trace : List ℕ) (first old new : ShelfTold) (job : Job) (start ticks : ℕ) → start ≡ job.start.second → ticks ≡ job.ticks
-    → ForSome first.files (λ files. IsOneOutcome files (rendering_by file start ticks None false) (outcome_of job)) → OnlyRead first old → (e : Halt)
+    → ForSome first.files (λ files. IsOneOutcome files (rendering_by file start ticks None false) (outcome_of job)) → OnlyRead first old → (e : CallEnd)
     → TraceEnds {T = T} trace (setting_by job) job.ready.clocks.running job.ticks old new (Err e) → OnlyRead old new → Ended (Replay file start ticks trace) first new (Err e)
 ended_untold laws file trace first old new job start ticks start_is ticks_are one read (refused_for fault) ends kept = (
   λ files t.
@@ -249,7 +249,7 @@ module _ (asked : Asked) (first old new : ShelfTold) (plan : Plan) (library : So
       )))
 
   -- a rendering whose last step is its report: memory may be refused for that
-  pub ended_rendered : (r : Result (String Global) Halt) (value : Shown) → IfErr r (λ e. e ≡ no_memory) → ForSome old.files (λ files. WrotePart station false files old new)
+  pub ended_rendered : (r : Result (String Global) CallEnd) (value : Shown) → IfErr r (λ e. e ≡ no_memory) → ForSome old.files (λ files. WrotePart station false files old new)
       → CreatedFront (names_of station) old new → IsRendered station old new value
       → IfOk r (λ text. (run : Run) → IsTold station run value → string_bytes text ≡ report_of station run) → Ended asked first new r
   ended_rendered (Ok text) value starved parts front is says = wrote (string_bytes text) value is says

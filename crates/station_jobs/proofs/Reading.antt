@@ -11,10 +11,6 @@ pub window_or_trace : (word window trace : List ℕ) → word ≡ codes "--windo
 window_or_trace word window trace one other =
     let third : ◌≡◌ {A = ℕ} 119 116 = ap (λ (w : List ℕ). slice_index_or w 2 0) (sym one ∙ other) in absurd (omega (arith, third))
 
-pub start_or_trace : (word start trace : List ℕ) → word ≡ codes "--start=" ++ start → word ≡ codes "--trace=" ++ trace → ⊥
-start_or_trace word start trace one other =
-    let third : ◌≡◌ {A = ℕ} 115 116 = ap (λ (w : List ℕ). slice_index_or w 2 0) (sym one ∙ other) in absurd (omega (arith, third))
-
 -- what was not said before is said once
 pub said_once : {A B C : Type 0} (f : A → B) (before : Option A) (after : C) → option_map f before ≡ None → ◌≡◌ {A = Option C} (if is_some before then None else Some after) (Some after)
 said_once f None after none = refl

@@ -7,14 +7,14 @@ use Rattle.liq_base.specs.Shelves.{ShelfTold}
 use Rattle.stream_meaning.specs.Instants.{Setting}
 use Rattle.refusal_lines.specs.declared.fault.Fault.{Fault}
 use Rattle.refusal_lines.specs.declared.replay_lines.ReplayFault.{ReplayFault}
-use Rattle.station_jobs.specs.declared.halt.Halt.{Halt}
-use Rattle.station_jobs.specs.declared.halt.Halt.TheVariants.{Memory, Refused as refused_for}
+use Rattle.station_jobs.specs.declared.halt.CallEnd.{CallEnd}
+use Rattle.station_jobs.specs.declared.halt.CallEnd.TheVariants.{Memory, Refused as refused_for}
 use Rattle.station_jobs.specs.Prepared.{IsUntold, TraceEnds}
 use Rattle.station_jobs.specs.Replays.{HasMore, IsReplayFault, most_bytes}
 
 module _ (name : List ℕ) (base : Setting) (clocks N : ℕ) (old new : ShelfTold) where
   -- a step ends as its part did
-  pub trace_ends_as : {T U : Type 0} (e : Halt) → TraceEnds {T = T} name base clocks N old new (Err e) → TraceEnds {T = U} name base clocks N old new (Err e)
+  pub trace_ends_as : {T U : Type 0} (e : CallEnd) → TraceEnds {T = T} name base clocks N old new (Err e) → TraceEnds {T = U} name base clocks N old new (Err e)
   trace_ends_as e ends = record {
     fault = λ fault at. ends.fault fault (cc);
     read = λ at. ends.read (cc);
@@ -37,7 +37,7 @@ module _ (name : List ℕ) (base : Setting) (clocks N : ℕ) (old new : ShelfTol
     no_write = λ at. absurd (cc);
   }
 
-  pub ends_untold : {T : Type 0} (fault : ReplayFault) (halt : Halt) → IsUntold fault halt → ForSome old.files (λ files. IsReplayFault files name base clocks N fault)
+  pub ends_untold : {T : Type 0} (fault : ReplayFault) (halt : CallEnd) → IsUntold fault halt → ForSome old.files (λ files. IsReplayFault files name base clocks N fault)
       → TraceEnds {T = T} name base clocks N old new (Err halt)
   ends_untold {T} fault halt (inl is) holds = subst (λ h. TraceEnds {T = T} name base clocks N old new (Err h)) (sym is) (ends_told fault holds)
   ends_untold {T} fault halt (inr is) holds = subst (λ h. TraceEnds {T = T} name base clocks N old new (Err h)) (sym is) ends_starved

@@ -20,8 +20,8 @@ use Rattle.station_render.specs.declared.fault.RenderFault.{RenderFault}
 use Rattle.station_render.specs.declared.fault.RenderFault.TheVariants.{Write as render_write, Memory as render_memory}
 use Rattle.station_render.specs.Runs.{IsRendered, IsTold}
 use Rattle.station_render.specs.declared.rendered.Rendered.{Rendered as Shown}
-use Rattle.station_jobs.specs.declared.halt.Halt.{Halt}
-use Rattle.station_jobs.specs.declared.halt.Halt.TheVariants.{Read, Write, Memory, Refused as refused_for}
+use Rattle.station_jobs.specs.declared.halt.CallEnd.{CallEnd}
+use Rattle.station_jobs.specs.declared.halt.CallEnd.TheVariants.{Read, Write, Memory, Refused as refused_for}
 use Rattle.station_jobs.specs.Words.{Make, made_script, rendering_by, rendering_of}
 use Rattle.station_jobs.specs.Verdicts.{Refused, files_made, station_for}
 use Rattle.station_jobs.specs.Jobs.{IsDone}
@@ -45,7 +45,7 @@ one_made seed size shelf file outcome shelf_is file_is found =
     subst (λ f. IsOneOutcome (files_made seed size) (rendering_by f 0 500 None false) outcome) file_is (found (files_made seed size) (ap Some shelf_is))
 
 -- the steps before the rendering ended
-pub stopped_made : {T : Type 0} (seed size : ℕ) (shelf after : Files) (file : List ℕ) (told : ShelfTold) (e : Halt) → shelf ≡ files_made seed size → file ≡ made_script
+pub stopped_made : {T : Type 0} (seed size : ℕ) (shelf after : Files) (file : List ℕ) (told : ShelfTold) (e : CallEnd) → shelf ≡ files_made seed size → file ≡ made_script
     → EndsFor {T = T} (rendering_by file 0 500 None false) (sure_shelf_told shelf) (sure_shelf_told after) (Err e) → Ended (Make seed size) told told (Err e)
 stopped_made seed size shelf after file told (refused_for fault) shelf_is file_is ends = (
   λ files t. for_one (Make seed size) files (Denied fault) (λ v. v ≡ Refused fault)

@@ -12,8 +12,8 @@ use Rattle.script_plan.specs.declared.fault.ScriptFault.{ScriptFault}
 use Rattle.script_plan.specs.declared.fault.ScriptFault.TheVariants as script_fault
 use Rattle.stations.specs.Stations.{Station, Way}
 use Rattle.stream_meaning.specs.Instants.{Setting}
-use Rattle.station_check.specs.declared.halt.Halt.{Halt as CheckHalt}
-use Rattle.station_check.specs.declared.halt.Halt.TheVariants.{Refused as check_refused, Read as check_read, Memory as check_memory}
+use Rattle.station_check.specs.declared.halt.CheckEnd.{CheckEnd}
+use Rattle.station_check.specs.declared.halt.CheckEnd.TheVariants.{Refused as check_refused, Read as check_read, Memory as check_memory}
 use Rattle.station_render.specs.declared.fault.RenderFault.{RenderFault}
 use Rattle.station_render.specs.declared.fault.RenderFault.TheVariants.{Write as render_write, Memory as render_memory}
 use Rattle.station_render.specs.Runs.{name_in}
@@ -25,8 +25,8 @@ use Rattle.station_jobs.specs.Words.{Asked, Rendering, rendering_by, rendering_o
 use Rattle.station_jobs.specs.Verdicts.{Verdict, Refused, Accepted, IsScriptFault, IsVerdictOn, IsPrepared, IsRefusal, IsWayFor, files_for, station_for, verdict_for}
 use Rattle.station_jobs.specs.Replays.{IsReplayFault}
 use Rattle.station_jobs.specs.Jobs.{IsBroken, IsDone, IsStarved}
-use Rattle.station_jobs.specs.declared.halt.Halt.{Halt}
-use Rattle.station_jobs.specs.declared.halt.Halt.TheVariants.{Read, Write, Memory, Refused as refused_for}
+use Rattle.station_jobs.specs.declared.halt.CallEnd.{CallEnd}
+use Rattle.station_jobs.specs.declared.halt.CallEnd.TheVariants.{Read, Write, Memory, Refused as refused_for}
 
 -- a script has a plan with its audio files and clocks, or a fault
 pub data Outcome : Type 0 where
@@ -77,7 +77,7 @@ pub record IsChecked (files : Files) (file : List ℕ) (plan : Plan) (clocks : C
   pub one : IsOneOutcome files (rendering_by file 0 0 None false) (Found plan library clocks)
 
 -- why a step that reads ended: a fault only where it is the outcome, and a read fault only where a read failed
-pub record EndsFor {T : Type 0} (rendering : Rendering) (old new : ShelfTold) (result : Result T Halt) : Type 0 where
+pub record EndsFor {T : Type 0} (rendering : Rendering) (old new : ShelfTold) (result : Result T CallEnd) : Type 0 where
   pub fault : (fault : Fault) → result ≡ Err (refused_for fault)
       → ForSome old.files (λ files. IsOneOutcome files rendering (Lost fault))
   pub read : IsErrOf result Read → Rose old.reads new.reads
@@ -91,18 +91,18 @@ pub record HasFaultOf (files : Files) (name : List ℕ) (base : Setting) (clocks
 
 -- why the reading of a trace ended: a fault only where it is the trace's, and a read fault only where a read failed
 pub record TraceEnds {T : Type 0} (name : List ℕ) (base : Setting) (clocks N : ℕ) (old new : ShelfTold)
-    (result : Result T Halt) : Type 0 where
+    (result : Result T CallEnd) : Type 0 where
   pub fault : (fault : Fault) → result ≡ Err (refused_for fault)
       → ForSome old.files (λ files. HasFaultOf files name base clocks N fault)
   pub read : IsErrOf result Read → Rose old.reads new.reads
   pub no_write : IsErrOf result Write → ⊥
 
 -- a replay ended for this fault of its trace, or memory was refused for it
-abbrev pub IsUntold : ReplayFault → Halt → Type 0
+abbrev pub IsUntold : ReplayFault → CallEnd → Type 0
 IsUntold fault halt = (halt ≡ refused_for (Fault.Replay fault)) ⊎ (halt ≡ Memory)
 
 -- why a test of the names of files ended: this is the name of two
-pub record ClashEnds {T : Type 0} (clash : Option (List ℕ)) (result : Result T Halt) : Type 0 where
+pub record ClashEnds {T : Type 0} (clash : Option (List ℕ)) (result : Result T CallEnd) : Type 0 where
   pub fault : (fault : Fault) → result ≡ Err (refused_for fault)
       → (name : List ℕ) × (fault ≡ SameFile name) × (clash ≡ Some name)
   pub no_read : IsErrOf result Read → ⊥
@@ -126,7 +126,7 @@ ForOneOf asked shelf P = ForSome shelf.files (λ files. ForOne asked files (P fi
 -- A job ended so, over what is told of the shelf before and after it: with the report of what was done; for the fault
 -- that is the verdict, or since a read failed, where the shelf was only read; since a write failed; or since memory was
 -- refused.
-abbrev pub Ended : (asked : Asked) (old new : ShelfTold) → Result (String Global) Halt → Type 0
+abbrev pub Ended : (asked : Asked) (old new : ShelfTold) → Result (String Global) CallEnd → Type 0
 Ended asked old new (Ok report) = ForOneOf asked old
     (λ files verdict. IsDone verdict files old new (string_bytes report))
 Ended asked old new (Err (refused_for fault)) = ForOneOf asked old (λ files verdict. verdict ≡ Refused fault)
@@ -153,18 +153,18 @@ abbrev pub granted : Job → Way → Ruling
 granted job way = Granted job.plan job.ready.library job.ready.clocks way
 
 -- how the ends of lower steps go on
-abbrev pub halt_of_script : ScriptFault → Halt
+abbrev pub halt_of_script : ScriptFault → CallEnd
 halt_of_script (script_fault.Lex fault) = refused_for (Script (script_fault.Lex fault))
 halt_of_script (script_fault.Parse fault) = refused_for (Script (script_fault.Parse fault))
 halt_of_script (script_fault.Type fault) = refused_for (Script (script_fault.Type fault))
 halt_of_script (script_fault.Eval fault) = refused_for (Script (script_fault.Eval fault))
 halt_of_script script_fault.Memory = Memory
 
-abbrev pub halt_of_check : CheckHalt → Halt
+abbrev pub halt_of_check : CheckEnd → CallEnd
 halt_of_check (check_refused fault) = refused_for (Fault.Station fault)
 halt_of_check check_read = Read
 halt_of_check check_memory = Memory
 
-abbrev pub halt_of_render : RenderFault → Halt
+abbrev pub halt_of_render : RenderFault → CallEnd
 halt_of_render render_write = Write
 halt_of_render render_memory = Memory

@@ -65,7 +65,7 @@ abbrev pub first_cue_clash : (all : List SinkPlan) → List SinkPlan → Option 
 first_cue_clash all [] = None
 first_cue_clash all (sink ∷ sinks) = option_or (cue_clash_at all sink) (first_cue_clash all sinks)
 
--- the same, where cue files are wanted
+-- the first name of a cue file that is an output's too, if cue files are wanted
 abbrev pub cue_clash : Plan → (cues : Bool) → Option (List ℕ)
 cue_clash plan false = None
 cue_clash plan true = first_cue_clash plan.sinks plan.sinks

@@ -7,7 +7,7 @@ ghost use Rattle.station_jobs.specs.Verdicts.{clash_of, cue_clash, cue_clash_at,
 ghost use Rattle.station_jobs.specs.Prepared.{ClashEnds};
 ghost use Rattle.station_jobs.specs.Read.{named};
 
-use crate::halt::Halt;
+use crate::halt::CallEnd;
 use liq_base::{Memory, Text};
 use plan_core::{Plan, SinkPlan};
 use refusal_lines::Fault;
@@ -16,12 +16,17 @@ use std::alloc::Global;
 
 /// Refuses two files of one name: where cue files are wanted, one that has the name of an output; then a trace that has
 /// the name of an output or of a cue file.
-pub fn keep_apart(alloc: Global, plan: &Plan, trace: Option<&str>, cues: bool) -> Result<(), Halt>
+pub fn keep_apart(
+    alloc: Global,
+    plan: &Plan,
+    trace: Option<&str>,
+    cues: bool,
+) -> Result<(), CallEnd>
     ensures apart { OnOk result (clash_of plan.now (named trace.entry) cues ≡ None) }
     ensures ends { ClashEnds (clash_of plan.now (named trace.entry) cues) result }
 {
     match find_clash(alloc, plan, trace, cues)? {
-        Some(name) => Err(Halt::Refused(Fault::SameFile(name))),
+        Some(name) => Err(CallEnd::Refused(Fault::SameFile(name))),
         None => Ok(()),
     }
 }

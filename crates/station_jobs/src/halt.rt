@@ -4,12 +4,12 @@ ghost use Rattle.std.specs.Prelude.{◌≡◌};
 use liq_base::Memory;
 use refusal_lines::Fault;
 use script_plan::ScriptFault;
-use station_check::Halt as CheckHalt;
+use station_check::CheckEnd;
 use station_render::RenderFault;
 
 /// Why a call ends without its report.
 #[derive(Debug, Drop)]
-pub enum Halt {
+pub enum CallEnd {
     /// The script is refused.
     Refused(Fault),
 
@@ -23,55 +23,55 @@ pub enum Halt {
     Memory,
 }
 
-impl From<Memory> for Halt {
-    ghost use Rattle.station_jobs.specs.declared.halt.Halt.TheVariants.{Memory as no_memory};
+impl From<Memory> for CallEnd {
+    ghost use Rattle.station_jobs.specs.declared.halt.CallEnd.TheVariants.{Memory as no_memory};
 
     ghost from_gives = { λ _ e. e ≡ no_memory };
 
     fn from(_refused: Memory) -> Self {
-        Halt::Memory
+        CallEnd::Memory
     }
 }
 
-impl From<ScriptFault> for Halt {
+impl From<ScriptFault> for CallEnd {
     ghost use Rattle.station_jobs.specs.Prepared.{halt_of_script};
 
     ghost from_gives = { λ fault e. e ≡ halt_of_script fault };
 
     fn from(fault: ScriptFault) -> Self {
         match fault {
-            ScriptFault::Lex(fault) => Halt::Refused(Fault::Script(ScriptFault::Lex(fault))),
-            ScriptFault::Parse(fault) => Halt::Refused(Fault::Script(ScriptFault::Parse(fault))),
-            ScriptFault::Type(fault) => Halt::Refused(Fault::Script(ScriptFault::Type(fault))),
-            ScriptFault::Eval(fault) => Halt::Refused(Fault::Script(ScriptFault::Eval(fault))),
-            ScriptFault::Memory => Halt::Memory,
+            ScriptFault::Lex(fault) => CallEnd::Refused(Fault::Script(ScriptFault::Lex(fault))),
+            ScriptFault::Parse(fault) => CallEnd::Refused(Fault::Script(ScriptFault::Parse(fault))),
+            ScriptFault::Type(fault) => CallEnd::Refused(Fault::Script(ScriptFault::Type(fault))),
+            ScriptFault::Eval(fault) => CallEnd::Refused(Fault::Script(ScriptFault::Eval(fault))),
+            ScriptFault::Memory => CallEnd::Memory,
         }
     }
 }
 
-impl From<CheckHalt> for Halt {
+impl From<CheckEnd> for CallEnd {
     ghost use Rattle.station_jobs.specs.Prepared.{halt_of_check};
 
     ghost from_gives = { λ halt e. e ≡ halt_of_check halt };
 
-    fn from(halt: CheckHalt) -> Self {
+    fn from(halt: CheckEnd) -> Self {
         match halt {
-            CheckHalt::Refused(fault) => Halt::Refused(Fault::Station(fault)),
-            CheckHalt::Read => Halt::Read,
-            CheckHalt::Memory => Halt::Memory,
+            CheckEnd::Refused(fault) => CallEnd::Refused(Fault::Station(fault)),
+            CheckEnd::Read => CallEnd::Read,
+            CheckEnd::Memory => CallEnd::Memory,
         }
     }
 }
 
-impl From<RenderFault> for Halt {
+impl From<RenderFault> for CallEnd {
     ghost use Rattle.station_jobs.specs.Prepared.{halt_of_render};
 
     ghost from_gives = { λ fault e. e ≡ halt_of_render fault };
 
     fn from(fault: RenderFault) -> Self {
         match fault {
-            RenderFault::Write => Halt::Write,
-            RenderFault::Memory => Halt::Memory,
+            RenderFault::Write => CallEnd::Write,
+            RenderFault::Memory => CallEnd::Memory,
         }
     }
 }

@@ -2,7 +2,7 @@
 ghost use Rattle.std.specs.Prelude.{◌≡◌, IfOk, IfErr, None, Ok, Some};
 ghost use Rattle.std.specs.Option.{ForSome};
 ghost use Rattle.liq_base.specs.Shelves.{OnlyRead, ShelfTold};
-ghost use Rattle.station_jobs.specs.declared.halt.Halt.TheVariants.{Memory as no_memory};
+ghost use Rattle.station_jobs.specs.declared.halt.CallEnd.TheVariants.{Memory as no_memory};
 ghost use Rattle.station_jobs.specs.Prepared.{Ended, IsJobFor, IsOneRuling, IsToRender, granted};
 ghost use Rattle.station_jobs.specs.Read.{rendering_read};
 ghost use Rattle.station_jobs.specs.Words.{Asked, Check, Render, rendering_of};
@@ -11,7 +11,7 @@ ghost use Rattle.station_render.specs.Runs.{IsFitting, station_in};
 ghost use Rattle.stations.specs.Stations.{Way};
 
 use crate::form::Rendering;
-use crate::halt::Halt;
+use crate::halt::CallEnd;
 use crate::prepare::{prepare, prepare_check};
 use crate::window::Window;
 use liq_base::{Gate, Memory, Shelf};
@@ -22,7 +22,7 @@ use std::sync::Wait;
 use std::thread::Threads;
 
 /// The report of a check. No file changes.
-pub fn check_job<S: Shelf>(alloc: Global, file: &str, shelf: &mut S) -> Result<String, Halt>
+pub fn check_job<S: Shelf>(alloc: Global, file: &str, shelf: &mut S) -> Result<String, CallEnd>
     ensures { Ended (Check file.now) (S.told shelf.old) (S.told shelf.new) result }
 {
     let work = prepare_check(alloc, file, shelf)?;
@@ -34,7 +34,7 @@ pub fn alone_job<S: Shelf>(
     alloc: Global,
     asked: &Rendering<'_>,
     shelf: &mut S,
-) -> Result<String, Halt>
+) -> Result<String, CallEnd>
     ensures { Ended (Render (rendering_read asked.now) None) (S.told shelf.old) (S.told shelf.new) result }
 {
     let job = prepare(alloc, asked, shelf)?;
@@ -51,7 +51,7 @@ pub fn threads_job<S: Shelf, G: Gate + Sync, R: Threads + Wait + Sync>(
     window: Window,
     shelf: &mut S,
     gate: &G,
-) -> Result<String, Halt>
+) -> Result<String, CallEnd>
     ensures { Ended (Render (rendering_read asked.now) (Some window.ticks)) (S.told shelf.old) (S.told shelf.new)
         result }
 {
@@ -65,7 +65,7 @@ pub(crate) fn conclude(
     alloc: Global,
     job: &Job<'_>,
     ended: Result<Rendered, RenderFault>,
-) -> Result<String, Halt>
+) -> Result<String, CallEnd>
     requires fit { IsFitting job.now }
     requires rendering { (way : Way) × (old : ShelfTold) × (new : ShelfTold)
         × Renders (station_in job.now way) old new ended }
@@ -85,7 +85,7 @@ pub(crate) fn conclude(
 
 /// The report, or that memory was refused for it. Where a plan is alive, a `?` would be one more place at which it
 /// ends.
-pub(crate) fn report_or_halt(report: Result<String, Memory>) -> Result<String, Halt>
+pub(crate) fn report_or_halt(report: Result<String, Memory>) -> Result<String, CallEnd>
     ensures told { IfOk result (λ text. report ≡ Ok text) }
     ensures starved { IfErr result (λ halt. halt ≡ no_memory) }
 {

@@ -20,7 +20,7 @@ mod window;
 mod words;
 
 pub use form::{Form, Rendering};
-pub use halt::Halt;
+pub use halt::CallEnd;
 pub use jobs::{alone_job, check_job, threads_job};
 pub use making::make_job;
 pub use replaying::replay_job;

@@ -6,7 +6,7 @@ ghost use Rattle.station_jobs.specs.Prepared.{Ended};
 ghost use Rattle.station_jobs.specs.Words.{Make, made_script};
 
 use crate::form::Rendering;
-use crate::halt::Halt;
+use crate::halt::CallEnd;
 use crate::jobs::report_or_halt;
 use crate::laws;
 use crate::prepare::prepare;
@@ -35,14 +35,14 @@ pub fn make_job<G: Gate + Sync, R: Threads + Wait + Sync>(
     seed: u64,
     size: Size,
     gate: &G,
-) -> Result<String, Halt>
+) -> Result<String, CallEnd>
     ensures { (told : ShelfTold) → Ended (Make seed size.files) told told result }
 {
     let mut shelf = workload_shelf(alloc, seed, size)?;
     sum_workload(rt, alloc, seed, size, &mut shelf, gate)
 }
 
-// The same over the shelf that holds its files.
+// The summary, over the shelf that holds the files of the workload.
 fn sum_workload<G: Gate + Sync, R: Threads + Wait + Sync>(
     rt: &R,
     alloc: Global,
@@ -50,7 +50,7 @@ fn sum_workload<G: Gate + Sync, R: Threads + Wait + Sync>(
     size: Size,
     shelf: &mut SureShelf,
     gate: &G,
-) -> Result<String, Halt>
+) -> Result<String, CallEnd>
     requires { shelf.old ≡ files_made seed size.files }
     ensures { (told : ShelfTold) → Ended (Make seed size.files) told told result }
 {
@@ -65,7 +65,7 @@ fn sum_workload<G: Gate + Sync, R: Threads + Wait + Sync>(
     // The script of a workload has no buffer. Through one its clocks could meet in one way or another, and what is told
     // rests on the two numbers alone: so were there one, nothing would be told.
     if !is_unbuffered(&job.plan) {
-        return Err(Halt::Memory);
+        return Err(CallEnd::Memory);
     }
     stations::laws::infallible_outputs_have_no_gaps();
     laws::sums_are_as_on_one_thread();

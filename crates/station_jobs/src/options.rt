@@ -1,7 +1,9 @@
 // The options of a rendering.
-ghost use Rattle.std.specs.Prelude.{◌≡◌, ℕ, List, true, None, Some, is_some, option_map, unwrap_or, if◌then◌else◌, IfSome, IsSomeAnd};
+ghost use Rattle.std.specs.Prelude.{◌≡◌, ℕ, List, true, None, Some, is_some, option_map, unwrap_or, if◌then◌else◌};
+ghost use Rattle.std.specs.Prelude.{IfSome, IsSomeAnd};
 ghost use Rattle.station_jobs.specs.Read.{options_of};
-ghost use Rattle.station_jobs.specs.Words.{AreOptions, IsOption, IsStart, IsTraceName, Options as AllOptions, no_options, start_in, texts};
+ghost use Rattle.station_jobs.specs.Words.{AreOptions, IsOption, IsStart, IsTraceName, Options as AllOptions};
+ghost use Rattle.station_jobs.specs.Words.{no_options, start_in, texts};
 
 use crate::window::{Window, read_window_option};
 use fixed_text::{WeekSecond, read_start};

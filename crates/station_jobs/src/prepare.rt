@@ -12,7 +12,7 @@ ghost use Rattle.station_jobs.specs.Words.{rendering_by};
 
 use crate::clash::keep_apart;
 use crate::form::Rendering;
-use crate::halt::Halt;
+use crate::halt::CallEnd;
 use clock_infer::ClockMap;
 use liq_base::limits::MAX_SCRIPT_BYTES;
 use liq_base::{Fetched, Shelf, ShelfFault};
@@ -37,9 +37,10 @@ pub fn prepare<'a, S: Shelf>(
     alloc: Global,
     asked: &Rendering<'a>,
     shelf: &mut S,
-) -> Result<Job<'a>, Halt>
+) -> Result<Job<'a>, CallEnd>
     ensures found { IfOk result
-        (λ job. ForSome (S.told shelf.old).files (λ files. IsOneOutcome files (rendering_read asked.now) (outcome_of job))) }
+        (λ job. ForSome (S.told shelf.old).files
+        (λ files. IsOneOutcome files (rendering_read asked.now) (outcome_of job))) }
     ensures fit { IfOk result IsFitting }
     ensures asked { IfOk result (IsJobFor (rendering_read asked.now)) }
     ensures ends { EndsFor (rendering_read asked.now) (S.told shelf.old) (S.told shelf.new) result }
@@ -64,7 +65,7 @@ pub fn prepare_check<S: Shelf>(
     alloc: Global,
     file: &str,
     shelf: &mut S,
-) -> Result<CheckedPlan, Halt>
+) -> Result<CheckedPlan, CallEnd>
     ensures found { IfOk result
         (λ work. ForSome (S.told shelf.old).files (λ files. IsChecked files file.now work.plan work.clocks)) }
     ensures plan { IfOk result (λ work. IsWellFormed work.plan) }
@@ -84,7 +85,7 @@ fn read_plan<S: Shelf>(
     trace: Option<&str>,
     cues: bool,
     shelf: &mut S,
-) -> Result<Plan, Halt>
+) -> Result<Plan, CallEnd>
     ensures plan { IfOk result (λ plan. ForSome (S.told shelf.old).files (λ files. HasPlan files file.now plan)) }
     ensures apart { IfOk result (λ plan. clash_of plan (named trace.entry) cues ≡ None) }
     ensures formed { IfOk result (λ plan. IsWellFormed plan) }
@@ -100,7 +101,7 @@ fn read_plan<S: Shelf>(
 }
 
 // The bytes of the script.
-fn read_script<S: Shelf>(alloc: Global, file: &str, shelf: &mut S) -> Result<Vec<u8>, Halt>
+fn read_script<S: Shelf>(alloc: Global, file: &str, shelf: &mut S) -> Result<Vec<u8>, CallEnd>
     ensures script { IfOk result (λ script. ForSome (S.told shelf.old).files (λ files. file_at files file.now
         ≡ Some script.items)) }
     ensures ends { (start ticks : ℕ) (trace : Option (List ℕ)) (cues : Bool)
@@ -111,11 +112,11 @@ fn read_script<S: Shelf>(alloc: Global, file: &str, shelf: &mut S) -> Result<Vec
     script_plan::laws::one_answer();
     match shelf.read(file, &mut script, MAX_SCRIPT_BYTES) {
         Ok(Fetched::Found) => Ok(script),
-        Ok(Fetched::Missing) => Err(Halt::Refused(Fault::NoScript)),
-        Ok(Fetched::TooLarge) => Err(Halt::Refused(Fault::Script(ScriptFault::Lex(
+        Ok(Fetched::Missing) => Err(CallEnd::Refused(Fault::NoScript)),
+        Ok(Fetched::TooLarge) => Err(CallEnd::Refused(Fault::Script(ScriptFault::Lex(
             LexFault::TextTooLong,
         )))),
-        Err(ShelfFault::Failed) => Err(Halt::Read),
-        Err(ShelfFault::Memory) => Err(Halt::Memory),
+        Err(ShelfFault::Failed) => Err(CallEnd::Read),
+        Err(ShelfFault::Memory) => Err(CallEnd::Memory),
     }
 }

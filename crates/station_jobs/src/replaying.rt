@@ -3,7 +3,7 @@ ghost use Rattle.station_jobs.specs.Prepared.{Ended};
 ghost use Rattle.station_jobs.specs.Words.{Replay};
 
 use crate::form::Rendering;
-use crate::halt::Halt;
+use crate::halt::CallEnd;
 use crate::jobs::conclude;
 use crate::prepare::prepare;
 use crate::ticks::Ticks;
@@ -22,7 +22,7 @@ pub fn replay_job<S: Shelf>(
     ticks: Ticks,
     trace: &str,
     shelf: &mut S,
-) -> Result<String, Halt>
+) -> Result<String, CallEnd>
     ensures { Ended (Replay file.now start.second ticks.count trace.now) (S.told shelf.old) (S.told shelf.new) result }
 {
     let asked = Rendering {

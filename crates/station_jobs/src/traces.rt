@@ -11,7 +11,7 @@ ghost use Rattle.station_jobs.specs.Prepared.{IsUntold, TraceEnds};
 ghost use Rattle.station_jobs.specs.Replays.{HasText, HasTrace};
 ghost use Rattle.refusal_lines.specs.declared.replay_lines.ReplayFault.TheVariants.{NoTrace, TraceTooLarge};
 
-use crate::halt::Halt;
+use crate::halt::CallEnd;
 use liq_base::{Fetched, Shelf, ShelfFault, Text};
 use refusal_lines::{Fault, ReplayFault};
 use station_render::Job;
@@ -37,7 +37,7 @@ pub fn find_trace<S: Shelf>(
     job: &Job<'_>,
     name: &str,
     shelf: &mut S,
-) -> Result<FoundTrace, Halt>
+) -> Result<FoundTrace, CallEnd>
     requires { IsFitting job.now }
     ensures form { IfOk result (λ found. IsTrace found.trace) }
     ensures found { IfOk result
@@ -61,13 +61,13 @@ pub fn find_trace<S: Shelf>(
         &trace,
     )?;
     let Some(turns) = found else {
-        return Err(Halt::Refused(Fault::Replay(ReplayFault::DoesNotFit)));
+        return Err(CallEnd::Refused(Fault::Replay(ReplayFault::DoesNotFit)));
     };
     Ok(FoundTrace { trace, turns })
 }
 
 // The trace in the file of this name.
-fn read_trace<S: Shelf>(alloc: Global, name: &str, shelf: &mut S) -> Result<Trace, Halt>
+fn read_trace<S: Shelf>(alloc: Global, name: &str, shelf: &mut S) -> Result<Trace, CallEnd>
     ensures form { IfOk result (λ trace. IsTrace trace) }
     ensures found { IfOk result (λ trace. ForSome (S.told shelf.old).files (λ files. HasTrace files name.now trace)) }
     ensures ends { (base : Setting) (clocks ticks : ℕ)
@@ -77,15 +77,15 @@ fn read_trace<S: Shelf>(alloc: Global, name: &str, shelf: &mut S) -> Result<Trac
     let text = read_text(alloc, name, shelf)?;
     match read(alloc, &text) {
         Ok(trace) => Ok(trace),
-        Err(TraceFault::NotTrace(line)) => Err(Halt::Refused(Fault::Replay(ReplayFault::NotATrace(
-            line,
-        )))),
-        Err(TraceFault::Memory) => Err(Halt::Memory),
+        Err(TraceFault::NotTrace(line)) => Err(CallEnd::Refused(Fault::Replay(
+            ReplayFault::NotATrace(line),
+        ))),
+        Err(TraceFault::Memory) => Err(CallEnd::Memory),
     }
 }
 
 // The bytes of the file of this name.
-fn read_text<S: Shelf>(alloc: Global, name: &str, shelf: &mut S) -> Result<Vec<u8>, Halt>
+fn read_text<S: Shelf>(alloc: Global, name: &str, shelf: &mut S) -> Result<Vec<u8>, CallEnd>
     ensures found { IfOk result
         (λ text. ForSome (S.told shelf.old).files (λ files. HasText files name.now text.items)) }
     ensures ends { (base : Setting) (clocks ticks : ℕ)
@@ -97,27 +97,27 @@ fn read_text<S: Shelf>(alloc: Global, name: &str, shelf: &mut S) -> Result<Vec<u
         Ok(Fetched::Found) => Ok(text),
         Ok(Fetched::Missing) => Err(no_trace(alloc, name)),
         Ok(Fetched::TooLarge) => Err(too_large(alloc, name)),
-        Err(ShelfFault::Failed) => Err(Halt::Read),
-        Err(ShelfFault::Memory) => Err(Halt::Memory),
+        Err(ShelfFault::Failed) => Err(CallEnd::Read),
+        Err(ShelfFault::Memory) => Err(CallEnd::Memory),
     }
 }
 
 // The end of a replay whose trace is not there; want of memory may come in its place.
-fn no_trace(alloc: Global, name: &str) -> Halt
+fn no_trace(alloc: Global, name: &str) -> CallEnd
     ensures { IsUntold (NoTrace name.now) result }
 {
     match Text::from_str(alloc, name) {
-        Ok(name) => Halt::Refused(Fault::Replay(ReplayFault::NoTrace(name))),
-        Err(_) => Halt::Memory,
+        Ok(name) => CallEnd::Refused(Fault::Replay(ReplayFault::NoTrace(name))),
+        Err(_) => CallEnd::Memory,
     }
 }
 
-// The same, of a trace that is too large.
-fn too_large(alloc: Global, name: &str) -> Halt
+// The end of a replay whose trace is too large; want of memory may come in its place.
+fn too_large(alloc: Global, name: &str) -> CallEnd
     ensures { IsUntold (TraceTooLarge name.now) result }
 {
     match Text::from_str(alloc, name) {
-        Ok(name) => Halt::Refused(Fault::Replay(ReplayFault::TraceTooLarge(name))),
-        Err(_) => Halt::Memory,
+        Ok(name) => CallEnd::Refused(Fault::Replay(ReplayFault::TraceTooLarge(name))),
+        Err(_) => CallEnd::Memory,
     }
 }

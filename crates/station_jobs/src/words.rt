@@ -1,7 +1,9 @@
 // The words of a call.
 ghost use Rattle.std.specs.Prelude.{◌≡◌, ℕ, Some, option_map, IfSome, IsSome, IsSomeAnd, OnSome};
 ghost use Rattle.station_jobs.specs.Read.{asked_of, options_of};
-ghost use Rattle.station_jobs.specs.Words.{Asked, AreApart, IsAsked, IsCheck, IsMake, IsOnlyStart, IsRender, IsReplayAsked, Render as AsksToRender, rendering_by, start_in, texts, window_in};
+ghost use Rattle.station_jobs.specs.Words.{Asked, AreApart, IsAsked, IsCheck, IsMake, IsOnlyStart, IsRender};
+ghost use Rattle.station_jobs.specs.Words.{IsReplayAsked, Render as AsksToRender, rendering_by, start_in, texts};
+ghost use Rattle.station_jobs.specs.Words.{window_in};
 
 use crate::form::{Form, Rendering};
 use crate::options::{Options, read_options, read_start_option, start_of, window_of};

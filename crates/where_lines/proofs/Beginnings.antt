@@ -7,6 +7,7 @@ use Rattle.script_grammar.specs.Placed.{IsPlaced}
 use Rattle.script_grammar.specs.Spelling.{spelling}
 use Rattle.script_grammar.specs.Tree.{Script}
 use Rattle.parse_base.specs.Gives.{kinds}
+use Rattle.script_parse.specs.Answer.{IsShallow}
 use Rattle.script_places.specs.Starts.{first_token}
 use Rattle.script_places.specs.declared.named.Named.{Named}
 use Rattle.script_places.specs.declared.named.Named.TheVariants.{Token as NamedToken}
@@ -14,18 +15,19 @@ use Rattle.where_lines.specs.Beginning.{IsNowhere, IsStatementAt, beginning_of}
 use Rattle.where_lines.specs.Nowhere.{HasNoTokens}
 
 pub statement_at : (text : List ℕ) (tokens : List Token) (script : Script) (number : ℕ) (first : Option ℕ) → AreTokens text tokens → spelling script ≡ kinds tokens
-    → IsPlaced 0 script → first_token script number ≡ first → IfSome (beginning_of (length text) tokens first) (IsStatementAt text number)
-statement_at text tokens script number (Some first) are spelled placed is = record {
+    → IsPlaced 0 script → IsShallow (kinds tokens) → first_token script number ≡ first → IfSome (beginning_of (length text) tokens first) (IsStatementAt text number)
+statement_at text tokens script number (Some first) are spelled placed shallow is = record {
   tokens = tokens;
   are_tokens = are;
   script = script;
   spelled = spelled;
   placed = placed;
+  shallow = shallow;
   first = first;
   first_is = is;
   begins = refl;
 }
-statement_at text tokens script number None are spelled placed is = tt
+statement_at text tokens script number None are spelled placed shallow is = tt
 
 pub none_first : (total : ℕ) (tokens : List Token) (first : Option ℕ) → beginning_of total tokens first ≡ None → first ≡ None
 none_first total tokens (Some first) is = absurd cc

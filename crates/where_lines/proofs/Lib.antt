@@ -4,3 +4,4 @@ pub mod Beginnings
 pub mod Causing
 pub mod Sourcing
 mod Passed
+mod Breaking

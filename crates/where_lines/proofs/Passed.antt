@@ -3,7 +3,7 @@ use Rattle.std.proofs.Common.{◌≡◌, ◌≢◌, ◌∙◌, ℕ, Option, Some
 use Rattle.std.specs.Prelude.{IfSome}
 use Rattle.std.specs.Io.BufRead.{drop_through, take_through}
 use Rattle.std.specs.Str.{IsUtf8}
-use Rattle.liq_base.specs.Pieces.{SinkTold, TookPiece, grown}
+use Rattle.liq_base.specs.Pieces.{SinkTold, grown}
 use Rattle.script_places.specs.Naming.{IsNamed}
 use Rattle.script_places.specs.Pointing.{pointer}
 use Rattle.script_places.specs.declared.named.Named.{Named}
@@ -72,15 +72,6 @@ all_lines file script (Some bytes) (Some now) told (rest, left, passes) end =
 pub ended : (file : List ℕ) (script first now : Option (List ℕ)) (old new : SinkTold) → PassedTo file script first now old new → IfSome now (λ rest. rest ≡ []) → AllPassed file script first old new
 ended file script first now old new before end = (before.told, before.took, all_lines file script first now before.told before.lines end)
 
--- a piece is taken
-pub took_piece : (piece : List ℕ) (old new : SinkTold) → old.room ≡ None → new.room ≡ None → TookPiece piece old new → TookAll piece old new
-took_piece piece old new before after took = record {
-  held_grew = took.held_grew;
-  room_kept = after ∙ sym before;
-  name_kept = took.name_kept;
-  faults_grew = took.faults_grew;
-}
-
 -- what comes behind a line whose text without its LF is this
 pub no_text : (file line told behind : List ℕ) (script : Option (List ℕ)) → behind ≡ [] → told ≡ told_of line → (IsUtf8 told → ⊥) → IsBehind file script line behind
 no_text file line told behind script none is other = rw none (NoText (λ utf8. other (rw is utf8)))
@@ -88,9 +79,9 @@ no_text file line told behind script none is other = rw none (NoText (λ utf8. o
 pub no_name : (file line told behind : List ℕ) (script : Option (List ℕ)) → behind ≡ [] → told ≡ told_of line → ((named : Named) → IsNamed told named → ⊥) → IsBehind file script line behind
 no_name file line told behind script none is other = rw none (NoName (λ named found. other named (rw is found)))
 
-pub no_place : (file text line told behind : List ℕ) (named : Named) → behind ≡ [] → told ≡ told_of line → IsNamed told named → IsNowhere line text named → IsBehind file (Some text) line behind
-no_place file text line told behind named none is found nowhere = rw none (NoPlace text named refl (rw is at found) nowhere)
+pub no_place : (file text line told behind : List ℕ) (named : Named) → behind ≡ [] → told ≡ told_of line → IsUtf8 (told_of line) → IsNamed told named → IsNowhere line text named → IsBehind file (Some text) line behind
+no_place file text line told behind named none is utf8 found nowhere = rw none (NoPlace text named refl utf8 (rw is at found) nowhere)
 
-pub shown : (file text line told behind : List ℕ) (named : Named) (place : ℕ) → behind ≡ closing_of line ++ pointer file text place → told ≡ told_of line → IsNamed told named → Begins line text named place
+pub shown : (file text line told behind : List ℕ) (named : Named) (place : ℕ) → behind ≡ closing_of line ++ pointer file text place → told ≡ told_of line → IsUtf8 (told_of line) → IsNamed told named → Begins line text named place
     → IsBehind file (Some text) line behind
-shown file text line told behind named place all is found begins = rw all (Shown text named place refl (rw is at found) begins)
+shown file text line told behind named place all is utf8 found begins = rw all (Shown text named place refl utf8 (rw is at found) begins)

@@ -6,6 +6,7 @@ use Rattle.script_lex.specs.declared.token.Token.{Token}
 use Rattle.script_grammar.specs.Tree.{Script}
 use Rattle.script_grammar.specs.Spelling.{spelling}
 use Rattle.script_grammar.specs.Placed.{IsPlaced}
+use Rattle.script_parse.specs.Answer.{IsShallow}
 use Rattle.script_plan.specs.Plans.{IsPlan}
 use Rattle.parse_base.specs.Gives.{kinds}
 use Rattle.script_places.specs.Starts.{start, first_token}
@@ -26,6 +27,7 @@ pub record IsStatementAt (text : List ℕ) (number at : ℕ) : Type 0 where
   pub script : Script
   pub spelled : spelling script ≡ kinds tokens
   pub placed : IsPlaced 0 script
+  pub shallow : IsShallow (kinds tokens)
   pub first : ℕ
   pub first_is : first_token script number ≡ Some first
   pub begins : at ≡ start (length text) tokens first

@@ -8,4 +8,6 @@ pub mod Sources
 pub mod Statements
 pub mod Texts
 pub mod Tokens
+pub mod Kept
 pub mod Passes
+pub mod Broken

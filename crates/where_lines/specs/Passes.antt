@@ -21,9 +21,9 @@ pub data IsBehind (file : List ℕ) (script : Option (List ℕ)) (line : List �
   NoScript : script ≡ None → IsBehind file script line []
   NoText : (IsUtf8 (told_of line) → ⊥) → IsBehind file script line []
   NoName : ((named : Named) → IsNamed (told_of line) named → ⊥) → IsBehind file script line []
-  NoPlace : (text : List ℕ) (named : Named) → script ≡ Some text → IsNamed (told_of line) named
+  NoPlace : (text : List ℕ) (named : Named) → script ≡ Some text → IsUtf8 (told_of line) → IsNamed (told_of line) named
       → IsNowhere line text named → IsBehind file script line []
-  Shown : (text : List ℕ) (named : Named) (at : ℕ) → script ≡ Some text → IsNamed (told_of line) named
+  Shown : (text : List ℕ) (named : Named) (at : ℕ) → script ≡ Some text → IsUtf8 (told_of line) → IsNamed (told_of line) named
       → Begins line text named at → IsBehind file script line (closing_of line ++ pointer file text at)
 
 -- the lines of an input up to the rest of it were passed on, and this is what was told

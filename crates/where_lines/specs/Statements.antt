@@ -10,6 +10,7 @@ use Rattle.script_grammar.specs.Tree.{Script}
 use Rattle.script_grammar.specs.Spelling.{spelling}
 use Rattle.script_grammar.specs.Placed.{IsPlaced}
 use Rattle.parse_base.specs.Gives.{kinds}
+use Rattle.script_parse.specs.Answer.{IsShallow}
 use Rattle.script_places.specs.Starts.{start, first_token}
 use Rattle.where_lines.specs.Calls.{IsCaller}
 
@@ -69,5 +70,6 @@ pub record IsInStatement (text : List ℕ) (number at : ℕ) : Type 0 where
   pub script : Script
   pub spelled : spelling script ≡ kinds tokens
   pub placed : IsPlaced 0 script
+  pub shallow : IsShallow (kinds tokens)
   pub there : first_token script number ≢ None
   pub shown : IsShown text tokens script number at

@@ -3,8 +3,10 @@ ghost use Rattle.std.specs.Prelude.{◌≡◌, ◌≢◌, ◌<◌, None, IfOk, I
 ghost use Rattle.plan_core.specs.Plans.{IsWellFormed};
 ghost use Rattle.script_plan.specs.Plans.{IsPlan};
 ghost use Rattle.where_lines.specs.Causes.{IsCauseAt, IsCauseOf, node_named, output_named};
+ghost use Rattle.where_lines.specs.Kept.{IsKept};
 ghost use Rattle.where_lines.specs.Nowhere.{HasNoOutput};
 
+use crate::kept::Kept;
 use crate::sources::{nowhere, source_place};
 use liq_base::Memory;
 use plan_blames::cause;
@@ -15,41 +17,64 @@ use std::alloc::Global;
 /// The byte at which the call begins that makes the source which is to be mended so that an output never falls silent:
 /// down from the output's, as long as one source alone is needed. Nothing where the script has no plan or no such
 /// output.
-pub fn cause_place(alloc: Global, text: &[u8], name: &[u8]) -> Result<Option<usize>, Memory>
+pub fn cause_place(
+    alloc: Global,
+    text: &[u8],
+    kept: &mut Kept,
+    name: &[u8],
+) -> Result<Option<usize>, Memory>
+    requires { IsKept text.now kept.old }
+    ensures kept { IsKept text.now kept.new }
     ensures place { IfOk result (λ at. IfSome at (IsCauseAt text.now name.now)) }
     ensures none { IfOk result (λ at. at ≡ None → HasNoOutput text.now name.now) }
 {
     laws::one_answer();
     match plan_of(alloc, text) {
-        Ok(plan) => cause_in(alloc, text, &plan, name),
+        Ok(plan) => cause_in(alloc, text, kept, &plan, name),
         Err(fault) => nowhere(&fault),
     }
 }
 
 // The same, where this is the plan.
-fn cause_in(alloc: Global, text: &[u8], plan: &Plan, name: &[u8]) -> Result<Option<usize>, Memory>
+fn cause_in(
+    alloc: Global,
+    text: &[u8],
+    kept: &mut Kept,
+    plan: &Plan,
+    name: &[u8],
+) -> Result<Option<usize>, Memory>
+    requires kept { IsKept text.now kept.old }
     requires plan { IsPlan text.now plan.now }
     requires well_formed { IsWellFormed plan.now }
+    ensures kept { IsKept text.now kept.new }
     ensures place { IfOk result (λ at. IfSome at (IsCauseAt text.now name.now)) }
     ensures none { IfOk result (λ at. at ≡ None → HasNoOutput text.now name.now) }
 {
     laws::one_answer();
     match output_of(plan, name) {
-        Some(output) => cause_of(alloc, text, plan, output),
+        Some(output) => cause_of(alloc, text, kept, plan, output),
         None => Ok(None),
     }
 }
 
 // The place of what is to be mended for a source.
-fn cause_of(alloc: Global, text: &[u8], plan: &Plan, output: u32) -> Result<Option<usize>, Memory>
+fn cause_of(
+    alloc: Global,
+    text: &[u8],
+    kept: &mut Kept,
+    plan: &Plan,
+    output: u32,
+) -> Result<Option<usize>, Memory>
+    requires kept { IsKept text.now kept.old }
     requires plan { IsPlan text.now plan.now }
     requires well_formed { IsWellFormed plan.now }
     requires there { output < length plan.now.nodes }
+    ensures kept { IsKept text.now kept.new }
     ensures place { IfOk result (λ at. IfSome at (IsCauseOf text.now plan.now output)) }
     ensures some { IfOk result (λ at. at ≢ None) }
 {
     let source = cause(plan.nodes.as_slice(), output);
-    source_place(alloc, text, source as u64)
+    source_place(alloc, text, kept, source as u64)
 }
 
 // The node of the first output of this name.

@@ -5,6 +5,7 @@ ghost use Rattle.script_grammar.specs.Placed.{IsPlaced};
 ghost use Rattle.script_grammar.specs.Spelling.{spelling};
 ghost use Rattle.script_grammar.specs.View.{view_script};
 ghost use Rattle.script_lex.specs.Tokens.{AreTokens};
+ghost use Rattle.script_parse.specs.Answer.{IsShallow};
 ghost use Rattle.script_places.specs.Starts.{first_token};
 ghost use Rattle.where_lines.specs.Nowhere.{HasNoStatement, HasNoStatementAmong};
 ghost use Rattle.where_lines.specs.Statements.{IsInStatement, IsShown};
@@ -59,6 +60,7 @@ fn place_within(
     requires tokens { AreTokens text.now tokens.now }
     requires spelled { spelling (view_script script.now) ≡ kinds tokens.now }
     requires placed { IsPlaced 0 (view_script script.now) }
+    requires shallow { IsShallow (kinds tokens.now) }
     ensures place { IfOk result (λ at. IfSome at (IsInStatement text.now statement)) }
     ensures none { IfOk result (λ at. at ≡ None → first_token (view_script script.now) statement ≡ None) }
 {

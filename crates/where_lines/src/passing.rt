@@ -1,10 +1,14 @@
 // Lines that are passed on.
-ghost use Rattle.std.specs.Prelude.{◌≡◌, ◌≢◌, ◌++◌, [], Bool, List, ℕ, None, Some, true, false, IfOk, IfSome, OnOk};
+ghost use Rattle.std.specs.Prelude.{◌≡◌, ◌≢◌, ◌++◌, [], Bool, List, ℕ, None, Some, true, false, IfErr, IfOk, IfSome, OnOk};
 ghost use Rattle.std.specs.Io.BufRead.{drop_through, ends_with_byte, take_through};
 ghost use Rattle.std.specs.Option.{option_map};
 ghost use Rattle.script_places.specs.Pointing.{pointer};
+ghost use Rattle.where_lines.specs.Broken.{BrokeOff, IsBroken, TookFront};
+ghost use Rattle.where_lines.specs.declared.passing.Broke.TheVariants as broke;
+ghost use Rattle.where_lines.specs.Kept.{IsKept};
 ghost use Rattle.where_lines.specs.Passes.{AllPassed, IsBehind, TookAll, closing_of, told_of};
 
+use crate::kept::Kept;
 use crate::places::place_of;
 use liq_base::{Memory, Sink};
 use script_places::{named_in, pointer};
@@ -41,11 +45,15 @@ pub fn pass_lines<R: BufRead, O: Sink>(
     out: &mut O,
     file: &str,
     text: Option<&[u8]>,
+    kept: &mut Kept,
 ) -> Result<(), Broke>
-    requires { (O.told out.old).room ≡ None }
+    requires room { (O.told out.old).room ≡ None }
+    requires kept { IfSome (option_map (λ bytes. bytes.now) text) (λ script. IsKept script kept.old) }
     ensures room { (O.told out.new).room ≡ None }
     ensures done { OnOk result (AllPassed file.now (option_map (λ bytes. bytes.now) text.entry) (R.remaining input.old)
         (O.told out.old) (O.told out.new)) }
+    ensures broken { IfErr result (λ broke. BrokeOff file.now (option_map (λ bytes. bytes.now) text.entry) broke
+        (R.remaining input.old) (O.told out.old) (O.told out.new)) }
 {
     let mut line = Vec::new(alloc);
     for _ in 0..u64::MAX {
@@ -53,7 +61,7 @@ pub fn pass_lines<R: BufRead, O: Sink>(
             return Ok(());
         }
         write(out, &line)?;
-        show(alloc, &line, out, file, text)?;
+        show(alloc, &line, out, file, text, kept)?;
     }
     Err(Broke::Input)
 }
@@ -63,6 +71,7 @@ fn read_line<R: BufRead>(input: &mut R, line: &mut Vec<u8>) -> Result<bool, Brok
     ensures some { IfOk result (λ is_line. is_line ≡ true → IfSome (R.remaining input.old) (λ rest. (rest ≢ [])
         × (line.new.items ≡ take_through 10 rest) × (R.remaining input.new ≡ Some (drop_through 10 rest)))) }
     ensures none { IfOk result (λ is_line. is_line ≡ false → IfSome (R.remaining input.old) (λ rest. rest ≡ [])) }
+    ensures cause { IfErr result (λ told. told ≢ broke.Output) }
 {
     line.clear();
     match input.read_until(b'\n', line) {
@@ -71,7 +80,9 @@ fn read_line<R: BufRead>(input: &mut R, line: &mut Vec<u8>) -> Result<bool, Brok
     }
 }
 
-fn cause_of(kind: ErrorKind) -> Broke {
+fn cause_of(kind: ErrorKind) -> Broke
+    ensures { result ≢ broke.Output }
+{
     match kind {
         ErrorKind::OutOfMemory => Broke::Memory,
         _ => Broke::Input,
@@ -82,6 +93,8 @@ fn write<O: Sink>(out: &mut O, piece: &[u8]) -> Result<(), Broke>
     requires { (O.told out.old).room ≡ None }
     ensures room { (O.told out.new).room ≡ None }
     ensures took { OnOk result (TookAll piece.now (O.told out.old) (O.told out.new)) }
+    ensures broken { IfErr result (λ told. (told ≡ broke.Output)
+        × TookFront piece.now (O.told out.old) (O.told out.new)) }
 {
     match out.append(piece) {
         Ok(()) => Ok(()),
@@ -96,31 +109,52 @@ fn show<O: Sink>(
     out: &mut O,
     file: &str,
     text: Option<&[u8]>,
+    kept: &mut Kept,
 ) -> Result<(), Broke>
-    requires { (O.told out.old).room ≡ None }
+    requires room { (O.told out.old).room ≡ None }
+    requires kept { IfSome (option_map (λ bytes. bytes.now) text) (λ script. IsKept script kept.old) }
     ensures room { (O.told out.new).room ≡ None }
+    ensures kept { IfSome (option_map (λ bytes. bytes.now) text.entry) (λ script. IsKept script kept.new) }
     ensures behind { OnOk result ((behind : List ℕ)
         × IsBehind file.now (option_map (λ bytes. bytes.now) text.entry) line.now behind
         × TookAll behind (O.told out.old) (O.told out.new)) }
+    ensures broken { IfErr result (IsBroken file.now (option_map (λ bytes. bytes.now) text.entry) line.now
+        (O.told out.old) (O.told out.new)) }
 {
-    let behind = behind_of(alloc, line, file, text)?;
+    let behind = behind_of(alloc, line, file, text, kept)?;
     write(out, &behind)
 }
 
 // What comes behind a line.
-fn behind_of(alloc: Global, line: &[u8], file: &str, text: Option<&[u8]>) -> Result<Vec<u8>, Memory>
-    ensures { IfOk result (λ behind.
+fn behind_of(
+    alloc: Global,
+    line: &[u8],
+    file: &str,
+    text: Option<&[u8]>,
+    kept: &mut Kept,
+) -> Result<Vec<u8>, Memory>
+    requires { IfSome (option_map (λ bytes. bytes.now) text) (λ script. IsKept script kept.old) }
+    ensures kept { IfSome (option_map (λ bytes. bytes.now) text.entry) (λ script. IsKept script kept.new) }
+    ensures behind { IfOk result (λ behind.
         IsBehind file.now (option_map (λ bytes. bytes.now) text.entry) line.now behind.items) }
 {
     match text {
-        Some(text) => behind_in(alloc, line, file, text),
+        Some(text) => behind_in(alloc, line, file, text, kept),
         None => Ok(Vec::new(alloc)),
     }
 }
 
 // The same where the script could be read.
-fn behind_in(alloc: Global, line: &[u8], file: &str, text: &[u8]) -> Result<Vec<u8>, Memory>
-    ensures { IfOk result (λ behind. IsBehind file.now (Some text.now) line.now behind.items) }
+fn behind_in(
+    alloc: Global,
+    line: &[u8],
+    file: &str,
+    text: &[u8],
+    kept: &mut Kept,
+) -> Result<Vec<u8>, Memory>
+    requires { IsKept text.now kept.old }
+    ensures kept { IsKept text.now kept.new }
+    ensures behind { IfOk result (λ behind. IsBehind file.now (Some text.now) line.now behind.items) }
 {
     let Ok(told) = str::from_utf8(told_of(line)) else {
         return Ok(Vec::new(alloc));
@@ -128,7 +162,7 @@ fn behind_in(alloc: Global, line: &[u8], file: &str, text: &[u8]) -> Result<Vec<
     let Some(named) = named_in(told) else {
         return Ok(Vec::new(alloc));
     };
-    let Some(at) = place_of(alloc, line, text, named)? else {
+    let Some(at) = place_of(alloc, line, text, kept, named)? else {
         return Ok(Vec::new(alloc));
     };
     let behind = closed_pointer(alloc, line, file, text, at)?;

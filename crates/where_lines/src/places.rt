@@ -2,11 +2,13 @@
 ghost use Rattle.std.specs.Prelude.{◌≡◌, None, IfOk, IfSome};
 ghost use Rattle.script_lex.specs.Tokens.{AreTokens};
 ghost use Rattle.where_lines.specs.Beginning.{Begins, IsNowhere, IsStatementAt, beginning_of};
+ghost use Rattle.where_lines.specs.Kept.{IsKept};
 ghost use Rattle.where_lines.specs.Nowhere.{HasNoStatement, HasNoStatementAmong};
 
 use crate::causes::cause_place;
 use crate::clashes::clash_place;
 use crate::fronts::part;
+use crate::kept::Kept;
 use crate::reading::{no_script, no_tokens};
 use crate::sources::source_place;
 use crate::texts::text_place;
@@ -24,19 +26,22 @@ pub fn place_of(
     alloc: Global,
     line: &[u8],
     text: &[u8],
+    kept: &mut Kept,
     named: Named,
 ) -> Result<Option<usize>, Memory>
+    requires { IsKept text.now kept.old }
+    ensures kept { IsKept text.now kept.new }
     ensures begins { IfOk result (λ at. IfSome at (Begins line.now text.now named)) }
     ensures none { IfOk result (λ at. at ≡ None → IsNowhere line.now text.now named) }
 {
     match named {
         Named::Byte(at) => Ok(Some(at as usize)),
-        Named::Token(token) => token_place(alloc, text, token),
+        Named::Token(token) => token_place(alloc, text, &mut kept.tokens, token),
         Named::Statement(statement) => statement_place(alloc, text, statement),
-        Named::Source(source) => source_place(alloc, text, source),
+        Named::Source(source) => source_place(alloc, text, kept, source),
         Named::Clash(statement) => clash_place(alloc, text, statement),
         Named::Text { start, end } => text_place(alloc, text, part(line, start, end)),
-        Named::Fallible { start, end } => cause_place(alloc, text, part(line, start, end)),
+        Named::Fallible { start, end } => cause_place(alloc, text, kept, part(line, start, end)),
     }
 }
 

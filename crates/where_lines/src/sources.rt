@@ -3,44 +3,87 @@ ghost use Rattle.std.specs.Prelude.{◌≡◌, ◌≢◌, ◌≤◌, None, IfOk,
 ghost use Rattle.plan_core.specs.declared.plan.Plan.{Plan};
 ghost use Rattle.script_plan.specs.declared.fault.ScriptFault.TheVariants as fault;
 ghost use Rattle.script_plan.specs.Plans.{IsPlan};
-ghost use Rattle.script_plan.specs.Sources.{HasSources};
+ghost use Rattle.where_lines.specs.Kept.{AreKept, IsCallOf, IsKept, SourcesAreKept};
 ghost use Rattle.where_lines.specs.Sources.{IsSourceAt};
 
+use crate::kept::Kept;
 use crate::tokens::token_place;
 use liq_base::Memory;
 use script_eval::Sources;
+use script_lex::Token;
 use script_plan::{ScriptFault, laws, sources_of};
 use std::alloc::Global;
 
 /// The byte at which the call begins that makes the source of this number: of calls that run within each other, the
-/// outermost. Nothing where the script has no such source.
-pub fn source_place(alloc: Global, text: &[u8], source: u64) -> Result<Option<usize>, Memory>
+/// outermost. Nothing where the script has no such source. The plan is read where it is not kept.
+pub fn source_place(
+    alloc: Global,
+    text: &[u8],
+    kept: &mut Kept,
+    source: u64,
+) -> Result<Option<usize>, Memory>
+    requires { IsKept text.now kept.old }
+    ensures kept { IsKept text.now kept.new }
+    ensures place { IfOk result (λ at. IfSome at (IsSourceAt text.now source)) }
+    ensures none { IfOk result (λ at. at ≡ None → (plan : Plan) → IsPlan text.now plan → length plan.nodes ≤ source) }
+{
+    match kept_call(text, &kept.sources, source) {
+        Some(call) => call_place(alloc, text, &mut kept.tokens, source, call),
+        None => read_source(alloc, text, kept, source),
+    }
+}
+
+// The call of a source among those that are kept, where they are kept.
+fn kept_call(_text: &[u8], kept: &Option<Sources>, source: u64) -> Option<Option<u32>>
+    requires { SourcesAreKept _text.now kept.now }
+    ensures { IfSome result (IsCallOf _text.now source) }
+{
+    match kept {
+        Some(sources) => Some(call_of(sources.calls.as_slice(), source)),
+        None => None,
+    }
+}
+
+// Reads the plan and its calls, and keeps them.
+fn read_source(
+    alloc: Global,
+    text: &[u8],
+    kept: &mut Kept,
+    source: u64,
+) -> Result<Option<usize>, Memory>
+    requires { IsKept text.now kept.old }
+    ensures kept { IsKept text.now kept.new }
     ensures place { IfOk result (λ at. IfSome at (IsSourceAt text.now source)) }
     ensures none { IfOk result (λ at. at ≡ None → (plan : Plan) → IsPlan text.now plan → length plan.nodes ≤ source) }
 {
     laws::one_answer();
     match sources_of(alloc, text) {
-        Ok(sources) => call_place(alloc, text, &sources, source),
+        Ok(sources) => {
+            let call = call_of(sources.calls.as_slice(), source);
+            kept.sources = Some(sources);
+            call_place(alloc, text, &mut kept.tokens, source, call)
+        }
         Err(fault) => nowhere(&fault),
     }
 }
 
-// The same, where these are the plan and its calls.
+// The same, where this is the call.
 fn call_place(
     alloc: Global,
     text: &[u8],
-    sources: &Sources,
-    source: u64,
+    kept: &mut Option<Vec<Token>>,
+    _source: u64,
+    call: Option<u32>,
 ) -> Result<Option<usize>, Memory>
-    requires sources { HasSources text.now sources.now.plan sources.now.calls }
-    requires plan { IsPlan text.now sources.now.plan }
-    requires each { length sources.now.calls ≡ length sources.now.plan.nodes }
-    ensures place { IfOk result (λ at. IfSome at (IsSourceAt text.now source)) }
-    ensures none { IfOk result (λ at. at ≡ None → (plan : Plan) → IsPlan text.now plan → length plan.nodes ≤ source) }
+    requires kept { AreKept text.now kept.old }
+    requires call { IsCallOf text.now _source call }
+    ensures kept { AreKept text.now kept.new }
+    ensures place { IfOk result (λ at. IfSome at (IsSourceAt text.now _source)) }
+    ensures none { IfOk result (λ at. at ≡ None → (plan : Plan) → IsPlan text.now plan → length plan.nodes ≤ _source) }
 {
     laws::one_answer();
-    match call_of(sources.calls.as_slice(), source) {
-        Some(token) => token_place(alloc, text, u64::from(token)),
+    match call {
+        Some(token) => token_place(alloc, text, kept, u64::from(token)),
         None => Ok(None),
     }
 }

@@ -1,29 +1,23 @@
 use Rattle.std.proofs.Common.{◌∙◌}
-use Rattle.station_facts.specs.Files.{files_object, lists_of, sounds_of}
+use Rattle.station_facts.specs.Files.{files_object}
 use Rattle.track_library.specs.Loads.{rules_for}
 use Rattle.station_facts.proofs.Each.{alone}
-use Rattle.station_facts.proofs.Found.{lists_wider, looks_wider, only_read_same}
 use Rattle.station_facts.proofs.files.tell_files.Goals as goal
 
 pub returns-clause-told : goal.returns-clause-told
 returns-clause-told g c =
-    let old = g.S.Shelf.told c.args.shelf.now in
-    let mid = g.S.Shelf.told c.look_at_lists.new.shelf in
-    let new = g.S.Shelf.told c.look_at_sounds.new.shelf in
-    let rules = rules_for c.args.plan.now c.args.sizes in
     let list_looks = c.in_ok-list_looks.list_looks.items in
     let looks = c.in_ok-looks.looks.items in
     record {
       inferred = c.in_ok-inferred.inferred;
       is_inferred = c.in_ok-inferred.ensures;
       list_looks = list_looks;
-      lists = lists_wider (lists_of c.args.plan.now) old old mid new list_looks (only_read_same old) c.in_ok-looks.ensures.shelf
-          (rw (c.as_slice.ensures.keys, c.in_ok-lists.ensures) at c.in_ok-list_looks.ensures.looks);
+      behind_lists = g.S.Shelf.told c.look_at_lists.new.shelf;
+      lists = rw (c.as_slice.ensures.keys, c.in_ok-lists.ensures) at c.in_ok-list_looks.ensures.looks;
       looks = looks;
-      sounds = looks_wider rules (sounds_of c.args.plan.now list_looks) old mid new new looks c.in_ok-list_looks.ensures.shelf
-          (only_read_same new) (rw (c.as_slice-2.ensures.keys, c.in_ok-sounds.ensures, c.deref.ensures.value) at c.in_ok-looks.ensures.looks);
+      sounds = rw (c.as_slice-2.ensures.keys, c.in_ok-sounds.ensures, c.deref.ensures.value) at c.in_ok-looks.ensures.looks;
       text = alone c.into_inner.result.items c.new-out.result c.push_all.new.out
-          (files_object rules c.args.plan.now c.args.ats.now c.in_ok-inferred.inferred list_looks looks)
+          (files_object (rules_for c.args.plan.now c.args.sizes) c.args.plan.now c.args.ats.now c.in_ok-inferred.inferred list_looks looks)
           (c.new-out.ensures.before ∙ c.new.ensures.items) c.new-out.ensures.tokens
           (rw (c.deref-2.ensures.value, c.deref-3.ensures.value) at c.in_ok-push_all.ensures) c.into_inner.ensures.items;
     }

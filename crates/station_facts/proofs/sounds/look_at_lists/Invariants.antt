@@ -1,5 +1,6 @@
-use Rattle.station_facts.proofs.Found.{ListsSoFar}
+use Rattle.sound_looks.specs.Looks.{IsListLook}
+use Rattle.station_facts.proofs.Found.{SoFar}
 use Rattle.station_facts.proofs.sounds.look_at_lists.Given as goal
 
 abbrev pub invariant-loop-name : goal.invariant-loop-name
-invariant-loop-name g l = ListsSoFar l.names l.name-index (g.S.Shelf.told l.fn.shelf) (g.S.Shelf.told l.shelf) l.looks.items
+invariant-loop-name g l = SoFar IsListLook l.names l.name-index (g.S.Shelf.told l.fn.shelf) (g.S.Shelf.told l.shelf) l.looks.items

@@ -12,6 +12,7 @@ pub returns : goal.returns
 returns c =
     let is : IsCause c.args.plan.now.nodes c.args.output c.cause-source.result = subst (λ (nodes : List Node). IsCause nodes c.args.output c.cause-source.result) c.as_slice.ensures c.cause-source.ensures in
     record {
+      kept = c.source_place.ensures.kept;
       place = cause_placed c.args.text.now c.args.plan.now c.args.output c.cause-source.result c.source_place.result is c.source_place.ensures.place;
       some = cause_there c.args.text.now c.args.plan.now c.args.output c.cause-source.result c.source_place.result c.requires.plan is c.source_place.ensures.none;
     }

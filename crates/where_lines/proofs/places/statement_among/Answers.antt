@@ -10,7 +10,7 @@ use Rattle.where_lines.proofs.places.statement_among.Goals as goal
 pub returns-in-Ok-clause-place : goal.returns-in-Ok-clause-place
 returns-in-Ok-clause-place c =
     subst (λ (found : Option ℕ). IfSome found (IsStatementAt c.args.text.now c.args.statement)) (sym c.beginning_of.ensures)
-    (statement_at c.args.text.now c.args.tokens.now (view_script c.in-Ok.script) c.args.statement c.first_token.result c.requires c.in-Ok.ensures.spelled c.in-Ok.ensures.placed (sym c.first_token.ensures))
+    (statement_at c.args.text.now c.args.tokens.now (view_script c.in-Ok.script) c.args.statement c.first_token.result c.requires c.in-Ok.ensures.spelled c.in-Ok.ensures.placed c.in-Ok.ensures.shallow (sym c.first_token.ensures))
 
 pub returns-in-Ok-clause-none : goal.returns-in-Ok-clause-none
 returns-in-Ok-clause-none c = λ none.

@@ -1,6 +1,6 @@
 use Rattle.std.proofs.Common.{◌≤◌, length}
 use Rattle.where_lines.proofs.Faults.{no_plan}
-use Rattle.where_lines.proofs.sources.source_place.Goals as goal
+use Rattle.where_lines.proofs.sources.read_source.Goals as goal
 
 pub returns-in-Err-clause-none : goal.returns-in-Err-clause-none
 returns-in-Err-clause-none c =

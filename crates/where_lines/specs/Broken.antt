@@ -1,0 +1,50 @@
+-- What was passed on where it broke off.
+use Rattle.std.specs.Prelude.{◌≡◌, ◌≢◌, ◌⊎◌, ℕ, List, [], ◌++◌, Option, IfSome}
+use Rattle.std.specs.Io.BufRead.{take_through}
+use Rattle.liq_base.specs.Counts.{Rose}
+use Rattle.liq_base.specs.Pieces.{IsPrefix, SinkTold}
+use Rattle.where_lines.specs.Passes.{IsBehind, Passes, TookAll}
+use Rattle.where_lines.specs.declared.passing.Broke.{Broke}
+use Rattle.where_lines.specs.declared.passing.Broke.TheVariants.{Input, Output, Memory}
+
+-- a front of a line and of what comes behind it
+pub data IsFrontOf (file : List ℕ) (script : Option (List ℕ)) (line : List ℕ) : List ℕ → Type 0 where
+  OfLine : (front : List ℕ) → IsPrefix front line → IsFrontOf file script line front
+  OfBehind : (behind front : List ℕ) → IsBehind file script line behind → IsPrefix front behind
+      → IsFrontOf file script line (line ++ front)
+
+-- Of the next line this was passed on: where a write failed, a front of it and of what comes behind it; where memory was
+-- refused, nothing or the line alone; and where the input broke off, nothing.
+abbrev pub IsCut : (file : List ℕ) → (script : Option (List ℕ)) → Broke → (rest front : List ℕ) → Type 0
+IsCut file script Input rest front = front ≡ []
+IsCut file script Memory rest front = (front ≡ []) ⊎ ((rest ≢ []) × (front ≡ take_through 10 rest))
+IsCut file script Output rest front = (rest ≢ []) × IsFrontOf file script (take_through 10 rest) front
+
+-- the lines of an input up to a rest of it were passed on, and this of the next one
+pub record CutAt (file : List ℕ) (script : Option (List ℕ)) (broke : Broke) (input told front : List ℕ) : Type 0 where
+  pub rest : List ℕ
+  pub passes : Passes file script input rest told
+  pub cut : IsCut file script broke rest front
+
+-- passing on broke off; where it was a write that failed, the count of faults rose
+pub record BrokeOff (file : List ℕ) (script : Option (List ℕ)) (broke : Broke) (input : Option (List ℕ))
+    (old new : SinkTold) : Type 0 where
+  pub told : List ℕ
+  pub front : List ℕ
+  pub took : TookAll (told ++ front) old new
+  pub lines : IfSome input (λ bytes. CutAt file script broke bytes told front)
+  pub cause : broke ≡ Output → Rose old.faults new.faults
+
+-- a sink took a front of these bytes, and failed
+pub record TookFront (piece : List ℕ) (old new : SinkTold) : Type 0 where
+  pub front : List ℕ
+  pub is_front : IsPrefix front piece
+  pub took : TookAll front old new
+  pub rose : Rose old.faults new.faults
+
+-- what comes behind a line broke off; this is for `src/passing.rt` alone
+abbrev pub IsBroken : (file : List ℕ) → (script : Option (List ℕ)) → (line : List ℕ) → (old new : SinkTold) → Broke → Type 0
+IsBroken file script line old new Input = ⊥
+IsBroken file script line old new Memory = new ≡ old
+IsBroken file script line old new Output =
+    (behind : List ℕ) × IsBehind file script line behind × TookFront behind old new
