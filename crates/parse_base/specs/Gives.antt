@@ -1,5 +1,6 @@
 -- What a function of the parser returned, against what reading gives.
-use Rattle.std.specs.Prelude.{◌≡◌, ℕ, ◌-◌, List, map, Result, Ok, Err}
+use denote.Ref.{Bor}
+use Rattle.std.specs.Prelude.{◌≡◌, ◌<◌, ◌≤◌, ℕ, ◌-◌, IfOk, List, length, map, Result, Ok, Err}
 use Rattle.script_lex.specs.declared.token.Token.{Token}
 use Rattle.script_lex.specs.declared.token.TokenKind.{TokenKind}
 use Rattle.parse_base.specs.declared.fault.Fault.{Fault}
@@ -26,3 +27,17 @@ Gives view (Err e) read = Fails e read
 -- the index of the token where so many are left
 abbrev pub places : ℕ → ℕ → ℕ
 places total left = total - left
+
+-- what was read of these tokens by a rule: a whole tree, and the tokens behind it, of which there are fewer
+pub record Reads {X Y : Type 0} (view : X → Y) (Whole : X → Type 0) (rule : List TokenKind → Result (Y × List TokenKind) ℕ)
+    (tokens : List Token) (result : Result (X × Bor (List Token)) Fault) : Type 0 where
+  pub shorter : IfOk result (λ x. length x.1.now < length tokens)
+  pub gives : Gives (λ x. (view x.0, kinds x.1.now)) result (rule (kinds tokens))
+  pub whole : IfOk result (λ x. Whole x.0)
+
+-- the same of a rule that may read nothing
+pub record ReadsOn {X Y : Type 0} (view : X → Y) (Whole : X → Type 0) (rule : List TokenKind → Result (Y × List TokenKind) ℕ)
+    (tokens : List Token) (result : Result (X × Bor (List Token)) Fault) : Type 0 where
+  pub shorter : IfOk result (λ x. length x.1.now ≤ length tokens)
+  pub gives : Gives (λ x. (view x.0, kinds x.1.now)) result (rule (kinds tokens))
+  pub whole : IfOk result (λ x. Whole x.0)

@@ -6,7 +6,7 @@ ghost use Rattle.script_grammar.specs.Read.{behind, many, next};
 ghost use Rattle.script_grammar.specs.ReadPredicate.{interval, pand, patom, pnot, por, por_by, por_step};
 ghost use Rattle.script_grammar.specs.View.{listed, view_pand, view_patom, view_pnot, view_por};
 ghost use Rattle.script_grammar.specs.Whole.{IsWholePAnd, IsWholePAtom, IsWholePNot, IsWholePOr};
-ghost use Rattle.parse_base.specs.Gives.{kinds, Gives};
+ghost use Rattle.parse_base.specs.Gives.{kinds, Gives, Reads};
 
 use crate::Fault;
 use crate::token::{self, Class};
@@ -21,9 +21,7 @@ use std::alloc::Global;
 /// A fault counts the tokens from the first one that cannot go on.
 #[tactic(auto, using(crate::proofs::Levels::por_levels))]
 pub fn predicate(alloc: Global, tokens: &[Token]) -> Result<(POr, &[Token]), Fault>
-    ensures shorter { IfOk result (λ x. length x.1.now < length tokens.now) }
-    ensures gives { Gives (λ x. (view_por x.0, kinds x.1.now)) result (por (kinds tokens.now)) }
-    ensures whole { IfOk result (λ x. IsWholePOr x.0) }
+    ensures { Reads view_por IsWholePOr por tokens.now result }
 {
     por(alloc, tokens.len() + 1, tokens)
 }
@@ -32,9 +30,7 @@ pub fn predicate(alloc: Global, tokens: &[Token]) -> Result<(POr, &[Token]), Fau
 // levels than tokens are enough.
 #[cycle(predicate)]
 fn por(alloc: Global, levels: usize, tokens: &[Token]) -> Result<(POr, &[Token]), Fault>
-    ensures shorter { IfOk result (λ x. length x.1.now < length tokens.now) }
-    ensures gives { Gives (λ x. (view_por x.0, kinds x.1.now)) result (por_by levels (kinds tokens.now)) }
-    ensures whole { IfOk result (λ x. IsWholePOr x.0) }
+    ensures { Reads view_por IsWholePOr (por_by levels) tokens.now result }
 {
     if levels == 0 {
         Err(Fault::Syntax(tokens.len()))
@@ -46,9 +42,7 @@ fn por(alloc: Global, levels: usize, tokens: &[Token]) -> Result<(POr, &[Token])
 #[cycle(predicate)]
 #[tactic(auto, unfolding(script_grammar::specs::ReadPredicate::por_step, script_grammar::specs::Read::chain))]
 fn por_step(alloc: Global, levels: usize, tokens: &[Token]) -> Result<(POr, &[Token]), Fault>
-    ensures shorter { IfOk result (λ x. length x.1.now < length tokens.now) }
-    ensures gives { Gives (λ x. (view_por x.0, kinds x.1.now)) result (por_step (por_by levels) (kinds tokens.now)) }
-    ensures whole { IfOk result (λ x. IsWholePOr x.0) }
+    ensures { Reads view_por IsWholePOr (por_step (por_by levels)) tokens.now result }
 {
     let (first, rest) = pand(alloc, levels, tokens)?;
     let (others, rest) = pands(alloc, levels, rest)?;
@@ -75,10 +69,7 @@ fn pands(alloc: Global, levels: usize, tokens: &[Token]) -> Result<(Vec<PAnd>, &
 #[cycle(predicate)]
 #[tactic(auto, unfolding(script_grammar::specs::Read::behind))]
 fn or_pand(alloc: Global, levels: usize, tokens: &[Token]) -> Result<(PAnd, &[Token]), Fault>
-    ensures shorter { IfOk result (λ x. length x.1.now < length tokens.now) }
-    ensures gives { Gives (λ x. (view_pand x.0, kinds x.1.now)) result
-        (behind is_or (pand (por_by levels)) (kinds tokens.now)) }
-    ensures whole { IfOk result (λ x. IsWholePAnd x.0) }
+    ensures { Reads view_pand IsWholePAnd (behind is_or (pand (por_by levels))) tokens.now result }
 {
     let ((), rest) = token::expect(tokens, Class::Or)?;
     pand(alloc, levels, rest)
@@ -87,9 +78,7 @@ fn or_pand(alloc: Global, levels: usize, tokens: &[Token]) -> Result<(PAnd, &[To
 #[cycle(predicate)]
 #[tactic(auto, unfolding(script_grammar::specs::ReadPredicate::pand, script_grammar::specs::Read::chain))]
 fn pand(alloc: Global, levels: usize, tokens: &[Token]) -> Result<(PAnd, &[Token]), Fault>
-    ensures shorter { IfOk result (λ x. length x.1.now < length tokens.now) }
-    ensures gives { Gives (λ x. (view_pand x.0, kinds x.1.now)) result (pand (por_by levels) (kinds tokens.now)) }
-    ensures whole { IfOk result (λ x. IsWholePAnd x.0) }
+    ensures { Reads view_pand IsWholePAnd (pand (por_by levels)) tokens.now result }
 {
     let (first, rest) = pnot(alloc, levels, tokens)?;
     let (others, rest) = pnots(alloc, levels, rest)?;
@@ -116,10 +105,7 @@ fn pnots(alloc: Global, levels: usize, tokens: &[Token]) -> Result<(Vec<PNot>, &
 #[cycle(predicate)]
 #[tactic(auto, unfolding(script_grammar::specs::Read::behind))]
 fn and_pnot(alloc: Global, levels: usize, tokens: &[Token]) -> Result<(PNot, &[Token]), Fault>
-    ensures shorter { IfOk result (λ x. length x.1.now < length tokens.now) }
-    ensures gives { Gives (λ x. (view_pnot x.0, kinds x.1.now)) result
-        (behind is_and (pnot (por_by levels)) (kinds tokens.now)) }
-    ensures whole { IfOk result (λ x. IsWholePNot x.0) }
+    ensures { Reads view_pnot IsWholePNot (behind is_and (pnot (por_by levels))) tokens.now result }
 {
     let ((), rest) = token::expect(tokens, Class::And)?;
     pnot(alloc, levels, rest)
@@ -128,9 +114,7 @@ fn and_pnot(alloc: Global, levels: usize, tokens: &[Token]) -> Result<(PNot, &[T
 #[cycle(predicate)]
 #[tactic(auto, unfolding(script_grammar::specs::ReadPredicate::pnot))]
 fn pnot(alloc: Global, levels: usize, tokens: &[Token]) -> Result<(PNot, &[Token]), Fault>
-    ensures shorter { IfOk result (λ x. length x.1.now < length tokens.now) }
-    ensures gives { Gives (λ x. (view_pnot x.0, kinds x.1.now)) result (pnot (por_by levels) (kinds tokens.now)) }
-    ensures whole { IfOk result (λ x. IsWholePNot x.0) }
+    ensures { Reads view_pnot IsWholePNot (pnot (por_by levels)) tokens.now result }
 {
     let (negated, rest) = token::perhaps(tokens, Class::Not);
     let (atom, rest) = patom(alloc, levels, rest)?;
@@ -140,9 +124,7 @@ fn pnot(alloc: Global, levels: usize, tokens: &[Token]) -> Result<(PNot, &[Token
 #[cycle(predicate)]
 #[tactic(auto, unfolding(script_grammar::specs::ReadPredicate::patom))]
 fn patom(alloc: Global, levels: usize, tokens: &[Token]) -> Result<(PAtom, &[Token]), Fault>
-    ensures shorter { IfOk result (λ x. length x.1.now < length tokens.now) }
-    ensures gives { Gives (λ x. (view_patom x.0, kinds x.1.now)) result (patom (por_by levels) (kinds tokens.now)) }
-    ensures whole { IfOk result (λ x. IsWholePAtom x.0) }
+    ensures { Reads view_patom IsWholePAtom (patom (por_by levels)) tokens.now result }
 {
     let Some((first, rest)) = tokens.split_first() else {
         return Err(Fault::Syntax(0));

@@ -117,7 +117,3 @@ first_of shape b bs text behind s is =
     let whole : b ∷ bs ≡ st.head ∷ (st.tail ++ behind) = is ∙ ap (λ (l : List ℕ). l ++ behind) st.is in
     let same : st.head ≡ b = cc in
     ap class_of (sym same) ∙ st.first
-
--- no shape of another class begins there
-pub foreign : (shape : Shape) (b : ℕ) (bs text behind : List ℕ) (here : Class) → SpellsShape shape text → b ∷ bs ≡ text ++ behind → class_of b ≡ here → here ≡ class shape
-foreign shape b bs text behind here s is at = sym at ∙ first_of shape b bs text behind s is

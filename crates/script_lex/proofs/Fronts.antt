@@ -1,5 +1,5 @@
 -- What stands before and behind the spans.
-use Rattle.std.proofs.Common.{◌≡◌, ℕ, suc, ◌-◌, ◌<◌, ◌≤◌, Bool, true, false, List, [], ◌∷◌, ◌++◌, length, get_or, take, refl, ap, ◌∙◌, arith, if◌then◌else◌, length-append}
+use Rattle.std.proofs.Common.{◌≡◌, ℕ, suc, ◌-◌, ◌≤◌, Bool, true, false, List, [], ◌∷◌, ◌++◌, length, take, refl, ap, ◌∙◌, arith, if◌then◌else◌, length-append}
 use Rattle.std.specs.Str.Parse.{AllDigits}
 use Rattle.std.specs.Char.{is_ascii_digit}
 use Rattle.fixed_text.proofs.Numerals.{digit_is}
@@ -36,7 +36,3 @@ choose false f g = g refl
 pub front_is : (text rest : List ℕ) → front (text ++ rest) rest ≡ text
 front_is [] rest = front_whole rest
 front_is (b ∷ text) rest = front_more b (text ++ rest) rest (let e = length-append text rest in omega arith) ∙ ap (λ (l : List ℕ). b ∷ l) (front_is text rest)
-
-pub digits_shorter : (bs : List ℕ) → is_ascii_digit (get_or bs 0 0) ≡ true → 1 ≤ length bs → length (after_digits bs) < length bs
-digits_shorter [] digit some = omega arith
-digits_shorter (b ∷ bs) digit some = let le = after_digits_le bs in rw digit (omega arith)

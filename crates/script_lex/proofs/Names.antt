@@ -1,5 +1,5 @@
 -- The longest name at the front.
-use Rattle.std.proofs.Common.{◌≡◌, ℕ, ◌<◌, ◌≤◌, Bool, true, false, ◌&&◌, ◌||◌, eqb, List, [], ◌∷◌, ◌++◌, length, get_or, refl, sym, ap, ◌∙◌, subst, arith, append_assoc}
+use Rattle.std.proofs.Common.{◌≡◌, ℕ, ◌≤◌, Bool, true, false, ◌&&◌, ◌||◌, eqb, List, [], ◌∷◌, ◌++◌, length, refl, sym, ap, ◌∙◌, subst, arith, append_assoc}
 use Rattle.std.proofs.lemmas.Bool.{or_left, or_from, and_parts, eqb-true}
 use Rattle.std.specs.Char.{is_ascii_digit}
 use Rattle.script_lex.specs.Bytes.{is_letter, is_word, starts_part}
@@ -89,8 +89,3 @@ goes_all (b ∷ []) =
 goes_all (b ∷ d ∷ ds) =
     choose (is_word b) (λ w. goes_on b (d ∷ ds) w (goes_all (d ∷ ds)))
     (λ w. choose (eqb b 46 && is_letter d) (λ p. let q = and_parts (eqb b 46) (is_letter d) p in point_on b d ds q.0 q.1 (goes_all ds)) (λ p. stops b (d ∷ ds) (or_from (is_word b) (eqb b 46 && is_letter d) w p)))
-
--- the first letter is read over
-pub name_shorter : (bs : List ℕ) → is_letter (get_or bs 0 0) ≡ true → 1 ≤ length bs → length (after_name bs) < length bs
-name_shorter [] letter some = omega arith
-name_shorter (b ∷ bs) letter some = let le = after_name_le bs in let is = ap length (word_more b bs (letter_is_word b letter)) in omega arith

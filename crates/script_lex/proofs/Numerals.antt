@@ -72,10 +72,6 @@ point_here b d cs all here =
           omega arith) (λ u x unit r. let same : u ≡ 46 = cons_head u 46 x cs (sym r) in differ (sym unit ∙ ap is_unit same));
     }
 
--- the three cases of the byte behind the digits
-pub point_is : (bytes digits cs : List ℕ) → number_from bytes digits (46 ∷ cs) ≡ (ANumber digits (front cs (after_digits cs)), after_digits cs)
-point_is bytes digits cs = refl
-
 pub unit_is : (bytes digits cs : List ℕ) (c : ℕ) → eqb c 46 ≡ false → is_unit c ≡ true → number_from bytes digits (c ∷ cs) ≡ time_at bytes
 unit_is bytes digits cs c e f = rw (e, f) refl
 

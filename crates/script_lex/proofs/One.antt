@@ -1,15 +1,14 @@
 -- At one place stands one token, or one fault.
-use Rattle.std.proofs.Common.{◌≡◌, ◌≢◌, ℕ, List, [], ◌∷◌, ◌++◌, length, refl, sym, ap, ◌∙◌, subst, arith, Ok, Err, ⊎_elim}
+use Rattle.std.proofs.Common.{◌≡◌, ◌≢◌, ℕ, List, [], ◌∷◌, ◌++◌, length, refl, sym, ap, ◌∙◌, subst, arith, ⊎_elim}
 use Rattle.std.specs.List.{flat_map}
 use Rattle.script_lex.specs.Spelling.{Shape, ANumber, AText, SpellsShape, IsLongest, IsToken, Means, is_within, LexStop, Bad, OpenText, Large, FaultAt, IsUnclosed, IsBadInText, BeginsNothing, IsQuote, meant_bytes}
-use Rattle.script_lex.specs.Reading.{Found, Read, shape_at}
+use Rattle.script_lex.specs.Reading.{Found}
 use Rattle.script_lex.specs.declared.token.TokenKind.{TokenKind}
 use Rattle.script_lex.specs.declared.token.TokenKind.TheVariants as kinds
 use Rattle.script_lex.proofs.Same.{same_decimal}
 use Rattle.script_lex.proofs.Firsts.{Quote, class, starts, first_of, quote_class}
 use Rattle.script_lex.proofs.Halts.{Halt, halts_one, closed_halt, cut_halt, bad_halt}
 use Rattle.script_lex.proofs.Alone.{Whole, read_alone}
-use Rattle.script_lex.proofs.Whole.{shape_found, shape_fault}
 use Rattle.script_lex.proofs.Apart.{FoundAt, StopsAt, ok_is, differ, cons_tail, cons_head, same_front}
 
 same_rest : (s t r r' : List ℕ) → s ++ r ≡ t ++ r' → length s ≡ length t → r ≡ r'
@@ -119,14 +118,6 @@ one_stop bs (OpenText m) (Bad n) a b = ⊎_elim (λ x. absurd (nothing_text bs x
 one_stop bs (OpenText m) (OpenText n) a b = ap OpenText (a.1 ∙ sym b.1)
 one_stop bs (Large m) g a b = absurd a
 one_stop bs e (Large n) a b = absurd b
-
--- what stands there is read
-pub shape_only : (bs : List ℕ) (f : Found) → FoundAt bs f → shape_at bs ≡ Ok f
-shape_only bs f a = by_read (shape_at bs) refl
-  where
-    by_read : (read : Read) → shape_at bs ≡ read → shape_at bs ≡ Ok f
-    by_read (Ok g) is = is ∙ ap Ok (one_longest bs g f (shape_found bs g is) a)
-    by_read (Err e) is = absurd (stops_never bs f a e (shape_fault bs e (some_front bs f a) is))
 
 -- and so is its kind
 means_one : (shape : Shape) (k l : TokenKind) → Means shape k → Means shape l → k ≡ l

@@ -3,7 +3,7 @@ use Rattle.std.proofs.Common.{◌≡◌, ◌≢◌, ℕ, ◌-◌, ◌<◌, List,
 use Rattle.script_lex.specs.Spelling.{IsToken, IsLongest, LexStop, Bad, OpenText, Large, FaultAt}
 use Rattle.script_lex.specs.Tokens.{between, Leads, EndsBy, Runs}
 use Rattle.script_lex.specs.Reading.{Read, shape_at}
-use Rattle.script_lex.specs.Gives.{Gives, Refuses, IfFault, RunsInto, RunsTo}
+use Rattle.script_lex.specs.Gives.{Gives, Refuses, IfFault, RunsTo}
 use Rattle.script_lex.specs.declared.token.Token.{Token}
 use Rattle.script_lex.specs.declared.token.TokenKind.{TokenKind}
 use Rattle.script_lex.specs.declared.refusal.Refusal.{Refusal}
@@ -67,13 +67,6 @@ fault_run text before rest ts e leads behind some refuses = by_fault e (refused_
     by_fault (refusals.BadByte n) h = run (Bad n) h
     by_fault (refusals.UnclosedString n) h = run (OpenText n) h
     by_fault (refusals.NumberTooLarge n) h = run (Large n) h
-
--- behind these tokens is behind some
-pub runs_into : (text : List ℕ) (ts : List Token) (e : Refusal) → IfFault e (RunsTo text ts) → IfFault e (RunsInto text)
-runs_into text ts refusals.Memory h = tt
-runs_into text ts (refusals.BadByte n) h = (ts, h)
-runs_into text ts (refusals.UnclosedString n) h = (ts, h)
-runs_into text ts (refusals.NumberTooLarge n) h = (ts, h)
 
 -- how a run ends is told by what is left
 ends_one : (bs : List ℕ) (e g : Option LexStop) → EndsBy e bs → EndsBy g bs → e ≡ g

@@ -1,5 +1,5 @@
 -- Characters, one by one; the ends of lines, one byte more.
-use Rattle.std.proofs.Common.{◌≡◌, ℕ, zero, suc, ◌+◌, ◌-◌, ◌<◌, List, [], ◌∷◌, ◌++◌, length, map, take, drop, Bool, true, false, refl, sym, ap, ◌∙◌, arith, append_assoc, append-nil, IsUtf8}
+use Rattle.std.proofs.Common.{◌≡◌, ℕ, zero, suc, ◌+◌, ◌-◌, ◌<◌, List, [], ◌∷◌, ◌++◌, length, map, take, drop, Bool, true, false, refl, sym, ap, ◌∙◌, arith, append-nil, IsUtf8}
 use Rattle.std.specs.Prelude.{get_or}
 use Rattle.std.specs.List.{count_by}
 use Rattle.std.specs.Str.{is_utf8}
@@ -63,10 +63,6 @@ all_counted bs rest n e empty = let none = ap length (none_of_them rest empty) i
 
 pub all_blank : (out rest whole : List ℕ) → length rest ≡ 0 → out ++ blanks_for rest ≡ whole → out ≡ whole
 all_blank out rest whole empty e = sym (append-nil out) ∙ (ap (λ (cs : List ℕ). out ++ map blank_for cs) (sym (none_of_them rest empty)) ∙ e)
-
--- a blank more
-pub blank_more : (out bs rest : List ℕ) (b : ℕ) → characters bs ≡ b ∷ characters rest → (out ++ (blank_for b ∷ [])) ++ blanks_for rest ≡ out ++ blanks_for bs
-blank_more out bs rest b e = append_assoc out (blank_for b ∷ []) (blanks_for rest) ∙ ap (λ (cs : List ℕ). out ++ map blank_for cs) (sym e)
 
 pub ends : (bs : List ℕ) (i b n : ℕ) → i < length bs → b ≡ get_or bs i b → (is_lf b ≡ true → n ≡ 1) → (is_lf b ≡ false → n ≡ 0) → count_by is_lf (take i bs) + n ≡ count_by is_lf (take (i + 1) bs)
 ends bs i b n lt e one none = by_case (is_lf b) refl where

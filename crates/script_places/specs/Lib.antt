@@ -2,5 +2,4 @@ pub mod Counting
 pub mod Showing
 pub mod Pointing
 pub mod Starts
-pub mod Standing
 pub mod Naming

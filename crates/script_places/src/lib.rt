@@ -11,6 +11,5 @@ mod showing;
 mod starts;
 
 pub use named::{Named, named_in};
-pub use place::{Place, byte_place};
 pub use pointing::pointer;
 pub use starts::{first_token, start};

@@ -8,7 +8,7 @@ ghost use Rattle.script_grammar.specs.ReadValue.{binds};
 ghost use Rattle.script_grammar.specs.ReadScript.{bind, inner};
 ghost use Rattle.script_grammar.specs.View.{listed, view_bind, view_inner};
 ghost use Rattle.script_grammar.specs.Whole.{IsWholeBind, IsWholeInner};
-ghost use Rattle.parse_base.specs.Gives.{kinds, Gives, places};
+ghost use Rattle.parse_base.specs.Gives.{kinds, Gives, places, Reads};
 
 use crate::tokens::{at_binding, name};
 use liq_base::Text;
@@ -47,9 +47,7 @@ pub fn inners(
 fn inner(alloc: Global, total: usize, tokens: &[Token]) -> Result<(Inner, &[Token]), Fault>
     requires within { length tokens.now ≤ total }
     requires small { total < 2 ^ 32 }
-    ensures shorter { IfOk result (λ x. length x.1.now < length tokens.now) }
-    ensures gives { Gives (λ x. (view_inner x.0, kinds x.1.now)) result (inner (places total) (kinds tokens.now)) }
-    ensures whole { IfOk result (λ x. IsWholeInner x.0) }
+    ensures { Reads view_inner IsWholeInner (inner (places total)) tokens.now result }
 {
     let (bind, rest) = bind(alloc, total, tokens)?;
     let (semicolon, rest) = token::perhaps(rest, Class::Semicolon);
@@ -80,10 +78,7 @@ fn bind_of<'a>(
 ) -> Result<(Bind, &'a [Token]), Fault>
     requires within { length tokens.now ≤ total }
     requires small { total < 2 ^ 32 }
-    ensures shorter { IfOk result (λ x. length x.1.now < length tokens.now) }
-    ensures gives { Gives (λ x. (view_bind x.0, kinds x.1.now)) result
-        (bind_of true (places total) at name.now (kinds tokens.now)) }
-    ensures whole { IfOk result (λ x. IsWholeBind x.0) }
+    ensures { Reads view_bind IsWholeBind (bind_of true (places total) at name.now) tokens.now result }
 {
     let name = name.copy(alloc)?;
     let (_assign, rest) = token::expect(tokens, Class::Assign)?;

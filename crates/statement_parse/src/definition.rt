@@ -6,7 +6,7 @@ ghost use Rattle.script_grammar.specs.Read.{expect};
 ghost use Rattle.script_grammar.specs.ReadScript.{def};
 ghost use Rattle.script_grammar.specs.View.{view_expr, view_def};
 ghost use Rattle.script_grammar.specs.Whole.{IsWholeExpr, IsWholeDef};
-ghost use Rattle.parse_base.specs.Gives.{kinds, Gives, places};
+ghost use Rattle.parse_base.specs.Gives.{kinds, Gives, places, Reads};
 
 use crate::binding::inners;
 use crate::parameter::params;
@@ -71,9 +71,7 @@ fn def_of<'a>(
 fn ended(alloc: Global, total: usize, tokens: &[Token]) -> Result<(Expr, &[Token]), Fault>
     requires within { length tokens.now ≤ total }
     requires small { total < 2 ^ 32 }
-    ensures shorter { IfOk result (λ x. length x.1.now < length tokens.now) }
-    ensures gives { Gives (λ x. ((view_expr x.0, tt), kinds x.1.now)) result (ended (places total) (kinds tokens.now)) }
-    ensures whole { IfOk result (λ x. IsWholeExpr x.0) }
+    ensures { Reads (λ e. (view_expr e, tt)) IsWholeExpr (ended (places total)) tokens.now result }
 {
     let (result, rest) = result(alloc, total, tokens)?;
     before_end(result, rest)

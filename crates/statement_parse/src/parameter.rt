@@ -7,7 +7,7 @@ ghost use Rattle.script_grammar.specs.Kinds.{is_comma, is_close_round};
 ghost use Rattle.script_grammar.specs.ReadScript.{param};
 ghost use Rattle.script_grammar.specs.View.{listed, view_param};
 ghost use Rattle.script_grammar.specs.Whole.{IsWholeParam};
-ghost use Rattle.parse_base.specs.Gives.{kinds, Gives, places};
+ghost use Rattle.parse_base.specs.Gives.{kinds, Gives, places, Reads};
 
 use crate::tokens::name;
 use liq_base::Text;
@@ -114,10 +114,7 @@ fn more_params<'a>(
 fn comma_param(alloc: Global, total: usize, tokens: &[Token]) -> Result<(Param, &[Token]), Fault>
     requires within { length tokens.now ≤ total }
     requires small { total < 2 ^ 32 }
-    ensures shorter { IfOk result (λ x. length x.1.now < length tokens.now) }
-    ensures gives { Gives (λ x. (view_param x.0, kinds x.1.now)) result
-        (behind is_comma (param (places total)) (kinds tokens.now)) }
-    ensures whole { IfOk result (λ x. IsWholeParam x.0) }
+    ensures { Reads view_param IsWholeParam (behind is_comma (param (places total))) tokens.now result }
 {
     let (_comma, after) = token::expect(tokens, Class::Comma)?;
     param(alloc, total, after)
@@ -128,9 +125,7 @@ fn comma_param(alloc: Global, total: usize, tokens: &[Token]) -> Result<(Param, 
 fn param(alloc: Global, total: usize, tokens: &[Token]) -> Result<(Param, &[Token]), Fault>
     requires within { length tokens.now ≤ total }
     requires small { total < 2 ^ 32 }
-    ensures shorter { IfOk result (λ x. length x.1.now < length tokens.now) }
-    ensures gives { Gives (λ x. (view_param x.0, kinds x.1.now)) result (param (places total) (kinds tokens.now)) }
-    ensures whole { IfOk result (λ x. IsWholeParam x.0) }
+    ensures { Reads view_param IsWholeParam (param (places total)) tokens.now result }
 {
     match tokens {
         [
@@ -207,10 +202,7 @@ fn default_of<'a>(
 ) -> Result<(Param, &'a [Token]), Fault>
     requires within { length tokens.now ≤ total }
     requires small { total < 2 ^ 32 }
-    ensures shorter { IfOk result (λ x. length x.1.now < length tokens.now) }
-    ensures gives { Gives (λ x. (view_param x.0, kinds x.1.now)) result
-        (default_of (places total) at name.now (kinds tokens.now)) }
-    ensures whole { IfOk result (λ x. IsWholeParam x.0) }
+    ensures { Reads view_param IsWholeParam (default_of (places total) at name.now) tokens.now result }
 {
     let name = name.copy(alloc)?;
     let (default, rest) = value(alloc, total, false, tokens)?;

@@ -8,9 +8,10 @@ ghost use Rattle.script_grammar.specs.ReadValue.{full_by, call, args, arg, opera
 ghost use Rattle.script_grammar.specs.View.{listed, view_full, view_call, view_arg, view_operand};
 ghost use Rattle.script_grammar.specs.declared.tree.Arg.{Arg};
 ghost use Rattle.script_grammar.specs.Whole.{IsWholeFull, IsWholeCall, IsWholeArg, IsWholeOperand};
-ghost use Rattle.parse_base.specs.Gives.{kinds, Gives, places};
+ghost use Rattle.parse_base.specs.Gives.{kinds, Gives, places, Reads};
 ghost use Rattle.value_parse.specs.Operand.{as_call, chained, labelled, as_argument, is_bare, lone, plain, Pushes};
 
+use crate::at::At;
 use crate::logic::expr_from;
 use crate::number::{argument_label, at_operator, is_bare};
 use crate::operands::operand;
@@ -40,10 +41,7 @@ pub fn call(
 ) -> Result<(Call, &[Token]), Fault>
     requires within { length tokens.now ≤ total }
     requires small { total < 2 ^ 32 }
-    ensures shorter { IfOk result (λ x. length x.1.now < length tokens.now) }
-    ensures gives { Gives (λ x. (view_call x.0, kinds x.1.now)) result
-        (call (places total) (full_by levels (places total)) (kinds tokens.now)) }
-    ensures whole { IfOk result (λ x. IsWholeCall x.0) }
+    ensures { Reads view_call IsWholeCall (call (places total) (full_by levels (places total))) tokens.now result }
 {
     match tokens {
         [
@@ -208,7 +206,13 @@ fn labelled<'a>(
                 label,
                 items,
                 tokens,
-                operand(alloc, total, below, false, tokens),
+                operand(At {
+                    alloc,
+                    total,
+                    levels: below,
+                    loose: false,
+                    tokens,
+                }),
             )
         }
     }
@@ -244,10 +248,8 @@ fn push_operand<'a>(
     requires small { total < 2 ^ 32 }
     requires lead { perhaps is_not (kinds tokens.now) ≡ Ok (false, kinds tokens.now) }
     requires room { vec_len items.old < vec_capacity items.old }
-    requires shorter { IfOk read (λ x. length x.1.now < length tokens.now) }
-    requires gives { Gives (λ x. (view_operand x.0, kinds x.1.now)) read
-        (operand false (places total) (full_by levels (places total)) (kinds tokens.now)) }
-    requires whole { IfOk read (λ x. IsWholeOperand x.0) }
+    requires read { Reads view_operand IsWholeOperand (operand false (places total) (full_by levels (places total)))
+        tokens.now read }
     ensures shorter { IfOk result (λ rest. length rest.now < length tokens.now) }
     ensures gives { Pushes view_arg items.old.items items.new.items result
         (as_argument at label (plain false (places total) (full_by levels (places total)) (kinds tokens.now))) }
@@ -256,7 +258,18 @@ fn push_operand<'a>(
     let (operand, rest) = read?;
     if at_operator(rest) {
         let first = Ok((operand, rest));
-        let value = expr_from(alloc, total, levels, false, tokens, false, tokens, first);
+        let value = expr_from(
+            At {
+                alloc,
+                total,
+                levels,
+                loose: false,
+                tokens,
+            },
+            false,
+            tokens,
+            first,
+        );
         push_arg(at, label, items, in_full(value))
     } else {
         push_lone(alloc, at, label, items, operand);

@@ -6,8 +6,9 @@ ghost use Rattle.script_grammar.specs.Read.{next, many};
 ghost use Rattle.script_grammar.specs.ReadValue.{full_by, compare, behind_op, next_op, sum, added, product, multiplied, operand};
 ghost use Rattle.script_grammar.specs.View.{listed, view_compare, view_sum, view_added, view_product, view_multiplied, view_operand};
 ghost use Rattle.script_grammar.specs.Whole.{IsWholeCompare, IsWholeSum, IsWholeAdded, IsWholeProduct, IsWholeMultiplied, IsWholeOperand};
-ghost use Rattle.parse_base.specs.Gives.{kinds, Gives, places};
+ghost use Rattle.parse_base.specs.Gives.{kinds, Gives, places, Reads, ReadsOn};
 
+use crate::at::At;
 use crate::items::keep;
 use crate::number::{next_op, product_sign, sum_sign};
 use crate::operands::operand;
@@ -25,26 +26,18 @@ use std::alloc::Global;
 #[cycle(value)]
 #[tactic(auto, unfolding(script_grammar::specs::ReadValue::compare))]
 pub fn compare_of<'a>(
-    alloc: Global,
-    total: usize,
-    levels: usize,
-    loose: bool,
-    _tokens: &[Token],
+    at: At<'_>,
     read: Result<(Sum, &'a [Token]), Fault>,
 ) -> Result<(Compare, &'a [Token]), Fault>
-    requires within { length _tokens.now ≤ total }
-    requires small { total < 2 ^ 32 }
-    requires shorter { IfOk read (λ x. length x.1.now < length _tokens.now) }
-    requires gives { Gives (λ x. (view_sum x.0, kinds x.1.now)) read
-        (sum loose (places total) (full_by levels (places total)) (kinds _tokens.now)) }
-    requires whole { IfOk read (λ x. IsWholeSum x.0) }
-    ensures shorter { IfOk result (λ x. length x.1.now < length _tokens.now) }
-    ensures gives { Gives (λ x. (view_compare x.0, kinds x.1.now)) result
-        (compare loose (places total) (full_by levels (places total)) (kinds _tokens.now)) }
-    ensures whole { IfOk result (λ x. IsWholeCompare x.0) }
+    requires within { length at.tokens.now ≤ at.total }
+    requires small { at.total < 2 ^ 32 }
+    requires read { Reads view_sum IsWholeSum (sum at.loose (places at.total) (full_by at.levels (places at.total))) at.tokens.now
+        read }
+    ensures { Reads view_compare IsWholeCompare (compare at.entry.loose (places at.entry.total) (full_by at.entry.levels (places at.entry.total)))
+        at.entry.tokens.now result }
 {
     let (left, rest) = read?;
-    behind_sum(alloc, total, levels, loose, left, rest)
+    behind_sum(at.alloc, at.total, at.levels, at.loose, left, rest)
 }
 
 // ((`==` | `!=` | `<` | `<=` | `>` | `>=`) sum)?, behind the sum on its left.
@@ -60,18 +53,39 @@ fn behind_sum(
     requires within { length tokens.now ≤ total }
     requires small { total < 2 ^ 32 }
     requires whole { IsWholeSum left }
-    ensures shorter { IfOk result (λ x. length x.1.now ≤ length tokens.now) }
-    ensures gives { Gives (λ x. (view_compare x.0, kinds x.1.now)) result
-        (behind_op loose (places total) (full_by levels (places total)) (view_sum left) (next_op (kinds tokens.now))
-        (kinds tokens.now)) }
-    ensures whole { IfOk result (λ x. IsWholeCompare x.0) }
+    ensures { ReadsOn view_compare IsWholeCompare (behind_op loose (places total) (full_by levels (places total))
+        (view_sum left) (next_op (kinds tokens.now))) tokens.now result }
 {
     match (next_op(tokens), tokens) {
         (Some(op), [_, after @ ..]) => {
             let at = place(total, tokens);
-            let first = operand(alloc, total, levels, loose, after);
-            let first = product_of(alloc, total, levels, loose, after, first);
-            let (sum, rest) = sum_of(alloc, total, levels, loose, after, first)?;
+            let first = operand(At {
+                alloc,
+                total,
+                levels,
+                loose,
+                tokens: after,
+            });
+            let first = product_of(
+                At {
+                    alloc,
+                    total,
+                    levels,
+                    loose,
+                    tokens: after,
+                },
+                first,
+            );
+            let (sum, rest) = sum_of(
+                At {
+                    alloc,
+                    total,
+                    levels,
+                    loose,
+                    tokens: after,
+                },
+                first,
+            )?;
             let right = Some(Compared { at, op, sum });
             Ok((Compare { left, right }, rest))
         }
@@ -86,49 +100,32 @@ fn behind_sum(
 #[cycle(value)]
 #[tactic(auto, unfolding(script_grammar::specs::ReadValue::sum))]
 pub fn sum_of<'a>(
-    alloc: Global,
-    total: usize,
-    levels: usize,
-    loose: bool,
-    _tokens: &[Token],
+    at: At<'_>,
     read: Result<(Product, &'a [Token]), Fault>,
 ) -> Result<(Sum, &'a [Token]), Fault>
-    requires within { length _tokens.now ≤ total }
-    requires small { total < 2 ^ 32 }
-    requires shorter { IfOk read (λ x. length x.1.now < length _tokens.now) }
-    requires gives { Gives (λ x. (view_product x.0, kinds x.1.now)) read
-        (product loose (places total) (full_by levels (places total)) (kinds _tokens.now)) }
-    requires whole { IfOk read (λ x. IsWholeProduct x.0) }
-    ensures shorter { IfOk result (λ x. length x.1.now < length _tokens.now) }
-    ensures gives { Gives (λ x. (view_sum x.0, kinds x.1.now)) result
-        (sum loose (places total) (full_by levels (places total)) (kinds _tokens.now)) }
-    ensures whole { IfOk result (λ x. IsWholeSum x.0) }
+    requires within { length at.tokens.now ≤ at.total }
+    requires small { at.total < 2 ^ 32 }
+    requires read { Reads view_product IsWholeProduct (product at.loose (places at.total) (full_by at.levels (places at.total)))
+        at.tokens.now read }
+    ensures { Reads view_sum IsWholeSum (sum at.entry.loose (places at.entry.total) (full_by at.entry.levels (places at.entry.total))) at.entry.tokens.now result }
 {
     let (first, rest) = read?;
-    let (others, rest) = addends(alloc, total, levels, loose, rest)?;
+    let (others, rest) = addends(At { tokens: rest, ..at })?;
     Ok((make::sum(first, others), rest))
 }
 
 // ((`+` | `-`) product)*
 #[cycle(value)]
-fn addends(
-    alloc: Global,
-    total: usize,
-    levels: usize,
-    loose: bool,
-    tokens: &[Token],
-) -> Result<(Vec<Added>, &[Token]), Fault>
-    requires within { length tokens.now ≤ total }
-    requires small { total < 2 ^ 32 }
-    ensures shorter { IfOk result (λ x. length x.1.now ≤ length tokens.now) }
-    ensures gives { Gives (λ x. (listed (map view_added x.0.items), kinds x.1.now)) result
-        (many (next is_added) (added loose (places total) (full_by levels (places total))) (kinds tokens.now)) }
-    ensures whole { IfOk result (λ x. All IsWholeAdded x.0.items) }
+fn addends<'a>(at: At<'a>) -> Result<(Vec<Added>, &'a [Token]), Fault>
+    requires within { length at.tokens.now ≤ at.total }
+    requires small { at.total < 2 ^ 32 }
+    ensures { ReadsOn (λ x. listed (map view_added x.items)) (λ x. All IsWholeAdded x.items) (many (next is_added)
+        (added at.entry.loose (places at.entry.total) (full_by at.entry.levels (places at.entry.total)))) at.entry.tokens.now result }
 {
-    let mut items = Vec::new(alloc);
-    let mut rest = tokens;
+    let mut items = Vec::new(at.alloc);
+    let mut rest = at.tokens;
     'turns: while token::next_is(rest, Class::Added) {
-        rest = keep(&mut items, added(alloc, total, levels, loose, rest))?;
+        rest = keep(&mut items, added(At { tokens: rest, ..at }))?;
     }
     Ok((items, rest))
 }
@@ -136,29 +133,25 @@ fn addends(
 // (`+` | `-`) product
 #[cycle(value)]
 #[tactic(auto, using(crate::proofs::Signs::added_fails, crate::proofs::Signs::added_part_fails, crate::proofs::Signs::added_goes))]
-fn added(
-    alloc: Global,
-    total: usize,
-    levels: usize,
-    loose: bool,
-    tokens: &[Token],
-) -> Result<(Added, &[Token]), Fault>
-    requires within { length tokens.now ≤ total }
-    requires small { total < 2 ^ 32 }
-    ensures shorter { IfOk result (λ x. length x.1.now < length tokens.now) }
+fn added<'a>(here: At<'a>) -> Result<(Added, &'a [Token]), Fault>
+    requires within { length here.tokens.now ≤ here.total }
+    requires small { here.total < 2 ^ 32 }
+    ensures shorter { IfOk result (λ x. length x.1.now < length here.entry.tokens.now) }
     ensures gives { Gives (λ x. (view_added x.0, kinds x.1.now)) result
-        (added loose (places total) (full_by levels (places total)) (kinds tokens.now)) }
+        (added here.entry.loose (places here.entry.total) (full_by here.entry.levels (places here.entry.total)) (kinds here.entry.tokens.now)) }
     ensures whole { IfOk result (λ x. IsWholeAdded x.0) }
 {
-    let at = place(total, tokens);
-    let (minus, rest) = sum_sign(tokens)?;
+    let at = place(here.total, here.tokens);
+    let (minus, rest) = sum_sign(here.tokens)?;
     let (product, rest) = product_of(
-        alloc,
-        total,
-        levels,
-        loose,
-        rest,
-        operand(alloc, total, levels, loose, rest),
+        At {
+            tokens: rest,
+            ..here
+        },
+        operand(At {
+            tokens: rest,
+            ..here
+        }),
     )?;
     Ok((Added { at, minus, product }, rest))
 }
@@ -170,50 +163,33 @@ fn added(
 #[cycle(value)]
 #[tactic(auto, unfolding(script_grammar::specs::ReadValue::product))]
 pub fn product_of<'a>(
-    alloc: Global,
-    total: usize,
-    levels: usize,
-    loose: bool,
-    _tokens: &[Token],
+    at: At<'_>,
     read: Result<(tree::Operand, &'a [Token]), Fault>,
 ) -> Result<(Product, &'a [Token]), Fault>
-    requires within { length _tokens.now ≤ total }
-    requires small { total < 2 ^ 32 }
-    requires shorter { IfOk read (λ x. length x.1.now < length _tokens.now) }
-    requires gives { Gives (λ x. (view_operand x.0, kinds x.1.now)) read
-        (operand loose (places total) (full_by levels (places total)) (kinds _tokens.now)) }
-    requires whole { IfOk read (λ x. IsWholeOperand x.0) }
-    ensures shorter { IfOk result (λ x. length x.1.now < length _tokens.now) }
-    ensures gives { Gives (λ x. (view_product x.0, kinds x.1.now)) result
-        (product loose (places total) (full_by levels (places total)) (kinds _tokens.now)) }
-    ensures whole { IfOk result (λ x. IsWholeProduct x.0) }
+    requires within { length at.tokens.now ≤ at.total }
+    requires small { at.total < 2 ^ 32 }
+    requires read { Reads view_operand IsWholeOperand (operand at.loose (places at.total) (full_by at.levels (places at.total)))
+        at.tokens.now read }
+    ensures { Reads view_product IsWholeProduct (product at.entry.loose (places at.entry.total) (full_by at.entry.levels (places at.entry.total)))
+        at.entry.tokens.now result }
 {
     let (first, rest) = read?;
-    let (others, rest) = factors(alloc, total, levels, loose, rest)?;
+    let (others, rest) = factors(At { tokens: rest, ..at })?;
     Ok((make::product(first, others), rest))
 }
 
 // ((`*` | `/`) operand)*
 #[cycle(value)]
-fn factors(
-    alloc: Global,
-    total: usize,
-    levels: usize,
-    loose: bool,
-    tokens: &[Token],
-) -> Result<(Vec<Multiplied>, &[Token]), Fault>
-    requires within { length tokens.now ≤ total }
-    requires small { total < 2 ^ 32 }
-    ensures shorter { IfOk result (λ x. length x.1.now ≤ length tokens.now) }
-    ensures gives { Gives (λ x. (listed (map view_multiplied x.0.items), kinds x.1.now)) result
-        (many (next is_multiplied) (multiplied loose (places total) (full_by levels (places total)))
-        (kinds tokens.now)) }
-    ensures whole { IfOk result (λ x. All IsWholeMultiplied x.0.items) }
+fn factors<'a>(at: At<'a>) -> Result<(Vec<Multiplied>, &'a [Token]), Fault>
+    requires within { length at.tokens.now ≤ at.total }
+    requires small { at.total < 2 ^ 32 }
+    ensures { ReadsOn (λ x. listed (map view_multiplied x.items)) (λ x. All IsWholeMultiplied x.items) (many (next
+        is_multiplied) (multiplied at.entry.loose (places at.entry.total) (full_by at.entry.levels (places at.entry.total)))) at.entry.tokens.now result }
 {
-    let mut items = Vec::new(alloc);
-    let mut rest = tokens;
+    let mut items = Vec::new(at.alloc);
+    let mut rest = at.tokens;
     'turns: while token::next_is(rest, Class::Multiplied) {
-        rest = keep(&mut items, multiplied(alloc, total, levels, loose, rest))?;
+        rest = keep(&mut items, multiplied(At { tokens: rest, ..at }))?;
     }
     Ok((items, rest))
 }
@@ -221,23 +197,20 @@ fn factors(
 // (`*` | `/`) operand
 #[cycle(value)]
 #[tactic(auto, using(crate::proofs::Signs::multiplied_fails, crate::proofs::Signs::multiplied_part_fails, crate::proofs::Signs::multiplied_goes))]
-fn multiplied(
-    alloc: Global,
-    total: usize,
-    levels: usize,
-    loose: bool,
-    tokens: &[Token],
-) -> Result<(Multiplied, &[Token]), Fault>
-    requires within { length tokens.now ≤ total }
-    requires small { total < 2 ^ 32 }
-    ensures shorter { IfOk result (λ x. length x.1.now < length tokens.now) }
+fn multiplied<'a>(here: At<'a>) -> Result<(Multiplied, &'a [Token]), Fault>
+    requires within { length here.tokens.now ≤ here.total }
+    requires small { here.total < 2 ^ 32 }
+    ensures shorter { IfOk result (λ x. length x.1.now < length here.entry.tokens.now) }
     ensures gives { Gives (λ x. (view_multiplied x.0, kinds x.1.now)) result
-        (multiplied loose (places total) (full_by levels (places total)) (kinds tokens.now)) }
+        (multiplied here.entry.loose (places here.entry.total) (full_by here.entry.levels (places here.entry.total)) (kinds here.entry.tokens.now)) }
     ensures whole { IfOk result (λ x. IsWholeMultiplied x.0) }
 {
-    let at = place(total, tokens);
-    let (divide, rest) = product_sign(tokens)?;
-    let (operand, rest) = operand(alloc, total, levels, loose, rest)?;
+    let at = place(here.total, here.tokens);
+    let (divide, rest) = product_sign(here.tokens)?;
+    let (operand, rest) = operand(At {
+        tokens: rest,
+        ..here
+    })?;
     Ok((
         Multiplied {
             at,

@@ -5,7 +5,7 @@ ghost use Rattle.script_grammar.specs.ReadValue.{operand};
 ghost use Rattle.script_grammar.specs.View.{view_full, view_if, view_operand};
 ghost use Rattle.script_grammar.specs.Tree.{If as an_if};
 ghost use Rattle.script_grammar.specs.Whole.{IsWholeFull, IsWholeIf, IsWholeOperand};
-ghost use Rattle.parse_base.specs.Gives.{kinds, Gives, places};
+ghost use Rattle.parse_base.specs.Gives.{kinds, Gives, places, Reads};
 ghost use Rattle.value_parse.specs.Operand.{braces_at, holds_values, no_value};
 
 use crate::number::wav;
@@ -26,10 +26,7 @@ pub fn atom(
     requires within { length tokens.now ≤ total }
     requires small { total < 2 ^ 32 }
     requires closed { next holds_values (kinds tokens.now) ≡ false }
-    ensures shorter { IfOk result (λ x. length x.1.now < length tokens.now) }
-    ensures gives { Gives (λ x. (view_operand x.0, kinds x.1.now)) result
-        (operand loose (places total) no_value (kinds tokens.now)) }
-    ensures whole { IfOk result (λ x. IsWholeOperand x.0) }
+    ensures { Reads view_operand IsWholeOperand (operand loose (places total) no_value) tokens.now result }
 {
     let at = place(total, tokens);
     match tokens {
@@ -124,9 +121,7 @@ pub fn make_choice(at: u32, condition: Box<Full>, then_part: Box<Full>, else_par
 }
 
 fn braces(alloc: Global, at: u32, tokens: &[Token]) -> Result<(tree::Operand, &[Token]), Fault>
-    ensures shorter { IfOk result (λ x. length x.1.now < length tokens.now) }
-    ensures gives { Gives (λ x. (view_operand x.0, kinds x.1.now)) result (braces_at at (kinds tokens.now)) }
-    ensures whole { IfOk result (λ x. IsWholeOperand x.0) }
+    ensures { Reads view_operand IsWholeOperand (braces_at at) tokens.now result }
 {
     let (pred, rest) = predicate(alloc, tokens)?;
     let ((), rest) = token::expect(rest, Class::CloseCurly)?;

@@ -3,7 +3,7 @@ ghost use Rattle.std.specs.Prelude.{◌<◌, ◌≤◌, ◌^◌, IfOk, length};
 ghost use Rattle.script_grammar.specs.ReadValue.{full_by, choice};
 ghost use Rattle.script_grammar.specs.View.{view_full, view_if};
 ghost use Rattle.script_grammar.specs.Whole.{IsWholeFull, IsWholeIf};
-ghost use Rattle.parse_base.specs.Gives.{kinds, Gives, places};
+ghost use Rattle.parse_base.specs.Gives.{kinds, Gives, places, Reads};
 ghost use Rattle.value_parse.specs.Operand.{chosen, branches, otherwise, seen_branches, seen_otherwise};
 
 use crate::atoms::make_choice;
@@ -48,10 +48,7 @@ fn chosen(
 ) -> Result<(If, &[Token]), Fault>
     requires within { length tokens.now ≤ total }
     requires small { total < 2 ^ 32 }
-    ensures shorter { IfOk result (λ x. length x.1.now < length tokens.now) }
-    ensures gives { Gives (λ x. (view_if x.0, kinds x.1.now)) result
-        (chosen at (full_by levels (places total)) (kinds tokens.now)) }
-    ensures whole { IfOk result (λ x. IsWholeIf x.0) }
+    ensures { Reads view_if IsWholeIf (chosen at (full_by levels (places total))) tokens.now result }
 {
     let (condition, rest) = full_box(alloc, total, levels, tokens)?;
     let (then_part, else_part, rest) = branches(alloc, total, levels, rest)?;

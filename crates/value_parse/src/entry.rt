@@ -4,8 +4,9 @@ ghost use Rattle.script_grammar.specs.ReadValue.{full_by, call as read_call, cho
 ghost use Rattle.script_grammar.specs.ReadScript.{value as read_value, result as read_result};
 ghost use Rattle.script_grammar.specs.View.{view_full, view_expr, view_call, view_if};
 ghost use Rattle.script_grammar.specs.Whole.{IsWholeFull, IsWholeExpr, IsWholeCall, IsWholeIf};
-ghost use Rattle.parse_base.specs.Gives.{kinds, Gives, places};
+ghost use Rattle.parse_base.specs.Gives.{kinds, Gives, places, Reads};
 
+use crate::at::At;
 use crate::{arguments, conditionals, logic, values};
 use parse_base::Fault;
 use script_grammar::tree::{Call, Expr, Full, If};
@@ -26,12 +27,15 @@ pub fn value(
 ) -> Result<(Full, &[Token]), Fault>
     requires within { length tokens.now ≤ total }
     requires small { total < 2 ^ 32 }
-    ensures shorter { IfOk result (λ x. length x.1.now < length tokens.now) }
-    ensures gives { Gives (λ x. (view_full x.0, kinds x.1.now)) result
-        (read_value loose (places total) (kinds tokens.now)) }
-    ensures whole { IfOk result (λ x. IsWholeFull x.0) }
+    ensures { Reads view_full IsWholeFull (read_value loose (places total)) tokens.now result }
 {
-    values::full_step(alloc, total, tokens.len(), loose, tokens)
+    values::full_step(At {
+        alloc,
+        total,
+        levels: tokens.len(),
+        loose,
+        tokens,
+    })
 }
 
 /// The result of a def: an expression, and the tokens behind it. Places and faults are as with `value`.
@@ -39,21 +43,23 @@ pub fn value(
 pub fn result(alloc: Global, total: usize, tokens: &[Token]) -> Result<(Expr, &[Token]), Fault>
     requires within { length tokens.now ≤ total }
     requires small { total < 2 ^ 32 }
-    ensures shorter { IfOk result (λ x. length x.1.now < length tokens.now) }
-    ensures gives { Gives (λ x. (view_expr x.0, kinds x.1.now)) result (read_result (places total) (kinds tokens.now)) }
-    ensures whole { IfOk result (λ x. IsWholeExpr x.0) }
+    ensures { Reads view_expr IsWholeExpr (read_result (places total)) tokens.now result }
 {
-    logic::expr(alloc, total, tokens.len(), false, tokens)
+    logic::expr(At {
+        alloc,
+        total,
+        levels: tokens.len(),
+        loose: false,
+        tokens,
+    })
 }
 
 /// A call of a name, and the tokens behind it. Places and faults are as with `value`.
 pub fn call(alloc: Global, total: usize, tokens: &[Token]) -> Result<(Call, &[Token]), Fault>
     requires within { length tokens.now ≤ total }
     requires small { total < 2 ^ 32 }
-    ensures shorter { IfOk result (λ x. length x.1.now < length tokens.now) }
-    ensures gives { Gives (λ x. (view_call x.0, kinds x.1.now)) result
-        (read_call (places total) (full_by (length tokens.now) (places total)) (kinds tokens.now)) }
-    ensures whole { IfOk result (λ x. IsWholeCall x.0) }
+    ensures { Reads view_call IsWholeCall (read_call (places total) (full_by (length tokens.now) (places total)))
+        tokens.now result }
 {
     arguments::call(alloc, total, tokens.len(), tokens)
 }
@@ -62,10 +68,8 @@ pub fn call(alloc: Global, total: usize, tokens: &[Token]) -> Result<(Call, &[To
 pub fn choice(alloc: Global, total: usize, tokens: &[Token]) -> Result<(If, &[Token]), Fault>
     requires within { length tokens.now ≤ total }
     requires small { total < 2 ^ 32 }
-    ensures shorter { IfOk result (λ x. length x.1.now < length tokens.now) }
-    ensures gives { Gives (λ x. (view_if x.0, kinds x.1.now)) result
-        (read_choice (places total) (full_by (length tokens.now) (places total)) (kinds tokens.now)) }
-    ensures whole { IfOk result (λ x. IsWholeIf x.0) }
+    ensures { Reads view_if IsWholeIf (read_choice (places total) (full_by (length tokens.now) (places total)))
+        tokens.now result }
 {
     conditionals::choice(alloc, total, tokens.len(), tokens)
 }

@@ -3,6 +3,7 @@
 
 mod arguments;
 mod arithmetic;
+mod at;
 mod atoms;
 mod conditionals;
 mod entry;

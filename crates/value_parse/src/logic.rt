@@ -7,10 +7,11 @@ ghost use Rattle.script_grammar.specs.Tree.{Tree, ACompare};
 ghost use Rattle.script_grammar.specs.ReadValue.{full_by, expr, and_, not_, compare, operand};
 ghost use Rattle.script_grammar.specs.View.{listed, view_expr, view_and, view_not, view_compare, view_operand};
 ghost use Rattle.script_grammar.specs.Whole.{IsWholeExpr, IsWholeAnd, IsWholeNot, IsWholeCompare, IsWholeOperand};
-ghost use Rattle.parse_base.specs.Gives.{kinds, Gives, places};
+ghost use Rattle.parse_base.specs.Gives.{kinds, Gives, places, Reads, ReadsOn};
 ghost use Rattle.value_parse.specs.Operand.{behind_not};
 
 use crate::arithmetic::{compare_of, product_of, sum_of};
+use crate::at::At;
 use crate::items::keep;
 use crate::operands::operand;
 use parse_base::Fault;
@@ -21,30 +22,21 @@ use script_lex::Token;
 use std::alloc::Global;
 
 /// expression: and (`or` and)*
-pub fn expr(
-    alloc: Global,
-    total: usize,
-    levels: usize,
-    loose: bool,
-    tokens: &[Token],
-) -> Result<(Expr, &[Token]), Fault>
-    requires within { length tokens.now ≤ total }
-    requires small { total < 2 ^ 32 }
-    ensures shorter { IfOk result (λ x. length x.1.now < length tokens.now) }
-    ensures gives { Gives (λ x. (view_expr x.0, kinds x.1.now)) result
-        (expr loose (places total) (full_by levels (places total)) (kinds tokens.now)) }
-    ensures whole { IfOk result (λ x. IsWholeExpr x.0) }
+pub fn expr<'a>(at: At<'a>) -> Result<(Expr, &'a [Token]), Fault>
+    requires within { length at.tokens.now ≤ at.total }
+    requires small { at.total < 2 ^ 32 }
+    ensures { Reads view_expr IsWholeExpr (expr at.entry.loose (places at.entry.total) (full_by at.entry.levels (places at.entry.total))) at.entry.tokens.now
+        result }
 {
-    let (negated, inner) = token::perhaps(tokens, Class::Not);
+    let (negated, inner) = token::perhaps(at.tokens, Class::Not);
     expr_from(
-        alloc,
-        total,
-        levels,
-        loose,
-        tokens,
+        at,
         negated,
         inner,
-        operand(alloc, total, levels, loose, inner),
+        operand(At {
+            tokens: inner,
+            ..at
+        }),
     )
 }
 
@@ -53,31 +45,25 @@ pub fn expr(
 #[cycle(value)]
 #[tactic(auto, unfolding(script_grammar::specs::ReadValue::not_))]
 pub fn expr_from<'a>(
-    alloc: Global,
-    total: usize,
-    levels: usize,
-    loose: bool,
-    tokens: &[Token],
+    at: At<'_>,
     negated: bool,
     inner: &[Token],
     read: Result<(Operand, &'a [Token]), Fault>,
 ) -> Result<(Expr, &'a [Token]), Fault>
-    requires within { length tokens.now ≤ total }
-    requires small { total < 2 ^ 32 }
-    requires inside { length inner.now ≤ length tokens.now }
-    requires lead { perhaps is_not (kinds tokens.now) ≡ Ok (negated, kinds inner.now) }
-    requires shorter { IfOk read (λ x. length x.1.now < length inner.now) }
-    requires gives { Gives (λ x. (view_operand x.0, kinds x.1.now)) read
-        (operand loose (places total) (full_by levels (places total)) (kinds inner.now)) }
-    requires whole { IfOk read (λ x. IsWholeOperand x.0) }
-    ensures shorter { IfOk result (λ x. length x.1.now < length tokens.now) }
-    ensures gives { Gives (λ x. (view_expr x.0, kinds x.1.now)) result
-        (expr loose (places total) (full_by levels (places total)) (kinds tokens.now)) }
-    ensures whole { IfOk result (λ x. IsWholeExpr x.0) }
+    requires within { length at.tokens.now ≤ at.total }
+    requires small { at.total < 2 ^ 32 }
+    requires inside { length inner.now ≤ length at.tokens.now }
+    requires lead { perhaps is_not (kinds at.tokens.now) ≡ Ok (negated, kinds inner.now) }
+    requires read { Reads view_operand IsWholeOperand (operand at.loose (places at.total) (full_by at.levels (places at.total)))
+        inner.now read }
+    ensures { Reads view_expr IsWholeExpr (expr at.entry.loose (places at.entry.total) (full_by at.entry.levels (places at.entry.total))) at.entry.tokens.now
+        result }
 {
-    let first = negation_of(alloc, total, levels, loose, negated, inner, read);
-    let first = and_of(alloc, total, levels, loose, tokens, first);
-    expr_of(alloc, total, levels, loose, tokens, first)
+    let first = negation_of(
+        at.alloc, at.total, at.levels, at.loose, negated, inner, read,
+    );
+    let first = and_of(at, first);
+    expr_of(at, first)
 }
 
 // The same, once the first part is read.
@@ -85,50 +71,33 @@ pub fn expr_from<'a>(
 #[cycle(value)]
 #[tactic(auto, unfolding(script_grammar::specs::ReadValue::expr, script_grammar::specs::Read::chain))]
 fn expr_of<'a>(
-    alloc: Global,
-    total: usize,
-    levels: usize,
-    loose: bool,
-    _tokens: &[Token],
+    at: At<'_>,
     read: Result<(And, &'a [Token]), Fault>,
 ) -> Result<(Expr, &'a [Token]), Fault>
-    requires within { length _tokens.now ≤ total }
-    requires small { total < 2 ^ 32 }
-    requires shorter { IfOk read (λ x. length x.1.now < length _tokens.now) }
-    requires gives { Gives (λ x. (view_and x.0, kinds x.1.now)) read
-        (and_ loose (places total) (full_by levels (places total)) (kinds _tokens.now)) }
-    requires whole { IfOk read (λ x. IsWholeAnd x.0) }
-    ensures shorter { IfOk result (λ x. length x.1.now < length _tokens.now) }
-    ensures gives { Gives (λ x. (view_expr x.0, kinds x.1.now)) result
-        (expr loose (places total) (full_by levels (places total)) (kinds _tokens.now)) }
-    ensures whole { IfOk result (λ x. IsWholeExpr x.0) }
+    requires within { length at.tokens.now ≤ at.total }
+    requires small { at.total < 2 ^ 32 }
+    requires read { Reads view_and IsWholeAnd (and_ at.loose (places at.total) (full_by at.levels (places at.total))) at.tokens.now
+        read }
+    ensures { Reads view_expr IsWholeExpr (expr at.entry.loose (places at.entry.total) (full_by at.entry.levels (places at.entry.total))) at.entry.tokens.now
+        result }
 {
     let (first, rest) = read?;
-    let (others, rest) = ands(alloc, total, levels, loose, rest)?;
+    let (others, rest) = ands(At { tokens: rest, ..at })?;
     Ok((make::expr(first, others), rest))
 }
 
 // (`or` and)*
 #[cycle(value)]
-fn ands(
-    alloc: Global,
-    total: usize,
-    levels: usize,
-    loose: bool,
-    tokens: &[Token],
-) -> Result<(Vec<And>, &[Token]), Fault>
-    requires within { length tokens.now ≤ total }
-    requires small { total < 2 ^ 32 }
-    ensures shorter { IfOk result (λ x. length x.1.now ≤ length tokens.now) }
-    ensures gives { Gives (λ x. (listed (map view_and x.0.items), kinds x.1.now)) result
-        (many (next is_or) (behind is_or (and_ loose (places total) (full_by levels (places total))))
-        (kinds tokens.now)) }
-    ensures whole { IfOk result (λ x. All IsWholeAnd x.0.items) }
+fn ands<'a>(at: At<'a>) -> Result<(Vec<And>, &'a [Token]), Fault>
+    requires within { length at.tokens.now ≤ at.total }
+    requires small { at.total < 2 ^ 32 }
+    ensures { ReadsOn (λ x. listed (map view_and x.items)) (λ x. All IsWholeAnd x.items) (many (next is_or) (behind
+        is_or (and_ at.entry.loose (places at.entry.total) (full_by at.entry.levels (places at.entry.total))))) at.entry.tokens.now result }
 {
-    let mut items = Vec::new(alloc);
-    let mut rest = tokens;
+    let mut items = Vec::new(at.alloc);
+    let mut rest = at.tokens;
     'turns: while token::next_is(rest, Class::Or) {
-        rest = keep(&mut items, or_and(alloc, total, levels, loose, rest))?;
+        rest = keep(&mut items, or_and(At { tokens: rest, ..at }))?;
     }
     Ok((items, rest))
 }
@@ -136,28 +105,16 @@ fn ands(
 // `or` and
 #[cycle(value)]
 #[tactic(auto, unfolding(script_grammar::specs::Read::behind))]
-fn or_and(
-    alloc: Global,
-    total: usize,
-    levels: usize,
-    loose: bool,
-    tokens: &[Token],
-) -> Result<(And, &[Token]), Fault>
-    requires within { length tokens.now ≤ total }
-    requires small { total < 2 ^ 32 }
-    ensures shorter { IfOk result (λ x. length x.1.now < length tokens.now) }
-    ensures gives { Gives (λ x. (view_and x.0, kinds x.1.now)) result
-        (behind is_or (and_ loose (places total) (full_by levels (places total))) (kinds tokens.now)) }
-    ensures whole { IfOk result (λ x. IsWholeAnd x.0) }
+fn or_and<'a>(at: At<'a>) -> Result<(And, &'a [Token]), Fault>
+    requires within { length at.tokens.now ≤ at.total }
+    requires small { at.total < 2 ^ 32 }
+    ensures { Reads view_and IsWholeAnd (behind is_or (and_ at.entry.loose (places at.entry.total) (full_by at.entry.levels (places at.entry.total))))
+        at.entry.tokens.now result }
 {
-    let ((), rest) = token::expect(tokens, Class::Or)?;
+    let ((), rest) = token::expect(at.tokens, Class::Or)?;
     and_of(
-        alloc,
-        total,
-        levels,
-        loose,
-        rest,
-        not_term(alloc, total, levels, loose, rest),
+        At { tokens: rest, ..at },
+        not_term(At { tokens: rest, ..at }),
     )
 }
 
@@ -168,50 +125,32 @@ fn or_and(
 #[cycle(value)]
 #[tactic(auto, unfolding(script_grammar::specs::ReadValue::and_, script_grammar::specs::Read::chain))]
 fn and_of<'a>(
-    alloc: Global,
-    total: usize,
-    levels: usize,
-    loose: bool,
-    _tokens: &[Token],
+    at: At<'_>,
     read: Result<(Not, &'a [Token]), Fault>,
 ) -> Result<(And, &'a [Token]), Fault>
-    requires within { length _tokens.now ≤ total }
-    requires small { total < 2 ^ 32 }
-    requires shorter { IfOk read (λ x. length x.1.now < length _tokens.now) }
-    requires gives { Gives (λ x. (view_not x.0, kinds x.1.now)) read
-        (not_ loose (places total) (full_by levels (places total)) (kinds _tokens.now)) }
-    requires whole { IfOk read (λ x. IsWholeNot x.0) }
-    ensures shorter { IfOk result (λ x. length x.1.now < length _tokens.now) }
-    ensures gives { Gives (λ x. (view_and x.0, kinds x.1.now)) result
-        (and_ loose (places total) (full_by levels (places total)) (kinds _tokens.now)) }
-    ensures whole { IfOk result (λ x. IsWholeAnd x.0) }
+    requires within { length at.tokens.now ≤ at.total }
+    requires small { at.total < 2 ^ 32 }
+    requires read { Reads view_not IsWholeNot (not_ at.loose (places at.total) (full_by at.levels (places at.total))) at.tokens.now
+        read }
+    ensures { Reads view_and IsWholeAnd (and_ at.entry.loose (places at.entry.total) (full_by at.entry.levels (places at.entry.total))) at.entry.tokens.now result }
 {
     let (first, rest) = read?;
-    let (others, rest) = nots(alloc, total, levels, loose, rest)?;
+    let (others, rest) = nots(At { tokens: rest, ..at })?;
     Ok((make::and_term(first, others), rest))
 }
 
 // (`and` not)*
 #[cycle(value)]
-fn nots(
-    alloc: Global,
-    total: usize,
-    levels: usize,
-    loose: bool,
-    tokens: &[Token],
-) -> Result<(Vec<Not>, &[Token]), Fault>
-    requires within { length tokens.now ≤ total }
-    requires small { total < 2 ^ 32 }
-    ensures shorter { IfOk result (λ x. length x.1.now ≤ length tokens.now) }
-    ensures gives { Gives (λ x. (listed (map view_not x.0.items), kinds x.1.now)) result
-        (many (next is_and) (behind is_and (not_ loose (places total) (full_by levels (places total))))
-        (kinds tokens.now)) }
-    ensures whole { IfOk result (λ x. All IsWholeNot x.0.items) }
+fn nots<'a>(at: At<'a>) -> Result<(Vec<Not>, &'a [Token]), Fault>
+    requires within { length at.tokens.now ≤ at.total }
+    requires small { at.total < 2 ^ 32 }
+    ensures { ReadsOn (λ x. listed (map view_not x.items)) (λ x. All IsWholeNot x.items) (many (next is_and) (behind
+        is_and (not_ at.entry.loose (places at.entry.total) (full_by at.entry.levels (places at.entry.total))))) at.entry.tokens.now result }
 {
-    let mut items = Vec::new(alloc);
-    let mut rest = tokens;
+    let mut items = Vec::new(at.alloc);
+    let mut rest = at.tokens;
     'turns: while token::next_is(rest, Class::And) {
-        rest = keep(&mut items, and_not(alloc, total, levels, loose, rest))?;
+        rest = keep(&mut items, and_not(At { tokens: rest, ..at }))?;
     }
     Ok((items, rest))
 }
@@ -219,59 +158,42 @@ fn nots(
 // `and` not
 #[cycle(value)]
 #[tactic(auto, unfolding(script_grammar::specs::Read::behind, script_grammar::specs::ReadValue::not_))]
-fn and_not(
-    alloc: Global,
-    total: usize,
-    levels: usize,
-    loose: bool,
-    tokens: &[Token],
-) -> Result<(Not, &[Token]), Fault>
-    requires within { length tokens.now ≤ total }
-    requires small { total < 2 ^ 32 }
-    ensures shorter { IfOk result (λ x. length x.1.now < length tokens.now) }
-    ensures gives { Gives (λ x. (view_not x.0, kinds x.1.now)) result
-        (behind is_and (not_ loose (places total) (full_by levels (places total))) (kinds tokens.now)) }
-    ensures whole { IfOk result (λ x. IsWholeNot x.0) }
+fn and_not<'a>(at: At<'a>) -> Result<(Not, &'a [Token]), Fault>
+    requires within { length at.tokens.now ≤ at.total }
+    requires small { at.total < 2 ^ 32 }
+    ensures { Reads view_not IsWholeNot (behind is_and (not_ at.entry.loose (places at.entry.total) (full_by at.entry.levels (places at.entry.total))))
+        at.entry.tokens.now result }
 {
-    let ((), rest) = token::expect(tokens, Class::And)?;
+    let ((), rest) = token::expect(at.tokens, Class::And)?;
     let (negated, rest) = token::perhaps(rest, Class::Not);
     negation_of(
-        alloc,
-        total,
-        levels,
-        loose,
+        at.alloc,
+        at.total,
+        at.levels,
+        at.loose,
         negated,
         rest,
-        operand(alloc, total, levels, loose, rest),
+        operand(At { tokens: rest, ..at }),
     )
 }
 
 // not: `not`? comparison
 #[cycle(value)]
 #[tactic(auto, unfolding(script_grammar::specs::ReadValue::not_))]
-fn not_term(
-    alloc: Global,
-    total: usize,
-    levels: usize,
-    loose: bool,
-    tokens: &[Token],
-) -> Result<(Not, &[Token]), Fault>
-    requires within { length tokens.now ≤ total }
-    requires small { total < 2 ^ 32 }
-    ensures shorter { IfOk result (λ x. length x.1.now < length tokens.now) }
-    ensures gives { Gives (λ x. (view_not x.0, kinds x.1.now)) result
-        (not_ loose (places total) (full_by levels (places total)) (kinds tokens.now)) }
-    ensures whole { IfOk result (λ x. IsWholeNot x.0) }
+fn not_term<'a>(at: At<'a>) -> Result<(Not, &'a [Token]), Fault>
+    requires within { length at.tokens.now ≤ at.total }
+    requires small { at.total < 2 ^ 32 }
+    ensures { Reads view_not IsWholeNot (not_ at.entry.loose (places at.entry.total) (full_by at.entry.levels (places at.entry.total))) at.entry.tokens.now result }
 {
-    let (negated, rest) = token::perhaps(tokens, Class::Not);
+    let (negated, rest) = token::perhaps(at.tokens, Class::Not);
     negation_of(
-        alloc,
-        total,
-        levels,
-        loose,
+        at.alloc,
+        at.total,
+        at.levels,
+        at.loose,
         negated,
         rest,
-        operand(alloc, total, levels, loose, rest),
+        operand(At { tokens: rest, ..at }),
     )
 }
 
@@ -289,20 +211,45 @@ fn negation_of<'a>(
 ) -> Result<(Not, &'a [Token]), Fault>
     requires within { length tokens.now ≤ total }
     requires small { total < 2 ^ 32 }
-    requires shorter { IfOk read (λ x. length x.1.now < length tokens.now) }
-    requires gives { Gives (λ x. (view_operand x.0, kinds x.1.now)) read
-        (operand loose (places total) (full_by levels (places total)) (kinds tokens.now)) }
-    requires whole { IfOk read (λ x. IsWholeOperand x.0) }
+    requires read { Reads view_operand IsWholeOperand (operand loose (places total) (full_by levels (places total)))
+        tokens.now read }
     ensures shorter { IfOk result (λ x. length x.1.now < length tokens.now) }
     ensures gives { Gives (λ x. (view_not x.0, kinds x.1.now)) result
         (behind_not negated (compare loose (places total) (full_by levels (places total)) (kinds tokens.now))) }
     ensures whole { IfOk result (λ x. IsWholeNot x.0) }
 {
-    let product = product_of(alloc, total, levels, loose, tokens, read);
-    let sum = sum_of(alloc, total, levels, loose, tokens, product);
+    let product = product_of(
+        At {
+            alloc,
+            total,
+            levels,
+            loose,
+            tokens,
+        },
+        read,
+    );
+    let sum = sum_of(
+        At {
+            alloc,
+            total,
+            levels,
+            loose,
+            tokens,
+        },
+        product,
+    );
     not_of(
         negated,
-        compare_of(alloc, total, levels, loose, tokens, sum),
+        compare_of(
+            At {
+                alloc,
+                total,
+                levels,
+                loose,
+                tokens,
+            },
+            sum,
+        ),
     )
 }
 

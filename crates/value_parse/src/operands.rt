@@ -8,10 +8,11 @@ ghost use Rattle.script_grammar.specs.ReadValue.{full_by, operand, round_or_unit
 ghost use Rattle.script_grammar.specs.View.{listed, view_full, view_operand};
 ghost use Rattle.script_grammar.specs.Whole.{IsWholeFull, IsWholeOperand};
 ghost use Rattle.parse_base.specs.Classes.{is_in};
-ghost use Rattle.parse_base.specs.Gives.{kinds, Gives, places};
+ghost use Rattle.parse_base.specs.Gives.{kinds, Gives, places, Reads};
 ghost use Rattle.value_parse.specs.Operand.{as_round, as_list, chained};
 
 use crate::arguments::call;
+use crate::at::At;
 use crate::atoms::atom;
 use crate::conditionals::choice;
 use crate::items::keep;
@@ -27,21 +28,13 @@ use std::alloc::Global;
 /// operand: call | if | `(` .. `)` | `[` .. `]` | one that holds no value
 #[cycle(value)]
 #[tactic(auto, unfolding(script_grammar::specs::ReadValue::operand, script_grammar::specs::ReadValue::call))]
-pub fn operand(
-    alloc: Global,
-    total: usize,
-    levels: usize,
-    loose: bool,
-    tokens: &[Token],
-) -> Result<(tree::Operand, &[Token]), Fault>
-    requires within { length tokens.now ≤ total }
-    requires small { total < 2 ^ 32 }
-    ensures shorter { IfOk result (λ x. length x.1.now < length tokens.now) }
-    ensures gives { Gives (λ x. (view_operand x.0, kinds x.1.now)) result
-        (operand loose (places total) (full_by levels (places total)) (kinds tokens.now)) }
-    ensures whole { IfOk result (λ x. IsWholeOperand x.0) }
+pub fn operand<'a>(at: At<'a>) -> Result<(tree::Operand, &'a [Token]), Fault>
+    requires within { length at.tokens.now ≤ at.total }
+    requires small { at.total < 2 ^ 32 }
+    ensures { Reads view_operand IsWholeOperand (operand at.entry.loose (places at.entry.total) (full_by at.entry.levels (places at.entry.total)))
+        at.entry.tokens.now result }
 {
-    match tokens {
+    match at.tokens {
         [
             Token {
                 kind: TokenKind::NameOpen(_),
@@ -49,7 +42,7 @@ pub fn operand(
             },
             ..
         ] => {
-            let (call, rest) = call(alloc, total, levels, tokens)?;
+            let (call, rest) = call(at.alloc, at.total, at.levels, at.tokens)?;
             Ok((tree::Operand::Call(call), rest))
         }
         [
@@ -59,7 +52,7 @@ pub fn operand(
             },
             ..
         ] => {
-            let (choice, rest) = choice(alloc, total, levels, tokens)?;
+            let (choice, rest) = choice(at.alloc, at.total, at.levels, at.tokens)?;
             Ok((tree::Operand::If(choice), rest))
         }
         [
@@ -68,15 +61,31 @@ pub fn operand(
                 ..
             },
             after @ ..,
-        ] => { round(alloc, total, levels, place(total, tokens), after) }
+        ] => {
+            round(
+                at.alloc,
+                at.total,
+                at.levels,
+                place(at.total, at.tokens),
+                after,
+            )
+        }
         [
             Token {
                 kind: TokenKind::Symbol(Symbol::OpenSquare),
                 ..
             },
             after @ ..,
-        ] => { list(alloc, total, levels, place(total, tokens), after) }
-        _ => atom(alloc, total, loose, tokens),
+        ] => {
+            list(
+                at.alloc,
+                at.total,
+                at.levels,
+                place(at.total, at.tokens),
+                after,
+            )
+        }
+        _ => atom(at.alloc, at.total, at.loose, at.tokens),
     }
 }
 
@@ -184,10 +193,7 @@ fn comma_full(
 ) -> Result<(Full, &[Token]), Fault>
     requires within { length tokens.now ≤ total }
     requires small { total < 2 ^ 32 }
-    ensures shorter { IfOk result (λ x. length x.1.now < length tokens.now) }
-    ensures gives { Gives (λ x. (view_full x.0, kinds x.1.now)) result
-        (behind is_comma (full_by levels (places total)) (kinds tokens.now)) }
-    ensures whole { IfOk result (λ x. IsWholeFull x.0) }
+    ensures { Reads view_full IsWholeFull (behind is_comma (full_by levels (places total))) tokens.now result }
 {
     let ((), rest) = token::expect(tokens, Class::Comma)?;
     full(alloc, total, levels, rest)

@@ -14,9 +14,10 @@ ghost use Rattle.script_grammar.specs.Tree.{Tree, AFull, AnExpr};
 ghost use Rattle.script_grammar.specs.ReadValue.{full_by, full_step, operand};
 ghost use Rattle.script_grammar.specs.View.{view_full, view_expr, view_operand};
 ghost use Rattle.script_grammar.specs.Whole.{IsWholeFull, IsWholeExpr, IsWholeOperand};
-ghost use Rattle.parse_base.specs.Gives.{kinds, Gives, places};
+ghost use Rattle.parse_base.specs.Gives.{kinds, Gives, places, Reads};
 ghost use Rattle.value_parse.specs.Operand.{plain, as_plain, lone};
 
+use crate::at::At;
 use crate::logic::expr_from;
 use crate::number::{at_operator, digits};
 use crate::operands::operand;
@@ -36,15 +37,18 @@ pub fn full(
 ) -> Result<(Full, &[Token]), Fault>
     requires within { length tokens.now ≤ total }
     requires small { total < 2 ^ 32 }
-    ensures shorter { IfOk result (λ x. length x.1.now < length tokens.now) }
-    ensures gives { Gives (λ x. (view_full x.0, kinds x.1.now)) result
-        (full_by levels (places total) (kinds tokens.now)) }
-    ensures whole { IfOk result (λ x. IsWholeFull x.0) }
+    ensures { Reads view_full IsWholeFull (full_by levels (places total)) tokens.now result }
 {
     if levels == 0 {
         Err(Fault::Syntax(tokens.len()))
     } else {
-        full_step(alloc, total, levels - 1, false, tokens)
+        full_step(At {
+            alloc,
+            total,
+            levels: levels - 1,
+            loose: false,
+            tokens,
+        })
     }
 }
 
@@ -53,21 +57,13 @@ pub fn full(
 /// Others nest at most `levels` deep in it. Where it is loose, a `(` may stand behind it.
 #[cycle(value)]
 #[tactic(auto, unfolding(script_grammar::specs::ReadValue::full_step))]
-pub fn full_step(
-    alloc: Global,
-    total: usize,
-    levels: usize,
-    loose: bool,
-    tokens: &[Token],
-) -> Result<(Full, &[Token]), Fault>
-    requires within { length tokens.now ≤ total }
-    requires small { total < 2 ^ 32 }
-    ensures shorter { IfOk result (λ x. length x.1.now < length tokens.now) }
-    ensures gives { Gives (λ x. (view_full x.0, kinds x.1.now)) result
-        (full_step loose (places total) (full_by levels (places total)) (kinds tokens.now)) }
-    ensures whole { IfOk result (λ x. IsWholeFull x.0) }
+pub fn full_step<'a>(at: At<'a>) -> Result<(Full, &'a [Token]), Fault>
+    requires within { length at.tokens.now ≤ at.total }
+    requires small { at.total < 2 ^ 32 }
+    ensures { Reads view_full IsWholeFull (full_step at.entry.loose (places at.entry.total) (full_by at.entry.levels (places at.entry.total))) at.entry.tokens.now
+        result }
 {
-    match tokens {
+    match at.tokens {
         [
             Token {
                 kind: TokenKind::Symbol(Symbol::Minus),
@@ -76,10 +72,10 @@ pub fn full_step(
             after @ ..,
         ] => {
             let (number, rest) = digits(after)?;
-            let at = place(total, tokens);
+            let at = place(at.total, at.tokens);
             Ok((Full::Minus { at, number }, rest))
         }
-        _ => plain(alloc, total, levels, loose, tokens),
+        _ => plain(at),
     }
 }
 
@@ -103,30 +99,21 @@ pub fn full_box(
 
 // value: expression
 #[cycle(value)]
-fn plain(
-    alloc: Global,
-    total: usize,
-    levels: usize,
-    loose: bool,
-    tokens: &[Token],
-) -> Result<(Full, &[Token]), Fault>
-    requires within { length tokens.now ≤ total }
-    requires small { total < 2 ^ 32 }
-    ensures shorter { IfOk result (λ x. length x.1.now < length tokens.now) }
-    ensures gives { Gives (λ x. (view_full x.0, kinds x.1.now)) result
-        (plain loose (places total) (full_by levels (places total)) (kinds tokens.now)) }
-    ensures whole { IfOk result (λ x. IsWholeFull x.0) }
+fn plain<'a>(at: At<'a>) -> Result<(Full, &'a [Token]), Fault>
+    requires within { length at.tokens.now ≤ at.total }
+    requires small { at.total < 2 ^ 32 }
+    ensures { Reads view_full IsWholeFull (plain at.entry.loose (places at.entry.total) (full_by at.entry.levels (places at.entry.total))) at.entry.tokens.now
+        result }
 {
-    let (negated, inner) = token::perhaps(tokens, Class::Not);
+    let (negated, inner) = token::perhaps(at.tokens, Class::Not);
     plain_of(
-        alloc,
-        total,
-        levels,
-        loose,
-        tokens,
+        at,
         negated,
         inner,
-        operand(alloc, total, levels, loose, inner),
+        operand(At {
+            tokens: inner,
+            ..at
+        }),
     )
 }
 
@@ -135,34 +122,26 @@ fn plain(
 #[inline(never)]
 #[cycle(value)]
 fn plain_of<'a>(
-    alloc: Global,
-    total: usize,
-    levels: usize,
-    loose: bool,
-    tokens: &[Token],
+    at: At<'_>,
     negated: bool,
     inner: &[Token],
     read: Result<(Operand, &'a [Token]), Fault>,
 ) -> Result<(Full, &'a [Token]), Fault>
-    requires within { length tokens.now ≤ total }
-    requires small { total < 2 ^ 32 }
-    requires inside { length inner.now ≤ length tokens.now }
-    requires lead { perhaps is_not (kinds tokens.now) ≡ Ok (negated, kinds inner.now) }
-    requires shorter { IfOk read (λ x. length x.1.now < length inner.now) }
-    requires gives { Gives (λ x. (view_operand x.0, kinds x.1.now)) read
-        (operand loose (places total) (full_by levels (places total)) (kinds inner.now)) }
-    requires whole { IfOk read (λ x. IsWholeOperand x.0) }
-    ensures shorter { IfOk result (λ x. length x.1.now < length tokens.now) }
-    ensures gives { Gives (λ x. (view_full x.0, kinds x.1.now)) result
-        (plain loose (places total) (full_by levels (places total)) (kinds tokens.now)) }
-    ensures whole { IfOk result (λ x. IsWholeFull x.0) }
+    requires within { length at.tokens.now ≤ at.total }
+    requires small { at.total < 2 ^ 32 }
+    requires inside { length inner.now ≤ length at.tokens.now }
+    requires lead { perhaps is_not (kinds at.tokens.now) ≡ Ok (negated, kinds inner.now) }
+    requires read { Reads view_operand IsWholeOperand (operand at.loose (places at.total) (full_by at.levels (places at.total)))
+        inner.now read }
+    ensures { Reads view_full IsWholeFull (plain at.entry.loose (places at.entry.total) (full_by at.entry.levels (places at.entry.total))) at.entry.tokens.now
+        result }
 {
     let (operand, rest) = read?;
     if at_operator(rest) {
         let first = Ok((operand, rest));
-        in_full(expr_from(alloc, total, levels, loose, tokens, negated, inner, first))
+        in_full(expr_from(at, negated, inner, first))
     } else {
-        Ok((lone(alloc, negated, operand), rest))
+        Ok((lone(at.alloc, negated, operand), rest))
     }
 }
 

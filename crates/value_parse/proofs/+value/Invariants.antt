@@ -17,16 +17,16 @@ abbrev pub decreases-conditionals::choice : goal.decreases-conditionals::choice
 decreases-conditionals::choice l = 20 * length l.tokens.now
 
 abbrev pub decreases-operands::operand : goal.decreases-operands::operand
-decreases-operands::operand l = 20 * length l.tokens.now + 1
+decreases-operands::operand l = 20 * length l.at.tokens.now + 1
 
 abbrev pub decreases-logic::not_term : goal.decreases-logic::not_term
-decreases-logic::not_term l = 20 * length l.tokens.now + 5
+decreases-logic::not_term l = 20 * length l.at.tokens.now + 5
 
 abbrev pub decreases-values::plain : goal.decreases-values::plain
-decreases-values::plain l = 20 * length l.tokens.now + 8
+decreases-values::plain l = 20 * length l.at.tokens.now + 8
 
 abbrev pub decreases-values::full_step : goal.decreases-values::full_step
-decreases-values::full_step l = 20 * length l.tokens.now + 9
+decreases-values::full_step l = 20 * length l.at.tokens.now + 9
 
 abbrev pub decreases-values::full : goal.decreases-values::full
 decreases-values::full l = 20 * length l.tokens.now + 10
@@ -41,31 +41,31 @@ abbrev pub decreases-arguments::arg : goal.decreases-arguments::arg
 decreases-arguments::arg l = 20 * length l.tokens.now + 12
 
 abbrev pub decreases-logic::or_and : goal.decreases-logic::or_and
-decreases-logic::or_and l = 20 * length l.tokens.now
+decreases-logic::or_and l = 20 * length l.at.tokens.now
 
 abbrev pub decreases-logic::ands : goal.decreases-logic::ands
-decreases-logic::ands l = 20 * length l.tokens.now + 1
+decreases-logic::ands l = 20 * length l.at.tokens.now + 1
 
 abbrev pub decreases-logic::and_not : goal.decreases-logic::and_not
-decreases-logic::and_not l = 20 * length l.tokens.now
+decreases-logic::and_not l = 20 * length l.at.tokens.now
 
 abbrev pub decreases-logic::nots : goal.decreases-logic::nots
-decreases-logic::nots l = 20 * length l.tokens.now + 1
+decreases-logic::nots l = 20 * length l.at.tokens.now + 1
 
 abbrev pub decreases-arithmetic::behind_sum : goal.decreases-arithmetic::behind_sum
 decreases-arithmetic::behind_sum l = 20 * length l.tokens.now
 
 abbrev pub decreases-arithmetic::added : goal.decreases-arithmetic::added
-decreases-arithmetic::added l = 20 * length l.tokens.now
+decreases-arithmetic::added l = 20 * length l.here.tokens.now
 
 abbrev pub decreases-arithmetic::addends : goal.decreases-arithmetic::addends
-decreases-arithmetic::addends l = 20 * length l.tokens.now + 1
+decreases-arithmetic::addends l = 20 * length l.at.tokens.now + 1
 
 abbrev pub decreases-arithmetic::multiplied : goal.decreases-arithmetic::multiplied
-decreases-arithmetic::multiplied l = 20 * length l.tokens.now
+decreases-arithmetic::multiplied l = 20 * length l.here.tokens.now
 
 abbrev pub decreases-arithmetic::factors : goal.decreases-arithmetic::factors
-decreases-arithmetic::factors l = 20 * length l.tokens.now + 1
+decreases-arithmetic::factors l = 20 * length l.at.tokens.now + 1
 
 abbrev pub decreases-operands::comma_full : goal.decreases-operands::comma_full
 decreases-operands::comma_full l = 20 * length l.tokens.now
@@ -80,31 +80,31 @@ abbrev pub decreases-conditionals::otherwise : goal.decreases-conditionals::othe
 decreases-conditionals::otherwise l = 20 * length l.tokens.now
 
 abbrev pub decreases-logic::expr_of : goal.decreases-logic::expr_of
-decreases-logic::expr_of l = 20 * length l._tokens.now
+decreases-logic::expr_of l = 20 * length l.at.tokens.now
 
 abbrev pub decreases-logic::and_of : goal.decreases-logic::and_of
-decreases-logic::and_of l = 20 * length l._tokens.now
+decreases-logic::and_of l = 20 * length l.at.tokens.now
 
 abbrev pub decreases-arithmetic::compare_of : goal.decreases-arithmetic::compare_of
-decreases-arithmetic::compare_of l = 20 * length l._tokens.now
+decreases-arithmetic::compare_of l = 20 * length l.at.tokens.now
 
 abbrev pub decreases-arithmetic::sum_of : goal.decreases-arithmetic::sum_of
-decreases-arithmetic::sum_of l = 20 * length l._tokens.now
+decreases-arithmetic::sum_of l = 20 * length l.at.tokens.now
 
 abbrev pub decreases-arithmetic::product_of : goal.decreases-arithmetic::product_of
-decreases-arithmetic::product_of l = 20 * length l._tokens.now
+decreases-arithmetic::product_of l = 20 * length l.at.tokens.now
 
 abbrev pub decreases-values::full_box : goal.decreases-values::full_box
 decreases-values::full_box l = 20 * length l.tokens.now + 11
 
 abbrev pub decreases-values::plain_of : goal.decreases-values::plain_of
-decreases-values::plain_of l = 20 * length l.tokens.now + 3
+decreases-values::plain_of l = 20 * length l.at.tokens.now + 3
 
 abbrev pub decreases-arguments::push_operand : goal.decreases-arguments::push_operand
 decreases-arguments::push_operand l = 20 * length l.tokens.now + 3
 
 abbrev pub decreases-logic::expr_from : goal.decreases-logic::expr_from
-decreases-logic::expr_from l = 20 * length l.tokens.now + 2
+decreases-logic::expr_from l = 20 * length l.at.tokens.now + 2
 
 abbrev pub decreases-logic::negation_of : goal.decreases-logic::negation_of
 decreases-logic::negation_of l = 20 * length l.tokens.now + 1
@@ -128,25 +128,25 @@ abbrev pub decreases-arguments::args : goal.decreases-arguments::args
 decreases-arguments::args l = 20 * length l.tokens.now + 14
 
 abbrev pub invariant-logic::ands-turns : goal.invariant-logic::ands-turns
-invariant-logic::ands-turns l = (length l.rest ≤ length l.tokens) × Turning view_and (next is_or) (behind is_or (and_ l.loose (places l.total) (full_by l.levels (places l.total)))) l.tokens l.rest l.items.items × All IsWholeAnd l.items.items
+invariant-logic::ands-turns l = (length l.rest ≤ length l.at.tokens.now) × Turning view_and (next is_or) (behind is_or (and_ l.at.loose (places l.at.total) (full_by l.at.levels (places l.at.total)))) l.at.tokens.now l.rest l.items.items × All IsWholeAnd l.items.items
 
 abbrev pub decreases-logic::ands-turns : goal.decreases-logic::ands-turns
 decreases-logic::ands-turns l = length l.rest
 
 abbrev pub invariant-logic::nots-turns : goal.invariant-logic::nots-turns
-invariant-logic::nots-turns l = (length l.rest ≤ length l.tokens) × Turning view_not (next is_and) (behind is_and (not_ l.loose (places l.total) (full_by l.levels (places l.total)))) l.tokens l.rest l.items.items × All IsWholeNot l.items.items
+invariant-logic::nots-turns l = (length l.rest ≤ length l.at.tokens.now) × Turning view_not (next is_and) (behind is_and (not_ l.at.loose (places l.at.total) (full_by l.at.levels (places l.at.total)))) l.at.tokens.now l.rest l.items.items × All IsWholeNot l.items.items
 
 abbrev pub decreases-logic::nots-turns : goal.decreases-logic::nots-turns
 decreases-logic::nots-turns l = length l.rest
 
 abbrev pub invariant-arithmetic::addends-turns : goal.invariant-arithmetic::addends-turns
-invariant-arithmetic::addends-turns l = (length l.rest ≤ length l.tokens) × Turning view_added (next is_added) (added l.loose (places l.total) (full_by l.levels (places l.total))) l.tokens l.rest l.items.items × All IsWholeAdded l.items.items
+invariant-arithmetic::addends-turns l = (length l.rest ≤ length l.at.tokens.now) × Turning view_added (next is_added) (added l.at.loose (places l.at.total) (full_by l.at.levels (places l.at.total))) l.at.tokens.now l.rest l.items.items × All IsWholeAdded l.items.items
 
 abbrev pub decreases-arithmetic::addends-turns : goal.decreases-arithmetic::addends-turns
 decreases-arithmetic::addends-turns l = length l.rest
 
 abbrev pub invariant-arithmetic::factors-turns : goal.invariant-arithmetic::factors-turns
-invariant-arithmetic::factors-turns l = (length l.rest ≤ length l.tokens) × Turning view_multiplied (next is_multiplied) (multiplied l.loose (places l.total) (full_by l.levels (places l.total))) l.tokens l.rest l.items.items × All IsWholeMultiplied l.items.items
+invariant-arithmetic::factors-turns l = (length l.rest ≤ length l.at.tokens.now) × Turning view_multiplied (next is_multiplied) (multiplied l.at.loose (places l.at.total) (full_by l.at.levels (places l.at.total))) l.at.tokens.now l.rest l.items.items × All IsWholeMultiplied l.items.items
 
 abbrev pub decreases-arithmetic::factors-turns : goal.decreases-arithmetic::factors-turns
 decreases-arithmetic::factors-turns l = length l.rest

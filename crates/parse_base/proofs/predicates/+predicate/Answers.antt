@@ -1,4 +1,4 @@
-use Rattle.std.proofs.Common.{◌≡◌, [], refl, sym, ◌∙◌, ◌-◌, arith}
+use Rattle.std.proofs.Common.{◌≡◌, [], refl, sym, ◌∙◌, ◌-◌, arith, rules}
 use Rattle.std.proofs.lemmas.List.Elements.{All-nil, All-push}
 use Rattle.std.proofs.lemmas.Result.{err_from_is_err_and}
 use Rattle.script_grammar.specs.Kinds.{is_or, is_and}
@@ -10,11 +10,15 @@ use Rattle.parse_base.proofs.Turns.{begins, goes_on, fails, ends}
 use Rattle.parse_base.proofs.Levels.{por_ends, por_turn}
 use Rattle.parse_base.proofs.predicates.+predicate.Goals as goal
 
-pub por-returns-then-levels-eq0-clause-gives : goal.por-returns-then-levels-eq0-clause-gives
-por-returns-then-levels-eq0-clause-gives t c = por_ends c.args.levels c.args.tokens.now (omega arith)
+pub por-returns-then-levels-eq0 : goal.por-returns-then-levels-eq0
+por-returns-then-levels-eq0 t c = record { shorter = search rules; gives = por_ends c.args.levels c.args.tokens.now (omega arith); whole = search rules }
 
-pub por-returns-else-levels-eq0-clause-gives : goal.por-returns-else-levels-eq0-clause-gives
-por-returns-else-levels-eq0-clause-gives t c = rw (por_turn c.args.levels (c.args.levels - 1) c.args.tokens.now (omega arith)) c.por_step.ensures.gives
+pub por-returns-else-levels-eq0 : goal.por-returns-else-levels-eq0
+por-returns-else-levels-eq0 t c = record {
+  shorter = c.por_step.ensures.shorter;
+  gives = rw (por_turn c.args.levels (c.args.levels - 1) c.args.tokens.now (omega arith)) c.por_step.ensures.gives;
+  whole = c.por_step.ensures.whole;
+}
 
 pub pands-turns-init : goal.pands-turns-init
 pands-turns-init t c =
